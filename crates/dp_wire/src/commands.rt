@@ -1,0 +1,153 @@
+ghost use Rattle.std.specs.Prelude.{◌≡◌, ◌↔◌, ◌+◌, ◌≤◌, [], ◌∷◌, ◌++◌, List, ℕ, length, vec_len, take, drop, IsErr, IfOk, IfErr, IfSome, OnOk, OnErr};
+ghost use Rattle.dp_wire.specs.Frames.{command_limit, BeginsCommand, IsPartialCommand, BeginsNoCommand, commands_in};
+ghost use Rattle.dp_wire.specs.Held.{FirstNul};
+
+use crate::WireError;
+use dp_value::Memory;
+use std::alloc::Global;
+use std::marker::Model;
+use std::ops::Range;
+
+/// The most bytes of a command, without its NUL.
+const LIMIT: usize = 1_048_576;
+
+/// One byte more than a command may have.
+const TOO_LONG: WireError = WireError::TooLong { length: 1_048_577 };
+
+/// Splits a stream into commands, each ended by a NUL. Contracts see the bytes that are held.
+///
+/// DBGp 1.0, "Message Packets". A byte is looked at once, however the stream is cut.
+#[derive(Debug, Drop)]
+pub struct Commands {
+    /// What was fed; the bytes before `from` were dropped.
+    bytes: Vec<u8>,
+    from: usize,
+    /// The length of the first text that is held with its NUL.
+    first: Option<usize>,
+}
+
+impl Model for Commands {
+    ghost use Rattle.std.specs.Prelude.{List, ℕ, ◌≤◌, length, drop};
+    ghost use Rattle.dp_wire.specs.Held.{FirstNul};
+
+    ghost Value = { List ℕ };
+
+    ghost view = { λ c. drop c.from c.bytes.items };
+
+    ghost invariant = { λ c. (c.from ≤ length c.bytes.items) × FirstNul (drop c.from c.bytes.items) c.first };
+}
+
+impl Commands {
+    /// A splitter that holds no byte. Takes no memory.
+    pub fn new(alloc: Global) -> Self
+        ensures { result ≡ [] }
+    {
+        Commands {
+            bytes: Vec::new(alloc),
+            from: 0,
+            first: None,
+        }
+    }
+
+    /// The bytes held.
+    pub fn bytes(&self) -> &[u8]
+        ensures { result.now ≡ self.now }
+    {
+        &self.bytes[self.from..]
+    }
+
+    /// Appends a piece of the stream. On want of memory all stays as before.
+    pub fn feed(&mut self, piece: &[u8]) -> Result<(), Memory>
+        ensures ok { OnOk result (self.new ≡ self.old ++ piece.now) }
+        ensures err { OnErr result (self.new ≡ self.old) }
+    {
+        self.forget_dropped();
+        let first = first_with(self.first, &self.bytes[self.from..], piece);
+        self.bytes.extend_from_slice(piece)?;
+        self.first = first;
+        Ok(())
+    }
+
+    /// Gives up the bytes that were dropped, where they are at least half: this costs no more than they did.
+    fn forget_dropped(&mut self)
+        ensures { self.new ≡ self.old }
+    {
+        if self.bytes.len() - self.from <= self.from {
+            drop_first(&mut self.bytes, self.from);
+            self.from = 0;
+        }
+    }
+
+    /// The range of the first command among the bytes held, without its NUL. `None` where more has to come.
+    ///
+    /// `TooLong` with the length 1,048,577 where no command begins the bytes held. Takes no memory.
+    pub fn next(&self) -> Result<Option<Range<usize>>, WireError>
+        ensures start { IfOk result (λ found. IfSome found (λ range. range.start ≡ 0)) }
+        ensures whole { IfOk result (λ found. IfSome found (λ range.
+            BeginsCommand self.now (take range.end self.now) (drop (range.end + 1) self.now))) }
+        ensures partial { (result ≡ Ok None) ↔ IsPartialCommand self.now }
+        ensures refused { IsErr result ↔ BeginsNoCommand self.now }
+        ensures length { IfErr result (λ e. e ≡ WireError.TooLong 1048577) }
+
+        // What stands there stays, whatever comes after it.
+        ensures first { IfOk result (λ found. IfSome found (λ range. (more : List ℕ)
+            → commands_in (self.now ++ more) ≡ take range.end self.now ∷ commands_in (drop (range.end + 1) self.now ++ more))) }
+        ensures none { result ≡ Ok None → commands_in self.now ≡ [] }
+        ensures never { IsErr result → (more : List ℕ) → commands_in (self.now ++ more) ≡ [] }
+
+        // Where more has to come, no more than the limit is held.
+        ensures held { result ≡ Ok None → length self.now ≤ command_limit }
+    {
+        match self.first {
+            Some(length) if length <= LIMIT => Ok(Some(0..length)),
+            Some(_) => Err(TOO_LONG),
+            None if self.bytes.len() - self.from <= LIMIT => Ok(None),
+            None => Err(TOO_LONG),
+        }
+    }
+
+    /// Drops the first command with its NUL. Takes no memory.
+    pub fn drop_front(&mut self)
+        requires { (line rest : List ℕ) × BeginsCommand self.old line rest }
+        ensures { (line rest : List ℕ) → BeginsCommand self.old line rest → self.new ≡ rest }
+    {
+        if let Some(length) = self.first {
+            self.from += length + 1;
+            self.first = first_nul(&self.bytes[self.from..]);
+        }
+    }
+}
+
+/// Drops so many bytes from the front.
+fn drop_first(bytes: &mut Vec<u8>, count: usize)
+    requires { count ≤ vec_len bytes.old }
+    ensures { bytes.new.items ≡ drop count bytes.old.items }
+{
+    bytes.drain(..count);
+}
+
+/// The place of the first NUL once the piece follows what is held.
+fn first_with(first: Option<usize>, held: &[u8], piece: &[u8]) -> Option<usize>
+    requires { FirstNul held.now first }
+    ensures { FirstNul (held.now ++ piece.now) result }
+{
+    match first {
+        Some(place) => Some(place),
+        None => match first_nul(piece) {
+            Some(place) => Some(held.len() + place),
+            None => None,
+        },
+    }
+}
+
+/// The place of the first NUL.
+fn first_nul(bytes: &[u8]) -> Option<usize>
+    ensures { FirstNul bytes.now result }
+{
+    for (at, byte) in bytes.iter().enumerate() {
+        if *byte == 0 {
+            return Some(at);
+        }
+    }
+    None
+}

@@ -1,0 +1,80 @@
+use super::*;
+use dp_value::Memory;
+use std::alloc::Global;
+use std::test::Fail;
+
+/// The commands of the pieces, each with a `;` behind it.
+fn split(alloc: Global, pieces: &[&[u8]]) -> Result<Vec<u8>, Memory> {
+    let mut commands = Commands::new(alloc);
+    let mut found = Vec::new(alloc);
+    for piece in pieces {
+        commands.feed(piece)?;
+        for _ in 0..piece.len() {
+            let Ok(Some(range)) = commands.next() else {
+                break;
+            };
+            found.extend_from_slice(&commands.bytes()[range])?;
+            found.push(b';')?;
+            commands.drop_front();
+        }
+    }
+    found.extend_from_slice(commands.bytes())?;
+    Ok(found)
+}
+
+#[test]
+fn commands_come_in_any_pieces(rt: HostRuntime) -> Result<(), Fail> {
+    let alloc = rt.alloc();
+    let whole = b"status -i 1\0\0run -i 2\0sta".as_slice();
+    let wanted = b"status -i 1;;run -i 2;sta".as_slice();
+    assert_eq!(rt; split(alloc, &[whole])?.as_slice(), wanted);
+    for at in 0..whole.len() {
+        let (front, back) = whole.split_at(at);
+        assert_eq!(rt;
+            split(alloc, &[front, back])?.as_slice(),
+            wanted,
+            "cut at {at}"
+        );
+    }
+    let mut commands = Commands::new(alloc);
+    for byte in whole {
+        commands.feed(&[*byte])?;
+    }
+    assert_eq!(rt; commands.next(), Ok(Some(0..11)));
+    Ok(())
+}
+
+#[test]
+fn limits_and_packets(rt: HostRuntime) -> Result<(), Fail> {
+    let alloc = rt.alloc();
+    let longest = vec![in alloc; b'x'; 1_048_576]?;
+    let mut commands = Commands::new(alloc);
+    commands.feed(longest.as_slice())?;
+    assert_eq!(rt; commands.next(), Ok(None));
+    commands.feed(b"\0")?;
+    assert_eq!(rt; commands.next(), Ok(Some(0..1_048_576)));
+    let mut refused = Commands::new(alloc);
+    refused.feed(longest.as_slice())?;
+    refused.feed(b"x")?;
+    assert_eq!(rt;
+        refused.next(),
+        Err(WireError::TooLong { length: 1_048_577 })
+    );
+    refused.feed(b"\0")?;
+    assert_eq!(rt;
+        refused.next(),
+        Err(WireError::TooLong { length: 1_048_577 })
+    );
+    assert_eq!(rt;
+        packet_bytes(alloc, b"abc")?.as_slice(),
+        b"3\0abc\0".as_slice()
+    );
+    assert_eq!(rt;
+        packet_bytes(alloc, &[b'x'; 10])?.as_slice(),
+        b"10\0xxxxxxxxxx\0".as_slice()
+    );
+    no_frame_begins_another();
+    one_split();
+    commands_are_split();
+    Ok(())
+}
