@@ -1,0 +1,12 @@
+-- Names of machines.
+use Rattle.std.specs.Prelude.{ℕ, ◌≤◌, List, length, All}
+
+-- printable ASCII and no blank
+abbrev pub IsGraphic : ℕ → Type 0
+IsGraphic byte = (0x21 ≤ byte) × (byte ≤ 0x7e)
+
+-- 1 to 64 bytes, each printable ASCII and no blank
+pub record IsHost (bytes : List ℕ) : Type 0 where
+  pub some : 1 ≤ length bytes
+  pub short : length bytes ≤ 64
+  pub graphic : All IsGraphic bytes

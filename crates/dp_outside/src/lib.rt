@@ -1,0 +1,30 @@
+//! The outside as this workspace meets it: what bytes are read from and written to, where files are fetched, who
+//! makes links and who starts jobs. Each object counts its faults, and a call fails only where that count rose.
+#![tactic(auto)]
+
+mod bytes;
+mod counts;
+mod hosts;
+mod jobs;
+mod links;
+mod shelves;
+mod sinks;
+mod sources;
+
+pub use bytes::Bytes1;
+pub use counts::Faults;
+pub use hosts::Host;
+pub use jobs::{Job, Spawner};
+pub use links::{Dialer, Gate, Net};
+pub use shelves::{Shelf, ShelfError};
+pub use sinks::Sink;
+pub use sources::Source;
+use thiserror::Error;
+
+/// Want of memory: an allocation was refused.
+pub use std::alloc::AllocError as Memory;
+
+/// A call on an object of the outside failed. The object's count of faults rose.
+#[derive(Clone, Copy, Debug, PartialEq, Eq, Error)]
+#[error("the outside failed")]
+pub struct Failed;

@@ -1,0 +1,25 @@
+ghost use Rattle.std.specs.Prelude.{◌≡◌, ℕ, List};
+ghost use Rattle.std.specs.declared.option.Option.{Option};
+ghost use Rattle.dp_outside.specs.Causes.{HasCause};
+ghost use Rattle.dp_outside.specs.Streams.{PutAppends};
+
+use crate::Failed;
+
+/// What bytes are written to.
+pub trait Sink {
+    /// The bytes that it has taken so far, where it tells them.
+    ghost taken: { Self → Option (List ℕ) };
+
+    /// How often it has failed.
+    ghost faults: { Self → ℕ };
+
+    /// Takes all of `bytes`, or answers `Failed` after taking a front of them.
+    fn put(&mut self, bytes: &[u8]) -> Result<(), Failed>
+        ensures taken { PutAppends (taken self.old) (taken self.new) result bytes.now }
+        ensures cause { HasCause (faults self.old) (faults self.new) result };
+
+    /// Ends the link in both directions. It cannot fail.
+    fn finish(&mut self)
+        ensures taken { taken self.new ≡ taken self.old }
+        ensures faults { faults self.new ≡ faults self.old };
+}
