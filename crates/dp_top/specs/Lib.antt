@@ -1,0 +1,9 @@
+pub mod Answers
+pub mod Folds
+pub mod Fronts
+pub mod Numbers
+pub mod Orders
+pub mod Phases
+pub mod Seen
+pub mod Sessions
+pub mod Texts
