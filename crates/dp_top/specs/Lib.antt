@@ -1,9 +1,12 @@
 pub mod Answers
+pub mod Exchanges
 pub mod Folds
 pub mod Fronts
+pub mod Links
 pub mod Numbers
 pub mod Orders
 pub mod Phases
 pub mod Seen
+pub mod Serving
 pub mod Sessions
 pub mod Texts

@@ -3,7 +3,10 @@
 
 mod bytes;
 mod orders;
+mod serving;
 mod sessions;
 mod texts;
+mod thin;
 
+pub use serving::{ServeEnd, Served};
 pub use sessions::{Answer, Outcome, Session, SessionEnd};

@@ -272,7 +272,8 @@ impl<'a> Session<'a> {
 
     /// The rest of the program's output: it runs on to its end.
     pub fn finish(&self, alloc: Global) -> Result<(Bytes, Outcome), Memory>
-        ensures { IfOk result (λ rest. rest.0 ≡ unshown self.now) }
+        ensures rest { IfOk result (λ rest. rest.0 ≡ unshown self.now) }
+        ensures outcome { IfOk result (λ rest. rest.1 ≡ Outcome.Done) }
     {
         let shown = statements_run(self.phase, self.moment, self.program);
         let rest = piece(alloc, self.program, shown, self.program.len())?;

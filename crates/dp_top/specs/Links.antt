@@ -1,0 +1,14 @@
+-- What a call does to the objects of the outside that it is lent.
+use Rattle.std.specs.Prelude.{◌≡◌, ℕ, ◌≤◌, List}
+use Rattle.std.specs.declared.option.Option.{Option}
+
+-- what an object told and how often it had failed, before a call and after it
+pub record Change : Type 0 where
+  pub told_before : Option (List ℕ)
+  pub told : Option (List ℕ)
+  pub faults_before : ℕ
+  pub faults : ℕ
+
+abbrev pub change : {X : Type 0} → (X → Option (List ℕ)) → (X → ℕ) → X → X → Change
+change told faults before after =
+    record { told_before = told before; told = told after; faults_before = faults before; faults = faults after }
