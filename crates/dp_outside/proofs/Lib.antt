@@ -1,0 +1,2 @@
+mod Crews
+mod Places
