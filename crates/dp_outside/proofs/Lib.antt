@@ -1,2 +1,3 @@
 mod Crews
+mod Fronts
 mod Places

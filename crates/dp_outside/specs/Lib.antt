@@ -4,3 +4,4 @@ pub mod Files
 pub mod Hosts
 pub mod Jobs
 pub mod Streams
+pub mod Transfers

@@ -3,6 +3,7 @@
 #![tactic(auto)]
 
 mod absent;
+mod adapters;
 mod bytes;
 mod counts;
 mod files;
@@ -17,8 +18,10 @@ mod sinks;
 mod sources;
 mod sure;
 mod tapes;
+mod transfers;
 
 pub use absent::{NoGate, NoNet, NoSpawner};
+pub use adapters::{FileShelf, Reading, Writing};
 pub use bytes::Bytes1;
 pub use counts::Faults;
 pub use hosts::Host;
