@@ -1,5 +1,7 @@
 pub mod Causes
+pub mod Fakes
 pub mod Files
 pub mod Hosts
 pub mod Jobs
 pub mod Streams
+pub mod Transfers

@@ -1,5 +1,6 @@
 ghost use Rattle.std.specs.Prelude.{◌≡◌, ◌≤◌};
 ghost use Rattle.dp_outside.specs.Causes.{Rose};
+ghost use Rattle.dp_outside.specs.Fakes.{one_more};
 
 use std::marker::Model;
 
@@ -34,6 +35,7 @@ impl Faults {
 
     /// Counts one more fault.
     pub fn raise(&mut self)
+        ensures exact { self.new ≡ one_more self.old }
         ensures rose { Rose self.old self.new }
         ensures later { self.old ≤ self.new }
     {

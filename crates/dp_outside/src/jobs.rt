@@ -1,7 +1,7 @@
-ghost use Rattle.std.specs.Prelude.{◌≡◌, ℕ, ◌≤◌, IfOk, IfErr, OnErr, IsTrue, is_err};
-ghost use Rattle.std.specs.List.{list_any};
+ghost use Rattle.std.specs.Prelude.{◌≡◌, ℕ, ◌<◌, ◌≤◌, IfOk, IfErr, count_by, is_err, length, map, not};
+ghost use Rattle.std.specs.List.{AllZip};
 ghost use Rattle.dp_outside.specs.Causes.{HasCause, Rose};
-ghost use Rattle.dp_outside.specs.Jobs.{InOrder, RanOrBack};
+ghost use Rattle.dp_outside.specs.Jobs.{Answered, RanOrBack, Started};
 
 use crate::{Failed, Memory};
 use std::alloc::Global;
@@ -11,7 +11,7 @@ use std::sync::Wait;
 use std::sync::atomic::AtomicBool;
 use std::sync::atomic::Ordering::SeqCst;
 use std::thread;
-use std::thread::{Promise, Threads};
+use std::thread::{Promise, PromisedHandle, Scope, Threads};
 
 /// Work that is run once.
 pub trait Job: Drop {
@@ -102,6 +102,207 @@ fn run_in_turn<A: Job, B: Job>(mine: A, other: B) -> (A::Done, B::Done)
     (done, other.run())
 }
 
+// A job, and whether its start was granted.
+#[derive(Drop)]
+struct Asked<J> {
+    job: J,
+    granted: bool,
+}
+
+// Asks for the start of each job.
+fn ask<P: Spawner, J: Job>(
+    spawner: &mut P,
+    alloc: Global,
+    jobs: Vec<J>,
+) -> Result<Vec<Asked<J>>, Memory>
+    ensures jobs { IfOk result (λ asked. map (λ one. one.job) asked.items ≡ jobs.items) }
+    ensures refused { IfOk result (λ asked. 0 < count_by (λ one. not one.granted) asked.items
+        → Rose (P.faults spawner.old) (P.faults spawner.new)) }
+    ensures later { P.faults spawner.old ≤ P.faults spawner.new }
+{
+    let mut asked = Vec::with_capacity(alloc, jobs.len())?;
+    for job in jobs {
+        let granted = spawner.start().is_ok();
+        asked.push(Asked { job, granted })?;
+    }
+    Ok(asked)
+}
+
+// How many starts were not granted.
+fn ungranted<J>(asked: &[Asked<J>]) -> usize
+    ensures { result ≡ count_by (λ one. not one.granted) asked.now }
+{
+    asked.iter().filter(|one| !one.granted).count()
+}
+
+// How many jobs came back.
+fn returned<D, J>(answers: &[Result<D, J>]) -> usize
+    ensures { result ≡ count_by is_err answers.now }
+{
+    answers.iter().filter(|answer| answer.is_err()).count()
+}
+
+// Runs a granted job in the caller.
+fn run_one<J: Job>(one: Asked<J>) -> Result<J::Done, J>
+    ensures { RanOrBack J.may_give one.job result }
+{
+    let Asked { job, granted } = one;
+    if granted { Ok(job.run()) } else { Err(job) }
+}
+
+// Runs the granted jobs in the caller, one after another.
+#[tactic(auto, using(crate::proofs::Crews::zip_field_more))]
+fn run_each<J: Job>(alloc: Global, asked: Vec<Asked<J>>) -> Result<Vec<Result<J::Done, J>>, Memory>
+    ensures { IfOk result (λ answers. AllZip (RanOrBack J.may_give) (map (λ one. one.job) asked.items) answers.items) }
+{
+    let mut answers = Vec::with_capacity(alloc, asked.len())?;
+    for one in asked {
+        answers.push(run_one(one))?;
+    }
+    Ok(answers)
+}
+
+// A thread that runs a job, or the answer of a job that no thread runs.
+type Start<J> = Result<
+    PromisedHandle<Result<<J as Job>::Done, J>, RunsOrReturns<J>>,
+    Result<<J as Job>::Done, J>,
+>;
+
+// Starts a job in a thread of its own.
+fn start_one<'s, E, J: Job + Send + 's>(
+    scope: &Scope<'s, E>,
+    refused: &'s AtomicBool,
+    one: Asked<J>,
+) -> Start<J>
+    ensures { Started J.may_give (λ thread. thread.promise.0.value) one.job result }
+{
+    let Asked { job, granted } = one;
+    if !granted {
+        return Err(Err(job));
+    }
+    let promise = RunsOrReturns(Snapshot::of(&job));
+    let started = scope.spawn_with(
+        promise,
+        move || -> Result<J::Done, J>
+            ensures { RanOrBack J.may_give job result }
+        { run_unless(refused, job) },
+    );
+    match started {
+        Ok(thread) => Ok(thread),
+        Err(unstarted) => {
+            refused.store(true, SeqCst);
+            Err((unstarted.value)())
+        }
+    }
+}
+
+// Starts each granted job in a thread of its own.
+#[tactic(auto, using(crate::proofs::Crews::zip_field_more))]
+fn start_each<'s, E, J: Job + Send + 's>(
+    scope: &Scope<'s, E>,
+    alloc: Global,
+    refused: &'s [AtomicBool],
+    asked: Vec<Asked<J>>,
+) -> Result<Vec<Start<J>>, Memory>
+    requires { length refused.now ≡ length asked.items }
+    ensures { IfOk result (λ started. AllZip (Started J.may_give (λ thread. thread.promise.0.value))
+        (map (λ one. one.job) asked.items) started.items) }
+{
+    let mut started = Vec::with_capacity(alloc, asked.len())?;
+    for one in asked {
+        let flag = &refused[started.len()];
+        started.push(start_one(scope, flag, one))?;
+    }
+    Ok(started)
+}
+
+// Waits for a thread, where there is one.
+fn join_one<R: Threads, J: Job>(rt: &R, one: Start<J>) -> Result<J::Done, J>
+    ensures { Answered J.may_give (λ thread. thread.promise.0.value) one result }
+{
+    match one {
+        Ok(thread) => thread.join(rt),
+        Err(answer) => answer,
+    }
+}
+
+// Waits for each thread.
+#[tactic(auto, using(crate::proofs::Crews::zip_more))]
+fn join_each<R: Threads, J: Job>(
+    rt: &R,
+    alloc: Global,
+    started: Vec<Start<J>>,
+) -> Result<Vec<Result<J::Done, J>>, Memory>
+    ensures { IfOk result (λ answers. AllZip (Answered J.may_give (λ thread. thread.promise.0.value))
+        started.items answers.items) }
+{
+    let mut answers = Vec::with_capacity(alloc, started.len())?;
+    for one in started {
+        answers.push(join_one(rt, one))?;
+    }
+    Ok(answers)
+}
+
+// As many flags as jobs, none of them set.
+fn flags(alloc: Global, count: usize) -> Result<Vec<AtomicBool>, Memory>
+    ensures { IfOk result (λ flags. length flags.items ≡ count) }
+{
+    let mut flags = Vec::with_capacity(alloc, count)?;
+    for _ in 0..count {
+        flags.push(AtomicBool::new(false))?;
+    }
+    Ok(flags)
+}
+
+// Starts each granted job in a thread of its own, and waits for all.
+#[tactic(auto, using(crate::proofs::Crews::all_answered))]
+fn run_scoped<'s, E, R: Threads, J: Job + Send + 's>(
+    rt: &R,
+    scope: &Scope<'s, E>,
+    alloc: Global,
+    refused: &'s [AtomicBool],
+    asked: Vec<Asked<J>>,
+) -> Result<Vec<Result<J::Done, J>>, Memory>
+    requires { length refused.now ≡ length asked.items }
+    ensures { IfOk result (λ answers. AllZip (RanOrBack J.may_give)
+        (map (λ one. one.job) asked.items) answers.items) }
+{
+    let started = start_each(scope, alloc, refused, asked)?;
+    join_each(rt, alloc, started)
+}
+
+// Runs each granted job in a thread of its own. A job whose thread cannot be started comes back.
+fn run_crew<R: Threads + Wait + Sync, J: Job + Send>(
+    rt: &R,
+    alloc: Global,
+    asked: Vec<Asked<J>>,
+) -> Result<Vec<Result<J::Done, J>>, Memory>
+    ensures { IfOk result (λ answers. AllZip (RanOrBack J.may_give)
+        (map (λ one. one.job) asked.items) answers.items) }
+{
+    let flags = flags(alloc, asked.len())?;
+    let refused = flags.as_slice();
+    thread::scope(
+        thread::scope_env(),
+        rt,
+        |scope| -> Result<Vec<Result<J::Done, J>>, Memory>
+            requires { length refused.now ≡ length asked.items }
+            ensures { IfOk result (λ answers. AllZip (RanOrBack J.may_give)
+                (map (λ one. one.job) asked.items) answers.items) }
+        { run_scoped(rt, scope, alloc, refused, asked) },
+    )
+}
+
+// Counts the starts that the system refused: `back` jobs came back, and `refused` of them were not granted.
+fn note_each<P: Spawner>(spawner: &mut P, refused: usize, back: usize)
+    ensures rose { refused < back → Rose (P.faults spawner.old) (P.faults spawner.new) }
+    ensures later { P.faults spawner.old ≤ P.faults spawner.new }
+{
+    for _ in refused..back {
+        spawner.note();
+    }
+}
+
 /// What starts jobs beside the caller. An implementation gives the hooks `start`, `note` and `runtime`.
 pub trait Spawner: Sized + Send {
     type Runtime: Threads + Wait + Sync;
@@ -126,18 +327,6 @@ pub trait Spawner: Sized + Send {
     /// and `crew`.
     fn runtime(&self) -> Option<&Self::Runtime>;
 
-    /// Runs each job beside the caller and gives the answers in the jobs' order. A job whose start was refused
-    /// comes back unrun in its place. It waits.
-    fn crew<J: Job + Send>(
-        &mut self,
-        alloc: Global,
-        jobs: Vec<J>,
-    ) -> Result<Vec<Result<J::Done, J>>, Memory>
-        ensures answers { IfOk result (λ answers. InOrder J.may_give jobs.items answers.items) }
-        ensures refused { IfOk result (λ answers. IsTrue (list_any is_err answers.items)
-            → Rose (faults self.old) (faults self.new)) }
-        ensures later { faults self.old ≤ faults self.new };
-
     /// Starts `other` beside the caller, runs `mine` and gives both results. Where the start was refused, both
     /// jobs come back and neither has run. It waits.
     final fn beside<A: Job, B: Job + Send>(
@@ -160,5 +349,27 @@ pub trait Spawner: Sized + Send {
             self.note();
         }
         ran
+    }
+
+    /// Runs each job beside the caller and gives the answers in the jobs' order. A job whose start was refused
+    /// comes back unrun in its place. It waits.
+    final fn crew<J: Job + Send>(
+        &mut self,
+        alloc: Global,
+        jobs: Vec<J>,
+    ) -> Result<Vec<Result<J::Done, J>>, Memory>
+        ensures answers { IfOk result (λ answers. AllZip (RanOrBack J.may_give) jobs.items answers.items) }
+        ensures refused { IfOk result (λ answers. 0 < count_by is_err answers.items
+            → Rose (faults self.old) (faults self.new)) }
+        ensures later { faults self.old ≤ faults self.new }
+    {
+        let asked = ask(self, alloc, jobs)?;
+        let refused = ungranted(&asked);
+        let answers = match self.runtime() {
+            Some(rt) => run_crew(rt, alloc, asked)?,
+            None => run_each(alloc, asked)?,
+        };
+        note_each(self, refused, returned(&answers));
+        Ok(answers)
     }
 }

@@ -2,23 +2,37 @@
 //! makes links and who starts jobs. Each object counts its faults, and a call fails only where that count rose.
 #![tactic(auto)]
 
+mod absent;
+mod adapters;
 mod bytes;
 mod counts;
+mod files;
 mod hosts;
 mod jobs;
 mod links;
+mod map_shelf;
+mod memory;
+mod plans;
 mod shelves;
 mod sinks;
 mod sources;
+mod sure;
+mod tapes;
+mod transfers;
 
+pub use absent::{NoGate, NoNet, NoSpawner};
+pub use adapters::{FileShelf, Reading, Writing};
 pub use bytes::Bytes1;
 pub use counts::Faults;
 pub use hosts::Host;
 pub use jobs::{Job, Spawner};
 pub use links::{Dialer, Gate, Net};
+pub use map_shelf::MapShelf;
+pub use memory::{ByteSink, ByteSource};
 pub use shelves::{Shelf, ShelfError};
 pub use sinks::Sink;
 pub use sources::Source;
+pub use sure::{SureByteSink, SureByteSource, SureMapShelf};
 use thiserror::Error;
 
 /// Want of memory: an allocation was refused.

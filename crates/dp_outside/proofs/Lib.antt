@@ -1,0 +1,3 @@
+mod Crews
+mod Fronts
+mod Places

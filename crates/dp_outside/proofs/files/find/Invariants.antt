@@ -1,0 +1,10 @@
+use Rattle.std.proofs.Common.{◌≡◌, length}
+use Rattle.dp_outside.specs.Files.{content_of, told}
+use Rattle.dp_outside.proofs.files.find.Given as goal
+
+-- the files passed over have other names
+abbrev pub invariant-files : goal.invariant-files
+invariant-files l = content_of l.name (told l.files) ≡ content_of l.name (told l.rest)
+
+abbrev pub decreases-files : goal.decreases-files
+decreases-files l = length l.rest

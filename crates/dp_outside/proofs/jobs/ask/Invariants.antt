@@ -1,0 +1,10 @@
+use Rattle.std.proofs.Common.{◌≡◌, ◌<◌, ◌≤◌, count_by, map, not}
+use Rattle.dp_outside.specs.Causes.{Rose}
+use Rattle.dp_outside.proofs.jobs.ask.Given as goal
+
+-- the jobs so far stand in their order; the count has not fallen, and rose where one was not granted
+abbrev pub invariant-loop-job : goal.invariant-loop-job
+invariant-loop-job g l =
+    (map (λ one. one.job) l.asked.items ≡ l.yielded)
+    × (0 < count_by (λ one. not one.granted) l.asked.items → Rose (g.P.Spawner.faults l.fn.spawner) (g.P.Spawner.faults l.spawner))
+    × (g.P.Spawner.faults l.fn.spawner ≤ g.P.Spawner.faults l.spawner)

@@ -1,0 +1,196 @@
+ghost use Rattle.std.specs.Prelude.{◌≡◌, ◌≤◌, IsErr};
+ghost use Rattle.dp_outside.specs.Causes.{HasCause, Rose};
+ghost use Rattle.dp_outside.specs.Fakes.{one_more};
+
+use crate::{Dialer, Failed, Faults, Gate, Host, Net, Spawner, SureByteSink, SureByteSource};
+use std::marker::{Model, PhantomData};
+use std::sync::Wait;
+use std::thread::Threads;
+
+/// No network: each call that can fail does so, and its count of faults rises. Contracts see that count.
+#[derive(Debug, Drop)]
+pub struct NoNet {
+    faults: Faults,
+}
+
+impl Model for NoNet {
+    ghost use Rattle.std.specs.Prelude.{ℕ};
+
+    ghost Value = { ℕ };
+
+    ghost view = { λ net. net.faults };
+}
+
+impl NoNet {
+    /// A network that is not there. No call has failed yet.
+    pub fn new() -> Self
+        ensures { result ≡ 0 }
+    {
+        NoNet {
+            faults: Faults::new(),
+        }
+    }
+}
+
+impl Dialer for NoNet {
+    type In = SureByteSource;
+
+    type Out = SureByteSink;
+
+    ghost faults = { λ net. net };
+
+    fn dial(&mut self, _host: &Host, _port: u16) -> Result<(SureByteSource, SureByteSink), Failed>
+        ensures cause { HasCause self.old self.new result }
+        ensures absent { IsErr result }
+        ensures counted { self.new ≡ one_more self.old }
+    {
+        self.faults.raise();
+        Err(Failed)
+    }
+
+    fn retire(&mut self, _source: SureByteSource, _sink: SureByteSink)
+        ensures faults { self.new ≡ self.old }
+    {}
+
+    fn twin(&mut self) -> Result<Self, Failed>
+        ensures cause { HasCause self.old self.new result }
+        ensures absent { IsErr result }
+        ensures counted { self.new ≡ one_more self.old }
+    {
+        self.faults.raise();
+        Err(Failed)
+    }
+}
+
+impl Net for NoNet {
+    type Door = NoGate;
+
+    fn gate(&mut self, _port: u16) -> Result<NoGate, Failed>
+        ensures cause { HasCause self.old self.new result }
+        ensures absent { IsErr result }
+        ensures counted { self.new ≡ one_more self.old }
+    {
+        self.faults.raise();
+        Err(Failed)
+    }
+
+    fn shut(&mut self, _door: NoGate)
+        ensures faults { self.new ≡ self.old }
+    {}
+}
+
+/// The gate of no network: it gives no link. Contracts see its count of faults.
+#[derive(Debug, Drop)]
+pub struct NoGate {
+    faults: Faults,
+}
+
+impl Model for NoGate {
+    ghost use Rattle.std.specs.Prelude.{ℕ};
+
+    ghost Value = { ℕ };
+
+    ghost view = { λ gate. gate.faults };
+}
+
+impl NoGate {
+    /// A gate that gives no link. No call has failed yet.
+    pub fn new() -> Self
+        ensures { result ≡ 0 }
+    {
+        NoGate {
+            faults: Faults::new(),
+        }
+    }
+}
+
+impl Gate for NoGate {
+    type In = SureByteSource;
+
+    type Out = SureByteSink;
+
+    ghost faults = { λ gate. gate };
+
+    fn accept(&mut self) -> Result<(SureByteSource, SureByteSink, Host), Failed>
+        ensures cause { HasCause self.old self.new result }
+        ensures absent { IsErr result }
+        ensures counted { self.new ≡ one_more self.old }
+    {
+        self.faults.raise();
+        Err(Failed)
+    }
+
+    fn retire(&mut self, _source: SureByteSource, _sink: SureByteSink)
+        ensures faults { self.new ≡ self.old }
+    {}
+
+    fn twin(&mut self) -> Result<Self, Failed>
+        ensures cause { HasCause self.old self.new result }
+        ensures absent { IsErr result }
+        ensures counted { self.new ≡ one_more self.old }
+    {
+        self.faults.raise();
+        Err(Failed)
+    }
+}
+
+/// No threads: each start is refused, and its count of faults rises. Contracts see that count. `R` is the runtime
+/// that it has none of.
+#[derive(Drop)]
+pub struct NoSpawner<R> {
+    faults: Faults,
+    runtime: PhantomData<R>,
+}
+
+impl<R> Model for NoSpawner<R> {
+    ghost use Rattle.std.specs.Prelude.{ℕ};
+
+    ghost Value = { ℕ };
+
+    ghost view = { λ spawner. spawner.faults };
+}
+
+impl<R> NoSpawner<R> {
+    /// A spawner without threads. No start was refused yet.
+    pub fn new() -> Self
+        ensures { result ≡ 0 }
+    {
+        NoSpawner {
+            faults: Faults::new(),
+            runtime: PhantomData,
+        }
+    }
+}
+
+impl<R: Threads + Wait + Sync + Send> Spawner for NoSpawner<R> {
+    type Runtime = R;
+
+    ghost faults = { λ spawner. spawner };
+
+    fn twin(&self) -> Self
+        ensures fresh { result ≡ 0 }
+    {
+        NoSpawner::new()
+    }
+
+    fn start(&mut self) -> Result<(), Failed>
+        ensures cause { HasCause self.old self.new result }
+        ensures absent { IsErr result }
+        ensures counted { self.new ≡ one_more self.old }
+    {
+        self.faults.raise();
+        Err(Failed)
+    }
+
+    fn note(&mut self)
+        ensures rose { Rose self.old self.new }
+        ensures later { self.old ≤ self.new }
+        ensures counted { self.new ≡ one_more self.old }
+    {
+        self.faults.raise();
+    }
+
+    fn runtime(&self) -> Option<&R> {
+        None
+    }
+}
