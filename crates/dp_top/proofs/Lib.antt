@@ -4,3 +4,4 @@ pub mod NumberLaws
 pub mod OutputLaws
 pub mod ReadLaws
 pub mod ServingLaws
+pub mod TalkLaws

@@ -1,4 +1,5 @@
 pub mod Answers
+pub mod CommandLine
 pub mod Exchanges
 pub mod Folds
 pub mod Fronts
@@ -9,4 +10,5 @@ pub mod Phases
 pub mod Seen
 pub mod Serving
 pub mod Sessions
+pub mod Talk
 pub mod Texts

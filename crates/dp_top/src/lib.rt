@@ -2,11 +2,16 @@
 #![tactic(auto)]
 
 mod bytes;
+mod command_line;
+mod failures;
 mod orders;
 mod serving;
 mod sessions;
+mod talk;
 mod texts;
 mod thin;
+mod top_call;
 
 pub use serving::{ServeEnd, Served};
 pub use sessions::{Answer, Outcome, Session, SessionEnd};
+pub use top_call::top;

@@ -61,7 +61,8 @@ pub fn are_alphanumeric(bytes: &[u8]) -> bool
     bytes.iter().all(|byte| alphanumeric(*byte))
 }
 
-fn alphanumeric(byte: u8) -> bool
+/// Whether the byte is a letter or digit of ASCII.
+pub fn alphanumeric(byte: u8) -> bool
     ensures { result ≡ is_alphanumeric byte }
 {
     in_range(48, 57, byte) || in_range(65, 90, byte) || in_range(97, 122, byte)

@@ -1,0 +1,93 @@
+//! The top call.
+ghost use Rattle.std.specs.Prelude.{◌≡◌, ◌≢◌, ◌↔◌, ◌⊎◌, ◌≤◌, ℕ, List, codes, map, string_bytes};
+ghost use Rattle.dp_outside.specs.Causes.{Rose};
+ghost use Rattle.dp_top.specs.CommandLine.{IsTalk};
+ghost use Rattle.dp_top.specs.Links.{change};
+ghost use Rattle.dp_top.specs.Talk.{Says, IsUntouched, IsDone, Fails, Tells, IsAccepted, IsRefused, NoneRose};
+
+use crate::command_line::read_words;
+use crate::failures::{report, say};
+use crate::talk::talk;
+use dp_outside::{Net, Shelf, Sink, Source, Spawner};
+use std::alloc::Global;
+use std::sync::Wait;
+
+/// Does what the words of a command line ask for, and answers the status with which the program ends.
+///
+/// `words` are the command line without the program's name. The one command is `talk KEY FILE`: it serves a session
+/// of KEY over the program in FILE, with `input` and `out` as the link, and the program's own output on `err`.
+///
+/// | status | comes | line on `err` |
+/// |---|---|---|
+/// | 0 | the session went well | none |
+/// | 200 | the words ask for nothing | `usage` |
+/// | 201 | the file is too long or no program | `bad source NAME REASON NUMBER` |
+/// | 202 | the shelf failed, or has no such file | `shelf failed NAME`, `no file NAME` |
+/// | 203 | an output failed | `output failed` |
+/// | 207 | bytes stand in no command's place, or too many came | `bad packet offset N` |
+/// | 208 | the input failed | `network failed` |
+/// | 209 | want of memory | `out of memory` |
+///
+/// It waits in the calls of `input` alone. `net` and `spawner` are not used.
+pub fn top<
+    R: Wait + Sync,
+    H: Shelf,
+    S: Source,
+    K: Sink,
+    E: Sink,
+    N: Net,
+    P: Spawner,
+>(
+    rt: &R,
+    alloc: Global,
+    words: &[String],
+    shelf: &mut H,
+    input: &mut S,
+    out: &mut K,
+    err: &mut E,
+    net: &mut N,
+    spawner: &mut P,
+) -> u8
+    ensures usage { (result ≡ 200) ↔ ((key file : List ℕ) → IsTalk (map string_bytes words.now) key file → ⊥) }
+    ensures usage_told { result ≡ 200 → Says (change E.taken E.faults err.old err.new) (codes "usage\n") }
+    ensures usage_input { result ≡ 200 → IsUntouched (change S.left S.faults input.old input.new) }
+    ensures usage_out { result ≡ 200 → IsUntouched (change K.taken K.faults out.old out.new) }
+    ensures usage_shelf { result ≡ 200 → H.faults shelf.new ≡ H.faults shelf.old }
+
+    ensures done { result ≡ 0 → IsDone (map string_bytes words.now) (H.files shelf.old)
+        (change S.left S.faults input.old input.new) (change K.taken K.faults out.old out.new)
+        (change E.taken E.faults err.old err.new) }
+    ensures fails { result ≢ 0 → result ≢ 200 → Fails result (map string_bytes words.now) (H.files shelf.old)
+        (H.faults shelf.old) (H.faults shelf.new) (change S.left S.faults input.old input.new)
+        (change K.taken K.faults out.old out.new) (change E.taken E.faults err.old err.new) }
+
+    // Where the shelf tells the file, it is a program, and no count rose, the session is served whole.
+    ensures complete { (key file content : List ℕ) → IsTalk (map string_bytes words.now) key file
+        → Tells (H.files shelf.old) file content → IsAccepted content
+        → NoneRose (H.faults shelf.old) (H.faults shelf.new) (change S.left S.faults input.old input.new)
+            (change K.taken K.faults out.old out.new) (change E.taken E.faults err.old err.new)
+        → (result ≡ 0) ⊎ (result ≡ 207) ⊎ (result ≡ 209) }
+    // Where it is too long or no program, it is refused, unless the shelf fails first.
+    ensures refused { (key file content : List ℕ) → IsTalk (map string_bytes words.now) key file
+        → Tells (H.files shelf.old) file content → IsRefused content
+        → (result ≡ 201) ⊎ (result ≡ 209) ⊎ Rose (H.faults shelf.old) (H.faults shelf.new) }
+
+    ensures files { H.files shelf.new ≡ H.files shelf.old }
+    ensures net { N.faults net.new ≡ N.faults net.old }
+    ensures spawner { P.faults spawner.new ≡ P.faults spawner.old }
+    ensures shelf_later { H.faults shelf.old ≤ H.faults shelf.new }
+    ensures input_later { S.faults input.old ≤ S.faults input.new }
+    ensures out_later { K.faults out.old ≤ K.faults out.new }
+    ensures err_later { E.faults err.old ≤ E.faults err.new }
+{
+    match read_words(words) {
+        None => {
+            say(err, b"usage\n");
+            200
+        }
+        Some(request) => match talk(alloc, request, shelf, input, out, err) {
+            Ok(()) => 0,
+            Err(failure) => report(alloc, failure, request.file.as_bytes(), err),
+        },
+    }
+}
