@@ -58,9 +58,9 @@ no_more_partial held p text more is e =
     let joined : command_frame text ++ (more ++ p.more) ≡ command_frame p.text =
     sym (append_assoc (command_frame text) more p.more) ∙ ap (λ l. l ++ p.more) (sym e) ∙ p.whole in
     p.comes (no_bytes more p.more (no_frame_begins text p.text (more ++ p.more) is p.is_text joined).1) where
-  no_bytes : (bs more : List ℕ) → bs ++ more ≡ [] → more ≡ []
-  no_bytes [] more e = e
-  no_bytes (b ∷ bs) more e = cc
+      no_bytes : (bs more : List ℕ) → bs ++ more ≡ [] → more ≡ []
+      no_bytes [] more e = e
+      no_bytes (b ∷ bs) more e = cc
 
 no_more_refused : (held : List ℕ) → BeginsNoCommand held → (text more : List ℕ) → IsCommand text → held ≡ command_frame text ++ more → ⊥
 no_more_refused held refused text more is e = refused text more [] is (append-nil held ∙ e)

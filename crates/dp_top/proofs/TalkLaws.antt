@@ -25,10 +25,10 @@ fetched_whole (Some files) name limit bytes h fits =
 pub fetched_long : (files : Files) (name bytes : List ℕ) → Fetches files name file_limit bytes → file_limit < length bytes → IsTooLong files name
 fetched_long None name bytes h long = record { content = bytes; is_content = tt; long = long }
 fetched_long (Some files) name bytes h long = record {
-    content = h.0;
-    is_content = h.1;
-    long = omega (arith, ap length h.2, length-take (file_limit + 1) h.0);
-  }
+  content = h.0;
+  is_content = h.1;
+  long = omega (arith, ap length h.2, length-take (file_limit + 1) h.0);
+}
 
 -- ---- the session
 
@@ -64,30 +64,30 @@ pub fails_told : (status : ℕ) (words : List (List ℕ)) (files : Files) (befor
     → Caused failed files before after key file input out (record { told_before = told0; told = told1; faults_before = faults0; faults = faults1 })
     → faults1 ≤ faults2
     → ((status ≡ status_of failed) × Says (record { told_before = told1; told = told2; faults_before = faults1; faults = faults2 }) (line_of failed text))
-      ⊎ ((status ≡ 209) × Says (record { told_before = told1; told = told2; faults_before = faults1; faults = faults2 }) (codes "out of memory\n"))
+    ⊎ ((status ≡ 209) × Says (record { told_before = told1; told = told2; faults_before = faults1; faults = faults2 }) (codes "out of memory\n"))
     → Fails status words files before after input out (record { told_before = told0; told = told2; faults_before = faults0; faults = faults2 })
 fails_told status words files before after key file text input out told0 told1 told2 faults0 faults1 faults2 failed is same caused later (inl told) = record {
-    key = key;
-    file = file;
-    is_talk = is;
-    failure = failed;
-    is_status = told.0;
-    told = record {
-      between = told1;
-      faults_between = faults1;
-      first = caused;
-      later = later;
-      says = subst (λ (l : List ℕ). Says (record { told_before = told1; told = told2; faults_before = faults1; faults = faults2 }) (line_of failed l)) same told.1;
-    };
-  }
+  key = key;
+  file = file;
+  is_talk = is;
+  failure = failed;
+  is_status = told.0;
+  told = record {
+    between = told1;
+    faults_between = faults1;
+    first = caused;
+    later = later;
+    says = subst (λ (l : List ℕ). Says (record { told_before = told1; told = told2; faults_before = faults1; faults = faults2 }) (line_of failed l)) same told.1;
+  };
+}
 fails_told status words files before after key file text input out told0 told1 told2 faults0 faults1 faults2 failed is same caused later (inr told) = record {
-    key = key;
-    file = file;
-    is_talk = is;
-    failure = failure.Memory;
-    is_status = told.0;
-    told = record { between = told1; faults_between = faults1; first = tt; later = later; says = told.1 };
-  }
+  key = key;
+  file = file;
+  is_talk = is;
+  failure = failure.Memory;
+  is_status = told.0;
+  told = record { between = told1; faults_between = faults1; first = tt; later = later; says = told.1 };
+}
 
 -- the words name one key and one file
 one_talk : (words : List (List ℕ)) (key file k f : List ℕ) → IsTalk words key file → IsTalk words k f → (key ≡ k) × (file ≡ f)
@@ -159,10 +159,10 @@ pub refused_fails_so : (status : ℕ) (words : List (List ℕ)) (files : Files) 
 refused_fails_so status words files before after input out err f key file content is held r =
     let same = one_talk words key file f.key f.file is f.is_talk in
     by (refused_fails files f.file content (subst (λ (l : List ℕ). Tells files l content) same.1 held) f.failure before after f.key input out _ r f.told.first) where
-  by : (status_of f.failure ≡ 201) ⊎ (status_of f.failure ≡ 209) ⊎ Rose before after → (status ≡ 201) ⊎ (status ≡ 209) ⊎ Rose before after
-  by (inl e) = inl (f.is_status ∙ e)
-  by (inr (inl e)) = inr (inl (f.is_status ∙ e))
-  by (inr (inr rose)) = inr (inr rose)
+      by : (status_of f.failure ≡ 201) ⊎ (status_of f.failure ≡ 209) ⊎ Rose before after → (status ≡ 201) ⊎ (status ≡ 209) ⊎ Rose before after
+      by (inl e) = inl (f.is_status ∙ e)
+      by (inr (inl e)) = inr (inl (f.is_status ∙ e))
+      by (inr (inr rose)) = inr (inr rose)
 
 pub refused_done : (words : List (List ℕ)) (files : Files) (input out err : Change) → IsDone words files input out err
     → (key file content : List ℕ) → IsTalk words key file → Tells files file content → IsRefused content → ⊥

@@ -17,11 +17,11 @@ quiet state = record { packets = []; program = []; state = state; ended = None }
 abbrev pub unless_ended : {S E : Type 0} → Option E → Reply S E → Reply S E → Reply S E
 unless_ended (Some end) first rest = first
 unless_ended None first rest = record {
-    packets = first.packets ++ rest.packets;
-    program = first.program ++ rest.program;
-    state = rest.state;
-    ended = rest.ended;
-  }
+  packets = first.packets ++ rest.packets;
+  program = first.program ++ rest.program;
+  state = rest.state;
+  ended = rest.ended;
+}
 
 -- one reply, and then another if the first has not ended the session
 abbrev pub followed : {S E : Type 0} → Reply S E → Reply S E → Reply S E

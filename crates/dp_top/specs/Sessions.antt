@@ -47,11 +47,11 @@ stopped_at state order moment =
 -- it runs to the end of the program: the rest of the output goes out
 abbrev pub ran_out : State → Order → Answered
 ran_out state order = record {
-    packets = state_text (name_of order.verb) order.id (status_of Stopping) ∷ [];
-    program = drop state.shown (output state.program);
-    state = record { program = state.program; moment = state.moment; phase = Stopping; shown = length (output state.program) };
-    ended = None;
-  }
+  packets = state_text (name_of order.verb) order.id (status_of Stopping) ∷ [];
+  program = drop state.shown (output state.program);
+  state = record { program = state.program; moment = state.moment; phase = Stopping; shown = length (output state.program) };
+  ended = None;
+}
 
 abbrev pub resumed : State → Order → Option ℕ → Answered
 resumed state order (Some moment) = stopped_at state order moment
@@ -60,11 +60,11 @@ resumed state order None = ran_out state order
 -- once the program has ended, a continuation ends the session
 abbrev pub finished : State → Order → Answered
 finished state order = record {
-    packets = state_text (name_of order.verb) order.id (codes "stopped") ∷ [];
-    program = [];
-    state = state;
-    ended = Some Finished;
-  }
+  packets = state_text (name_of order.verb) order.id (codes "stopped") ∷ [];
+  program = [];
+  state = state;
+  ended = Some Finished;
+}
 
 abbrev pub continued : State → Order → Phase → Answered
 continued state order Starting = resumed state order (stop_of order.verb state.program state.moment)

@@ -3,7 +3,6 @@ ghost use Rattle.std.specs.Prelude.{◌≡◌, ◌⊎◌, ◌≤◌, ◌++◌, �
 ghost use Rattle.dp_top.specs.Links.{change};
 ghost use Rattle.dp_top.specs.Talk.{status_of, line_of, Says};
 
-
 use dp_outside::Sink;
 use dp_value::{Bytes, Memory};
 use std::alloc::{AllocError, Global};

@@ -15,3 +15,6 @@ mod top_call;
 pub use serving::{ServeEnd, Served};
 pub use sessions::{Answer, Outcome, Session, SessionEnd};
 pub use top_call::top;
+
+#[cfg(test)]
+mod tests;

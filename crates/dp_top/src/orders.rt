@@ -91,11 +91,20 @@ pub fn read_order(line: &[u8]) -> Option<Order<'_>>
     ensures id { IfSome result (λ order. is_id order.id.now ≡ true) }
 {
     match id_after(Verb::Status, line) {
-        Some(id) => Some(Order { verb: Verb::Status, id }),
+        Some(id) => Some(Order {
+            verb: Verb::Status,
+            id,
+        }),
         None => match id_after(Verb::StepInto, line) {
-            Some(id) => Some(Order { verb: Verb::StepInto, id }),
+            Some(id) => Some(Order {
+                verb: Verb::StepInto,
+                id,
+            }),
             None => match id_after(Verb::Run, line) {
-                Some(id) => Some(Order { verb: Verb::Run, id }),
+                Some(id) => Some(Order {
+                    verb: Verb::Run,
+                    id,
+                }),
                 None => None,
             },
         },

@@ -257,12 +257,7 @@ fn converse<S: Source, K: Sink, E: Sink>(
 }
 
 /// Runs the program on to its end, once the session is over.
-fn run_on<E: Sink>(
-    alloc: Global,
-    session: &Session<'_>,
-    end: ServeEnd,
-    out: &mut E,
-) -> Served
+fn run_on<E: Sink>(alloc: Global, session: &Session<'_>, end: ServeEnd, out: &mut E) -> Served
     requires { CanRunOn end }
     ensures ends { RanOn end result.end (unshown session.now) (change E.taken E.faults out.old out.new) }
     ensures outcome { result.outcome ≡ outcome_of result.end }

@@ -8,7 +8,6 @@ ghost use Rattle.dp_top.specs.Texts.{init_text, state_text};
 ghost use Rattle.dp_top.specs.Orders.{is_id, name_of};
 ghost use Rattle.dp_top.specs.Seen.{seen};
 
-
 use crate::orders::{Order, Verb, read_order};
 use crate::texts;
 use dp_value::{Bytes, Items, Memory};
@@ -225,7 +224,12 @@ impl<'a> Session<'a> {
         match self.phase {
             Phase::Stopping => {
                 let text = response(alloc, order, b"stopped")?;
-                answered(alloc, text, Bytes::of(Vec::new(alloc)), Some(SessionEnd::Finished))
+                answered(
+                    alloc,
+                    text,
+                    Bytes::of(Vec::new(alloc)),
+                    Some(SessionEnd::Finished),
+                )
             }
             Phase::Starting | Phase::Break => {
                 if order.verb == Verb::StepInto && self.moment < self.program.len() {

@@ -70,12 +70,12 @@ pub fn talk<H: Shelf, S: Source, K: Sink, E: Sink>(
 
     ensures ends { MatchResult result
         (λ _. Talks (H.files shelf.old) request.entry.key.now request.entry.file.now
-            (change S.left S.faults input.old input.new) (change K.taken K.faults out.old out.new)
-            (change E.taken E.faults err.old err.new))
+        (change S.left S.faults input.old input.new) (change K.taken K.faults out.old out.new)
+        (change E.taken E.faults err.old err.new))
         (λ failure. Caused failure (H.files shelf.old) (H.faults shelf.old) (H.faults shelf.new)
-            request.entry.key.now request.entry.file.now
-            (change S.left S.faults input.old input.new) (change K.taken K.faults out.old out.new)
-            (change E.taken E.faults err.old err.new)) }
+        request.entry.key.now request.entry.file.now
+        (change S.left S.faults input.old input.new) (change K.taken K.faults out.old out.new)
+        (change E.taken E.faults err.old err.new)) }
     ensures files { H.files shelf.new ≡ H.files shelf.old }
 
     ensures shelf_later { H.faults shelf.old ≤ H.faults shelf.new }

@@ -63,7 +63,11 @@ fn numeral(text: &str) -> Option<u64>
     if number > GREATEST {
         return None;
     }
-    if is_spelling(text, number) { Some(number) } else { None }
+    if is_spelling(text, number) {
+        Some(number)
+    } else {
+        None
+    }
 }
 
 /// The number that these digits spell in its one spelling, if a statement may have it.

@@ -29,15 +29,7 @@ use std::sync::Wait;
 /// | 209 | want of memory | `out of memory` |
 ///
 /// It waits in the calls of `input` alone. `net` and `spawner` are not used.
-pub fn top<
-    R: Wait + Sync,
-    H: Shelf,
-    S: Source,
-    K: Sink,
-    E: Sink,
-    N: Net,
-    P: Spawner,
->(
+pub fn top<R: Wait + Sync, H: Shelf, S: Source, K: Sink, E: Sink, N: Net, P: Spawner>(
     rt: &R,
     alloc: Global,
     words: &[String],
@@ -65,7 +57,7 @@ pub fn top<
     ensures complete { (key file content : List ℕ) → IsTalk (map string_bytes words.now) key file
         → Tells (H.files shelf.old) file content → IsAccepted content
         → NoneRose (H.faults shelf.old) (H.faults shelf.new) (change S.left S.faults input.old input.new)
-            (change K.taken K.faults out.old out.new) (change E.taken E.faults err.old err.new)
+        (change K.taken K.faults out.old out.new) (change E.taken E.faults err.old err.new)
         → (result ≡ 0) ⊎ (result ≡ 207) ⊎ (result ≡ 209) }
     // Where it is too long or no program, it is refused, unless the shelf fails first.
     ensures refused { (key file content : List ℕ) → IsTalk (map string_bytes words.now) key file

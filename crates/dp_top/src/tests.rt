@@ -1,0 +1,395 @@
+use super::*;
+use dp_outside::{ByteSink, ByteSource, MapShelf, NoNet, NoSpawner};
+use dp_value::Memory;
+use std::alloc::Global;
+use std::process::Abort;
+use std::sync::Wait;
+use std::test::Fail;
+use std::thread::Threads;
+
+const PROGRAM: &str = "<?php\necho 7;\n";
+
+/// Packets as they stand on the wire, each with its length written out, but for the declaration and `@` for the
+/// namespace.
+const INIT: &str = "208 <init@ appid=\"dbgp\" idekey=\"K\" session=\"\" thread=\"1\" parent=\"\" \
+language=\"PHP\" protocol_version=\"1.0\" fileuri=\"file:///a.php\"></init>";
+
+const STARTING: &str =
+    "164 <response@ command=\"status\" transaction_id=\"9\" status=\"starting\" reason=\"ok\"></response>";
+
+const BREAK: &str =
+    "164 <response@ command=\"step_into\" transaction_id=\"1\" status=\"break\" reason=\"ok\"></response>";
+
+const STOPPING_1: &str =
+    "161 <response@ command=\"run\" transaction_id=\"1\" status=\"stopping\" reason=\"ok\"></response>";
+
+const STOPPING: &str =
+    "161 <response@ command=\"run\" transaction_id=\"2\" status=\"stopping\" reason=\"ok\"></response>";
+
+const STOPPED: &str =
+    "160 <response@ command=\"run\" transaction_id=\"3\" status=\"stopped\" reason=\"ok\"></response>";
+
+const UNKNOWN: &str = "191 <response@ command=\"\" transaction_id=\"\"><error code=\"4\">\
+<message>unimplemented command</message></error></response>";
+
+const SESSION: &[u8] = b"step_into -i 1\0run -i 2\0run -i 3\0";
+
+/// One call of the top call, and what has to come of it. The numbers of the calls that fail are 0 for none.
+#[derive(Clone, Copy)]
+struct Row<'a> {
+    words: &'a [&'a str],
+    file: &'a str,
+    input: &'a [u8],
+    cut: usize,
+    shelf_fails: u64,
+    input_fails: u64,
+    out_fails: u64,
+    err_fails: u64,
+    status: u8,
+    packets: &'a [&'a str],
+    err: &'a str,
+}
+
+/// The session of one `echo`, served whole.
+const WHOLE: Row<'static> = Row {
+    words: &["talk", "K", "a.php"],
+    file: PROGRAM,
+    input: SESSION,
+    cut: 0,
+    shelf_fails: 0,
+    input_fails: 0,
+    out_fails: 0,
+    err_fails: 0,
+    status: 0,
+    packets: &[INIT, BREAK, STOPPING, STOPPED],
+    err: "7",
+};
+
+/// A list with this number, or with none where it is 0.
+fn numbers(alloc: Global, number: u64) -> Result<Vec<u64>, Memory> {
+    let mut numbers = Vec::new(alloc);
+    if number > 0 {
+        numbers.push(number)?;
+    }
+    Ok(numbers)
+}
+
+/// The bytes of these packets on the wire.
+fn wire(alloc: Global, packets: &[&str]) -> Result<Vec<u8>, Memory> {
+    let mut bytes = Vec::new(alloc);
+    for packet in packets {
+        let Some((length, element)) = packet.split_once(' ') else {
+            continue;
+        };
+        bytes.extend_from_slice(length.as_bytes())?;
+        bytes.extend_from_slice(b"\0<?xml version=\"1.0\" encoding=\"iso-8859-1\"?>\n")?;
+        for byte in element.bytes() {
+            if byte == b'@' {
+                bytes.extend_from_slice(b" xmlns=\"urn:debugger_protocol_v1\"")?;
+            } else {
+                bytes.push(byte)?;
+            }
+        }
+        bytes.push(0)?;
+    }
+    Ok(bytes)
+}
+
+/// Makes the call of a row. Answers its status and both outputs.
+fn call<R: Wait + Sync + Threads + Send>(
+    rt: &R,
+    alloc: Global,
+    row: Row<'_>,
+) -> Result<(u8, ByteSink, ByteSink), Memory> {
+    let mut words = Vec::new(alloc);
+    for word in row.words {
+        words.push(String::from_str(alloc, word)?)?;
+    }
+    let name = String::from_str(alloc, "a.php")?;
+    let content = Vec::from_slice(alloc, row.file.as_bytes())?;
+    let mut shelf = MapShelf::new(
+        vec![in alloc; (name, content)]?,
+        numbers(alloc, row.shelf_fails)?,
+    )?;
+    let bytes = Vec::from_slice(alloc, row.input)?;
+    let cuts = vec![in alloc; row.cut; if row.cut == 0 { 0 } else { row.input.len() }]?;
+    let mut input = ByteSource::new(bytes, cuts, numbers(alloc, row.input_fails)?)?;
+    let mut out = ByteSink::new(alloc, 4096, numbers(alloc, row.out_fails)?)?;
+    let mut err = ByteSink::new(alloc, 4096, numbers(alloc, row.err_fails)?)?;
+    let mut net = NoNet::new();
+    let mut spawner: NoSpawner<R> = NoSpawner::new();
+    let status = top(
+        rt,
+        alloc,
+        words.as_slice(),
+        &mut shelf,
+        &mut input,
+        &mut out,
+        &mut err,
+        &mut net,
+        &mut spawner,
+    );
+    Ok((status, out, err))
+}
+
+/// Makes the call of a row, and compares what came of it.
+fn check<R: Wait + Sync + Threads + Send + Abort>(
+    rt: &R,
+    alloc: Global,
+    name: &str,
+    row: Row<'_>,
+) -> Result<(), Memory> {
+    let (status, out, err) = call(rt, alloc, row)?;
+    let packets = wire(alloc, row.packets)?;
+    assert_eq!(rt; status, row.status, "{name}");
+    assert_eq!(rt; out.taken(), packets.as_slice(), "{name}");
+    assert_eq!(rt; err.taken(), row.err.as_bytes(), "{name}");
+    Ok(())
+}
+
+/// Sessions that go well.
+const SESSIONS: [(&str, Row<'static>); 8] = [
+    ("a whole session", WHOLE),
+    ("byte by byte", Row { cut: 1, ..WHOLE }),
+    (
+        "commands after the end",
+        Row {
+            input: b"step_into -i 1\0run -i 2\0run -i 3\0status -i 4\0",
+            ..WHOLE
+        },
+    ),
+    (
+        "the last NUL is missing",
+        Row {
+            input: b"step_into -i 1\0run -i 2\0run -i 3",
+            packets: &[INIT, BREAK, STOPPING],
+            ..WHOLE
+        },
+    ),
+    (
+        "no statement",
+        Row {
+            file: "<?php",
+            input: b"run -i 1\0",
+            packets: &[INIT, STOPPING_1],
+            err: "",
+            ..WHOLE
+        },
+    ),
+    (
+        "no command",
+        Row {
+            input: b"",
+            packets: &[INIT],
+            ..WHOLE
+        },
+    ),
+    (
+        "a status and no commands",
+        Row {
+            input: b"status -i 9\0foo\0run -i\0run -i 1 \0\0",
+            packets: &[INIT, STARTING, UNKNOWN, UNKNOWN, UNKNOWN, UNKNOWN],
+            ..WHOLE
+        },
+    ),
+    (
+        "the greatest number",
+        Row {
+            file: "<?php\necho 0;\necho 9223372036854775807;\n",
+            input: b"run -i 1\0",
+            packets: &[INIT, STOPPING_1],
+            err: "09223372036854775807",
+            ..WHOLE
+        },
+    ),
+];
+
+/// Words and files that are refused.
+const REFUSALS: [(&str, Row<'static>); 10] = [
+    (
+        "no words",
+        Row {
+            words: &[],
+            status: 200,
+            packets: &[],
+            err: "usage\n",
+            ..WHOLE
+        },
+    ),
+    (
+        "an unknown word",
+        Row {
+            words: &["frob", "x"],
+            status: 200,
+            packets: &[],
+            err: "usage\n",
+            ..WHOLE
+        },
+    ),
+    (
+        "a key that is none",
+        Row {
+            words: &["talk", "-k", "a.php"],
+            status: 200,
+            packets: &[],
+            err: "usage\n",
+            ..WHOLE
+        },
+    ),
+    (
+        "no such file",
+        Row {
+            words: &["talk", "K", "none.php"],
+            status: 202,
+            packets: &[],
+            err: "no file none.php\n",
+            ..WHOLE
+        },
+    ),
+    (
+        "a shelf that fails",
+        Row {
+            shelf_fails: 1,
+            status: 202,
+            packets: &[],
+            err: "shelf failed a.php\n",
+            ..WHOLE
+        },
+    ),
+    (
+        "another statement",
+        Row {
+            file: "<?php\necho 7;\nprint 7;\n",
+            status: 201,
+            packets: &[],
+            err: "bad source a.php NotThin 3\n",
+            ..WHOLE
+        },
+    ),
+    (
+        "no line feed",
+        Row {
+            file: "<?php\necho 7;",
+            status: 201,
+            packets: &[],
+            err: "bad source a.php NotThin 2\n",
+            ..WHOLE
+        },
+    ),
+    (
+        "a leading zero",
+        Row {
+            file: "<?php\necho 07;\n",
+            status: 201,
+            packets: &[],
+            err: "bad source a.php NotThin 2\n",
+            ..WHOLE
+        },
+    ),
+    (
+        "too great a number",
+        Row {
+            file: "<?php\necho 9223372036854775808;\n",
+            status: 201,
+            packets: &[],
+            err: "bad source a.php NotThin 2\n",
+            ..WHOLE
+        },
+    ),
+    (
+        "no tag",
+        Row {
+            file: "",
+            status: 201,
+            packets: &[],
+            err: "bad source a.php NotThin 1\n",
+            ..WHOLE
+        },
+    ),
+];
+
+/// Calls of the outside that fail.
+const FAULTS: [(&str, Row<'static>); 4] = [
+    (
+        "a link that takes nothing",
+        Row {
+            out_fails: 1,
+            status: 203,
+            packets: &[],
+            err: "7output failed\n",
+            ..WHOLE
+        },
+    ),
+    (
+        "a link that takes one packet",
+        Row {
+            out_fails: 2,
+            status: 203,
+            packets: &[INIT],
+            err: "7output failed\n",
+            ..WHOLE
+        },
+    ),
+    (
+        "an output that takes nothing",
+        Row {
+            err_fails: 1,
+            status: 203,
+            packets: &[INIT, BREAK],
+            err: "output failed\n",
+            ..WHOLE
+        },
+    ),
+    (
+        "an input that fails",
+        Row {
+            input_fails: 1,
+            status: 208,
+            packets: &[INIT],
+            err: "7network failed\n",
+            ..WHOLE
+        },
+    ),
+];
+
+#[test]
+fn sessions_refusals_and_faults(rt: HostRuntime) -> Result<(), Fail> {
+    for (name, row) in SESSIONS {
+        check(&rt, rt.alloc(), name, row)?;
+    }
+    for (name, row) in REFUSALS {
+        check(&rt, rt.alloc(), name, row)?;
+    }
+    for (name, row) in FAULTS {
+        check(&rt, rt.alloc(), name, row)?;
+    }
+    Ok(())
+}
+
+#[test]
+fn limits(rt: HostRuntime) -> Result<(), Fail> {
+    let alloc = rt.alloc();
+    let mut longest = Vec::from_slice(alloc, b"run -i 1\0")?;
+    longest.resize(1_048_586, b'x')?;
+    let command = Row {
+        input: longest.as_slice(),
+        status: 207,
+        packets: &[INIT, STOPPING_1],
+        err: "7bad packet offset 9\n",
+        ..WHOLE
+    };
+    check(&rt, alloc, "too long a command", command)?;
+    let mut large = String::from_str(alloc, PROGRAM)?;
+    for _ in 0..104_857 {
+        large.push_str("echo 999;\n")?;
+    }
+    let file = Row {
+        file: large.as_str(),
+        status: 201,
+        packets: &[],
+        err: "bad source a.php TooLong 1048576\n",
+        ..WHOLE
+    };
+    check(&rt, alloc, "too long a file", file)?;
+    Ok(())
+}
