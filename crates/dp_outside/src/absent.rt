@@ -1,4 +1,4 @@
-ghost use Rattle.std.specs.Prelude.{◌≡◌, ◌≤◌, IsErr};
+ghost use Rattle.std.specs.Prelude.{◌≡◌, ◌≤◌, IsErr, OnOk};
 ghost use Rattle.dp_outside.specs.Causes.{HasCause, Rose};
 ghost use Rattle.dp_outside.specs.Fakes.{one_more};
 
@@ -174,6 +174,7 @@ impl<R: Threads + Wait + Sync + Send> Spawner for NoSpawner<R> {
     }
 
     fn start(&mut self) -> Result<(), Failed>
+        ensures granted { OnOk result (self.new ≡ self.old) }
         ensures cause { HasCause self.old self.new result }
         ensures absent { IsErr result }
         ensures counted { self.new ≡ one_more self.old }

@@ -44,7 +44,8 @@ impl<R: Read> Source for Reading<R> {
         ensures cause { HasCause self.old.faults self.new.faults result }
 
         // What it gives are the reader's bytes.
-        ensures bytes { ReadConsumes (R.remaining self.old.inner) (R.remaining self.new.inner) result buf.new }
+        ensures bytes { ReadConsumes (R.remaining self.old.inner) (R.remaining self.new.inner)
+            result buf.new }
     {
         let taken = read_some(&mut self.inner, buf);
         if taken.is_err() {
@@ -84,7 +85,8 @@ impl<W: Write> Sink for Writing<W> {
         ensures cause { HasCause self.old.faults self.new.faults result }
 
         // What it takes goes to the writer.
-        ensures bytes { PutAppends (W.contents self.old.inner) (W.contents self.new.inner) result bytes.now }
+        ensures bytes { PutAppends (W.contents self.old.inner) (W.contents self.new.inner)
+            result bytes.now }
     {
         let put = write_whole(&mut self.inner, bytes);
         if put.is_err() {
@@ -95,8 +97,7 @@ impl<W: Write> Sink for Writing<W> {
 
     fn finish(&mut self)
         ensures taken { self.new ≡ self.old }
-    {
-    }
+    {}
 }
 
 /// A shelf over files, whose names are paths. It tells no files, and its count rises at each error but the one that

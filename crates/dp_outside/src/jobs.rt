@@ -1,4 +1,4 @@
-ghost use Rattle.std.specs.Prelude.{◌≡◌, ℕ, ◌<◌, ◌≤◌, IfOk, IfErr, count_by, is_err, length, map, not};
+ghost use Rattle.std.specs.Prelude.{◌≡◌, ℕ, ◌<◌, ◌≤◌, IfOk, IfErr, OnOk, count_by, is_err, length, map, not};
 ghost use Rattle.std.specs.List.{AllZip};
 ghost use Rattle.dp_outside.specs.Causes.{HasCause, Rose};
 ghost use Rattle.dp_outside.specs.Jobs.{Answered, RanOrBack, Started};
@@ -153,7 +153,8 @@ fn run_one<J: Job>(one: Asked<J>) -> Result<J::Done, J>
 // Runs the granted jobs in the caller, one after another.
 #[tactic(auto, using(crate::proofs::Crews::zip_field_more))]
 fn run_each<J: Job>(alloc: Global, asked: Vec<Asked<J>>) -> Result<Vec<Result<J::Done, J>>, Memory>
-    ensures { IfOk result (λ answers. AllZip (RanOrBack J.may_give) (map (λ one. one.job) asked.items) answers.items) }
+    ensures { IfOk result (λ answers. AllZip (RanOrBack J.may_give)
+        (map (λ one. one.job) asked.items) answers.items) }
 {
     let mut answers = Vec::with_capacity(alloc, asked.len())?;
     for one in asked {
@@ -316,6 +317,7 @@ pub trait Spawner: Sized + Send {
 
     /// Whether the next start is granted. A hook of `beside` and `crew`.
     fn start(&mut self) -> Result<(), Failed>
+        ensures granted { OnOk result (faults self.new ≡ faults self.old) }
         ensures cause { HasCause (faults self.old) (faults self.new) result };
 
     /// Counts a start that was granted and that the system refused. A hook of `beside` and `crew`.
@@ -336,6 +338,7 @@ pub trait Spawner: Sized + Send {
     ) -> Result<(A::Done, B::Done), (A, B)>
         ensures ok { IfOk result (λ done. A.may_give mine done.0 × B.may_give other done.1) }
         ensures err { IfErr result (λ jobs. (jobs.0 ≡ mine) × (jobs.1 ≡ other)) }
+        ensures granted { OnOk result (faults self.new ≡ faults self.old) }
         ensures cause { HasCause (faults self.old) (faults self.new) result }
     {
         if self.start().is_err() {
@@ -358,7 +361,8 @@ pub trait Spawner: Sized + Send {
         alloc: Global,
         jobs: Vec<J>,
     ) -> Result<Vec<Result<J::Done, J>>, Memory>
-        ensures answers { IfOk result (λ answers. AllZip (RanOrBack J.may_give) jobs.items answers.items) }
+        ensures answers { IfOk result (λ answers. AllZip (RanOrBack J.may_give)
+            jobs.items answers.items) }
         ensures refused { IfOk result (λ answers. 0 < count_by is_err answers.items
             → Rose (faults self.old) (faults self.new)) }
         ensures later { faults self.old ≤ faults self.new }

@@ -42,3 +42,6 @@ pub use std::alloc::AllocError as Memory;
 #[derive(Clone, Copy, Debug, PartialEq, Eq, Error)]
 #[error("the outside failed")]
 pub struct Failed;
+
+#[cfg(test)]
+mod tests;
