@@ -1,5 +1,5 @@
 -- What the functions of the lexer find, each by the first byte.
-use Rattle.std.specs.Prelude.{◌≡◌, ℕ, zero, suc, ◌+◌, ◌-◌, Bool, true, false, not, ◌&&◌, ◌||◌, ◌==◌, nat_lt, if◌then◌else◌, List, [], ◌∷◌, ◌++◌, length, take, drop, Option, Some, None, Result, Ok, Err}
+use Rattle.std.specs.Prelude.{◌≡◌, ℕ, zero, suc, ◌+◌, ◌-◌, ◌<◌, Bool, true, false, not, ◌&&◌, ◌||◌, ◌==◌, nat_lt, if◌then◌else◌, List, [], ◌∷◌, ◌++◌, length, take, drop, Option, Some, None, Result, Ok, Err}
 use Rattle.std.specs.List.{prefix_len}
 use Rattle.dp_lexer.specs.declared.spelling.Spelling.{Spelling}
 use Rattle.dp_lexer.specs.declared.class.Class.{Class}
@@ -278,3 +278,7 @@ abbrev pub Decodes : Doubled → Result Spelling Wrong → Type 0
 Decodes read (Ok v) = read ≡ Ok v
 Decodes read (Err (wrongs.Fault f d)) = (f ≡ fault.BadByte) × (read ≡ Err d)
 Decodes read (Err wrongs.Memory) = Unit {0}
+
+abbrev pub IsFaultWithin : Wrong → ℕ → Type 0
+IsFaultWithin (wrongs.Fault f at) n = at < n
+IsFaultWithin wrongs.Memory n = Unit {0}

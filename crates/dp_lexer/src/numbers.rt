@@ -79,7 +79,10 @@ pub fn value_of(base: u64, digits: &[u8]) -> Option<u64>
 {
     let mut value = 0;
     for d in digits {
-        value = with_digit(value, base, digit_value(*d))?;
+        match with_digit(value, base, digit_value(*d)) {
+            Some(next) => value = next,
+            None => return None,
+        }
     }
     Some(value)
 }

@@ -1,11 +1,11 @@
 //! Texts in quotes: where they end, and the bytes that they stand for.
 
-ghost use Rattle.std.specs.Prelude.{◌≡◌, ◌==◌, ◌&&◌, ◌||◌, ◌≤◌, ◌<◌, ◌+◌, ◌++◌, ◌%◌, ◌^◌, length, Some, ◌⊎◌, IfSome, IfOk, OnOk};
+ghost use Rattle.std.specs.Prelude.{◌≡◌, ◌==◌, ◌&&◌, ◌||◌, ◌≤◌, ◌<◌, ◌+◌, ◌++◌, ◌%◌, ◌^◌, length, Some, IfSome, IfErr, IfOk, OnOk};
 ghost use Rattle.dp_lexer.specs.Bytes as sorts;
 ghost use Rattle.dp_lexer.specs.Bytes.{Each, value_in};
 ghost use Rattle.dp_lexer.specs.Quotes as quotes;
 ghost use Rattle.dp_lexer.specs.Lexing as spec;
-ghost use Rattle.dp_lexer.specs.Lexing.{Finds, Decodes, shown_part, shown_meant, meant_bytes};
+ghost use Rattle.dp_lexer.specs.Lexing.{Finds, Decodes, IsFaultWithin, shown_part, shown_meant, meant_bytes};
 
 use crate::class::{is_hexadecimal, is_octal, is_start};
 use crate::fault::{Fault, Wrong};
@@ -207,7 +207,8 @@ fn push_meant(bytes: &mut Vec<u8>, meant: Meant) -> Result<(), AllocError>
 }
 
 fn double(alloc: Global, body: &[u8]) -> Result<Spelling, Wrong>
-    ensures { Decodes (spec.doubled 0 body.now) result }
+    ensures value { Decodes (spec.doubled 0 body.now) result }
+    ensures within { IfErr result (λ wrong. IsFaultWithin wrong (length body.now)) }
 {
     let mut bytes = Vec::new(alloc);
     let mut n = 0;
@@ -221,23 +222,38 @@ fn double(alloc: Global, body: &[u8]) -> Result<Spelling, Wrong>
     Ok(Spelling::of(bytes))
 }
 
-/// The text whose opening quote stands before these bytes.
-pub fn text(alloc: Global, quote: u8, rest: &[u8]) -> Result<(Option<TokenKind>, usize), Wrong>
-    requires { (quote ≡ 39) ⊎ (quote ≡ 34) }
-    ensures { Finds (spec.quote_at quote rest.now) result }
+// The text whose opening single quote stands before these bytes.
+fn single_text(alloc: Global, rest: &[u8]) -> Result<(Option<TokenKind>, usize), Wrong>
+    ensures { Finds (spec.single_of (spec.body_len 39 rest.now) rest.now) result }
 {
-    let Some(len) = body_len(quote, rest) else {
+    let Some(len) = body_len(b'\'', rest) else {
         return Err(Wrong::Fault(Fault::OpenString, 0));
     };
-    let body = &rest[..len];
-    let value = if quote == b'\'' {
-        single(alloc, body)?
-    } else {
-        match double(alloc, body) {
-            Ok(value) => value,
-            Err(Wrong::Fault(fault, at)) => return Err(Wrong::Fault(fault, at + 1)),
-            Err(Wrong::Memory) => return Err(Wrong::Memory),
-        }
-    };
+    let value = single(alloc, &rest[..len])?;
     Ok((Some(TokenKind::Text(value)), len + 2))
+}
+
+// The text whose opening double quote stands before these bytes.
+fn double_text(alloc: Global, rest: &[u8]) -> Result<(Option<TokenKind>, usize), Wrong>
+    ensures { Finds (spec.double_of (spec.body_len 34 rest.now) rest.now) result }
+{
+    let Some(len) = body_len(b'"', rest) else {
+        return Err(Wrong::Fault(Fault::OpenString, 0));
+    };
+    match double(alloc, &rest[..len]) {
+        Ok(value) => Ok((Some(TokenKind::Text(value)), len + 2)),
+        Err(Wrong::Fault(fault, at)) => Err(Wrong::Fault(fault, at + 1)),
+        Err(Wrong::Memory) => Err(Wrong::Memory),
+    }
+}
+
+/// The text whose opening quote, of this kind, stands before these bytes.
+pub fn text(alloc: Global, quote: u8, rest: &[u8]) -> Result<(Option<TokenKind>, usize), Wrong>
+    ensures { Finds (spec.quote_at quote rest.now) result }
+{
+    if quote == b'\'' {
+        single_text(alloc, rest)
+    } else {
+        double_text(alloc, rest)
+    }
 }

@@ -1,0 +1,4 @@
+pub mod Runs
+pub mod FoundNumbers
+pub mod FoundTexts
+pub mod FoundParts
