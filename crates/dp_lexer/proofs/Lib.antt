@@ -2,3 +2,5 @@ pub mod Runs
 pub mod FoundNumbers
 pub mod FoundTexts
 pub mod FoundParts
+pub mod FoundOperators
+pub mod FoundPieces
