@@ -191,13 +191,13 @@ enclosed_len q body = omega (arith, length-append body (q ∷ []))
 pub single_is : (body more : List ℕ) → IsBody 39 body → piece_at (enclosed 39 body ++ more) ≡ found (text (single_value body)) (2 + length body)
 single_is body more h =
     ap piece_at (enclosed_more 39 body more) ∙ at_class 39 (body ++ 39 ∷ more) class.Quote refl
-    ∙ ap (λ o. single_of o (body ++ 39 ∷ more)) (body_found 39 body more (λ e. absurd (cc)) h)
+    ∙ ap (λ o. single_of o (body ++ 39 ∷ more)) (body_found 39 body more (false_test 39 92 refl) h)
     ∙ ap (λ l. found (text (single_value l)) (2 + length body)) (take-append_seam body (39 ∷ more))
 
 pub double_is : (body more : List ℕ) → IsBody 34 body → piece_at (enclosed 34 body ++ more) ≡ doubled_of (doubled 0 body) (length body)
 double_is body more h =
     ap piece_at (enclosed_more 34 body more) ∙ at_class 34 (body ++ 34 ∷ more) class.Quote refl
-    ∙ ap (λ o. double_of o (body ++ 34 ∷ more)) (body_found 34 body more (λ e. absurd (cc)) h)
+    ∙ ap (λ o. double_of o (body ++ 34 ∷ more)) (body_found 34 body more (false_test 34 92 refl) h)
     ∙ ap (λ l. doubled_of (doubled 0 l) (length body)) (take-append_seam body (34 ∷ more))
 
 at_text : (v u more : List ℕ) (n : ℕ) → length u ≡ n → piece_at (u ++ more) ≡ found (text v) n → AtPiece (text v) u more (piece_at (u ++ more))

@@ -4,3 +4,5 @@ pub mod FoundTexts
 pub mod FoundParts
 pub mod FoundOperators
 pub mod FoundPieces
+pub mod NextPiece
+pub mod FirstFault
