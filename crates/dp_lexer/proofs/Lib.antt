@@ -6,3 +6,6 @@ pub mod FoundOperators
 pub mod FoundPieces
 pub mod NextPiece
 pub mod FirstFault
+pub mod AnyFault
+pub mod Chains
+pub mod LexErrors
