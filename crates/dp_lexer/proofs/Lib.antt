@@ -9,3 +9,4 @@ pub mod FirstFault
 pub mod AnyFault
 pub mod Chains
 pub mod LexErrors
+pub mod Tags
