@@ -1,6 +1,6 @@
 //! The words of the grammar.
 
-ghost use Rattle.std.specs.Prelude.{◌≡◌, IfOk};
+ghost use Rattle.std.specs.Prelude.{◌≡◌, IfOk, is_some};
 ghost use Rattle.std.specs.Str.{str_eq_ignore_ascii_case};
 ghost use Rattle.dp_lexer.specs.Keywords as words;
 
@@ -81,13 +81,23 @@ fn expression_word(name: &[u8]) -> Option<TokenKind>
     }
 }
 
-/// The keyword that a name is.
-pub fn keyword(name: &[u8]) -> Option<TokenKind>
+// The keyword that a name is.
+fn keyword(name: &[u8]) -> Option<TokenKind>
     ensures { result ≡ words.keyword_of name.now }
 {
     match statement_word(name) {
         Some(kind) => Some(kind),
         None => expression_word(name),
+    }
+}
+
+/// Whether a name is a keyword.
+pub fn is_keyword(name: &[u8]) -> bool
+    ensures { result ≡ is_some (words.keyword_of name.now) }
+{
+    match keyword(name) {
+        Some(_kind) => true,
+        None => false,
     }
 }
 
