@@ -157,7 +157,7 @@ wrong_ended z f d is e = go (nat_lt widest (number_value z)) refl (begins runs_o
         let size = length-take-le (number_len z) z here.within in
         let whole : take (number_len z) z ++ behind.0 ∷ behind.1 ≡ z = ap (λ l. take (number_len z) z ++ l) (sym behind.2) ∙ take-append-drop (number_len z) z in
         as_wrong z f fault.BadByte d (number_len z) e (behind_number (number_value z) behind.0 (take (number_len z) z) behind.1 (sym size) (sym whole)
-          (record { spelled = here.spelled; longest = λ m u more h same. (let most = number_most m u more h in omega (arith, most.at_least, ap number_len (same ∙ whole), size)) }) behind.3)
+        (record { spelled = here.spelled; longest = λ m u more h same. (let most = number_most m u more h in omega (arith, most.at_least, ap number_len (same ∙ whole), size)) }) behind.3)
     go false t false s e = absurd (not_found _ _ f d e)
 
 wrong_number : (b : ℕ) (r : List ℕ) (f : Fault) (d : ℕ) → is_digit b ≡ true → number_at (b ∷ r) ≡ wrong f d → IsFault (b ∷ r) f d

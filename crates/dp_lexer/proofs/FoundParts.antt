@@ -21,8 +21,8 @@ octal_no_letter d is =
     let high : d ≤ 55 = grind (arith, nat_tests) in
     let far : (m : ℕ) → (m < 48) ⊎ (55 < m) → (d == m) ≡ false = λ m h. other_test d m (λ e. outside d m low high h e) in
     λ i. cond (far 110 (inr (omega arith)) i) (Some 10) (cond (far 116 (inr (omega arith)) i) (Some 9) (cond (far 114 (inr (omega arith)) i) (Some 13)
-      (cond (far 118 (inr (omega arith)) i) (Some 11) (cond (far 101 (inr (omega arith)) i) (Some 27) (cond (far 102 (inr (omega arith)) i) (Some 12)
-      (cond (far 92 (inr (omega arith)) i) (Some 92) (cond (far 36 (inl (omega arith)) i) (Some 36) (cond (far 34 (inl (omega arith)) i) (Some 34) None))))))))
+    (cond (far 118 (inr (omega arith)) i) (Some 11) (cond (far 101 (inr (omega arith)) i) (Some 27) (cond (far 102 (inr (omega arith)) i) (Some 12)
+    (cond (far 92 (inr (omega arith)) i) (Some 92) (cond (far 36 (inl (omega arith)) i) (Some 36) (cond (far 34 (inl (omega arith)) i) (Some 34) None))))))))
   where
     outside : (d m : ℕ) → 48 ≤ d → d ≤ 55 → (m < 48) ⊎ (55 < m) → d ≡ m → ⊥
     outside d m low high (inl h) e = omega arith

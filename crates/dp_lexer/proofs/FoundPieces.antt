@@ -116,11 +116,11 @@ at_number n u more h =
     let m = number_most n u more h in
     let here = number_here (u ++ more) m.digit in
     subst (AtPiece (number n) u more) (sym (number_is (u ++ more) m.digit)) (at_ended n (number_value (u ++ more)) (number_len (u ++ more)) u more (drop (number_len (u ++ more)) (u ++ more)) m.at_least (λ same. sym (m.value same)) (λ next. (
-      let no_longer = next.longest (number (number_value (u ++ more))) (take (number_len (u ++ more)) (u ++ more)) (drop (number_len (u ++ more)) (u ++ more)) here.spelled (take-append-drop (number_len (u ++ more)) (u ++ more)) in
-      let size : length u ≡ number_len (u ++ more) = omega (arith, no_longer, m.at_least, length-take-le (number_len (u ++ more)) (u ++ more) here.within) in
-      let value = m.value size in
-      let behind : drop (number_len (u ++ more)) (u ++ more) ≡ more = ap (λ k. drop k (u ++ more)) (sym size) ∙ drop-append_seam u more in
-      (omega (arith, value, next.allowed.0), ap (begins runs_on) behind ∙ next.allowed.1))))
+    let no_longer = next.longest (number (number_value (u ++ more))) (take (number_len (u ++ more)) (u ++ more)) (drop (number_len (u ++ more)) (u ++ more)) here.spelled (take-append-drop (number_len (u ++ more)) (u ++ more)) in
+    let size : length u ≡ number_len (u ++ more) = omega (arith, no_longer, m.at_least, length-take-le (number_len (u ++ more)) (u ++ more) here.within) in
+    let value = m.value size in
+    let behind : drop (number_len (u ++ more)) (u ++ more) ≡ more = ap (λ k. drop k (u ++ more)) (sym size) ∙ drop-append_seam u more in
+    (omega (arith, value, next.allowed.0), ap (begins runs_on) behind ∙ next.allowed.1))))
 
 -- ---- comments
 

@@ -240,9 +240,9 @@ found_next z x e =
     record {
       spelled = there.spelled;
       longest = λ q u more is same. (
-        let whole : u ++ more ≡ z = same ∙ take-append-drop x.1 z in
-        let h = at_found q u more x is (ap piece_at whole ∙ e) in
-        omega (arith, h.0, length-take-le x.1 z there.within));
+          let whole : u ++ more ≡ z = same ∙ take-append-drop x.1 z in
+          let h = at_found q u more x is (ap piece_at whole ∙ e) in
+          omega (arith, h.0, length-take-le x.1 z there.within));
       allowed = there.allowed;
     }
 

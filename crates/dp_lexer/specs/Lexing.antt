@@ -64,8 +64,8 @@ name_at z =
 abbrev pub dollar_at : List ℕ → Found
 dollar_at r =
     if begins is_start r then
-      (if nat_lt longest_name (name_len r) then wrong fault.BadByte 256
-       else found (variable (take (name_len r) r)) (1 + name_len r))
+    (if nat_lt longest_name (name_len r) then wrong fault.BadByte 256
+    else found (variable (take (name_len r) r)) (1 + name_len r))
     else bad
 
 -- ---- numbers

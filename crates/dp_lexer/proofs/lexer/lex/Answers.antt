@@ -21,7 +21,7 @@ returns-clause-only c = λ ts h.
 pub returns-clause-refused : goal.returns-clause-refused
 returns-clause-refused c = λ f o e.
     behind_tag (drop 5 c.args.bytes.now) (c.if-not-has_tag.ensures.holds refl)
-      (subst (λ r. IsRefusedFrom 5 r f o) (whole_rest c.args.bytes.now 5) (c.lex_from.ensures.refused f o e))
+    (subst (λ r. IsRefusedFrom 5 r f o) (whole_rest c.args.bytes.now 5) (c.lex_from.ensures.refused f o e))
 
 -- a file that has its tag is refused for what stands behind it
 refused_behind : (bytes : List ℕ) (f : Fault) (o : ℕ) → ((rest : List ℕ) → HasTag bytes rest → rest ≡ drop 5 bytes) → HasTag bytes (drop 5 bytes) → IsFileRefused bytes f o
