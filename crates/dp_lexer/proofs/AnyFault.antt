@@ -1,6 +1,6 @@
 -- Each fault at the front is what is answered there, unless a number before it is too wide.
-use Rattle.std.proofs.Common.{◌≡◌, ◌≢◌, ◌⊎◌, inl, inr, ℕ, zero, suc, ◌+◌, ◌-◌, ◌<◌, ◌≤◌, Bool, true, false, not, ◌&&◌, ◌||◌, ◌==◌, List, [], ◌∷◌, ◌++◌, length, take, drop, Option, Some, None, Result, Ok, Err, sym, refl, ap, ◌∙◌, subst, append_assoc, cond, arith, eqb-true, take-append-drop, nat_lt, ltb-true, ltb-false, length-take-le}
-use Rattle.std.proofs.Math.Seq.{take-append_seam, drop-append_seam}
+use Rattle.std.proofs.Common.{◌≡◌, ◌≢◌, ◌⊎◌, inl, inr, ℕ, suc, ◌+◌, ◌<◌, ◌≤◌, Bool, true, false, ◌==◌, List, [], ◌∷◌, ◌++◌, length, take, drop, Option, Some, None, sym, refl, ap, ◌∙◌, subst, append_assoc, cond, arith, eqb-true, take-append-drop, nat_lt, length-take-le}
+use Rattle.std.proofs.Math.Seq.{drop-append_seam}
 use Rattle.std.proofs.lemmas.Bool.Decides.{nat_tests}
 use Rattle.dp_lexer.specs.declared.class.Class.{Class}
 use Rattle.dp_lexer.specs.declared.class.Class.TheVariants as class
@@ -8,17 +8,17 @@ use Rattle.dp_lexer.specs.declared.token.TokenKind.{TokenKind}
 use Rattle.dp_lexer.specs.declared.token.TokenKind.TheVariants as kind
 use Rattle.dp_lexer.specs.declared.fault.Fault.{Fault}
 use Rattle.dp_lexer.specs.declared.fault.Fault.TheVariants as fault
-use Rattle.dp_lexer.specs.Bytes.{is_digit, is_start, is_part, runs_on, begins, Each}
+use Rattle.dp_lexer.specs.Bytes.{is_digit, is_start, is_part, runs_on, begins}
 use Rattle.dp_lexer.specs.Quotes.{IsBody, enclosed}
-use Rattle.dp_lexer.specs.Operators.{one_byte, two_bytes, three_bytes, operator_of}
-use Rattle.dp_lexer.specs.Pieces.{Piece, space, line_comment, block_comment, name, variable, number, text, operator, IsName, IsNumber, Closes, IsPiece, widest, longest_name}
+use Rattle.dp_lexer.specs.Operators.{one_byte, two_bytes, three_bytes}
+use Rattle.dp_lexer.specs.Pieces.{Piece, space, line_comment, name, variable, number, operator, IsName, IsNumber, Closes, IsPiece, widest, longest_name}
 use Rattle.dp_lexer.specs.Tokens.{IsLongestNumber, IsBadByte, stray, attribute, closing_tag, point, behind_number, long_name, long_variable, inside_text, IsFault}
-use Rattle.dp_lexer.specs.Lexing.{class_of, Found, found, wrong, bad, name_len, name_at, dollar_at, ended, line_len, close_len, comment_of, slash_at, body_len, doubled_of, doubled, single_of, double_of, is_split, single_operator, double_operator, triple_operator, operator_at, piece_by, piece_at}
-use Rattle.dp_lexer.proofs.Runs.{equal_test, other_test, false_test, not_false, first_is, rest_is, or_left, run_at_least}
+use Rattle.dp_lexer.specs.Lexing.{class_of, found, wrong, bad, name_len, dollar_at, ended, line_len, close_len, comment_of, slash_at, body_len, doubled_of, single_of, double_of, single_operator, double_operator, triple_operator, operator_at, piece_by, piece_at}
+use Rattle.dp_lexer.proofs.Runs.{or_left, run_at_least}
 use Rattle.dp_lexer.proofs.FoundNumbers.{number_len, number_value, number_most}
 use Rattle.dp_lexer.proofs.FoundTexts.{body_there}
 use Rattle.dp_lexer.proofs.FoundParts.{doubled_refused}
-use Rattle.dp_lexer.proofs.FoundOperators.{Tells, OtherByte, tells, class_of_name}
+use Rattle.dp_lexer.proofs.FoundOperators.{Tells, tells, class_of_name}
 use Rattle.dp_lexer.proofs.FoundPieces.{at_class, name_parts, number_is, number_here, closes_there, double_is}
 
 abbrev pub IsAnswered : List ℕ → Fault → ℕ → Type 0

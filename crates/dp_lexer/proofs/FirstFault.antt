@@ -1,25 +1,22 @@
 -- What is wrong where no piece is found, and nothing else.
-use Rattle.std.proofs.Common.{◌≡◌, ◌≢◌, ◌⊎◌, inl, inr, ℕ, zero, suc, ◌+◌, ◌-◌, ◌<◌, ◌≤◌, Bool, true, false, not, ◌&&◌, ◌||◌, ◌==◌, List, [], ◌∷◌, ◌++◌, length, take, drop, Option, Some, None, Result, Ok, Err, sym, refl, ap, ◌∙◌, subst, append_assoc, append-nil, cond, arith, eqb-true, take-append-drop, nat_lt, ltb-true, ltb-false, length-take-le, length-append}
-use Rattle.std.proofs.Math.Seq.{take-append_seam, drop-append_seam}
-use Rattle.std.proofs.lemmas.Bool.Decides.{nat_tests}
-use Rattle.std.specs.List.{prefix_len, AllByRecursion}
+use Rattle.std.proofs.Common.{◌≡◌, ◌≢◌, ◌⊎◌, inl, inr, ℕ, suc, ◌+◌, ◌≤◌, Bool, true, false, ◌&&◌, ◌==◌, List, [], ◌∷◌, ◌++◌, length, take, drop, Option, Some, None, Ok, Err, sym, refl, ap, ◌∙◌, subst, append_assoc, cond, arith, eqb-true, take-append-drop, nat_lt, ltb-true, length-take-le}
 use Rattle.dp_lexer.specs.declared.class.Class.{Class}
 use Rattle.dp_lexer.specs.declared.class.Class.TheVariants as class
 use Rattle.dp_lexer.specs.declared.token.TokenKind.{TokenKind}
 use Rattle.dp_lexer.specs.declared.fault.Fault.{Fault}
 use Rattle.dp_lexer.specs.declared.fault.Fault.TheVariants as fault
-use Rattle.dp_lexer.specs.Bytes.{is_space, is_digit, is_start, is_part, is_in_line, runs_on, begins, Each}
-use Rattle.dp_lexer.specs.Quotes.{IsBody, enclosed, single_value, IsDoubled, IsBadInside}
+use Rattle.dp_lexer.specs.Bytes.{is_space, is_digit, is_start, is_part, runs_on, begins}
+use Rattle.dp_lexer.specs.Quotes.{IsBody, enclosed}
 use Rattle.dp_lexer.specs.Operators.{one_byte, two_bytes, three_bytes, operator_of}
-use Rattle.dp_lexer.specs.Pieces.{Piece, space, line_comment, block_comment, name, variable, number, text, operator, IsName, IsNumber, Closes, OpensLine, IsPiece, widest, longest_name}
-use Rattle.dp_lexer.specs.Tokens.{IsLongestNumber, IsBadByte, stray, attribute, closing_tag, point, behind_number, long_name, long_variable, inside_text, IsFault}
+use Rattle.dp_lexer.specs.Pieces.{Piece, space, line_comment, block_comment, name, variable, number, text, operator, IsName, IsPiece, widest, longest_name}
+use Rattle.dp_lexer.specs.Tokens.{stray, attribute, closing_tag, point, behind_number, long_name, long_variable, inside_text, IsFault}
 use Rattle.dp_lexer.specs.Lexing.{class_of, Found, found, wrong, bad, name_len, name_at, dollar_at, ended, number_at, line_len, close_len, comment_of, hash_at, slash_at, body_len, Doubled, doubled, doubled_of, single_of, double_of, quote_at, is_split, single_operator, double_operator, triple_operator, operator_at, piece_by, piece_at}
-use Rattle.dp_lexer.proofs.Runs.{and_parts, and_true, or_parts, or_left, or_right, equal_test, other_test, false_test, not_both, not_false, first_is, rest_is, run_at_least, run_within, run_some}
-use Rattle.dp_lexer.proofs.FoundNumbers.{number_len, number_value, number_ended, number_there, number_most}
+use Rattle.dp_lexer.proofs.Runs.{and_parts, or_parts, equal_test, other_test, false_test, not_both, not_false, first_is, rest_is, run_within}
+use Rattle.dp_lexer.proofs.FoundNumbers.{number_len, number_value, number_ended, number_most}
 use Rattle.dp_lexer.proofs.FoundTexts.{body_there, body_found}
-use Rattle.dp_lexer.proofs.FoundParts.{DoubledThere, doubled_there, doubled_refused}
-use Rattle.dp_lexer.proofs.FoundOperators.{Tells, OtherByte, tells, class_of_name, class_of_number, class_of_space, one_byte-class, two_bytes-class, three_bytes-class, operator_first}
-use Rattle.dp_lexer.proofs.FoundPieces.{at_class, name_parts, name_front, number_is, number_here, closes_found, double_is, enclosed_len}
+use Rattle.dp_lexer.proofs.FoundParts.{DoubledThere, doubled_there}
+use Rattle.dp_lexer.proofs.FoundOperators.{Tells, OtherByte, tells, operator_first}
+use Rattle.dp_lexer.proofs.FoundPieces.{at_class, name_front, number_here, closes_found}
 
 fault_in : Found → Fault → Fault
 fault_in (Err y) f = y.0

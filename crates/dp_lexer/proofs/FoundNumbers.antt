@@ -1,14 +1,14 @@
 -- The longest number at the front, its length and its value.
-use Rattle.std.proofs.Common.{◌≡◌, ◌≢◌, ◌⊎◌, inl, inr, ℕ, zero, suc, ◌+◌, ◌-◌, ◌*◌, ◌<◌, ◌≤◌, Bool, true, false, ◌&&◌, ◌||◌, ◌==◌, List, [], ◌∷◌, ◌++◌, length, take, drop, sym, refl, ap, ◌∙◌, subst, cond, arith, eqb-true, length-take-le, mul-le-mul, get_or, take-append-drop}
+use Rattle.std.proofs.Common.{◌≡◌, ◌≢◌, inl, inr, ℕ, zero, suc, ◌+◌, ◌-◌, ◌*◌, ◌<◌, ◌≤◌, Bool, true, false, ◌&&◌, ◌||◌, ◌==◌, List, [], ◌∷◌, ◌++◌, length, take, drop, sym, refl, ap, ◌∙◌, subst, cond, arith, eqb-true, length-take-le, mul-le-mul, get_or, take-append-drop}
 use Rattle.std.specs.Prelude.{nat_le}
 use Rattle.std.proofs.lemmas.List.{take_more}
-use Rattle.std.proofs.Math.Seq.{take-append_seam, drop-append_seam}
+use Rattle.std.proofs.Math.Seq.{take-append_seam}
 use Rattle.std.proofs.lemmas.Bool.Decides.{nat_tests}
-use Rattle.std.specs.List.{prefix_len, AllByRecursion, fold}
+use Rattle.std.specs.List.{prefix_len, fold}
 use Rattle.dp_lexer.specs.Bytes.{is_digit, is_hexadecimal, begins, Each, digit_value, value_in}
 use Rattle.dp_lexer.specs.Pieces.{IsDecimal, IsNumber}
-use Rattle.dp_lexer.specs.Lexing.{Found, digits_len, hexadecimal_len, ended, zero_at, number_at, hexadecimal_number}
-use Rattle.dp_lexer.proofs.Runs.{and_parts, and_true, equal_test, other_test, false_test, first_is, one_more, two_more, run_at_least, run_within, run_front, run_passes, run_some, take_over}
+use Rattle.dp_lexer.specs.Lexing.{digits_len, hexadecimal_len, ended, zero_at, number_at, hexadecimal_number}
+use Rattle.dp_lexer.proofs.Runs.{and_parts, other_test, false_test, two_more, run_at_least, run_within, run_passes, run_some, take_over}
 
 -- ---- values
 

@@ -1,14 +1,13 @@
 -- The first bytes of pieces, and the operators.
-use Rattle.std.proofs.Common.{◌≡◌, ◌≢◌, ◌⊎◌, inl, inr, ℕ, zero, suc, ◌+◌, ◌<◌, ◌≤◌, Bool, true, false, ◌&&◌, ◌||◌, ◌==◌, List, [], ◌∷◌, ◌++◌, length, Option, Some, None, sym, refl, ap, ◌∙◌, subst, cond, arith, eqb-true}
-use Rattle.std.specs.Prelude.{nat_le}
+use Rattle.std.proofs.Common.{◌≡◌, ◌≢◌, ◌⊎◌, inl, inr, ℕ, Bool, true, false, ◌&&◌, ◌||◌, ◌==◌, List, [], ◌∷◌, Some, refl, ap, ◌∙◌, subst, cond, arith, eqb-true}
 use Rattle.std.proofs.lemmas.Bool.Decides.{nat_tests}
 use Rattle.dp_lexer.specs.declared.class.Class.{Class}
 use Rattle.dp_lexer.specs.declared.class.Class.TheVariants as class
 use Rattle.dp_lexer.specs.declared.token.TokenKind.{TokenKind}
-use Rattle.dp_lexer.specs.Bytes.{is_space, is_digit, is_start, begins}
+use Rattle.dp_lexer.specs.Bytes.{is_space, is_digit, is_start}
 use Rattle.dp_lexer.specs.Operators.{look_up, look_up_two, look_up_three, one_byte_operators, two_byte_operators, three_byte_operators, one_byte, two_bytes, three_bytes, operator_of}
 use Rattle.dp_lexer.specs.Lexing.{class_of}
-use Rattle.dp_lexer.proofs.Runs.{and_parts, equal_test, false_test}
+use Rattle.dp_lexer.proofs.Runs.{and_parts, false_test}
 
 -- ---- classes
 

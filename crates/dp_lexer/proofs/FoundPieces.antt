@@ -1,19 +1,16 @@
 -- A piece that is spelled at the front: what is found there.
-use Rattle.std.proofs.Common.{◌≡◌, ◌≢◌, ◌⊎◌, inl, inr, ℕ, zero, suc, ◌+◌, ◌-◌, ◌<◌, ◌≤◌, Bool, true, false, not, ◌&&◌, ◌||◌, ◌==◌, List, [], ◌∷◌, ◌++◌, length, take, drop, Option, Some, None, Result, Ok, Err, sym, refl, ap, ◌∙◌, subst, append_assoc, append-nil, cond, arith, eqb-true, take-append-drop, nat_lt, ltb-true, ltb-false, length-take-le, length-append}
+use Rattle.std.proofs.Common.{◌≡◌, ◌⊎◌, inl, inr, ℕ, zero, suc, ◌+◌, ◌≤◌, Bool, true, false, ◌&&◌, ◌||◌, ◌==◌, List, [], ◌∷◌, ◌++◌, length, take, drop, Option, Some, None, Ok, Err, sym, refl, ap, ◌∙◌, subst, append_assoc, cond, arith, eqb-true, take-append-drop, nat_lt, ltb-true, length-take-le, length-append}
 use Rattle.std.proofs.Math.Seq.{take-append_seam, drop-append_seam}
-use Rattle.std.proofs.lemmas.Bool.Decides.{nat_tests}
-use Rattle.std.specs.List.{prefix_len, AllByRecursion}
 use Rattle.dp_lexer.specs.declared.class.Class.{Class}
 use Rattle.dp_lexer.specs.declared.class.Class.TheVariants as class
 use Rattle.dp_lexer.specs.declared.token.TokenKind.{TokenKind}
-use Rattle.dp_lexer.specs.declared.fault.Fault.{Fault}
 use Rattle.dp_lexer.specs.declared.fault.Fault.TheVariants as fault
-use Rattle.dp_lexer.specs.Bytes.{is_space, is_digit, is_start, is_part, is_in_line, runs_on, begins, Each}
+use Rattle.dp_lexer.specs.Bytes.{is_digit, is_start, is_part, is_in_line, runs_on, begins, Each}
 use Rattle.dp_lexer.specs.Quotes.{IsBody, enclosed, single_value, IsDoubled}
 use Rattle.dp_lexer.specs.Operators.{one_byte, two_bytes, three_bytes, operator_of}
 use Rattle.dp_lexer.specs.Pieces.{Piece, space, line_comment, block_comment, name, variable, number, text, operator, IsName, IsNumber, Closes, OpensLine, IsPiece, widest, longest_name, IsNext}
-use Rattle.dp_lexer.specs.Lexing.{class_of, Found, found, wrong, bad, longer, name_len, name_at, dollar_at, ended, number_at, line_len, close_len, comment_of, hash_at, slash_at, body_len, doubled, doubled_of, single_of, double_of, quote_at, is_split, single_operator, double_operator, triple_operator, operator_at, piece_by, piece_at}
-use Rattle.dp_lexer.proofs.Runs.{and_parts, or_parts, equal_test, other_test, false_test, not_false, one_more, two_more, run_at_least, run_within, run_front, run_passes, run_stops, run_some}
+use Rattle.dp_lexer.specs.Lexing.{class_of, Found, found, wrong, bad, longer, name_len, ended, line_len, close_len, comment_of, doubled, doubled_of, single_of, double_of, is_split, single_operator, double_operator, triple_operator, operator_at, piece_by, piece_at}
+use Rattle.dp_lexer.proofs.Runs.{and_parts, or_parts, equal_test, false_test, not_false, one_more, run_at_least, run_within, run_front, run_passes, run_some}
 use Rattle.dp_lexer.proofs.FoundNumbers.{number_len, number_value, number_ended, number_there, number_most}
 use Rattle.dp_lexer.proofs.FoundTexts.{body_found}
 use Rattle.dp_lexer.proofs.FoundParts.{doubled_found}

@@ -1,23 +1,22 @@
 -- What is found at the front is the piece that comes next.
-use Rattle.std.proofs.Common.{◌≡◌, ◌≢◌, ◌⊎◌, inl, inr, ℕ, zero, suc, ◌+◌, ◌-◌, ◌<◌, ◌≤◌, Bool, true, false, not, ◌&&◌, ◌||◌, ◌==◌, List, [], ◌∷◌, ◌++◌, length, take, drop, Option, Some, None, Result, Ok, Err, sym, refl, ap, ◌∙◌, subst, append_assoc, append-nil, cond, arith, eqb-true, take-append-drop, nat_lt, ltb-true, ltb-false, length-take-le, length-append}
-use Rattle.std.proofs.Math.Seq.{take-append_seam, drop-append_seam}
-use Rattle.std.specs.List.{prefix_len, AllByRecursion}
+use Rattle.std.proofs.Common.{◌≡◌, ◌⊎◌, inl, inr, ℕ, zero, suc, ◌+◌, ◌<◌, ◌≤◌, Bool, true, false, ◌&&◌, ◌==◌, List, [], ◌∷◌, ◌++◌, length, take, drop, Option, Some, None, Ok, Err, sym, refl, ap, ◌∙◌, subst, append_assoc, cond, arith, eqb-true, take-append-drop, nat_lt, ltb-false, length-take-le, length-append}
+use Rattle.std.proofs.Math.Seq.{take-append_seam}
 use Rattle.dp_lexer.specs.declared.class.Class.{Class}
 use Rattle.dp_lexer.specs.declared.class.Class.TheVariants as class
 use Rattle.dp_lexer.specs.declared.token.TokenKind.{TokenKind}
 use Rattle.dp_lexer.specs.declared.fault.Fault.{Fault}
 use Rattle.dp_lexer.specs.declared.fault.Fault.TheVariants as fault
-use Rattle.dp_lexer.specs.Bytes.{is_space, is_digit, is_start, is_part, is_in_line, runs_on, begins, Each}
-use Rattle.dp_lexer.specs.Quotes.{IsBody, enclosed, single_value, IsDoubled}
-use Rattle.dp_lexer.specs.Operators.{one_byte, two_bytes, three_bytes, operator_of}
-use Rattle.dp_lexer.specs.Pieces.{Piece, space, line_comment, block_comment, name, variable, number, text, operator, IsName, IsNumber, Closes, OpensLine, IsPiece, IsAllowed, widest, longest_name, IsNext}
-use Rattle.dp_lexer.specs.Lexing.{class_of, Found, found, wrong, bad, longer, name_len, name_at, dollar_at, ended, number_at, line_len, close_len, comment_of, hash_at, slash_at, body_len, Doubled, doubled, doubled_of, single_of, double_of, quote_at, is_split, single_operator, double_operator, triple_operator, operator_at, piece_by, piece_at}
-use Rattle.dp_lexer.proofs.Runs.{and_parts, and_true, or_none, or_left, or_right, equal_test, other_test, false_test, not_both, not_false, first_is, one_more, two_more, run_within, run_front, run_passes, run_stops, run_some}
+use Rattle.dp_lexer.specs.Bytes.{is_digit, is_start, is_part, is_in_line, runs_on, begins}
+use Rattle.dp_lexer.specs.Quotes.{enclosed, single_value}
+use Rattle.dp_lexer.specs.Operators.{one_byte, two_bytes, three_bytes}
+use Rattle.dp_lexer.specs.Pieces.{Piece, space, line_comment, block_comment, name, variable, number, text, operator, IsName, IsNumber, IsPiece, IsAllowed, widest, longest_name, IsNext}
+use Rattle.dp_lexer.specs.Lexing.{class_of, Found, found, wrong, bad, name_len, name_at, dollar_at, ended, number_at, line_len, close_len, comment_of, hash_at, slash_at, body_len, Doubled, doubled, doubled_of, single_of, double_of, quote_at, is_split, single_operator, double_operator, triple_operator, operator_at, piece_by, piece_at}
+use Rattle.dp_lexer.proofs.Runs.{or_none, or_left, equal_test, other_test, not_both, first_is, one_more, two_more, run_within, run_passes, run_stops, run_some}
 use Rattle.dp_lexer.proofs.FoundNumbers.{number_len, number_value, number_ended, number_there}
 use Rattle.dp_lexer.proofs.FoundTexts.{body_there}
 use Rattle.dp_lexer.proofs.FoundParts.{DoubledThere, doubled_there}
-use Rattle.dp_lexer.proofs.FoundOperators.{Tells, OtherByte, tells}
-use Rattle.dp_lexer.proofs.FoundPieces.{at_class, AtPiece, at_piece, name_whole, closes_there}
+use Rattle.dp_lexer.proofs.FoundOperators.{Tells, tells}
+use Rattle.dp_lexer.proofs.FoundPieces.{AtPiece, at_piece, name_whole, closes_there}
 
 pub record PieceThere (z : List ℕ) (p : Piece) (n : ℕ) : Type 0 where
   pub spelled : IsPiece p (take n z)

@@ -1,6 +1,6 @@
 -- Runs of bytes of a sort, and tests of bytes.
-use Rattle.std.proofs.Common.{◌≡◌, ◌≢◌, ◌⊎◌, inl, inr, ℕ, zero, suc, ◌+◌, ◌-◌, ◌*◌, ◌<◌, ◌≤◌, Bool, true, false, ◌&&◌, ◌||◌, ◌==◌, List, [], ◌∷◌, ◌++◌, length, take, drop, Option, Some, None, sym, refl, ap, ◌∙◌, subst, cond, arith, eqb-true, eq-eqb}
-use Rattle.std.specs.List.{prefix_len, AllByRecursion, fold}
+use Rattle.std.proofs.Common.{◌≡◌, ◌≢◌, ◌⊎◌, inl, inr, ℕ, zero, suc, ◌+◌, ◌-◌, ◌<◌, ◌≤◌, Bool, true, false, ◌&&◌, ◌||◌, ◌==◌, List, [], ◌∷◌, ◌++◌, length, take, drop, sym, refl, ap, ◌∙◌, subst, cond, arith, eqb-true, eq-eqb}
+use Rattle.std.specs.List.{prefix_len}
 use Rattle.dp_lexer.specs.Bytes.{begins, Each}
 use Rattle.dp_lexer.specs.Lexing.{up_to}
 

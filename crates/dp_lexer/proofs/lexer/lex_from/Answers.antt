@@ -3,11 +3,9 @@ use Rattle.std.proofs.lemmas.Grind.{common_steps}
 use Rattle.std.specs.Prelude.{OnOk}
 use Rattle.std.specs.declared.alloc.AllocError.{AllocError}
 use Rattle.dp_lexer.specs.declared.fault.Fault.{Fault}
-use Rattle.dp_lexer.specs.declared.fault.Fault.TheVariants as faults
 use Rattle.dp_lexer.specs.declared.fault.Wrong.{Wrong}
 use Rattle.dp_lexer.specs.declared.fault.Wrong.TheVariants as wrong
 use Rattle.dp_lexer.specs.declared.token.Token.{Token}
-use Rattle.dp_lexer.specs.declared.errors.LexError.{LexError}
 use Rattle.dp_lexer.specs.declared.errors.LexError.TheVariants as error
 use Rattle.dp_lexer.specs.Tokens.{feeds, AreTokensFrom, IsRefusedFrom, error_of}
 use Rattle.dp_lexer.specs.Lexed.{IsLexed, IsPlacedWithin, placed_at}

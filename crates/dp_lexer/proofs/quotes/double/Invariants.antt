@@ -1,4 +1,4 @@
-use Rattle.std.proofs.Common.{◌≡◌, ◌+◌, ◌-◌, ◌≤◌, length, drop}
+use Rattle.std.proofs.Common.{◌≡◌, ◌-◌, ◌≤◌, length, drop}
 use Rattle.dp_lexer.specs.Lexing.{ahead, doubled}
 use Rattle.dp_lexer.proofs.quotes.double.Given as goal
 
