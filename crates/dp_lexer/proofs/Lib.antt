@@ -1,0 +1,12 @@
+pub mod Runs
+pub mod FoundNumbers
+pub mod FoundTexts
+pub mod FoundParts
+pub mod FoundOperators
+pub mod FoundPieces
+pub mod NextPiece
+pub mod FirstFault
+pub mod AnyFault
+pub mod Chains
+pub mod LexErrors
+pub mod Tags

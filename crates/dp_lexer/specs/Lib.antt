@@ -1,0 +1,9 @@
+pub mod Bytes
+pub mod Quotes
+pub mod Operators
+pub mod Keywords
+pub mod Chain
+pub mod Pieces
+pub mod Tokens
+pub mod Lexing
+pub mod Lexed

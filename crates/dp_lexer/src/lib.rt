@@ -1,0 +1,26 @@
+//! The tokens of a program text: names, variables, numbers, texts, keywords and operators, each with its place and line.
+#![tactic(auto)]
+
+mod class;
+mod comments;
+mod errors;
+mod fault;
+mod keywords;
+mod lexer;
+mod names;
+mod numbers;
+mod operators;
+mod pieces;
+mod quotes;
+mod reserved;
+mod spelling;
+mod token;
+
+pub use errors::LexError;
+pub use lexer::{lex, lex_expression};
+pub use reserved::is_reserved;
+pub use spelling::Spelling;
+pub use token::{Token, TokenKind};
+
+#[cfg(test)]
+mod tests;
