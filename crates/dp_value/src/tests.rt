@@ -14,6 +14,40 @@ fn bytes_and_items_keep_what_they_are_made_of(rt: HostRuntime) -> Result<(), Fai
     assert!(rt; !items.is_empty());
     let last = items.into_vec().pop().ok_or("an item")?;
     assert_eq!(rt; last.into_vec().as_slice(), b"run\0".as_slice());
-    assert_eq!(rt; Items::of(vec![in alloc; 3, 1]?).as_slice(), [3, 1].as_slice());
+    assert_eq!(rt;
+        Items::of(vec![in alloc; 3, 1]?).as_slice(),
+        [3, 1].as_slice()
+    );
+    Ok(())
+}
+
+/// A tree whose nodes own their branches.
+#[derive(Debug, Drop)]
+enum Tree {
+    Leaf(u8),
+    Node(Items<Tree>),
+}
+
+fn leftmost(tree: &Tree) -> Option<u8> {
+    match tree {
+        Tree::Leaf(byte) => Some(*byte),
+        Tree::Node(branches) => {
+            for branch in branches.as_slice() {
+                let found = leftmost(branch);
+                if found.is_some() {
+                    return found;
+                }
+            }
+            None
+        }
+    }
+}
+
+#[test]
+fn a_tree_owns_its_branches(rt: HostRuntime) -> Result<(), Fail> {
+    let alloc = rt.alloc();
+    let bare = Tree::Node(Items::of(Vec::new(alloc)));
+    let tree = Tree::Node(Items::of(vec![in alloc; bare, Tree::Leaf(7), Tree::Leaf(8)]?));
+    assert_eq!(rt; leftmost(&tree), Some(7));
     Ok(())
 }

@@ -1,0 +1,9 @@
+pub mod formers
+pub mod Key
+pub mod Data
+pub mod Codes
+pub mod Table
+pub mod Place
+pub mod Value
+pub mod Inside
+pub mod Falls
