@@ -7,3 +7,7 @@ pub mod Place
 pub mod Value
 pub mod Inside
 pub mod Falls
+pub mod Comparison
+pub mod Truth
+pub mod IntText
+pub mod KeyOf

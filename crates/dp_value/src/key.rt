@@ -11,7 +11,7 @@ pub enum Key {
 }
 
 impl Key {
-    ghost use Rattle.dp_value.specs.Key.{key_weight};
+    ghost use Rattle.dp_value.specs.Key.{key_eq, key_weight};
 
     /// An equal key.
     pub fn try_clone(&self) -> Result<Key, Memory>
@@ -21,6 +21,13 @@ impl Key {
             Key::Int(n) => Ok(Key::Int(*n)),
             Key::Text(bytes) => Ok(Key::Text(bytes.try_clone()?)),
         }
+    }
+
+    /// Whether this is the same key.
+    pub(crate) fn is(&self, other: &Key) -> bool
+        ensures { result ≡ key_eq self.now other.now }
+    {
+        self == other
     }
 
     /// What a key adds to the weight of its array: the length of a text, and nothing for an integer.

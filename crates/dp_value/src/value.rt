@@ -1,11 +1,15 @@
-ghost use Rattle.std.specs.Prelude.{◌≡◌, ◌==◌, length, slice_get, option_map};
-ghost use Rattle.dp_value.specs.Table.{empty, value_at, IsTable};
+ghost use Rattle.std.specs.Prelude.{◌≡◌, ◌==◌, ◌<◌, ◌↔◌, ◌⊎◌, min, length, slice_get, is_some, option_map, Some, OnOk, OnErr, IfErr, IsErrOf};
+ghost use Rattle.dp_value.specs.Data.{pairs_weight};
+ghost use Rattle.dp_value.specs.Table.{empty, value_at, put, table_set, table_push, table_remove, weight_limit, largest_int, IsTable, raised as raised_by};
 
-use crate::columns::place;
-use crate::{Bytes, Key};
+use crate::columns::{place, store, take_out};
+use crate::{Bytes, Key, ValueError, weight};
 use indexmap::IndexSet;
 use std::alloc::Global;
 use std::marker::Model;
+
+/// The most that a text or an array may weigh.
+pub const WEIGHT_LIMIT: u64 = 1_048_576;
 
 /// A value of the language. Source: the PHP manual, "Types".
 #[cycle(value)]
@@ -95,5 +99,94 @@ impl PhpArray {
     {
         let at = place(&self.keys, key)?;
         Some(&self.values[at])
+    }
+
+    /// What the entries weigh together. Takes no memory.
+    pub(crate) fn weight(&self) -> u64
+        ensures { result ≡ pairs_weight self.now.pairs }
+    {
+        self.weight
+    }
+
+    /// What the entries would weigh with this value under this key, or the largest `u64` where it is more.
+    fn weight_with(&self, key: &Key, value: &Value) -> u64
+        ensures { result ≡ min (pairs_weight (put self.now.pairs key.now (data_of value.now))) u64.MAX }
+    {
+        let added = weight(value);
+        match place(&self.keys, key) {
+            Some(at) => {
+                let old = weight(&self.values[at]);
+                (self.weight - old).saturating_add(added)
+            }
+            None => self
+                .weight
+                .saturating_add(1)
+                .saturating_add(key.weight())
+                .saturating_add(added),
+        }
+    }
+
+    /// Puts a value under a key. A present key keeps its place, a new one goes last.
+    ///
+    /// `TooHeavy` comes exactly where the entries would weigh more than `WEIGHT_LIMIT`. After a
+    /// refusal the array is as before.
+    pub fn set(&mut self, key: Key, value: Value) -> Result<(), ValueError>
+        ensures ok { OnOk result (self.new ≡ table_set self.old key (data_of value)) }
+        ensures too_heavy { IsErrOf result ValueError.TooHeavy ↔ (weight_limit < pairs_weight (put self.old.pairs key (data_of value))) }
+        ensures only { IfErr result (λ e. (e ≡ ValueError.TooHeavy) ⊎ (e ≡ ValueError.Memory)) }
+        ensures err { OnErr result (self.new ≡ self.old) }
+    {
+        let weight = self.weight_with(&key, &value);
+        if weight > WEIGHT_LIMIT {
+            return Err(ValueError::TooHeavy);
+        }
+        let largest = raised(self.largest, &key);
+        store(&mut self.keys, &mut self.values, key, value)?;
+        self.largest = largest;
+        self.weight = weight;
+        Ok(())
+    }
+
+    /// Puts a value under the next integer key: one more than the largest ever used, or 0.
+    ///
+    /// `NextIndex` comes first, exactly where the largest key ever used is 9,223,372,036,854,775,807;
+    /// then `TooHeavy` as in `set`. After a refusal the array is as before.
+    pub fn push(&mut self, value: Value) -> Result<(), ValueError>
+        ensures ok { OnOk result (self.new ≡ table_push self.old (data_of value)) }
+        ensures next_index { IsErrOf result ValueError.NextIndex ↔ (self.old.largest ≡ Some largest_int) }
+        ensures too_heavy { IsErrOf result ValueError.TooHeavy ↔ ((¬ (self.old.largest ≡ Some largest_int)) × (weight_limit < pairs_weight (table_push self.old (data_of value)).pairs)) }
+        ensures only { IfErr result (λ e. (e ≡ ValueError.NextIndex) ⊎ (e ≡ ValueError.TooHeavy) ⊎ (e ≡ ValueError.Memory)) }
+        ensures err { OnErr result (self.new ≡ self.old) }
+    {
+        match self.largest {
+            None => self.set(Key::Int(0), value),
+            Some(i64::MAX) => Err(ValueError::NextIndex),
+            Some(largest) => self.set(Key::Int(largest + 1), value),
+        }
+    }
+
+    /// Removes a key and its value, and says whether the key was there. The entries close up, and the
+    /// largest integer key ever used stays. Takes no memory.
+    pub fn remove(&mut self, key: &Key) -> bool
+        ensures found { result ≡ is_some (value_at self.old key.now) }
+        ensures removed { self.new ≡ table_remove self.old key.now }
+    {
+        let Some(at) = place(&self.keys, key) else {
+            return false;
+        };
+        let gone = take_out(&mut self.keys, &mut self.values, at);
+        self.weight -= gone;
+        true
+    }
+}
+
+/// The largest integer key ever used, once this key is used too.
+fn raised(largest: Option<i64>, key: &Key) -> Option<i64>
+    ensures { result ≡ raised_by largest key.now }
+{
+    match (largest, key) {
+        (_, Key::Text(_)) => largest,
+        (None, Key::Int(n)) => Some(*n),
+        (Some(m), Key::Int(n)) => Some(m.max(*n)),
     }
 }
