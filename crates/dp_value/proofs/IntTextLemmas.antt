@@ -68,11 +68,11 @@ formed (c ∷ cs) h = formed_by c cs (c == 45) (pointwise nat_eq (c ∷ cs) (48 
 pub form-IsAscii : (bs : List ℕ) → is_int_form bs ≡ true → IsAscii bs
 form-IsAscii bs h = (formed bs h).ascii
 
-in_range_Fits : (z : ℤ) → is_in_64_bits z ≡ true → FitsSigned w64 z
+pub in_range_Fits : (z : ℤ) → is_in_64_bits z ≡ true → FitsSigned w64 z
 in_range_Fits (pos n) h = search rules
 in_range_Fits (negsuc n) h = search rules
 
-Fits-in_range : (z : ℤ) → FitsSigned w64 z → is_in_64_bits z ≡ true
+pub Fits-in_range : (z : ℤ) → FitsSigned w64 z → is_in_64_bits z ≡ true
 Fits-in_range (pos n) h = search rules
 Fits-in_range (negsuc n) h = search rules
 

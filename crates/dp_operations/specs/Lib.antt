@@ -1,0 +1,6 @@
+pub mod Answers
+pub mod Numbers
+pub mod Text
+pub mod Comparisons
+pub mod Binary
+pub mod Unary
