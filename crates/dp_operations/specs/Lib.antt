@@ -4,3 +4,6 @@ pub mod Text
 pub mod Comparisons
 pub mod Binary
 pub mod Unary
+pub mod Lists
+pub mod Parts
+pub mod Builtins

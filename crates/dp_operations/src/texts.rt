@@ -16,7 +16,7 @@ pub fn text(alloc: Global, value: &Value) -> Result<Bytes, ValueError>
 }
 
 /// The text of a value.
-fn text_bytes(alloc: Global, value: &Value) -> Result<Bytes, Memory>
+pub(crate) fn text_bytes(alloc: Global, value: &Value) -> Result<Bytes, Memory>
     ensures { IfOk result (λ t. t ≡ text_of (data_of value.now)) }
 {
     match value {

@@ -22,6 +22,9 @@ empty = record { pairs = []; largest = None }
 abbrev pub keys_of : List (Key × Data) → List Key
 keys_of ps = map (λ p. p.0) ps
 
+abbrev pub values_of : List (Key × Data) → List Data
+values_of ps = map (λ p. p.1) ps
+
 -- the value under a key
 abbrev pub find_value : (Key → Bool) → List (Key × Data) → Option Data
 find_value is_key [] = None

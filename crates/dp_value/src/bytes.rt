@@ -1,4 +1,4 @@
-ghost use Rattle.std.specs.Prelude.{◌≡◌, ◌==◌, length, IfOk};
+ghost use Rattle.std.specs.Prelude.{◌≡◌, ◌==◌, pos, length, IfOk};
 
 use crate::Memory;
 use std::alloc::Global;
@@ -82,6 +82,13 @@ impl Bytes {
         ensures { result ≡ length self.now }
     {
         self.bytes.len()
+    }
+
+    /// The number of bytes as an integer of the language.
+    pub fn size(&self) -> i64
+        ensures { result ≡ pos (length self.now) }
+    {
+        self.bytes.len() as i64
     }
 
     /// Whether there is no byte.

@@ -1,6 +1,6 @@
-ghost use Rattle.std.specs.Prelude.{◌≡◌, ◌==◌, ◌<◌, ◌↔◌, ◌⊎◌, min, length, slice_get, is_some, option_map, Some, OnOk, OnErr, IfErr, IsErrOf};
+ghost use Rattle.std.specs.Prelude.{◌≡◌, ◌==◌, ◌<◌, ◌↔◌, ◌⊎◌, min, length, map, slice_get, is_some, option_map, Some, OnOk, OnErr, IfErr, IsErrOf};
 ghost use Rattle.dp_value.specs.Data.{pairs_weight};
-ghost use Rattle.dp_value.specs.Table.{empty, value_at, put, table_set, table_push, table_remove, weight_limit, largest_int, IsTable, raised as raised_by};
+ghost use Rattle.dp_value.specs.Table.{empty, keys_of, values_of, value_at, put, table_set, table_push, table_remove, weight_limit, largest_int, IsTable, raised as raised_by};
 
 use crate::columns::{place, store, take_out};
 use crate::{Bytes, Key, ValueError, weight};
@@ -82,6 +82,20 @@ impl PhpArray {
         ensures { result ≡ (length self.now.pairs == 0) }
     {
         self.values.is_empty()
+    }
+
+    /// The keys in the array's order. Takes no memory.
+    pub fn keys(&self) -> &[Key]
+        ensures { result.now ≡ keys_of self.now.pairs }
+    {
+        self.keys.as_slice()
+    }
+
+    /// The values in the array's order. Takes no memory.
+    pub fn values(&self) -> &[Value]
+        ensures { map data_of result.now ≡ values_of self.now.pairs }
+    {
+        self.values.as_slice()
     }
 
     /// The entry at a position, counted from 0 in the array's order. Takes no memory.
