@@ -57,9 +57,24 @@ fn text(alloc: Global, bytes: &[u8]) -> Result<Value, Memory> {
     Ok(Value::Text(Bytes::from_slice(alloc, bytes)?))
 }
 
+/// A text of so many zero bytes.
+fn zeros(alloc: Global, n: usize) -> Result<Value, Memory> {
+    Ok(Value::Text(Bytes::of(vec![in alloc; 0u8; n]?)))
+}
+
+/// Whether a text becomes this integer as a key, or stays a text.
+fn becomes(alloc: Global, bytes: &[u8], int: Option<i64>) -> Result<bool, ValueError> {
+    let value = text(alloc, bytes)?;
+    let key = key_of(alloc, &value)?;
+    Ok(match (key, int) {
+        (Key::Int(n), Some(m)) => n == m,
+        (Key::Text(kept), None) => kept.as_slice() == bytes,
+        _ => false,
+    })
+}
+
 #[test]
-fn values_become_keys(rt: HostRuntime) -> Result<(), Fail> {
-    let alloc = rt.alloc();
+fn texts_become_keys(rt: HostRuntime) -> Result<(), Fail> {
     let texts: [(&[u8], Option<i64>); 10] = [
         (b"0", Some(0)),
         (b"8", Some(8)),
@@ -73,67 +88,90 @@ fn values_become_keys(rt: HostRuntime) -> Result<(), Fail> {
         (b"9223372036854775808", None),
     ];
     for (bytes, int) in texts {
-        let key = match int {
-            Some(n) => Key::Int(n),
-            None => Key::Text(Bytes::from_slice(alloc, bytes)?),
-        };
-        assert_eq!(rt; key_of(alloc, &text(alloc, bytes)?)?, key);
+        assert!(rt; becomes(rt.alloc(), bytes, int)?);
     }
-    assert_eq!(rt; key_of(alloc, &Value::Bool(true))?, Key::Int(1));
-    assert_eq!(rt; key_of(alloc, &Value::Int(-3))?, Key::Int(-3));
-    assert_eq!(rt;
-        key_of(alloc, &Value::Null)?,
-        Key::Text(Bytes::of(Vec::new(alloc)))
-    );
-    let array = Value::Array(PhpArray::new(alloc));
-    assert_eq!(rt; key_of(alloc, &array).err(), Some(ValueError::BadKey));
     Ok(())
+}
+
+/// The integer key that a value becomes.
+fn int_key(alloc: Global, value: &Value) -> Result<Option<i64>, ValueError> {
+    match key_of(alloc, value)? {
+        Key::Int(n) => Ok(Some(n)),
+        Key::Text(_) => Ok(None),
+    }
+}
+
+#[test]
+fn other_values_become_keys(rt: HostRuntime) -> Result<(), Fail> {
+    let alloc = rt.alloc();
+    assert_eq!(rt; int_key(alloc, &Value::Bool(true))?, Some(1));
+    assert_eq!(rt; int_key(alloc, &Value::Int(-3))?, Some(-3));
+    assert_eq!(rt; int_key(alloc, &Value::Null)?, None);
+    let array = Value::Array(PhpArray::new(alloc));
+    assert_eq!(rt; int_key(alloc, &array).err(), Some(ValueError::BadKey));
+    Ok(())
+}
+
+/// The keys -5, -3 and `08`, after a push that was removed again.
+fn filled(alloc: Global) -> Result<PhpArray, ValueError> {
+    let mut array = PhpArray::new(alloc);
+    array.set(Key::Int(-5), Value::Int(1))?;
+    array.push(Value::Int(2))?;
+    let _ = array.remove(&Key::Int(-4));
+    array.push(Value::Int(3))?;
+    let key = Key::Text(Bytes::from_slice(alloc, b"08")?);
+    array.set(key, Value::Int(4))?;
+    array.set(Key::Int(-5), Value::Int(5))?;
+    Ok(array)
+}
+
+/// Whether the entry at a position has this integer key and this integer.
+fn has(array: &PhpArray, at: usize, int: i64, number: i64) -> bool {
+    match array.pair(at) {
+        Some((Key::Int(n), value)) => *n == int && same(value, &Value::Int(number)),
+        _ => false,
+    }
 }
 
 #[test]
 fn arrays_keep_their_order_and_their_next_key(rt: HostRuntime) -> Result<(), Fail> {
-    let alloc = rt.alloc();
-    let mut array = PhpArray::new(alloc);
-    array.set(Key::Int(-5), Value::Int(1))?;
-    array.push(Value::Int(2))?;
-    assert!(rt; array.remove(&Key::Int(-4)));
-    assert!(rt; !array.remove(&Key::Int(-4)));
-    array.push(Value::Int(3))?;
-    array.set(Key::Text(Bytes::from_slice(alloc, b"08")?), Value::Int(4))?;
-    array.set(Key::Int(-5), Value::Int(5))?;
-    let (key, value) = array.pair(0).ok_or("a first pair")?;
-    assert_eq!(rt; key.try_clone()?, Key::Int(-5));
-    assert!(rt; same(value, &Value::Int(5)));
-    let (key, _) = array.pair(1).ok_or("a second pair")?;
-    assert_eq!(rt; key.try_clone()?, Key::Int(-3));
+    let array = filled(rt.alloc())?;
+    assert!(rt; has(&array, 0, -5, 5));
+    assert!(rt; has(&array, 1, -3, 3));
+    assert!(rt; array.get(&Key::Int(-4)).is_none());
     assert_eq!(rt; array.len(), 3);
-    let whole = Value::Array(array);
-    assert_eq!(rt; weight(&whole), 5);
-    let copy = whole.try_clone()?;
-    assert!(rt; same(&whole, &copy));
-    assert!(rt; truthy(&copy));
-    assert!(rt; !truthy(&text(alloc, b"0")?));
+    assert_eq!(rt; array.keys().len(), array.values().len());
     Ok(())
 }
 
 #[test]
-fn arrays_refuse_what_is_too_heavy_or_has_no_next_key(rt: HostRuntime) -> Result<(), Fail> {
-    let alloc = rt.alloc();
+fn copies_are_identical(rt: HostRuntime) -> Result<(), Fail> {
+    let whole = Value::Array(filled(rt.alloc())?);
+    let copy = whole.try_clone()?;
+    assert!(rt; same(&whole, &copy));
+    assert!(rt; truthy(&copy));
+    assert_eq!(rt; weight(&copy), 5);
+    assert!(rt; !truthy(&text(rt.alloc(), b"0")?));
+    Ok(())
+}
+
+/// An array of one text of so many bytes.
+fn heavy(alloc: Global, n: usize) -> Result<PhpArray, ValueError> {
     let mut array = PhpArray::new(alloc);
-    let zeros = vec![in alloc; 0u8; 1_048_576]?;
-    let long = Value::Text(Bytes::of(zeros));
-    assert_eq!(rt; weight(&long), WEIGHT_LIMIT);
+    array.push(zeros(alloc, n)?)?;
+    Ok(array)
+}
+
+#[test]
+fn arrays_refuse_what_is_too_heavy(rt: HostRuntime) -> Result<(), Fail> {
     assert_eq!(rt;
-        array.set(Key::Int(0), long.try_clone()?).err(),
+        heavy(rt.alloc(), 1_048_576).err(),
         Some(ValueError::TooHeavy)
     );
-    assert_eq!(rt; array.push(long).err(), Some(ValueError::TooHeavy));
-    assert!(rt; array.get(&Key::Int(0)).is_none());
-    let zeros = vec![in alloc; 0u8; 1_048_575]?;
-    array.push(Value::Text(Bytes::of(zeros)))?;
+    let mut array = heavy(rt.alloc(), 1_048_575)?;
     assert_eq!(rt; array.push(Value::Null).err(), Some(ValueError::TooHeavy));
-    array.set(Key::Int(0), Value::Null)?;
-    array.set(Key::Int(i64::MAX), Value::Null)?;
+    assert_eq!(rt; array.set(Key::Int(0), Value::Null).err(), None);
+    assert_eq!(rt; array.set(Key::Int(i64::MAX), Value::Null).err(), None);
     assert_eq!(rt; array.push(Value::Null).err(), Some(ValueError::NextIndex));
     assert_eq!(rt; array.len(), 2);
     Ok(())
