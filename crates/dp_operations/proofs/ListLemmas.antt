@@ -42,10 +42,10 @@ raised_of (suc n) = let top : int_max (pos n) (pos (suc n)) ≡ pos (suc n) = om
 pub push-list_of : (ds : List Data) (d : Data) → table_push (list_of ds) d ≡ list_of (ds ++ d ∷ [])
 push-list_of ds d =
     let pairs : put (numbered 0 ds) (Int (next_key (last_of (length ds)))) d ≡ numbered 0 (ds ++ d ∷ []) =
-        ap (λ k. put (numbered 0 ds) (Int k) d) (next_of (length ds)) ∙ put-numbered 0 (length ds) ds d (omega arith) in
+    ap (λ k. put (numbered 0 ds) (Int k) d) (next_of (length ds)) ∙ put-numbered 0 (length ds) ds d (omega arith) in
     let longer : length (ds ++ d ∷ []) ≡ suc (length ds) = omega (arith, length_push ds d) in
     let largest : raised (last_of (length ds)) (Int (next_key (last_of (length ds)))) ≡ last_of (length (ds ++ d ∷ [])) =
-        ap (λ k. raised (last_of (length ds)) (Int k)) (next_of (length ds)) ∙ raised_of (length ds) ∙ sym (ap last_of longer) in
+    ap (λ k. raised (last_of (length ds)) (Int k)) (next_of (length ds)) ∙ raised_of (length ds) ∙ sym (ap last_of longer) in
     λ i. record { pairs = pairs i; largest = largest i }
 
 weight-numbered-le : (n : ℕ) (ds es : List Data) → pairs_weight (numbered n ds) ≤ pairs_weight (numbered n (ds ++ es))
@@ -96,7 +96,9 @@ pub refused : (ds es : List Data) (d : Data) (t : Table) (e : CallError) → t �
     (e ≡ Memory) ⊎ (light_array (list_of (ds ++ d ∷ es)) ≡ Err e)
 refused ds es d t e is light cause =
     elim cause [
-      inl memory ↦ inl memory
-    | inr other ↦ elim other [
-        inl next ↦ absurd (next-list_of ds (subst (λ (x : Table). pairs_weight x.pairs ≤ weight_limit) is light) (sym (ap (λ (x : Table). x.largest) is) ∙ next.1))
-      | inr heavy ↦ inr (heavier ds es d (subst (λ (x : Table). weight_limit < pairs_weight (table_push x d).pairs) is heavy.1) ∙ ap Err (sym heavy.0)) ] ]
+      | inl memory ↦ inl memory
+      | inr other ↦ elim other [
+        | inl next ↦ absurd (next-list_of ds (subst (λ (x : Table). pairs_weight x.pairs ≤ weight_limit) is light) (sym (ap (λ (x : Table). x.largest) is) ∙ next.1))
+        | inr heavy ↦ inr (heavier ds es d (subst (λ (x : Table). weight_limit < pairs_weight (table_push x d).pairs) is heavy.1) ∙ ap Err (sym heavy.0))
+      ]
+    ]

@@ -15,3 +15,6 @@ mod types;
 pub use builtins::builtin;
 pub use operators::{binary, unary};
 pub use texts::text;
+
+#[cfg(test)]
+mod tests;
