@@ -1,11 +1,29 @@
-//! Byte strings and lists that own their items: the types in which the crates of this workspace hand data on.
+//! The values of the language and the calls on them: byte strings, lists that own their items, keys, ordered arrays.
 #![tactic(auto)]
 
 mod bytes;
+mod columns;
+mod conditions;
+mod copies;
+mod error;
+mod identity;
 mod items;
+mod key;
+mod keys_of;
+mod operators;
+mod value;
+mod weights;
 
 pub use bytes::Bytes;
+pub use conditions::truthy;
+pub use error::{CallError, ValueError, WriteError};
+pub use identity::same;
 pub use items::Items;
+pub use key::Key;
+pub use keys_of::key_of;
+pub use operators::{BinaryOp, Builtin, UnaryOp};
+pub use value::{PhpArray, Value, WEIGHT_LIMIT};
+pub use weights::weight;
 
 /// Want of memory: an allocation was refused.
 pub use std::alloc::AllocError as Memory;

@@ -1,0 +1,9 @@
+pub mod Answers
+pub mod Numbers
+pub mod Text
+pub mod Comparisons
+pub mod Binary
+pub mod Unary
+pub mod Lists
+pub mod Parts
+pub mod Builtins

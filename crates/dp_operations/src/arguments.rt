@@ -1,0 +1,25 @@
+ghost use Rattle.std.specs.Prelude.{◌≡◌, map, option_map};
+ghost use Rattle.dp_value.specs.Value.{data_of};
+ghost use Rattle.dp_operations.specs.Builtins.{double as two_of, single as one_of};
+
+use dp_value::Value;
+
+/// The argument, where there is exactly one.
+pub fn single(args: &[Value]) -> Option<&Value>
+    ensures { option_map (λ a. data_of a.now) result ≡ one_of (map data_of args.now) }
+{
+    match args {
+        [a] => Some(a),
+        _ => None,
+    }
+}
+
+/// The arguments, where there are exactly two.
+pub fn double(args: &[Value]) -> Option<(&Value, &Value)>
+    ensures { option_map (λ p. (data_of p.0.now, data_of p.1.now)) result ≡ two_of (map data_of args.now) }
+{
+    match args {
+        [a, b] => Some((a, b)),
+        _ => None,
+    }
+}

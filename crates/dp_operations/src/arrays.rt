@@ -1,0 +1,109 @@
+ghost use Rattle.std.specs.Prelude.{◌≡◌, ◌<◌, ◌≤◌, ◌⊎◌, pos, length, map, Some, IfOk, IfErr, OnOk};
+ghost use Rattle.dp_value.specs.Data.{pairs_weight};
+ghost use Rattle.dp_value.specs.Table.{table_push, largest_int, weight_limit};
+ghost use Rattle.dp_value.specs.Value.{data_of};
+ghost use Rattle.dp_operations.specs.Builtins as table;
+ghost use Rattle.dp_operations.specs.Builtins.{count_of, on_one, single as one_of, CallAnswers, CallGives};
+ghost use Rattle.dp_operations.specs.Lists.{data_of_key, light_array, list_of};
+
+use crate::arguments::single;
+use dp_value::{CallError, Key, Memory, PhpArray, Value, ValueError};
+use std::alloc::Global;
+
+/// The number of entries of an array.
+pub fn count(args: &[Value]) -> Result<Value, CallError>
+    ensures { CallGives result (on_one count_of (one_of (map data_of args.now))) }
+{
+    let Some(a) = single(args) else {
+        return Err(CallError::Arguments);
+    };
+    match a {
+        Value::Array(array) => Ok(Value::Int(entries(array))),
+        Value::Null | Value::Bool(_) | Value::Int(_) | Value::Text(_) => {
+            Err(CallError::Unsupported)
+        }
+    }
+}
+
+/// The number of entries.
+fn entries(array: &PhpArray) -> i64
+    ensures { result ≡ pos (length array.now.pairs) }
+{
+    array.len() as i64
+}
+
+/// The keys of an array, as a list.
+pub fn key_list(alloc: Global, args: &[Value]) -> Result<Value, CallError>
+    ensures { CallAnswers result (on_one table.key_list (one_of (map data_of args.now))) }
+{
+    let Some(a) = single(args) else {
+        return Err(CallError::Arguments);
+    };
+    match a {
+        Value::Array(array) => list_of_keys(alloc, array.keys()),
+        Value::Null | Value::Bool(_) | Value::Int(_) | Value::Text(_) => {
+            Err(CallError::Unsupported)
+        }
+    }
+}
+
+/// The values of an array, as a list.
+pub fn value_list(alloc: Global, args: &[Value]) -> Result<Value, CallError>
+    ensures { CallAnswers result (on_one table.value_list (one_of (map data_of args.now))) }
+{
+    let Some(a) = single(args) else {
+        return Err(CallError::Arguments);
+    };
+    match a {
+        Value::Array(array) => list_of_values(alloc, array.values()),
+        Value::Null | Value::Bool(_) | Value::Int(_) | Value::Text(_) => {
+            Err(CallError::Unsupported)
+        }
+    }
+}
+
+/// Keys as a list of values.
+fn list_of_keys(alloc: Global, keys: &[Key]) -> Result<Value, CallError>
+    ensures { CallAnswers result (light_array (list_of (map data_of_key keys.now))) }
+{
+    let mut list = PhpArray::new(alloc);
+    for key in keys {
+        append(&mut list, value_of_key(key)?)?;
+    }
+    Ok(Value::Array(list))
+}
+
+/// Values as a list.
+fn list_of_values(alloc: Global, values: &[Value]) -> Result<Value, CallError>
+    ensures { CallAnswers result (light_array (list_of (map data_of values.now))) }
+{
+    let mut list = PhpArray::new(alloc);
+    for value in values {
+        append(&mut list, value.try_clone()?)?;
+    }
+    Ok(Value::Array(list))
+}
+
+/// A key as a value.
+fn value_of_key(key: &Key) -> Result<Value, Memory>
+    ensures { IfOk result (λ v. data_of v ≡ data_of_key key.now) }
+{
+    match key {
+        Key::Int(n) => Ok(Value::Int(*n)),
+        Key::Text(bytes) => Ok(Value::Text(bytes.try_clone()?)),
+    }
+}
+
+/// Adds a value at the end of a list.
+fn append(list: &mut PhpArray, value: Value) -> Result<(), CallError>
+    ensures ok { OnOk result (list.new ≡ table_push list.old (data_of value)) }
+    ensures only { IfErr result (λ e. (e ≡ CallError.Memory) ⊎ ((e ≡ CallError.NextIndex) × (list.old.largest ≡ Some largest_int)) ⊎ ((e ≡ CallError.TooHeavy) × (weight_limit < pairs_weight (table_push list.old (data_of value)).pairs))) }
+    ensures light { OnOk result (pairs_weight list.new.pairs ≤ weight_limit) }
+{
+    match list.push(value) {
+        Ok(()) => Ok(()),
+        Err(ValueError::NextIndex) => Err(CallError::NextIndex),
+        Err(ValueError::TooHeavy) => Err(CallError::TooHeavy),
+        Err(_) => Err(CallError::Memory),
+    }
+}

@@ -1,0 +1,20 @@
+//! The operations of the language on values, as tables of cases: the text of a value, the operators and the built-in functions.
+#![tactic(auto)]
+
+mod arguments;
+mod arithmetic;
+mod arrays;
+mod builtins;
+mod comparisons;
+mod operators;
+mod parts;
+mod scalars;
+mod texts;
+mod types;
+
+pub use builtins::builtin;
+pub use operators::{binary, unary};
+pub use texts::text;
+
+#[cfg(test)]
+mod tests;

@@ -1,0 +1,72 @@
+ghost use Rattle.std.specs.Prelude.{◌≡◌, map};
+ghost use Rattle.dp_value.specs.Value.{data_of};
+ghost use Rattle.dp_operations.specs.Builtins.{on_one, single as one_of, told, CallGives};
+ghost use Rattle.dp_operations.specs.Builtins as table;
+
+use crate::arguments::single;
+use dp_value::{CallError, Value};
+
+/// Whether the argument is an integer.
+pub fn is_int(args: &[Value]) -> Result<Value, CallError>
+    ensures { CallGives result (on_one (told table.is_int) (one_of (map data_of args.now))) }
+{
+    let Some(a) = single(args) else {
+        return Err(CallError::Arguments);
+    };
+    match a {
+        Value::Int(_) => Ok(Value::Bool(true)),
+        Value::Null | Value::Bool(_) | Value::Text(_) | Value::Array(_) => Ok(Value::Bool(false)),
+    }
+}
+
+/// Whether the argument is a text.
+pub fn is_string(args: &[Value]) -> Result<Value, CallError>
+    ensures { CallGives result (on_one (told table.is_string) (one_of (map data_of args.now))) }
+{
+    let Some(a) = single(args) else {
+        return Err(CallError::Arguments);
+    };
+    match a {
+        Value::Text(_) => Ok(Value::Bool(true)),
+        Value::Null | Value::Bool(_) | Value::Int(_) | Value::Array(_) => Ok(Value::Bool(false)),
+    }
+}
+
+/// Whether the argument is a bool.
+pub fn is_bool(args: &[Value]) -> Result<Value, CallError>
+    ensures { CallGives result (on_one (told table.is_bool) (one_of (map data_of args.now))) }
+{
+    let Some(a) = single(args) else {
+        return Err(CallError::Arguments);
+    };
+    match a {
+        Value::Bool(_) => Ok(Value::Bool(true)),
+        Value::Null | Value::Int(_) | Value::Text(_) | Value::Array(_) => Ok(Value::Bool(false)),
+    }
+}
+
+/// Whether the argument is null.
+pub fn is_null(args: &[Value]) -> Result<Value, CallError>
+    ensures { CallGives result (on_one (told table.is_null) (one_of (map data_of args.now))) }
+{
+    let Some(a) = single(args) else {
+        return Err(CallError::Arguments);
+    };
+    match a {
+        Value::Null => Ok(Value::Bool(true)),
+        Value::Bool(_) | Value::Int(_) | Value::Text(_) | Value::Array(_) => Ok(Value::Bool(false)),
+    }
+}
+
+/// Whether the argument is an array.
+pub fn is_array(args: &[Value]) -> Result<Value, CallError>
+    ensures { CallGives result (on_one (told table.is_array) (one_of (map data_of args.now))) }
+{
+    let Some(a) = single(args) else {
+        return Err(CallError::Arguments);
+    };
+    match a {
+        Value::Array(_) => Ok(Value::Bool(true)),
+        Value::Null | Value::Bool(_) | Value::Int(_) | Value::Text(_) => Ok(Value::Bool(false)),
+    }
+}

@@ -1,0 +1,6 @@
+pub mod KeyLemmas
+pub mod PairLemmas
+pub mod ArrayLemmas
+pub mod TableLemmas
+pub mod IntTextLemmas
+pub mod ComparisonLemmas

@@ -1,0 +1,13 @@
+pub mod formers
+pub mod Key
+pub mod Data
+pub mod Codes
+pub mod Table
+pub mod Place
+pub mod Value
+pub mod Inside
+pub mod Falls
+pub mod Comparison
+pub mod Truth
+pub mod IntText
+pub mod KeyOf

@@ -1,0 +1,206 @@
+ghost use Rattle.std.specs.Prelude.{◌≡◌, ◌==◌, ◌<◌, ◌↔◌, ◌⊎◌, min, length, map, slice_get, is_some, option_map, Some, OnOk, OnErr, IfErr, IsErrOf};
+ghost use Rattle.dp_value.specs.Data.{pairs_weight};
+ghost use Rattle.dp_value.specs.Table.{empty, keys_of, values_of, value_at, put, table_set, table_push, table_remove, weight_limit, largest_int, IsTable, raised as raised_by};
+
+use crate::columns::{place, store, take_out};
+use crate::{Bytes, Key, ValueError, weight};
+use indexmap::IndexSet;
+use std::alloc::Global;
+use std::marker::Model;
+
+/// The most that a text or an array may weigh.
+pub const WEIGHT_LIMIT: u64 = 1_048_576;
+
+/// A value of the language. Source: the PHP manual, "Types".
+#[cycle(value)]
+#[derive(Debug, Drop)]
+pub enum Value {
+    Null,
+    Bool(bool),
+    Int(i64),
+    Text(Bytes),
+    Array(PhpArray),
+}
+
+/// An ordered map from keys to values. Contracts see the pairs in order, whose keys are distinct,
+/// and the largest integer key ever used, if any.
+#[cycle(value)]
+#[derive(Debug, Drop)]
+pub struct PhpArray {
+    pub(crate) keys: IndexSet<Key>,
+    pub(crate) values: Vec<Value>,
+    pub(crate) largest: Option<i64>,
+    pub(crate) weight: u64,
+}
+
+impl Model for PhpArray {
+    ghost use Rattle.dp_value.specs.Data.{Table, table_depth};
+    ghost use Rattle.dp_value.specs.Codes.{table_code};
+
+    ghost Value = { Table };
+
+    ghost coded = { table_code };
+
+    ghost use Rattle.dp_value.specs.Inside.{table_of, IsArray};
+
+    ghost view = { table_of };
+
+    ghost invariant = { IsArray };
+
+    ghost size = { table_depth };
+
+    ghost use Rattle.dp_value.specs.Falls.{most_le_depth};
+
+    ghost size_decreases = { λ a h. most_le_depth a.keys.keys a.values.items h.same_length };
+}
+
+impl PhpArray {
+    ghost use Rattle.dp_value.specs.Value.{data_of};
+
+    /// The array without entries, in which no integer key was ever used. Takes no memory.
+    pub fn new(alloc: Global) -> PhpArray
+        ensures { result ≡ empty }
+    {
+        PhpArray {
+            keys: IndexSet::new(alloc),
+            values: Vec::new(alloc),
+            largest: None,
+            weight: 0,
+        }
+    }
+
+    /// The number of entries. Takes no memory.
+    pub fn len(&self) -> usize
+        ensures len { result ≡ length self.now.pairs }
+        ensures table { IsTable self.now }
+    {
+        self.values.len()
+    }
+
+    /// Whether there is no entry. Takes no memory.
+    pub fn is_empty(&self) -> bool
+        ensures { result ≡ (length self.now.pairs == 0) }
+    {
+        self.values.is_empty()
+    }
+
+    /// The keys in the array's order. Takes no memory.
+    pub fn keys(&self) -> &[Key]
+        ensures { result.now ≡ keys_of self.now.pairs }
+    {
+        self.keys.as_slice()
+    }
+
+    /// The values in the array's order. Takes no memory.
+    pub fn values(&self) -> &[Value]
+        ensures { map data_of result.now ≡ values_of self.now.pairs }
+    {
+        self.values.as_slice()
+    }
+
+    /// The entry at a position, counted from 0 in the array's order. Takes no memory.
+    pub fn pair(&self, at: usize) -> Option<(&Key, &Value)>
+        ensures { option_map (λ p. (p.0.now, data_of p.1.now)) result ≡ slice_get self.now.pairs at }
+    {
+        let key = self.keys.get_index(at)?;
+        let value = self.values.get(at)?;
+        Some((key, value))
+    }
+
+    /// The value under a key. Takes no memory.
+    pub fn get(&self, key: &Key) -> Option<&Value>
+        ensures { option_map (λ v. data_of v.now) result ≡ value_at self.now key.now }
+    {
+        let at = place(&self.keys, key)?;
+        Some(&self.values[at])
+    }
+
+    /// What the entries weigh together. Takes no memory.
+    pub(crate) fn weight(&self) -> u64
+        ensures { result ≡ pairs_weight self.now.pairs }
+    {
+        self.weight
+    }
+
+    /// What the entries would weigh with this value under this key, or the largest `u64` where it is more.
+    fn weight_with(&self, key: &Key, value: &Value) -> u64
+        ensures { result ≡ min (pairs_weight (put self.now.pairs key.now (data_of value.now))) u64.MAX }
+    {
+        let added = weight(value);
+        match place(&self.keys, key) {
+            Some(at) => {
+                let old = weight(&self.values[at]);
+                (self.weight - old).saturating_add(added)
+            }
+            None => self
+                .weight
+                .saturating_add(1)
+                .saturating_add(key.weight())
+                .saturating_add(added),
+        }
+    }
+
+    /// Puts a value under a key. A present key keeps its place, a new one goes last.
+    ///
+    /// `TooHeavy` comes exactly where the entries would weigh more than `WEIGHT_LIMIT`. After a
+    /// refusal the array is as before.
+    pub fn set(&mut self, key: Key, value: Value) -> Result<(), ValueError>
+        ensures ok { OnOk result (self.new ≡ table_set self.old key (data_of value)) }
+        ensures too_heavy { IsErrOf result ValueError.TooHeavy ↔ (weight_limit < pairs_weight (put self.old.pairs key (data_of value))) }
+        ensures only { IfErr result (λ e. (e ≡ ValueError.TooHeavy) ⊎ (e ≡ ValueError.Memory)) }
+        ensures err { OnErr result (self.new ≡ self.old) }
+    {
+        let weight = self.weight_with(&key, &value);
+        if weight > WEIGHT_LIMIT {
+            return Err(ValueError::TooHeavy);
+        }
+        let largest = raised(self.largest, &key);
+        store(&mut self.keys, &mut self.values, key, value)?;
+        self.largest = largest;
+        self.weight = weight;
+        Ok(())
+    }
+
+    /// Puts a value under the next integer key: one more than the largest ever used, or 0.
+    ///
+    /// `NextIndex` comes first, exactly where the largest key ever used is 9,223,372,036,854,775,807;
+    /// then `TooHeavy` as in `set`. After a refusal the array is as before.
+    pub fn push(&mut self, value: Value) -> Result<(), ValueError>
+        ensures ok { OnOk result (self.new ≡ table_push self.old (data_of value)) }
+        ensures next_index { IsErrOf result ValueError.NextIndex ↔ (self.old.largest ≡ Some largest_int) }
+        ensures too_heavy { IsErrOf result ValueError.TooHeavy ↔ ((¬ (self.old.largest ≡ Some largest_int)) × (weight_limit < pairs_weight (table_push self.old (data_of value)).pairs)) }
+        ensures only { IfErr result (λ e. (e ≡ ValueError.NextIndex) ⊎ (e ≡ ValueError.TooHeavy) ⊎ (e ≡ ValueError.Memory)) }
+        ensures err { OnErr result (self.new ≡ self.old) }
+    {
+        match self.largest {
+            None => self.set(Key::Int(0), value),
+            Some(i64::MAX) => Err(ValueError::NextIndex),
+            Some(largest) => self.set(Key::Int(largest + 1), value),
+        }
+    }
+
+    /// Removes a key and its value, and says whether the key was there. The entries close up, and the
+    /// largest integer key ever used stays. Takes no memory.
+    pub fn remove(&mut self, key: &Key) -> bool
+        ensures found { result ≡ is_some (value_at self.old key.now) }
+        ensures removed { self.new ≡ table_remove self.old key.now }
+    {
+        let Some(at) = place(&self.keys, key) else {
+            return false;
+        };
+        let gone = take_out(&mut self.keys, &mut self.values, at);
+        self.weight -= gone;
+        true
+    }
+}
+
+/// The largest integer key ever used, once this key is used too.
+fn raised(largest: Option<i64>, key: &Key) -> Option<i64>
+    ensures { result ≡ raised_by largest key.now }
+{
+    match (largest, key) {
+        (_, Key::Text(_)) => largest,
+        (None, Key::Int(n)) => Some(*n),
+        (Some(m), Key::Int(n)) => Some(m.max(*n)),
+    }
+}
