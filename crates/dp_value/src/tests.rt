@@ -14,6 +14,9 @@ fn bytes_and_items_keep_what_they_are_made_of(rt: HostRuntime) -> Result<(), Fai
     assert!(rt; !items.is_empty());
     let last = items.into_vec().pop().ok_or("an item")?;
     assert_eq!(rt; last.into_vec().as_slice(), b"run\0".as_slice());
-    assert_eq!(rt; Items::of(vec![in alloc; 3, 1]?).as_slice(), [3, 1].as_slice());
+    assert_eq!(rt;
+        Items::of(vec![in alloc; 3, 1]?).as_slice(),
+        [3, 1].as_slice()
+    );
     Ok(())
 }

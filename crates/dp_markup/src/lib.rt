@@ -1,0 +1,14 @@
+//! The markup of DBGp packets: trees of elements, read from their bytes and written as bytes.
+#![tactic(auto)]
+
+mod error;
+mod tree;
+mod writing;
+
+pub use dp_value::Memory;
+pub use error::MarkupError;
+pub use tree::{Element, Node};
+pub use writing::write;
+
+#[cfg(test)]
+mod tests;
