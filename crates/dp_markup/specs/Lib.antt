@@ -1,2 +1,4 @@
 pub mod Escaping
 pub mod Writing
+pub mod Rules
+pub mod Input

@@ -2,6 +2,7 @@
 #![tactic(auto)]
 
 mod error;
+mod refusal;
 mod tree;
 mod writing;
 
