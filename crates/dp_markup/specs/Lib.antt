@@ -1,4 +1,7 @@
+pub mod Classes
 pub mod Escaping
-pub mod Writing
-pub mod Rules
+pub mod Grammar
 pub mod Input
+pub mod Reading
+pub mod Rules
+pub mod Writing

@@ -2,7 +2,9 @@
 #![tactic(auto)]
 
 mod error;
+mod growing;
 mod refusal;
+mod states;
 mod tree;
 mod writing;
 
