@@ -4,4 +4,6 @@ pub mod Loops
 pub mod Marks
 pub mod Names
 pub mod Parts
+pub mod Tags
+pub mod Elements
 pub mod Trees

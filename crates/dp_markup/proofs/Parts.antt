@@ -293,7 +293,7 @@ value_reads level ts = joined_answers (λ _. One (passing is_quote)) (λ quote. 
 value_starts : StartsIn (λ _. Value) is_quote
 value_starts = joined_starts (λ _. One (passing is_quote)) (λ quote. ClosedAt (value_piece quote) (value_end quote) []) is_quote (passing_starts is_quote)
 
-some_value : Value (34 ∷ 34 ∷ []) []
+pub some_value : Value (34 ∷ 34 ∷ []) []
 some_value = record { front = 34 ∷ []; back = 34 ∷ []; value = 34; split = refl; one = mark_quote; other = record { count = 0; chain = some_value_end 34 [] } }
   where
     mark_quote : One (passing is_quote) (34 ∷ []) 34
@@ -301,7 +301,7 @@ some_value = record { front = 34 ∷ []; back = 34 ∷ []; value = 34; split = r
 
 -- ---- attributes
 
-equals_reads : (level : ℕ) → IsReader (λ _. Spaced (Mark 61)) Anything level equals
+pub equals_reads : (level : ℕ) → IsReader (λ _. Spaced (Mark 61)) Anything level equals
 unfolding equals
 equals_reads level = spaced_reads (λ _. Mark 61) (same 61) Anything level (mark 61) (passing_starts (same 61)) (apart_white (same 61) refl refl refl refl)
     (λ m _. (61 ∷ [], 61, mark_of 61)) (one_answers (passing (same 61)) Anything level) equals_step is_step
@@ -310,7 +310,7 @@ equals_reads level = spaced_reads (λ _. Mark 61) (same 61) Anything level (mark
         → Answers (StepAt white_piece (λ _ _. Mark 61) u) (step_stop Anything) level ts (equals_step u ts)
     is_step u ts h = unfold equals_step in h
 
-spaced_value_reads : (level : ℕ) → IsReader (λ _. Spaced Value) Anything level spaced_value
+pub spaced_value_reads : (level : ℕ) → IsReader (λ _. Spaced Value) Anything level spaced_value
 unfolding spaced_value
 spaced_value_reads level = spaced_reads (λ _. Value) is_quote Anything level value value_starts (apart_white is_quote refl refl refl refl)
     (λ m _. (34 ∷ 34 ∷ [], [], some_value)) (value_reads level) spaced_value_step is_step

@@ -132,13 +132,14 @@ comment = word (codes "--") >> up_to (codes "-->")
 unfoldable pub declaration : Reader Text
 declaration = word (codes "xml") >> (one (passing is_white) >> up_to (codes "?>"))
 
-unfoldable pub end_tag : Text → Content → Reader (List Node)
-end_tag n c = made (word n >> close) (λ _. nodes_of c)
+-- behind `</`
+unfoldable pub end_tag : Text → Reader ℕ
+end_tag n = word n >> close
 
 -- behind `<`
 unfoldable pub bracket : Reader Element → Text → Content → Reader (ControlFlow (List Node) Content)
 bracket inner n c ts =
-    if next (same 47) (head ts) then made (mark 47 >> end_tag n c) Break ts
+    if next (same 47) (head ts) then made (made (mark 47 >> end_tag n) (λ _. nodes_of c)) Break ts
     else if next (same 33) (head ts) then made (made (mark 33 >> cdata) (with_bytes c)) Continue ts
     else made (made inner (with_child c)) Continue ts
 
