@@ -11,7 +11,7 @@ use Rattle.dp_markup.specs.Input.{head, next, Outcome, Reader, and_then, gives, 
 use Rattle.dp_markup.specs.Rules.{Rule, Joined, ◌or◌, Gives, Made, One, passing, Mark, Word, Closed}
 use Rattle.dp_markup.specs.Classes.{is_white, is_name_start, is_plain_in_text}
 use Rattle.dp_markup.specs.Grammar.{Text, Reference, Start, Spaced, UpTo, CData, ContentPiece, EndTag, BehindStart, Opened, IsOpened, with_bytes, with_child, nodes_of, no_content, no_attribute, start_tag, element}
-use Rattle.dp_markup.specs.Reading.{same, reference, start, end_tag, close, cdata, bracket, content_byte, content_step, inside, behind_start, element_in, no_level, opened}
+use Rattle.dp_markup.specs.Reading.{same, reference, start, end_tag, spaced_mark, cdata, bracket, content_byte, content_step, inside, behind_start, element_in, no_level, opened}
 use Rattle.dp_markup.proofs.Answers.{Rules, Stop, Anything, JoinedAt, EitherAt, ClosedAt, StepAt, Begins, IsRead, IsRefused, Answers, StartsIn, GoesOn, one_answers, gives_answers, joined_answers, equal_answers, joined_starts, either_starts, begun, refused_here, same_level}
 use Rattle.dp_markup.proofs.Loops.{give, given, step_stop, closed_answers}
 use Rattle.dp_markup.proofs.Basics.{IsReader, Can, apart_mark, mark_apart, flip, or_left, or_right, passing_starts, mark_of, word_of, before, behind_word, marked, behind_mark, word_starts, made_starts, joined_reads, made_reads, choose_reads, mark_then, word_reads, takes_byte}
@@ -145,8 +145,8 @@ module _ (inner : Rules Element) (name : Text) where
     unfolding bracket tail_reader end_tag
     bracket_reads c = choose_reads (Ended c) (EitherAt (Section c) (Nested c)) (same 47) in_tail (step_stop Anything) level (made (made (mark 47 >> end_tag name) (λ _. nodes_of c)) Break) (tail_reader c)
         (ended_starts c) (or_starts (Section c) (Nested c) (same 33) is_name_start (section_starts c) (nested_starts c)) (mark_apart in_tail 47 refl)
-        (made_reads (λ _. Made (Joined (Mark 47) (λ _. NameAndClose name)) (λ _. nodes_of c)) Break (step_stop Anything) level (made (mark 47 >> (word name >> close)) (λ _. nodes_of c))
-        (made_reads (JoinedAt (λ _. Mark 47) (λ _ _. NameAndClose name)) (λ _. nodes_of c) (λ _ _. true) level (mark 47 >> (word name >> close)) (mark_then 47 (λ _. NameAndClose name) Anything level (word name >> close) (λ m _. (name ++ 62 ∷ [], 62, some_name_and_close name)) (name_and_close_reads name level))))
+        (made_reads (λ _. Made (Joined (Mark 47) (λ _. NameAndClose name)) (λ _. nodes_of c)) Break (step_stop Anything) level (made (mark 47 >> (word name >> spaced_mark 62)) (λ _. nodes_of c))
+        (made_reads (JoinedAt (λ _. Mark 47) (λ _ _. NameAndClose name)) (λ _. nodes_of c) (λ _ _. true) level (mark 47 >> (word name >> spaced_mark 62)) (mark_then 47 (λ _. NameAndClose name) Anything level (word name >> spaced_mark 62) (λ m _. (name ++ 62 ∷ [], 62, some_name_and_close name)) (name_and_close_reads name level))))
         (choose_reads (Section c) (Nested c) (same 33) is_name_start (step_stop Anything) level (made (made (mark 33 >> cdata) (with_bytes c)) Continue) (made (made p (with_child c)) Continue)
         (section_starts c) (nested_starts c) (mark_apart is_name_start 33 refl)
         (made_reads (λ _. Made (Joined (Mark 33) (λ _. SectionTail)) (with_bytes c)) Continue (step_stop Anything) level (made (mark 33 >> cdata) (with_bytes c))

@@ -6,4 +6,6 @@ pub mod Names
 pub mod Parts
 pub mod Tags
 pub mod Elements
+pub mod Documents
+pub mod Whole
 pub mod Trees

@@ -10,7 +10,7 @@ use Rattle.dp_markup.specs.Input.{head, next, Outcome, Reader, and_then, made, r
 use Rattle.dp_markup.specs.Rules.{Rule, Joined, ◌or◌, Gives, Made, One, passing, Mark, Word, Tested, When, Chain, Closed}
 use Rattle.dp_markup.specs.Classes.{is_white, is_digit, is_name_start, is_name_byte, is_plain_in_value, is_quote, within_byte, decimal_behind, hexadecimal_behind}
 use Rattle.dp_markup.specs.Grammar.{Text, Attributes, White, Spaced, Name, Number, Named, Reference, Value, is_new, Attribute, TagPiece, TagEnd, Start, white_in_tag, attribute_in_tag, start_tag, no_attribute}
-use Rattle.dp_markup.specs.Reading.{same, name, equals_step, equals, number_step, number, named, by_number, by_a, entity, reference, value_byte, value_step, quoted, value, spaced_value_step, spaced_value, attribute, tag_piece, tag_end, tag_step, start}
+use Rattle.dp_markup.specs.Reading.{same, name, spaced_mark_step, spaced_mark, number_step, number, named, by_number, by_a, entity, reference, value_byte, value_step, quoted, value, spaced_value_step, spaced_value, attribute, tag_piece, tag_end, tag_step, start}
 use Rattle.dp_markup.proofs.Answers.{Rules, Stop, Anything, JoinedAt, EitherAt, ClosedAt, StepAt, Answers, StartsIn, Follows, GoesOn, one_answers, joined_answers, equal_answers, when_answers, joined_starts, either_starts, wider_starts, same_level}
 use Rattle.dp_markup.proofs.Loops.{give, given, step_stop, closed_answers}
 use Rattle.dp_markup.proofs.Basics.{IsReader, Can, apart_mark, mark_apart, apart_or, apart_white, flip, or_left, or_right, passing_is, passing_starts, mark_of, word_of, before, behind_word, marked, behind_mark, named_of, named_is, word_starts, made_starts, joined_reads, made_reads, choose_reads, mark_then, word_reads, named_reads, step_reads, takes_byte, white_piece, spaced_reads, spaced}
@@ -301,14 +301,14 @@ some_value = record { front = 34 ∷ []; back = 34 ∷ []; value = 34; split = r
 
 -- ---- attributes
 
-pub equals_reads : (level : ℕ) → IsReader (λ _. Spaced (Mark 61)) Anything level equals
-unfolding equals
-equals_reads level = spaced_reads (λ _. Mark 61) (same 61) Anything level (mark 61) (passing_starts (same 61)) (apart_white (same 61) refl refl refl refl)
-    (λ m _. (61 ∷ [], 61, mark_of 61)) (one_answers (passing (same 61)) Anything level) equals_step is_step
+pub spaced_mark_reads : (c : ℕ) → ((b : ℕ) → is_white b ≡ true → same c b ≡ false) → (level : ℕ) → IsReader (λ _. Spaced (Mark c)) Anything level (spaced_mark c)
+unfolding spaced_mark
+spaced_mark_reads c apart level = spaced_reads (λ _. Mark c) (same c) Anything level (mark c) (passing_starts (same c)) apart
+    (λ m _. (c ∷ [], c, mark_of c)) (one_answers (passing (same c)) Anything level) (spaced_mark_step c) is_step
   where
-    is_step : (u : Unit {0}) (ts : Text) → Answers (StepAt white_piece (λ _ _. Mark 61) u) (step_stop Anything) level ts (cond (next (same 61) (head ts)) (made (mark 61) Break ts) (made (made (one (passing is_white)) (λ _. tt)) Continue ts))
-        → Answers (StepAt white_piece (λ _ _. Mark 61) u) (step_stop Anything) level ts (equals_step u ts)
-    is_step u ts h = unfold equals_step in h
+    is_step : (u : Unit {0}) (ts : Text) → Answers (StepAt white_piece (λ _ _. Mark c) u) (step_stop Anything) level ts (cond (next (same c) (head ts)) (made (mark c) Break ts) (made (made (one (passing is_white)) (λ _. tt)) Continue ts))
+        → Answers (StepAt white_piece (λ _ _. Mark c) u) (step_stop Anything) level ts (spaced_mark_step c u ts)
+    is_step u ts h = unfold spaced_mark_step in h
 
 pub spaced_value_reads : (level : ℕ) → IsReader (λ _. Spaced Value) Anything level spaced_value
 unfolding spaced_value

@@ -9,13 +9,13 @@ use Rattle.dp_markup.specs.Input.{head, next, Outcome, Reader, and_then, made, r
 use Rattle.dp_markup.specs.Rules.{Rule, Joined, ◌or◌, Gives, Made, One, passing, Mark, Word, Tested, When, Chain, Closed}
 use Rattle.dp_markup.specs.Classes.{is_white, is_name, is_name_start, is_name_byte}
 use Rattle.dp_markup.specs.Grammar.{Text, Attributes, White, Spaced, Name, Value, is_new, Attribute, TagPiece, TagEnd, Start, UpTo, white_in_tag, attribute_in_tag, start_tag, no_attribute}
-use Rattle.dp_markup.specs.Reading.{same, name, equals, close_step, close, spaced_value, attribute, tag_piece, tag_end, tag_step, start, up_to, cdata, comment, declaration}
+use Rattle.dp_markup.specs.Reading.{same, name, spaced_mark, spaced_value, attribute, tag_piece, tag_end, tag_step, start, up_to, cdata, comment, declaration}
 use Rattle.dp_markup.proofs.Answers.{Rules, Stop, Anything, JoinedAt, EitherAt, ClosedAt, StepAt, Answers, StartsIn, Follows, GoesOn, one_answers, joined_answers, when_answers, joined_starts, either_starts, wider_starts}
 use Rattle.dp_markup.proofs.Loops.{give, given, step_stop, closed_answers}
 use Rattle.dp_markup.proofs.Basics.{IsReader, Can, apart_mark, mark_apart, apart_or, apart_white, flip, or_left, or_right, passing_starts, one_byte, mark_of, word_of, before, word_starts, made_starts, joined_reads, made_reads, choose_reads, mark_then, word_then, word_reads, step_reads, takes_byte, white_piece, spaced_reads, spaced}
 use Rattle.dp_markup.proofs.Names.{name_stop, name_starts, follows_name, new_name_reads, name_reads, some_new_name}
 use Rattle.dp_markup.proofs.Marks.{up_to_reads, some_up_to}
-use Rattle.dp_markup.proofs.Parts.{or_starts, equals_reads, spaced_value_reads, some_value, spaced_starts}
+use Rattle.dp_markup.proofs.Parts.{or_starts, spaced_mark_reads, spaced_value_reads, some_value, spaced_starts}
 
 -- ---- attributes
 
@@ -28,8 +28,8 @@ Valued found n = Joined (Spaced (Mark 61)) (λ _. Made (Spaced Value) (with_valu
 some_valued : (found : Attributes) (n : Text) → Valued found n (61 ∷ 34 ∷ 34 ∷ []) (with_value found n [])
 some_valued found n = record { front = 61 ∷ []; back = 34 ∷ 34 ∷ []; value = 61; split = refl; one = spaced (Mark 61) (61 ∷ []) 61 (mark_of 61); other = give (Spaced Value) (with_value found n) (34 ∷ 34 ∷ []) [] (spaced Value (34 ∷ 34 ∷ []) [] some_value) }
 
-valued_reads : (found : Attributes) (n : Text) (level : ℕ) → IsReader (λ _. Valued found n) Anything level (equals >> made spaced_value (with_value found n))
-valued_reads found n level = joined_reads (λ _. Spaced (Mark 61)) (λ _ _. Made (Spaced Value) (with_value found n)) Anything level equals (λ _. made spaced_value (with_value found n)) (equals_reads level)
+valued_reads : (found : Attributes) (n : Text) (level : ℕ) → IsReader (λ _. Valued found n) Anything level (spaced_mark 61 >> made spaced_value (with_value found n))
+valued_reads found n level = joined_reads (λ _. Spaced (Mark 61)) (λ _ _. Made (Spaced Value) (with_value found n)) Anything level (spaced_mark 61) (λ _. made spaced_value (with_value found n)) (spaced_mark_reads 61 (apart_white (same 61) refl refl refl refl) level)
     (λ m above _. (34 ∷ 34 ∷ [], with_value found n [], give (Spaced Value) (with_value found n) (34 ∷ 34 ∷ []) [] (spaced Value (34 ∷ 34 ∷ []) [] some_value)))
     (λ _. made_reads (λ _. Spaced Value) (with_value found n) Anything level spaced_value (spaced_value_reads level))
 
@@ -40,7 +40,7 @@ attribute_reads : (found : Attributes) (level : ℕ) → IsReader (λ _. Attribu
 unfolding attribute
 attribute_reads found level ts = joined_answers (λ _. Tested Name (is_new found)) (λ n _. Valued found n) name_stop Anything level ts
     (follows_name (λ n _. Valued found n) (λ b. is_white b || same 61 b) Anything (valued_starts found) (apart_or is_white (same 61) is_name_byte (apart_white is_name_byte refl refl refl refl) (apart_mark is_name_byte 61 refl)))
-    ((name >>= tested (is_new found)) ts) (λ n. equals >> made spaced_value (with_value found n))
+    ((name >>= tested (is_new found)) ts) (λ n. spaced_mark 61 >> made spaced_value (with_value found n))
     (λ m above n. (61 ∷ 34 ∷ 34 ∷ [], with_value found n [], some_valued found n)) (new_name_reads found level ts) (λ n r _. valued_reads found n level r)
 
 attribute_starts : (found : Attributes) → StartsIn (λ _. Attribute found) is_name_start
@@ -150,15 +150,6 @@ some_empty_start b is = record {
 
 -- ---- end tags, sections, comments, declarations
 
-close_reads : (level : ℕ) → IsReader (λ _. Spaced (Mark 62)) Anything level close
-unfolding close
-close_reads level = spaced_reads (λ _. Mark 62) (same 62) Anything level (mark 62) (passing_starts (same 62)) (apart_white (same 62) refl refl refl refl)
-    (λ m _. (62 ∷ [], 62, mark_of 62)) (one_answers (passing (same 62)) Anything level) close_step is_step
-  where
-    is_step : (u : Unit {0}) (ts : Text) → Answers (StepAt white_piece (λ _ _. Mark 62) u) (step_stop Anything) level ts (cond (next (same 62) (head ts)) (made (mark 62) Break ts) (made (made (one (passing is_white)) (λ _. tt)) Continue ts))
-        → Answers (StepAt white_piece (λ _ _. Mark 62) u) (step_stop Anything) level ts (close_step u ts)
-    is_step u ts h = unfold close_step in h
-
 -- an end tag behind its `</`
 abbrev pub NameAndClose : Text → Rule ℕ
 NameAndClose n = Joined (Word n) (λ _. Spaced (Mark 62))
@@ -166,8 +157,8 @@ NameAndClose n = Joined (Word n) (λ _. Spaced (Mark 62))
 pub some_name_and_close : (n : Text) → NameAndClose n (n ++ 62 ∷ []) 62
 some_name_and_close n = before n (Spaced (Mark 62)) (62 ∷ []) 62 (spaced (Mark 62) (62 ∷ []) 62 (mark_of 62))
 
-pub name_and_close_reads : (n : Text) (level : ℕ) → IsReader (λ _. NameAndClose n) Anything level (word n >> close)
-name_and_close_reads n level = word_then n (λ _. Spaced (Mark 62)) Anything level close (λ m _. (62 ∷ [], 62, spaced (Mark 62) (62 ∷ []) 62 (mark_of 62))) (close_reads level)
+pub name_and_close_reads : (n : Text) (level : ℕ) → IsReader (λ _. NameAndClose n) Anything level (word n >> spaced_mark 62)
+name_and_close_reads n level = word_then n (λ _. Spaced (Mark 62)) Anything level (spaced_mark 62) (λ m _. (62 ∷ [], 62, spaced (Mark 62) (62 ∷ []) 62 (mark_of 62))) (spaced_mark_reads 62 (apart_white (same 62) refl refl refl refl) level)
 
 abbrev pub SectionTail : Rule Text
 SectionTail = Joined (Word (codes "[CDATA[")) (λ _. UpTo (codes "]]>"))

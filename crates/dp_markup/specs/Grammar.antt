@@ -190,3 +190,24 @@ Document level = do
   Prolog
   root ← IsOpened level
   Closed (λ e. Made Misc (λ _. e)) (λ e. Gives e) root
+
+-- at most so many elements are open at a place
+unfoldable pub limit : ℕ
+limit = 64
+
+-- the bytes are a markup of the element
+abbrev pub IsMarkup : Text → Element → Type 0
+IsMarkup = Document limit
+
+-- the bytes are a text as far as the end of the root's start tag
+abbrev pub Head : Rule StartTag
+Head = do
+  Prolog
+  Start
+
+-- the bytes begin so, whatever is behind
+pub record BeginsWithHead (level : ℕ) (text : Text) (tag : StartTag) : Type 0 where
+  pub front : Text
+  pub back : Text
+  pub split : text ≡ front ++ back
+  pub spelled : Head front tag

@@ -3,5 +3,6 @@ pub mod Escaping
 pub mod Grammar
 pub mod Input
 pub mod Reading
+pub mod Refused
 pub mod Rules
 pub mod Writing

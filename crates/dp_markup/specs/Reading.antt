@@ -10,6 +10,8 @@ use Rattle.dp_markup.specs.declared.tree.Node.{Node}
 use Rattle.dp_markup.specs.declared.states.Tag.{Tag}
 use Rattle.dp_markup.specs.declared.states.StartTag.{StartTag}
 use Rattle.dp_markup.specs.declared.states.Content.{Content}
+use Rattle.dp_markup.specs.declared.states.Radix.{Radix}
+use Rattle.dp_markup.specs.declared.states.Radix.TheVariants.{Decimal, Hexadecimal}
 use Rattle.dp_markup.specs.Rules.{passing}
 use Rattle.dp_markup.specs.Input.{head, next, Outcome, Reader, and_then, ◌>>=◌, ◌>>◌, gives, made, refuse, one, mark, word, tested, until, closed}
 use Rattle.dp_markup.specs.Classes.{is_white, is_name_start, is_name_byte, is_plain_in_text, is_plain_in_value, is_quote, decimal_behind, hexadecimal_behind}
@@ -25,17 +27,11 @@ name ts =
 
 -- ---- white space, and then
 
-unfoldable pub equals_step : Unit {0} → Reader (ControlFlow ℕ (Unit {0}))
-equals_step u ts = if next (same 61) (head ts) then made (mark 61) Break ts else made (made (one (passing is_white)) (λ _. tt)) Continue ts
+unfoldable pub spaced_mark_step : ℕ → Unit {0} → Reader (ControlFlow ℕ (Unit {0}))
+spaced_mark_step c u ts = if next (same c) (head ts) then made (mark c) Break ts else made (made (one (passing is_white)) (λ _. tt)) Continue ts
 
-unfoldable pub equals : Reader ℕ
-equals = closed equals_step tt
-
-unfoldable pub close_step : Unit {0} → Reader (ControlFlow ℕ (Unit {0}))
-close_step u ts = if next (same 62) (head ts) then made (mark 62) Break ts else made (made (one (passing is_white)) (λ _. tt)) Continue ts
-
-unfoldable pub close : Reader ℕ
-close = closed close_step tt
+unfoldable pub spaced_mark : ℕ → Reader ℕ
+spaced_mark c = closed (spaced_mark_step c) tt
 
 -- ---- references
 
@@ -47,6 +43,11 @@ number behind = one (behind 0) >>= closed (number_step behind)
 
 unfoldable pub named : Text → ℕ → Reader ℕ
 named text byte = made (word text) (λ _. byte)
+
+-- what a digit makes of the number before it
+abbrev pub behind_of : Radix → ℕ → ℕ → Option ℕ
+behind_of Decimal = decimal_behind
+behind_of Hexadecimal = hexadecimal_behind
 
 unfoldable pub by_number : Reader ℕ
 by_number ts = if next (same 120) (head ts) then (mark 120 >> number hexadecimal_behind) ts else number decimal_behind ts
@@ -89,7 +90,7 @@ spaced_value = closed spaced_value_step tt
 
 unfoldable pub attribute : Attributes → Reader Attributes
 attribute found =
-    name >>= tested (is_new found) >>= (λ n. equals >> made spaced_value (λ v. found ++ (n, v) ∷ []))
+    name >>= tested (is_new found) >>= (λ n. spaced_mark 61 >> made spaced_value (λ v. found ++ (n, v) ∷ []))
 
 unfoldable pub tag_piece : Tag → Reader Tag
 tag_piece t ts =
@@ -134,7 +135,7 @@ declaration = word (codes "xml") >> (one (passing is_white) >> up_to (codes "?>"
 
 -- behind `</`
 unfoldable pub end_tag : Text → Reader ℕ
-end_tag n = word n >> close
+end_tag n = word n >> spaced_mark 62
 
 -- behind `<`
 unfoldable pub bracket : Reader Element → Text → Content → Reader (ControlFlow (List Node) Content)
@@ -196,4 +197,8 @@ unfoldable pub trail : Element → Reader Element
 trail e = closed trail_step e
 
 unfoldable pub document : ℕ → Reader Element
-document level = prolog >> opened level >>= trail
+document level = prolog >> (opened level >>= trail)
+
+-- what stands before the root, and the root's start tag
+unfoldable pub head_of : Reader StartTag
+head_of = prolog >> start

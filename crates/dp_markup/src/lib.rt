@@ -1,8 +1,10 @@
 //! The markup of DBGp packets: trees of elements, read from their bytes and written as bytes.
 #![tactic(auto)]
 
+mod classes;
 mod error;
 mod growing;
+mod input;
 mod refusal;
 mod states;
 mod tree;

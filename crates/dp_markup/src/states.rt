@@ -23,3 +23,10 @@ pub struct Content {
     pub nodes: Growing<Node>,
     pub run: Growing<u8>,
 }
+
+/// How the number of a reference is written.
+#[derive(Debug, Clone, Copy)]
+pub enum Radix {
+    Decimal,
+    Hexadecimal,
+}
