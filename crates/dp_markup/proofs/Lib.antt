@@ -9,3 +9,4 @@ pub mod Elements
 pub mod Documents
 pub mod Whole
 pub mod Trees
+pub mod Turns

@@ -1,7 +1,10 @@
 -- Bytes up to the first place where a mark stands.
-use Rattle.std.proofs.Common.{◌≡◌, ◌⊎◌, inl, inr, ℕ, zero, suc, ◌+◌, ◌<◌, ◌≤◌, Bool, true, false, ◌&&◌, List, [], ◌∷◌, ◌++◌, length, take, drop, Option, Some, None, Ok, Err, sym, refl, ap, ◌∙◌, subst, append_assoc, append-nil, length-append, cond, arith, nat_eq}
+use Rattle.std.proofs.Common.{◌≡◌, ◌⊎◌, inl, inr, ℕ, zero, suc, ◌+◌, ◌-◌, ◌<◌, ◌≤◌, length-drop, Bool, true, false, ◌&&◌, List, [], ◌∷◌, ◌++◌, length, take, drop, Option, Some, None, Ok, Err, sym, refl, ap, ◌∙◌, subst, append_assoc, append-nil, length-append, cond, arith, nat_eq}
 use Rattle.std.proofs.lemmas.Bool.{eqb-true, eq-eqb}
-use Rattle.std.specs.Option.{option_map}
+use Rattle.std.specs.Option.{option_map, IfSome}
+use Rattle.std.proofs.lemmas.List.{drop-append-le, take-append-drop}
+use Rattle.memchr.specs.Find.{OccursAt, FindsNeedle}
+use Rattle.memchr.proofs.lemmas.MatchLemmas.{OccursAt-from_part, OccursAt-split}
 use Rattle.dp_markup.specs.declared.refusal.Refusal.TheVariants.{Unexpected}
 use Rattle.dp_markup.specs.Input.{head, next, Outcome, Reader}
 use Rattle.dp_markup.specs.Grammar.{Text, stands, IsFree, UpTo}
@@ -196,3 +199,49 @@ up_to_reads m level ts = go (mark_place m ts) (searched m ts)
 
 pub some_up_to : (m : Text) → UpTo m m []
 some_up_to m = record { split = refl; first = tt }
+
+-- ---- the first place, as a search of the needle tells it
+
+free_behind : (m xs : Text) (b : ℕ) (ys : Text) → IsFree m (xs ++ (b ∷ ys)) → stands m ((b ∷ ys) ++ m) ≡ false
+free_behind m [] b ys f = f.0
+free_behind m (x ∷ xs) b ys f = free_behind m xs b ys f.1
+
+found_occurs : (m ts : Text) (at : ℕ) → IsFound m ts at → OccursAt ts m at
+found_occurs m ts at f = OccursAt-from_part ts m at (omega (arith, f.is_at, ap length f.split, length-append f.bytes (m ++ f.rest), length-append m f.rest))
+    (ap (take (length m)) ((λ i. drop (f.is_at i) (f.split i)) ∙ drop_front f.bytes (m ++ f.rest)) ∙ take_front m f.rest)
+
+-- an earlier place than the first
+not_earlier : (m ts : Text) (at k : ℕ) → IsFound m ts at → OccursAt ts m k → k < at → ⊥
+not_earlier m ts at k f o less = go (drop k f.bytes) refl
+  where
+    there : drop k ts ≡ drop k f.bytes ++ (m ++ f.rest)
+    there = ap (drop k) f.split ∙ drop-append-le k f.bytes (m ++ f.rest) (omega (arith, f.is_at))
+
+    go : (tail : Text) → drop k f.bytes ≡ tail → ⊥
+    go [] is = omega (arith, ap length is, length-drop k f.bytes, f.is_at)
+    go (b ∷ ys) is =
+        let whole : f.bytes ≡ take k f.bytes ++ (b ∷ ys) = sym (take-append-drop k f.bytes) ∙ ap (λ l. take k f.bytes ++ l) is in
+        let none : stands m ((b ∷ ys) ++ m) ≡ false = free_behind m (take k f.bytes) b ys (subst (IsFree m) whole f.free) in
+        let here : stands m (drop k ts) ≡ true = ap (stands m) (OccursAt-split ts m k o) ∙ stands_here m (drop (k + length m) ts) in
+        let same : drop k ts ≡ ((b ∷ ys) ++ m) ++ f.rest = there ∙ ap (λ l. l ++ (m ++ f.rest)) is ∙ sym (append_assoc (b ∷ ys) m f.rest) in
+        let more : stands m ((b ∷ ys) ++ m) ≡ true = sym (stands_more m ((b ∷ ys) ++ m) f.rest (cons_long m b ys)) ∙ ap (stands m) (sym same) ∙ here in
+        cc
+
+pub place_is : (m ts : Text) (o : Option ℕ) → FindsNeedle ts m 0 o → o ≡ mark_place m ts
+unfolding Searched
+place_is m ts o finds = go o (mark_place m ts) (searched m ts) finds
+  where
+    go : (o p : Option ℕ) → Searched m ts p → FindsNeedle ts m 0 o → o ≡ p
+    go None None s h = refl
+    go None (Some at) f h = let o = found_occurs m ts at f in absurd (h at (omega arith) (let fits = o.fits in omega arith) o)
+    go (Some k) None s h = absurd (s.none (take k ts) (drop (k + length m) ts) (sym (take-append-drop k ts) ∙ ap (λ l. take k ts ++ l) (OccursAt-split ts m k h.1)))
+    go (Some k) (Some at) f h = same (k - at) (at - k) refl refl
+      where
+        same : (x y : ℕ) → k - at ≡ x → at - k ≡ y → Some k ≡ Some at
+        same zero zero d e = let equal : k ≡ at = omega arith in ap Some equal
+        same zero (suc y) d e = absurd (not_earlier m ts at k f h.1 (omega arith))
+        same (suc x) y d e = absurd (h.0.before at (omega arith) (omega arith) (found_occurs m ts at f))
+
+pub place_within : (m ts : Text) (o : Option ℕ) → FindsNeedle ts m 0 o → IfSome o (λ at. at + length m ≤ length ts)
+place_within m ts None finds = tt
+place_within m ts (Some at) finds = finds.1.fits

@@ -1,5 +1,6 @@
 -- What the functions that read answer, and the steps that they are made of.
 use Rattle.std.specs.Prelude.{◌≡◌, ◌≢◌, ◌==◌, ℕ, zero, suc, Bool, true, false, not, if◌then◌else◌, List, [], ◌∷◌, length, Option, Some, None, Result, Ok, Err}
+use Rattle.std.specs.Borrow.{Bor}
 use Rattle.std.specs.declared.ops.ControlFlow.{ControlFlow}
 use Rattle.std.specs.declared.ops.ControlFlow.TheVariants.{Continue, Break}
 use Rattle.dp_markup.specs.declared.refusal.Refusal.{Refusal}
@@ -82,3 +83,8 @@ closed step a = λ ts. until step (suc (length ts)) a ts
 abbrev pub Reads : {A : Type 0} → Outcome A → Result A Refusal → List ℕ → Type 0
 Reads outcome (Ok a) new = outcome ≡ Ok (a, new)
 Reads outcome (Err e) new = e ≢ Memory → outcome ≡ Err e
+
+-- the same, where the value is a slice of the bytes
+abbrev pub ReadsSlice : Outcome (List ℕ) → Result (Bor (List ℕ)) Refusal → List ℕ → Type 0
+ReadsSlice outcome (Ok a) new = outcome ≡ Ok (a.now, new)
+ReadsSlice outcome (Err e) new = e ≢ Memory → outcome ≡ Err e

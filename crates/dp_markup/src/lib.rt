@@ -1,10 +1,12 @@
 //! The markup of DBGp packets: trees of elements, read from their bytes and written as bytes.
 #![tactic(auto)]
 
+mod attributes;
 mod classes;
 mod error;
 mod growing;
 mod input;
+mod references;
 mod refusal;
 mod states;
 mod tree;
