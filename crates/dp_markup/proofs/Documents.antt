@@ -15,7 +15,7 @@ use Rattle.dp_markup.proofs.Loops.{give, given, step_stop, closed_answers}
 use Rattle.dp_markup.proofs.Basics.{IsReader, Can, apart_mark, mark_apart, apart_or, apart_white, flip, or_left, or_right, passing_starts, mark_of, mark_is, before, behind_word, marked, behind_mark, word_starts, made_starts, joined_reads, made_reads, choose_reads, mark_then, word_then, takes_byte}
 use Rattle.dp_markup.proofs.Parts.{or_starts}
 use Rattle.dp_markup.proofs.Tags.{start_reads, start_starts, some_empty_start, CommentTail, comment_reads, some_comment, DeclarationTail, declaration_reads, some_declaration}
-use Rattle.dp_markup.proofs.Elements.{opened_reads, opened_starts, can_open}
+use Rattle.dp_markup.proofs.Nested.{opened_reads, opened_starts, can_open}
 
 -- ---- white space and comments
 

@@ -1,11 +1,12 @@
 pub mod Answers
 pub mod Basics
+pub mod Levels
 pub mod Loops
 pub mod Marks
 pub mod Names
 pub mod Parts
 pub mod Tags
-pub mod Elements
+pub mod Nested
 pub mod Documents
 pub mod Whole
 pub mod Trees

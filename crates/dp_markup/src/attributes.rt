@@ -187,3 +187,43 @@ fn tag_end(input: &mut Input<'_>, name: Bytes, tag: Tag) -> Result<StartTag, Ref
         is_empty,
     })
 }
+
+#[tactic(auto, unfolding(crate::specs::Reading::tag_step))]
+fn tag_step(
+    alloc: Global,
+    input: &mut Input<'_>,
+    name: &Bytes,
+    tag: Tag,
+) -> Result<ControlFlow<StartTag, Tag>, Refusal>
+    ensures { Reads (spec.tag_step name.now tag input.old) result input.new }
+{
+    if input.sees(b'>') || input.sees(b'/') {
+        let name = name.try_clone()?;
+        Ok(ControlFlow::Break(tag_end(input, name, tag)?))
+    } else {
+        Ok(ControlFlow::Continue(tag_piece(alloc, input, tag)?))
+    }
+}
+
+fn tag_from(alloc: Global, input: &mut Input<'_>, name: &Bytes, first: Tag) -> Result<StartTag, Refusal>
+    ensures { Reads (closed (spec.tag_step name.now) first input.old) result input.new }
+{
+    let mut state = first;
+    for _turn in 0..input.left() + 1 {
+        match tag_step(alloc, input, name, state)? {
+            ControlFlow::Continue(more) => state = more,
+            ControlFlow::Break(all) => return Ok(all),
+        }
+    }
+    Err(input.refuse())
+}
+
+/// A start tag behind its `<`.
+#[tactic(auto, unfolding(crate::specs::Reading::start))]
+pub fn start(alloc: Global, input: &mut Input<'_>) -> Result<StartTag, Refusal>
+    ensures { Reads (spec.start input.old) result input.new }
+{
+    let name = Bytes::from_slice(alloc, input.name()?)?;
+    let found = Growing::new(alloc);
+    tag_from(alloc, input, &name, Tag { found, apart: false })
+}

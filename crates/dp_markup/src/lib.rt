@@ -3,6 +3,7 @@
 
 mod attributes;
 mod classes;
+mod elements;
 mod error;
 mod growing;
 mod input;
