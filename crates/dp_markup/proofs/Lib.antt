@@ -7,7 +7,8 @@ pub mod Names
 pub mod Parts
 pub mod Tags
 pub mod Nested
-pub mod Documents
+pub mod WholeTexts
 pub mod Whole
+pub mod Verdicts
 pub mod Trees
 pub mod Turns

@@ -1,5 +1,5 @@
 -- The markup that is read: XML 1.0 without document types, names beyond ASCII and further entities.
-use Rattle.std.specs.Prelude.{◌≡◌, ℕ, zero, suc, Bool, true, false, not, ◌&&◌, ◌==◌, List, [], ◌∷◌, ◌++◌, Option, Some, None, codes}
+use Rattle.std.specs.Prelude.{◌≡◌, ℕ, zero, suc, Bool, true, false, not, ◌&&◌, ◌==◌, if◌then◌else◌, List, [], ◌∷◌, ◌++◌, Option, Some, None, codes}
 use Rattle.std.specs.List.{list_any}
 use Rattle.std.specs.declared.ops.ControlFlow.{ControlFlow}
 use Rattle.dp_markup.specs.declared.tree.Element.{Element}
@@ -206,8 +206,17 @@ Head = do
   Start
 
 -- the bytes begin so, whatever is behind
-pub record BeginsWithHead (level : ℕ) (text : Text) (tag : StartTag) : Type 0 where
+pub record BeginsWithHead (text : Text) (tag : StartTag) : Type 0 where
   pub front : Text
   pub back : Text
   pub split : text ≡ front ++ back
   pub spelled : Head front tag
+
+-- the value of the attribute with this name
+abbrev pub value_of : Attributes → Text → Option Text
+value_of [] name = None
+value_of (a ∷ found) name = if same_text a.0 name then Some a.1 else value_of found name
+
+-- the same, where the root has the name that is asked for
+abbrev pub root_value : StartTag → Text → Text → Option Text
+root_value tag root name = if same_text tag.name root then value_of tag.attributes name else None

@@ -24,7 +24,7 @@ fn is_new(found: &[(Bytes, Bytes)], name: &[u8]) -> bool
     true
 }
 
-fn same_text(a: &[u8], b: &[u8]) -> bool
+pub fn same_text(a: &[u8], b: &[u8]) -> bool
     ensures { result ≡ grammar.same_text a.now b.now }
 {
     a == b

@@ -3,10 +3,12 @@
 
 mod attributes;
 mod classes;
+mod documents;
 mod elements;
 mod error;
 mod growing;
 mod input;
+mod reading;
 mod references;
 mod refusal;
 mod states;
@@ -15,6 +17,7 @@ mod writing;
 
 pub use dp_value::Memory;
 pub use error::MarkupError;
+pub use reading::read;
 pub use tree::{Element, Node};
 pub use writing::write;
 
