@@ -162,9 +162,12 @@ new_by_length (a ∷ found) n less = go (new_by_length found n (omega arith)) (s
 
 longer : (found : Attributes) (m : ℕ) (text n : Text) → Name text n → (more : List ℕ) × (b : Text) × Name (text ++ more) b × (is_new found b ≡ true)
 longer found m text n h =
-    let more = letters (suc (total found)) in
-    (more, n ++ more, record { same = ap (λ l. l ++ more) h.same; is_name = longer_name n (suc (total found)) h.is_name },
-      ap not (new_by_length found (n ++ more) (omega (arith, length-append n more, length_letters (suc (total found))))))
+    let more = letters (suc (total found)) in (
+      more,
+      n ++ more,
+      record { same = ap (λ l. l ++ more) h.same; is_name = longer_name n (suc (total found)) h.is_name },
+      ap not (new_by_length found (n ++ more) (omega (arith, length-append n more, length_letters (suc (total found))))),
+    )
 
 pub new_name_reads : (found : Attributes) (level : ℕ) → IsReader (λ _. Tested Name (is_new found)) name_stop level (name >>= tested (is_new found))
 new_name_reads found level ts = tested_answers (λ _. Name) (is_new found) name_stop level ts (longer found) (name ts) (name_reads level ts)

@@ -106,7 +106,7 @@ module _ (inner : Rules Element) (name : Text) where
       let w = behind_word (codes "</") (NameAndClose name) text n.0 n.1 in
       let slash = marked 47 (NameAndClose name) w.0 n.0 w.2 in
       let ended : Ended c m (47 ∷ w.0) (Break g.0) = give (Made (Joined (Mark 47) (λ _. NameAndClose name)) (λ _. nodes_of c)) Break (47 ∷ w.0) g.0
-          (subst (λ y. Made (Joined (Mark 47) (λ _. NameAndClose name)) (λ _. nodes_of c) (47 ∷ w.0) y) (sym n.2) (give (Joined (Mark 47) (λ _. NameAndClose name)) (λ _. nodes_of c) (47 ∷ w.0) n.0 slash)) in
+      (subst (λ y. Made (Joined (Mark 47) (λ _. NameAndClose name)) (λ _. nodes_of c) (47 ∷ w.0) y) (sym n.2) (give (Joined (Mark 47) (λ _. NameAndClose name)) (λ _. nodes_of c) (47 ∷ w.0) n.0 slash)) in
       bracket_of c m text (47 ∷ w.0) v w.1 (inl (subst (λ y. Ended c m (47 ∷ w.0) y) (sym g.2) ended))
   from_step c m text v (inr h) = let g = given (ContentPiece (inner m) c) Continue text v h in subst (λ y. Factored c m text y) (sym g.2) (go g.0 g.1)
     where
@@ -185,8 +185,11 @@ module _ (inner : Rules Element) (starts : StartsIn inner is_name_start) (level 
     where
       go : (b : Bool) → (ts : Text) × (e : Element) × BehindStart (inner m) b tag ts e
       go true = ([], element tag [], record { empty = refl; same = refl })
-      go false = (codes "</" ++ (tag.name ++ 62 ∷ []), element tag (nodes_of no_content),
-        give (Closed (ContentPiece (inner m)) (EndTag tag.name) no_content) (element tag) (codes "</" ++ (tag.name ++ 62 ∷ [])) (nodes_of no_content) (record { count = 0; chain = some_end inner tag.name no_content }))
+      go false = (
+        codes "</" ++ (tag.name ++ 62 ∷ []),
+        element tag (nodes_of no_content),
+        give (Closed (ContentPiece (inner m)) (EndTag tag.name) no_content) (element tag) (codes "</" ++ (tag.name ++ 62 ∷ [])) (nodes_of no_content) (record { count = 0; chain = some_end inner tag.name no_content }),
+      )
 
   behind_reads : (tag : StartTag) → IsReader (behind_rule tag) Anything level (behind_start p tag.is_empty tag)
   unfolding behind_start
@@ -276,5 +279,8 @@ opened_reads (suc level) ts = raised level ts (element_in (opened level) ts) (el
 -- an element with no content, at each level but the last
 pub can_open : (level : ℕ) → 0 < level → Can IsOpened level
 can_open level some zero above = absurd (omega arith)
-can_open level some (suc m) above = (97 ∷ 47 ∷ 62 ∷ [], element (start_tag (97 ∷ []) true no_attribute) [],
-    record { front = 97 ∷ 47 ∷ 62 ∷ []; back = []; value = start_tag (97 ∷ []) true no_attribute; split = refl; one = some_empty_start 97 refl; other = record { empty = refl; same = refl } })
+can_open level some (suc m) above = (
+  97 ∷ 47 ∷ 62 ∷ [],
+  element (start_tag (97 ∷ []) true no_attribute) [],
+  record { front = 97 ∷ 47 ∷ 62 ∷ []; back = []; value = start_tag (97 ∷ []) true no_attribute; split = refl; one = some_empty_start 97 refl; other = record { empty = refl; same = refl } },
+)

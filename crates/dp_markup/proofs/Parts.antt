@@ -164,11 +164,11 @@ entity_reads : (level : ℕ) → IsReader (λ _. Entity) Anything level entity
 unfolding entity named
 entity_reads level =
     let g : IsReader (λ _. Tail_g) Anything level reader_g = choose_reads (λ _. Named (codes "gt;") 62) (λ _. Named (codes "quot;") 34) (same 103) (same 113) Anything level (made (word (codes "gt;")) (λ _. 62)) (made (word (codes "quot;")) (λ _. 34))
-        (named_starts 103 (codes "t;") 62) (named_starts 113 (codes "uot;") 34) (mark_apart (same 113) 103 refl) (named_reads (codes "gt;") 62 level) (named_reads (codes "quot;") 34 level) in
+    (named_starts 103 (codes "t;") 62) (named_starts 113 (codes "uot;") 34) (mark_apart (same 113) 103 refl) (named_reads (codes "gt;") 62 level) (named_reads (codes "quot;") 34 level) in
     let l : IsReader (λ _. Tail_l) Anything level reader_l = choose_reads (λ _. Named (codes "lt;") 60) (λ _. Tail_g) (same 108) in_g Anything level (made (word (codes "lt;")) (λ _. 60)) reader_g
-        (named_starts 108 (codes "t;") 60) g_starts (mark_apart in_g 108 refl) (named_reads (codes "lt;") 60 level) g in
+    (named_starts 108 (codes "t;") 60) g_starts (mark_apart in_g 108 refl) (named_reads (codes "lt;") 60 level) g in
     let a : IsReader (λ _. Tail_a) Anything level reader_a = choose_reads (λ _. Joined (Mark 97) (λ _. ByA)) (λ _. Tail_l) (same 97) in_l Anything level (mark 97 >> by_a) reader_l
-        (mark_joined_starts 97 (λ _. ByA)) l_starts (mark_apart in_l 97 refl) (mark_then 97 (λ _. ByA) Anything level by_a (λ m _. (codes "mp;", 38, inl (named_of (codes "mp;") 38))) (by_a_reads level)) l in
+    (mark_joined_starts 97 (λ _. ByA)) l_starts (mark_apart in_l 97 refl) (mark_then 97 (λ _. ByA) Anything level by_a (λ m _. (codes "mp;", 38, inl (named_of (codes "mp;") 38))) (by_a_reads level)) l in
     choose_reads (λ _. Joined (Mark 35) (λ _. ByNumber)) (λ _. Tail_a) (same 35) in_a Anything level (mark 35 >> by_number) reader_a
     (mark_joined_starts 35 (λ _. ByNumber)) a_starts (mark_apart in_a 35 refl)
     (mark_then 35 (λ _. ByNumber) Anything level by_number (λ m _. (48 ∷ 59 ∷ [], 0, inr (some_number decimal_behind is_digit decimal_digits refl decimal_zero))) (by_number_reads level)) a
@@ -190,16 +190,16 @@ to_reference text a j = let m = behind_mark 38 Entity text a j in go m.0 m.1 m.2
         let n = behind_mark 35 ByNumber back a h in
         let there : text ≡ 38 ∷ 35 ∷ n.0 = e ∙ ap (λ l. 38 ∷ l) n.1 in
         elim n.2 [
-        | inl x ↦ (let y = behind_mark 120 (Number hexadecimal_behind) n.0 a x in
-            inr (inr (inr (inr (inr (inl (subst (λ l. Joined (Word (codes "&#x")) (λ _. Number hexadecimal_behind) l a) (sym (there ∙ ap (λ l. 38 ∷ 35 ∷ l) y.1)) (before (codes "&#x") (Number hexadecimal_behind) y.0 a y.2))))))))
-        | inr d ↦ inr (inr (inr (inr (inr (inr (subst (λ l. Joined (Word (codes "&#")) (λ _. Number decimal_behind) l a) (sym there) (before (codes "&#") (Number decimal_behind) n.0 a d)))))))
+          | inl x ↦ (let y = behind_mark 120 (Number hexadecimal_behind) n.0 a x in
+              inr (inr (inr (inr (inr (inl (subst (λ l. Joined (Word (codes "&#x")) (λ _. Number hexadecimal_behind) l a) (sym (there ∙ ap (λ l. 38 ∷ 35 ∷ l) y.1)) (before (codes "&#x") (Number hexadecimal_behind) y.0 a y.2))))))))
+          | inr d ↦ inr (inr (inr (inr (inr (inr (subst (λ l. Joined (Word (codes "&#")) (λ _. Number decimal_behind) l a) (sym there) (before (codes "&#") (Number decimal_behind) n.0 a d)))))))
         ]
     go back e (inr (inl h)) =
         let n = behind_mark 97 ByA back a h in
         let there : text ≡ 38 ∷ 97 ∷ n.0 = e ∙ ap (λ l. 38 ∷ l) n.1 in
         elim n.2 [
-        | inl x ↦ inl (whole_name (codes "&a") (codes "mp;") 38 text n.0 a there x)
-        | inr x ↦ inr (inr (inr (inr (inl (whole_name (codes "&a") (codes "pos;") 39 text n.0 a there x)))))
+          | inl x ↦ inl (whole_name (codes "&a") (codes "mp;") 38 text n.0 a there x)
+          | inr x ↦ inr (inr (inr (inr (inl (whole_name (codes "&a") (codes "pos;") 39 text n.0 a there x)))))
         ]
     go back e (inr (inr (inl h))) = inr (inl (whole_name (codes "&") (codes "lt;") 60 text back a e h))
     go back e (inr (inr (inr (inl h)))) = inr (inr (inl (whole_name (codes "&") (codes "gt;") 62 text back a e h)))

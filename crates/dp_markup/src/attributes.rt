@@ -205,7 +205,12 @@ fn tag_step(
     }
 }
 
-fn tag_from(alloc: Global, input: &mut Input<'_>, name: &Bytes, first: Tag) -> Result<StartTag, Refusal>
+fn tag_from(
+    alloc: Global,
+    input: &mut Input<'_>,
+    name: &Bytes,
+    first: Tag,
+) -> Result<StartTag, Refusal>
     ensures { Reads (closed (spec.tag_step name.now) first input.old) result input.new }
 {
     let mut state = first;
@@ -225,5 +230,13 @@ pub fn start(alloc: Global, input: &mut Input<'_>) -> Result<StartTag, Refusal>
 {
     let name = Bytes::from_slice(alloc, input.name()?)?;
     let found = Growing::new(alloc);
-    tag_from(alloc, input, &name, Tag { found, apart: false })
+    tag_from(
+        alloc,
+        input,
+        &name,
+        Tag {
+            found,
+            apart: false,
+        },
+    )
 }

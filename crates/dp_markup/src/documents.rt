@@ -92,7 +92,10 @@ fn misc(input: &mut Input<'_>) -> Result<(), Refusal>
 }
 
 #[tactic(auto, unfolding(crate::specs::Reading::trail_step))]
-fn trail_step(input: &mut Input<'_>, root: Element) -> Result<ControlFlow<Element, Element>, Refusal>
+fn trail_step(
+    input: &mut Input<'_>,
+    root: Element,
+) -> Result<ControlFlow<Element, Element>, Refusal>
     ensures { Reads (spec.trail_step root input.old) result input.new }
 {
     if input.has_more() {

@@ -124,7 +124,12 @@ fn inside_from(
 /// What stands between the tags, and the end tag.
 #[cycle(elements)]
 #[tactic(auto, unfolding(crate::specs::Reading::inside))]
-fn inside(alloc: Global, input: &mut Input<'_>, level: usize, name: &[u8]) -> Result<Growing<Node>, Refusal>
+fn inside(
+    alloc: Global,
+    input: &mut Input<'_>,
+    level: usize,
+    name: &[u8],
+) -> Result<Growing<Node>, Refusal>
     ensures { Reads (spec.inside (spec.opened level) name.now input.old) result input.new }
 {
     let nodes = Growing::new(alloc);
@@ -134,7 +139,12 @@ fn inside(alloc: Global, input: &mut Input<'_>, level: usize, name: &[u8]) -> Re
 
 #[cycle(elements)]
 #[tactic(auto, unfolding(crate::specs::Reading::behind_start))]
-fn behind_start(alloc: Global, input: &mut Input<'_>, level: usize, tag: StartTag) -> Result<Element, Refusal>
+fn behind_start(
+    alloc: Global,
+    input: &mut Input<'_>,
+    level: usize,
+    tag: StartTag,
+) -> Result<Element, Refusal>
     ensures { Reads (spec.behind_start (spec.opened level) tag.is_empty tag input.old) result input.new }
 {
     let StartTag {

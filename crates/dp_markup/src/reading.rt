@@ -28,21 +28,13 @@ fn levels() -> usize
 /// The element whose markup the bytes are: a whole text, with or without a declaration.
 pub fn read(alloc: Global, bytes: &[u8]) -> Result<Element, MarkupError>
     ensures found { IfOk result (λ e. IsMarkup bytes.now e) }
-    ensures only {
-        (e : Tree) → IsMarkup bytes.now e → MatchResult result (λ found. found ≡ e) (λ x. x ≡ MarkupError.Memory)
-    }
+    ensures only { (e : Tree) → IsMarkup bytes.now e → MatchResult result (λ found. found ≡ e) (λ x. x ≡ MarkupError.Memory) }
 
     // The offset is that of the first byte with which no text begins, or the length where the end is wrong.
     ensures bad { (at : ℕ) → result ≡ Err (MarkupError.BadMarkup at) → IsFirstBad Document limit bytes.now at }
-    ensures bad_only {
-        (at : ℕ) → IsFirstBad Document limit bytes.now at → MatchResult result (λ _. ⊥) (λ x. (x ≡ MarkupError.BadMarkup at) ⊎ (x ≡ MarkupError.Memory))
-    }
-    ensures too_deep {
-        result ≡ Err MarkupError.TooDeep → (at : ℕ) × IsFirstTooDeep Document limit bytes.now at
-    }
-    ensures too_deep_only {
-        (at : ℕ) → IsFirstTooDeep Document limit bytes.now at → MatchResult result (λ _. ⊥) (λ x. (x ≡ MarkupError.TooDeep) ⊎ (x ≡ MarkupError.Memory))
-    }
+    ensures bad_only { (at : ℕ) → IsFirstBad Document limit bytes.now at → MatchResult result (λ _. ⊥) (λ x. (x ≡ MarkupError.BadMarkup at) ⊎ (x ≡ MarkupError.Memory)) }
+    ensures too_deep { result ≡ Err MarkupError.TooDeep → (at : ℕ) × IsFirstTooDeep Document limit bytes.now at }
+    ensures too_deep_only { (at : ℕ) → IsFirstTooDeep Document limit bytes.now at → MatchResult result (λ _. ⊥) (λ x. (x ≡ MarkupError.TooDeep) ⊎ (x ≡ MarkupError.Memory)) }
 {
     let mut input = Input::new(bytes);
     match document(alloc, &mut input, levels()) {
@@ -63,16 +55,10 @@ pub fn head_attribute(
     root: &[u8],
     name: &[u8],
 ) -> Result<Option<Bytes>, MarkupError>
-    ensures found {
-        IfOk result (λ value. (tag : Tag) × BeginsWithHead bytes.now tag × (value ≡ root_value tag root.now name.now))
-    }
-    ensures only {
-        (tag : Tag) → BeginsWithHead bytes.now tag → MatchResult result (λ value. value ≡ root_value tag root.now name.now) (λ x. x ≡ MarkupError.Memory)
-    }
+    ensures found { IfOk result (λ value. (tag : Tag) × BeginsWithHead bytes.now tag × (value ≡ root_value tag root.now name.now)) }
+    ensures only { (tag : Tag) → BeginsWithHead bytes.now tag → MatchResult result (λ value. value ≡ root_value tag root.now name.now) (λ x. x ≡ MarkupError.Memory) }
     ensures bad { (at : ℕ) → result ≡ Err (MarkupError.BadMarkup at) → IsFirstBad (λ _. BeginsWithHead) 0 bytes.now at }
-    ensures bad_only {
-        (at : ℕ) → IsFirstBad (λ _. BeginsWithHead) 0 bytes.now at → MatchResult result (λ _. ⊥) (λ x. (x ≡ MarkupError.BadMarkup at) ⊎ (x ≡ MarkupError.Memory))
-    }
+    ensures bad_only { (at : ℕ) → IsFirstBad (λ _. BeginsWithHead) 0 bytes.now at → MatchResult result (λ _. ⊥) (λ x. (x ≡ MarkupError.BadMarkup at) ⊎ (x ≡ MarkupError.Memory)) }
     ensures never_too_deep { result ≢ Err MarkupError.TooDeep }
 {
     let mut input = Input::new(bytes);

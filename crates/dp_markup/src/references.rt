@@ -26,7 +26,11 @@ fn decimal_behind(number: u8, digit: u8) -> Option<u8>
 fn within_byte(number: u16) -> Option<u8>
     ensures { result ≡ class.within_byte number }
 {
-    if number <= 255 { Some(number as u8) } else { None }
+    if number <= 255 {
+        Some(number as u8)
+    } else {
+        None
+    }
 }
 
 #[tactic(auto, unfolding(crate::specs::Classes::hexadecimal_behind))]
