@@ -10,5 +10,6 @@ pub mod Nested
 pub mod WholeTexts
 pub mod Whole
 pub mod Verdicts
+pub mod RoundTrip
 pub mod Trees
 pub mod Turns

@@ -2,6 +2,7 @@ pub mod Classes
 pub mod Escaping
 pub mod Grammar
 pub mod Input
+pub mod Readable
 pub mod Reading
 pub mod Refused
 pub mod Rules
