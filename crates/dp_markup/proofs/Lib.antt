@@ -11,5 +11,6 @@ pub mod WholeTexts
 pub mod Whole
 pub mod Verdicts
 pub mod RoundTrip
+pub mod Spelled
 pub mod Trees
 pub mod Turns

@@ -17,7 +17,7 @@ mod writing;
 
 pub use dp_value::Memory;
 pub use error::MarkupError;
-pub use reading::{head_attribute, read};
+pub use reading::{head_attribute, read, reread};
 pub use tree::{Element, Node};
 pub use writing::write;
 

@@ -2,6 +2,7 @@ ghost use Rattle.std.specs.Prelude.{◌≡◌, ◌≢◌, ◌⊎◌, ◌≤◌, 
 ghost use Rattle.dp_markup.specs.Input.{Reads};
 ghost use Rattle.dp_markup.specs.Reading as spec;
 ghost use Rattle.dp_markup.specs.Grammar.{IsMarkup, Document, limit, BeginsWithHead, root_value, value_of};
+ghost use Rattle.dp_markup.specs.Readable.{IsReadable};
 ghost use Rattle.dp_markup.specs.Refused.{IsFirstBad, IsFirstTooDeep};
 ghost use Rattle.dp_markup.specs.declared.tree.Element.{Element as Tree};
 ghost use Rattle.dp_markup.specs.declared.states.StartTag.{StartTag as Tag};
@@ -14,6 +15,7 @@ use crate::input::Input;
 use crate::refusal::Refusal;
 use crate::states::StartTag;
 use crate::tree::Element;
+use crate::writing::write;
 use dp_value::Bytes;
 use std::alloc::Global;
 
@@ -29,6 +31,7 @@ fn levels() -> usize
 pub fn read(alloc: Global, bytes: &[u8]) -> Result<Element, MarkupError>
     ensures found { IfOk result (λ e. IsMarkup bytes.now e) }
     ensures only { (e : Tree) → IsMarkup bytes.now e → MatchResult result (λ found. found ≡ e) (λ x. x ≡ MarkupError.Memory) }
+    ensures readable { IfOk result (λ e. IsReadable limit e) }
 
     // The offset is that of the first byte with which no text begins, or the length where the end is wrong.
     ensures bad { (at : ℕ) → result ≡ Err (MarkupError.BadMarkup at) → IsFirstBad Document limit bytes.now at }
@@ -45,6 +48,15 @@ pub fn read(alloc: Global, bytes: &[u8]) -> Result<Element, MarkupError>
         Err(Refusal::TooDeep(_left)) => Err(MarkupError::TooDeep),
         Err(Refusal::Memory) => Err(MarkupError::Memory),
     }
+}
+
+/// The element that is read of what is written of this one: the same.
+pub fn reread(alloc: Global, element: &Element) -> Result<Element, MarkupError>
+    requires { IsReadable limit element.now }
+    ensures { MatchResult result (λ e. e ≡ element.now) (λ x. x ≡ MarkupError.Memory) }
+{
+    let text = write(alloc, element)?;
+    read(alloc, text.as_slice())
 }
 
 /// The value of the attribute `name` of the root, without reading further than the end of the root's start tag: `None`

@@ -1,9 +1,10 @@
-use Rattle.std.proofs.Common.{◌≡◌, ◌-◌, ℕ, length, inl, inr, ap, subst, sym}
+use Rattle.std.proofs.Common.{◌≡◌, ◌-◌, ℕ, length, inl, inr, ap, subst, sym, arith}
 use Rattle.dp_markup.specs.declared.error.MarkupError.TheVariants.{BadMarkup}
 use Rattle.dp_markup.specs.declared.refusal.Refusal.TheVariants.{Unexpected, TooDeep}
 use Rattle.dp_markup.specs.Grammar.{Document, limit}
 use Rattle.dp_markup.specs.Refused.{IsFirstBad}
 use Rattle.dp_markup.proofs.Verdicts.{left_in, is_bad, is_too_deep, is_markup, one_markup, not_markup, not_deep, same_offset, one_kind, found_at, refused_at}
+use Rattle.dp_markup.proofs.Spelled.{markup_readable, bytes_are}
 use Rattle.dp_markup.proofs.reading.read.Goals as goal
 
 pub overflow_sub-result : goal.overflow_sub-result
@@ -21,6 +22,11 @@ pub returns-in-Ok-clause-only : goal.returns-in-Ok-clause-only
 returns-in-Ok-clause-only c =
     let bytes = c.args.bytes.now in
     one_markup bytes c.in-Ok.e c.document.new.input (found_at c.levels.result bytes c.new-input.result c.in-Ok.e c.document.new.input c.levels.ensures c.new-input.ensures c.in-Ok.ensures)
+
+pub returns-in-Ok-clause-readable : goal.returns-in-Ok-clause-readable
+returns-in-Ok-clause-readable c =
+    let bytes = c.args.bytes.now in
+    markup_readable bytes c.in-Ok.e (is_markup bytes c.in-Ok.e c.document.new.input (found_at c.levels.result bytes c.new-input.result c.in-Ok.e c.document.new.input c.levels.ensures c.new-input.ensures c.in-Ok.ensures)) (bytes_are bytes (λ i. omega (arith, c.type_inv.bytes i)))
 
 pub returns-in-Ok-clause-bad_only : goal.returns-in-Ok-clause-bad_only
 returns-in-Ok-clause-bad_only c = λ at bad.
