@@ -3,11 +3,10 @@
 -- `Answers` says all at once: what is found is spelled; nothing else is, at any level of nesting; at a refusal the bytes
 -- before the bad one begin a spelling, and with it they begin none.
 use Rattle.std.specs.declared.ops.ControlFlow.{ControlFlow}
-use Rattle.std.specs.declared.ops.ControlFlow.TheVariants.{Continue, Break}
-use Rattle.std.proofs.Common.{◌≡◌, ◌⊎◌, inl, inr, ℕ, zero, suc, ◌+◌, ◌<◌, ◌≤◌, Bool, true, false, not, List, [], ◌∷◌, ◌++◌, length, Option, Some, None, Ok, Err, sym, refl, ap, ◌∙◌, subst, append_assoc, append-nil, length-append, cond, arith}
+use Rattle.std.proofs.Common.{◌≡◌, ◌⊎◌, inl, inr, ℕ, ◌≤◌, Bool, true, false, List, [], ◌∷◌, ◌++◌, length, Option, Some, None, Ok, Err, sym, refl, ap, ◌∙◌, subst, append_assoc, append-nil, cond, arith}
 use Rattle.dp_markup.specs.declared.refusal.Refusal.TheVariants.{Unexpected, TooDeep, Memory}
-use Rattle.dp_markup.specs.Input.{head, next, Outcome, Reader, and_then, met, one, tested, until, next_of}
-use Rattle.dp_markup.specs.Rules.{Rule, Joined, ◌or◌, Gives, Made, One, Tested, When, Chain, Closed, Step}
+use Rattle.dp_markup.specs.Input.{head, next, Outcome, Reader, and_then, met, one, tested}
+use Rattle.dp_markup.specs.Rules.{Rule, Joined, ◌or◌, Gives, One, Tested, When, Closed, Step}
 
 -- a rule at each level of nesting
 abbrev pub Rules : Type 0 → Type 1

@@ -1,15 +1,14 @@
 -- How readers of bytes compose, where almost every rule ends by itself.
 use Rattle.std.specs.declared.ops.ControlFlow.{ControlFlow}
 use Rattle.std.specs.declared.ops.ControlFlow.TheVariants.{Continue, Break}
-use Rattle.std.proofs.Common.{◌≡◌, ◌⊎◌, inl, inr, ℕ, zero, suc, ◌≤◌, Bool, true, false, not, ◌||◌, List, [], ◌∷◌, ◌++◌, length, Option, Some, None, Ok, Err, sym, refl, ap, ◌∙◌, subst, append_assoc, append-nil, cond, nat_eq}
+use Rattle.std.proofs.Common.{◌≡◌, ◌⊎◌, inl, inr, ℕ, ◌≤◌, Bool, true, false, ◌||◌, List, [], ◌∷◌, ◌++◌, Option, Some, None, sym, refl, ap, ◌∙◌, cond}
 use Rattle.std.proofs.lemmas.Bool.{eqb-true, eq-eqb}
-use Rattle.dp_markup.specs.declared.refusal.Refusal.TheVariants.{Unexpected, TooDeep, Memory}
-use Rattle.dp_markup.specs.Input.{head, next, Outcome, Reader, and_then, gives, made, ◌>>=◌, ◌>>◌, one, mark, word, until, closed}
-use Rattle.dp_markup.specs.Rules.{Rule, Joined, ◌or◌, Gives, Made, One, passing, Mark, Word, Closed, Step}
+use Rattle.dp_markup.specs.Input.{head, next, Reader, gives, made, ◌>>=◌, ◌>>◌, one, mark, word, closed}
+use Rattle.dp_markup.specs.Rules.{Rule, Joined, Gives, Made, One, passing, Mark, Word, Closed}
 use Rattle.dp_markup.specs.Classes.{is_white}
 use Rattle.dp_markup.specs.Grammar.{Named, White}
 use Rattle.dp_markup.specs.Reading.{same}
-use Rattle.dp_markup.proofs.Answers.{Rules, Stop, Anything, JoinedAt, EitherAt, ClosedAt, StepAt, Answers, StartsIn, Follows, GoesOn, one_answers, gives_answers, joined_answers, either_answers, joined_starts, either_starts, wider_starts, equal_answers}
+use Rattle.dp_markup.proofs.Answers.{Rules, Stop, Anything, JoinedAt, EitherAt, StepAt, Answers, StartsIn, GoesOn, one_answers, gives_answers, joined_answers, either_answers, joined_starts, wider_starts}
 use Rattle.dp_markup.proofs.Loops.{give, given, step_stop, closed_answers}
 
 -- The reader reads the rule, at each list of bytes.

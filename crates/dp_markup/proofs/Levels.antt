@@ -1,5 +1,5 @@
 -- The reader of elements, by the number of levels.
-use Rattle.std.proofs.Common.{◌≡◌, ℕ, suc, ◌-◌, ◌<◌, List, ap, refl, arith}
+use Rattle.std.proofs.Common.{◌≡◌, ℕ, suc, ◌-◌, ◌<◌, List, ap, arith}
 use Rattle.dp_markup.specs.Reading.{opened, element_in, no_level}
 
 pub opened_none : (level : ℕ) (ts : List ℕ) → level ≡ 0 → opened level ts ≡ no_level ts

@@ -1,11 +1,10 @@
 -- Pieces, each from the value of the last, up to an end.
 use Rattle.std.specs.declared.ops.ControlFlow.{ControlFlow}
 use Rattle.std.specs.declared.ops.ControlFlow.TheVariants.{Continue, Break}
-use Rattle.std.proofs.Common.{◌≡◌, ◌⊎◌, inl, inr, ℕ, zero, suc, ◌+◌, ◌<◌, ◌≤◌, Bool, true, false, List, [], ◌∷◌, ◌++◌, length, Option, Some, None, Ok, Err, sym, refl, ap, ◌∙◌, subst, append_assoc, append-nil, length-append, arith}
-use Rattle.dp_markup.specs.declared.refusal.Refusal.TheVariants.{Unexpected, TooDeep, Memory}
-use Rattle.dp_markup.specs.Input.{head, next, Outcome, Reader, and_then, until, next_of}
-use Rattle.dp_markup.specs.Rules.{Rule, Joined, ◌or◌, Gives, Made, Chain, Closed, Step}
-use Rattle.dp_markup.proofs.Answers.{Rules, Stop, JoinedAt, ClosedAt, StepAt, Begins, IsRead, IsRefused, Answers, StartsIn, joined_answers, gives_answers, equal_answers}
+use Rattle.std.proofs.Common.{◌≡◌, inl, inr, ℕ, zero, suc, ◌<◌, ◌≤◌, Bool, true, List, [], ◌++◌, length, Option, sym, refl, ap, ◌∙◌, subst, append-nil, length-append, arith}
+use Rattle.dp_markup.specs.Input.{head, Reader, and_then, until, next_of}
+use Rattle.dp_markup.specs.Rules.{Rule, Gives, Made, Chain, Step}
+use Rattle.dp_markup.proofs.Answers.{Rules, Stop, JoinedAt, ClosedAt, StepAt, IsRead, Answers, StartsIn, joined_answers, gives_answers, equal_answers}
 
 -- a rule's spelling, for a value made of its value
 pub give : {A B : Type 0} (rule : Rule A) (f : A → B) (text : List ℕ) (a : A) → rule text a → Made rule f text (f a)

@@ -1,15 +1,13 @@
 -- Bytes up to the first place where a mark stands.
-use Rattle.std.proofs.Common.{◌≡◌, ◌⊎◌, inl, inr, ℕ, zero, suc, ◌+◌, ◌-◌, ◌<◌, ◌≤◌, length-drop, Bool, true, false, ◌&&◌, List, [], ◌∷◌, ◌++◌, length, take, drop, Option, Some, None, Ok, Err, sym, refl, ap, ◌∙◌, subst, append_assoc, append-nil, length-append, cond, arith, nat_eq}
+use Rattle.std.proofs.Common.{◌≡◌, inr, ℕ, zero, suc, ◌+◌, ◌-◌, ◌<◌, ◌≤◌, length-drop, Bool, true, false, ◌&&◌, [], ◌∷◌, ◌++◌, length, take, drop, Option, Some, None, sym, refl, ap, ◌∙◌, subst, append_assoc, append-nil, length-append, cond, arith, nat_eq}
 use Rattle.std.proofs.lemmas.Bool.{eqb-true, eq-eqb}
 use Rattle.std.specs.Option.{option_map, IfSome}
 use Rattle.std.proofs.lemmas.List.{drop-append-le, take-append-drop}
 use Rattle.memchr.specs.Find.{OccursAt, FindsNeedle}
 use Rattle.memchr.proofs.lemmas.MatchLemmas.{OccursAt-from_part, OccursAt-split}
-use Rattle.dp_markup.specs.declared.refusal.Refusal.TheVariants.{Unexpected}
-use Rattle.dp_markup.specs.Input.{head, next, Outcome, Reader}
 use Rattle.dp_markup.specs.Grammar.{Text, stands, IsFree, UpTo}
 use Rattle.dp_markup.specs.Reading.{mark_place, cut, up_to}
-use Rattle.dp_markup.proofs.Answers.{Rules, Stop, Anything, Begins, IsRead, IsRefused, Answers}
+use Rattle.dp_markup.proofs.Answers.{Anything, IsRead, IsRefused, Answers}
 use Rattle.dp_markup.proofs.Basics.{IsReader}
 
 and_true : (u v : Bool) → (u && v) ≡ true → (u ≡ true) × (v ≡ true)

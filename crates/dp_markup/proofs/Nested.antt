@@ -1,20 +1,20 @@
 -- The reader of elements, at each level of nesting.
 use Rattle.std.specs.declared.ops.ControlFlow.{ControlFlow}
 use Rattle.std.specs.declared.ops.ControlFlow.TheVariants.{Continue, Break}
-use Rattle.std.proofs.Common.{◌≡◌, ◌⊎◌, inl, inr, ℕ, zero, suc, ◌+◌, ◌<◌, ◌≤◌, Bool, true, false, not, ◌||◌, List, [], ◌∷◌, ◌++◌, length, Option, Some, None, Ok, Err, sym, refl, ap, ◌∙◌, subst, append_assoc, cond, codes, arith}
+use Rattle.std.proofs.Common.{◌≡◌, inl, inr, ℕ, zero, suc, ◌<◌, ◌≤◌, Bool, true, false, ◌||◌, List, [], ◌∷◌, ◌++◌, length, Ok, Err, sym, refl, ap, ◌∙◌, subst, cond, codes, arith}
 use Rattle.dp_markup.specs.declared.refusal.Refusal.TheVariants.{Unexpected, TooDeep, Memory}
 use Rattle.dp_markup.specs.declared.tree.Element.{Element}
 use Rattle.dp_markup.specs.declared.tree.Node.{Node}
 use Rattle.dp_markup.specs.declared.states.StartTag.{StartTag}
 use Rattle.dp_markup.specs.declared.states.Content.{Content}
-use Rattle.dp_markup.specs.Input.{head, next, Outcome, Reader, and_then, gives, made, refuse, ◌>>=◌, ◌>>◌, one, mark, word, closed}
-use Rattle.dp_markup.specs.Rules.{Rule, Joined, ◌or◌, Gives, Made, One, passing, Mark, Word, Closed}
-use Rattle.dp_markup.specs.Classes.{is_white, is_name_start, is_plain_in_text}
-use Rattle.dp_markup.specs.Grammar.{Text, Reference, Start, Spaced, UpTo, CData, ContentPiece, EndTag, BehindStart, Opened, IsOpened, with_bytes, with_child, nodes_of, no_content, no_attribute, start_tag, element}
+use Rattle.dp_markup.specs.Input.{head, next, Outcome, Reader, made, refuse, ◌>>◌, one, mark, word}
+use Rattle.dp_markup.specs.Rules.{Rule, Joined, ◌or◌, Made, One, passing, Mark, Word, Closed}
+use Rattle.dp_markup.specs.Classes.{is_name_start, is_plain_in_text}
+use Rattle.dp_markup.specs.Grammar.{Text, Reference, Start, UpTo, CData, ContentPiece, EndTag, BehindStart, Opened, IsOpened, with_bytes, with_child, nodes_of, no_content, no_attribute, start_tag, element}
 use Rattle.dp_markup.specs.Reading.{same, reference, start, end_tag, spaced_mark, cdata, bracket, content_byte, content_step, inside, behind_start, element_in, no_level, opened}
-use Rattle.dp_markup.proofs.Answers.{Rules, Stop, Anything, JoinedAt, EitherAt, ClosedAt, StepAt, Begins, IsRead, IsRefused, Answers, StartsIn, GoesOn, one_answers, gives_answers, joined_answers, equal_answers, joined_starts, either_starts, begun, refused_here, same_level}
+use Rattle.dp_markup.proofs.Answers.{Rules, Anything, JoinedAt, EitherAt, ClosedAt, StepAt, Begins, IsRefused, Answers, StartsIn, one_answers, gives_answers, equal_answers, joined_starts, begun, refused_here}
 use Rattle.dp_markup.proofs.Loops.{give, given, step_stop, closed_answers}
-use Rattle.dp_markup.proofs.Basics.{IsReader, Can, apart_mark, mark_apart, flip, or_left, or_right, passing_starts, mark_of, word_of, before, behind_word, marked, behind_mark, word_starts, made_starts, joined_reads, made_reads, choose_reads, mark_then, word_reads, takes_byte}
+use Rattle.dp_markup.proofs.Basics.{IsReader, Can, mark_apart, passing_starts, before, behind_word, marked, behind_mark, word_starts, made_starts, joined_reads, made_reads, choose_reads, mark_then, takes_byte}
 use Rattle.dp_markup.proofs.Parts.{or_starts, reference_reads, reference_starts}
 use Rattle.dp_markup.proofs.Tags.{start_reads, start_starts, some_empty_start, NameAndClose, some_name_and_close, name_and_close_reads, SectionTail, cdata_reads, some_section}
 

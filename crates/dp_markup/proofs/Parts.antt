@@ -1,20 +1,15 @@
 -- The readers of references, values, attributes and start tags.
-use Rattle.std.specs.declared.ops.ControlFlow.{ControlFlow}
 use Rattle.std.specs.declared.ops.ControlFlow.TheVariants.{Continue, Break}
-use Rattle.std.proofs.Common.{◌≡◌, ◌⊎◌, inl, inr, ℕ, zero, suc, ◌+◌, ◌-◌, ◌*◌, ◌≤◌, Bool, true, false, not, ◌||◌, ◌&&◌, List, [], ◌∷◌, ◌++◌, length, Option, Some, None, Ok, Err, sym, refl, ap, ◌∙◌, subst, append_assoc, append-nil, cond, nat_eq, nat_le, codes}
-use Rattle.std.proofs.lemmas.Bool.{eqb-true, eq-eqb}
-use Rattle.dp_markup.specs.declared.refusal.Refusal.TheVariants.{Unexpected}
-use Rattle.dp_markup.specs.declared.states.Tag.{Tag}
-use Rattle.dp_markup.specs.declared.states.StartTag.{StartTag}
-use Rattle.dp_markup.specs.Input.{head, next, Outcome, Reader, and_then, made, refuse, ◌>>=◌, ◌>>◌, one, mark, word, tested, closed}
-use Rattle.dp_markup.specs.Rules.{Rule, Joined, ◌or◌, Gives, Made, One, passing, Mark, Word, Tested, When, Chain, Closed}
-use Rattle.dp_markup.specs.Classes.{is_white, is_digit, is_name_start, is_name_byte, is_plain_in_value, is_quote, within_byte, decimal_behind, hexadecimal_behind}
-use Rattle.dp_markup.specs.Grammar.{Text, Attributes, White, Spaced, Name, Number, Named, Reference, Value, is_new, Attribute, TagPiece, TagEnd, Start, white_in_tag, attribute_in_tag, start_tag, no_attribute}
-use Rattle.dp_markup.specs.Reading.{same, name, spaced_mark_step, spaced_mark, number_step, number, named, by_number, by_a, entity, reference, value_byte, value_step, quoted, value, spaced_value_step, spaced_value, attribute, tag_piece, tag_end, tag_step, start}
-use Rattle.dp_markup.proofs.Answers.{Rules, Stop, Anything, JoinedAt, EitherAt, ClosedAt, StepAt, Answers, StartsIn, Follows, GoesOn, one_answers, joined_answers, equal_answers, when_answers, joined_starts, either_starts, wider_starts, same_level}
-use Rattle.dp_markup.proofs.Loops.{give, given, step_stop, closed_answers}
-use Rattle.dp_markup.proofs.Basics.{IsReader, Can, apart_mark, mark_apart, apart_or, apart_white, flip, or_left, or_right, passing_is, passing_starts, mark_of, word_of, before, behind_word, marked, behind_mark, named_of, named_is, word_starts, made_starts, joined_reads, made_reads, choose_reads, mark_then, word_reads, named_reads, step_reads, takes_byte, white_piece, spaced_reads, spaced}
-use Rattle.dp_markup.proofs.Names.{name_stop, name_starts, follows_name, new_name_reads, name_reads, some_new_name}
+use Rattle.std.proofs.Common.{◌≡◌, inl, inr, ℕ, zero, suc, ◌+◌, ◌-◌, ◌*◌, Bool, true, false, not, ◌||◌, ◌&&◌, List, [], ◌∷◌, ◌++◌, Option, Some, None, sym, refl, ap, ◌∙◌, subst, cond, nat_eq, nat_le, codes}
+use Rattle.std.proofs.lemmas.Bool.{eq-eqb}
+use Rattle.dp_markup.specs.Input.{head, next, Reader, made, ◌>>◌, one, mark, word, closed}
+use Rattle.dp_markup.specs.Rules.{Rule, Joined, ◌or◌, Made, One, passing, Mark, Word, Chain, Closed}
+use Rattle.dp_markup.specs.Classes.{is_white, is_digit, is_plain_in_value, is_quote, within_byte, decimal_behind, hexadecimal_behind}
+use Rattle.dp_markup.specs.Grammar.{Text, White, Spaced, Number, Named, Reference, Value}
+use Rattle.dp_markup.specs.Reading.{same, spaced_mark_step, spaced_mark, number_step, number, named, by_number, by_a, entity, reference, value_byte, value_step, quoted, value, spaced_value_step, spaced_value}
+use Rattle.dp_markup.proofs.Answers.{Rules, Anything, JoinedAt, EitherAt, ClosedAt, StepAt, Answers, StartsIn, one_answers, joined_answers, equal_answers, joined_starts, either_starts, wider_starts, same_level}
+use Rattle.dp_markup.proofs.Loops.{give, step_stop, closed_answers}
+use Rattle.dp_markup.proofs.Basics.{IsReader, apart_mark, mark_apart, apart_or, apart_white, or_left, or_right, passing_is, passing_starts, mark_of, before, behind_word, marked, behind_mark, named_of, named_is, word_starts, made_starts, joined_reads, made_reads, choose_reads, mark_then, named_reads, step_reads, takes_byte, white_piece, spaced_reads}
 
 pub or_starts : {A : Type 0} (first second : Rules A) (s t : ℕ → Bool) → StartsIn first s → StartsIn second t → StartsIn (EitherAt first second) (λ b. s b || t b)
 or_starts first second s t one other = either_starts first second (λ b. s b || t b) (wider_starts first s (λ b. s b || t b) (λ b. or_left (s b) (t b)) one) (wider_starts second t (λ b. s b || t b) (λ b. or_right (s b) (t b)) other)

@@ -1,24 +1,24 @@
 -- What is written of a readable element is a markup of it.
-use Rattle.std.proofs.Common.{◌≡◌, ◌⊎◌, inl, inr, ℕ, zero, suc, ◌+◌, ◌-◌, ◌*◌, ◌/◌, ◌%◌, ◌<◌, ◌≤◌, Bool, true, false, not, ◌&&◌, ◌||◌, List, [], ◌∷◌, ◌++◌, length, Option, Some, None, sym, refl, ap, ◌∙◌, subst, append_assoc, append-nil, cond, nat_eq, nat_lt, nat_le, codes, arith}
-use Rattle.std.proofs.lemmas.Bool.{eqb-true, eq-eqb, ltb-true, le-leb}
+use Rattle.std.proofs.Common.{◌≡◌, inl, inr, ℕ, zero, suc, ◌+◌, ◌-◌, ◌*◌, ◌/◌, ◌%◌, ◌<◌, Bool, true, false, not, ◌&&◌, ◌||◌, List, [], ◌∷◌, ◌++◌, Some, None, sym, refl, ap, ◌∙◌, subst, append_assoc, append-nil, cond, nat_eq, nat_lt, nat_le, codes, arith}
+use Rattle.std.proofs.lemmas.Bool.{eqb-true, ltb-true, le-leb}
 use Rattle.std.specs.List.{flat_map}
 use Rattle.dp_markup.specs.declared.tree.Element.{Element}
 use Rattle.dp_markup.specs.declared.tree.Node.{Node, roll-Node}
 use Rattle.dp_markup.specs.declared.tree.Node.TheVariants as node
-use Rattle.dp_markup.specs.declared.tree.Node.TheOpen.{Node-F, Element-F}
+use Rattle.dp_markup.specs.declared.tree.Node.TheOpen.{Node-F}
 use Rattle.dp_markup.specs.declared.tree.Node.TheViews.{out-Node, roll-out-Node}
 use Rattle.dp_markup.specs.declared.tree.Node.TheFolds.{fold-roll-Node}
 use Rattle.dp_markup.specs.declared.states.Tag.{Tag}
 use Rattle.dp_markup.specs.declared.states.StartTag.{StartTag}
 use Rattle.dp_markup.specs.declared.states.Content.{Content}
-use Rattle.dp_markup.specs.Rules.{Rule, Joined, ◌or◌, Gives, Made, One, passing, Mark, Word, Tested, When, Closed}
-use Rattle.dp_markup.specs.Classes.{is_white, is_digit, is_name, is_plain_in_text, is_plain_in_value, is_quote, within_byte, decimal_behind}
+use Rattle.dp_markup.specs.Rules.{Rule, Joined, ◌or◌, Made, One, passing, Mark, Word, Closed}
+use Rattle.dp_markup.specs.Classes.{is_white, is_digit, is_name, is_plain_in_text, is_plain_in_value, within_byte, decimal_behind}
 use Rattle.dp_markup.specs.Escaping.{decimal, plain_or_number, escaped, escaped_all}
-use Rattle.dp_markup.specs.Writing.{attribute_text, element_text, node_layer, element_layer, written, node_text, nodes_text}
-use Rattle.dp_markup.specs.Grammar.{Text, Attributes, White, Spaced, Name, Number, Reference, Value, Attribute, TagPiece, TagEnd, Start, ContentPiece, EndTag, Opened, IsOpened, Document, limit, IsMarkup, is_new, white_in_tag, attribute_in_tag, start_tag, with_bytes, with_run, with_child, nodes_of, no_content, no_attribute, element}
-use Rattle.dp_markup.specs.Readable.{AreBytes, AreAttributes, IsText, is_text, FitsBehind, AreNodes, IsReadable}
+use Rattle.dp_markup.specs.Writing.{attribute_text, node_layer, element_layer, written, node_text, nodes_text}
+use Rattle.dp_markup.specs.Grammar.{Text, Attributes, White, Spaced, Number, Reference, Value, Attribute, TagPiece, TagEnd, Start, ContentPiece, EndTag, IsOpened, Document, limit, IsMarkup, is_new, attribute_in_tag, with_run, with_child, nodes_of, no_content, element}
+use Rattle.dp_markup.specs.Readable.{AreBytes, AreAttributes, is_text, FitsBehind, AreNodes, IsReadable}
 use Rattle.dp_markup.proofs.Loops.{give}
-use Rattle.dp_markup.proofs.Basics.{passing_is, is_passing, one_byte, mark_of, before, marked, named_of, spaced}
+use Rattle.dp_markup.proofs.Basics.{one_byte, mark_of, before, marked, named_of, spaced}
 use Rattle.dp_markup.proofs.Tags.{NameAndClose, some_name_and_close}
 use Rattle.dp_markup.proofs.Trees.{written_is}
 
@@ -48,8 +48,14 @@ number_two : (c d k m : ℕ) → decimal_behind 0 c ≡ Some k → decimal_behin
 number_two c d k m one two = record { front = c ∷ []; back = d ∷ 59 ∷ []; value = k; split = refl; one = one_digit 0 c k one; other = one_more (λ n. One (decimal_behind n)) (λ n. Made (Mark 59) (λ _. n)) k m (d ∷ []) (59 ∷ []) m (one_digit k d m two) (end_number m) }
 
 number_three : (c d e k l m : ℕ) → decimal_behind 0 c ≡ Some k → decimal_behind k d ≡ Some l → decimal_behind l e ≡ Some m → Number decimal_behind (c ∷ d ∷ e ∷ 59 ∷ []) m
-number_three c d e k l m one two three = record { front = c ∷ []; back = d ∷ e ∷ 59 ∷ []; value = k; split = refl; one = one_digit 0 c k one;
-  other = one_more (λ n. One (decimal_behind n)) (λ n. Made (Mark 59) (λ _. n)) k l (d ∷ []) (e ∷ 59 ∷ []) m (one_digit k d l two) (one_more (λ n. One (decimal_behind n)) (λ n. Made (Mark 59) (λ _. n)) l m (e ∷ []) (59 ∷ []) m (one_digit l e m three) (end_number m)) }
+number_three c d e k l m one two three = record {
+  front = c ∷ [];
+  back = d ∷ e ∷ 59 ∷ [];
+  value = k;
+  split = refl;
+  one = one_digit 0 c k one;
+  other = one_more (λ n. One (decimal_behind n)) (λ n. Made (Mark 59) (λ _. n)) k l (d ∷ []) (e ∷ 59 ∷ []) m (one_digit k d l two) (one_more (λ n. One (decimal_behind n)) (λ n. Made (Mark 59) (λ _. n)) l m (e ∷ []) (59 ∷ []) m (one_digit l e m three) (end_number m));
+}
 
 worth_of : (n d m : ℕ) → d < 10 → m < 256 → n * 10 + d ≡ m → decimal_behind n (48 + d) ≡ Some m
 worth_of n d m less small is = digit_worth n d less (omega arith) ∙ ap Some is

@@ -1,19 +1,19 @@
 -- Markup holds of readable elements alone.
-use Rattle.std.proofs.Common.{◌≡◌, ◌⊎◌, inl, inr, ℕ, zero, suc, ◌+◌, ◌-◌, ◌*◌, ◌<◌, ◌≤◌, Bool, true, false, List, [], ◌∷◌, ◌++◌, Option, Some, None, sym, refl, ap, ◌∙◌, subst, append_assoc, append-nil, cond, nat_le, codes, arith, length, get_or}
+use Rattle.std.proofs.Common.{◌≡◌, inl, inr, ℕ, zero, suc, ◌+◌, ◌-◌, ◌*◌, ◌<◌, ◌≤◌, Bool, true, false, List, [], ◌∷◌, ◌++◌, Option, Some, None, sym, refl, ap, ◌∙◌, subst, append_assoc, append-nil, cond, nat_le, codes, arith, get_or}
 use Rattle.std.proofs.lemmas.Bool.{leb-true}
 use Rattle.dp_markup.specs.declared.tree.Element.{Element}
-use Rattle.dp_markup.specs.declared.tree.Node.{Node, roll-Node}
+use Rattle.dp_markup.specs.declared.tree.Node.{Node}
 use Rattle.dp_markup.specs.declared.tree.Node.TheVariants as node
-use Rattle.dp_markup.specs.declared.tree.Node.TheOpen.{Node-F, Element-F}
+use Rattle.dp_markup.specs.declared.tree.Node.TheOpen.{Node-F}
 use Rattle.dp_markup.specs.declared.tree.Node.TheViews.{out-Node, out-roll-Node}
 use denote.Hole.Carrier.{out}
 use Rattle.dp_markup.specs.declared.states.Tag.{Tag}
 use Rattle.dp_markup.specs.declared.states.StartTag.{StartTag}
 use Rattle.dp_markup.specs.declared.states.Content.{Content}
-use Rattle.dp_markup.specs.Rules.{Rule, Joined, ◌or◌, Gives, Made, One, passing, Mark, Word, Tested, When, Chain, Closed}
+use Rattle.dp_markup.specs.Rules.{Rule, Joined, ◌or◌, Gives, Made, One, passing, Mark, Word, Chain, Closed}
 use Rattle.dp_markup.specs.Classes.{is_digit, is_name, is_plain_in_text, is_plain_in_value, within_byte, decimal_behind, hexadecimal_behind}
-use Rattle.dp_markup.specs.Grammar.{Text, Attributes, White, Spaced, Number, Reference, Value, Attribute, TagPiece, TagEnd, Start, CData, UpTo, Misc, ContentPiece, EndTag, BehindStart, Opened, IsOpened, Document, limit, IsMarkup, is_new, with_run, nodes_of, no_content, no_attribute, element}
-use Rattle.dp_markup.specs.Readable.{AreBytes, AreAttributes, IsText, is_text, FitsBehind, AreNodes, IsReadable}
+use Rattle.dp_markup.specs.Grammar.{Text, Attributes, White, Spaced, Number, Reference, Value, Attribute, TagPiece, TagEnd, Start, CData, Misc, ContentPiece, EndTag, BehindStart, IsOpened, limit, IsMarkup, is_new, with_run, nodes_of, no_content, no_attribute, element}
+use Rattle.dp_markup.specs.Readable.{AreBytes, AreAttributes, is_text, FitsBehind, AreNodes, IsReadable}
 use Rattle.dp_markup.proofs.Loops.{given}
 use Rattle.dp_markup.proofs.Basics.{passing_is, named_is}
 

@@ -1,19 +1,17 @@
 -- The readers of attributes, start tags, end tags, comments and sections.
-use Rattle.std.specs.declared.ops.ControlFlow.{ControlFlow}
-use Rattle.std.specs.declared.ops.ControlFlow.TheVariants.{Continue, Break}
-use Rattle.std.proofs.Common.{◌≡◌, ◌⊎◌, inl, inr, ℕ, zero, suc, ◌≤◌, Bool, true, false, not, ◌||◌, ◌&&◌, List, [], ◌∷◌, ◌++◌, length, Option, Some, None, Ok, Err, sym, refl, ap, ◌∙◌, subst, append_assoc, cond, codes}
+use Rattle.std.proofs.Common.{◌≡◌, inl, inr, ℕ, zero, suc, Bool, true, false, ◌||◌, ◌&&◌, List, [], ◌∷◌, ◌++◌, length, Err, refl, ap, ◌∙◌, cond, codes}
 use Rattle.dp_markup.specs.declared.refusal.Refusal.TheVariants.{Unexpected}
 use Rattle.dp_markup.specs.declared.states.Tag.{Tag}
 use Rattle.dp_markup.specs.declared.states.StartTag.{StartTag}
-use Rattle.dp_markup.specs.Input.{head, next, Outcome, Reader, and_then, made, refuse, ◌>>=◌, ◌>>◌, one, mark, word, tested, closed}
-use Rattle.dp_markup.specs.Rules.{Rule, Joined, ◌or◌, Gives, Made, One, passing, Mark, Word, Tested, When, Chain, Closed}
-use Rattle.dp_markup.specs.Classes.{is_white, is_name, is_name_start, is_name_byte}
+use Rattle.dp_markup.specs.Input.{made, refuse, ◌>>=◌, ◌>>◌, one, mark, word, tested, closed}
+use Rattle.dp_markup.specs.Rules.{Rule, Joined, Made, passing, Mark, Word, Tested, When, Chain, Closed}
+use Rattle.dp_markup.specs.Classes.{is_white, is_name_start, is_name_byte}
 use Rattle.dp_markup.specs.Grammar.{Text, Attributes, White, Spaced, Name, Value, is_new, Attribute, TagPiece, TagEnd, Start, UpTo, white_in_tag, attribute_in_tag, start_tag, no_attribute}
 use Rattle.dp_markup.specs.Reading.{same, name, spaced_mark, spaced_value, attribute, tag_piece, tag_end, tag_step, start, up_to, cdata, comment, declaration}
-use Rattle.dp_markup.proofs.Answers.{Rules, Stop, Anything, JoinedAt, EitherAt, ClosedAt, StepAt, Answers, StartsIn, Follows, GoesOn, one_answers, joined_answers, when_answers, joined_starts, either_starts, wider_starts}
-use Rattle.dp_markup.proofs.Loops.{give, given, step_stop, closed_answers}
-use Rattle.dp_markup.proofs.Basics.{IsReader, Can, apart_mark, mark_apart, apart_or, apart_white, flip, or_left, or_right, passing_starts, one_byte, mark_of, word_of, before, word_starts, made_starts, joined_reads, made_reads, choose_reads, mark_then, word_then, word_reads, step_reads, takes_byte, white_piece, spaced_reads, spaced}
-use Rattle.dp_markup.proofs.Names.{name_stop, name_starts, follows_name, new_name_reads, name_reads, some_new_name}
+use Rattle.dp_markup.proofs.Answers.{Rules, Anything, StepAt, StartsIn, one_answers, joined_answers, when_answers, joined_starts}
+use Rattle.dp_markup.proofs.Loops.{give, step_stop, closed_answers}
+use Rattle.dp_markup.proofs.Basics.{IsReader, apart_mark, mark_apart, apart_or, apart_white, flip, or_left, or_right, passing_starts, one_byte, mark_of, word_of, before, word_starts, made_starts, joined_reads, made_reads, choose_reads, word_then, word_reads, step_reads, takes_byte, spaced}
+use Rattle.dp_markup.proofs.Names.{name_stop, name_starts, follows_name, new_name_reads, name_reads}
 use Rattle.dp_markup.proofs.Marks.{up_to_reads, some_up_to}
 use Rattle.dp_markup.proofs.Parts.{or_starts, spaced_mark_reads, spaced_value_reads, some_value, spaced_starts}
 

@@ -1,9 +1,8 @@
 -- The canonical text of an element, by its name, its attributes and its nodes.
-use Rattle.std.proofs.Common.{◌≡◌, ℕ, List, [], ◌∷◌, ◌++◌, refl, ap, sym, ◌∙◌, append_assoc, map}
+use Rattle.std.proofs.Common.{◌≡◌, ℕ, List, [], ◌∷◌, ◌++◌, refl, ap, ◌∙◌, append_assoc, map}
 use Rattle.std.specs.List.{flat_map}
-use Rattle.dp_markup.specs.declared.tree.Element.{Element, fold-Element}
-use Rattle.dp_markup.specs.declared.tree.Node.{Node, fold-Node}
-use Rattle.dp_markup.specs.declared.tree.Node.TheOpen.{Node-F, Element-F}
+use Rattle.dp_markup.specs.declared.tree.Element.{Element}
+use Rattle.dp_markup.specs.declared.tree.Node.{Node}
 use Rattle.dp_markup.specs.declared.tree.Node.TheFolds.{fold_out-Element}
 use Rattle.dp_markup.specs.Writing.{Text, element_text, node_layer, element_layer, written, node_text, nodes_text}
 

@@ -1,13 +1,13 @@
 -- What `read` and `head_attribute` say of the bytes, by the outcome of the reader.
-use Rattle.std.proofs.Common.{◌≡◌, ◌⊎◌, inl, inr, ℕ, zero, suc, ◌+◌, ◌-◌, ◌<◌, ◌≤◌, List, [], ◌∷◌, ◌++◌, length, Option, Some, None, Ok, Err, sym, refl, ap, ◌∙◌, subst, append-nil, arith}
+use Rattle.std.proofs.Common.{◌≡◌, ◌⊎◌, ℕ, ◌-◌, ◌<◌, ◌≤◌, [], ◌++◌, length, Ok, Err, sym, refl, ap, ◌∙◌, subst, append-nil, arith}
 use Rattle.dp_markup.specs.declared.refusal.Refusal.{Refusal}
 use Rattle.dp_markup.specs.declared.refusal.Refusal.TheVariants.{Unexpected, TooDeep, Memory}
 use Rattle.dp_markup.specs.declared.tree.Element.{Element}
 use Rattle.dp_markup.specs.declared.states.StartTag.{StartTag}
-use Rattle.dp_markup.specs.Input.{head, Outcome}
+use Rattle.dp_markup.specs.Input.{head}
 use Rattle.dp_markup.specs.Grammar.{Text, Document, limit, IsMarkup, Head, BeginsWithHead}
 use Rattle.dp_markup.specs.Reading.{document, head_of}
-use Rattle.dp_markup.specs.Refused.{IsDeadAt, IsFirstBad, IsFirstTooDeep}
+use Rattle.dp_markup.specs.Refused.{IsFirstBad, IsFirstTooDeep}
 use Rattle.dp_markup.proofs.Answers.{Anything, Begins, IsRead, Answers, same_level}
 use Rattle.dp_markup.proofs.WholeTexts.{at_end, document_reads, document_ends, some_document, head_reads, some_head}
 use Rattle.dp_markup.proofs.Whole.{first_bad, first_too_deep, left_within, one_bad, not_both, dead_spelled, too_deep_spelled}

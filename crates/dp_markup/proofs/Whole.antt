@@ -1,10 +1,9 @@
 -- What the outcome of a reader says of the texts that it reads.
-use Rattle.std.proofs.Common.{◌≡◌, ◌⊎◌, inl, inr, ℕ, zero, suc, ◌+◌, ◌-◌, ◌<◌, ◌≤◌, Bool, true, false, List, [], ◌∷◌, ◌++◌, length, take, Option, Some, None, Ok, Err, sym, refl, ap, ◌∙◌, subst, append_assoc, append-nil, length-append, arith}
-use Rattle.std.proofs.Math.Seq.{take-append_seam, take-append-add}
-use Rattle.dp_markup.specs.declared.refusal.Refusal.TheVariants.{Unexpected, TooDeep, Memory}
-use Rattle.dp_markup.specs.Input.{head, Outcome, Reader}
-use Rattle.dp_markup.specs.Refused.{IsViable, IsSpelled, IsDeadAt, IsFirstBad, IsFirstTooDeep}
-use Rattle.dp_markup.proofs.Answers.{Rules, Stop, Begins, IsRead, IsRefused, Agrees, Answers}
+use Rattle.std.proofs.Common.{◌≡◌, ◌⊎◌, inl, inr, ℕ, zero, suc, ◌+◌, ◌-◌, ◌<◌, ◌≤◌, Bool, true, false, List, [], ◌∷◌, ◌++◌, length, take, Err, sym, refl, ap, ◌∙◌, subst, append_assoc, append-nil, length-append, arith}
+use Rattle.dp_markup.specs.declared.refusal.Refusal.TheVariants.{Unexpected, TooDeep}
+use Rattle.dp_markup.specs.Input.{Reader}
+use Rattle.dp_markup.specs.Refused.{IsViable, IsDeadAt, IsFirstBad, IsFirstTooDeep}
+use Rattle.dp_markup.proofs.Answers.{Rules, Stop, Begins, IsRefused, Agrees, Answers}
 use Rattle.dp_markup.proofs.Basics.{IsReader}
 
 take_all : (xs : List ℕ) → take (length xs) xs ≡ xs

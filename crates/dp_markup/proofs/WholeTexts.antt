@@ -1,18 +1,18 @@
 -- The readers of whole texts, and of their heads.
 use Rattle.std.specs.declared.ops.ControlFlow.{ControlFlow}
 use Rattle.std.specs.declared.ops.ControlFlow.TheVariants.{Continue, Break}
-use Rattle.std.proofs.Common.{◌≡◌, ◌⊎◌, inl, inr, ℕ, zero, suc, ◌+◌, ◌<◌, ◌≤◌, Bool, true, false, not, ◌||◌, List, [], ◌∷◌, ◌++◌, length, Option, Some, None, Ok, Err, sym, refl, ap, ◌∙◌, subst, append_assoc, append-nil, cond, codes, arith}
-use Rattle.dp_markup.specs.declared.refusal.Refusal.TheVariants.{Unexpected, TooDeep, Memory}
+use Rattle.std.proofs.Common.{◌≡◌, ◌⊎◌, inl, inr, ℕ, zero, suc, ◌<◌, Bool, true, false, not, ◌||◌, [], ◌∷◌, ◌++◌, length, Option, Some, None, Ok, Err, sym, refl, ap, ◌∙◌, subst, append-nil, cond, codes, arith}
+use Rattle.dp_markup.specs.declared.refusal.Refusal.TheVariants.{Unexpected}
 use Rattle.dp_markup.specs.declared.tree.Element.{Element}
 use Rattle.dp_markup.specs.declared.states.StartTag.{StartTag}
-use Rattle.dp_markup.specs.Input.{head, next, Outcome, Reader, and_then, gives, made, refuse, ◌>>=◌, ◌>>◌, one, mark, word, until, next_of, closed}
-use Rattle.dp_markup.specs.Rules.{Rule, Joined, ◌or◌, Gives, Made, One, passing, Mark, Word, When, Closed}
+use Rattle.dp_markup.specs.Input.{head, next, Outcome, Reader, and_then, gives, made, refuse, ◌>>=◌, ◌>>◌, one, mark, word, until, next_of}
+use Rattle.dp_markup.specs.Rules.{Rule, Joined, Gives, Made, passing, Mark, Word, When, Closed}
 use Rattle.dp_markup.specs.Classes.{is_white, is_name_start}
-use Rattle.dp_markup.specs.Grammar.{Text, White, UpTo, Comment, Misc, Declaration, PrologPiece, Prolog, IsOpened, Document, Start, Head, no_attribute, start_tag, element}
+use Rattle.dp_markup.specs.Grammar.{Text, White, UpTo, Comment, Misc, Declaration, PrologPiece, Prolog, IsOpened, Document, Start, Head, no_attribute, start_tag}
 use Rattle.dp_markup.specs.Reading.{same, comment, declaration, prolog_bracket, prolog_step, prolog, misc, trail_step, trail, opened, document, start, head_of}
-use Rattle.dp_markup.proofs.Answers.{Rules, Stop, Anything, JoinedAt, EitherAt, ClosedAt, StepAt, Answers, StartsIn, Follows, one_answers, gives_answers, joined_answers, equal_answers, either_answers, when_answers, joined_starts, begun}
+use Rattle.dp_markup.proofs.Answers.{Rules, Anything, JoinedAt, EitherAt, StepAt, StartsIn, Follows, one_answers, gives_answers, joined_answers, equal_answers, either_answers, when_answers, joined_starts}
 use Rattle.dp_markup.proofs.Loops.{give, given, step_stop, closed_answers}
-use Rattle.dp_markup.proofs.Basics.{IsReader, Can, apart_mark, mark_apart, apart_or, apart_white, flip, or_left, or_right, passing_starts, mark_of, mark_is, before, behind_word, marked, behind_mark, word_starts, made_starts, joined_reads, made_reads, choose_reads, mark_then, word_then, takes_byte}
+use Rattle.dp_markup.proofs.Basics.{IsReader, Can, apart_mark, mark_apart, apart_or, apart_white, flip, passing_starts, mark_of, mark_is, before, behind_word, marked, behind_mark, word_starts, made_starts, joined_reads, made_reads, choose_reads, mark_then, word_then, takes_byte}
 use Rattle.dp_markup.proofs.Parts.{or_starts}
 use Rattle.dp_markup.proofs.Tags.{start_reads, start_starts, some_empty_start, CommentTail, comment_reads, some_comment, DeclarationTail, declaration_reads, some_declaration}
 use Rattle.dp_markup.proofs.Nested.{opened_reads, opened_starts, can_open}

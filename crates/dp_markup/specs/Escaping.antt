@@ -1,5 +1,5 @@
 -- How a byte of a value or a text is written: as itself, or as a reference (XML 1.0, 4.1 and 4.6).
-use Rattle.std.specs.Prelude.{ℕ, ◌+◌, ◌/◌, ◌%◌, List, [], ◌∷◌, ◌++◌, ◌==◌, nat_lt, Bool, ◌&&◌, if◌then◌else◌, codes}
+use Rattle.std.specs.Prelude.{ℕ, ◌+◌, ◌/◌, ◌%◌, List, [], ◌∷◌, ◌++◌, ◌==◌, nat_lt, ◌&&◌, if◌then◌else◌, codes}
 use Rattle.std.specs.List.{flat_map}
 
 -- the decimal number of a byte, without leading zeros

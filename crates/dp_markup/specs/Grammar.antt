@@ -1,15 +1,14 @@
 -- The markup that is read: XML 1.0 without document types, names beyond ASCII and further entities.
 use Rattle.std.specs.Prelude.{◌≡◌, ℕ, zero, suc, Bool, true, false, not, ◌&&◌, ◌==◌, if◌then◌else◌, List, [], ◌∷◌, ◌++◌, Option, Some, None, codes}
 use Rattle.std.specs.List.{list_any}
-use Rattle.std.specs.declared.ops.ControlFlow.{ControlFlow}
 use Rattle.dp_markup.specs.declared.tree.Element.{Element}
 use Rattle.dp_markup.specs.declared.tree.Node.{Node}
 use Rattle.dp_markup.specs.declared.tree.Node.TheVariants as node
 use Rattle.dp_markup.specs.declared.states.Tag.{Tag}
 use Rattle.dp_markup.specs.declared.states.StartTag.{StartTag}
 use Rattle.dp_markup.specs.declared.states.Content.{Content}
-use Rattle.dp_markup.specs.Rules.{Rule, Joined, ◌>>=◌, ◌>>◌, ◌or◌, Gives, Made, One, passing, Mark, Word, Tested, When, Closed}
-use Rattle.dp_markup.specs.Classes.{is_white, is_name_start, is_name, is_plain_in_text, is_plain_in_value, is_quote, decimal_behind, hexadecimal_behind}
+use Rattle.dp_markup.specs.Rules.{Rule, ◌>>=◌, ◌>>◌, ◌or◌, Gives, Made, One, passing, Mark, Word, Tested, When, Closed}
+use Rattle.dp_markup.specs.Classes.{is_white, is_name, is_plain_in_text, is_plain_in_value, is_quote, decimal_behind, hexadecimal_behind}
 
 abbrev pub Text : Type 0
 Text = List ℕ

@@ -2,7 +2,7 @@
 use Rattle.std.specs.Prelude.{◌≡◌, ℕ, zero, suc, ◌<◌, Bool, true, false, List, [], ◌∷◌, ◌++◌}
 use Rattle.dp_markup.specs.declared.tree.Element.{Element}
 use Rattle.dp_markup.specs.declared.tree.Node.{Node}
-use Rattle.dp_markup.specs.declared.tree.Node.TheOpen.{Node-F, Element-F}
+use Rattle.dp_markup.specs.declared.tree.Node.TheOpen.{Node-F}
 use Rattle.dp_markup.specs.declared.tree.Node.TheViews.{out-Node}
 use Rattle.dp_markup.specs.Classes.{is_name}
 use Rattle.dp_markup.specs.Grammar.{Text, Attributes, is_new}

@@ -1,10 +1,10 @@
 -- The reading of markup, step by step: each function of the code has one of these as its result.
-use Rattle.std.specs.Prelude.{◌≡◌, ℕ, zero, suc, ◌+◌, Bool, true, false, not, ◌&&◌, ◌||◌, ◌==◌, if◌then◌else◌, List, [], ◌∷◌, ◌++◌, length, take, drop, Option, Some, None, Ok, Err, codes}
+use Rattle.std.specs.Prelude.{ℕ, zero, suc, ◌+◌, Bool, true, false, ◌||◌, ◌==◌, if◌then◌else◌, List, [], ◌∷◌, ◌++◌, length, take, drop, Option, Some, None, Ok, Err, codes}
 use Rattle.std.specs.List.{prefix_len}
 use Rattle.std.specs.Option.{option_map}
 use Rattle.std.specs.declared.ops.ControlFlow.{ControlFlow}
 use Rattle.std.specs.declared.ops.ControlFlow.TheVariants.{Continue, Break}
-use Rattle.dp_markup.specs.declared.refusal.Refusal.TheVariants.{Unexpected, TooDeep, Memory}
+use Rattle.dp_markup.specs.declared.refusal.Refusal.TheVariants.{Unexpected, TooDeep}
 use Rattle.dp_markup.specs.declared.tree.Element.{Element}
 use Rattle.dp_markup.specs.declared.tree.Node.{Node}
 use Rattle.dp_markup.specs.declared.states.Tag.{Tag}
@@ -13,7 +13,7 @@ use Rattle.dp_markup.specs.declared.states.Content.{Content}
 use Rattle.dp_markup.specs.declared.states.Radix.{Radix}
 use Rattle.dp_markup.specs.declared.states.Radix.TheVariants.{Decimal, Hexadecimal}
 use Rattle.dp_markup.specs.Rules.{passing}
-use Rattle.dp_markup.specs.Input.{head, next, Outcome, Reader, and_then, ◌>>=◌, ◌>>◌, gives, made, refuse, one, mark, word, tested, until, closed}
+use Rattle.dp_markup.specs.Input.{head, next, Reader, ◌>>=◌, ◌>>◌, gives, made, refuse, one, mark, word, tested, closed}
 use Rattle.dp_markup.specs.Classes.{is_white, is_name_start, is_name_byte, is_plain_in_text, is_plain_in_value, is_quote, decimal_behind, hexadecimal_behind}
 use Rattle.dp_markup.specs.Grammar.{Text, Attributes, is_new, white_in_tag, attribute_in_tag, start_tag, no_attribute, stands, no_content, with_bytes, nodes_of, with_child, element}
 

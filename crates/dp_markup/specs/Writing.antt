@@ -1,5 +1,5 @@
 -- The canonical text of an element, without a declaration.
-use Rattle.std.specs.Prelude.{ℕ, List, [], ◌∷◌, ◌++◌, codes}
+use Rattle.std.specs.Prelude.{ℕ, List, ◌++◌, codes}
 use Rattle.std.specs.List.{flat_map}
 use Rattle.dp_markup.specs.declared.tree.Element.{Element, fold-Element}
 use Rattle.dp_markup.specs.declared.tree.Node.{Node, fold-Node}

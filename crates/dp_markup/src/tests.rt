@@ -115,7 +115,10 @@ fn trees_and_heads(rt: HostRuntime) -> Result<(), Fail> {
     assert_eq!(rt; read(alloc, b"<a>x<![CDATA[y]]>z</a>")?.children.len(), 1);
     let init = read(alloc, INIT)?;
     let again = reread(alloc, &init)?;
-    assert_eq!(rt; write(alloc, &again)?.as_slice(), write(alloc, &init)?.as_slice());
+    assert_eq!(rt;
+        write(alloc, &again)?.as_slice(),
+        write(alloc, &init)?.as_slice()
+    );
     let key = head_attribute(alloc, INIT, b"init", b"idekey")?.ok_or("no key")?;
     assert_eq!(rt; key.as_slice(), b"A".as_slice());
     assert!(rt; head_attribute(alloc, INIT, b"init", b"session")?.is_none());

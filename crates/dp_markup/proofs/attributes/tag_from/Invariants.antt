@@ -1,4 +1,4 @@
-use Rattle.std.proofs.Common.{◌≡◌, ◌-◌, [], true}
+use Rattle.std.proofs.Common.{◌≡◌, ◌-◌}
 use Rattle.dp_markup.specs.Input.{closed, until}
 use Rattle.dp_markup.specs.Reading.{tag_step}
 use Rattle.dp_markup.proofs.attributes.tag_from.Given as goal

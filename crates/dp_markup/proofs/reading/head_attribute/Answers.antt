@@ -1,4 +1,4 @@
-use Rattle.std.proofs.Common.{◌≡◌, ◌-◌, ◌∙◌, ℕ, length, inl, inr, ap, subst, sym}
+use Rattle.std.proofs.Common.{◌≡◌, ◌-◌, ◌∙◌, length, inl, ap, subst, sym}
 use Rattle.dp_markup.specs.declared.error.MarkupError.TheVariants.{BadMarkup}
 use Rattle.dp_markup.specs.declared.refusal.Refusal.TheVariants.{Unexpected, TooDeep}
 use Rattle.dp_markup.specs.Grammar.{BeginsWithHead, root_value}

@@ -1,4 +1,4 @@
-use Rattle.std.proofs.Common.{sym, subst, ap, ◌∙◌}
+use Rattle.std.proofs.Common.{sym, subst, ◌∙◌}
 use Rattle.dp_markup.specs.Grammar.{IsMarkup}
 use Rattle.dp_markup.proofs.RoundTrip.{written_is_markup}
 use Rattle.dp_markup.proofs.reading.reread.Goals as goal

@@ -1,4 +1,4 @@
-use Rattle.std.proofs.Common.{◌≡◌, ◌-◌, [], true}
+use Rattle.std.proofs.Common.{◌≡◌, ◌-◌}
 use Rattle.dp_markup.specs.Input.{closed, until}
 use Rattle.dp_markup.specs.Reading.{number_step, behind_of}
 use Rattle.dp_markup.proofs.input.Input.number_from.Given as goal
