@@ -211,6 +211,10 @@ pub record BeginsWithHead (text : Text) (tag : StartTag) : Type 0 where
   pub split : text ≡ front ++ back
   pub spelled : Head front tag
 
+-- the same at each level: nesting plays no part in a head
+abbrev pub heads : ℕ → Rule StartTag
+heads level = BeginsWithHead
+
 -- the value of the attribute with this name
 abbrev pub value_of : Attributes → Text → Option Text
 value_of [] name = None

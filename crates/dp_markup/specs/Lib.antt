@@ -6,4 +6,5 @@ pub mod Readable
 pub mod Reading
 pub mod Refused
 pub mod Rules
+pub mod Verdict
 pub mod Writing

@@ -4,7 +4,8 @@ use thiserror::Error;
 /// Why bytes were not read as markup.
 #[derive(Debug, Drop, Error)]
 pub enum MarkupError {
-    /// No markup begins with the bytes up to and with the one at this offset; at the length of the bytes their end is what is wrong.
+    /// No markup begins with the bytes up to and with the one at this offset; at the length of the
+    /// bytes their end is what is wrong.
     #[error("bad markup at byte {offset}")]
     BadMarkup { offset: usize },
     /// More than 64 elements would be open.

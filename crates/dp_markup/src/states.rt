@@ -17,7 +17,8 @@ pub struct StartTag {
     pub is_empty: bool,
 }
 
-/// How far the content of an element has been read: its nodes so far, and the bytes of the text that is not ended yet.
+/// How far the content of an element has been read: its nodes so far, and the bytes of the text
+/// that is not ended yet.
 #[derive(Debug, Drop)]
 pub struct Content {
     pub nodes: Growing<Node>,

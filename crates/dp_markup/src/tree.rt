@@ -1,6 +1,7 @@
 use dp_value::{Bytes, Items};
 
-/// An element: its name, its attributes as pairs of a name and a value, and what stands between its tags.
+/// An element: its name, its attributes as pairs of a name and a value, and what stands between
+/// its tags.
 /// Values and texts are the bytes themselves, without references.
 #[cycle(tree)]
 #[derive(Debug, Drop)]

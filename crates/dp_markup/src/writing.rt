@@ -8,8 +8,8 @@ use crate::tree::{Element, Node};
 use dp_value::Bytes;
 use std::alloc::Global;
 
-/// The canonical text of an element, without a declaration: one start tag and one end tag for each element, values in
-/// double quotes, and each byte that is no plain one as a reference.
+/// The canonical text of an element, without a declaration: one start tag and one end tag for each
+/// element, values in double quotes, and each byte that is no plain one as a reference.
 pub fn write(alloc: Global, e: &Element) -> Result<Bytes, Memory>
     ensures { IfOk result (λ text. text ≡ written e.now) }
 {
