@@ -37,7 +37,8 @@ pub fn read(alloc: Global, bytes: &[u8]) -> Result<Element, MarkupError>
 
     // The offset is that of the first byte with which no text begins, or the length where
     // the end is wrong.
-    ensures bad { (at : ℕ) → result ≡ Err (MarkupError.BadMarkup at) → IsFirstBad Document limit bytes.now at }
+    ensures bad { (at : ℕ) → result ≡ Err (MarkupError.BadMarkup at) →
+        IsFirstBad Document limit bytes.now at }
     ensures bad_only { (at : ℕ) → IsFirstBad Document limit bytes.now at →
         Refuses result (MarkupError.BadMarkup at) }
     ensures too_deep { result ≡ Err MarkupError.TooDeep → (at : ℕ) ×
@@ -78,7 +79,8 @@ pub fn head_attribute(
         (value ≡ root_value tag root.now name.now)) }
     ensures only { (tag : Tag) → BeginsWithHead bytes.now tag →
         GivesValue result (root_value tag root.now name.now) }
-    ensures bad { (at : ℕ) → result ≡ Err (MarkupError.BadMarkup at) → IsFirstBad heads 0 bytes.now at }
+    ensures bad { (at : ℕ) → result ≡ Err (MarkupError.BadMarkup at) →
+        IsFirstBad heads 0 bytes.now at }
     ensures bad_only { (at : ℕ) → IsFirstBad heads 0 bytes.now at →
         Refuses result (MarkupError.BadMarkup at) }
     ensures never_too_deep { result ≢ Err MarkupError.TooDeep }
