@@ -1,0 +1,16 @@
+pub mod Answers
+pub mod Basics
+pub mod Levels
+pub mod Loops
+pub mod Marks
+pub mod Names
+pub mod Parts
+pub mod Tags
+pub mod Nested
+pub mod WholeTexts
+pub mod Whole
+pub mod Verdicts
+pub mod RoundTrip
+pub mod Spelled
+pub mod Trees
+pub mod Turns

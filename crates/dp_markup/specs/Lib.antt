@@ -1,0 +1,10 @@
+pub mod Classes
+pub mod Escaping
+pub mod Grammar
+pub mod Input
+pub mod Readable
+pub mod Reading
+pub mod Refused
+pub mod Rules
+pub mod Verdict
+pub mod Writing

@@ -1,0 +1,242 @@
+ghost use Rattle.std.specs.Prelude.{◌≡◌, ◌==◌, [], ◌∷◌, ◌++◌};
+ghost use Rattle.dp_markup.specs.Grammar as grammar;
+ghost use Rattle.dp_markup.specs.Input.{Reads, closed};
+ghost use Rattle.dp_markup.specs.Reading as spec;
+
+use crate::Memory;
+use crate::growing::Growing;
+use crate::input::Input;
+use crate::refusal::Refusal;
+use crate::states::{StartTag, Tag};
+use dp_value::Bytes;
+use std::alloc::Global;
+use std::ops::ControlFlow;
+
+/// Whether no attribute has this name yet.
+fn is_new(found: &[(Bytes, Bytes)], name: &[u8]) -> bool
+    ensures { result ≡ grammar.is_new found.now name.now }
+{
+    for attribute in found {
+        if same_text(attribute.0.as_slice(), name) {
+            return false;
+        }
+    }
+    true
+}
+
+pub fn same_text(a: &[u8], b: &[u8]) -> bool
+    ensures { result ≡ grammar.same_text a.now b.now }
+{
+    a == b
+}
+
+#[tactic(auto, unfolding(crate::specs::Reading::value_step))]
+fn value_step(
+    input: &mut Input<'_>,
+    quote: u8,
+    mut value: Growing<u8>,
+) -> Result<ControlFlow<Growing<u8>, Growing<u8>>, Refusal>
+    ensures { Reads (spec.value_step quote value input.old) result input.new }
+{
+    if input.sees(quote) {
+        input.mark(quote)?;
+        Ok(ControlFlow::Break(value))
+    } else {
+        let byte = input.value_byte(quote)?;
+        value.push(byte)?;
+        Ok(ControlFlow::Continue(value))
+    }
+}
+
+#[tactic(auto, unfolding(crate::specs::Reading::quoted))]
+fn quoted(alloc: Global, input: &mut Input<'_>, quote: u8) -> Result<Growing<u8>, Refusal>
+    ensures { Reads (spec.quoted quote input.old) result input.new }
+{
+    quoted_from(input, quote, Growing::new(alloc))
+}
+
+fn quoted_from(input: &mut Input<'_>, quote: u8, first: Growing<u8>) -> Result<Growing<u8>, Refusal>
+    ensures { Reads (closed (spec.value_step quote) first input.old) result input.new }
+{
+    let mut state = first;
+    for _turn in 0..input.left() + 1 {
+        match value_step(input, quote, state)? {
+            ControlFlow::Continue(more) => state = more,
+            ControlFlow::Break(all) => return Ok(all),
+        }
+    }
+    Err(input.refuse())
+}
+
+#[tactic(auto, unfolding(crate::specs::Reading::value))]
+fn value(alloc: Global, input: &mut Input<'_>) -> Result<Growing<u8>, Refusal>
+    ensures { Reads (spec.value input.old) result input.new }
+{
+    let quote = input.quote()?;
+    quoted(alloc, input, quote)
+}
+
+#[tactic(auto, unfolding(crate::specs::Reading::spaced_mark_step))]
+fn spaced_mark_step(input: &mut Input<'_>, byte: u8) -> Result<ControlFlow<u8, ()>, Refusal>
+    ensures { Reads (spec.spaced_mark_step byte tt input.old) result input.new }
+{
+    if input.sees(byte) {
+        Ok(ControlFlow::Break(input.mark(byte)?))
+    } else {
+        input.white()?;
+        Ok(ControlFlow::Continue(()))
+    }
+}
+
+/// White space, and then this byte.
+#[tactic(auto, unfolding(crate::specs::Reading::spaced_mark))]
+pub fn spaced_mark(input: &mut Input<'_>, byte: u8) -> Result<u8, Refusal>
+    ensures { Reads (spec.spaced_mark byte input.old) result input.new }
+{
+    for _turn in 0..input.left() + 1 {
+        match spaced_mark_step(input, byte)? {
+            ControlFlow::Continue(()) => {}
+            ControlFlow::Break(all) => return Ok(all),
+        }
+    }
+    Err(input.refuse())
+}
+
+#[tactic(auto, unfolding(crate::specs::Reading::spaced_value_step))]
+fn spaced_value_step(
+    alloc: Global,
+    input: &mut Input<'_>,
+) -> Result<ControlFlow<Growing<u8>, ()>, Refusal>
+    ensures { Reads (spec.spaced_value_step tt input.old) result input.new }
+{
+    if input.sees_quote() {
+        Ok(ControlFlow::Break(value(alloc, input)?))
+    } else {
+        input.white()?;
+        Ok(ControlFlow::Continue(()))
+    }
+}
+
+/// White space, and then a value.
+#[tactic(auto, unfolding(crate::specs::Reading::spaced_value))]
+fn spaced_value(alloc: Global, input: &mut Input<'_>) -> Result<Growing<u8>, Refusal>
+    ensures { Reads (spec.spaced_value input.old) result input.new }
+{
+    for _turn in 0..input.left() + 1 {
+        match spaced_value_step(alloc, input)? {
+            ControlFlow::Continue(()) => {}
+            ControlFlow::Break(all) => return Ok(all),
+        }
+    }
+    Err(input.refuse())
+}
+
+/// An attribute, behind those that were found.
+#[tactic(auto, unfolding(crate::specs::Reading::attribute))]
+fn attribute(
+    alloc: Global,
+    input: &mut Input<'_>,
+    mut found: Growing<(Bytes, Bytes)>,
+) -> Result<Growing<(Bytes, Bytes)>, Refusal>
+    ensures { Reads (spec.attribute found input.old) result input.new }
+{
+    let name = input.name()?;
+    if !is_new(found.as_slice(), name) {
+        return Err(input.refuse());
+    }
+    spaced_mark(input, b'=')?;
+    let value = spaced_value(alloc, input)?;
+    found.push((Bytes::from_slice(alloc, name)?, value.into_bytes()))?;
+    Ok(found)
+}
+
+#[tactic(auto, unfolding(crate::specs::Reading::tag_piece, crate::specs::Input::refuse))]
+fn tag_piece(alloc: Global, input: &mut Input<'_>, tag: Tag) -> Result<Tag, Refusal>
+    ensures { Reads (spec.tag_piece tag input.old) result input.new }
+{
+    let Tag { found, apart } = tag;
+    if input.sees_white() {
+        input.white()?;
+        return Ok(Tag { found, apart: true });
+    }
+    if !apart {
+        return Err(input.refuse());
+    }
+    let found = attribute(alloc, input, found)?;
+    Ok(Tag {
+        found,
+        apart: false,
+    })
+}
+
+/// Whether the start tag that ends here is the whole element.
+#[tactic(auto, unfolding(crate::specs::Reading::tag_end))]
+fn tag_end(input: &mut Input<'_>, name: Bytes, tag: Tag) -> Result<StartTag, Refusal>
+    ensures { Reads (spec.tag_end name tag input.old) result input.new }
+{
+    let Tag { found, apart: _ } = tag;
+    let is_empty = !input.sees(b'>');
+    if is_empty {
+        input.word(b"/>")?;
+    } else {
+        input.mark(b'>')?;
+    }
+    Ok(StartTag {
+        name,
+        attributes: found.into_items(),
+        is_empty,
+    })
+}
+
+#[tactic(auto, unfolding(crate::specs::Reading::tag_step))]
+fn tag_step(
+    alloc: Global,
+    input: &mut Input<'_>,
+    name: &Bytes,
+    tag: Tag,
+) -> Result<ControlFlow<StartTag, Tag>, Refusal>
+    ensures { Reads (spec.tag_step name.now tag input.old) result input.new }
+{
+    if input.sees(b'>') || input.sees(b'/') {
+        let name = name.try_clone()?;
+        Ok(ControlFlow::Break(tag_end(input, name, tag)?))
+    } else {
+        Ok(ControlFlow::Continue(tag_piece(alloc, input, tag)?))
+    }
+}
+
+fn tag_from(
+    alloc: Global,
+    input: &mut Input<'_>,
+    name: &Bytes,
+    first: Tag,
+) -> Result<StartTag, Refusal>
+    ensures { Reads (closed (spec.tag_step name.now) first input.old) result input.new }
+{
+    let mut state = first;
+    for _turn in 0..input.left() + 1 {
+        match tag_step(alloc, input, name, state)? {
+            ControlFlow::Continue(more) => state = more,
+            ControlFlow::Break(all) => return Ok(all),
+        }
+    }
+    Err(input.refuse())
+}
+
+/// A start tag behind its `<`.
+#[tactic(auto, unfolding(crate::specs::Reading::start))]
+pub fn start(alloc: Global, input: &mut Input<'_>) -> Result<StartTag, Refusal>
+    ensures { Reads (spec.start input.old) result input.new }
+{
+    let name = Bytes::from_slice(alloc, input.name()?)?;
+    let found = Growing::new(alloc);
+    tag_from(
+        alloc,
+        input,
+        &name,
+        Tag {
+            found,
+            apart: false,
+        },
+    )
+}

@@ -1,0 +1,53 @@
+ghost use Rattle.std.specs.Prelude.{◌≡◌};
+ghost use Rattle.dp_markup.specs.Classes as class;
+
+use crate::states::Radix;
+
+/// White space of markup: space, tab, line feed, carriage return.
+pub fn is_white(byte: u8) -> bool
+    ensures { result ≡ class.is_white byte }
+{
+    byte == b' ' || byte == b'\t' || byte == b'\n' || byte == b'\r'
+}
+
+fn is_letter(byte: u8) -> bool
+    ensures { result ≡ class.is_letter byte }
+{
+    (b'A' <= byte && byte <= b'Z') || (b'a' <= byte && byte <= b'z')
+}
+
+fn is_digit(byte: u8) -> bool
+    ensures { result ≡ class.is_digit byte }
+{
+    b'0' <= byte && byte <= b'9'
+}
+
+pub fn is_name_start(byte: u8) -> bool
+    ensures { result ≡ class.is_name_start byte }
+{
+    is_letter(byte) || byte == b'_' || byte == b':'
+}
+
+pub fn is_name_byte(byte: u8) -> bool
+    ensures { result ≡ class.is_name_byte byte }
+{
+    is_name_start(byte) || is_digit(byte) || byte == b'-' || byte == b'.'
+}
+
+pub fn is_quote(byte: u8) -> bool
+    ensures { result ≡ class.is_quote byte }
+{
+    byte == b'"' || byte == b'\''
+}
+
+pub fn is_plain_in_text(byte: u8) -> bool
+    ensures { result ≡ class.is_plain_in_text byte }
+{
+    !(byte == b'<' || byte == b'&')
+}
+
+pub fn is_plain_in_value(quote: u8, byte: u8) -> bool
+    ensures { result ≡ class.is_plain_in_value quote byte }
+{
+    !(byte == b'<' || byte == b'&' || byte == quote)
+}

@@ -1,0 +1,190 @@
+ghost use Rattle.std.specs.Prelude.{◌≡◌, ◌++◌, ◌∷◌, [], IfOk};
+ghost use Rattle.dp_markup.specs.Grammar as grammar;
+ghost use Rattle.dp_markup.specs.Input.{Reads, closed, made};
+ghost use Rattle.dp_markup.specs.Reading as spec;
+
+use crate::Memory;
+use crate::attributes::{spaced_mark, start};
+use crate::growing::Growing;
+use crate::input::Input;
+use crate::refusal::Refusal;
+use crate::states::{Content, StartTag};
+use crate::tree::{Element, Node};
+use dp_value::Items;
+use std::alloc::Global;
+use std::ops::ControlFlow;
+
+/// The nodes so far, with the text that ends here, if there is one.
+fn nodes_of(content: Content) -> Result<Growing<Node>, Memory>
+    ensures { IfOk result (λ nodes. nodes ≡ grammar.nodes_of content) }
+{
+    let Content { mut nodes, run } = content;
+    if !run.is_empty() {
+        nodes.push(Node::Text(run.into_bytes()))?;
+    }
+    Ok(nodes)
+}
+
+fn with_child(alloc: Global, content: Content, child: Element) -> Result<Content, Memory>
+    ensures { IfOk result (λ more. more ≡ grammar.with_child content child) }
+{
+    let mut nodes = nodes_of(content)?;
+    nodes.push(Node::Child(child))?;
+    Ok(Content {
+        nodes,
+        run: Growing::new(alloc),
+    })
+}
+
+/// An end tag behind its `</`.
+#[tactic(auto, unfolding(crate::specs::Reading::end_tag))]
+fn end_tag(input: &mut Input<'_>, name: &[u8]) -> Result<u8, Refusal>
+    ensures { Reads (spec.end_tag name.now input.old) result input.new }
+{
+    input.word(name)?;
+    spaced_mark(input, b'>')
+}
+
+/// A section behind its `<!`: its bytes.
+#[tactic(auto, unfolding(crate::specs::Reading::cdata))]
+fn cdata(input: &mut Input<'_>, mut content: Content) -> Result<Content, Refusal>
+    ensures { Reads (made spec.cdata (grammar.with_bytes content) input.old) result input.new }
+{
+    input.word(b"[CDATA[")?;
+    let bytes = input.up_to(b"]]>")?;
+    content.run.extend(bytes)?;
+    Ok(content)
+}
+
+#[cycle(elements)]
+#[tactic(auto, unfolding(crate::specs::Reading::bracket))]
+fn bracket(
+    alloc: Global,
+    input: &mut Input<'_>,
+    level: usize,
+    name: &[u8],
+    content: Content,
+) -> Result<ControlFlow<Growing<Node>, Content>, Refusal>
+    ensures { Reads (spec.bracket (spec.opened level) name.now content input.old) result input.new }
+{
+    if input.sees(b'/') {
+        input.mark(b'/')?;
+        end_tag(input, name)?;
+        return Ok(ControlFlow::Break(nodes_of(content)?));
+    }
+    if input.sees(b'!') {
+        input.mark(b'!')?;
+        return Ok(ControlFlow::Continue(cdata(input, content)?));
+    }
+    let child = opened(alloc, input, level)?;
+    Ok(ControlFlow::Continue(with_child(alloc, content, child)?))
+}
+
+#[cycle(elements)]
+#[tactic(auto, unfolding(crate::specs::Reading::content_step))]
+fn content_step(
+    alloc: Global,
+    input: &mut Input<'_>,
+    level: usize,
+    name: &[u8],
+    mut content: Content,
+) -> Result<ControlFlow<Growing<Node>, Content>, Refusal>
+    ensures { Reads (spec.content_step (spec.opened level) name.now content input.old) result input.new }
+{
+    if input.sees(b'<') {
+        input.mark(b'<')?;
+        bracket(alloc, input, level, name, content)
+    } else {
+        let byte = input.content_byte()?;
+        content.run.push(byte)?;
+        Ok(ControlFlow::Continue(content))
+    }
+}
+
+#[cycle(elements)]
+fn inside_from(
+    alloc: Global,
+    input: &mut Input<'_>,
+    level: usize,
+    name: &[u8],
+    first: Content,
+) -> Result<Growing<Node>, Refusal>
+    ensures { Reads (closed (spec.content_step (spec.opened level) name.now) first input.old) result input.new }
+{
+    let mut state = first;
+    for _turn in 0..input.left() + 1 {
+        match content_step(alloc, input, level, name, state)? {
+            ControlFlow::Continue(more) => state = more,
+            ControlFlow::Break(all) => return Ok(all),
+        }
+    }
+    Err(input.refuse())
+}
+
+/// What stands between the tags, and the end tag.
+#[cycle(elements)]
+#[tactic(auto, unfolding(crate::specs::Reading::inside))]
+fn inside(
+    alloc: Global,
+    input: &mut Input<'_>,
+    level: usize,
+    name: &[u8],
+) -> Result<Growing<Node>, Refusal>
+    ensures { Reads (spec.inside (spec.opened level) name.now input.old) result input.new }
+{
+    let nodes = Growing::new(alloc);
+    let run = Growing::new(alloc);
+    inside_from(alloc, input, level, name, Content { nodes, run })
+}
+
+#[cycle(elements)]
+#[tactic(auto, unfolding(crate::specs::Reading::behind_start))]
+fn behind_start(
+    alloc: Global,
+    input: &mut Input<'_>,
+    level: usize,
+    tag: StartTag,
+) -> Result<Element, Refusal>
+    ensures { Reads (spec.behind_start (spec.opened level) tag.is_empty tag input.old) result input.new }
+{
+    let StartTag {
+        name,
+        attributes,
+        is_empty,
+    } = tag;
+    let children = if is_empty {
+        Growing::new(alloc)
+    } else {
+        inside(alloc, input, level, name.as_slice())?
+    };
+    Ok(Element {
+        name,
+        attributes,
+        children: children.into_items(),
+    })
+}
+
+#[cycle(elements)]
+#[tactic(auto, unfolding(crate::specs::Reading::element_in))]
+fn element_in(alloc: Global, input: &mut Input<'_>, level: usize) -> Result<Element, Refusal>
+    ensures { Reads (spec.element_in (spec.opened level) input.old) result input.new }
+{
+    let tag = start(alloc, input)?;
+    behind_start(alloc, input, level, tag)
+}
+
+/// An element behind its `<`, with so many levels.
+#[cycle(elements)]
+#[tactic(auto, using(crate::proofs::Levels::opened_none, crate::proofs::Levels::opened_some), unfolding(crate::specs::Reading::no_level, crate::specs::Input::refuse))]
+pub fn opened(alloc: Global, input: &mut Input<'_>, level: usize) -> Result<Element, Refusal>
+    ensures { Reads (spec.opened level input.old) result input.new }
+{
+    if level > 0 {
+        return element_in(alloc, input, level - 1);
+    }
+    if input.sees_name() {
+        Err(Refusal::TooDeep(input.left()))
+    } else {
+        Err(input.refuse())
+    }
+}

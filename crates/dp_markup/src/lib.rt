@@ -1,0 +1,25 @@
+//! The markup of DBGp packets: trees of elements, read from their bytes and written as bytes.
+#![tactic(auto)]
+
+mod attributes;
+mod classes;
+mod documents;
+mod elements;
+mod error;
+mod growing;
+mod input;
+mod reading;
+mod references;
+mod refusal;
+mod states;
+mod tree;
+mod writing;
+
+pub use dp_value::Memory;
+pub use error::MarkupError;
+pub use reading::{head_attribute, read, reread};
+pub use tree::{Element, Node};
+pub use writing::write;
+
+#[cfg(test)]
+mod tests;

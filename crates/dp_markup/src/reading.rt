@@ -1,0 +1,118 @@
+ghost use Rattle.std.specs.Prelude.{◌≡◌, ◌≢◌, ◌⊎◌, ◌≤◌, ◌-◌, ℕ, length, IfOk, MatchResult};
+ghost use Rattle.dp_markup.specs.Input.{Reads};
+ghost use Rattle.dp_markup.specs.Reading as spec;
+ghost use Rattle.dp_markup.specs.Grammar.{IsMarkup, Document, limit};
+ghost use Rattle.dp_markup.specs.Grammar.{BeginsWithHead, heads, root_value, value_of};
+ghost use Rattle.dp_markup.specs.Readable.{IsReadable};
+ghost use Rattle.dp_markup.specs.Verdict.{GivesValue, Refuses};
+ghost use Rattle.dp_markup.specs.Refused.{IsFirstBad, IsFirstTooDeep};
+ghost use Rattle.dp_markup.specs.declared.tree.Element.{Element as Tree};
+ghost use Rattle.dp_markup.specs.declared.states.StartTag.{StartTag as Tag};
+
+use crate::Memory;
+use crate::attributes::same_text;
+use crate::documents::{document, head_of};
+use crate::error::MarkupError;
+use crate::input::Input;
+use crate::refusal::Refusal;
+use crate::states::StartTag;
+use crate::tree::Element;
+use crate::writing::write;
+use dp_value::Bytes;
+use std::alloc::Global;
+
+/// At most so many elements are open at a place.
+#[tactic(auto, unfolding(crate::specs::Grammar::limit))]
+fn levels() -> usize
+    ensures { result ≡ limit }
+{
+    64
+}
+
+/// The element whose markup the bytes are: a whole text, with or without a declaration.
+pub fn read(alloc: Global, bytes: &[u8]) -> Result<Element, MarkupError>
+    ensures found { IfOk result (λ e. IsMarkup bytes.now e) }
+    ensures only { (e : Tree) → IsMarkup bytes.now e → GivesValue result e }
+    ensures readable { IfOk result (λ e. IsReadable limit e) }
+
+    // The offset is that of the first byte with which no text begins, or the length where
+    // the end is wrong.
+    ensures bad { (at : ℕ) → result ≡ Err (MarkupError.BadMarkup at) →
+        IsFirstBad Document limit bytes.now at }
+    ensures bad_only { (at : ℕ) → IsFirstBad Document limit bytes.now at →
+        Refuses result (MarkupError.BadMarkup at) }
+    ensures too_deep { result ≡ Err MarkupError.TooDeep → (at : ℕ) ×
+        IsFirstTooDeep Document limit bytes.now at }
+    ensures too_deep_only { (at : ℕ) → IsFirstTooDeep Document limit bytes.now at →
+        Refuses result MarkupError.TooDeep }
+{
+    let mut input = Input::new(bytes);
+    match document(alloc, &mut input, levels()) {
+        Ok(e) => Ok(e),
+        Err(Refusal::Unexpected(left)) => Err(MarkupError::BadMarkup {
+            offset: bytes.len() - left,
+        }),
+        Err(Refusal::TooDeep(_left)) => Err(MarkupError::TooDeep),
+        Err(Refusal::Memory) => Err(MarkupError::Memory),
+    }
+}
+
+/// The element that is read of what is written of this one: the same.
+pub fn reread(alloc: Global, element: &Element) -> Result<Element, MarkupError>
+    requires { IsReadable limit element.now }
+    ensures { GivesValue result element.now }
+{
+    let text = write(alloc, element)?;
+    read(alloc, text.as_slice())
+}
+
+/// The value of the attribute `name` of the root, without reading further than the end of the
+/// root's start tag: `None` where the root has another name than `root`, or no such attribute.
+/// Never answers `TooDeep`.
+pub fn head_attribute(
+    alloc: Global,
+    bytes: &[u8],
+    root: &[u8],
+    name: &[u8],
+) -> Result<Option<Bytes>, MarkupError>
+    ensures found { IfOk result (λ value. (tag : Tag) × BeginsWithHead bytes.now tag ×
+        (value ≡ root_value tag root.now name.now)) }
+    ensures only { (tag : Tag) → BeginsWithHead bytes.now tag →
+        GivesValue result (root_value tag root.now name.now) }
+    ensures bad { (at : ℕ) → result ≡ Err (MarkupError.BadMarkup at) →
+        IsFirstBad heads 0 bytes.now at }
+    ensures bad_only { (at : ℕ) → IsFirstBad heads 0 bytes.now at →
+        Refuses result (MarkupError.BadMarkup at) }
+    ensures never_too_deep { result ≢ Err MarkupError.TooDeep }
+{
+    let mut input = Input::new(bytes);
+    match head_of(alloc, &mut input) {
+        Ok(tag) => Ok(root_value_of(&tag, root, name)?),
+        Err(Refusal::Unexpected(left)) => Err(MarkupError::BadMarkup {
+            offset: bytes.len() - left,
+        }),
+        Err(Refusal::TooDeep(_left)) => Err(MarkupError::TooDeep),
+        Err(Refusal::Memory) => Err(MarkupError::Memory),
+    }
+}
+
+fn root_value_of(tag: &StartTag, root: &[u8], name: &[u8]) -> Result<Option<Bytes>, Memory>
+    ensures { IfOk result (λ value. value ≡ root_value tag.now root.now name.now) }
+{
+    if same_text(tag.name.as_slice(), root) {
+        value_in(tag.attributes.as_slice(), name)
+    } else {
+        Ok(None)
+    }
+}
+
+fn value_in(attributes: &[(Bytes, Bytes)], name: &[u8]) -> Result<Option<Bytes>, Memory>
+    ensures { IfOk result (λ value. value ≡ value_of attributes.now name.now) }
+{
+    for attribute in attributes {
+        if same_text(attribute.0.as_slice(), name) {
+            return Ok(Some(attribute.1.try_clone()?));
+        }
+    }
+    Ok(None)
+}

@@ -1,0 +1,221 @@
+ghost use Rattle.std.specs.Prelude.{◌≡◌, ◌+◌, ◌-◌, ◌≤◌, length};
+ghost use Rattle.dp_markup.specs.Classes as class;
+ghost use Rattle.dp_markup.specs.Rules.{passing};
+ghost use Rattle.dp_markup.specs.Input.{Reads, closed, one};
+ghost use Rattle.dp_markup.specs.Reading as spec;
+ghost use Rattle.dp_markup.specs.Reading.{behind_of};
+
+use crate::classes::{is_plain_in_text, is_plain_in_value};
+use crate::input::Input;
+use crate::refusal::Refusal;
+use crate::states::Radix;
+use std::ops::ControlFlow;
+
+/// The number that the decimal digit makes behind this one, up to 255.
+#[tactic(auto, unfolding(crate::specs::Classes::decimal_behind))]
+fn decimal_behind(number: u8, digit: u8) -> Option<u8>
+    ensures { result ≡ class.decimal_behind number digit }
+{
+    if b'0' <= digit && digit <= b'9' {
+        within_byte(u16::from(number) * 10 + u16::from(digit - b'0'))
+    } else {
+        None
+    }
+}
+
+fn within_byte(number: u16) -> Option<u8>
+    ensures { result ≡ class.within_byte number }
+{
+    if number <= 255 {
+        Some(number as u8)
+    } else {
+        None
+    }
+}
+
+#[tactic(auto, unfolding(crate::specs::Classes::hexadecimal_behind))]
+fn hexadecimal_behind(number: u8, digit: u8) -> Option<u8>
+    ensures { result ≡ class.hexadecimal_behind number digit }
+{
+    if b'0' <= digit && digit <= b'9' {
+        within_byte(u16::from(number) * 16 + u16::from(digit - b'0'))
+    } else if b'a' <= digit && digit <= b'f' {
+        within_byte(u16::from(number) * 16 + u16::from(digit - 87))
+    } else if b'A' <= digit && digit <= b'F' {
+        within_byte(u16::from(number) * 16 + u16::from(digit - 55))
+    } else {
+        None
+    }
+}
+
+fn digit_behind(radix: Radix, number: u8, digit: u8) -> Option<u8>
+    ensures { result ≡ behind_of radix number digit }
+{
+    match radix {
+        Radix::Decimal => decimal_behind(number, digit),
+        Radix::Hexadecimal => hexadecimal_behind(number, digit),
+    }
+}
+
+impl<'a> Input<'a> {
+    /// A digit, for the number that it makes behind this one.
+    fn digit(&mut self, radix: Radix, number: u8) -> Result<u8, Refusal>
+        ensures { Reads (one (behind_of radix number) self.old) result self.new }
+    {
+        let Some(byte) = self.peek() else {
+            return Err(self.refuse());
+        };
+        match digit_behind(radix, number, byte) {
+            Some(more) => {
+                self.skip();
+                Ok(more)
+            }
+            None => Err(self.refuse()),
+        }
+    }
+
+    #[tactic(auto, unfolding(crate::specs::Reading::number_step))]
+    fn number_step(&mut self, radix: Radix, number: u8) -> Result<ControlFlow<u8, u8>, Refusal>
+        ensures { Reads (spec.number_step (behind_of radix) number self.old) result self.new }
+    {
+        if self.sees(b';') {
+            self.mark(b';')?;
+            Ok(ControlFlow::Break(number))
+        } else {
+            Ok(ControlFlow::Continue(self.digit(radix, number)?))
+        }
+    }
+
+    fn number_from(&mut self, radix: Radix, first: u8) -> Result<u8, Refusal>
+        ensures { Reads (closed (spec.number_step (behind_of radix)) first self.old) result self.new }
+    {
+        let mut state = first;
+        for _turn in 0..self.left() + 1 {
+            match self.number_step(radix, state)? {
+                ControlFlow::Continue(more) => state = more,
+                ControlFlow::Break(all) => return Ok(all),
+            }
+        }
+        Err(self.refuse())
+    }
+
+    #[tactic(auto, unfolding(crate::specs::Reading::number))]
+    fn number(&mut self, radix: Radix) -> Result<u8, Refusal>
+        ensures { Reads (spec.number (behind_of radix) self.old) result self.new }
+    {
+        let first = self.digit(radix, 0)?;
+        self.number_from(radix, first)
+    }
+
+    #[tactic(auto, unfolding(crate::specs::Reading::by_number))]
+    fn by_number(&mut self) -> Result<u8, Refusal>
+        ensures { Reads (spec.by_number self.old) result self.new }
+    {
+        if self.sees(b'x') {
+            self.mark(b'x')?;
+            self.number(Radix::Hexadecimal)
+        } else {
+            self.number(Radix::Decimal)
+        }
+    }
+
+    /// The rest of a name of a byte, and the byte.
+    #[tactic(auto, unfolding(crate::specs::Reading::named))]
+    fn named(&mut self, rest: &[u8], byte: u8) -> Result<u8, Refusal>
+        ensures { Reads (spec.named rest.now byte self.old) result self.new }
+    {
+        self.word(rest)?;
+        Ok(byte)
+    }
+
+    #[tactic(auto, unfolding(crate::specs::Reading::by_a))]
+    fn by_a(&mut self) -> Result<u8, Refusal>
+        ensures { Reads (spec.by_a self.old) result self.new }
+    {
+        if self.sees(b'm') {
+            self.named(b"mp;", b'&')
+        } else {
+            self.named(b"pos;", b'\'')
+        }
+    }
+
+    #[tactic(auto, unfolding(crate::specs::Reading::entity))]
+    fn entity(&mut self) -> Result<u8, Refusal>
+        ensures { Reads (spec.entity self.old) result self.new }
+    {
+        if self.sees(b'#') {
+            self.mark(b'#')?;
+            self.by_number()
+        } else if self.sees(b'a') {
+            self.mark(b'a')?;
+            self.by_a()
+        } else if self.sees(b'l') {
+            self.named(b"lt;", b'<')
+        } else if self.sees(b'g') {
+            self.named(b"gt;", b'>')
+        } else {
+            self.named(b"quot;", b'"')
+        }
+    }
+
+    /// A reference to a byte.
+    #[tactic(auto, unfolding(crate::specs::Reading::reference))]
+    fn reference(&mut self) -> Result<u8, Refusal>
+        ensures { Reads (spec.reference self.old) result self.new }
+    {
+        self.mark(b'&')?;
+        self.entity()
+    }
+
+    fn plain_in_value(&mut self, quote: u8) -> Result<u8, Refusal>
+        ensures { Reads (one (passing (class.is_plain_in_value quote)) self.old) result self.new }
+    {
+        let Some(byte) = self.peek() else {
+            return Err(self.refuse());
+        };
+        if is_plain_in_value(quote, byte) {
+            self.skip();
+            Ok(byte)
+        } else {
+            Err(self.refuse())
+        }
+    }
+
+    fn plain_in_text(&mut self) -> Result<u8, Refusal>
+        ensures { Reads (one (passing class.is_plain_in_text) self.old) result self.new }
+    {
+        let Some(byte) = self.peek() else {
+            return Err(self.refuse());
+        };
+        if is_plain_in_text(byte) {
+            self.skip();
+            Ok(byte)
+        } else {
+            Err(self.refuse())
+        }
+    }
+
+    /// A byte of a value, by itself or by a reference.
+    #[tactic(auto, unfolding(crate::specs::Reading::value_byte))]
+    pub fn value_byte(&mut self, quote: u8) -> Result<u8, Refusal>
+        ensures { Reads (spec.value_byte quote self.old) result self.new }
+    {
+        if self.sees(b'&') {
+            self.reference()
+        } else {
+            self.plain_in_value(quote)
+        }
+    }
+
+    /// A byte of a text, by itself or by a reference.
+    #[tactic(auto, unfolding(crate::specs::Reading::content_byte))]
+    pub fn content_byte(&mut self) -> Result<u8, Refusal>
+        ensures { Reads (spec.content_byte self.old) result self.new }
+    {
+        if self.sees(b'&') {
+            self.reference()
+        } else {
+            self.plain_in_text()
+        }
+    }
+}

@@ -1,0 +1,33 @@
+use crate::growing::Growing;
+use crate::tree::Node;
+use dp_value::{Bytes, Items};
+
+/// How far a start tag has been read: its attributes so far, and whether white space came last.
+#[derive(Debug, Drop)]
+pub struct Tag {
+    pub found: Growing<(Bytes, Bytes)>,
+    pub apart: bool,
+}
+
+/// A start tag: `is_empty` where it is the whole element, as `<a/>`.
+#[derive(Debug, Drop)]
+pub struct StartTag {
+    pub name: Bytes,
+    pub attributes: Items<(Bytes, Bytes)>,
+    pub is_empty: bool,
+}
+
+/// How far the content of an element has been read: its nodes so far, and the bytes of the text
+/// that is not ended yet.
+#[derive(Debug, Drop)]
+pub struct Content {
+    pub nodes: Growing<Node>,
+    pub run: Growing<u8>,
+}
+
+/// How the number of a reference is written.
+#[derive(Debug, Clone, Copy)]
+pub enum Radix {
+    Decimal,
+    Hexadecimal,
+}
