@@ -1,18 +1,17 @@
 -- The end of a session over a link.
-use Rattle.std.proofs.Common.{◌≡◌, ◌≢◌, ◌⊎◌, ◌≤◌, ℕ, ◌+◌, List, [], ◌∷◌, ◌++◌, length, Option, None, Some, refl, sym, ap, ◌∙◌, subst, arith, inl, inr, ⊎_elim, append_assoc, append-nil}
-use Rattle.std.specs.List.{flat_map, AllByRecursion}
+use Rattle.std.proofs.Common.{◌≡◌, ◌⊎◌, ◌≤◌, ℕ, ◌+◌, List, [], ◌∷◌, ◌++◌, length, Option, None, Some, refl, sym, ap, ◌∙◌, subst, arith, inl, inr, ⊎_elim, append_assoc, append-nil}
+use Rattle.std.specs.List.{flat_map}
 use Rattle.std.specs.Io.KnownBytes.{Appends}
 use Rattle.std.proofs.KnownBytes.{Appends-trans}
 use Rattle.dp_outside.specs.Causes.{Rose}
-use Rattle.dp_wire.specs.Frames.{Splits, IsCommand, command_frame, commands_in, rest_of, packet_frame, IsPartialCommand, BeginsNoCommand}
+use Rattle.dp_wire.specs.Frames.{IsCommand, command_frame, commands_in, rest_of, packet_frame, IsPartialCommand, BeginsNoCommand}
 use Rattle.dp_wire.proofs.SplitLaws.{no_frame_begins, one_split_lem, commands_split}
 use Rattle.dp_top.specs.declared.serving.ServeEnd.{ServeEnd}
 use Rattle.dp_top.specs.declared.serving.ServeEnd.TheVariants.{Stopped, LinkEnd, ReadFault, WriteFault, OutFault, BadCommandFrame, ByteLimit, Memory}
-use Rattle.dp_top.specs.declared.sessions.Outcome.{Outcome}
 use Rattle.dp_top.specs.declared.sessions.Outcome.TheVariants.{Done}
 use Rattle.dp_top.specs.declared.sessions.SessionEnd.{SessionEnd}
 use Rattle.dp_top.specs.declared.sessions.SessionEnd.TheVariants.{Finished}
-use Rattle.dp_top.specs.Exchanges.{Stands, Conversation, Converses}
+use Rattle.dp_top.specs.Exchanges.{Stands, Converses}
 use Rattle.dp_top.specs.Folds.{Reply, quiet, unless_ended, followed, replies}
 use Rattle.dp_top.specs.Links.{Change, change}
 use Rattle.dp_top.specs.Serving.{EndsBy, IsServed, Serves, RanOn, CanRunOn, outcome_of}

@@ -1,8 +1,8 @@
 -- What is fetched is a file's content, and what serving a session came to decides the command's end.
-use Rattle.std.proofs.Common.{◌≡◌, ◌⊎◌, ℕ, ◌+◌, ◌<◌, ◌≤◌, List, length, take, Option, None, Some, Result, Ok, Err, MatchResult, refl, sym, ap, ◌∙◌, subst, arith, inl, inr, ⊎_elim, codes, [], ◌∷◌, length-take}
+use Rattle.std.proofs.Common.{◌≡◌, ◌⊎◌, ℕ, ◌+◌, ◌<◌, ◌≤◌, List, length, Option, None, Some, MatchResult, refl, sym, ap, ◌∙◌, subst, arith, inl, inr, ⊎_elim, codes, [], ◌∷◌, length-take}
 use Rattle.std.proofs.lemmas.List.{take_all}
 use Rattle.dp_outside.specs.Causes.{Rose}
-use Rattle.dp_outside.specs.Files.{content_of, Fetches, Lacks}
+use Rattle.dp_outside.specs.Files.{Fetches, Lacks}
 use Rattle.dp_top.specs.declared.failures.Failure.{Failure}
 use Rattle.dp_top.specs.declared.failures.Failure.TheVariants as failure
 use Rattle.dp_top.specs.declared.serving.ServeEnd.{ServeEnd}
@@ -11,7 +11,7 @@ use Rattle.dp_top.specs.Links.{Change}
 use Rattle.dp_top.specs.Numbers.{IsThin, BreaksAt}
 use Rattle.dp_top.specs.Serving.{Serves}
 use Rattle.dp_top.specs.CommandLine.{IsTalk}
-use Rattle.dp_top.specs.Talk.{Files, HasContent, IsProgram, IsTooLong, IsNotThin, IsTalked, Talks, Caused, FileCaused, IsNotBegun, judged, file_limit, status_of, line_of, Says, ThenSays, Fails, IsDone, Tells, IsRefused, IsAccepted, NoneRose}
+use Rattle.dp_top.specs.Talk.{Files, HasContent, IsProgram, IsTooLong, IsNotThin, Talks, Caused, FileCaused, IsNotBegun, judged, file_limit, status_of, line_of, Says, Fails, IsDone, Tells, IsRefused, IsAccepted, NoneRose}
 use Rattle.dp_top.proofs.NumberLaws.{broken_is_none}
 
 -- ---- files

@@ -1,5 +1,4 @@
 -- What contracts see of an answer.
-use Rattle.std.specs.Prelude.{List, ℕ}
 use Rattle.dp_top.specs.declared.sessions.Answer.{Answer}
 use Rattle.dp_top.specs.declared.sessions.SessionEnd.{SessionEnd}
 use Rattle.dp_top.specs.Folds.{Reply}

@@ -1,5 +1,5 @@
 -- What follows a front of a list of bytes.
-use Rattle.std.specs.Prelude.{◌≡◌, ℕ, List, [], ◌∷◌, ◌++◌, Option, None, Some, if◌then◌else◌, ◌==◌}
+use Rattle.std.specs.Prelude.{ℕ, List, [], ◌∷◌, Option, None, Some, if◌then◌else◌, ◌==◌}
 
 -- what follows this front, where the bytes begin with it
 abbrev pub without_front : List ℕ → List ℕ → Option (List ℕ)

@@ -1,5 +1,5 @@
 -- What a call does to the objects of the outside that it is lent.
-use Rattle.std.specs.Prelude.{◌≡◌, ℕ, ◌≤◌, List}
+use Rattle.std.specs.Prelude.{ℕ, List}
 use Rattle.std.specs.declared.option.Option.{Option}
 
 -- what an object told and how often it had failed, before a call and after it

@@ -1,5 +1,5 @@
 -- The command lines that are understood: a name, ` -i ` and a transaction id. DBGp 1.0, "Commands".
-use Rattle.std.specs.Prelude.{◌≡◌, ℕ, ◌≤◌, Bool, true, List, [], ◌∷◌, ◌++◌, length, drop, Option, None, Some, if◌then◌else◌, ◌&&◌, ◌||◌, nat_le, codes}
+use Rattle.std.specs.Prelude.{ℕ, Bool, List, ◌++◌, length, Option, None, Some, if◌then◌else◌, ◌&&◌, ◌||◌, nat_le, codes}
 use Rattle.std.specs.List.{list_all}
 use Rattle.dp_top.specs.Fronts.{without_front}
 use Rattle.dp_top.specs.declared.orders.Verb.{Verb}

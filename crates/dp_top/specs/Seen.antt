@@ -1,5 +1,4 @@
 -- What contracts see of values that borrow or own memory.
-use Rattle.std.specs.Prelude.{List, ℕ}
 use Rattle.dp_top.specs.declared.orders.Order.{Order}
 use Rattle.dp_top.specs.Orders as spec
 

@@ -1,5 +1,5 @@
 -- A session of the engine with one IDE over a program of numbers: DBGp 1.0, "Continuation Commands" and "status".
-use Rattle.std.specs.Prelude.{◌≡◌, ℕ, ◌+◌, ◌-◌, Bool, List, [], ◌∷◌, ◌++◌, length, drop, Option, None, Some, if◌then◌else◌, nat_lt, codes}
+use Rattle.std.specs.Prelude.{ℕ, ◌+◌, ◌-◌, List, [], ◌∷◌, ◌++◌, length, drop, Option, None, Some, if◌then◌else◌, nat_lt, codes}
 use Rattle.std.specs.List.{flat_map}
 use Rattle.dp_top.specs.declared.sessions.Phase.{Phase}
 use Rattle.dp_top.specs.declared.sessions.Phase.TheVariants.{Starting, Break, Stopping}

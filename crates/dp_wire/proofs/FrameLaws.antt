@@ -1,8 +1,7 @@
 -- What a NUL does to a list of bytes: the first one ends a command.
-use Rattle.std.proofs.Common.{◌≡◌, ◌≢◌, ℕ, ◌+◌, ◌<◌, ◌≤◌, Bool, true, false, not, ◌&&◌, cond, eqb, leb, List, [], ◌∷◌, ◌++◌, length, take, drop, refl, sym, ap, ◌∙◌, subst, append_assoc, append-nil, arith, length-append, rules}
-use Rattle.std.specs.List.{list_all, flat_map}
+use Rattle.std.proofs.Common.{◌≡◌, ◌≢◌, ℕ, ◌<◌, ◌≤◌, Bool, true, false, not, ◌&&◌, cond, eqb, leb, List, [], ◌∷◌, ◌++◌, length, refl, sym, ap, ◌∙◌, subst, append-nil, arith, length-append}
 use Rattle.std.proofs.lemmas.Bool.{and_parts, not-true, le-leb, leb-true, false≢true}
-use Rattle.dp_wire.specs.Frames.{has_no_nul, IsCommand, command_frame, command_limit, ended_texts, widened, up_to_limit, commands_in, IsPartialCommand, BeginsNoCommand, BeginsCommand}
+use Rattle.dp_wire.specs.Frames.{has_no_nul, command_limit, ended_texts, widened, up_to_limit, commands_in}
 
 -- ---- has_no_nul
 

@@ -1,14 +1,13 @@
 -- What a splitter says of the bytes that it holds, by the place of their first NUL.
-use Rattle.std.proofs.Common.{◌≡◌, ◌≢◌, ℕ, ◌+◌, ◌<◌, ◌≤◌, Bool, true, false, List, [], ◌∷◌, ◌++◌, Option, None, Some, length, take, drop, refl, sym, ap, ◌∙◌, subst, append_assoc, append-nil, arith, length-append, length-take, length-drop}
+use Rattle.std.proofs.Common.{◌≡◌, ◌≢◌, ℕ, ◌+◌, ◌<◌, ◌≤◌, true, List, [], ◌∷◌, ◌++◌, Some, length, take, drop, refl, sym, ap, ◌∙◌, subst, append_assoc, append-nil, arith, length-append, length-take}
 use Rattle.std.proofs.lemmas.Bool.{and_from}
-use Rattle.std.specs.List.{list_all}
 use Rattle.std.proofs.lemmas.List.Folds.{list_all-append}
 use Rattle.std.proofs.lemmas.List.{take-append-le, drop-append-le}
 use Rattle.std.proofs.Math.Seq.{drop-append-add, take-append-add}
 use Rattle.dp_wire.specs.Frames.{has_no_nul, IsCommand, command_frame, command_limit, commands_in, BeginsCommand, IsPartialCommand, BeginsNoCommand}
 use Rattle.dp_wire.specs.Held.{FirstNul}
-use Rattle.dp_wire.proofs.FrameLaws.{no_nul-at, same_text, no_shorter, partial_front, commands-text, commands-partial, commands-long}
-use Rattle.dp_wire.proofs.SplitLaws.{framed, same_frame}
+use Rattle.dp_wire.proofs.FrameLaws.{no_nul-at, same_text, no_shorter, partial_front, commands-text, commands-long}
+use Rattle.dp_wire.proofs.SplitLaws.{framed}
 
 module _ (now : List ℕ) (n : ℕ) (found : FirstNul now (Some n)) where
   pub front_length : length (take n now) ≡ n

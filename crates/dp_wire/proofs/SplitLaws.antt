@@ -1,10 +1,10 @@
 -- Bytes are split into commands and a rest in one way.
-use Rattle.std.proofs.Common.{◌≡◌, ◌≢◌, ℕ, ◌+◌, ◌<◌, ◌≤◌, Bool, true, false, cond, eqb, leb, List, [], ◌∷◌, ◌++◌, length, take, drop, refl, sym, ap, ◌∙◌, subst, append_assoc, append-nil, arith, length-append, rules}
-use Rattle.std.specs.List.{list_all, flat_map, AllByRecursion}
+use Rattle.std.proofs.Common.{◌≡◌, ℕ, ◌≤◌, Bool, true, false, cond, eqb, leb, List, [], ◌∷◌, ◌++◌, length, drop, refl, sym, ap, ◌∙◌, subst, append_assoc, append-nil}
+use Rattle.std.specs.List.{flat_map, AllByRecursion}
 use Rattle.std.proofs.lemmas.Bool.{leb-true, le-leb, eqb-true, false≢true}
 use Rattle.std.proofs.Math.Seq.{drop-append_seam}
 use Rattle.dp_wire.specs.Frames.{has_no_nul, Splits, IsCommand, command_frame, command_limit, ended_texts, widened, up_to_limit, commands_in, rest_of}
-use Rattle.dp_wire.proofs.FrameLaws.{no_nul-at, no_nul-head, no_nul-tail, same_text}
+use Rattle.dp_wire.proofs.FrameLaws.{no_nul-at, same_text}
 
 -- a frame and what follows it, with the NUL in its place
 pub framed : (line more : List ℕ) → command_frame line ++ more ≡ line ++ 0 ∷ more

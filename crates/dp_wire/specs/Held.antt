@@ -1,5 +1,5 @@
 -- What a splitter knows of the bytes that it holds.
-use Rattle.std.specs.Prelude.{◌≡◌, ℕ, ◌+◌, true, List, [], ◌∷◌, ◌++◌, take, drop, Option, None, Some}
+use Rattle.std.specs.Prelude.{◌≡◌, ℕ, ◌+◌, true, List, ◌∷◌, ◌++◌, take, drop, Option, None, Some}
 use Rattle.dp_wire.specs.Frames.{has_no_nul}
 
 -- the first NUL stands behind so many bytes; or there is none

@@ -1,7 +1,4 @@
-use Rattle.std.proofs.Common.{◌≡◌, ◌≤◌, ℕ, ◌+◌, None, Some, List, ◌∷◌, ◌++◌, length, take, drop, refl, sym, ap, ◌∙◌, subst, arith, rules}
-use Rattle.dp_wire.specs.Frames.{BeginsCommand, commands_in}
-use Rattle.dp_top.specs.Exchanges.{Reached, Delivers}
-use Rattle.dp_top.specs.Links.{change}
+use Rattle.std.proofs.Common.{take, refl, sym, ◌∙◌, arith}
 use Rattle.dp_top.specs.Sessions.{step}
 use Rattle.dp_top.proofs.ServingLaws.{reached_first, reached_next, front_dropped}
 use Rattle.dp_top.proofs.serving.answer_held.Goals as goal

@@ -1,8 +1,8 @@
-use Rattle.std.proofs.Common.{◌≡◌, ◌<◌, ◌≤◌, ℕ, ◌+◌, ◌-◌, None, Some, Option, List, [], ◌∷◌, ◌++◌, length, refl, sym, ap, ◌∙◌, subst, arith, length-append, length-take}
+use Rattle.std.proofs.Common.{◌≡◌, ℕ, None, Some, List, [], ◌++◌, length, refl, sym, ap, ◌∙◌, subst, arith, length-append, length-take}
 use Rattle.std.specs.List.{flat_map}
-use Rattle.dp_wire.specs.Frames.{IsPartialCommand, BeginsNoCommand, command_frame}
+use Rattle.dp_wire.specs.Frames.{IsPartialCommand, command_frame}
 use Rattle.dp_wire.proofs.NextLaws.{none_partial}
-use Rattle.dp_top.specs.Exchanges.{Conversation, StopsBy}
+use Rattle.dp_top.specs.Exchanges.{Conversation}
 use Rattle.dp_top.specs.Links.{change}
 use Rattle.dp_top.specs.Sessions.{step}
 use Rattle.dp_top.specs.declared.sessions.SessionEnd.{SessionEnd}

@@ -1,4 +1,4 @@
-use Rattle.std.proofs.Common.{◌≡◌, ◌<◌, ◌≤◌, ℕ, List, length, Err, ap, subst}
+use Rattle.std.proofs.Common.{◌<◌, ◌≤◌, ℕ, List, length, Err, ap, subst}
 use Rattle.dp_top.specs.Numbers.{IsThin, BreaksAt}
 use Rattle.dp_top.proofs.TalkLaws.{fetched_whole, fetched_long}
 use Rattle.dp_top.proofs.talk.fetch_program.Goals as goal

@@ -1,4 +1,4 @@
-use Rattle.std.proofs.Common.{◌≡◌, ◌++◌, List, sym, ◌∙◌, codes}
+use Rattle.std.proofs.Common.{◌≡◌, sym, ◌∙◌, codes}
 use Rattle.dp_top.proofs.NumberLaws.{operand, echo-operand, same_rest, same_operand}
 use Rattle.dp_top.proofs.thin.statement.Goals as goal
 

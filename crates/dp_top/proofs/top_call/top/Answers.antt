@@ -1,4 +1,4 @@
-use Rattle.dp_top.proofs.TalkLaws.{fails_told, complete_fails, refused_fails_so, refused_done}
+use Rattle.dp_top.proofs.TalkLaws.{fails_told, complete_fails, refused_fails_so}
 use Rattle.dp_top.proofs.top_call.top.Goals as goal
 
 pub returns-in-Err-clause-fails : goal.returns-in-Err-clause-fails

@@ -1,6 +1,6 @@
-use Rattle.std.proofs.Common.{subst, None, Option}
+use Rattle.std.proofs.Common.{subst}
 use Rattle.dp_wire.specs.Held.{FirstNul}
-use Rattle.dp_wire.proofs.NextLaws.{first_comes, first_stays, none_comes}
+use Rattle.dp_wire.proofs.NextLaws.{first_comes}
 use Rattle.dp_wire.proofs.commands.first_with.Goals as goal
 
 pub returns-in-Some-first_nul : goal.returns-in-Some-first_nul

@@ -1,7 +1,7 @@
-use Rattle.std.proofs.Common.{◌≡◌, ◌<◌, ◌≤◌, ℕ, true, refl, Option, None, Some, List, length, drop, subst, sym, arith, rules, length-drop}
-use Rattle.dp_wire.specs.Frames.{command_limit, has_no_nul}
+use Rattle.std.proofs.Common.{◌≡◌, ◌<◌, ◌≤◌, ℕ, refl, Option, None, Some, List, length, drop, subst, arith, rules, length-drop}
+use Rattle.dp_wire.specs.Frames.{command_limit}
 use Rattle.dp_wire.specs.Held.{FirstNul}
-use Rattle.dp_wire.proofs.NextLaws.{some_partial, some_refused, some_first, none_partial, none_refused, IsLong, long_some, long_none, long_refused, long_partial, long_never}
+use Rattle.dp_wire.proofs.NextLaws.{some_partial, some_refused, some_first, none_partial, none_refused, long_some, long_none, long_refused, long_partial, long_never}
 use Rattle.dp_wire.proofs.FrameLaws.{commands-partial}
 use Rattle.dp_wire.proofs.commands.Commands.next.Goals as goal
 
