@@ -17,4 +17,6 @@ pub use sessions::{Answer, Outcome, Session, SessionEnd};
 pub use top_call::top;
 
 #[cfg(test)]
+mod plain;
+#[cfg(test)]
 mod tests;

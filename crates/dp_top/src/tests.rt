@@ -1,4 +1,5 @@
 use super::*;
+use crate::plain::alone;
 use dp_outside::{ByteSink, ByteSource, MapShelf, NoNet, NoSpawner};
 use dp_value::Memory;
 use std::alloc::Global;
@@ -363,6 +364,62 @@ fn sessions_refusals_and_faults(rt: HostRuntime) -> Result<(), Fail> {
     for (name, row) in FAULTS {
         check(&rt, rt.alloc(), name, row)?;
     }
+    Ok(())
+}
+
+/// Sessions that only the plain program tells, by their program and what the IDE sends.
+const MORE: [(&[u64], &str, &[u8]); 4] = [
+    (
+        &[1, 20, 300],
+        "<?php\necho 1;\necho 20;\necho 300;\n",
+        b"step_into -i a\0step_into -i b\0status -i c\0step_into -i d\0step_into -i e\0run -i f\0run -i g\0",
+    ),
+    (
+        &[1, 20, 300],
+        "<?php\necho 1;\necho 20;\necho 300;\n",
+        b"step_into -i a\0run -i b\0status -i c\0step_into -i d\0status -i e\0",
+    ),
+    (
+        &[],
+        "<?php\n",
+        b"status -i 0\0step_into -i 1\0bad\0step_into -i 2\0\0",
+    ),
+    (
+        &[0],
+        "<?php\necho 0;\n",
+        b"run  -i 1\0run -i \0step_into -i A9z\0run",
+    ),
+];
+
+#[test]
+fn sessions_are_those_of_the_plain_program(rt: HostRuntime) -> Result<(), Fail> {
+    for (program, file, input) in MORE {
+        let plain = alone(rt.alloc(), program, "K", "a.php", input)?;
+        let row = Row {
+            file,
+            input,
+            cut: 3,
+            ..WHOLE
+        };
+        let (status, out, err) = call(&rt, rt.alloc(), row)?;
+        assert_eq!(rt; status, 0);
+        assert_eq!(rt; out.taken(), plain.sent.as_slice());
+        assert_eq!(rt; err.taken(), plain.own.as_slice());
+    }
+    Ok(())
+}
+
+/// The plain program tells the rows.
+#[test]
+fn the_plain_program_tells_the_rows(rt: HostRuntime) -> Result<(), Fail> {
+    let alloc = rt.alloc();
+    let plain = alone(alloc, &[7], "K", "a.php", SESSION)?;
+    let wanted = wire(alloc, WHOLE.packets)?;
+    assert_eq!(rt; plain.sent.as_slice(), wanted.as_slice());
+    assert_eq!(rt; plain.own.as_slice(), b"7".as_slice());
+    let none = alone(alloc, &[], "K", "a.php", b"run -i 1\0")?;
+    let wanted = wire(alloc, &[INIT, STOPPING_1])?;
+    assert_eq!(rt; none.sent.as_slice(), wanted.as_slice());
     Ok(())
 }
 
