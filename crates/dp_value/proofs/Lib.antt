@@ -4,3 +4,4 @@ pub mod ArrayLemmas
 pub mod TableLemmas
 pub mod IntTextLemmas
 pub mod ComparisonLemmas
+pub mod WriteLemmas

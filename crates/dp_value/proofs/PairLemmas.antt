@@ -7,7 +7,7 @@ use Rattle.std.specs.List.{zip, position, position_or_len, list_any}
 use Rattle.dp_value.specs.declared.key.Key.{Key}
 use Rattle.dp_value.specs.Key.{key_eq, key_weight}
 use Rattle.dp_value.specs.Data.{Data, weight_of, pairs_weight}
-use Rattle.dp_value.specs.Table.{find_value, put, take_away}
+use Rattle.dp_value.specs.Table.{find_value, put, swapped, take_away}
 use Rattle.dp_value.specs.Place.{IsAbsent, IsFirst}
 
 pub zip_none : {X Y : Type 0} (xs : List X) (ys : List Y) (i : ℕ) → None ≡ slice_get xs i → None ≡ slice_get (zip xs ys) i
@@ -118,3 +118,22 @@ map-remove f (x ∷ xs) (suc n) = ap (λ ys. f x ∷ ys) (map-remove f xs n)
 pub absent-list_any : {X : Type 0} (test : X → Bool) (xs : List X) → IsAbsent test xs → list_any test xs ≡ false
 absent-list_any test [] h = refl
 absent-list_any test (x ∷ xs) h = rw h.0 (absent-list_any test xs h.1)
+
+-- ---- an exchange
+pub swapped-first : (key : Key) (ks : List Key) (ds : List Data) (n : ℕ) (d : Data) → IsFirst (key_eq key) ks n → length ds ≡ length ks → swapped (zip ks ds) key d ≡ zip ks (set ds n d)
+swapped-first key [] ds n d h same = elim h [ ]
+swapped-first key (k ∷ ks) [] n d h same = cc
+swapped-first key (k ∷ ks) (e ∷ ds) zero d h same = rw h
+swapped-first key (k ∷ ks) (e ∷ ds) (suc n) d h same = rw h.0 (ap (λ ps. (k, e) ∷ ps) (swapped-first key ks ds n d h.1 (omega arith)))
+
+pub swapped-absent : (key : Key) (ks : List Key) (ds : List Data) (d : Data) → IsAbsent (key_eq key) ks → swapped (zip ks ds) key d ≡ zip ks ds
+swapped-absent key [] ds d h = refl
+swapped-absent key (k ∷ ks) [] d h = refl
+swapped-absent key (k ∷ ks) (e ∷ ds) d h = rw h.0 (ap (λ ps. (k, e) ∷ ps) (swapped-absent key ks ds d h.1))
+
+pub weight-swapped-first : (key : Key) (ks : List Key) (ds : List Data) (n : ℕ) (old d : Data) → IsFirst (key_eq key) ks n → slice_get ds n ≡ Some old →
+    pairs_weight (swapped (zip ks ds) key d) + weight_of old ≡ pairs_weight (zip ks ds) + weight_of d
+weight-swapped-first key [] ds n old d h at = elim h [ ]
+weight-swapped-first key (k ∷ ks) [] n old d h at = cc
+weight-swapped-first key (k ∷ ks) (e ∷ ds) zero old d h at = let s : weight_of e ≡ weight_of old = ap weight_of (same_Some e old at) in rw h (omega (arith, s))
+weight-swapped-first key (k ∷ ks) (e ∷ ds) (suc n) old d h at = let rest = weight-swapped-first key ks ds n old d h.1 at in rw h.0 (omega (arith, rest))

@@ -11,7 +11,7 @@ use Rattle.dp_value.specs.declared.key.Key.{Key}
 use Rattle.dp_value.specs.declared.key.Key.TheVariants.{Int, Text}
 use Rattle.dp_value.specs.Key.{key_eq}
 use Rattle.dp_value.specs.Data.{Data, Table, pairs_weight}
-use Rattle.dp_value.specs.Table.{keys_of, put, take_away, raised, table_set, table_remove, weight_limit, IsUpTo, IsTable}
+use Rattle.dp_value.specs.Table.{keys_of, put, take_away, swapped, raised, table_set, table_exchange, table_remove, weight_limit, IsUpTo, IsTable}
 use Rattle.dp_value.proofs.KeyLemmas.{key_eq_equivalence}
 
 keys_of-put_present-more : (p : Key × Data) (ps : List (Key × Data)) (key : Key) (d : Data) (b : Bool) → key_eq key p.0 ≡ b →
@@ -109,3 +109,22 @@ IsTable-remove t key is = record {
       (all_take_away (IsUpTo t.largest) t.pairs key (recursion_from_All (IsUpTo t.largest) (keys_of t.pairs) is.up_to));
   light = omega (arith, light_take_away t.pairs key, is.light);
 }
+
+-- ---- an exchange
+keys_of-swapped-more : (p : Key × Data) (ps : List (Key × Data)) (key : Key) (d : Data) (b : Bool) → key_eq key p.0 ≡ b →
+    keys_of (swapped ps key d) ≡ keys_of ps → keys_of (swapped (p ∷ ps) key d) ≡ keys_of (p ∷ ps)
+keys_of-swapped-more p ps key d true h rest = rw h
+keys_of-swapped-more p ps key d false h rest = rw h (ap (λ ks. p.0 ∷ ks) rest)
+
+keys_of-swapped : (ps : List (Key × Data)) (key : Key) (d : Data) → keys_of (swapped ps key d) ≡ keys_of ps
+keys_of-swapped [] key d = refl
+keys_of-swapped (p ∷ ps) key d = keys_of-swapped-more p ps key d (key_eq key p.0) refl (keys_of-swapped ps key d)
+
+pub IsTable-exchange : (t : Table) (key : Key) (d : Data) → IsTable t → pairs_weight (swapped t.pairs key d) ≤ weight_limit → IsTable (table_exchange t key d)
+IsTable-exchange t key d is light =
+    let same = sym (keys_of-swapped t.pairs key d) in
+    record {
+      distinct = subst (λ (ks : List Key). IsDistinct key_eq ks) same is.distinct;
+      up_to = subst (λ (ks : List Key). All (IsUpTo t.largest) ks) same is.up_to;
+      light = light;
+    }

@@ -38,6 +38,11 @@ abbrev pub put : List (Key × Data) → Key → Data → List (Key × Data)
 put [] key d = (key, d) ∷ []
 put (p ∷ ps) key d = cond (key_eq key p.0) ((p.0, d) ∷ ps) (p ∷ put ps key d)
 
+-- the pairs with a value in the place of the one under a key; without the key they stay
+abbrev pub swapped : List (Key × Data) → Key → Data → List (Key × Data)
+swapped [] key d = []
+swapped (p ∷ ps) key d = cond (key_eq key p.0) ((p.0, d) ∷ ps) (p ∷ swapped ps key d)
+
 -- the pairs without a key
 abbrev pub take_away : List (Key × Data) → Key → List (Key × Data)
 take_away [] key = []
@@ -63,6 +68,9 @@ table_push t d = table_set t (Int (next_key t.largest)) d
 -- a removal closes up, and leaves the largest integer key that was used
 abbrev pub table_remove : Table → Key → Table
 table_remove t key = record { pairs = take_away t.pairs key; largest = t.largest }
+
+abbrev pub table_exchange : Table → Key → Data → Table
+table_exchange t key d = record { pairs = swapped t.pairs key d; largest = t.largest }
 
 -- no integer key is above the largest one used
 abbrev pub IsUpTo : Option ℤ → Key → Type 0

@@ -13,6 +13,7 @@ mod keys_of;
 mod operators;
 mod value;
 mod weights;
+mod writes;
 
 pub use bytes::Bytes;
 pub use conditions::truthy;
@@ -24,6 +25,7 @@ pub use keys_of::key_of;
 pub use operators::{BinaryOp, Builtin, UnaryOp};
 pub use value::{PhpArray, Value, WEIGHT_LIMIT};
 pub use weights::weight;
+pub use writes::write_at;
 
 /// Want of memory: an allocation was refused.
 pub use std::alloc::AllocError as Memory;

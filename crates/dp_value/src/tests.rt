@@ -176,3 +176,75 @@ fn arrays_refuse_what_is_too_heavy(rt: HostRuntime) -> Result<(), Fail> {
     assert_eq!(rt; array.len(), 2);
     Ok(())
 }
+
+/// Writes the integer 8 behind integer keys, and gives the cause of a refusal.
+fn refusal(
+    alloc: Global,
+    value: &mut Value,
+    keys: &[i64],
+    last: Option<i64>,
+) -> Result<Option<WriteError>, Memory> {
+    let mut path = Vec::new(alloc);
+    for n in keys {
+        path.push(Key::Int(*n))?;
+    }
+    let last = match last {
+        Some(n) => Some(Key::Int(n)),
+        None => None,
+    };
+    Ok(write_at(alloc, value, &path, last, Value::Int(8)).err())
+}
+
+/// Whether the integer 8 is behind two integer keys.
+fn is_written(value: &Value, first: i64, second: i64) -> bool {
+    let Value::Array(array) = value else {
+        return false;
+    };
+    match array.get(&Key::Int(first)) {
+        Some(Value::Array(inner)) => match inner.get(&Key::Int(second)) {
+            Some(Value::Int(n)) => *n == 8,
+            _ => false,
+        },
+        _ => false,
+    }
+}
+
+#[test]
+fn entries_are_written_at_any_depth(rt: HostRuntime) -> Result<(), Fail> {
+    let alloc = rt.alloc();
+    let mut value = Value::Null;
+    let writes: [(&[i64], Option<i64>, Option<WriteError>); 8] = [
+        (&[1, 2], Some(3), None),
+        (&[1, 2, 3], Some(0), Some(WriteError::Scalar)),
+        (&[1, 2, 3, 4], None, Some(WriteError::Scalar)),
+        (&[1], None, None),
+        (&[1], Some(i64::MAX), None),
+        (&[1], None, Some(WriteError::NextIndex)),
+        (&[7], None, None),
+        (&[], Some(7), None),
+    ];
+    for (keys, last, cause) in writes {
+        assert_eq!(rt; refusal(alloc, &mut value, keys, last)?, cause);
+    }
+    assert!(rt; is_written(&value, 1, 3));
+    assert!(rt; is_written(&value, 1, i64::MAX));
+    assert_eq!(rt; weight(&value), 6);
+    Ok(())
+}
+
+#[test]
+fn refused_writes_leave_the_value(rt: HostRuntime) -> Result<(), Fail> {
+    let alloc = rt.alloc();
+    let mut value = Value::Array(heavy(alloc, 1_048_573)?);
+    let writes: [(&[i64], Option<i64>, Option<WriteError>); 4] = [
+        (&[1, 2], Some(3), Some(WriteError::TooHeavy)),
+        (&[1], None, None),
+        (&[1], None, Some(WriteError::TooHeavy)),
+        (&[0], None, Some(WriteError::Unsupported)),
+    ];
+    for (keys, last, cause) in writes {
+        assert_eq!(rt; refusal(alloc, &mut value, keys, last)?, cause);
+    }
+    assert_eq!(rt; weight(&value), 1_048_576);
+    Ok(())
+}

@@ -1,12 +1,13 @@
-ghost use Rattle.std.specs.Prelude.{◌≡◌, ◌==◌, ◌<◌, ◌↔◌, ◌⊎◌, min, length, map, slice_get, is_some, option_map, Some, OnOk, OnErr, IfErr, IsErrOf};
+ghost use Rattle.std.specs.Prelude.{◌≡◌, ◌==◌, ◌<◌, ◌≤◌, ◌↔◌, ◌⊎◌, min, length, map, slice_get, is_some, option_map, Some, OnOk, OnErr, IfErr, IsErrOf};
 ghost use Rattle.dp_value.specs.Data.{pairs_weight};
-ghost use Rattle.dp_value.specs.Table.{empty, keys_of, values_of, value_at, put, table_set, table_push, table_remove, weight_limit, largest_int, IsTable, raised as raised_by};
+ghost use Rattle.dp_value.specs.Table.{empty, keys_of, values_of, value_at, put, table_set, table_push, table_remove, table_exchange, swapped, weight_limit, largest_int, IsTable, raised as raised_by};
 
 use crate::columns::{place, store, take_out};
 use crate::{Bytes, Key, ValueError, weight};
 use indexmap::IndexSet;
 use std::alloc::Global;
 use std::marker::Model;
+use std::mem;
 
 /// The most that a text or an array may weigh.
 pub const WEIGHT_LIMIT: u64 = 1_048_576;
@@ -123,7 +124,7 @@ impl PhpArray {
     }
 
     /// What the entries would weigh with this value under this key, or the largest `u64` where it is more.
-    fn weight_with(&self, key: &Key, value: &Value) -> u64
+    pub(crate) fn weight_with(&self, key: &Key, value: &Value) -> u64
         ensures { result ≡ min (pairs_weight (put self.now.pairs key.now (data_of value.now))) u64.MAX }
     {
         let added = weight(value);
@@ -177,6 +178,22 @@ impl PhpArray {
             Some(i64::MAX) => Err(ValueError::NextIndex),
             Some(largest) => self.set(Key::Int(largest + 1), value),
         }
+    }
+
+    /// Puts a value in the place of the one under a key, and gives that one out. Where the key is not
+    /// there, nothing changes. The caller shows that the entries stay within the limit, and may use what
+    /// holds of every array. Takes no memory.
+    pub(crate) fn exchange(&mut self, key: &Key, value: Value) -> Option<Value>
+        requires { IsTable self.old → pairs_weight (swapped self.old.pairs key.now (data_of value)) ≤ weight_limit }
+        ensures value { option_map data_of result ≡ value_at self.old key.now }
+        ensures exchanged { self.new ≡ table_exchange self.old key.now (data_of value) }
+        ensures table { IsTable self.old }
+    {
+        let at = place(&self.keys, key)?;
+        let added = weight(&value);
+        let old = mem::replace(&mut self.values[at], value);
+        self.weight = self.weight - weight(&old) + added;
+        Some(old)
     }
 
     /// Removes a key and its value, and says whether the key was there. The entries close up, and the

@@ -1,0 +1,11 @@
+use Rattle.std.proofs.Common.{◌+◌, ◌*◌, length}
+use Rattle.dp_value.proofs.writes.+writing.Given as goal
+
+abbrev pub decreases-write : goal.decreases-write
+decreases-write l = 3 * length l.keys.now + 2
+
+abbrev pub decreases-write_new : goal.decreases-write_new
+decreases-write_new l = 3 * length l.keys.now + 1
+
+abbrev pub decreases-write_into : goal.decreases-write_into
+decreases-write_into l = 3 * length l.keys.now
