@@ -1,3 +1,4 @@
 pub mod FrameLaws
 pub mod NextLaws
+pub mod PacketLaws
 pub mod SplitLaws

@@ -73,8 +73,16 @@ fn limits_and_packets(rt: HostRuntime) -> Result<(), Fail> {
         packet_bytes(alloc, &[b'x'; 10])?.as_slice(),
         b"10\0xxxxxxxxxx\0".as_slice()
     );
+    assert_eq!(rt;
+        command_bytes(alloc, b"status -i 1")?.as_slice(),
+        b"status -i 1\0".as_slice()
+    );
+    assert_eq!(rt; command_bytes(alloc, b"")?.as_slice(), b"\0".as_slice());
     no_frame_begins_another();
     one_split();
     commands_are_split();
+    no_packet_begins_another();
+    one_split_of_packets();
+    packets_are_split();
     Ok(())
 }
