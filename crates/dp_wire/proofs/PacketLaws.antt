@@ -20,7 +20,7 @@ abbrev pub Digits : List ℕ → Type 0
 Digits [] = Unit {0}
 Digits (byte ∷ bytes) = IsDigit byte × Digits bytes
 
-numeral_model : IsNumeralModel Digits (digits_value 10)
+pub numeral_model : IsNumeralModel Digits (digits_value 10)
 numeral_model = numerals_by_value _ (search rules)
 
 pub digits-decimal : (n : ℕ) → n ≤ packet_limit → Digits (decimal n)

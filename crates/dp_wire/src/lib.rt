@@ -4,7 +4,9 @@
 mod command;
 mod commands;
 mod laws;
+mod length;
 mod packet;
+mod packets;
 mod wire_error;
 
 pub use command::command_bytes;
@@ -14,6 +16,7 @@ pub use laws::{
     one_split_of_packets, packets_are_split,
 };
 pub use packet::packet_bytes;
+pub use packets::Packets;
 pub use wire_error::WireError;
 
 #[cfg(test)]
