@@ -1,3 +1,5 @@
 pub mod FrameLaws
+pub mod LengthLaws
 pub mod NextLaws
+pub mod PacketLaws
 pub mod SplitLaws

@@ -1,8 +1,9 @@
 -- How messages are framed on a link: DBGp 1.0, "Message Packets".
 -- An IDE sends a command and a NUL. An engine sends the length of a text in decimal, a NUL, the text, and a NUL.
-use Rattle.std.specs.Prelude.{◌≡◌, ◌≢◌, ℕ, ◌≤◌, Bool, true, not, List, [], ◌∷◌, ◌++◌, length, drop, if◌then◌else◌, ◌==◌, nat_le}
+use Rattle.std.specs.Prelude.{◌≡◌, ◌≢◌, ℕ, zero, suc, ◌+◌, ◌≤◌, Bool, true, false, not, ◌&&◌, List, [], ◌∷◌, ◌++◌, length, take, drop, if◌then◌else◌, ◌==◌, nat_le}
 use Rattle.std.specs.List.{list_all, flat_map, AllByRecursion}
 use Rattle.std.specs.Fmt.{decimal}
+use Rattle.std.specs.Str.Parse.{digits_value}
 
 -- ---- frames in general
 
@@ -89,3 +90,43 @@ pub record IsPacketText (text : List ℕ) : Type 0 where
 
 abbrev pub packet_frame : List ℕ → List ℕ
 packet_frame text = decimal (length text) ++ 0 ∷ [] ++ text ++ 0 ∷ []
+
+-- the bytes before the first NUL, or all
+abbrev pub up_to_nul : List ℕ → List ℕ
+up_to_nul [] = []
+up_to_nul (byte ∷ bytes) = if byte == 0 then [] else byte ∷ up_to_nul bytes
+
+-- what stands in the place of a packet's text: behind the first NUL, as many bytes as the digits before it say
+abbrev pub front_text : List ℕ → List ℕ
+front_text bytes = take (digits_value 10 (up_to_nul bytes)) (drop (length (up_to_nul bytes) + 1) bytes)
+
+abbrev pub begins_with : List ℕ → List ℕ → Bool
+begins_with bytes [] = true
+begins_with [] (wanted ∷ front) = false
+begins_with (byte ∷ bytes) (wanted ∷ front) = byte == wanted && begins_with bytes front
+
+-- that is a packet's text, and its frame begins the bytes
+abbrev pub is_packet_first : List ℕ → Bool
+is_packet_first bytes = nat_le 1 (length (front_text bytes)) && nat_le (length (front_text bytes)) packet_limit && begins_with bytes (packet_frame (front_text bytes))
+
+-- the first packets at the front of the bytes, at most so many
+abbrev pub first_packets : ℕ → List ℕ → List (List ℕ)
+first_packets zero bytes = []
+first_packets (suc count) bytes =
+    if is_packet_first bytes then front_text bytes ∷ first_packets count (drop (length (packet_frame (front_text bytes))) bytes) else []
+
+-- the whole packets at the front of the bytes, and what follows their frames
+abbrev pub packets_in : List ℕ → List (List ℕ)
+packets_in bytes = first_packets (length bytes) bytes
+
+abbrev pub rest_of_packets : List ℕ → List ℕ
+rest_of_packets bytes = drop (length (flat_map packet_frame (packets_in bytes))) bytes
+
+abbrev pub BeginsPacket : List ℕ → List ℕ → List ℕ → Type 0
+BeginsPacket = Begins IsPacketText packet_frame
+
+abbrev pub IsPartialPacket : List ℕ → Type 0
+IsPartialPacket = IsPartial IsPacketText packet_frame
+
+abbrev pub BeginsNoPacket : List ℕ → Type 0
+BeginsNoPacket = BeginsNoFrame IsPacketText packet_frame

@@ -119,7 +119,7 @@ impl Commands {
 }
 
 /// Drops so many bytes from the front.
-fn drop_first(bytes: &mut Vec<u8>, count: usize)
+pub(crate) fn drop_first(bytes: &mut Vec<u8>, count: usize)
     requires { count ≤ vec_len bytes.old }
     ensures { bytes.new.items ≡ drop count bytes.old.items }
 {

@@ -1,14 +1,22 @@
 //! Frames of DBGp messages, in whatever pieces they come.
 #![tactic(auto)]
 
+mod command;
 mod commands;
 mod laws;
+mod length;
 mod packet;
+mod packets;
 mod wire_error;
 
+pub use command::command_bytes;
 pub use commands::Commands;
-pub use laws::{commands_are_split, no_frame_begins_another, one_split};
+pub use laws::{
+    commands_are_split, no_frame_begins_another, no_packet_begins_another, one_split,
+    one_split_of_packets, packets_are_split,
+};
 pub use packet::packet_bytes;
+pub use packets::Packets;
 pub use wire_error::WireError;
 
 #[cfg(test)]

@@ -1,0 +1,152 @@
+ghost use Rattle.std.specs.Prelude.{◌≡◌, ◌↔◌, ◌+◌, ◌-◌, ◌<◌, ◌≤◌, [], ◌∷◌, ◌++◌, List, ℕ, min, length, drop, slice_range, IsErr, IfOk, IfErr, IfSome, OnOk, OnErr};
+ghost use Rattle.std.specs.Fmt.{decimal};
+ghost use Rattle.dp_wire.specs.Frames.{BeginsPacket, IsPartialPacket, BeginsNoPacket, packet_frame, packets_in};
+ghost use Rattle.dp_wire.specs.Received.{IsCause, place_of, last_place};
+
+use crate::WireError;
+use crate::commands::drop_first;
+use crate::length::{Length, read_length};
+use dp_value::Memory;
+use std::alloc::Global;
+use std::marker::Model;
+use std::ops::Range;
+
+/// Splits a stream into packets. Contracts see the bytes that are held, and how many were dropped before them.
+///
+/// DBGp 1.0, "Message Packets". `next` looks at ten bytes at most, however many are held.
+#[derive(Debug, Drop)]
+pub struct Packets {
+    /// What was fed; the bytes before `from` were dropped.
+    bytes: Vec<u8>,
+    from: usize,
+    /// How many bytes of the stream were dropped, or the largest number where they are more.
+    dropped: u64,
+}
+
+impl Model for Packets {
+    ghost use Rattle.std.specs.Prelude.{◌≤◌, length, drop};
+    ghost use Rattle.dp_wire.specs.Received.{Received};
+
+    ghost Value = { Received };
+
+    ghost view = { λ p. record { held = drop p.from p.bytes.items; dropped = p.dropped } };
+
+    ghost invariant = { λ p. p.from ≤ length p.bytes.items };
+}
+
+impl Packets {
+    /// A splitter that holds no byte. Takes no memory.
+    pub fn new(alloc: Global) -> Self
+        ensures held { result.held ≡ [] }
+        ensures dropped { result.dropped ≡ 0 }
+    {
+        Packets {
+            bytes: Vec::new(alloc),
+            from: 0,
+            dropped: 0,
+        }
+    }
+
+    /// The bytes held.
+    pub fn bytes(&self) -> &[u8]
+        ensures { result.now ≡ self.now.held }
+    {
+        &self.bytes[self.from..]
+    }
+
+    /// Appends a piece of the stream. On want of memory all stays as before.
+    pub fn feed(&mut self, piece: &[u8]) -> Result<(), Memory>
+        ensures ok { OnOk result (self.new.held ≡ self.old.held ++ piece.now) }
+        ensures dropped { self.new.dropped ≡ self.old.dropped }
+        ensures err { OnErr result (self.new ≡ self.old) }
+    {
+        self.forget_dropped();
+        self.bytes.extend_from_slice(piece)?;
+        Ok(())
+    }
+
+    /// Gives up the bytes that were dropped, where they are at least half: this costs no more than they did.
+    fn forget_dropped(&mut self)
+        ensures { self.new ≡ self.old }
+    {
+        if self.bytes.len() - self.from <= self.from {
+            drop_first(&mut self.bytes, self.from);
+            self.from = 0;
+        }
+    }
+
+    /// The range of the first packet's text among the bytes held. `None` where more has to come.
+    ///
+    /// A refusal where no packet begins the bytes held. Its offset counts from the first byte of the stream; it is
+    /// exact below 2^64 - 1, and stays at that value. Takes no memory.
+    pub fn next(&self) -> Result<Option<Range<usize>>, WireError>
+        ensures within { IfOk result (λ found. IfSome found (λ range.
+            (range.start ≤ range.end) × (range.end < length self.now.held))) }
+        ensures start { IfOk result (λ found. IfSome found (λ range.
+            range.start ≡ length (decimal (range.end - range.start)) + 1)) }
+        ensures whole { IfOk result (λ found. IfSome found (λ range.
+            BeginsPacket self.now.held (slice_range self.now.held range.start range.end)
+            (drop (range.end + 1) self.now.held))) }
+        ensures partial { (result ≡ Ok None) ↔ IsPartialPacket self.now.held }
+        ensures refused { IsErr result ↔ BeginsNoPacket self.now.held }
+        ensures cause { IfErr result (IsCause self.now) }
+
+        // What stands there stays, whatever comes after it.
+        ensures first { IfOk result (λ found. IfSome found (λ range. (more : List ℕ)
+            → packets_in (self.now.held ++ more)
+            ≡ slice_range self.now.held range.start range.end
+            ∷ packets_in (drop (range.end + 1) self.now.held ++ more))) }
+        ensures none { result ≡ Ok None → packets_in self.now.held ≡ [] }
+        ensures never { IsErr result → (more : List ℕ) → packets_in (self.now.held ++ more) ≡ [] }
+
+        // Where more has to come, no more than eight digits, a NUL and a longest text are held.
+        ensures held { result ≡ Ok None → length self.now.held ≤ 16777225 }
+    {
+        let held = self.bytes();
+        match read_length(held) {
+            Length::Unfinished => Ok(None),
+            Length::Bad { index } => Err(WireError::BadLength {
+                offset: self.place(index),
+            }),
+            Length::Passed { length } => Err(WireError::TooLong { length }),
+            Length::Known { nul, length } => {
+                let start = nul + 1;
+                let end = start + length;
+                if held.len() <= end {
+                    Ok(None)
+                } else if held[end] == 0 {
+                    Ok(Some(start..end))
+                } else {
+                    Err(WireError::NoNul {
+                        offset: self.place(end),
+                    })
+                }
+            }
+        }
+    }
+
+    /// The place in the stream of the byte held at this index.
+    fn place(&self, index: usize) -> u64
+        ensures { result ≡ place_of self.now index }
+    {
+        self.dropped.saturating_add(index as u64)
+    }
+
+    /// Drops the first packet with its framing. Takes no memory.
+    pub fn drop_front(&mut self)
+        requires { (text rest : List ℕ) × BeginsPacket self.old.held text rest }
+        ensures held { (text rest : List ℕ) → BeginsPacket self.old.held text rest → self.new.held ≡ rest }
+        ensures dropped { (text rest : List ℕ) → BeginsPacket self.old.held text rest
+            → self.new.dropped ≡ min (self.old.dropped + length (packet_frame text)) last_place }
+    {
+        match self.next() {
+            Ok(Some(range)) => {
+                let count = range.end + 1;
+                self.from += count;
+                self.dropped = self.dropped.saturating_add(count as u64);
+            }
+            Ok(None) => unreachable!(),
+            Err(_) => unreachable!(),
+        }
+    }
+}
