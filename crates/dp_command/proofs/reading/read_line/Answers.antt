@@ -1,0 +1,5 @@
+use Rattle.dp_command.proofs.Whole.{never_parse}
+use Rattle.dp_command.proofs.reading.read_line.Goals as goal
+
+pub returns-clause-parse : goal.returns-clause-parse
+returns-clause-parse c = λ e line s. never_parse c.line.result line e (c.line.ensures.only line s)

@@ -1,0 +1,4 @@
+pub mod Sorts
+pub mod Grammar
+pub mod Canonical
+pub mod Reading

@@ -1,0 +1,19 @@
+//! Command lines of DBGp: read from their bytes, and written in one form.
+#![tactic(auto)]
+
+mod errors;
+mod line;
+mod parts;
+mod reading;
+mod sort;
+mod values;
+mod writing;
+
+pub use dp_value::Memory;
+pub use errors::LineError;
+pub use line::Line;
+pub use reading::{read_line, reread};
+pub use writing::write_line;
+
+#[cfg(test)]
+mod tests;

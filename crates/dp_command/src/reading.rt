@@ -1,0 +1,73 @@
+//! Reading a whole line.
+
+ghost use Rattle.std.specs.Prelude.{◌≡◌, Err, IfOk, MatchResult};
+ghost use Rattle.dp_command.specs.Grammar.{spelt};
+ghost use Rattle.dp_command.specs.Reading.{Gives, parts_at, seen_text};
+ghost use Rattle.dp_command.specs.Canonical.{IsWellFormed};
+
+use crate::errors::LineError;
+use crate::line::Line;
+use crate::parts::{ending, name};
+use crate::values::{options, payload};
+use crate::writing::write_line;
+use dp_value::{Bytes, Items};
+use std::alloc::Global;
+
+// The name, the options, and the text of the payload where there is one.
+#[tactic(auto, unfolding(crate::specs::Reading::parts_at))]
+fn parts(
+    alloc: Global,
+    bytes: &[u8],
+) -> Result<(Bytes, Items<(u8, Bytes)>, Option<&[u8]>), LineError>
+    ensures { Gives (λ p. (p.0, p.1, seen_text (λ t. t.now) p.2)) result (parts_at bytes.now) }
+{
+    let (name, rest) = name(bytes)?;
+    let (options, rest) = options(alloc, rest)?;
+    let text = ending(rest)?;
+    Ok((Bytes::from_slice(alloc, name)?, options, text))
+}
+
+fn line(alloc: Global, bytes: &[u8]) -> Result<Line, LineError>
+    ensures found { IfOk result (λ line. spelt bytes.now line) }
+    ensures only { (line : Line) → spelt bytes.now line →
+        MatchResult result (λ read. read ≡ line) (λ e. e ≡ LineError.Memory) }
+{
+    let (name, options, text) = parts(alloc, bytes)?;
+    match text {
+        None => Ok(Line {
+            name,
+            options,
+            payload: None,
+        }),
+        Some(text) => {
+            let payload = payload(alloc, text)?;
+            Ok(Line {
+                name,
+                options,
+                payload: Some(payload),
+            })
+        }
+    }
+}
+
+/// The line that the bytes spell, all of the bytes. DBGp 1.0, "Command Line Format".
+pub fn read_line(alloc: Global, bytes: &[u8]) -> Result<Line, LineError>
+    // What is read is spelt so.
+    ensures found { IfOk result (λ line. spelt bytes.now line) }
+    // What is spelt so is read, unless memory runs out.
+    ensures only { (line : Line) → spelt bytes.now line →
+        MatchResult result (λ read. read ≡ line) (λ e. e ≡ LineError.Memory) }
+    // Bytes are refused only where they spell no line.
+    ensures parse { result ≡ Err LineError.Parse → (line : Line) → spelt bytes.now line → ⊥ }
+{
+    line(alloc, bytes)
+}
+
+/// A line that is written and read again is the same line.
+pub fn reread(alloc: Global, line: &Line) -> Result<Line, LineError>
+    requires { IsWellFormed line.now }
+    ensures { MatchResult result (λ read. read ≡ line.now) (λ e. e ≡ LineError.Memory) }
+{
+    let text = write_line(alloc, line)?;
+    read_line(alloc, text.as_slice())
+}

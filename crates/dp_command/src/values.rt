@@ -1,0 +1,129 @@
+//! Values, options and payloads.
+
+ghost use Rattle.std.specs.Prelude.{◌≡◌, List, ℕ, length, IfOk, MatchResult};
+ghost use Rattle.base64.specs.Engines.{standard};
+ghost use Rattle.base64.specs.GeneralPurpose.{encode_of, IsBytes};
+ghost use Rattle.dp_command.specs.Reading.{Gives, byte_at, items_at, quoted_at, bare_at, value_at, option_at, options_at};
+
+use crate::errors::LineError;
+use crate::parts::{letter, spaces};
+use crate::sort::{Sort, run};
+use base64::DecodeAllocError;
+use base64::engine::general_purpose::STANDARD;
+use dp_value::{Bytes, Items};
+use std::alloc::Global;
+
+// The byte between quotes that stands here; none at the closing quote.
+#[tactic(auto, unfolding(crate::specs::Reading::byte_at))]
+fn byte(bytes: &[u8]) -> Result<(Option<u8>, &[u8]), LineError>
+    ensures { Gives (λ found. (found.0, found.1.now)) result (byte_at bytes.now) }
+{
+    match bytes {
+        [] | [b'"', ..] => Ok((None, bytes)),
+        [b'\\', b'"', rest @ ..] => Ok((Some(b'"'), rest)),
+        [b'\\', b'\\', rest @ ..] => Ok((Some(b'\\'), rest)),
+        [b'\\', b'0', rest @ ..] => Ok((Some(0), rest)),
+        [b'\\' | 0, ..] => Err(LineError::Parse),
+        [b, rest @ ..] => Ok((Some(*b), rest)),
+    }
+}
+
+fn inner(alloc: Global, bytes: &[u8]) -> Result<(Vec<u8>, &[u8]), LineError>
+    ensures { Gives (λ found. (found.0.items, found.1.now)) result (items_at byte_at (length bytes.now) bytes.now) }
+{
+    let mut value = Vec::new(alloc);
+    let mut rest = bytes;
+    for _ in 0..bytes.len() {
+        let (found, after) = byte(rest)?;
+        match found {
+            None => return Ok((value, after)),
+            Some(b) => value.push(b)?,
+        }
+        rest = after;
+    }
+    Ok((value, rest))
+}
+
+// The value whose opening quote stands before these bytes.
+#[tactic(auto, unfolding(crate::specs::Reading::quoted_at))]
+fn quoted(alloc: Global, bytes: &[u8]) -> Result<(Bytes, &[u8]), LineError>
+    ensures { Gives (λ found. (found.0, found.1.now)) result (quoted_at bytes.now) }
+{
+    let (value, rest) = inner(alloc, bytes)?;
+    match rest {
+        [b'"', rest @ ..] => Ok((Bytes::of(value), rest)),
+        _ => Err(LineError::Parse),
+    }
+}
+
+#[tactic(auto, unfolding(crate::specs::Reading::bare_at))]
+fn bare(alloc: Global, bytes: &[u8]) -> Result<(Bytes, &[u8]), LineError>
+    ensures { Gives (λ found. (found.0, found.1.now)) result (bare_at bytes.now) }
+{
+    match bytes {
+        [b, ..] if Sort::Bare.has(*b) => {
+            let (value, rest) = run(Sort::Bare, bytes);
+            Ok((Bytes::from_slice(alloc, value)?, rest))
+        }
+        _ => Err(LineError::Parse),
+    }
+}
+
+#[tactic(auto, unfolding(crate::specs::Reading::value_at))]
+fn value(alloc: Global, bytes: &[u8]) -> Result<(Bytes, &[u8]), LineError>
+    ensures { Gives (λ found. (found.0, found.1.now)) result (value_at bytes.now) }
+{
+    match bytes {
+        [b'"', rest @ ..] => quoted(alloc, rest),
+        _ => bare(alloc, bytes),
+    }
+}
+
+// The option that stands here; none where no space, dash and letter stand here.
+#[tactic(auto, unfolding(crate::specs::Reading::option_at))]
+fn option(alloc: Global, bytes: &[u8]) -> Result<(Option<(u8, Bytes)>, &[u8]), LineError>
+    ensures { Gives (λ found. (found.0, found.1.now)) result (option_at bytes.now) }
+{
+    let Some((letter, rest)) = letter(bytes) else {
+        return Ok((None, bytes));
+    };
+    let (value, rest) = value(alloc, spaces(rest)?)?;
+    Ok((Some((letter, value)), rest))
+}
+
+fn given(alloc: Global, bytes: &[u8]) -> Result<(Vec<(u8, Bytes)>, &[u8]), LineError>
+    ensures { Gives (λ found. (found.0.items, found.1.now)) result (items_at option_at (length bytes.now) bytes.now) }
+{
+    let mut options = Vec::new(alloc);
+    let mut rest = bytes;
+    for _ in 0..bytes.len() {
+        let (found, after) = option(alloc, rest)?;
+        match found {
+            None => return Ok((options, after)),
+            Some(one) => options.push(one)?,
+        }
+        rest = after;
+    }
+    Ok((options, rest))
+}
+
+#[tactic(auto, unfolding(crate::specs::Reading::options_at))]
+pub fn options(alloc: Global, bytes: &[u8]) -> Result<(Items<(u8, Bytes)>, &[u8]), LineError>
+    ensures { Gives (λ found. (found.0, found.1.now)) result (options_at bytes.now) }
+{
+    let (options, rest) = given(alloc, bytes)?;
+    Ok((Items::of(options), rest))
+}
+
+// What a text decodes to: strict base64, of which each list of bytes has one.
+pub fn payload(alloc: Global, text: &[u8]) -> Result<Bytes, LineError>
+    ensures found { IfOk result (λ p. IsBytes p × (text.now ≡ encode_of standard p)) }
+    ensures only { (p : List ℕ) → IsBytes p → text.now ≡ encode_of standard p →
+        MatchResult result (λ q. q ≡ p) (λ e. e ≡ LineError.Memory) }
+{
+    match STANDARD.decode(alloc, text) {
+        Ok(bytes) => Ok(Bytes::of(bytes)),
+        Err(DecodeAllocError::OutOfMemory) => Err(LineError::Memory),
+        Err(DecodeAllocError::DecodeError(_)) => Err(LineError::Parse),
+    }
+}
