@@ -21,9 +21,9 @@ use Rattle.dp_reply.specs.Messages.{message_of, reason_of, is_some_text}
 abbrev pub init_element : Init → Element
 init_element i =
     element (codes "init")
-        (namespace ∷ (codes "appid", codes "dbgp") ∷ (codes "idekey", i.idekey) ∷ (codes "session", []) ∷ (codes "thread", codes "1")
-        ∷ (codes "parent", []) ∷ (codes "language", codes "PHP") ∷ (codes "protocol_version", codes "1.0") ∷ (codes "fileuri", i.fileuri) ∷ [])
-        []
+    (namespace ∷ (codes "appid", codes "dbgp") ∷ (codes "idekey", i.idekey) ∷ (codes "session", []) ∷ (codes "thread", codes "1")
+    ∷ (codes "parent", []) ∷ (codes "language", codes "PHP") ∷ (codes "protocol_version", codes "1.0") ∷ (codes "fileuri", i.fileuri) ∷ [])
+    []
 
 abbrev pub message_node : Text → Node
 message_node text = child (codes "message") [] (text_nodes text)
@@ -34,9 +34,9 @@ error_node code = child (codes "error") ((codes "code", decimal code) ∷ []) (m
 abbrev pub stack_node : StackLine → Node
 stack_node s =
     child (codes "stack")
-        ((codes "level", decimal s.level) ∷ (codes "type", codes "file") ∷ (codes "filename", s.uri)
-        ∷ (codes "lineno", decimal s.line) ∷ (codes "where", s.place) ∷ [])
-        []
+    ((codes "level", decimal s.level) ∷ (codes "type", codes "file") ∷ (codes "filename", s.uri)
+    ∷ (codes "lineno", decimal s.line) ∷ (codes "where", s.place) ∷ [])
+    []
 
 abbrev pub context_node : Text × ℕ → Node
 context_node c = child (codes "context") ((codes "name", c.0) ∷ (codes "id", decimal c.1) ∷ []) []
@@ -75,8 +75,8 @@ refusal_node id = child (codes "error") ((codes "id", decimal id) ∷ []) (messa
 abbrev pub proxy_element : ProxyReply → Element
 proxy_element (Started key host port) =
     element (codes "proxyinit")
-        ((codes "success", codes "1") ∷ (codes "idekey", key) ∷ (codes "address", host) ∷ (codes "port", decimal port) ∷ [])
-        []
+    ((codes "success", codes "1") ∷ (codes "idekey", key) ∷ (codes "address", host) ∷ (codes "port", decimal port) ∷ [])
+    []
 proxy_element (Stopped key) = element (codes "proxystop") ((codes "success", codes "1") ∷ (codes "idekey", key) ∷ []) []
 proxy_element (Refused stopping id) = element (refusal_name stopping) ((codes "success", codes "0") ∷ []) (refusal_node id ∷ [])
 

@@ -3,7 +3,9 @@ ghost use Rattle.dp_reply.specs.Breakpoints as spec;
 
 use crate::Memory;
 use crate::packet::{BreakKind, BreakLine, HitRule};
-use crate::parts::{alone, child, put, put_flag, put_given, put_given_number, put_number, text_nodes};
+use crate::parts::{
+    alone, child, put, put_flag, put_given, put_given_number, put_number, text_nodes,
+};
 use dp_markup::Node;
 use dp_value::Bytes;
 use std::alloc::Global;
@@ -40,7 +42,8 @@ fn put_kind(
     attributes: &mut Vec<(Bytes, Bytes)>,
     line: &BreakLine,
 ) -> Result<(), Memory>
-    ensures { OnOk result (attributes.new.items ≡ attributes.old.items ++ spec.kind_attributes line.now) }
+    ensures { OnOk result (attributes.new.items ≡
+        attributes.old.items ++ spec.kind_attributes line.now) }
 {
     put_number(alloc, attributes, b"id", line.id as u64)?;
     put(alloc, attributes, b"type", kind_name(line.kind))?;
@@ -52,7 +55,8 @@ fn put_place(
     attributes: &mut Vec<(Bytes, Bytes)>,
     line: &BreakLine,
 ) -> Result<(), Memory>
-    ensures { OnOk result (attributes.new.items ≡ attributes.old.items ++ spec.place_attributes line.now) }
+    ensures { OnOk result (attributes.new.items ≡
+        attributes.old.items ++ spec.place_attributes line.now) }
 {
     put_given(alloc, attributes, b"filename", &line.uri)?;
     put_given_number(alloc, attributes, b"lineno", line.line)?;
@@ -64,7 +68,8 @@ fn put_counts(
     attributes: &mut Vec<(Bytes, Bytes)>,
     line: &BreakLine,
 ) -> Result<(), Memory>
-    ensures { OnOk result (attributes.new.items ≡ attributes.old.items ++ spec.count_attributes line.now) }
+    ensures { OnOk result (attributes.new.items ≡
+        attributes.old.items ++ spec.count_attributes line.now) }
 {
     put_number(alloc, attributes, b"hit_count", line.hits)?;
     put_number(alloc, attributes, b"hit_value", line.hit_value as u64)?;
@@ -76,7 +81,8 @@ fn put_rule(
     attributes: &mut Vec<(Bytes, Bytes)>,
     rule: HitRule,
 ) -> Result<(), Memory>
-    ensures { OnOk result (attributes.new.items ≡ attributes.old.items ++ spec.rule_attribute rule ∷ []) }
+    ensures { OnOk result (attributes.new.items ≡
+        attributes.old.items ++ spec.rule_attribute rule ∷ []) }
 {
     put(alloc, attributes, b"hit_condition", rule_name(rule))
 }
@@ -86,7 +92,8 @@ fn put_hits(
     attributes: &mut Vec<(Bytes, Bytes)>,
     line: &BreakLine,
 ) -> Result<(), Memory>
-    ensures { OnOk result (attributes.new.items ≡ attributes.old.items ++ spec.hit_attributes line.now) }
+    ensures { OnOk result (attributes.new.items ≡
+        attributes.old.items ++ spec.hit_attributes line.now) }
 {
     put_counts(alloc, attributes, line)?;
     put_rule(alloc, attributes, line.hit_rule)?;

@@ -11,9 +11,11 @@ mod responses;
 mod texts;
 
 pub use dp_value::Memory;
-pub use packet::{Body, BreakKind, BreakLine, HitRule, Init, Notify, Packet, ProxyReply, Response, StackLine};
+pub use packet::{
+    Body, BreakKind, BreakLine, HitRule, Init, Notify, Packet, ProxyReply, Response, StackLine,
+};
 pub use property::{Property, Shape};
 pub use texts::text_of;
 
-
-
+#[cfg(test)]
+mod tests;

@@ -16,7 +16,8 @@ pub fn put(
     name: &[u8],
     value: &[u8],
 ) -> Result<(), Memory>
-    ensures { OnOk result (attributes.new.items ≡ attributes.old.items ++ (name.now, value.now) ∷ []) }
+    ensures { OnOk result (attributes.new.items ≡
+        attributes.old.items ++ (name.now, value.now) ∷ []) }
 {
     let pair = (
         Bytes::from_slice(alloc, name)?,
@@ -32,7 +33,8 @@ pub fn put_number(
     name: &[u8],
     number: u64,
 ) -> Result<(), Memory>
-    ensures { OnOk result (attributes.new.items ≡ attributes.old.items ++ (name.now, decimal number) ∷ []) }
+    ensures { OnOk result (attributes.new.items ≡
+        attributes.old.items ++ (name.now, decimal number) ∷ []) }
 {
     let mut buffer = Buffer::new();
     put(alloc, attributes, name, buffer.format(number).as_bytes())
@@ -45,7 +47,8 @@ pub fn put_given(
     name: &[u8],
     value: &Option<Bytes>,
 ) -> Result<(), Memory>
-    ensures { OnOk result (attributes.new.items ≡ attributes.old.items ++ spec.given name.now value.now) }
+    ensures { OnOk result (attributes.new.items ≡
+        attributes.old.items ++ spec.given name.now value.now) }
 {
     match value {
         None => Ok(()),
@@ -59,7 +62,8 @@ pub fn put_given_number(
     name: &[u8],
     value: Option<u32>,
 ) -> Result<(), Memory>
-    ensures { OnOk result (attributes.new.items ≡ attributes.old.items ++ given_number name.now value) }
+    ensures { OnOk result (attributes.new.items ≡
+        attributes.old.items ++ given_number name.now value) }
 {
     match value {
         None => Ok(()),
@@ -76,7 +80,12 @@ pub fn put_all(
     ensures { OnOk result (attributes.new.items ≡ attributes.old.items ++ more.now) }
 {
     for attribute in more {
-        put(alloc, attributes, attribute.0.as_slice(), attribute.1.as_slice())?;
+        put(
+            alloc,
+            attributes,
+            attribute.0.as_slice(),
+            attribute.1.as_slice(),
+        )?;
     }
     Ok(())
 }
@@ -99,7 +108,8 @@ pub fn put_flag(
     name: &[u8],
     value: bool,
 ) -> Result<(), Memory>
-    ensures { OnOk result (attributes.new.items ≡ attributes.old.items ++ (name.now, spec.flag value) ∷ []) }
+    ensures { OnOk result (attributes.new.items ≡
+        attributes.old.items ++ (name.now, spec.flag value) ∷ []) }
 {
     put(alloc, attributes, name, flag(value))
 }

@@ -1,6 +1,7 @@
 ghost use Rattle.std.specs.Prelude.{◌≡◌, ◌++◌, map, IfOk, OnOk};
 ghost use Rattle.dp_reply.specs.Parts as spec;
-ghost use Rattle.dp_reply.specs.Properties.{array_attributes, paging_attributes, property_node, shape_part, text_attributes};
+ghost use Rattle.dp_reply.specs.Properties.{array_attributes, paging_attributes};
+ghost use Rattle.dp_reply.specs.Properties.{property_node, shape_part, text_attributes};
 
 use crate::Memory;
 use crate::parts::{child, flag, put, put_flag, put_given, put_number, text_nodes};
@@ -27,7 +28,8 @@ fn put_paging(
     page: u64,
     pagesize: u64,
 ) -> Result<(), Memory>
-    ensures { OnOk result (attributes.new.items ≡ attributes.old.items ++ paging_attributes count page pagesize) }
+    ensures { OnOk result (attributes.new.items ≡
+        attributes.old.items ++ paging_attributes count page pagesize) }
 {
     put_number(alloc, attributes, b"numchildren", count)?;
     put_number(alloc, attributes, b"page", page)?;
@@ -42,7 +44,8 @@ fn put_array(
     page: u64,
     pagesize: u64,
 ) -> Result<(), Memory>
-    ensures { OnOk result (attributes.new.items ≡ attributes.old.items ++ array_attributes count page pagesize) }
+    ensures { OnOk result (attributes.new.items ≡
+        attributes.old.items ++ array_attributes count page pagesize) }
 {
     put(alloc, attributes, b"type", b"array")?;
     put_flag(alloc, attributes, b"children", count != 0)?;
@@ -50,11 +53,7 @@ fn put_array(
     Ok(())
 }
 
-fn put_text(
-    alloc: Global,
-    attributes: &mut Vec<(Bytes, Bytes)>,
-    size: u64,
-) -> Result<(), Memory>
+fn put_text(alloc: Global, attributes: &mut Vec<(Bytes, Bytes)>, size: u64) -> Result<(), Memory>
     ensures { OnOk result (attributes.new.items ≡ attributes.old.items ++ text_attributes size) }
 {
     put(alloc, attributes, b"type", b"string")?;
@@ -68,16 +67,20 @@ fn put_value(
     attributes: &mut Vec<(Bytes, Bytes)>,
     shape: &Shape,
 ) -> Result<(), Memory>
-    ensures { OnOk result (attributes.new.items ≡ attributes.old.items ++ (shape_part shape.now).0) }
+    ensures { OnOk result (attributes.new.items ≡
+        attributes.old.items ++ (shape_part shape.now).0) }
 {
     match shape {
         Shape::Null => put(alloc, attributes, b"type", b"null"),
         Shape::Bool(_) => put(alloc, attributes, b"type", b"bool"),
         Shape::Int(_) => put(alloc, attributes, b"type", b"int"),
         Shape::Text { size, front: _ } => put_text(alloc, attributes, *size),
-        Shape::Array { count, page, pagesize, nested: _ } => {
-            put_array(alloc, attributes, *count, *page, *pagesize)
-        }
+        Shape::Array {
+            count,
+            page,
+            pagesize,
+            nested: _,
+        } => { put_array(alloc, attributes, *count, *page, *pagesize) }
     }
 }
 
@@ -94,9 +97,12 @@ fn value_nodes(alloc: Global, shape: &Shape) -> Result<Vec<Node>, Memory>
             text_nodes(alloc, buffer.format(*number).as_bytes())
         }
         Shape::Text { size: _, front } => base64_nodes(alloc, front.as_slice()),
-        Shape::Array { count: _, page: _, pagesize: _, nested } => {
-            property_nodes(alloc, nested.as_slice())
-        }
+        Shape::Array {
+            count: _,
+            page: _,
+            pagesize: _,
+            nested,
+        } => { property_nodes(alloc, nested.as_slice()) }
     }
 }
 

@@ -20,7 +20,10 @@ pub enum Shape {
     Bool(bool),
     Int(i64),
     /// The length of the whole text in bytes, and its first bytes.
-    Text { size: u64, front: Bytes },
+    Text {
+        size: u64,
+        front: Bytes,
+    },
     /// The number of all entries, and those of one page of `pagesize` entries, counted from 0.
     Array {
         count: u64,

@@ -72,8 +72,18 @@ pub fn response_element(alloc: Global, response: &Response) -> Result<Element, M
 {
     let mut attributes = Vec::new(alloc);
     put_namespace(alloc, &mut attributes)?;
-    put(alloc, &mut attributes, b"command", response.command.as_slice())?;
-    put(alloc, &mut attributes, b"transaction_id", response.id.as_slice())?;
+    put(
+        alloc,
+        &mut attributes,
+        b"command",
+        response.command.as_slice(),
+    )?;
+    put(
+        alloc,
+        &mut attributes,
+        b"transaction_id",
+        response.id.as_slice(),
+    )?;
     put_all(alloc, &mut attributes, response.attributes.as_slice())?;
     let nodes = body_nodes(alloc, &response.body)?;
     element(alloc, b"response", attributes, nodes)

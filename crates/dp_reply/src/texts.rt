@@ -110,10 +110,7 @@ pub fn text_of(alloc: Global, packet: &Packet) -> Result<Bytes, Memory>
 {
     let e = element_of(alloc, packet)?;
     let markup = write(alloc, &e)?;
-    let mut bytes = Vec::from_slice(
-        alloc,
-        b"<?xml version=\"1.0\" encoding=\"iso-8859-1\"?>\n",
-    )?;
+    let mut bytes = Vec::from_slice(alloc, b"<?xml version=\"1.0\" encoding=\"iso-8859-1\"?>\n")?;
     bytes.extend_from_slice(markup.as_slice())?;
     Ok(Bytes::of(bytes))
 }
