@@ -16,3 +16,6 @@ pub use packet::{
 };
 pub use property::{Property, Shape};
 pub use texts::text_of;
+
+#[cfg(test)]
+mod tests;
