@@ -1,0 +1,2 @@
+-- Lemmas on what is put behind a list.
+pub mod Chains

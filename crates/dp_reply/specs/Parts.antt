@@ -1,0 +1,41 @@
+-- What elements are made of.
+use Rattle.std.specs.Prelude.{ℕ, Bool, true, false, List, [], ◌∷◌, Option, Some, None, codes}
+use Rattle.base64.specs.Engines.{standard}
+use Rattle.base64.specs.GeneralPurpose.{encode_of}
+use Rattle.dp_markup.specs.declared.tree.Element.{Element}
+use Rattle.dp_markup.specs.declared.tree.Node.{Node}
+use Rattle.dp_markup.specs.declared.tree.Node.TheVariants as node
+
+abbrev pub Text : Type 0
+Text = List ℕ
+
+abbrev pub Attributes : Type 0
+Attributes = List (Text × Text)
+
+abbrev pub element : Text → Attributes → List Node → Element
+element name attributes children = record { name = name; attributes = attributes; children = children }
+
+abbrev pub child : Text → Attributes → List Node → Node
+child name attributes children = node.Child (element name attributes children)
+
+-- a text in an element: nothing where it is empty
+abbrev pub text_nodes : Text → List Node
+text_nodes [] = []
+text_nodes (b ∷ bytes) = node.Text (b ∷ bytes) ∷ []
+
+-- an attribute that may be missing
+abbrev pub given : Text → Option Text → Attributes
+given name None = []
+given name (Some value) = (name, value) ∷ []
+
+abbrev pub flag : Bool → Text
+flag true = codes "1"
+flag false = codes "0"
+
+-- RFC 4648, section 4: the usual symbols, with padding
+abbrev pub base64 : Text → Text
+base64 bytes = encode_of standard bytes
+
+-- which namespace DBGp's elements are of
+abbrev pub namespace : Text × Text
+namespace = (codes "xmlns", codes "urn:debugger_protocol_v1")
