@@ -1,5 +1,5 @@
 use Rattle.std.proofs.Common.{◌≡◌, ◌≢◌, ℕ, ◌+◌, ◌<◌, ◌≤◌, List, length, get_or, drop, slice_range, refl, sym, ap, ◌∙◌, subst, arith}
-use Rattle.dp_wire.specs.Frames.{BeginsPacket, IsPartialPacket}
+use Rattle.dp_wire.specs.Frames.{BeginsPacket, BeginsNoPacket, IsPartialPacket}
 use Rattle.dp_wire.specs.Received.{IsLength, LacksNul}
 use Rattle.dp_wire.specs.declared.length.Length.{Length}
 use Rattle.dp_wire.specs.declared.length.Length.TheVariants.{Unfinished, Known, Bad, Passed}
