@@ -5,3 +5,4 @@ pub mod Found
 pub mod Again
 pub mod Whole
 pub mod Written
+pub mod Formed

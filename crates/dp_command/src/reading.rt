@@ -54,6 +54,8 @@ fn line(alloc: Global, bytes: &[u8]) -> Result<Line, LineError>
 pub fn read_line(alloc: Global, bytes: &[u8]) -> Result<Line, LineError>
     // What is read is spelt so.
     ensures found { IfOk result (λ line. spelt bytes.now line) }
+    // Each line that is read is well formed.
+    ensures formed { IfOk result (λ line. IsWellFormed line) }
     // What is spelt so is read, unless memory runs out.
     ensures only { (line : Line) → spelt bytes.now line →
         MatchResult result (λ read. read ≡ line) (λ e. e ≡ LineError.Memory) }
