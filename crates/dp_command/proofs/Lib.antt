@@ -6,3 +6,4 @@ pub mod Again
 pub mod Whole
 pub mod Written
 pub mod Formed
+pub mod Decimals

@@ -2,3 +2,8 @@ pub mod Sorts
 pub mod Grammar
 pub mod Canonical
 pub mod Reading
+pub mod Names
+pub mod Numbers
+pub mod Letters
+pub mod Table
+pub mod Options

@@ -1,10 +1,15 @@
 //! Command lines of DBGp: read from their bytes, and written in one form.
 #![tactic(auto)]
 
+mod command;
 mod errors;
 mod line;
+mod names;
+mod numbers;
+mod options;
 mod parts;
 mod reading;
+mod slots;
 mod sort;
 mod values;
 mod writing;
@@ -12,6 +17,8 @@ mod writing;
 pub use dp_value::Memory;
 pub use errors::LineError;
 pub use line::Line;
+pub use names::CommandName;
+pub use numbers::number_of;
 pub use reading::{read_line, reread};
 pub use writing::write_line;
 

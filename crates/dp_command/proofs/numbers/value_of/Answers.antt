@@ -1,0 +1,26 @@
+use Rattle.std.proofs.Common.{◌≡◌, List, ℕ, true, false, None, Some, Bor, Result, Ok, Err, ap, ◌∙◌}
+use Rattle.std.proofs.lemmas.Str.{IsUtf8-from_ascii}
+use Rattle.std.proofs.lemmas.Option.{same_Some}
+use Rattle.std.specs.Result.{MatchResult, is_ok, result_ok}
+use Rattle.std.specs.Str.{IsUtf8}
+use Rattle.dp_command.proofs.Decimals.{decimal-IsAscii, parsed_number}
+use Rattle.dp_command.proofs.numbers.value_of.Goals as goal
+
+-- bytes that are text are read as text
+never : {E : Type 0} (P : E → Type 0) {bs : List ℕ} (r : Result (Bor (List ℕ)) E) → MatchResult r (λ s. (s.now ≡ bs) × IsUtf8 bs) (λ e. ¬ (IsUtf8 bs) × P e) → false ≡ is_ok r → IsUtf8 bs → ⊥
+never P (Ok s) says h utf8 = cc
+never P (Err e) says h utf8 = says.0 utf8
+
+same_text : {E : Type 0} (P : E → Type 0) {bs : List ℕ} (r : Result (Bor (List ℕ)) E) (t : Bor (List ℕ)) → MatchResult r (λ s. (s.now ≡ bs) × IsUtf8 bs) (λ e. ¬ (IsUtf8 bs) × P e) → Some t ≡ result_ok r → t.now ≡ bs
+same_text P (Ok s) t says h = ap (λ (x : Bor (List ℕ)). x.now) (same_Some t s h) ∙ says.0
+same_text P (Err e) t says h = cc
+
+pub returns-in_err-text : goal.returns-in_err-text
+returns-in_err-text c =
+    let utf8 = IsUtf8-from_ascii c.args.text.now (decimal-IsAscii c.args.text.now c.requires) in
+    absurd (never _ c.from_utf8.result c.from_utf8.ensures.cases c.in_err-text.ensures.variant utf8)
+
+pub returns : goal.returns
+returns c =
+    let text = same_text _ c.from_utf8.result c.in_ok-text.text c.from_utf8.ensures.cases c.in_ok-text.ensures.value in
+    c.ok-2.ensures.value ∙ parsed_number c.args.text.now c.parse.result c.requires (rw text at c.parse.ensures.value.0)
