@@ -7,3 +7,4 @@ pub mod Numbers
 pub mod Letters
 pub mod Table
 pub mod Options
+pub mod Refusals

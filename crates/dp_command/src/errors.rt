@@ -1,7 +1,8 @@
-//! Why a line was not read.
+//! Why a line was not read, or is no command.
 
 ghost use Rattle.std.specs.Prelude.{◌≡◌};
 ghost use Rattle.dp_command.specs.declared.errors.LineError.TheVariants.{Memory};
+ghost use Rattle.dp_command.specs.Refusals.{code_of};
 
 use std::alloc::{AllocError, AllocFailed};
 use thiserror::Error;
@@ -30,5 +31,52 @@ impl<T: Drop> From<AllocFailed<T>> for LineError {
 
     fn from(_refused: AllocFailed<T>) -> LineError {
         LineError::Memory
+    }
+}
+
+/// Why a line is no command, whatever the state of the session, in the order in which it is tested.
+#[derive(Clone, Copy, Debug, PartialEq, Eq)]
+pub enum Refusal {
+    /// An option letter stands twice.
+    Duplicate,
+    /// No known command has this name.
+    Unimplemented,
+    /// There is no `-i`, or its value is not 1 to 64 bytes from 0x21 to 0x7e.
+    NoId,
+    /// An option or the payload is missing, malformed, or none of the command's.
+    InvalidOptions,
+}
+
+impl Refusal {
+    /// The code of the error response: 2, 4, 3 and 3. DBGp 1.0, "Error Codes". Takes no memory.
+    pub fn code(self) -> u16
+        ensures { result ≡ code_of self }
+    {
+        match self {
+            Refusal::Duplicate => 2,
+            Refusal::Unimplemented => 4,
+            Refusal::NoId | Refusal::InvalidOptions => 3,
+        }
+    }
+}
+
+/// Why a line gave no typed command.
+#[derive(Clone, Copy, Debug, Error, PartialEq, Eq)]
+pub enum CommandError {
+    /// The code of the error response: 2, 4 or 3.
+    #[error("error {0}")]
+    Code(u16),
+    /// Want of memory.
+    #[error("out of memory")]
+    Memory,
+}
+
+impl From<AllocError> for CommandError {
+    ghost use Rattle.dp_command.specs.declared.errors.CommandError.TheVariants as command_error;
+
+    ghost from_gives = { λ _ e. e ≡ command_error.Memory };
+
+    fn from(_refused: AllocError) -> CommandError {
+        CommandError::Memory
     }
 }

@@ -9,17 +9,19 @@ mod numbers;
 mod options;
 mod parts;
 mod reading;
+mod refusals;
 mod slots;
 mod sort;
 mod values;
 mod writing;
 
 pub use dp_value::Memory;
-pub use errors::LineError;
+pub use errors::{CommandError, LineError, Refusal};
 pub use line::Line;
 pub use names::CommandName;
 pub use numbers::number_of;
 pub use reading::{read_line, reread};
+pub use refusals::{check, id_of};
 pub use writing::write_line;
 
 #[cfg(test)]

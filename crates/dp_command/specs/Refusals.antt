@@ -1,0 +1,90 @@
+-- Which lines are commands, whatever the state of the session; where a line is none, its first refusal.
+use Rattle.std.specs.Prelude.{ℕ, Bool, true, ◌&&◌, ◌||◌, ◌==◌, List, [], length, Option, Some, None, Result, Ok, Err, if◌then◌else◌, is_some, is_none, nat_le}
+use Rattle.std.specs.List.{list_all, list_any}
+use Rattle.dp_command.specs.declared.line.Line.{Line}
+use Rattle.dp_command.specs.declared.names.CommandName.{CommandName}
+use Rattle.dp_command.specs.declared.errors.Refusal.{Refusal}
+use Rattle.dp_command.specs.declared.errors.Refusal.TheVariants.{Duplicate, Unimplemented, NoId, InvalidOptions}
+use Rattle.dp_command.specs.declared.slots.Slot.{Slot}
+use Rattle.dp_command.specs.declared.slots.Slot.TheVariants.{Required, Optional}
+use Rattle.dp_command.specs.declared.slots.Kind.{Kind}
+use Rattle.dp_command.specs.declared.slots.Kind.TheVariants.{Text, Number, Mode}
+use Rattle.dp_command.specs.declared.slots.Presence.{Presence}
+use Rattle.dp_command.specs.declared.slots.Presence.TheVariants as payload
+use Rattle.dp_command.specs.Letters as letter
+use Rattle.dp_command.specs.Names.{name_of}
+use Rattle.dp_command.specs.Numbers.{number_of}
+use Rattle.dp_command.specs.Options.{Options, given, is_given, has_duplicate, mode_of}
+use Rattle.dp_command.specs.Table.{slots_of, payload_of}
+
+-- ---- the transaction id
+
+-- a byte from 0x21 to 0x7e
+abbrev pub is_visible : ℕ → Bool
+is_visible b = nat_le 33 b && nat_le b 126
+
+-- 1 to 64 such bytes
+abbrev pub is_id : List ℕ → Bool
+is_id value = nat_le 1 (length value) && nat_le (length value) 64 && list_all is_visible value
+
+abbrev pub id_in : Option (List ℕ) → List ℕ
+id_in None = []
+id_in (Some value) = if is_id value then value else []
+
+-- what the first -i has, where it is an id; else nothing
+abbrev pub id_of : Line → List ℕ
+id_of line = id_in (given letter.i line.options)
+
+abbrev pub lacks_id : Line → Bool
+lacks_id line = length (id_of line) == 0
+
+-- ---- the row of the table
+
+abbrev pub has_kind : Kind → List ℕ → Bool
+has_kind Text value = true
+has_kind Number value = is_some (number_of value)
+has_kind Mode value = is_some (mode_of value)
+
+-- the option is this one, and its value may be so
+abbrev pub accepts : ℕ × List ℕ → Slot → Bool
+accepts o (Required letter kind) = o.0 == letter && has_kind kind o.1
+accepts o (Optional letter kind) = o.0 == letter && has_kind kind o.1
+
+-- the option is -i or stands in the row, and is not malformed
+abbrev pub is_accepted : List Slot → ℕ × List ℕ → Bool
+is_accepted slots o = o.0 == letter.i || list_any (accepts o) slots
+
+-- the option is given, where it is required
+abbrev pub is_met : Options → Slot → Bool
+is_met options (Required letter kind) = is_given letter options
+is_met options (Optional letter kind) = true
+
+abbrev pub takes_payload : Presence → Option (List ℕ) → Bool
+takes_payload payload.Never payload = is_none payload
+takes_payload payload.Optional payload = true
+takes_payload payload.Required payload = is_some payload
+
+-- nothing is missing, nothing stands there that is not in the row, and nothing is malformed
+unfoldable pub fits_row : CommandName → Line → Bool
+fits_row name line =
+    list_all (is_accepted (slots_of name)) line.options && list_all (is_met line.options) (slots_of name)
+    && takes_payload (payload_of name) line.payload
+
+-- ---- the first refusal
+
+abbrev pub checked_as : Option CommandName → Line → Result CommandName Refusal
+checked_as None line = Err Unimplemented
+checked_as (Some name) line =
+    if lacks_id line then Err NoId else (if fits_row name line then Ok name else Err InvalidOptions)
+
+-- the command that the line names, or the first refusal: a letter that stands twice, an unknown name, no
+-- transaction id, and last the options and the payload
+abbrev pub checked : Line → Result CommandName Refusal
+checked line = if has_duplicate line.options then Err Duplicate else checked_as (name_of line.name) line
+
+-- the code of an error response. DBGp 1.0, "Error Codes"
+abbrev pub code_of : Refusal → ℕ
+code_of Duplicate = 2
+code_of Unimplemented = 4
+code_of NoId = 3
+code_of InvalidOptions = 3

@@ -1,0 +1,157 @@
+//! Which lines are commands, whatever the state of the session.
+
+ghost use Rattle.std.specs.Prelude.{◌≡◌};
+ghost use Rattle.std.specs.List.{list_all, list_any};
+ghost use Rattle.std.specs.Option.{option_copied};
+ghost use Rattle.dp_command.specs.Refusals as spec;
+
+use crate::errors::Refusal;
+use crate::line::Line;
+use crate::names::CommandName;
+use crate::numbers::number_of;
+use crate::options::{given, has_duplicate, is_given, mode_of};
+use crate::slots::{Kind, Presence, Slot, payload_of, slots_of};
+use dp_value::Bytes;
+
+// The longest transaction id.
+const LONGEST: usize = 64;
+
+/// The transaction id that a reply to this line repeats: the value of its first `-i` where that is
+/// 1 to 64 bytes from 0x21 to 0x7e, and else empty. Takes no memory.
+pub fn id_of(line: &Line) -> &[u8]
+    ensures { result.now ≡ spec.id_of line.now }
+{
+    match given(line.options.as_slice(), b'i') {
+        Some(value) if is_id(value) => value,
+        _ => &[],
+    }
+}
+
+fn is_id(value: &[u8]) -> bool
+    ensures { result ≡ spec.is_id value.now }
+{
+    1 <= value.len() && value.len() <= LONGEST && all_visible(value)
+}
+
+fn all_visible(value: &[u8]) -> bool
+    ensures { result ≡ list_all spec.is_visible value.now }
+{
+    value.iter().all(|b| 0x21 <= *b && *b <= 0x7e)
+}
+
+/// The command that a line names, or its first refusal: a letter that stands twice, an unknown
+/// name, no transaction id, and last the options and the payload. A test of the session's state has
+/// its place before `InvalidOptions`. Takes no memory.
+pub fn check(line: &Line) -> Result<CommandName, Refusal>
+    ensures { result ≡ spec.checked line.now }
+{
+    if has_duplicate(line.options.as_slice()) {
+        return Err(Refusal::Duplicate);
+    }
+    match CommandName::of(line.name.as_slice()) {
+        None => Err(Refusal::Unimplemented),
+        Some(name) => check_as(name, line),
+    }
+}
+
+fn check_as(name: CommandName, line: &Line) -> Result<CommandName, Refusal>
+    ensures { result ≡ spec.checked_as (Some name) line.now }
+{
+    if id_of(line).is_empty() {
+        return Err(Refusal::NoId);
+    }
+    if fits_row(name, line) {
+        Ok(name)
+    } else {
+        Err(Refusal::InvalidOptions)
+    }
+}
+
+#[tactic(auto, unfolding(crate::specs::Refusals::fits_row))]
+fn fits_row(name: CommandName, line: &Line) -> bool
+    ensures { result ≡ spec.fits_row name line.now }
+{
+    let options = line.options.as_slice();
+    let slots = slots_of(name);
+    all_accepted(slots, options)
+        && all_met(options, slots)
+        && takes_payload(payload_of(name), &line.payload)
+}
+
+fn all_accepted(slots: &[Slot], options: &[(u8, Bytes)]) -> bool
+    ensures { result ≡ list_all (spec.is_accepted slots.now) options.now }
+{
+    for option in options {
+        if !is_accepted(slots, option.0, option.1.as_slice()) {
+            return false;
+        }
+    }
+    true
+}
+
+fn is_accepted(slots: &[Slot], letter: u8, value: &[u8]) -> bool
+    ensures { result ≡ spec.is_accepted slots.now (letter, value.now) }
+{
+    letter == b'i' || any_accepts(slots, letter, value)
+}
+
+fn any_accepts(slots: &[Slot], letter: u8, value: &[u8]) -> bool
+    ensures { result ≡ list_any (spec.accepts (letter, value.now)) slots.now }
+{
+    for slot in slots {
+        if accepts(*slot, letter, value) {
+            return true;
+        }
+    }
+    false
+}
+
+fn accepts(slot: Slot, letter: u8, value: &[u8]) -> bool
+    ensures { result ≡ spec.accepts (letter, value.now) slot }
+{
+    match slot {
+        Slot::Required(own, kind) | Slot::Optional(own, kind) => {
+            letter == own && has_kind(kind, value)
+        }
+    }
+}
+
+fn has_kind(kind: Kind, value: &[u8]) -> bool
+    ensures { result ≡ spec.has_kind kind value.now }
+{
+    match kind {
+        Kind::Text => true,
+        Kind::Number => number_of(value).is_some(),
+        Kind::Mode => mode_of(value).is_some(),
+    }
+}
+
+fn all_met(options: &[(u8, Bytes)], slots: &[Slot]) -> bool
+    ensures { result ≡ list_all (spec.is_met options.now) slots.now }
+{
+    for slot in slots {
+        if !is_met(options, *slot) {
+            return false;
+        }
+    }
+    true
+}
+
+fn is_met(options: &[(u8, Bytes)], slot: Slot) -> bool
+    ensures { result ≡ spec.is_met options.now slot }
+{
+    match slot {
+        Slot::Required(letter, _) => is_given(options, letter),
+        Slot::Optional(..) => true,
+    }
+}
+
+fn takes_payload(presence: Presence, payload: &Option<Bytes>) -> bool
+    ensures { result ≡ spec.takes_payload presence payload.now }
+{
+    match presence {
+        Presence::Never => payload.is_none(),
+        Presence::Optional => true,
+        Presence::Required => payload.is_some(),
+    }
+}
