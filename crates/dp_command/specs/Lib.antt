@@ -8,3 +8,4 @@ pub mod Letters
 pub mod Table
 pub mod Options
 pub mod Refusals
+pub mod Commands

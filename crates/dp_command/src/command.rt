@@ -11,16 +11,21 @@ pub struct Command {
 }
 
 /// What a command asks for: one variant for each row of the table of commands. An option that is
-/// tested against the program or the session has its bytes as they were given; every number is at
-/// most 2,147,483,647.
+/// tested against the program or the session is kept as it was given. `Command::of` gives no number
+/// above 2,147,483,647.
 #[derive(Debug, Drop)]
 pub enum Request {
     /// `status`
     Status,
     /// `feature_get`
-    FeatureGet { name: Bytes },
+    FeatureGet {
+        name: Bytes,
+    },
     /// `feature_set`
-    FeatureSet { name: Bytes, value: Bytes },
+    FeatureSet {
+        name: Bytes,
+        value: Bytes,
+    },
     /// `run`, `step_into`, `step_over`, `step_out`
     Continue(Continuation),
     /// `stop`, `detach`
@@ -28,7 +33,10 @@ pub enum Request {
     /// `breakpoint_set`
     BreakpointSet(BreakpointSet),
     /// `breakpoint_get`, `breakpoint_remove`
-    Breakpoint { action: BreakpointAction, id: u32 },
+    Breakpoint {
+        action: BreakpointAction,
+        id: u32,
+    },
     /// `breakpoint_update`
     BreakpointUpdate(BreakpointUpdate),
     /// `breakpoint_list`
@@ -36,11 +44,16 @@ pub enum Request {
     /// `stack_depth`
     StackDepth,
     /// `stack_get`, of this level alone where one is given.
-    StackGet { level: Option<u32> },
+    StackGet {
+        level: Option<u32>,
+    },
     /// `context_names`. Its level changes nothing and is not kept.
     ContextNames,
     /// `context_get`
-    ContextGet { level: u32, context: u32 },
+    ContextGet {
+        level: u32,
+        context: u32,
+    },
     /// `property_get`
     PropertyGet {
         place: PropertyPlace,
@@ -57,9 +70,14 @@ pub enum Request {
     /// `source`
     Source(SourceRange),
     /// `stdout`, `stderr`
-    Redirect { stream: Stream, mode: StreamMode },
+    Redirect {
+        stream: Stream,
+        mode: StreamMode,
+    },
     /// `eval`
-    Eval { expression: Bytes },
+    Eval {
+        expression: Bytes,
+    },
 }
 
 /// How far the program runs on.

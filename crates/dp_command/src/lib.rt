@@ -4,6 +4,7 @@
 mod command;
 mod errors;
 mod line;
+mod making;
 mod names;
 mod numbers;
 mod options;
@@ -15,6 +16,10 @@ mod sort;
 mod values;
 mod writing;
 
+pub use command::{
+    BreakpointAction, BreakpointSet, BreakpointUpdate, Command, Continuation, Finish,
+    PropertyPlace, PropertySet, Request, SourceRange, Stream, StreamMode,
+};
 pub use dp_value::Memory;
 pub use errors::{CommandError, LineError, Refusal};
 pub use line::Line;

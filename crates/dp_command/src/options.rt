@@ -41,11 +41,7 @@ pub fn has_duplicate(options: &[(u8, Bytes)]) -> bool
 }
 
 /// A copy of the value of a letter, where one is given.
-pub fn copy_of(
-    alloc: Global,
-    options: &[(u8, Bytes)],
-    letter: u8,
-) -> Result<Option<Bytes>, Memory>
+pub fn copy_of(alloc: Global, options: &[(u8, Bytes)], letter: u8) -> Result<Option<Bytes>, Memory>
     ensures { IfOk result (λ value. value ≡ spec.given letter options.now) }
 {
     match given(options, letter) {

@@ -32,9 +32,13 @@ pub enum Presence {
 }
 
 const LEVEL: Slot = Slot::Optional(b'd', Kind::Number);
+
 const CONTEXT: Slot = Slot::Optional(b'c', Kind::Number);
+
 const NAME: Slot = Slot::Required(b'n', Kind::Text);
+
 const BREAKPOINT: Slot = Slot::Required(b'd', Kind::Number);
+
 const MODE: Slot = Slot::Required(b'c', Kind::Mode);
 
 const BREAKPOINT_SET: [Slot; 9] = [

@@ -1,0 +1,244 @@
+//! The typed command that a line is.
+
+ghost use Rattle.std.specs.Prelude.{◌≡◌, Err, IfErr, IfOk, MatchResult, [], unwrap_or};
+ghost use Rattle.dp_command.specs.Commands as spec;
+ghost use Rattle.dp_command.specs.Letters as letter;
+ghost use Rattle.dp_command.specs.Options.{mode_given, number_or_zero};
+ghost use Rattle.dp_command.specs.Refusals.{checked, code_of};
+
+use crate::command::{
+    BreakpointAction, BreakpointSet, BreakpointUpdate, Command, Continuation, Finish,
+    PropertyPlace, PropertySet, Request, SourceRange, Stream,
+};
+use crate::errors::CommandError;
+use crate::line::Line;
+use crate::names::CommandName;
+use crate::options::{copy_of, mode_given, number_given, number_or_zero, text_given};
+use crate::refusals::{check, id_of};
+use dp_value::{Bytes, Memory};
+use std::alloc::Global;
+
+impl Command {
+    /// The typed command that a line is, or the code of its first refusal: 2, 4 or 3, which `check`
+    /// tells apart. A refusal takes no memory. DBGp 1.0, "Core Commands", "Extended Commands".
+    pub fn of(alloc: Global, line: &Line) -> Result<Command, CommandError>
+        // A line with a refusal is always answered with its code.
+        ensures refused { IfErr (checked line.now)
+            (λ refusal. result ≡ Err (CommandError.Code (code_of refusal))) }
+        // A line without one is always its command, unless memory runs out.
+        ensures accepted { IfOk (checked line.now) (λ name. MatchResult result
+            (λ command. command ≡ spec.command_of name line.now)
+            (λ e. e ≡ CommandError.Memory)) }
+    {
+        match check(line) {
+            Err(refusal) => Err(CommandError::Code(refusal.code())),
+            Ok(name) => command_of(alloc, name, line),
+        }
+    }
+}
+
+fn command_of(alloc: Global, name: CommandName, line: &Line) -> Result<Command, CommandError>
+    ensures { MatchResult result
+        (λ command. command ≡ spec.command_of name line.now) (λ e. e ≡ CommandError.Memory) }
+{
+    let id = Bytes::from_slice(alloc, id_of(line))?;
+    let request = request_of(alloc, name, line)?;
+    Ok(Command { id, request })
+}
+
+#[tactic(auto, unfolding(crate::specs::Commands::request_of))]
+fn request_of(alloc: Global, name: CommandName, line: &Line) -> Result<Request, Memory>
+    ensures { IfOk result (λ request. request ≡ spec.request_of name line.now) }
+{
+    match name {
+        CommandName::Status => Ok(Request::Status),
+        CommandName::FeatureGet => feature_get(alloc, line),
+        CommandName::FeatureSet => feature_set(alloc, line),
+        CommandName::Run => Ok(Request::Continue(Continuation::Run)),
+        CommandName::StepInto => Ok(Request::Continue(Continuation::StepInto)),
+        CommandName::StepOver => Ok(Request::Continue(Continuation::StepOver)),
+        CommandName::StepOut => Ok(Request::Continue(Continuation::StepOut)),
+        CommandName::Stop => Ok(Request::Finish(Finish::Stop)),
+        CommandName::Detach => Ok(Request::Finish(Finish::Detach)),
+        CommandName::BreakpointSet => breakpoint_set(alloc, line),
+        CommandName::BreakpointGet => Ok(breakpoint(BreakpointAction::Get, line)),
+        CommandName::BreakpointRemove => Ok(breakpoint(BreakpointAction::Remove, line)),
+        CommandName::BreakpointUpdate => breakpoint_update(alloc, line),
+        CommandName::BreakpointList => Ok(Request::BreakpointList),
+        CommandName::StackDepth => Ok(Request::StackDepth),
+        CommandName::StackGet => Ok(stack_get(line)),
+        CommandName::ContextNames => Ok(Request::ContextNames),
+        CommandName::ContextGet => Ok(context_get(line)),
+        CommandName::PropertyGet => property_get(alloc, line),
+        CommandName::PropertyValue => property_value(alloc, line),
+        CommandName::PropertySet => property_set(alloc, line),
+        CommandName::Source => source(alloc, line),
+        CommandName::Stdout => Ok(redirect(Stream::Stdout, line)),
+        CommandName::Stderr => Ok(redirect(Stream::Stderr, line)),
+        CommandName::Eval => eval(alloc, line),
+    }
+}
+
+#[tactic(auto, unfolding(crate::specs::Commands::request_of))]
+fn feature_get(alloc: Global, line: &Line) -> Result<Request, Memory>
+    ensures { IfOk result (λ r. r ≡ spec.request_of CommandName.FeatureGet line.now) }
+{
+    let name = text_given(alloc, line.options.as_slice(), b'n')?;
+    Ok(Request::FeatureGet { name })
+}
+
+#[tactic(auto, unfolding(crate::specs::Commands::request_of))]
+fn feature_set(alloc: Global, line: &Line) -> Result<Request, Memory>
+    ensures { IfOk result (λ r. r ≡ spec.request_of CommandName.FeatureSet line.now) }
+{
+    let options = line.options.as_slice();
+    let name = text_given(alloc, options, b'n')?;
+    let value = text_given(alloc, options, b'v')?;
+    Ok(Request::FeatureSet { name, value })
+}
+
+fn breakpoint_set(alloc: Global, line: &Line) -> Result<Request, Memory>
+    ensures { IfOk result (λ r. r ≡ spec.breakpoint_set line.now) }
+{
+    let options = line.options.as_slice();
+    Ok(Request::BreakpointSet(BreakpointSet {
+        kind: text_given(alloc, options, b't')?,
+        state: copy_of(alloc, options, b's')?,
+        file: copy_of(alloc, options, b'f')?,
+        line: copy_of(alloc, options, b'n')?,
+        function: copy_of(alloc, options, b'm')?,
+        exception: copy_of(alloc, options, b'x')?,
+        hit_value: number_or_zero(options, b'h'),
+        hit_rule: copy_of(alloc, options, b'o')?,
+        temporary: copy_of(alloc, options, b'r')?,
+        expression: payload_of(line)?,
+    }))
+}
+
+fn payload_of(line: &Line) -> Result<Option<Bytes>, Memory>
+    ensures { IfOk result (λ payload. payload ≡ line.now.payload) }
+{
+    match &line.payload {
+        Some(payload) => Ok(Some(payload.try_clone()?)),
+        None => Ok(None),
+    }
+}
+
+fn payload_text(alloc: Global, line: &Line) -> Result<Bytes, Memory>
+    ensures { IfOk result (λ text. text ≡ unwrap_or line.now.payload []) }
+{
+    match &line.payload {
+        Some(payload) => payload.try_clone(),
+        None => Ok(Bytes::of(Vec::new(alloc))),
+    }
+}
+
+fn breakpoint(action: BreakpointAction, line: &Line) -> Request
+    ensures { result ≡ Request.Breakpoint action (number_or_zero letter.d line.now.options) }
+{
+    let id = number_or_zero(line.options.as_slice(), b'd');
+    Request::Breakpoint { action, id }
+}
+
+fn breakpoint_update(alloc: Global, line: &Line) -> Result<Request, Memory>
+    ensures { IfOk result (λ r. r ≡ spec.breakpoint_update line.now.options) }
+{
+    let options = line.options.as_slice();
+    Ok(Request::BreakpointUpdate(BreakpointUpdate {
+        id: number_or_zero(options, b'd'),
+        state: copy_of(alloc, options, b's')?,
+        line: number_given(options, b'n'),
+        hit_value: number_given(options, b'h'),
+        hit_rule: copy_of(alloc, options, b'o')?,
+    }))
+}
+
+#[tactic(auto, unfolding(crate::specs::Commands::request_of))]
+fn stack_get(line: &Line) -> Request
+    ensures { result ≡ spec.request_of CommandName.StackGet line.now }
+{
+    let level = number_given(line.options.as_slice(), b'd');
+    Request::StackGet { level }
+}
+
+#[tactic(auto, unfolding(crate::specs::Commands::request_of))]
+fn context_get(line: &Line) -> Request
+    ensures { result ≡ spec.request_of CommandName.ContextGet line.now }
+{
+    let options = line.options.as_slice();
+    Request::ContextGet {
+        level: number_or_zero(options, b'd'),
+        context: number_or_zero(options, b'c'),
+    }
+}
+
+fn place_of(alloc: Global, line: &Line) -> Result<PropertyPlace, Memory>
+    ensures { IfOk result (λ place. place ≡ spec.place_of line.now.options) }
+{
+    let options = line.options.as_slice();
+    Ok(PropertyPlace {
+        name: text_given(alloc, options, b'n')?,
+        level: number_or_zero(options, b'd'),
+        context: number_or_zero(options, b'c'),
+    })
+}
+
+#[tactic(auto, unfolding(crate::specs::Commands::request_of))]
+fn property_get(alloc: Global, line: &Line) -> Result<Request, Memory>
+    ensures { IfOk result (λ r. r ≡ spec.request_of CommandName.PropertyGet line.now) }
+{
+    let place = place_of(alloc, line)?;
+    let options = line.options.as_slice();
+    Ok(Request::PropertyGet {
+        place,
+        page: number_or_zero(options, b'p'),
+        max_data: number_given(options, b'm'),
+    })
+}
+
+#[tactic(auto, unfolding(crate::specs::Commands::request_of))]
+fn property_value(alloc: Global, line: &Line) -> Result<Request, Memory>
+    ensures { IfOk result (λ r. r ≡ spec.request_of CommandName.PropertyValue line.now) }
+{
+    let place = place_of(alloc, line)?;
+    let max_data = number_given(line.options.as_slice(), b'm');
+    Ok(Request::PropertyValue { place, max_data })
+}
+
+fn property_set(alloc: Global, line: &Line) -> Result<Request, Memory>
+    ensures { IfOk result (λ r. r ≡ spec.property_set line.now) }
+{
+    let options = line.options.as_slice();
+    Ok(Request::PropertySet(PropertySet {
+        place: place_of(alloc, line)?,
+        kind: copy_of(alloc, options, b't')?,
+        length: number_given(options, b'l'),
+        value: payload_text(alloc, line)?,
+    }))
+}
+
+fn source(alloc: Global, line: &Line) -> Result<Request, Memory>
+    ensures { IfOk result (λ r. r ≡ spec.source line.now.options) }
+{
+    let options = line.options.as_slice();
+    Ok(Request::Source(SourceRange {
+        file: copy_of(alloc, options, b'f')?,
+        first: number_given(options, b'b'),
+        last: number_given(options, b'e'),
+    }))
+}
+
+fn redirect(stream: Stream, line: &Line) -> Request
+    ensures { result ≡ Request.Redirect stream (mode_given letter.c line.now.options) }
+{
+    let mode = mode_given(line.options.as_slice(), b'c');
+    Request::Redirect { stream, mode }
+}
+
+#[tactic(auto, unfolding(crate::specs::Commands::request_of))]
+fn eval(alloc: Global, line: &Line) -> Result<Request, Memory>
+    ensures { IfOk result (λ r. r ≡ spec.request_of CommandName.Eval line.now) }
+{
+    let expression = payload_text(alloc, line)?;
+    Ok(Request::Eval { expression })
+}
