@@ -7,3 +7,4 @@ pub mod Whole
 pub mod Written
 pub mod Formed
 pub mod Decimals
+pub mod Spellings

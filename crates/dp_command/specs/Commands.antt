@@ -1,6 +1,6 @@
 -- The command that a line is, by the table of commands. Of a line that fits its row, each part that is required is
 -- there and each number is one; what stands for a part that is missing is said here for the others.
-use Rattle.std.specs.Prelude.{List, [], unwrap_or}
+use Rattle.std.specs.Prelude.{[], unwrap_or}
 use Rattle.dp_command.specs.declared.line.Line.{Line}
 use Rattle.dp_command.specs.declared.names.CommandName.{CommandName}
 use Rattle.dp_command.specs.declared.names.CommandName.TheVariants.{Status, FeatureGet, FeatureSet, Run, StepInto, StepOver, StepOut, Stop, Detach, BreakpointSet, BreakpointGet, BreakpointRemove, BreakpointUpdate, BreakpointList, StackDepth, StackGet, ContextNames, ContextGet, PropertyGet, PropertyValue, PropertySet, Source, Stdout, Stderr, Eval}

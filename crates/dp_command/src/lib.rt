@@ -1,4 +1,4 @@
-//! Command lines of DBGp: read from their bytes, and written in one form.
+//! Command lines of DBGp: read from their bytes, written in one form, and taken as typed commands.
 #![tactic(auto)]
 
 mod command;

@@ -1,6 +1,6 @@
 //! The names of commands.
 
-ghost use Rattle.std.specs.Prelude.{◌≡◌};
+ghost use Rattle.std.specs.Prelude.{◌≡◌, Some};
 ghost use Rattle.std.specs.List.{find};
 ghost use Rattle.std.specs.Str.{bytes_eq};
 ghost use Rattle.dp_command.specs.Names as spec;
@@ -84,8 +84,11 @@ impl CommandName {
     }
 
     /// Its name in a command line. Takes no memory.
+    #[tactic(auto, using(crate::proofs::Spellings::named))]
     pub fn text(self) -> &'static [u8]
-        ensures { result.now ≡ spec.text_of self }
+        ensures text { result.now ≡ spec.text_of self }
+        // No other command has this name.
+        ensures own { spec.name_of (spec.text_of self) ≡ Some self }
     {
         match self {
             CommandName::Status => b"status",
