@@ -1,6 +1,7 @@
 -- The command that a line is, by the table of commands. Of a line that fits its row, each part that is required is
 -- there and each number is one; what stands for a part that is missing is said here for the others.
-use Rattle.std.specs.Prelude.{[], unwrap_or}
+use Rattle.std.specs.Prelude.{[], Option, unwrap_or}
+use Rattle.std.specs.Option.{option_map}
 use Rattle.dp_command.specs.declared.line.Line.{Line}
 use Rattle.dp_command.specs.declared.names.CommandName.{CommandName}
 use Rattle.dp_command.specs.declared.names.CommandName.TheVariants.{Status, FeatureGet, FeatureSet, Run, StepInto, StepOver, StepOut, Stop, Detach, BreakpointSet, BreakpointGet, BreakpointRemove, BreakpointUpdate, BreakpointList, StackDepth, StackGet, ContextNames, ContextGet, PropertyGet, PropertyValue, PropertySet, Source, Stdout, Stderr, Eval}
@@ -14,6 +15,7 @@ use Rattle.dp_command.specs.declared.command.Stream.TheVariants as stream
 use Rattle.dp_command.specs.declared.command.PropertyPlace.{PropertyPlace}
 use Rattle.dp_command.specs.Letters as letter
 use Rattle.dp_command.specs.Options.{Options, given, text_given, number_given, number_or_zero, mode_given}
+use Rattle.dp_command.specs.Names.{name_of}
 use Rattle.dp_command.specs.Refusals.{id_of}
 
 -- a property's name, the level and the context that it is looked for in
@@ -91,5 +93,9 @@ request_of Stdout line = request.Redirect stream.Stdout (mode_given letter.c lin
 request_of Stderr line = request.Redirect stream.Stderr (mode_given letter.c line.options)
 request_of Eval line = request.Eval (unwrap_or line.payload [])
 
-abbrev pub command_of : CommandName → Line → Command
-command_of name line = record { id = id_of line; request = request_of name line }
+abbrev pub command_as : Line → CommandName → Command
+command_as line name = record { id = id_of line; request = request_of name line }
+
+-- the command that a line is, where its name is known
+abbrev pub command_of : Line → Option Command
+command_of line = option_map (command_as line) (name_of line.name)

@@ -1,6 +1,6 @@
 -- Which lines are commands, whatever the state of the session; where a line is none, its first refusal.
-use Rattle.std.specs.Prelude.{ℕ, Bool, true, ◌&&◌, ◌||◌, ◌==◌, List, [], length, Option, Some, None, Result, Ok, Err, if◌then◌else◌, is_some, is_none, nat_le}
-use Rattle.std.specs.List.{list_all, list_any}
+use Rattle.std.specs.Prelude.{ℕ, Bool, true, false, not, ◌&&◌, ◌||◌, ◌==◌, List, [], ◌∷◌, length, Option, Some, None, if◌then◌else◌, is_some, is_none, nat_le}
+use Rattle.std.specs.List.{find, list_all, list_any}
 use Rattle.dp_command.specs.declared.line.Line.{Line}
 use Rattle.dp_command.specs.declared.names.CommandName.{CommandName}
 use Rattle.dp_command.specs.declared.errors.Refusal.{Refusal}
@@ -10,7 +10,7 @@ use Rattle.dp_command.specs.declared.slots.Slot.TheVariants.{Required, Optional}
 use Rattle.dp_command.specs.declared.slots.Kind.{Kind}
 use Rattle.dp_command.specs.declared.slots.Kind.TheVariants.{Text, Number, Mode}
 use Rattle.dp_command.specs.declared.slots.Presence.{Presence}
-use Rattle.dp_command.specs.declared.slots.Presence.TheVariants as payload
+use Rattle.dp_command.specs.declared.slots.Presence.TheVariants as presence
 use Rattle.dp_command.specs.Letters as letter
 use Rattle.dp_command.specs.Names.{name_of}
 use Rattle.dp_command.specs.Numbers.{number_of}
@@ -35,9 +35,6 @@ id_in (Some value) = if is_id value then value else []
 abbrev pub id_of : Line → List ℕ
 id_of line = id_in (given letter.i line.options)
 
-abbrev pub lacks_id : Line → Bool
-lacks_id line = length (id_of line) == 0
-
 -- ---- the row of the table
 
 abbrev pub has_kind : Kind → List ℕ → Bool
@@ -47,8 +44,8 @@ has_kind Mode value = is_some (mode_of value)
 
 -- the option is this one, and its value may be so
 abbrev pub accepts : ℕ × List ℕ → Slot → Bool
-accepts o (Required letter kind) = o.0 == letter && has_kind kind o.1
-accepts o (Optional letter kind) = o.0 == letter && has_kind kind o.1
+accepts o (Required own kind) = o.0 == own && has_kind kind o.1
+accepts o (Optional own kind) = o.0 == own && has_kind kind o.1
 
 -- the option is -i or stands in the row, and is not malformed
 abbrev pub is_accepted : List Slot → ℕ × List ℕ → Bool
@@ -56,13 +53,13 @@ is_accepted slots o = o.0 == letter.i || list_any (accepts o) slots
 
 -- the option is given, where it is required
 abbrev pub is_met : Options → Slot → Bool
-is_met options (Required letter kind) = is_given letter options
-is_met options (Optional letter kind) = true
+is_met options (Required own kind) = is_given own options
+is_met options (Optional own kind) = true
 
 abbrev pub takes_payload : Presence → Option (List ℕ) → Bool
-takes_payload payload.Never payload = is_none payload
-takes_payload payload.Optional payload = true
-takes_payload payload.Required payload = is_some payload
+takes_payload presence.Never payload = is_none payload
+takes_payload presence.Optional payload = true
+takes_payload presence.Required payload = is_some payload
 
 -- nothing is missing, nothing stands there that is not in the row, and nothing is malformed
 unfoldable pub fits_row : CommandName → Line → Bool
@@ -72,15 +69,21 @@ fits_row name line =
 
 -- ---- the first refusal
 
-abbrev pub checked_as : Option CommandName → Line → Result CommandName Refusal
-checked_as None line = Err Unimplemented
-checked_as (Some name) line =
-    if lacks_id line then Err NoId else (if fits_row name line then Ok name else Err InvalidOptions)
+-- a command of no name fits no row
+abbrev pub fits : Option CommandName → Line → Bool
+fits None line = false
+fits (Some name) line = fits_row name line
 
--- the command that the line names, or the first refusal: a letter that stands twice, an unknown name, no
--- transaction id, and last the options and the payload
-abbrev pub checked : Line → Result CommandName Refusal
-checked line = if has_duplicate line.options then Err Duplicate else checked_as (name_of line.name) line
+-- the test of each refusal
+abbrev pub holds_of : Line → Refusal → Bool
+holds_of line Duplicate = has_duplicate line.options
+holds_of line Unimplemented = is_none (name_of line.name)
+holds_of line NoId = length (id_of line) == 0
+holds_of line InvalidOptions = not (fits (name_of line.name) line)
+
+-- the first of these, in this order, whose test holds of the line
+abbrev pub first_refusal : Line → Option Refusal
+first_refusal line = find (holds_of line) (Duplicate ∷ Unimplemented ∷ NoId ∷ InvalidOptions ∷ [])
 
 -- the code of an error response. DBGp 1.0, "Error Codes"
 abbrev pub code_of : Refusal → ℕ

@@ -8,7 +8,7 @@ use Rattle.dp_command.specs.declared.slots.Slot.{Slot}
 use Rattle.dp_command.specs.declared.slots.Slot.TheVariants.{Required, Optional}
 use Rattle.dp_command.specs.declared.slots.Kind.TheVariants.{Text, Number, Mode}
 use Rattle.dp_command.specs.declared.slots.Presence.{Presence}
-use Rattle.dp_command.specs.declared.slots.Presence.TheVariants as payload
+use Rattle.dp_command.specs.declared.slots.Presence.TheVariants as presence
 
 unfoldable pub slots_of : CommandName → List Slot
 slots_of Status = []
@@ -44,7 +44,7 @@ slots_of Stderr = Required letter.c Mode ∷ []
 slots_of Eval = []
 
 unfoldable pub payload_of : CommandName → Presence
-payload_of BreakpointSet = payload.Optional
-payload_of PropertySet = payload.Required
-payload_of Eval = payload.Required
-payload_of name = payload.Never
+payload_of BreakpointSet = presence.Optional
+payload_of PropertySet = presence.Required
+payload_of Eval = presence.Required
+payload_of name = presence.Never

@@ -26,7 +26,7 @@ pub use line::Line;
 pub use names::CommandName;
 pub use numbers::number_of;
 pub use reading::{read_line, reread};
-pub use refusals::{check, id_of};
+pub use refusals::{check_line, id_of};
 pub use writing::write_line;
 
 #[cfg(test)]

@@ -1,10 +1,10 @@
 //! The typed command that a line is.
 
-ghost use Rattle.std.specs.Prelude.{◌≡◌, Err, IfErr, IfOk, MatchResult, [], unwrap_or};
+ghost use Rattle.std.specs.Prelude.{◌≡◌, Err, Some, IfNone, IfOk, IfSome, MatchResult, [], unwrap_or};
 ghost use Rattle.dp_command.specs.Commands as spec;
 ghost use Rattle.dp_command.specs.Letters as letter;
 ghost use Rattle.dp_command.specs.Options.{mode_given, number_or_zero};
-ghost use Rattle.dp_command.specs.Refusals.{checked, code_of};
+ghost use Rattle.dp_command.specs.Refusals.{code_of, first_refusal};
 
 use crate::command::{
     BreakpointAction, BreakpointSet, BreakpointUpdate, Command, Continuation, Finish,
@@ -14,32 +14,33 @@ use crate::errors::CommandError;
 use crate::line::Line;
 use crate::names::CommandName;
 use crate::options::{copy_of, mode_given, number_given, number_or_zero, text_given};
-use crate::refusals::{check, id_of};
+use crate::refusals::{check_line, id_of};
 use dp_value::{Bytes, Memory};
 use std::alloc::Global;
 
 impl Command {
-    /// The typed command that a line is, or the code of its first refusal: 2, 4 or 3, which `check`
-    /// tells apart. A refusal takes no memory. DBGp 1.0, "Core Commands", "Extended Commands".
+    /// The typed command that a line is, or the code of its first refusal: 2, 4 or 3, which
+    /// `check_line` tells apart. A refusal takes no memory. DBGp 1.0, "Core Commands", "Extended
+    /// Commands".
     pub fn of(alloc: Global, line: &Line) -> Result<Command, CommandError>
-        // A line with a refusal is always answered with its code.
-        ensures refused { IfErr (checked line.now)
+        // A line that has a refusal is always answered with the code of the first.
+        ensures refused { IfSome (first_refusal line.now)
             (λ refusal. result ≡ Err (CommandError.Code (code_of refusal))) }
-        // A line without one is always its command, unless memory runs out.
-        ensures accepted { IfOk (checked line.now) (λ name. MatchResult result
-            (λ command. command ≡ spec.command_of name line.now)
+        // A line that has none is always answered with its command, unless memory runs out.
+        ensures accepted { IfNone (first_refusal line.now) (MatchResult result
+            (λ command. spec.command_of line.now ≡ Some command)
             (λ e. e ≡ CommandError.Memory)) }
     {
-        match check(line) {
+        match check_line(line) {
             Err(refusal) => Err(CommandError::Code(refusal.code())),
-            Ok(name) => command_of(alloc, name, line),
+            Ok(name) => command_as(alloc, line, name),
         }
     }
 }
 
-fn command_of(alloc: Global, name: CommandName, line: &Line) -> Result<Command, CommandError>
+fn command_as(alloc: Global, line: &Line, name: CommandName) -> Result<Command, CommandError>
     ensures { MatchResult result
-        (λ command. command ≡ spec.command_of name line.now) (λ e. e ≡ CommandError.Memory) }
+        (λ command. command ≡ spec.command_as line.now name) (λ e. e ≡ CommandError.Memory) }
 {
     let id = Bytes::from_slice(alloc, id_of(line))?;
     let request = request_of(alloc, name, line)?;

@@ -1,8 +1,9 @@
 //! Which lines are commands, whatever the state of the session.
 
-ghost use Rattle.std.specs.Prelude.{◌≡◌};
+ghost use Rattle.std.specs.Prelude.{◌≡◌, None, Some, IfErr, IfOk};
 ghost use Rattle.std.specs.List.{list_all, list_any};
 ghost use Rattle.std.specs.Option.{option_copied};
+ghost use Rattle.dp_command.specs.Names.{name_of};
 ghost use Rattle.dp_command.specs.Refusals as spec;
 
 use crate::errors::Refusal;
@@ -39,32 +40,27 @@ fn all_visible(value: &[u8]) -> bool
     value.iter().all(|b| 0x21 <= *b && *b <= 0x7e)
 }
 
-/// The command that a line names, or its first refusal: a letter that stands twice, an unknown
-/// name, no transaction id, and last the options and the payload. A test of the session's state has
-/// its place before `InvalidOptions`. Takes no memory.
-pub fn check(line: &Line) -> Result<CommandName, Refusal>
-    ensures { result ≡ spec.checked line.now }
+/// The name of a command that has no refusal, or the first refusal: a letter that stands twice, an
+/// unknown name, no transaction id, and last the options and the payload. A test of the session's
+/// state has its place before `InvalidOptions`. Takes no memory.
+pub fn check_line(line: &Line) -> Result<CommandName, Refusal>
+    ensures refused { IfErr result (λ refusal. spec.first_refusal line.now ≡ Some refusal) }
+    ensures accepted { IfOk result (λ _. spec.first_refusal line.now ≡ None) }
+    ensures named { IfOk result (λ name. name_of line.now.name ≡ Some name) }
 {
     if has_duplicate(line.options.as_slice()) {
         return Err(Refusal::Duplicate);
     }
-    match CommandName::of(line.name.as_slice()) {
-        None => Err(Refusal::Unimplemented),
-        Some(name) => check_as(name, line),
-    }
-}
-
-fn check_as(name: CommandName, line: &Line) -> Result<CommandName, Refusal>
-    ensures { result ≡ spec.checked_as (Some name) line.now }
-{
+    let Some(name) = CommandName::of(line.name.as_slice()) else {
+        return Err(Refusal::Unimplemented);
+    };
     if id_of(line).is_empty() {
         return Err(Refusal::NoId);
     }
-    if fits_row(name, line) {
-        Ok(name)
-    } else {
-        Err(Refusal::InvalidOptions)
+    if !fits_row(name, line) {
+        return Err(Refusal::InvalidOptions);
     }
+    Ok(name)
 }
 
 #[tactic(auto, unfolding(crate::specs::Refusals::fits_row))]

@@ -173,7 +173,7 @@ fn is_refused(alloc: Global, row: &Refused) -> bool {
     let Ok(line) = read_line(alloc, row.0) else {
         return false;
     };
-    check(&line) == Err(row.1)
+    check_line(&line) == Err(row.1)
         && matches!(Command::of(alloc, &line), Err(CommandError::Code(code)) if code == row.2)
         && id_of(&line) == row.3
 }
