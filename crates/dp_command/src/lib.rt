@@ -25,6 +25,7 @@ pub use errors::{CommandError, LineError, Refusal};
 pub use line::Line;
 pub use names::CommandName;
 pub use numbers::number_of;
+pub use options::{has_duplicate, option_value};
 pub use reading::{read_line, reread};
 pub use refusals::{check_line, id_of};
 pub use writing::write_line;

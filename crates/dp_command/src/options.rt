@@ -9,8 +9,8 @@ use crate::numbers::number_of;
 use dp_value::{Bytes, Memory};
 use std::alloc::Global;
 
-/// The value of the first option of a letter.
-pub fn given(options: &[(u8, Bytes)], letter: u8) -> Option<&[u8]>
+/// The value of the first option of a letter. Takes no memory.
+pub fn option_value(options: &[(u8, Bytes)], letter: u8) -> Option<&[u8]>
     ensures { option_copied result ≡ spec.given letter options.now }
 {
     for option in options {
@@ -24,11 +24,11 @@ pub fn given(options: &[(u8, Bytes)], letter: u8) -> Option<&[u8]>
 pub fn is_given(options: &[(u8, Bytes)], letter: u8) -> bool
     ensures { result ≡ spec.is_given letter options.now }
 {
-    given(options, letter).is_some()
+    option_value(options, letter).is_some()
 }
 
 /// Whether a letter stands twice. There are not many letters, so the walk ends soon where there
-/// are many options.
+/// are many options. Takes no memory.
 pub fn has_duplicate(options: &[(u8, Bytes)]) -> bool
     ensures { result ≡ spec.has_duplicate options.now }
 {
@@ -44,7 +44,7 @@ pub fn has_duplicate(options: &[(u8, Bytes)]) -> bool
 pub fn copy_of(alloc: Global, options: &[(u8, Bytes)], letter: u8) -> Result<Option<Bytes>, Memory>
     ensures { IfOk result (λ value. value ≡ spec.given letter options.now) }
 {
-    match given(options, letter) {
+    match option_value(options, letter) {
         Some(value) => Ok(Some(Bytes::from_slice(alloc, value)?)),
         None => Ok(None),
     }
@@ -54,7 +54,7 @@ pub fn copy_of(alloc: Global, options: &[(u8, Bytes)], letter: u8) -> Result<Opt
 pub fn text_given(alloc: Global, options: &[(u8, Bytes)], letter: u8) -> Result<Bytes, Memory>
     ensures { IfOk result (λ value. value ≡ spec.text_given letter options.now) }
 {
-    match given(options, letter) {
+    match option_value(options, letter) {
         Some(value) => Bytes::from_slice(alloc, value),
         None => Ok(Bytes::of(Vec::new(alloc))),
     }
@@ -63,7 +63,7 @@ pub fn text_given(alloc: Global, options: &[(u8, Bytes)], letter: u8) -> Result<
 pub fn number_given(options: &[(u8, Bytes)], letter: u8) -> Option<u32>
     ensures { result ≡ spec.number_given letter options.now }
 {
-    match given(options, letter) {
+    match option_value(options, letter) {
         Some(value) => number_of(value),
         None => None,
     }
@@ -89,7 +89,7 @@ pub fn mode_of(value: &[u8]) -> Option<StreamMode>
 pub fn mode_given(options: &[(u8, Bytes)], letter: u8) -> StreamMode
     ensures { result ≡ spec.mode_given letter options.now }
 {
-    let mode = match given(options, letter) {
+    let mode = match option_value(options, letter) {
         Some(value) => mode_of(value),
         None => None,
     };

@@ -10,7 +10,7 @@ use crate::errors::Refusal;
 use crate::line::Line;
 use crate::names::CommandName;
 use crate::numbers::number_of;
-use crate::options::{given, has_duplicate, is_given, mode_of};
+use crate::options::{has_duplicate, is_given, mode_of, option_value};
 use crate::slots::{Kind, Presence, Slot, payload_of, slots_of};
 use dp_value::Bytes;
 
@@ -22,7 +22,7 @@ const LONGEST: usize = 64;
 pub fn id_of(line: &Line) -> &[u8]
     ensures { result.now ≡ spec.id_of line.now }
 {
-    match given(line.options.as_slice(), b'i') {
+    match option_value(line.options.as_slice(), b'i') {
         Some(value) if is_id(value) => value,
         _ => &[],
     }
