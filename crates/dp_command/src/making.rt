@@ -1,10 +1,10 @@
 //! The typed command that a line is.
 
-ghost use Rattle.std.specs.Prelude.{◌≡◌, Err, Some, IfNone, IfOk, IfSome, MatchResult, [], unwrap_or};
+ghost use Rattle.std.specs.Prelude.{◌≡◌, Err, Some, IfNone, IfOk, IfSome, IsTrue, MatchResult, [], unwrap_or};
 ghost use Rattle.dp_command.specs.Commands as spec;
 ghost use Rattle.dp_command.specs.Letters as letter;
 ghost use Rattle.dp_command.specs.Options.{mode_given, number_or_zero};
-ghost use Rattle.dp_command.specs.Refusals.{code_of, first_refusal};
+ghost use Rattle.dp_command.specs.Refusals.{code_of, first_refusal, is_id, id_of as line_id};
 
 use crate::command::{
     BreakpointAction, BreakpointSet, BreakpointUpdate, Command, Continuation, Finish,
@@ -30,6 +30,8 @@ impl Command {
         ensures accepted { IfNone (first_refusal line.now) (MatchResult result
             (λ command. spec.command_of line.now ≡ Some command)
             (λ e. e ≡ CommandError.Memory)) }
+        // The id of a command is one.
+        ensures id { IfOk result (λ command. IsTrue (is_id command.id)) }
     {
         match check_line(line) {
             Err(refusal) => Err(CommandError::Code(refusal.code())),
@@ -39,8 +41,10 @@ impl Command {
 }
 
 fn command_as(alloc: Global, line: &Line, name: CommandName) -> Result<Command, CommandError>
-    ensures { MatchResult result
+    requires { IsTrue (is_id (line_id line.now)) }
+    ensures made { MatchResult result
         (λ command. command ≡ spec.command_as line.now name) (λ e. e ≡ CommandError.Memory) }
+    ensures id { IfOk result (λ command. IsTrue (is_id command.id)) }
 {
     let id = Bytes::from_slice(alloc, id_of(line))?;
     let request = request_of(alloc, name, line)?;

@@ -1,6 +1,6 @@
 //! Which lines are commands, whatever the state of the session.
 
-ghost use Rattle.std.specs.Prelude.{◌≡◌, None, Some, IfErr, IfOk};
+ghost use Rattle.std.specs.Prelude.{◌≡◌, None, Some, IfErr, IfOk, IsTrue};
 ghost use Rattle.std.specs.List.{list_all, list_any};
 ghost use Rattle.std.specs.Option.{option_copied};
 ghost use Rattle.dp_command.specs.Names.{name_of};
@@ -43,10 +43,12 @@ fn all_visible(value: &[u8]) -> bool
 /// The name of a command that has no refusal, or the first refusal: a letter that stands twice, an
 /// unknown name, no transaction id, and last the options and the payload. A test of the session's
 /// state has its place before `InvalidOptions`. Takes no memory.
+#[tactic(auto, using(crate::proofs::Ids::has_id))]
 pub fn check_line(line: &Line) -> Result<CommandName, Refusal>
     ensures refused { IfErr result (λ refusal. spec.first_refusal line.now ≡ Some refusal) }
     ensures accepted { IfOk result (λ _. spec.first_refusal line.now ≡ None) }
     ensures named { IfOk result (λ name. name_of line.now.name ≡ Some name) }
+    ensures id { IfOk result (λ _. IsTrue (spec.is_id (spec.id_of line.now))) }
 {
     if has_duplicate(line.options.as_slice()) {
         return Err(Refusal::Duplicate);
