@@ -1,0 +1,4 @@
+pub mod formers
+pub mod Signs
+pub mod Rules
+pub mod Input
