@@ -2,3 +2,5 @@ pub mod formers
 pub mod Signs
 pub mod Rules
 pub mod Input
+pub mod Lists
+pub mod ReadingLists
