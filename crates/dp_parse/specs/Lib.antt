@@ -4,3 +4,5 @@ pub mod Rules
 pub mod Input
 pub mod Lists
 pub mod ReadingLists
+pub mod Grammar
+pub mod Reading

@@ -2,11 +2,15 @@
 #![tactic(auto)]
 
 mod boxed;
+mod operand;
+mod rank;
 mod refusal;
 mod sign;
 mod tree;
 
 pub use boxed::Boxed;
+pub use operand::{Assignment, Operand, Part};
+pub use rank::Rank;
 pub use refusal::Refusal;
 pub use sign::Sign;
 pub use tree::{
