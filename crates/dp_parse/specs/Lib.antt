@@ -6,3 +6,6 @@ pub mod Lists
 pub mod ReadingLists
 pub mod Grammar
 pub mod Reading
+pub mod Statements
+pub mod ReadingStatements
+pub mod Refused

@@ -2,6 +2,7 @@
 #![tactic(auto)]
 
 mod boxed;
+mod ended;
 mod operand;
 mod rank;
 mod refusal;
@@ -9,6 +10,7 @@ mod sign;
 mod tree;
 
 pub use boxed::Boxed;
+pub use ended::{Body, Ended};
 pub use operand::{Assignment, Operand, Part};
 pub use rank::Rank;
 pub use refusal::Refusal;
