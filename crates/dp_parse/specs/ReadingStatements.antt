@@ -5,6 +5,7 @@ use Rattle.std.specs.declared.ops.ControlFlow.TheVariants.{Continue, Break}
 use Rattle.dp_lexer.specs.declared.token.Token.{Token}
 use Rattle.dp_parse.specs.declared.ended.Ended.{Ended}
 use Rattle.dp_parse.specs.declared.ended.Body.{Body}
+use Rattle.dp_parse.specs.declared.ended.Parts.{Parts}
 use Rattle.dp_parse.specs.declared.operand.Part.TheVariants as part
 use Rattle.dp_parse.specs.declared.sign.Sign.{Sign}
 use Rattle.dp_parse.specs.declared.sign.Sign.TheVariants as sign
@@ -21,7 +22,7 @@ use Rattle.dp_parse.specs.Input.{Reader, ◌>>=◌, ◌>>◌, gives, made, refus
 use Rattle.dp_parse.specs.ReadingLists.{plain_items, some_items, any_plain_items, any_items}
 use Rattle.dp_parse.specs.Grammar.{Text, name_in}
 use Rattle.dp_parse.specs.Reading.{kind, variable, reading, reading_place}
-use Rattle.dp_parse.specs.Statements.{ended, whole, binding, levels_in, parameter_in, Arms, with_arm, stated, Depth, function_of, Parts, no_parts, with_statement, with_function}
+use Rattle.dp_parse.specs.Statements.{ended, whole, binding, levels_in, parameter_in, Arms, with_arm, stated, Depth, function_of, no_parts, with_statement, with_function}
 
 -- the line of the first token, if there is one
 abbrev pub line_of : List Token → ℕ

@@ -7,6 +7,7 @@ use Rattle.dp_lexer.specs.declared.token.TokenKind.{TokenKind}
 use Rattle.dp_lexer.specs.declared.token.TokenKind.TheVariants as kind
 use Rattle.dp_parse.specs.declared.ended.Ended.{Ended}
 use Rattle.dp_parse.specs.declared.ended.Body.{Body}
+use Rattle.dp_parse.specs.declared.ended.Parts.{Parts}
 use Rattle.dp_parse.specs.declared.sign.Sign.TheVariants as sign
 use Rattle.dp_parse.specs.declared.tree.Arm.{Arm}
 use Rattle.dp_parse.specs.declared.tree.Binding.{Binding}
@@ -249,11 +250,6 @@ FunctionRule depth = Nests depth.bodies (do
   Mark sign.OpenBrace
   all ← Bodies (body_at depth.expressions depth.bodies 0)
   Gives (function_of line name parameters all))
-
--- the statements and the functions of a file, each in their order
-pub record Parts : Type 0 where
-  pub body : List Statement
-  pub functions : List Function
 
 abbrev pub no_parts : Parts
 no_parts = record { body = []; functions = [] }

@@ -1,6 +1,7 @@
 //! What statements are read in.
 
-use crate::tree::{Statement, StatementKind};
+use crate::tree::{Function, Statement, StatementKind};
+use dp_value::Items;
 
 /// What a statement does, and whether an `else` behind it could still belong to it.
 #[derive(Debug, Drop)]
@@ -14,4 +15,11 @@ pub struct Ended {
 pub struct Body {
     pub statement: Statement,
     pub is_open: bool,
+}
+
+/// The statements and the functions of a file, each in their order.
+#[derive(Debug, Drop)]
+pub struct Parts {
+    pub body: Items<Statement>,
+    pub functions: Items<Function>,
 }

@@ -10,7 +10,7 @@ mod sign;
 mod tree;
 
 pub use boxed::Boxed;
-pub use ended::{Body, Ended};
+pub use ended::{Body, Ended, Parts};
 pub use operand::{Assignment, Operand, Part};
 pub use rank::Rank;
 pub use refusal::Refusal;
