@@ -3,6 +3,7 @@
 
 mod boxed;
 mod ended;
+mod errors;
 mod operand;
 mod rank;
 mod refusal;
@@ -11,6 +12,7 @@ mod tree;
 
 pub use boxed::Boxed;
 pub use ended::{Body, Ended, Parts};
+pub use errors::ParseError;
 pub use operand::{Assignment, Operand, Part};
 pub use rank::Rank;
 pub use refusal::Refusal;
