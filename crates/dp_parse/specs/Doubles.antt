@@ -7,7 +7,7 @@ use Rattle.dp_parse.specs.Builtins.{builtin_of}
 
 -- The name is that of a built-in or of one of these functions, in any case of letters.
 abbrev pub is_taken : List Function → List ℕ → Bool
-is_taken before name = is_some (builtin_of name) || list_any (λ f. str_eq_ignore_ascii_case f.name name) before
+is_taken before name = is_some (builtin_of name) || list_any (λ f. str_eq_ignore_ascii_case name f.name) before
 
 -- no function has a name that is taken
 pub record HasNoDouble (functions : List Function) : Type 0 where

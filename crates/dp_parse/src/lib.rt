@@ -2,6 +2,8 @@
 #![tactic(auto)]
 
 mod boxed;
+mod builtins;
+mod doubles;
 mod ended;
 mod errors;
 mod operand;
@@ -11,6 +13,7 @@ mod sign;
 mod tree;
 
 pub use boxed::Boxed;
+pub use builtins::builtin_of;
 pub use ended::{Body, Ended, Parts};
 pub use errors::ParseError;
 pub use operand::{Assignment, Operand, Part};
