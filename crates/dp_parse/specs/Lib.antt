@@ -4,3 +4,4 @@ pub mod Rules
 pub mod Input
 pub mod Lists
 pub mod ReadingLists
+pub mod Lines
