@@ -1,3 +1,5 @@
 pub mod Signs
 pub mod Answers
 pub mod Loops
+pub mod Lists
+pub mod Turns
