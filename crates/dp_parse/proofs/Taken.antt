@@ -78,8 +78,8 @@ module _ (fs : List Function) (i : ℕ) (f : Function) (within : i < length fs) 
   free_at name lower keys test named low kept none is fails =
       let seen : take (i + 1) fs ≡ take i fs ++ f ∷ [] = ap (λ n. take n fs) (let e : i + 1 ≡ suc i = omega arith in e) ∙ take-suc fs i f within ∙ ap (λ x. take i fs ++ x ∷ []) (sym at) in
       let free : is_taken (take i fs) f.name ≡ false = ap (λ n. is_taken (take i fs) n) (sym named) ∙ sym (taken_by_keys (take i fs) name)
-          ∙ ap (λ k. is_some (builtin_of name) || list_any (bytes_eq (str_to_ascii_lowercase name)) k) (sym kept)
-        ∙ ap (λ l. is_some (builtin_of name) || list_any (bytes_eq l) keys) (sym low) ∙ sym is ∙ fails in
+      ∙ ap (λ k. is_some (builtin_of name) || list_any (bytes_eq (str_to_ascii_lowercase name)) k) (sym kept)
+      ∙ ap (λ l. is_some (builtin_of name) || list_any (bytes_eq l) keys) (sym low) ∙ sym is ∙ fails in
       subst HasNoDouble (sym seen) (no_double_behind (take i fs) f none free)
 
   pub kept_at : (keys : List (List ℕ)) → keys ≡ map lower_name (take i fs) → keys ++ lower_name f ∷ [] ≡ map lower_name (take (i + 1) fs)

@@ -11,6 +11,7 @@ mod rank;
 mod refusal;
 mod sign;
 mod tree;
+mod whole;
 
 pub use boxed::Boxed;
 pub use builtins::builtin_of;
@@ -24,3 +25,4 @@ pub use tree::{
     Arm, Binding, Expression, File, Function, Inclusion, Item, Link, Operator, Order, Place,
     Statement, StatementKind,
 };
+pub use whole::{parse_expression, parse_file};
