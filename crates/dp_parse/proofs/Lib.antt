@@ -5,3 +5,6 @@ pub mod Readers
 pub mod Lists
 pub mod Turns
 pub mod Taken
+pub mod Reasons
+pub mod Feeds
+pub mod FileLaws

@@ -94,3 +94,40 @@ module _ (fs : List Function) (i : ℕ) (f : Function) (within : i < length fs) 
 pub any_free : (a b : Bool) → (a || b) ≡ false → b ≡ false
 any_free true b e = absurd (cc)
 any_free false b e = e
+
+-- ---- there is one first function at most whose name is taken
+
+-- a list cut at two items: it is one cut, or one is before the other
+two_cuts : {A : Type 0} (b : List A) (x : A) (a : List A) (c : List A) (y : A) (d : List A) → b ++ x ∷ a ≡ c ++ y ∷ d
+    → ((b ≡ c) × (x ≡ y)) ⊎ (((rest : List A) × (c ≡ b ++ x ∷ rest)) ⊎ ((rest : List A) × (b ≡ c ++ y ∷ rest)))
+two_cuts [] x a [] y d e = inl (refl, cc)
+two_cuts [] x a (z ∷ c) y d e = inr (inl (c, cc))
+two_cuts (z ∷ b) x a [] y d e = inr (inr (b, cc))
+two_cuts {A = A} (z ∷ b) x a (w ∷ c) y d e = go (two_cuts b x a c y d (ap tail_of e))
+  where
+    tail_of : List A → List A
+    tail_of [] = []
+    tail_of (v ∷ vs) = vs
+
+    same : z ≡ w
+    same = cc
+
+    go : ((b ≡ c) × (x ≡ y)) ⊎ (((rest : List A) × (c ≡ b ++ x ∷ rest)) ⊎ ((rest : List A) × (b ≡ c ++ y ∷ rest)))
+        → ((z ∷ b ≡ w ∷ c) × (x ≡ y)) ⊎ (((rest : List A) × (w ∷ c ≡ z ∷ b ++ x ∷ rest)) ⊎ ((rest : List A) × (z ∷ b ≡ w ∷ c ++ y ∷ rest)))
+    go (inl h) = inl (ap (λ l. z ∷ l) h.0 ∙ ap (λ v. v ∷ c) same, h.1)
+    go (inr (inl h)) = inr (inl (h.0, ap (λ l. w ∷ l) h.1 ∙ ap (λ v. v ∷ (b ++ x ∷ h.0)) (sym same)))
+    go (inr (inr h)) = inr (inr (h.0, ap (λ l. z ∷ l) h.1 ∙ ap (λ v. v ∷ (c ++ y ∷ h.0)) same))
+
+clash : (b : Bool) → b ≡ true → b ≡ false → ⊥
+clash b e f = cc
+
+pub double_free : (fs : List Function) (name : List ℕ) → IsDouble fs name → HasNoDouble fs → ⊥
+double_free fs name d free = clash (is_taken d.before d.double.name) d.taken (free.free d.before d.double d.after d.split)
+
+pub one_double : (fs : List Function) (a b : List ℕ) → IsDouble fs a → IsDouble fs b → a ≡ b
+one_double fs a b d e = go (two_cuts d.before d.double d.after e.before e.double e.after (sym d.split ∙ e.split))
+  where
+    go : ((d.before ≡ e.before) × (d.double ≡ e.double)) ⊎ (((rest : List Function) × (e.before ≡ d.before ++ d.double ∷ rest)) ⊎ ((rest : List Function) × (d.before ≡ e.before ++ e.double ∷ rest))) → a ≡ b
+    go (inl h) = d.named ∙ ap (λ f. f.name) h.1 ∙ sym e.named
+    go (inr (inl h)) = absurd (clash (is_taken d.before d.double.name) d.taken (e.first.free d.before d.double h.0 h.1))
+    go (inr (inr h)) = absurd (clash (is_taken e.before e.double.name) e.taken (d.first.free e.before e.double h.0 h.1))

@@ -1,5 +1,7 @@
+ghost use Rattle.std.specs.Prelude.{◌≡◌};
+
 use dp_lexer::LexError;
-use dp_value::Bytes;
+use dp_value::{Bytes, Memory};
 use thiserror::Error;
 
 /// Why bytes are no program, or no expression. A token is named by its number, from 0; where the end is what is wrong,
@@ -21,4 +23,14 @@ pub enum ParseError {
     /// Want of memory.
     #[error("out of memory")]
     Memory,
+}
+
+impl From<Memory> for ParseError {
+    ghost use Rattle.dp_parse.specs.declared.errors.ParseError.TheVariants as error;
+
+    ghost from_gives = { λ _ e. e ≡ error.Memory };
+
+    fn from(_refused: Memory) -> ParseError {
+        ParseError::Memory
+    }
 }

@@ -6,6 +6,7 @@ mod builtins;
 mod doubles;
 mod ended;
 mod errors;
+mod judging;
 mod operand;
 mod rank;
 mod refusal;

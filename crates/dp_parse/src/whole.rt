@@ -4,11 +4,39 @@ ghost use Rattle.std.specs.Prelude.{◌≡◌, ◌≢◌, ◌<◌, ◌^◌, ◌�
 ghost use Rattle.dp_parse.specs.declared.errors.ParseError.{ParseError};
 ghost use Rattle.dp_parse.specs.declared.tree.Expression.{Expression};
 ghost use Rattle.dp_parse.specs.declared.tree.File.{File};
-ghost use Rattle.dp_parse.specs.Programs.{IsFile, IsNoFile, IsExpressionText, IsNoExpression};
+ghost use Rattle.dp_lexer.specs.Tokens as spec;
+ghost use Rattle.dp_parse.specs.Programs.{without_tokens, IsFile, IsNoFile, IsExpressionText, IsNoExpression};
 
+use crate::doubles::first_double;
+use crate::ended::Parts;
 use crate::errors::ParseError;
+use crate::judging::{expression_of, parts_of};
 use crate::tree::{Expression, File};
+use dp_lexer::{LexError, lex, lex_expression};
 use std::alloc::Global;
+
+// How many line feeds there are.
+fn feeds(bytes: &[u8]) -> usize
+    ensures { result ≡ spec.feeds bytes.now }
+{
+    let mut count = 0;
+    for byte in bytes {
+        if *byte == b'\n' {
+            count += 1;
+        }
+    }
+    count
+}
+
+// Why there are no tokens.
+fn no_tokens(why: LexError) -> ParseError
+    ensures { result ≡ without_tokens why }
+{
+    match why {
+        LexError::Memory => ParseError::Memory,
+        why => ParseError::Lex(why),
+    }
+}
 
 /// The tree of a file: the bytes begin with the tag `<?php` and spell a program.
 ///
@@ -27,9 +55,23 @@ pub fn parse_file(alloc: Global, bytes: &[u8]) -> Result<File, ParseError>
     ensures refuses { (why : ParseError) → why ≢ ParseError.Memory → IsNoFile bytes.now why →
         MatchResult result (λ _. ⊥) (λ e. (e ≡ why) ⊎ (e ≡ ParseError.Memory)) }
 {
-    let _ = alloc;
-    let _ = bytes;
-    Err(ParseError::Memory)
+    let tokens = match lex(alloc, bytes) {
+        Ok(tokens) => tokens,
+        Err(why) => return Err(no_tokens(why)),
+    };
+    let Parts { body, functions } = match parts_of(alloc, tokens.as_slice()) {
+        Ok(parts) => parts,
+        Err(why) => return Err(why),
+    };
+    if let Some(name) = first_double(alloc, functions.as_slice())? {
+        return Err(ParseError::DoubleFunction { name });
+    }
+    let lines = 1 + feeds(bytes) as u32;
+    Ok(File {
+        body,
+        functions,
+        lines,
+    })
 }
 
 /// The tree of an expression without a tag, behind which one `;` may stand. Errors are as for [`parse_file`], with
@@ -43,7 +85,9 @@ pub fn parse_expression(alloc: Global, bytes: &[u8]) -> Result<Expression, Parse
     ensures refuses { (why : ParseError) → why ≢ ParseError.Memory → IsNoExpression bytes.now why →
         MatchResult result (λ _. ⊥) (λ e. (e ≡ why) ⊎ (e ≡ ParseError.Memory)) }
 {
-    let _ = alloc;
-    let _ = bytes;
-    Err(ParseError::Memory)
+    let tokens = match lex_expression(alloc, bytes) {
+        Ok(tokens) => tokens,
+        Err(why) => return Err(no_tokens(why)),
+    };
+    expression_of(alloc, tokens.as_slice())
 }
