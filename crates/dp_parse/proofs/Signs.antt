@@ -1,5 +1,5 @@
 -- Sorts of tokens told apart, and a token of each sort.
-use Rattle.std.proofs.Common.{◌≡◌, ℕ, Bool, true, false, not, ◌&&◌, ◌||◌, List, [], ◌∷◌, get_or, Option, Some, None, sym, refl, ap, ◌∙◌, cond, nat_eq, eqb-true, eq-eqb}
+use Rattle.std.proofs.Common.{◌≡◌, ℕ, Bool, true, false, not, ◌&&◌, ◌||◌, List, [], ◌∷◌, get_or, Some, None, sym, refl, ap, ◌∙◌, cond, eqb-true, eq-eqb}
 use Rattle.dp_lexer.specs.declared.token.Token.{Token}
 use Rattle.dp_lexer.specs.declared.token.TokenKind.{TokenKind}
 use Rattle.dp_parse.specs.declared.sign.Sign.{Sign}
@@ -55,7 +55,6 @@ abbrev sign_at : ℕ → Sign
 sign_at n = get_or all_signs n sign.End
 
 pub at_number : (s : Sign) → sign_at (number_of s) ≡ s
-
 at_number sign.End = refl
 at_number sign.Variable = refl
 at_number sign.Superglobal = refl

@@ -4,5 +4,6 @@ pub mod Rules
 pub mod Input
 pub mod Lists
 pub mod ReadingLists
+pub mod Lines
 pub mod Grammar
 pub mod Reading
