@@ -2,3 +2,4 @@ pub mod Signs
 pub mod Answers
 pub mod Heights
 pub mod Least
+pub mod Factored
