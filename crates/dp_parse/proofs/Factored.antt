@@ -252,3 +252,124 @@ module _ (level : ℕ) (i : Inner) where
       (to_right (OperandRule level i) (From ranks (OperandRule level i)) (CoalesceRest level i)) text e
       (first_by (CoalesceRule level i) (Joined (Joined (OperandRule level i) (From ranks (OperandRule level i))) (CoalesceRest level i)) (ConditionalRest level i)
       (first_by (Ladder ranks (OperandRule level i)) (Joined (OperandRule level i) (From ranks (OperandRule level i))) (CoalesceRest level i) (from_first ranks (OperandRule level i))) text e j))
+
+-- ---- what an expression begins with
+
+module _ (level : ℕ) (i : Inner) where
+  -- a place with `[]` behind it
+  abbrev pub PushedPlace : Rule Place
+  PushedPlace = Joined (PlaceRule level i) (λ p. Made (EmptyIndex level) (λ _. p))
+
+  -- what the tokens of an operand spell
+  abbrev pub Spells : Operand → List Token → Type 0
+  Spells (opened.Place p) text = PlaceRule level i text p
+  Spells (opened.Push p) text = PushedPlace text p
+  Spells (opened.Other e) text = SteppedLast level i text e ⊎ OtherRule level i text e
+
+  spells_end : (text : List Token) (v : Operand) (p : Place) (front back : List Token) → text ≡ front ++ back → PlaceRule level i front p → PlaceEnd level i p back v → Spells v text
+  spells_end text v p front back split one (inl h) =
+      let g = given (EmptyIndex level) (λ _. opened.Push p) back v h in
+      subst (λ x. Spells x text) (sym g.2) (record { front = front; back = back; value = p; split = split; one = one; other = give (EmptyIndex level) (λ _. p) back g.0 g.1 })
+  spells_end text v p front back split one (inr (inl h)) =
+      let g = given (Sort step_in) (λ by. opened.Other (tree.Step by ValueFirst p)) back v h in
+      subst (λ x. Spells x text) (sym g.2) (inl (record { front = front; back = back; value = p; split = split; one = one; other = give (Sort step_in) (λ by. tree.Step by ValueFirst p) back g.0 g.1 }))
+  spells_end text v p front back split one (inr (inr n)) =
+      let same : text ≡ front = split ∙ ap (λ l. front ++ l) n.empty ∙ append-nil front in
+      subst (λ x. Spells x text) (sym n.same) (subst (λ l. PlaceRule level i l p) (sym same) one)
+
+  pub spells : (text : List Token) (v : Operand) → OpeningRule level i text v → Spells v text
+  spells text v (inl h) = let j = place_then_end (Index level i) (PlaceEnd level i) text v h in spells_end text v j.value j.front j.back j.split j.one j.other
+  spells text v (inr h) = let g = given (OtherRule level i) opened.Other text v h in subst (λ x. Spells x text) (sym g.2) (inr g.1)
+
+  -- an operand with which an expression may go on
+  pub first_of_going : (text : List Token) (e : Expression) → Spells (opened.Other e) text → OperandRule level i text e
+  first_of_going text e (inl h) = inr (inr (inl h))
+  first_of_going text e (inr h) = other_operand level i text e h
+
+  goes : (front back text : List Token) (first e : Expression) → text ≡ front ++ back → OperandRule level i front first → Going level i first back e → ExpressionRule level i text e
+  goes front back text first e split one other = inr (inr (inr (going_on level i text e (record { front = front; back = back; value = first; split = split; one = one; other = other }))))
+
+  pushes : (front back text : List Token) (p : Place) (e : Expression) → text ≡ front ++ back → PushedPlace front p
+      → Made (Nests level (Joined (Mark sign.Assign) (λ _. i.expression))) (λ from. tree.Push p from) back e → ExpressionRule level i text e
+  pushes front back text p e split j rest =
+      let g = given (EmptyIndex level) (λ _. j.value) j.back p j.other in
+      inr (inl (record {
+        front = j.front;
+        back = j.back ++ back;
+        value = j.value;
+        split = split ∙ ap (λ l. l ++ back) j.split ∙ append_assoc j.front j.back back;
+        one = j.one;
+        other = record { front = j.back; back = back; value = g.0; split = refl; one = g.1; other = subst (λ q. Made (Nests level (Joined (Mark sign.Assign) (λ _. i.expression))) (λ from. tree.Push q from) back e) g.2 rest };
+      }))
+
+  no_push : (text : List Token) (p : Place) → level ≡ 0 → PushedPlace text p → ⊥
+  no_push text p none j = let g = given (EmptyIndex level) (λ _. j.value) j.back p j.other in let some : 0 < level = g.1.some in omega arith
+
+module _ (i : Inner) where
+  push_tail : (level : ℕ) (front back text : List Token) (p : Place) (e : Expression) → text ≡ front ++ back → PushedPlace level i front p → PushTail level i p back e → ExpressionRule level i text e
+  push_tail zero front back text p e split one rest = absurd (no_push 0 i front p refl one)
+  push_tail (suc level) front back text p e split one rest = pushes (suc level) i front back text p e split one rest
+
+  tail_of_push : (level : ℕ) (front back : List Token) (p : Place) (e : Expression) → PushedPlace level i front p → Made (Nests level (Joined (Mark sign.Assign) (λ _. i.expression))) (λ from. tree.Push p from) back e → PushTail level i p back e
+  tail_of_push zero front back p e one rest = absurd (no_push 0 i front p refl one)
+  tail_of_push (suc level) front back p e one rest = rest
+
+module _ (level : ℕ) (i : Inner) where
+  opened_expression : (front back text : List Token) (v : Operand) (e : Expression) → text ≡ front ++ back → Spells level i v front → Rest level i v back e → ExpressionRule level i text e
+  opened_expression front back text (opened.Push p) e split one rest = push_tail i level front back text p e split one rest
+  opened_expression front back text (opened.Other first) e split one rest = goes level i front back text first e split (first_of_going level i front first one) rest
+  opened_expression front back text (opened.Place p) e split one (inl rest) = inr (inr (inl (record { front = front; back = back; value = p; split = split; one = one; other = rest })))
+  opened_expression front back text (opened.Place p) e split one (inr rest) = goes level i front back text (value_of p) e split (place_operand level i front p one) rest
+
+  pub to_expression : (text : List Token) (e : Expression) → WholeRule level i text e → ExpressionRule level i text e
+  to_expression text e (inl h) = inl h
+  to_expression text e (inr j) = opened_expression j.front j.back text j.value e j.split (spells level i j.front j.value j.one) j.other
+
+  -- what an operand begins with, and its end
+  opening_place : (front back text : List Token) (p : Place) (v : Operand) → text ≡ front ++ back → PlaceRule level i front p → PlaceEnd level i p back v → OpeningRule level i text v
+  opening_place front back text p v split one other = inl (place_up_to (Index level i) (PlaceEnd level i) text v (record { front = front; back = back; value = p; split = split; one = one; other = other }))
+
+  opening_stepped : (text : List Token) (e : Expression) → SteppedLast level i text e → OpeningRule level i text (opened.Other e)
+  opening_stepped text e j =
+      let g = given (Sort step_in) (λ by. tree.Step by ValueFirst j.value) j.back e j.other in
+      opening_place j.front j.back text j.value (opened.Other e) j.split j.one
+      (inr (inl (subst (λ x. Made (Sort step_in) (λ by. opened.Other (tree.Step by ValueFirst j.value)) j.back (opened.Other x)) (sym g.2) (give (Sort step_in) (λ by. opened.Other (tree.Step by ValueFirst j.value)) j.back g.0 g.1))))
+
+  opening_other : (text : List Token) (e : Expression) → OtherRule level i text e → OpeningRule level i text (opened.Other e)
+  opening_other text e h = inr (give (OtherRule level i) opened.Other text e h)
+
+  opening_alone : (text : List Token) (p : Place) → PlaceRule level i text p → OpeningRule level i text (opened.Place p)
+  opening_alone text p h = opening_place text [] text p (opened.Place p) (sym (append-nil text)) h (inr (inr (record { empty = refl; same = refl })))
+
+  opening_push : (text : List Token) (p : Place) → PushedPlace level i text p → OpeningRule level i text (opened.Push p)
+  opening_push text p j =
+      let g = given (EmptyIndex level) (λ _. j.value) j.back p j.other in
+      opening_place j.front j.back text j.value (opened.Push p) j.split j.one
+      (inl (subst (λ x. Made (EmptyIndex level) (λ _. opened.Push j.value) j.back (opened.Push x)) (sym g.2) (give (EmptyIndex level) (λ _. opened.Push j.value) j.back g.0 g.1)))
+
+  then_rest : (front back text : List Token) (v : Operand) (e : Expression) → text ≡ front ++ back → OpeningRule level i front v → Rest level i v back e → WholeRule level i text e
+  then_rest front back text v e split one rest = inr (record { front = front; back = back; value = v; split = split; one = one; other = rest })
+
+  from_going : (front back text : List Token) (first e : Expression) → text ≡ front ++ back → Going level i first back e → OperandRule level i front first → WholeRule level i text e
+  from_going front back text first e split rest (inl h) = then_rest front back text (opened.Other first) e split (opening_other front first (inl h)) rest
+  from_going front back text first e split rest (inr (inl h)) = then_rest front back text (opened.Other first) e split (opening_other front first (inr (inl h))) rest
+  from_going front back text first e split rest (inr (inr (inl h))) = then_rest front back text (opened.Other first) e split (opening_stepped front first h) rest
+  from_going front back text first e split rest (inr (inr (inr (inl h)))) = then_rest front back text (opened.Other first) e split (opening_other front first (inr (inr (inl h)))) rest
+  from_going front back text first e split rest (inr (inr (inr (inr (inl h))))) = then_rest front back text (opened.Other first) e split (opening_other front first (inr (inr (inr (inl h))))) rest
+  from_going front back text first e split rest (inr (inr (inr (inr (inr (inl h)))))) =
+      let g = given (PlaceRule level i) value_of front first h in
+      then_rest front back text (opened.Place g.0) e split (opening_alone front g.0 g.1) (inr (subst (λ x. Going level i x back e) g.2 rest))
+  from_going front back text first e split rest (inr (inr (inr (inr (inr (inr h)))))) = then_rest front back text (opened.Other first) e split (opening_other front first (inr (inr (inr (inr h))))) rest
+
+  from_push : (text : List Token) (e : Expression) → PushRule level i text e → WholeRule level i text e
+  from_push text e j =
+      let k = j.other in
+      let one : PushedPlace level i (j.front ++ k.front) j.value = record { front = j.front; back = k.front; value = j.value; split = refl; one = j.one; other = give (EmptyIndex level) (λ _. j.value) k.front k.value k.one } in
+      then_rest (j.front ++ k.front) k.back text (opened.Push j.value) e (j.split ∙ ap (λ l. j.front ++ l) k.split ∙ sym (append_assoc j.front k.front k.back)) (opening_push (j.front ++ k.front) j.value one)
+      (tail_of_push i level (j.front ++ k.front) k.back j.value e one k.other)
+
+  pub from_expression : (text : List Token) (e : Expression) → ExpressionRule level i text e → WholeRule level i text e
+  from_expression text e (inl h) = inl h
+  from_expression text e (inr (inl h)) = from_push text e h
+  from_expression text e (inr (inr (inl j))) = then_rest j.front j.back text (opened.Place j.value) e j.split (opening_alone j.front j.value j.one) (inl j.other)
+  from_expression text e (inr (inr (inr h))) = let j = first_operand level i text e h in from_going j.front j.back text j.value e j.split j.other j.one
