@@ -5,3 +5,4 @@ pub mod Heights
 pub mod Least
 pub mod Factored
 pub mod More
+pub mod Parts
