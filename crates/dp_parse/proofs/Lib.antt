@@ -1,8 +1,12 @@
 pub mod Signs
 pub mod Answers
 pub mod Loops
+pub mod Readers
+pub mod Lists
+pub mod Turns
 pub mod Heights
 pub mod Least
 pub mod Factored
 pub mod More
 pub mod Parts
+pub mod Begins

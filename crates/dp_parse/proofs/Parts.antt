@@ -22,11 +22,11 @@ use Rattle.dp_parse.specs.Lists.{SomeItems, AnyItems}
 use Rattle.dp_parse.specs.Grammar.{Text, variable_in, name_in, number_in, text_in, prefix_in, step_in, inclusion_in, assignment_in, constant_in, by_sign, by_kind, Kind, Sort, place, item, indexed, value_of, Links, Ladder, ranks, PlaceOf, Index, PlaceRule, Group, ItemRest, ItemRule, Literal, ArrayCall, Call, Isset, Primary, Prefixed, SteppedFirst, OperandRule, CoalesceRest, CoalesceRule, Branches, ConditionalRest, ConditionalRule, IncludeRule, PushRule, AssignmentRule, ExpressionRule, inner, IsExpression, IsPlace}
 use Rattle.dp_parse.specs.Reading.{begins_expression}
 use Rattle.dp_parse.proofs.Signs.{mark_passes}
-use Rattle.dp_parse.proofs.Answers.{Rules, Stop, Anything, JoinedAt, EitherAt, GivesAt, OneAt, MarkAt, MadeAt, ManyAt, Answers, Can, StartsIn, mark_starts, joined_starts, made_starts, either_starts, starts_in_more, under_answers}
+use Rattle.dp_parse.proofs.Answers.{Rules, Stop, Anything, JoinedAt, EitherAt, GivesAt, OneAt, MarkAt, MadeAt, ManyAt, Answers, Can, StartsIn, mark_starts, joined_starts, made_starts, either_starts, or_starts, starts_in_more, under_answers}
 use Rattle.dp_parse.proofs.Heights.{stop_at, implied}
 use Rattle.dp_parse.proofs.Least.{zero_text, zero_tree, variable_text, variable_place, index_text, least_whole, least_coalesce, least_operand, least_index}
 use Rattle.dp_parse.proofs.Factored.{PrimaryIndexed, OtherRule, AloneRule, OpeningRule, Going, Rest, WholeRule}
-use Rattle.dp_parse.proofs.More.{sort_starts, variable_starts, name_starts, number_starts, text_starts, or_starts, NestedAt}
+use Rattle.dp_parse.proofs.More.{sort_starts, variable_starts, name_starts, number_starts, text_starts, NestedAt}
 
 -- ---- the rules at each level
 
