@@ -10,3 +10,4 @@ pub mod Factored
 pub mod More
 pub mod Parts
 pub mod Begins
+pub mod Ladders
