@@ -11,3 +11,4 @@ pub mod More
 pub mod Parts
 pub mod Begins
 pub mod Ladders
+pub mod Operands

@@ -1,0 +1,179 @@
+-- What the readers of operands answer, where the reader of the level below answers its rules.
+use Rattle.std.proofs.Common.{◌≡◌, inl, inr, ℕ, zero, suc, ◌<◌, ◌≤◌, Bool, true, false, not, ◌&&◌, ◌||◌, List, [], ◌∷◌, ◌++◌, Some, None, Ok, is_some, sym, refl, ap, ◌∙◌, arith}
+use Rattle.dp_lexer.specs.declared.token.Token.{Token}
+use Rattle.dp_lexer.specs.declared.token.TokenKind.{TokenKind}
+use Rattle.dp_lexer.specs.declared.token.TokenKind.TheVariants as kind
+use Rattle.dp_parse.specs.declared.operand.Operand.{Operand}
+use Rattle.dp_parse.specs.declared.operand.Operand.TheVariants as opened
+use Rattle.dp_parse.specs.declared.operand.Part.{Part}
+use Rattle.dp_parse.specs.declared.operand.Part.TheVariants as part
+use Rattle.dp_parse.specs.declared.sign.Sign.{Sign}
+use Rattle.dp_parse.specs.declared.sign.Sign.TheVariants as sign
+use Rattle.dp_parse.specs.declared.tree.Expression.{Expression}
+use Rattle.dp_parse.specs.declared.tree.Expression.TheVariants as tree
+use Rattle.dp_parse.specs.declared.tree.Place.{Place}
+use Rattle.dp_parse.specs.declared.tree.Item.{Item}
+use Rattle.dp_parse.specs.declared.tree.Order.TheVariants.{StepFirst, ValueFirst}
+use Rattle.dp_parse.specs.Signs.{sign_of, same_sign, is, head}
+use Rattle.dp_parse.specs.Input.{Outcome, Reader, and_then, ◌>>=◌, ◌>>◌, gives, made, refuse, one, mark, enter}
+use Rattle.dp_parse.specs.Rules.{Rule, Joined, Made, Mark, One, Many}
+use Rattle.dp_parse.specs.Lists.{AnyItems, SomeItems}
+use Rattle.dp_parse.specs.ReadingLists.{some_items, any_items, many}
+use Rattle.dp_parse.specs.Grammar.{Text, variable_in, name_in, number_in, text_in, prefix_in, step_in, constant_in, by_sign, by_kind, Kind, Sort, place, item, indexed, value_of, PlaceOf, ItemRest, inner}
+use Rattle.dp_parse.specs.Reading.{sort, sees, begins_expression, tree_of, variable, index, indices, place_rule, place_below, group, item_rest, item_rule, literal, array_call, call, isset, primary, prefixed, stepped_first, other, step_last, alone}
+use Rattle.dp_parse.specs.Reading as reading
+use Rattle.dp_parse.proofs.Signs.{and_parts, not_true, placed, mark_passes, mark_of}
+use Rattle.dp_parse.proofs.Answers.{Rules, Stop, Anything, JoinedAt, EitherAt, GivesAt, OneAt, MarkAt, MadeAt, ManyAt, Answers, Follows, Can, GoesOn, StartsIn, give, behind, mark_starts, joined_starts, made_starts, starts_apart, gives_apart, starts_follow, gives_follow, either_follows, anything_follows, one_answers, made_answers, gives_answers, joined_answers, equal_answers, stricter_answers, either_answers, guarded_answers}
+use Rattle.dp_parse.proofs.Loops.{many_none, many_answers}
+use Rattle.dp_parse.proofs.Readers.{IsReader, marked, mark_then, made_reads, then_mark}
+use Rattle.dp_parse.proofs.Lists.{AreItems, AnyItemsAt, SomeItemsAt, any_items_answers, some_items_answers, any_items_can, some_items_can}
+use Rattle.dp_parse.proofs.Heights.{looser, stop_at, looser_less, excluded, implied}
+use Rattle.dp_parse.proofs.Least.{zero_token, zero_text, zero_tree, variable_text, variable_place, gives_it, then_nothing, least_whole, least_operand, least_place}
+use Rattle.dp_parse.proofs.Factored.{StepLast, to_operand, from_operand}
+use Rattle.dp_parse.proofs.More.{level_self, sort_starts, variable_starts, number_starts, text_starts, name_starts, one_of_sort, one_then, choice_answers, NestedAt, nested_answers}
+use Rattle.dp_parse.proofs.Parts.{At, Under, stop_of, Reads, inner_answers, some_whole_under, some_alone_under, up, IndexAt, PlaceAt, PlaceUnder, GroupAt, ItemAt, LiteralAt, ArrayCallAt, CallAt, IssetAt, PrimaryAt, PrimaryIndexedAt, PrefixedAt, SteppedFirstAt, NumberAt, TextAt, ConstantAt, OtherAt, OperandAt, begins_constant, begins_prefix, begins_step, begins_behind_array, begins_behind_bracket, begins_behind_group, begins_behind_constant, begins_primary, begins_behind_isset, begins_behind_number, begins_behind_step, begins_other, index_starts, index_under_starts, place_starts, place_under_starts, group_starts, literal_starts, array_call_starts, call_starts, isset_starts, prefixed_starts, stepped_first_starts, number_rule_starts, text_rule_starts, behind_array_starts, behind_bracket_starts, behind_group_starts, behind_constant_starts, primary_starts, behind_isset_starts, behind_number_starts, behind_step_starts, other_starts}
+use Rattle.dp_parse.proofs.Begins.{whole_under_starts}
+
+-- ---- places
+
+-- indices, before what is no further one
+module _ (rule : Rules ℕ Expression) (reader : Reader Expression) (level : ℕ) (starts : StartsIn rule (is sign.OpenBracket))
+    (reads : (ts : List Token) → is sign.OpenBracket (head ts) ≡ true → Answers ◌≤◌ rule Anything level ts (reader ts)) where
+  pub indices_read : (h : ℕ) → ((s : Sign) → looser h s ≡ true → is sign.OpenBracket s ≡ false) → (ts : List Token) → Answers ◌≤◌ (ManyAt rule) (stop_at h) level ts (many (is sign.OpenBracket) reader ts)
+  indices_read h apart ts = many_answers rule ◌≤◌ level_self (is sign.OpenBracket) Anything (stop_at h) level reader starts (λ a s e. refl) (λ all a s e. refl) (λ all s e. apart s e) reads ts
+
+  pub place_read : (ts : List Token) → Answers ◌≤◌ (λ m. PlaceOf (rule m)) (stop_at 1) level ts ((variable >>= (λ name. many (is sign.OpenBracket) reader >>= (λ found. gives (place name found)))) ts)
+  unfolding variable
+  place_read ts = one_then (by_kind variable_in) (λ name. MadeAt (ManyAt rule) (place name)) (stop_at 1) level ts (λ name. many (is sign.OpenBracket) reader >>= (λ found. gives (place name found)))
+      (λ m above name. ([], place name [], give (Many (rule m)) (place name) [] [] (many_none rule m)))
+      (λ name us. made_answers ◌≤◌ level_self (ManyAt rule) (place name) (stop_at 1) (stop_at 1) level us (λ a s e. e) (many (is sign.OpenBracket) reader us)
+      (indices_read 1 (excluded (looser 1) (is sign.OpenBracket) refl) us))
+
+-- ---- an expression between two tokens
+
+abbrev pub EnclosedAt : Sign → Sign → Rules ℕ Expression
+EnclosedAt before after = JoinedAt (MarkAt before) (λ _. JoinedAt (Under part.Whole) (λ e. JoinedAt (MarkAt after) (λ _. GivesAt e)))
+
+pub enclosed_opens : (before after : Sign) (k : TokenKind) → same_sign (sign_of k) after ≡ true → (x : Token) → is before (sign_of x.kind) ≡ true → (more : List Token) × (a : Expression) × EnclosedAt before after 2 (x ∷ more) a
+enclosed_opens before after k e x is_before =
+    let end = placed k ∷ [] in
+    (zero_token ∷ end, zero_tree, marked before x (Joined (Under part.Whole 2) (λ e. Made (Mark after) (λ _. e))) (zero_token ∷ end) zero_tree is_before
+    (behind (Under part.Whole 2) (λ e. Made (Mark after) (λ _. e)) zero_text end zero_tree zero_tree (least_whole 1 (inner 1)) (give (Mark after) (λ _. zero_tree) end 1 (mark_of after (placed k) e))))
+
+-- where an item may end
+abbrev pub item_stop : Item → Sign → Bool
+item_stop a s = looser 12 s && not (is sign.Arrow s)
+
+module _ (level : ℕ) (read : Part → Reader Expression) (reads : Reads level read) where
+  whole_reads : 0 < level → (ts : List Token) → Answers ◌≤◌ (Under part.Whole) (stop_at 12) level ts (read part.Whole ts)
+  whole_reads some ts = inner_answers level read reads some part.Whole ts refl
+
+  enclosed_reads : (before after : Sign) (k : TokenKind) → same_sign (sign_of k) after ≡ true → looser 12 after ≡ true → 0 < level
+      → (ts : List Token) → Answers ◌≤◌ (EnclosedAt before after) Anything level ts ((mark before >> (read part.Whole >>= (λ e. mark after >> gives e))) ts)
+  enclosed_reads before after k e loose some ts = mark_then ◌≤◌ level_self before (λ _. JoinedAt (Under part.Whole) (λ e. MadeAt (MarkAt after) (λ _. e))) Anything level (λ _. read part.Whole >>= (λ e. mark after >> gives e))
+      (λ m above _. let w = some_whole_under level some m above in (w.0 ++ placed k ∷ [], w.1, behind (Under part.Whole m) (λ e. Made (Mark after) (λ _. e)) w.0 (placed k ∷ []) w.1 w.1 w.2 (give (Mark after) (λ _. w.1) (placed k ∷ []) 1 (mark_of after (placed k) e))))
+      (λ _. then_mark ◌≤◌ level_self (Under part.Whole) after (λ a _. a) (stop_at 12) Anything level (read part.Whole) (λ a. loose) (placed k) e (whole_reads some)) ts
+
+  enclosed_answers : (before after : Sign) (k : TokenKind) → same_sign (sign_of k) after ≡ true → looser 12 after ≡ true → is before sign.End ≡ false → (ts : List Token) → is before (head ts) ≡ true
+      → Answers ◌≤◌ (NestedAt (EnclosedAt before after)) Anything level ts ((enter level >> (mark before >> (read part.Whole >>= (λ e. mark after >> gives e)))) ts)
+  enclosed_answers before after k e loose no_end ts here = nested_answers (is before) (EnclosedAt before after) Anything level ts (mark before >> (read part.Whole >>= (λ e. mark after >> gives e))) no_end here
+      (enclosed_opens before after k e) (λ some. enclosed_reads before after k e loose some ts)
+
+  pub index_answers : (ts : List Token) → is sign.OpenBracket (head ts) ≡ true → Answers ◌≤◌ IndexAt Anything level ts (index level read ts)
+  unfolding index
+  index_answers ts here = enclosed_answers sign.OpenBracket sign.CloseBracket kind.CloseBracket refl refl refl ts here
+
+  pub group_answers : (ts : List Token) → is sign.OpenParenthesis (head ts) ≡ true → Answers ◌≤◌ GroupAt Anything level ts (group level read ts)
+  unfolding group
+  group_answers ts here = enclosed_answers sign.OpenParenthesis sign.CloseParenthesis kind.CloseParenthesis refl refl refl ts here
+
+  pub indices_answers : (h : ℕ) → ((s : Sign) → looser h s ≡ true → is sign.OpenBracket s ≡ false) → (ts : List Token) → Answers ◌≤◌ (ManyAt IndexAt) (stop_at h) level ts (indices level read ts)
+  unfolding indices
+  indices_answers h apart ts = indices_read IndexAt (index level read) level index_starts index_answers h apart ts
+
+  pub place_answers : (ts : List Token) → Answers ◌≤◌ PlaceAt (stop_at 1) level ts (place_rule level read ts)
+  unfolding place_rule indices
+  place_answers ts = place_read IndexAt (index level read) level index_starts index_answers ts
+
+  pub place_below_answers : 0 < level → (ts : List Token) → Answers ◌≤◌ PlaceUnder (stop_at 1) level ts (place_below level read ts)
+  unfolding place_below
+  place_below_answers some ts = place_read (Under part.Index) (read part.Index) level index_under_starts (λ us here. inner_answers level read reads some part.Index us here) ts
+
+  -- ---- items and lists
+
+  arrow_starts : (first : Expression) → StartsIn (MadeAt (JoinedAt (MarkAt sign.Arrow) (λ _. Under part.Whole)) (λ value. item (Some first) value)) (is sign.Arrow)
+  arrow_starts first = made_starts (JoinedAt (MarkAt sign.Arrow) (λ _. Under part.Whole)) (λ value. item (Some first) value) (is sign.Arrow) (joined_starts (MarkAt sign.Arrow) (λ _. Under part.Whole) (is sign.Arrow) (mark_starts sign.Arrow))
+
+  abbrev ItemRestAt : Expression → Rules ℕ Item
+  ItemRestAt first m = ItemRest m (inner m) first
+
+  item_rest_follows : Follows (stop_at 12) ItemRestAt item_stop
+  item_rest_follows = either_follows (stop_at 12) (λ first. MadeAt (JoinedAt (MarkAt sign.Arrow) (λ _. Under part.Whole)) (λ value. item (Some first) value)) (λ first. GivesAt (item None first)) item_stop
+      (starts_follow (stop_at 12) (λ first. MadeAt (JoinedAt (MarkAt sign.Arrow) (λ _. Under part.Whole)) (λ value. item (Some first) value)) item_stop (is sign.Arrow) (λ a s e. mark_passes (looser 12) sign.Arrow refl s e) arrow_starts)
+      (gives_follow (λ first. item None first) (stop_at 12) item_stop (λ a s e. (and_parts (looser 12 s) (not (is sign.Arrow s)) e).0))
+
+  item_rest_answers : 0 < level → (first : Expression) (ts : List Token) → Answers ◌≤◌ (ItemRestAt first) item_stop level ts (item_rest level read first ts)
+  unfolding item_rest
+  item_rest_answers some first ts = either_answers ◌≤◌ level_self (MadeAt (JoinedAt (MarkAt sign.Arrow) (λ _. Under part.Whole)) (λ value. item (Some first) value)) (GivesAt (item None first)) (is sign.Arrow) item_stop level ts
+      (arrow_starts first) (gives_apart (item None first) item_stop (is sign.Arrow) (λ s e. not_true (is sign.Arrow s) (and_parts (looser 12 s) (not (is sign.Arrow s)) e).1))
+      (made (mark sign.Arrow >> read part.Whole) (λ value. item (Some first) value) ts) (Ok (item None first, ts))
+      (λ _. made_answers ◌≤◌ level_self (JoinedAt (MarkAt sign.Arrow) (λ _. Under part.Whole)) (λ value. item (Some first) value) (stop_at 12) item_stop level ts (λ a s e. (and_parts (looser 12 s) (not (is sign.Arrow s)) e).0)
+      ((mark sign.Arrow >> read part.Whole) ts)
+      (mark_then ◌≤◌ level_self sign.Arrow (λ _. Under part.Whole) (stop_at 12) level (λ _. read part.Whole) (λ m above _. some_whole_under level some m above) (λ _. whole_reads some) ts))
+      (λ _. gives_answers ◌≤◌ level_self (item None first) item_stop level ts)
+
+  item_answers : 0 < level → (ts : List Token) → Answers ◌≤◌ ItemAt item_stop level ts (item_rule level read ts)
+  unfolding item_rule
+  item_answers some ts = joined_answers ◌≤◌ level_self (Under part.Whole) ItemRestAt (stop_at 12) item_stop level ts item_rest_follows (read part.Whole ts) (item_rest level read)
+      (λ m above first. ([], item None first, inr (gives_it (item None first)))) (whole_reads some ts) (λ first us _. item_rest_answers some first us)
+
+  item_starts : StartsIn ItemAt begins_expression
+  item_starts = joined_starts (Under part.Whole) ItemRestAt begins_expression whole_under_starts
+
+  some_item : 0 < level → Can ◌≤◌ level ItemAt
+  some_item some m above =
+      let w = some_whole_under level some m above in
+      (w.0, item None w.1, then_nothing (Under part.Whole m) (λ first. ItemRest m (inner m) first) w.0 w.1 (item None w.1) w.2 (inr (gives_it (item None w.1))))
+
+  array_items : (close : Sign) (k : TokenKind) → same_sign (sign_of k) close ≡ true → begins_expression close ≡ false → same_sign close sign.Comma ≡ false → (looser 12 close && not (is sign.Arrow close)) ≡ true
+      → 0 < level → AreItems ◌≤◌ (λ _. ItemAt) close item_stop begins_expression level (λ _. item_rule level read)
+  array_items close k e not_close apart loose some = record {
+    starts = λ all. item_starts;
+    not_comma = refl;
+    not_close = not_close;
+    close_apart = apart;
+    stops_comma = λ a. refl;
+    stops_close = λ a. loose;
+    closing = placed k;
+    closes = e;
+    some_item = some_item some;
+    reads = λ all ts. item_answers some ts;
+  }
+
+  arguments : 0 < level → AreItems ◌≤◌ (λ _. Under part.Whole) sign.CloseParenthesis (stop_at 12) begins_expression level (λ _. read part.Whole)
+  arguments some = record {
+    starts = λ all. whole_under_starts;
+    not_comma = refl;
+    not_close = refl;
+    close_apart = refl;
+    stops_comma = λ a. refl;
+    stops_close = λ a. refl;
+    closing = placed kind.CloseParenthesis;
+    closes = refl;
+    some_item = some_whole_under level some;
+    reads = λ all ts. whole_reads some ts;
+  }
+
+  places : 0 < level → AreItems ◌≤◌ (λ _. PlaceUnder) sign.CloseParenthesis (stop_at 1) (is sign.Variable) level (λ _. place_below level read)
+  places some = record {
+    starts = λ all. place_under_starts;
+    not_comma = refl;
+    not_close = refl;
+    close_apart = refl;
+    stops_comma = λ a. refl;
+    stops_close = λ a. refl;
+    closing = placed kind.CloseParenthesis;
+    closes = refl;
+    some_item = λ m above. (variable_text, variable_place, least_place ((inner m).index));
+    reads = λ all ts. place_below_answers some ts;
+  }
