@@ -67,6 +67,23 @@ text_starts = one_starts (by_kind text_in) (is sign.Text) (λ t a e. of t.kind a
     of (kind.Text bytes) a e = refl
     of _ a e = absurd (cc)
 
+-- a token that is a function's name
+pub name_token : (x : Token) → is sign.Name (sign_of x.kind) ≡ true → (name : Text) × One (by_kind name_in) (x ∷ []) name
+name_token x e = let n = of x.kind e in (n.0, record { token = x; alone = refl; is_worth = n.1 })
+  where
+    by_name : (name : Text) (b : Bool) → is_reserved name ≡ b → is sign.Name (cond b sign.Reserved sign.Name) ≡ true → (n : Text) × (name_in (kind.Name name) ≡ Some n)
+    by_name name true reserved e = absurd (cc)
+    by_name name false reserved e = (name, ap (λ b. unless b name) reserved)
+
+    superglobal : (b : Bool) → is sign.Name (cond b sign.Superglobal sign.Variable) ≡ true → ⊥
+    superglobal true e = absurd (cc)
+    superglobal false e = absurd (cc)
+
+    of : (k : TokenKind) → is sign.Name (sign_of k) ≡ true → (n : Text) × (name_in k ≡ Some n)
+    of (kind.Name name) e = by_name name (is_reserved name) refl e
+    of (kind.Variable name) e = absurd (superglobal (is_superglobal name) e)
+    of _ e = absurd (cc)
+
 -- ---- one after the other
 
 -- one token, and what is behind it

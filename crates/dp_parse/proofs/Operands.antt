@@ -16,8 +16,8 @@ use Rattle.dp_parse.specs.declared.tree.Item.{Item}
 use Rattle.dp_parse.specs.declared.tree.Order.TheVariants.{StepFirst, ValueFirst}
 use Rattle.dp_parse.specs.Signs.{sign_of, same_sign, is, head}
 use Rattle.dp_parse.specs.Input.{Outcome, Reader, and_then, ◌>>=◌, ◌>>◌, gives, made, refuse, one, mark, enter}
-use Rattle.dp_parse.specs.Rules.{Rule, Joined, Made, Mark, One, Many}
-use Rattle.dp_parse.specs.Lists.{AnyItems, SomeItems}
+use Rattle.dp_parse.specs.Rules.{Rule, Joined, Made, Mark, One, Many, Closed, Perhaps}
+use Rattle.dp_parse.specs.Lists.{NextItem, AnyItems, SomeItems}
 use Rattle.dp_parse.specs.ReadingLists.{some_items, any_items, many}
 use Rattle.dp_parse.specs.Grammar.{Text, variable_in, name_in, number_in, text_in, prefix_in, step_in, constant_in, by_sign, by_kind, Kind, Sort, place, item, indexed, value_of, PlaceOf, ItemRest, inner}
 use Rattle.dp_parse.specs.Reading.{sort, sees, begins_expression, tree_of, variable, index, indices, place_rule, place_below, group, item_rest, item_rule, literal, array_call, call, isset, primary, prefixed, stepped_first, other, step_last, alone}
@@ -28,9 +28,9 @@ use Rattle.dp_parse.proofs.Loops.{many_none, many_answers}
 use Rattle.dp_parse.proofs.Readers.{IsReader, marked, mark_then, made_reads, then_mark}
 use Rattle.dp_parse.proofs.Lists.{AreItems, AnyItemsAt, SomeItemsAt, any_items_answers, some_items_answers, any_items_can, some_items_can}
 use Rattle.dp_parse.proofs.Heights.{looser, stop_at, looser_less, excluded, implied}
-use Rattle.dp_parse.proofs.Least.{zero_token, zero_text, zero_tree, variable_text, variable_place, gives_it, then_nothing, least_whole, least_operand, least_place}
+use Rattle.dp_parse.proofs.Least.{zero_token, zero_text, zero_tree, variable_name, variable_text, variable_place, gives_it, no_more, then_nothing, least_whole, least_operand, least_place}
 use Rattle.dp_parse.proofs.Factored.{StepLast, to_operand, from_operand}
-use Rattle.dp_parse.proofs.More.{level_self, sort_starts, variable_starts, number_starts, text_starts, name_starts, one_of_sort, one_then, choice_answers, NestedAt, nested_answers}
+use Rattle.dp_parse.proofs.More.{level_self, sort_starts, variable_starts, number_starts, text_starts, name_starts, one_of_sort, name_token, one_then, choice_answers, NestedAt, nested_answers}
 use Rattle.dp_parse.proofs.Parts.{At, Under, stop_of, Reads, inner_answers, some_whole_under, some_alone_under, up, IndexAt, PlaceAt, PlaceUnder, GroupAt, ItemAt, LiteralAt, ArrayCallAt, CallAt, IssetAt, PrimaryAt, PrimaryIndexedAt, PrefixedAt, SteppedFirstAt, NumberAt, TextAt, ConstantAt, OtherAt, OperandAt, begins_constant, begins_prefix, begins_step, begins_behind_array, begins_behind_bracket, begins_behind_group, begins_behind_constant, begins_primary, begins_behind_isset, begins_behind_number, begins_behind_step, begins_other, index_starts, index_under_starts, place_starts, place_under_starts, group_starts, literal_starts, array_call_starts, call_starts, isset_starts, prefixed_starts, stepped_first_starts, number_rule_starts, text_rule_starts, behind_array_starts, behind_bracket_starts, behind_group_starts, behind_constant_starts, primary_starts, behind_isset_starts, behind_number_starts, behind_step_starts, other_starts}
 use Rattle.dp_parse.proofs.Begins.{whole_under_starts}
 
@@ -177,3 +177,118 @@ module _ (level : ℕ) (read : Part → Reader Expression) (reads : Reads level 
     some_item = λ m above. (variable_text, variable_place, least_place ((inner m).index));
     reads = λ all ts. place_below_answers some ts;
   }
+
+-- ---- lists in brackets and parentheses
+
+pub empty_items : {A : Type 0} (item : List A → Rule A) (close : Sign) (k : TokenKind) → same_sign (sign_of k) close ≡ true → AnyItems item close (placed k ∷ []) []
+empty_items item close k e = inl (give (Mark close) (λ _. []) (placed k ∷ []) 1 (mark_of close (placed k) e))
+
+-- `$a)`
+abbrev one_place_text : List Token
+one_place_text = placed (kind.Variable variable_name) ∷ (placed kind.CloseParenthesis ∷ [])
+
+one_place : (m : ℕ) → SomeItems (λ _. PlaceUnder m) sign.CloseParenthesis one_place_text (variable_place ∷ [])
+one_place m =
+    let close = placed kind.CloseParenthesis ∷ [] in
+    let end : Rule ℕ = Joined (Perhaps (Mark sign.Comma)) (λ _. Mark sign.CloseParenthesis) in
+    behind (PlaceUnder m) (λ first. Closed (NextItem (λ _. PlaceUnder m)) (λ all. Made end (λ _. all)) (first ∷ [])) variable_text close variable_place (variable_place ∷ []) (least_place ((inner m).index))
+    (no_more (NextItem (λ _. PlaceUnder m)) (λ all. Made end (λ _. all)) (variable_place ∷ []) close (variable_place ∷ [])
+    (give end (λ _. variable_place ∷ []) close 1 (record { front = []; back = close; value = None; split = refl; one = inr (gives_it None); other = mark_of sign.CloseParenthesis (placed kind.CloseParenthesis) refl })))
+
+abbrev pub ListedAt : {A : Type 0} → Sign → Rules ℕ (List A) → (List A → Expression) → Rules ℕ Expression
+ListedAt before items f = JoinedAt (MarkAt before) (λ _. MadeAt items f)
+
+listed_some : {A : Type 0} (before : Sign) (t : Token) → is before (sign_of t.kind) ≡ true → (items : Rules ℕ (List A)) (f : List A → Expression) (m : ℕ) (text : List Token) (all : List A) → items m text all → ListedAt before items f m (t ∷ text) (f all)
+listed_some before t e items f m text all h = marked before t (Made (items m) f) text (f all) e (give (items m) f text all h)
+
+listed_reads : {A : Type 0} (level : ℕ) (before : Sign) (items : Rules ℕ (List A)) (f : List A → Expression) (reader : Reader (List A)) → Can ◌≤◌ level items → ((ts : List Token) → Answers ◌≤◌ items Anything level ts (reader ts))
+    → (ts : List Token) → Answers ◌≤◌ (ListedAt before items f) Anything level ts ((mark before >> made reader f) ts)
+listed_reads level before items f reader can reads ts = mark_then ◌≤◌ level_self before (λ _. MadeAt items f) Anything level (λ _. made reader f)
+    (λ m above _. let c = can m above in (c.0, f c.1, give (items m) f c.0 c.1 c.2))
+    (λ _. made_reads ◌≤◌ level_self items f Anything Anything level reader (λ a s e. refl) reads) ts
+
+abbrev open_token : Token
+open_token = placed kind.OpenParenthesis
+
+-- behind a place, an operand may end where it does, and `[]` anywhere
+abbrev pub operand_stop : Operand → Sign → Bool
+operand_stop (opened.Place p) s = looser 2 s
+operand_stop (opened.Push p) s = true
+operand_stop (opened.Other e) s = looser 2 s
+
+module _ (level : ℕ) (read : Part → Reader Expression) (reads : Reads level read) where
+  abbrev ItemsAt : Sign → Rules ℕ (List Item)
+  ItemsAt close = AnyItemsAt (λ _. ItemAt) close
+
+  abbrev ArgumentsAt : Rules ℕ (List Expression)
+  ArgumentsAt = AnyItemsAt (λ _. Under part.Whole) sign.CloseParenthesis
+
+  abbrev PlacesAt : Rules ℕ (List Place)
+  PlacesAt = SomeItemsAt (λ _. PlaceUnder) sign.CloseParenthesis
+
+  literal_answers : (ts : List Token) → is sign.OpenBracket (head ts) ≡ true → Answers ◌≤◌ LiteralAt Anything level ts (literal level read ts)
+  unfolding literal
+  literal_answers ts here =
+      let items = array_items level read reads sign.CloseBracket kind.CloseBracket refl refl refl refl in
+      nested_answers (is sign.OpenBracket) (ListedAt sign.OpenBracket (ItemsAt sign.CloseBracket) tree.Array) Anything level ts (mark sign.OpenBracket >> made (any_items (λ _. item_rule level read) sign.CloseBracket) tree.Array) refl here
+      (λ x e. (placed kind.CloseBracket ∷ [], tree.Array [], listed_some sign.OpenBracket x e (ItemsAt sign.CloseBracket) tree.Array 2 (placed kind.CloseBracket ∷ []) [] (empty_items (λ _. ItemAt 2) sign.CloseBracket kind.CloseBracket refl)))
+      (λ some. listed_reads level sign.OpenBracket (ItemsAt sign.CloseBracket) tree.Array (any_items (λ _. item_rule level read) sign.CloseBracket)
+      (any_items_can ◌≤◌ level_self (λ _. ItemAt) sign.CloseBracket item_stop begins_expression level (λ _. item_rule level read) (items some))
+      (any_items_answers ◌≤◌ level_self (λ _. ItemAt) sign.CloseBracket item_stop begins_expression level (λ _. item_rule level read) (items some)) ts)
+
+  array_reads : 0 < level → (ts : List Token) → Answers ◌≤◌ (ListedAt sign.OpenParenthesis (ItemsAt sign.CloseParenthesis) tree.Array) Anything level ts ((mark sign.OpenParenthesis >> made (any_items (λ _. item_rule level read) sign.CloseParenthesis) tree.Array) ts)
+  array_reads some =
+      let items = array_items level read reads sign.CloseParenthesis kind.CloseParenthesis refl refl refl refl some in
+      listed_reads level sign.OpenParenthesis (ItemsAt sign.CloseParenthesis) tree.Array (any_items (λ _. item_rule level read) sign.CloseParenthesis)
+      (any_items_can ◌≤◌ level_self (λ _. ItemAt) sign.CloseParenthesis item_stop begins_expression level (λ _. item_rule level read) items)
+      (any_items_answers ◌≤◌ level_self (λ _. ItemAt) sign.CloseParenthesis item_stop begins_expression level (λ _. item_rule level read) items)
+
+  some_array : (m : ℕ) → ListedAt sign.OpenParenthesis (ItemsAt sign.CloseParenthesis) tree.Array m (open_token ∷ (placed kind.CloseParenthesis ∷ [])) (tree.Array [])
+  some_array m = listed_some sign.OpenParenthesis open_token refl (ItemsAt sign.CloseParenthesis) tree.Array m (placed kind.CloseParenthesis ∷ []) [] (empty_items (λ _. ItemAt m) sign.CloseParenthesis kind.CloseParenthesis refl)
+
+  array_call_answers : (ts : List Token) → is sign.Array (head ts) ≡ true → Answers ◌≤◌ ArrayCallAt Anything level ts (array_call level read ts)
+  unfolding array_call
+  array_call_answers ts here =
+      let rest = ListedAt sign.OpenParenthesis (ItemsAt sign.CloseParenthesis) tree.Array in
+      let reader : Reader Expression = mark sign.OpenParenthesis >> made (any_items (λ _. item_rule level read) sign.CloseParenthesis) tree.Array in
+      nested_answers (is sign.Array) (JoinedAt (MarkAt sign.Array) (λ _. rest)) Anything level ts (mark sign.Array >> reader) refl here
+      (λ x e. (open_token ∷ (placed kind.CloseParenthesis ∷ []), tree.Array [], marked sign.Array x (rest 2) (open_token ∷ (placed kind.CloseParenthesis ∷ [])) (tree.Array []) e (some_array 2)))
+      (λ some. mark_then ◌≤◌ level_self sign.Array (λ _. rest) Anything level (λ _. reader) (λ m above _. (open_token ∷ (placed kind.CloseParenthesis ∷ []), tree.Array [], some_array m)) (λ _. array_reads some) ts)
+
+  call_reads : 0 < level → (name : Text) (ts : List Token) → Answers ◌≤◌ (ListedAt sign.OpenParenthesis ArgumentsAt (tree.Call name)) Anything level ts ((mark sign.OpenParenthesis >> made (any_items (λ _. read part.Whole) sign.CloseParenthesis) (tree.Call name)) ts)
+  call_reads some name =
+      let items = arguments level read reads some in
+      listed_reads level sign.OpenParenthesis ArgumentsAt (tree.Call name) (any_items (λ _. read part.Whole) sign.CloseParenthesis)
+      (any_items_can ◌≤◌ level_self (λ _. Under part.Whole) sign.CloseParenthesis (stop_at 12) begins_expression level (λ _. read part.Whole) items)
+      (any_items_answers ◌≤◌ level_self (λ _. Under part.Whole) sign.CloseParenthesis (stop_at 12) begins_expression level (λ _. read part.Whole) items)
+
+  some_call : (m : ℕ) (name : Text) → ListedAt sign.OpenParenthesis ArgumentsAt (tree.Call name) m (open_token ∷ (placed kind.CloseParenthesis ∷ [])) (tree.Call name [])
+  some_call m name = listed_some sign.OpenParenthesis open_token refl ArgumentsAt (tree.Call name) m (placed kind.CloseParenthesis ∷ []) [] (empty_items (λ _. Under part.Whole m) sign.CloseParenthesis kind.CloseParenthesis refl)
+
+  call_answers : (ts : List Token) → is sign.Name (head ts) ≡ true → Answers ◌≤◌ CallAt Anything level ts (call level read ts)
+  unfolding call
+  call_answers ts here =
+      let rest : Text → Rules ℕ Expression = λ name. ListedAt sign.OpenParenthesis ArgumentsAt (tree.Call name) in
+      let reader : Text → Reader Expression = λ name. mark sign.OpenParenthesis >> made (any_items (λ _. read part.Whole) sign.CloseParenthesis) (tree.Call name) in
+      nested_answers (is sign.Name) (JoinedAt (OneAt (by_kind name_in)) rest) Anything level ts (one (by_kind name_in) >>= reader) refl here
+      (λ x e. let n = name_token x e in (open_token ∷ (placed kind.CloseParenthesis ∷ []), tree.Call n.0 [], behind (One (by_kind name_in)) (λ name. rest name 2) (x ∷ []) (open_token ∷ (placed kind.CloseParenthesis ∷ [])) n.0 (tree.Call n.0 []) n.1 (some_call 2 n.0)))
+      (λ some. one_then (by_kind name_in) rest Anything level ts reader (λ m above name. (open_token ∷ (placed kind.CloseParenthesis ∷ []), tree.Call name [], some_call m name)) (call_reads some))
+
+  isset_reads : 0 < level → (ts : List Token) → Answers ◌≤◌ (ListedAt sign.OpenParenthesis PlacesAt tree.Isset) Anything level ts ((mark sign.OpenParenthesis >> made (some_items (λ _. place_below level read) sign.CloseParenthesis) tree.Isset) ts)
+  isset_reads some =
+      let items = places level read reads some in
+      listed_reads level sign.OpenParenthesis PlacesAt tree.Isset (some_items (λ _. place_below level read) sign.CloseParenthesis)
+      (some_items_can ◌≤◌ level_self (λ _. PlaceUnder) sign.CloseParenthesis (stop_at 1) (is sign.Variable) level (λ _. place_below level read) items)
+      (some_items_answers ◌≤◌ level_self (λ _. PlaceUnder) sign.CloseParenthesis (stop_at 1) (is sign.Variable) level (λ _. place_below level read) items)
+
+  some_isset : (m : ℕ) → ListedAt sign.OpenParenthesis PlacesAt tree.Isset m (open_token ∷ one_place_text) (tree.Isset (variable_place ∷ []))
+  some_isset m = listed_some sign.OpenParenthesis open_token refl PlacesAt tree.Isset m one_place_text (variable_place ∷ []) (one_place m)
+
+  isset_answers : (ts : List Token) → is sign.Isset (head ts) ≡ true → Answers ◌≤◌ IssetAt Anything level ts (isset level read ts)
+  unfolding isset
+  isset_answers ts here =
+      let rest = ListedAt sign.OpenParenthesis PlacesAt tree.Isset in
+      let reader : Reader Expression = mark sign.OpenParenthesis >> made (some_items (λ _. place_below level read) sign.CloseParenthesis) tree.Isset in
+      nested_answers (is sign.Isset) (JoinedAt (MarkAt sign.Isset) (λ _. rest)) Anything level ts (mark sign.Isset >> reader) refl here
+      (λ x e. (open_token ∷ one_place_text, tree.Isset (variable_place ∷ []), marked sign.Isset x (rest 2) (open_token ∷ one_place_text) (tree.Isset (variable_place ∷ [])) e (some_isset 2)))
+      (λ some. mark_then ◌≤◌ level_self sign.Isset (λ _. rest) Anything level (λ _. reader) (λ m above _. (open_token ∷ one_place_text, tree.Isset (variable_place ∷ []), some_isset m)) (λ _. isset_reads some) ts)
