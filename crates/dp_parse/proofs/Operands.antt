@@ -1,5 +1,6 @@
 -- What the readers of operands answer, where the reader of the level below answers its rules.
 use Rattle.std.proofs.Common.{◌≡◌, inl, inr, ℕ, zero, suc, ◌<◌, ◌≤◌, Bool, true, false, not, ◌&&◌, ◌||◌, List, [], ◌∷◌, ◌++◌, Some, None, Ok, is_some, sym, refl, ap, ◌∙◌, arith}
+use Rattle.dp_value.specs.declared.operators.UnaryOp.{UnaryOp}
 use Rattle.dp_lexer.specs.declared.token.Token.{Token}
 use Rattle.dp_lexer.specs.declared.token.TokenKind.{TokenKind}
 use Rattle.dp_lexer.specs.declared.token.TokenKind.TheVariants as kind
@@ -31,7 +32,7 @@ use Rattle.dp_parse.proofs.Heights.{looser, stop_at, looser_less, excluded, impl
 use Rattle.dp_parse.proofs.Least.{zero_token, zero_text, zero_tree, variable_name, variable_text, variable_place, gives_it, no_more, then_nothing, least_whole, least_operand, least_place}
 use Rattle.dp_parse.proofs.Factored.{StepLast, to_operand, from_operand}
 use Rattle.dp_parse.proofs.More.{level_self, sort_starts, variable_starts, number_starts, text_starts, name_starts, one_of_sort, name_token, one_then, choice_answers, NestedAt, nested_answers}
-use Rattle.dp_parse.proofs.Parts.{At, Under, stop_of, Reads, inner_answers, some_whole_under, some_alone_under, up, IndexAt, PlaceAt, PlaceUnder, GroupAt, ItemAt, LiteralAt, ArrayCallAt, CallAt, IssetAt, PrimaryAt, PrimaryIndexedAt, PrefixedAt, SteppedFirstAt, NumberAt, TextAt, ConstantAt, OtherAt, OperandAt, begins_constant, begins_prefix, begins_step, begins_behind_array, begins_behind_bracket, begins_behind_group, begins_behind_constant, begins_primary, begins_behind_isset, begins_behind_number, begins_behind_step, begins_other, index_starts, index_under_starts, place_starts, place_under_starts, group_starts, literal_starts, array_call_starts, call_starts, isset_starts, prefixed_starts, stepped_first_starts, number_rule_starts, text_rule_starts, behind_array_starts, behind_bracket_starts, behind_group_starts, behind_constant_starts, primary_starts, behind_isset_starts, behind_number_starts, behind_step_starts, other_starts}
+use Rattle.dp_parse.proofs.Parts.{At, Under, stop_of, Reads, inner_answers, some_whole_under, some_alone_under, up, IndexAt, PlaceAt, PlaceUnder, GroupAt, ItemAt, LiteralAt, ArrayCallAt, CallAt, IssetAt, PrimaryAt, PrimaryIndexedAt, PrefixedAt, SteppedFirstAt, NumberAt, TextAt, ConstantAt, OtherAt, OperandAt, begins_constant, begins_prefix, begins_step, begins_behind_array, begins_behind_bracket, begins_behind_group, begins_behind_constant, begins_primary, begins_behind_isset, begins_behind_number, begins_behind_step, begins_other, index_starts, index_under_starts, place_starts, place_under_starts, group_starts, literal_starts, array_call_starts, call_starts, isset_starts, prefixed_starts, stepped_first_starts, number_rule_starts, text_rule_starts, behind_array_starts, behind_bracket_starts, behind_group_starts, behind_constant_starts, primary_starts, primary_indexed_starts, behind_isset_starts, behind_number_starts, behind_step_starts, other_starts}
 use Rattle.dp_parse.proofs.Begins.{whole_under_starts}
 
 -- ---- places
@@ -292,3 +293,117 @@ module _ (level : ℕ) (read : Part → Reader Expression) (reads : Reads level 
       nested_answers (is sign.Isset) (JoinedAt (MarkAt sign.Isset) (λ _. rest)) Anything level ts (mark sign.Isset >> reader) refl here
       (λ x e. (open_token ∷ one_place_text, tree.Isset (variable_place ∷ []), marked sign.Isset x (rest 2) (open_token ∷ one_place_text) (tree.Isset (variable_place ∷ [])) e (some_isset 2)))
       (λ some. mark_then ◌≤◌ level_self sign.Isset (λ _. rest) Anything level (λ _. reader) (λ m above _. (open_token ∷ one_place_text, tree.Isset (variable_place ∷ []), some_isset m)) (λ _. isset_reads some) ts)
+
+  -- ---- primary expressions, and operands
+
+  abbrev FromArray : Rules ℕ Expression
+  FromArray = EitherAt ArrayCallAt CallAt
+
+  abbrev FromBracket : Rules ℕ Expression
+  FromBracket = EitherAt LiteralAt FromArray
+
+  abbrev FromGroup : Rules ℕ Expression
+  FromGroup = EitherAt GroupAt FromBracket
+
+  abbrev FromConstant : Rules ℕ Expression
+  FromConstant = EitherAt ConstantAt FromGroup
+
+  abbrev FromIsset : Rules ℕ Expression
+  FromIsset = EitherAt IssetAt PrimaryIndexedAt
+
+  abbrev FromNumber : Rules ℕ Expression
+  FromNumber = EitherAt NumberAt FromIsset
+
+  abbrev FromStep : Rules ℕ Expression
+  FromStep = EitherAt SteppedFirstAt FromNumber
+
+  text_answers : (ts : List Token) → Answers ◌≤◌ TextAt Anything level ts (made (one (by_kind text_in)) tree.Text ts)
+  text_answers ts = made_answers ◌≤◌ level_self (OneAt (by_kind text_in)) tree.Text Anything Anything level ts (λ a s e. refl) (one (by_kind text_in) ts) (one_answers ◌≤◌ level_self (by_kind text_in) Anything level ts)
+
+  primary_answers : (ts : List Token) → Answers ◌≤◌ PrimaryAt Anything level ts (primary level read ts)
+  unfolding primary refuse
+  primary_answers ts =
+      choice_answers TextAt FromConstant (is sign.Text) begins_behind_constant Anything level ts refl text_rule_starts behind_constant_starts _ _ (λ _. text_answers ts)
+      (λ _. choice_answers ConstantAt FromGroup begins_constant begins_behind_group Anything level ts refl (sort_starts constant_in) behind_group_starts _ _ (λ _. one_answers ◌≤◌ level_self (by_sign constant_in) Anything level ts)
+      (λ _. choice_answers GroupAt FromBracket (is sign.OpenParenthesis) begins_behind_bracket Anything level ts refl group_starts behind_bracket_starts _ _ (group_answers level read reads ts)
+      (λ _. choice_answers LiteralAt FromArray (is sign.OpenBracket) begins_behind_array Anything level ts refl literal_starts behind_array_starts _ _ (literal_answers ts)
+      (λ _. choice_answers ArrayCallAt CallAt (is sign.Array) (is sign.Name) Anything level ts refl array_call_starts call_starts _ _ (array_call_answers ts)
+      (λ _. guarded_answers ◌≤◌ level_self CallAt (is sign.Name) Anything level ts call_starts (call level read ts) (call_answers ts))))))
+
+  primary_indexed_answers : (ts : List Token) → Answers ◌≤◌ PrimaryIndexedAt (stop_at 2) level ts ((primary level read >>= (λ base. made (indices level read) (indexed base))) ts)
+  primary_indexed_answers ts = joined_answers ◌≤◌ level_self PrimaryAt (λ base. MadeAt (ManyAt IndexAt) (indexed base)) Anything (stop_at 2) level ts (anything_follows (λ base. MadeAt (ManyAt IndexAt) (indexed base)) (stop_at 2))
+      (primary level read ts) (λ base. made (indices level read) (indexed base)) (λ m above base. ([], indexed base [], give (Many (IndexAt m)) (indexed base) [] [] (many_none IndexAt m))) (primary_answers ts)
+      (λ base us _. made_answers ◌≤◌ level_self (ManyAt IndexAt) (indexed base) (stop_at 2) (stop_at 2) level us (λ a s e. e) (indices level read us) (indices_answers level read reads 2 (excluded (looser 2) (is sign.OpenBracket) refl) us))
+
+  prefixed_answers : (ts : List Token) → begins_prefix (head ts) ≡ true → Answers ◌≤◌ PrefixedAt (stop_at 2) level ts (prefixed level read ts)
+  unfolding prefixed
+  prefixed_answers ts here = nested_answers begins_prefix (JoinedAt (OneAt (by_sign prefix_in)) (λ by. MadeAt (Under part.Alone) (tree.Unary by))) (stop_at 2) level ts (sort prefix_in >>= (λ by. made (read part.Alone) (tree.Unary by))) refl here
+      (λ x e. let o = one_of_sort prefix_in x e in (zero_text, tree.Unary o.0 zero_tree, behind (One (by_sign prefix_in)) (λ by. Made (Under part.Alone 2) (tree.Unary by)) (x ∷ []) zero_text o.0 (tree.Unary o.0 zero_tree) o.1 (give (Under part.Alone 2) (tree.Unary o.0) zero_text zero_tree (least_operand 1 (inner 1)))))
+      (λ some. one_then (by_sign prefix_in) (λ by. MadeAt (Under part.Alone) (tree.Unary by)) (stop_at 2) level ts (λ by. made (read part.Alone) (tree.Unary by))
+      (λ m above by. let w = some_alone_under level some m above in (w.0, tree.Unary by w.1, give (Under part.Alone m) (tree.Unary by) w.0 w.1 w.2))
+      (λ by us. made_answers ◌≤◌ level_self (Under part.Alone) (tree.Unary by) (stop_at 2) (stop_at 2) level us (λ a s e. e) (read part.Alone us) (inner_answers level read reads some part.Alone us refl)))
+
+  stepped_first_answers : (ts : List Token) → begins_step (head ts) ≡ true → Answers ◌≤◌ SteppedFirstAt (stop_at 2) level ts (stepped_first level read ts)
+  unfolding stepped_first
+  stepped_first_answers ts here =
+      let f : UnaryOp → Place → Expression = λ by of. tree.Step by StepFirst of in
+      nested_answers begins_step (JoinedAt (OneAt (by_sign step_in)) (λ by. MadeAt PlaceUnder (f by))) (stop_at 2) level ts (sort step_in >>= (λ by. made (place_below level read) (f by))) refl here
+      (λ x e. let o = one_of_sort step_in x e in (variable_text, f o.0 variable_place, behind (One (by_sign step_in)) (λ by. Made (PlaceUnder 2) (f by)) (x ∷ []) variable_text o.0 (f o.0 variable_place) o.1 (give (PlaceUnder 2) (f o.0) variable_text variable_place (least_place ((inner 2).index)))))
+      (λ some. one_then (by_sign step_in) (λ by. MadeAt PlaceUnder (f by)) (stop_at 2) level ts (λ by. made (place_below level read) (f by))
+      (λ m above by. (variable_text, f by variable_place, give (PlaceUnder m) (f by) variable_text variable_place (least_place ((inner m).index))))
+      (λ by us. made_answers ◌≤◌ level_self PlaceUnder (f by) (stop_at 1) (stop_at 2) level us (λ a s e. looser_less 1 2 (omega arith) s e) (place_below level read us) (place_below_answers level read reads some us)))
+
+  number_answers : (ts : List Token) → Answers ◌≤◌ NumberAt (stop_at 2) level ts (made (one (by_kind number_in)) tree.Number ts)
+  number_answers ts = made_answers ◌≤◌ level_self (OneAt (by_kind number_in)) tree.Number Anything (stop_at 2) level ts (λ a s e. refl) (one (by_kind number_in) ts) (one_answers ◌≤◌ level_self (by_kind number_in) Anything level ts)
+
+  pub other_answers : (ts : List Token) → Answers ◌≤◌ OtherAt (stop_at 2) level ts (other level read ts)
+  unfolding other
+  other_answers ts =
+      choice_answers PrefixedAt FromStep begins_prefix begins_behind_step (stop_at 2) level ts refl prefixed_starts behind_step_starts _ _ (prefixed_answers ts)
+      (λ _. choice_answers SteppedFirstAt FromNumber begins_step begins_behind_number (stop_at 2) level ts refl stepped_first_starts behind_number_starts _ _ (stepped_first_answers ts)
+      (λ _. choice_answers NumberAt FromIsset (is sign.Number) begins_behind_isset (stop_at 2) level ts refl number_rule_starts behind_isset_starts _ _ (λ _. number_answers ts)
+      (λ _. choice_answers IssetAt PrimaryIndexedAt (is sign.Isset) begins_primary (stop_at 2) level ts refl isset_starts primary_indexed_starts _ _
+      (λ here. stricter_answers ◌≤◌ level_self IssetAt Anything (stop_at 2) level ts (λ a s e. refl) (isset level read ts) (isset_answers ts here))
+      (λ _. primary_indexed_answers ts))))
+
+  -- ---- behind a place
+
+  abbrev pub StepLastAt : Place → Rules ℕ Operand
+  StepLastAt p m = StepLast p
+
+  abbrev stepped : Place → UnaryOp → Operand
+  stepped p by = opened.Other (tree.Step by ValueFirst p)
+
+  pub step_last_starts : (p : Place) → StartsIn {L = ℕ} (MadeAt (OneAt (by_sign step_in)) (stepped p)) begins_step
+  step_last_starts p = made_starts (OneAt (by_sign step_in)) (stepped p) begins_step (sort_starts step_in)
+
+  pub step_last_answers : (p : Place) (ts : List Token) → Answers ◌≤◌ (StepLastAt p) operand_stop level ts (step_last level read p ts)
+  unfolding step_last
+  step_last_answers p ts = either_answers ◌≤◌ level_self (MadeAt (OneAt (by_sign step_in)) (stepped p)) (GivesAt (opened.Place p)) begins_step operand_stop level ts
+      (step_last_starts p) (gives_apart (opened.Place p) operand_stop begins_step (excluded (looser 2) begins_step refl))
+      (made (sort step_in) (stepped p) ts) (Ok (opened.Place p, ts))
+      (λ _. made_answers ◌≤◌ level_self (OneAt (by_sign step_in)) (stepped p) Anything operand_stop level ts (λ a s e. refl) (sort step_in ts) (one_answers ◌≤◌ level_self (by_sign step_in) Anything level ts))
+      (λ _. gives_answers ◌≤◌ level_self (opened.Place p) operand_stop level ts)
+
+  pub step_last_follows : Follows (stop_at 1) StepLastAt operand_stop
+  step_last_follows = either_follows (stop_at 1) (λ p. MadeAt (OneAt (by_sign step_in)) (stepped p)) (λ p. GivesAt (opened.Place p)) operand_stop
+      (starts_follow (stop_at 1) (λ p. MadeAt (OneAt (by_sign step_in)) (stepped p)) operand_stop begins_step (λ p s e. implied begins_step (looser 1) refl s e) step_last_starts)
+      (gives_follow (λ p. opened.Place p) (stop_at 1) operand_stop (λ p s e. looser_less 1 2 (omega arith) s e))
+
+  tree_stop : (v : Operand) (s : Sign) → looser 2 s ≡ true → operand_stop v s ≡ true
+  tree_stop (opened.Place p) s e = e
+  tree_stop (opened.Push p) s e = refl
+  tree_stop (opened.Other a) s e = e
+
+  place_step_answers : (ts : List Token) → Answers ◌≤◌ (JoinedAt PlaceAt StepLastAt) operand_stop level ts ((place_rule level read >>= step_last level read) ts)
+  place_step_answers ts = joined_answers ◌≤◌ level_self PlaceAt StepLastAt (stop_at 1) operand_stop level ts step_last_follows (place_rule level read ts) (step_last level read)
+      (λ m above p. ([], opened.Place p, inr (gives_it (opened.Place p)))) (place_answers level read reads ts) (λ p us _. step_last_answers p us)
+
+  pub alone_answers : (ts : List Token) → Answers ◌≤◌ OperandAt (stop_at 2) level ts (alone level read ts)
+  unfolding alone
+  alone_answers ts = equal_answers ◌≤◌ level_self (EitherAt (MadeAt (JoinedAt PlaceAt StepLastAt) tree_of) OtherAt) OperandAt (stop_at 2) level ts (λ m. to_operand m (inner m)) (λ m. from_operand m (inner m)) (alone level read ts)
+      (choice_answers (MadeAt (JoinedAt PlaceAt StepLastAt) tree_of) OtherAt (is sign.Variable) begins_other (stop_at 2) level ts refl
+      (made_starts (JoinedAt PlaceAt StepLastAt) tree_of (is sign.Variable) (joined_starts PlaceAt StepLastAt (is sign.Variable) place_starts)) other_starts
+      (made (place_rule level read >>= step_last level read) tree_of ts) (other level read ts)
+      (λ _. made_answers ◌≤◌ level_self (JoinedAt PlaceAt StepLastAt) tree_of operand_stop (stop_at 2) level ts tree_stop ((place_rule level read >>= step_last level read) ts) (place_step_answers ts))
+      (λ _. other_answers ts))
