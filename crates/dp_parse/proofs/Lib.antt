@@ -12,3 +12,4 @@ pub mod Parts
 pub mod Begins
 pub mod Ladders
 pub mod Operands
+pub mod Openings
