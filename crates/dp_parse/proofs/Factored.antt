@@ -299,7 +299,7 @@ module _ (level : ℕ) (i : Inner) where
         other = record { front = j.back; back = back; value = g.0; split = refl; one = g.1; other = subst (λ q. Made (Nests level (Joined (Mark sign.Assign) (λ _. i.expression))) (λ from. tree.Push q from) back e) g.2 rest };
       }))
 
-  no_push : (text : List Token) (p : Place) → level ≡ 0 → PushedPlace text p → ⊥
+  pub no_push : (text : List Token) (p : Place) → level ≡ 0 → PushedPlace text p → ⊥
   no_push text p none j = let g = given (EmptyIndex level) (λ _. j.value) j.back p j.other in let some : 0 < level = g.1.some in omega arith
 
 module _ (i : Inner) where

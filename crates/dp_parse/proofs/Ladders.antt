@@ -18,11 +18,11 @@ use Rattle.dp_parse.proofs.Signs.{and_parts, both}
 use Rattle.dp_parse.proofs.Answers.{Rules, Stop, JoinedAt, GivesAt, OneAt, MadeAt, WhenAt, StepAt, Answers, Follows, Can, GoesOn, StartsIn, Apart, give, joined_starts, made_starts, starts_in_more, gives_apart, gives_follow, made_answers, gives_answers, joined_answers, when_holds}
 use Rattle.dp_parse.proofs.Loops.{step_stop, closed_follows, closed_answers, piece_first}
 use Rattle.dp_parse.proofs.Heights.{height, rank_height, looser, stop_at, looser_less, rank_operators, excluded}
-use Rattle.dp_parse.proofs.Least.{gives_it, least_ladder}
+use Rattle.dp_parse.proofs.Least.{gives_it, then_nothing, least_ladder}
 use Rattle.dp_parse.proofs.Factored.{From}
 use Rattle.dp_parse.proofs.More.{level_self, sort_starts, one_then, joined_follows, made_follows}
 
-abbrev operates : Rank → Sign → Bool
+abbrev pub operates : Rank → Sign → Bool
 operates r s = is_some (operator_in r s)
 
 -- an operator goes on more loosely than what binds more tightly
@@ -65,6 +65,12 @@ module _ (operand : Rules ℕ Expression) (r : Rank) where
   next_starts links m text a h =
       let s = made_starts LinkAt (λ l. links ++ l ∷ []) (operates r) link_starts m text a h.spelled in
       (s.0, s.1, s.2, both (may_go_on r links) (operates r _) h.holds s.3)
+
+  -- what a test lets stand behind, it lets stand behind further links, if it lets the operators
+  pub links_pass : (t : Sign → Bool) → ((s : Sign) → operates r s ≡ true → t s ≡ true) → Follows {A = Expression} (λ _ s. t s) (λ _. LinksAt) (λ _ s. t s)
+  links_pass t passes m e = closed_follows NextLinkAt (λ links. GivesAt links) (λ _ s. t s) (λ _ s. t s)
+      (λ links. starts_in_more (NextLinkAt links) (goes_on links) t (λ s e. passes s (and_parts (may_go_on r links) (operates r s) e).1) (next_starts links))
+      (gives_follow (λ links. links) (λ _ s. t s) (λ _ s. t s) (λ links s e. e)) m []
 
   module _ (h : ℕ) (below : h < rank_height r) where
     next_between : (links : List Link) → StartsIn (NextLinkAt links) (looser h)
@@ -130,9 +136,15 @@ module _ (operand : Rules ℕ Expression) where
   chained_goes_on : (level : ℕ) (r : Rank) (more : List Rank) → GoesOn ◌≤◌ level (ChainedAt r more)
   chained_goes_on level r more m above first = ([], first, give (Links (Ladder more (operand m)) r) (λ links. chained first links) [] [] (record { count = 0; chain = gives_it [] }))
 
-  pub from_follows : (rs : List Rank) → InOrder rs → Follows (stop_at 2) (FromAt rs) (stop_at (ladder_height rs))
-  from_follows [] order = gives_follow (λ e. e) (stop_at 2) (stop_at 2) (λ e s is. is)
-  from_follows (r ∷ more) order = joined_follows (stop_at 2) (FromAt more) (stop_at (ladder_height more)) (ChainedAt r more) (stop_at (rank_height r)) (from_follows more order.1) (chained_follow r more order.0)
+  pub from_pass : (t : Sign → Bool) → ((r : Rank) (s : Sign) → operates r s ≡ true → t s ≡ true) → (rs : List Rank) → Follows (λ _ s. t s) (FromAt rs) (λ _ s. t s)
+  from_pass t passes [] = gives_follow (λ e. e) (λ _ s. t s) (λ _ s. t s) (λ e s is. is)
+  from_pass t passes (r ∷ more) = joined_follows (λ _ s. t s) (FromAt more) (λ _ s. t s) (ChainedAt r more) (λ _ s. t s) (from_pass t passes more)
+      (made_follows (λ _ s. t s) (λ _. LinksAt (LadderAt more) r) (λ first links. chained first links) (λ _ s. t s) (λ _ s. t s) (λ a b s e. e) (links_pass (LadderAt more) r t (passes r)))
+
+  -- a ladder of no more than its first operand
+  pub no_links : (rs : List Rank) (first : Expression) (m : ℕ) → FromAt rs first m [] first
+  no_links [] first m = gives_it first
+  no_links (r ∷ more) first m = then_nothing (FromAt more first m) (λ left. ChainedAt r more left m) [] first first (no_links more first m) (give (Links (Ladder more (operand m)) r) (λ links. chained first links) [] [] (record { count = 0; chain = gives_it [] }))
 
   module _ (level : ℕ) (can : Can ◌≤◌ level operand) (reader : Reader Expression) (reads : (ts : List Token) → Answers ◌≤◌ operand (stop_at 2) level ts (reader ts)) where
     pub some_ladder : (rs : List Rank) → Can ◌≤◌ level (LadderAt rs)

@@ -13,3 +13,4 @@ pub mod Begins
 pub mod Ladders
 pub mod Operands
 pub mod Openings
+pub mod Expressions

@@ -1,7 +1,7 @@
 -- What the readers of an expression's first operand answer.
 use Rattle.std.specs.declared.ops.ControlFlow.{ControlFlow}
 use Rattle.std.specs.declared.ops.ControlFlow.TheVariants.{Continue, Break}
-use Rattle.std.proofs.Common.{◌≡◌, inl, inr, ℕ, ◌<◌, ◌≤◌, Bool, true, if◌then◌else◌, List, [], ◌∷◌, ◌++◌, sym, refl, subst}
+use Rattle.std.proofs.Common.{◌≡◌, inl, inr, ℕ, ◌<◌, ◌≤◌, Bool, true, if◌then◌else◌, ◌||◌, List, [], ◌∷◌, ◌++◌, sym, refl, subst}
 use Rattle.dp_value.specs.declared.operators.UnaryOp.{UnaryOp}
 use Rattle.dp_lexer.specs.declared.token.Token.{Token}
 use Rattle.dp_lexer.specs.declared.token.TokenKind.TheVariants as kind
@@ -21,7 +21,7 @@ use Rattle.dp_parse.specs.Rules.{Joined, Made, Mark}
 use Rattle.dp_parse.specs.Grammar.{Text, variable_in, step_in, by_sign, by_kind, place, inner}
 use Rattle.dp_parse.specs.Reading.{begins_expression, variable, other, step_last, index_or_push, opening_step, opening_place, opening}
 use Rattle.dp_parse.proofs.Signs.{placed, mark_of}
-use Rattle.dp_parse.proofs.Answers.{Rules, Stop, Anything, JoinedAt, EitherAt, GivesAt, OneAt, MarkAt, MadeAt, ClosedAt, StepAt, Answers, Apart, StartsIn, give, given, behind, mark_starts, joined_starts, made_starts, nests_starts, starts_in_more, starts_apart, gives_apart, either_apart, made_apart, anything_follows, mark_answers, made_answers, equal_answers, either_answers}
+use Rattle.dp_parse.proofs.Answers.{Rules, Stop, Anything, JoinedAt, EitherAt, GivesAt, OneAt, MarkAt, MadeAt, ClosedAt, StepAt, Answers, Apart, StartsIn, give, given, behind, mark_starts, joined_starts, made_starts, nests_starts, or_starts, starts_in_more, starts_apart, gives_apart, either_apart, made_apart, anything_follows, mark_answers, made_answers, equal_answers, either_answers}
 use Rattle.dp_parse.proofs.Loops.{step_stop, closed_answers, closed_now}
 use Rattle.dp_parse.proofs.Readers.{marked, mark_then, made_reads, then_mark}
 use Rattle.dp_parse.proofs.Heights.{looser, stop_at, excluded}
@@ -182,6 +182,9 @@ module _ (level : ℕ) (read : Part → Reader Expression) (reads : Reads level 
 
   opening_place_starts : StartsIn OpeningPlaceAt (is sign.Variable)
   opening_place_starts = joined_starts (OneAt (by_kind variable_in)) (λ name. ClosedAt PieceAt (EndAt name) []) (is sign.Variable) variable_starts
+
+  pub opening_starts : StartsIn OpeningAt (λ s. is sign.Variable s || begins_other s)
+  opening_starts = or_starts OpeningPlaceAt (MadeAt OtherAt opened.Other) (is sign.Variable) begins_other opening_place_starts (made_starts OtherAt opened.Other begins_other other_starts)
 
   pub opening_answers : (ts : List Token) → Answers ◌≤◌ OpeningAt operand_stop level ts (opening level read ts)
   unfolding opening
