@@ -1,5 +1,5 @@
 -- What expressions begin with, and that each such token begins one.
-use Rattle.std.proofs.Common.{◌≡◌, inl, inr, ℕ, zero, suc, Bool, true, false, ◌||◌, List, [], ◌∷◌, ◌++◌, Option, Some, None, cond, is_some, sym, refl, ap, ◌∙◌, subst, append-nil, arith}
+use Rattle.std.proofs.Common.{◌≡◌, inl, inr, ℕ, zero, suc, Bool, true, false, ◌||◌, List, [], ◌∷◌, ◌++◌, Some, None, cond, is_some, sym, refl, ap, ◌∙◌, append-nil, arith}
 use Rattle.dp_lexer.specs.declared.token.Token.{Token}
 use Rattle.dp_lexer.specs.declared.token.TokenKind.{TokenKind}
 use Rattle.dp_lexer.specs.declared.token.TokenKind.TheVariants as kind
@@ -10,20 +10,19 @@ use Rattle.dp_parse.specs.declared.sign.Sign.{Sign}
 use Rattle.dp_parse.specs.declared.sign.Sign.TheVariants as sign
 use Rattle.dp_parse.specs.declared.tree.Expression.{Expression}
 use Rattle.dp_parse.specs.declared.tree.Expression.TheVariants as tree
-use Rattle.dp_parse.specs.declared.tree.Place.{Place}
 use Rattle.dp_parse.specs.declared.tree.Order.TheVariants.{StepFirst}
-use Rattle.dp_parse.specs.Signs.{sign_of, same_sign, is, is_superglobal, head}
+use Rattle.dp_parse.specs.Signs.{sign_of, same_sign, is, is_superglobal}
 use Rattle.dp_parse.specs.Rules.{Rule, Joined, Gives, Made, One, Mark, Closed, Perhaps}
 use Rattle.dp_parse.specs.Lists.{NextItem, SomeItems, AnyItems}
-use Rattle.dp_parse.specs.Grammar.{Text, unless, variable_in, name_in, number_in, text_in, prefix_in, step_in, inclusion_in, assignment_in, constant_in, by_sign, by_kind, place, indexed, value_of, Ladder, ranks, OperandRule, CoalesceRule, CoalesceRest, ConditionalRest, ConditionalRule, ExpressionRule, Primary, PlaceOf, PlaceRule, inner, Links, chained}
+use Rattle.dp_parse.specs.Grammar.{Text, unless, variable_in, name_in, number_in, text_in, prefix_in, step_in, inclusion_in, constant_in, by_sign, by_kind, place, value_of, Ladder, ranks, OperandRule, CoalesceRule, CoalesceRest, ConditionalRest, Primary, PlaceOf, PlaceRule, inner, Links, chained}
 use Rattle.dp_parse.specs.Reading.{begins_expression, tree_of}
-use Rattle.dp_parse.proofs.Signs.{placed, mark_passes, mark_of, mark_alone}
-use Rattle.dp_parse.proofs.Answers.{Rules, JoinedAt, EitherAt, GivesAt, OneAt, MarkAt, MadeAt, StartsIn, give, behind, joined_starts, made_starts, either_starts, or_starts, starts_in_more}
+use Rattle.dp_parse.proofs.Signs.{placed, mark_passes, mark_alone}
+use Rattle.dp_parse.proofs.Answers.{Rules, JoinedAt, OneAt, MadeAt, StartsIn, give, behind, joined_starts, made_starts, or_starts, starts_in_more}
 use Rattle.dp_parse.proofs.Readers.{marked}
 use Rattle.dp_parse.proofs.Heights.{implied}
 use Rattle.dp_parse.proofs.Least.{zero_token, zero_text, zero_tree, variable_name, variable_text, variable_place, gives_it, no_more, then_nothing, least_ladder, least_operand, least_whole, least_place}
 use Rattle.dp_parse.proofs.Factored.{StepLast, from_operand}
-use Rattle.dp_parse.proofs.More.{sort_starts, some_worth, one_of_sort}
+use Rattle.dp_parse.proofs.More.{sort_starts, one_of_sort}
 use Rattle.dp_parse.proofs.Parts.{Under, ItemAt, PlaceUnder, OperandAt, PlaceAt, OtherAt, CoalesceAt, ConditionalAt, IncludeAt, At, begins_other, begins_inclusion, place_starts, other_starts}
 
 -- ---- what expressions begin with

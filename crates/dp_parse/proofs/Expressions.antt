@@ -1,8 +1,7 @@
 -- What the readers of expressions and of places answer, at each level of nesting.
-use Rattle.std.proofs.Common.{◌≡◌, inl, inr, ℕ, zero, suc, ◌<◌, ◌≤◌, Bool, true, false, not, ◌||◌, List, [], ◌∷◌, ◌++◌, Option, Some, None, Ok, is_some, sym, refl, ap, ◌∙◌, subst, arith}
+use Rattle.std.proofs.Common.{◌≡◌, inl, inr, ℕ, zero, suc, ◌<◌, ◌≤◌, Bool, true, not, List, [], ◌∷◌, ◌++◌, Option, None, Ok, is_some, refl, subst, arith}
 use Rattle.dp_lexer.specs.declared.token.Token.{Token}
 use Rattle.dp_lexer.specs.declared.token.TokenKind.TheVariants as kind
-use Rattle.dp_parse.specs.declared.operand.Assignment.{Assignment}
 use Rattle.dp_parse.specs.declared.operand.Operand.{Operand}
 use Rattle.dp_parse.specs.declared.operand.Operand.TheVariants as opened
 use Rattle.dp_parse.specs.declared.operand.Part.{Part}
@@ -15,18 +14,18 @@ use Rattle.dp_parse.specs.declared.tree.Expression.{Expression}
 use Rattle.dp_parse.specs.declared.tree.Expression.TheVariants as tree
 use Rattle.dp_parse.specs.declared.tree.Place.{Place}
 use Rattle.dp_parse.specs.Signs.{is, head}
-use Rattle.dp_parse.specs.Input.{Outcome, Reader, ◌>>=◌, ◌>>◌, gives, made, mark, enter}
-use Rattle.dp_parse.specs.Rules.{Rule, Joined, Made, Mark, One, Nests}
-use Rattle.dp_parse.specs.Grammar.{inclusion_in, assignment_in, by_sign, assigned, value_of, ranks, CoalesceRule, CoalesceRest, Branches, ConditionalRest, inner, IsExpression, IsPlace}
-use Rattle.dp_parse.specs.Reading.{sort, begins_expression, ladder, ladder_from, alone, index, coalesce_rest, coalesce, middle, branches, conditional_rest, going_on, included, pushed, assignment, rest_of, opening, whole, reads_part, below, reading, place_rule, reading_place}
-use Rattle.dp_parse.proofs.Signs.{placed, mark_of, mark_passes, mark_fails, not_true}
-use Rattle.dp_parse.proofs.Answers.{Rules, Stop, Anything, JoinedAt, EitherAt, GivesAt, OneAt, MarkAt, MadeAt, PerhapsAt, IsRead, Answers, Follows, Can, Apart, StartsIn, give, behind, mark_starts, joined_starts, made_starts, nests_starts, gives_apart, starts_follow, gives_follow, either_follows, joined_answers, made_answers, gives_answers, equal_answers, either_answers, perhaps_answers, within_answers}
+use Rattle.dp_parse.specs.Input.{Reader, ◌>>=◌, ◌>>◌, made, mark, enter}
+use Rattle.dp_parse.specs.Rules.{Joined, Made, Mark, One}
+use Rattle.dp_parse.specs.Grammar.{inclusion_in, assignment_in, by_sign, assigned, value_of, ranks, CoalesceRest, Branches, ConditionalRest, inner, IsExpression, IsPlace}
+use Rattle.dp_parse.specs.Reading.{sort, begins_expression, ladder, ladder_from, alone, coalesce_rest, coalesce, middle, branches, conditional_rest, going_on, included, pushed, assignment, rest_of, opening, whole, reads_part, below, reading, reading_place}
+use Rattle.dp_parse.proofs.Signs.{placed, mark_passes, mark_fails, not_true}
+use Rattle.dp_parse.proofs.Answers.{Rules, JoinedAt, EitherAt, GivesAt, OneAt, MarkAt, MadeAt, PerhapsAt, IsRead, Answers, Follows, Can, Apart, StartsIn, give, behind, mark_starts, joined_starts, made_starts, nests_starts, gives_apart, starts_follow, gives_follow, either_follows, joined_answers, made_answers, gives_answers, equal_answers, either_answers, perhaps_answers, within_answers}
 use Rattle.dp_parse.proofs.Readers.{marked, mark_then}
 use Rattle.dp_parse.proofs.Heights.{looser, stop_at, looser_less, excluded, implied}
-use Rattle.dp_parse.proofs.Least.{zero_text, zero_tree, zero_token, gives_it, then_nothing, least_whole, least_coalesce, least_operand, least_expression}
-use Rattle.dp_parse.proofs.Factored.{PushTail, Going, AssignmentTail, Rest, Spells, spells, no_push, to_expression, from_expression}
+use Rattle.dp_parse.proofs.Least.{zero_text, zero_tree, gives_it, then_nothing, least_whole, least_coalesce, variable_text, variable_place, least_operand, least_expression, least_is_place}
+use Rattle.dp_parse.proofs.Factored.{PushTail, Going, AssignmentTail, Rest, spells, no_push, to_expression, from_expression}
 use Rattle.dp_parse.proofs.More.{level_self, sort_starts, one_of_sort, one_then, joined_follows, choice_answers, NestedAt, nested_answers}
-use Rattle.dp_parse.proofs.Parts.{At, Under, stop_of, may_read, Reads, inner_answers, some_whole_under, some_coalesce_under, PlaceAt, OperandAt, OpeningAt, CoalesceAt, IncludeAt, begins_inclusion}
+use Rattle.dp_parse.proofs.Parts.{At, Under, stop_of, may_read, Reads, inner_answers, some_whole_under, some_coalesce_under, OperandAt, OpeningAt, CoalesceAt, IncludeAt, begins_inclusion}
 use Rattle.dp_parse.proofs.Begins.{begins_operand, whole_under_starts, include_starts, begins_one}
 use Rattle.dp_parse.proofs.Ladders.{operates, in_order, LadderAt, FromAt, from_pass, no_links, ladder_answers, ladder_from_answers}
 use Rattle.dp_parse.proofs.Operands.{operand_stop, index_answers, alone_answers}
@@ -224,9 +223,6 @@ module _ (level : ℕ) (read : Part → Reader Expression) (reads : Reads level 
       (λ m above _. (zero_text, f zero_tree, give (CoalesceAt m) f zero_text zero_tree (least_coalesce m (inner m))))
       (λ _ us. made_answers ◌≤◌ level_self CoalesceAt f (stop_at 10) (stop_at 12) level us (λ a s e. looser_less 10 12 (omega arith) s e) (coalesce level read us) (coalesce_answers us)) ts
 
-  colon_text : List Token
-  colon_text = placed kind.Colon ∷ zero_text
-
   least_otherwise : (test : Expression) (between : Option Expression) (m : ℕ) → OtherwiseAt test between m (placed kind.Colon ∷ zero_text) (tree.Conditional test between zero_tree)
   least_otherwise test between m = marked sign.Colon (placed kind.Colon) (Made (CoalesceAt m) (λ otherwise. tree.Conditional test between otherwise)) zero_text (tree.Conditional test between zero_tree) refl
       (give (CoalesceAt m) (λ otherwise. tree.Conditional test between otherwise) zero_text zero_tree (least_coalesce m (inner m)))
@@ -344,3 +340,11 @@ is_expression_answers level ts = expression_answers part.Whole level ts refl
 pub place_answers : (level : ℕ) (ts : List Token) → Answers ◌≤◌ IsPlace (stop_at 1) level ts (reading_place level ts)
 unfolding reading_place
 place_answers level ts = operands.place_answers level (below level) (below_reads level) ts
+
+-- ---- each level has an expression and a place
+
+pub some_expression : (level : ℕ) → Can ◌≤◌ level IsExpression
+some_expression level m above = (zero_text, zero_tree, least_expression m)
+
+pub some_place : (level : ℕ) → Can ◌≤◌ level IsPlace
+some_place level m above = (variable_text, variable_place, least_is_place m)

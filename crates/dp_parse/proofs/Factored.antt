@@ -1,5 +1,5 @@
 -- The rules of expressions in the form in which they are read, and that they spell the same.
-use Rattle.std.proofs.Common.{◌≡◌, ◌⊎◌, inl, inr, ℕ, zero, suc, ◌<◌, List, [], ◌∷◌, ◌++◌, Some, sym, refl, ap, ◌∙◌, subst, append_assoc, append-nil, arith}
+use Rattle.std.proofs.Common.{◌≡◌, ◌⊎◌, inl, inr, ℕ, zero, suc, ◌<◌, List, [], ◌∷◌, ◌++◌, sym, refl, ap, ◌∙◌, subst, append_assoc, append-nil, arith}
 use Rattle.dp_lexer.specs.declared.token.Token.{Token}
 use Rattle.dp_parse.specs.declared.operand.Operand.{Operand}
 use Rattle.dp_parse.specs.declared.operand.Operand.TheVariants as opened
@@ -8,10 +8,9 @@ use Rattle.dp_parse.specs.declared.sign.Sign.TheVariants as sign
 use Rattle.dp_parse.specs.declared.tree.Expression.{Expression}
 use Rattle.dp_parse.specs.declared.tree.Expression.TheVariants as tree
 use Rattle.dp_parse.specs.declared.tree.Place.{Place}
-use Rattle.dp_parse.specs.declared.tree.Link.{Link}
-use Rattle.dp_parse.specs.declared.tree.Order.TheVariants.{StepFirst, ValueFirst}
+use Rattle.dp_parse.specs.declared.tree.Order.TheVariants.{ValueFirst}
 use Rattle.dp_parse.specs.Rules.{Rule, Joined, ◌or◌, Gives, Made, Mark, Nests, Chain, Closed, Many}
-use Rattle.dp_parse.specs.Grammar.{Text, Inner, number_in, step_in, assignment_in, Kind, Sort, place, indexed, value_of, chained, assigned, Links, Ladder, Variable, PlaceOf, Index, PlaceRule, Isset, Primary, Postfix, Prefixed, SteppedFirst, SteppedLast, OperandRule, CoalesceRest, CoalesceRule, ConditionalRest, ConditionalRule, IncludeRule, PushRule, AssignmentRule, ExpressionRule, IsExpression, ranks}
+use Rattle.dp_parse.specs.Grammar.{Inner, number_in, step_in, assignment_in, Kind, Sort, place, indexed, value_of, chained, assigned, Links, Ladder, Variable, PlaceOf, Index, PlaceRule, Isset, Primary, Prefixed, SteppedFirst, SteppedLast, OperandRule, CoalesceRest, CoalesceRule, ConditionalRest, ConditionalRule, IncludeRule, PushRule, ExpressionRule, IsExpression, ranks}
 use Rattle.dp_parse.specs.Reading.{tree_of}
 use Rattle.dp_parse.proofs.Answers.{give, given}
 use Rattle.dp_parse.proofs.Lists.{behind_made, made_behind}

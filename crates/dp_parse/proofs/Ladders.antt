@@ -1,21 +1,17 @@
 -- Operands joined by operators of several ranks: what the readers of links and of ladders answer.
-use Rattle.std.specs.declared.ops.ControlFlow.{ControlFlow}
-use Rattle.std.specs.declared.ops.ControlFlow.TheVariants.{Continue, Break}
-use Rattle.std.proofs.Common.{◌≡◌, ℕ, ◌<◌, ◌≤◌, Bool, true, false, ◌&&◌, List, [], ◌∷◌, ◌++◌, Ok, is_some, sym, refl, ap, ◌∙◌, lt-ltb, arith}
+use Rattle.std.proofs.Common.{◌≡◌, ℕ, ◌<◌, ◌≤◌, Bool, true, false, ◌&&◌, List, [], ◌∷◌, ◌++◌, Ok, is_some, refl, lt-ltb, arith}
 use Rattle.dp_lexer.specs.declared.token.Token.{Token}
 use Rattle.dp_parse.specs.declared.rank.Rank.{Rank}
 use Rattle.dp_parse.specs.declared.rank.Rank.TheVariants as rank
 use Rattle.dp_parse.specs.declared.sign.Sign.{Sign}
-use Rattle.dp_parse.specs.declared.sign.Sign.TheVariants as sign
 use Rattle.dp_parse.specs.declared.tree.Expression.{Expression}
 use Rattle.dp_parse.specs.declared.tree.Link.{Link}
 use Rattle.dp_parse.specs.Signs.{head}
-use Rattle.dp_parse.specs.Input.{Outcome, Reader, and_then, ◌>>=◌, made, gives}
-use Rattle.dp_parse.specs.Rules.{Made}
+use Rattle.dp_parse.specs.Input.{Reader, ◌>>=◌, made, gives}
 use Rattle.dp_parse.specs.Grammar.{operator_in, by_sign, link, chained, may_go_on, LinkOf, NextLink, Links, Ladder, ranks}
-use Rattle.dp_parse.specs.Reading.{sort, link_of, links_step, links_of, ladder, ladder_from}
+use Rattle.dp_parse.specs.Reading.{link_of, links_step, links_of, ladder, ladder_from}
 use Rattle.dp_parse.proofs.Signs.{and_parts, both}
-use Rattle.dp_parse.proofs.Answers.{Rules, Stop, JoinedAt, GivesAt, OneAt, MadeAt, WhenAt, StepAt, Answers, Follows, Can, GoesOn, StartsIn, Apart, give, joined_starts, made_starts, starts_in_more, gives_apart, gives_follow, made_answers, gives_answers, joined_answers, when_holds}
+use Rattle.dp_parse.proofs.Answers.{Rules, GivesAt, OneAt, MadeAt, StepAt, Answers, Follows, Can, GoesOn, StartsIn, give, joined_starts, made_starts, starts_in_more, gives_apart, gives_follow, made_answers, gives_answers, joined_answers, when_holds}
 use Rattle.dp_parse.proofs.Loops.{step_stop, closed_follows, closed_answers, piece_first}
 use Rattle.dp_parse.proofs.Heights.{height, rank_height, looser, stop_at, looser_less, rank_operators, excluded}
 use Rattle.dp_parse.proofs.Least.{gives_it, then_nothing, least_ladder}

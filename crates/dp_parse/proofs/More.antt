@@ -1,6 +1,6 @@
 -- Further parts of the theory of outcomes, where levels of nesting are counted.
 use Rattle.std.specs.List.{list_all}
-use Rattle.std.proofs.Common.{◌≡◌, ℕ, suc, ◌<◌, ◌≤◌, Bool, true, false, not, ◌||◌, List, [], ◌∷◌, ◌++◌, Option, Some, None, is_some, sym, refl, ap, ◌∙◌, append_assoc, cond, arith}
+use Rattle.std.proofs.Common.{◌≡◌, ℕ, ◌<◌, ◌≤◌, Bool, true, false, not, ◌||◌, List, [], ◌∷◌, ◌++◌, Option, Some, None, is_some, sym, refl, ap, ◌∙◌, append_assoc, cond, arith}
 use Rattle.dp_lexer.specs.declared.token.Token.{Token}
 use Rattle.dp_lexer.specs.declared.token.TokenKind.{TokenKind}
 use Rattle.dp_lexer.specs.declared.token.TokenKind.TheVariants as kind
@@ -8,11 +8,11 @@ use Rattle.dp_lexer.specs.Keywords.{is_reserved}
 use Rattle.dp_parse.specs.declared.sign.Sign.{Sign}
 use Rattle.dp_parse.specs.declared.sign.Sign.TheVariants as sign
 use Rattle.dp_parse.specs.Signs.{sign_of, is, is_superglobal, head}
-use Rattle.dp_parse.specs.Input.{Outcome, Reader, and_then, ◌>>=◌, ◌>>◌, one, enter}
-use Rattle.dp_parse.specs.Rules.{Joined, One, Nests}
+use Rattle.dp_parse.specs.Input.{Outcome, Reader, ◌>>=◌, ◌>>◌, one, enter}
+use Rattle.dp_parse.specs.Rules.{One, Nests}
 use Rattle.dp_parse.specs.Grammar.{Text, unless, variable_in, name_in, number_in, text_in, by_sign, by_kind}
 use Rattle.dp_parse.proofs.Signs.{all_signs, first_of}
-use Rattle.dp_parse.proofs.Answers.{Rules, Stop, Anything, JoinedAt, EitherAt, GivesAt, OneAt, MadeAt, Answers, Follows, GoesOn, StartsIn, given, one_starts, joined_starts, starts_apart, anything_follows, one_answers, joined_answers, either_answers, nests_answers}
+use Rattle.dp_parse.proofs.Answers.{Rules, Stop, Anything, JoinedAt, EitherAt, OneAt, MadeAt, Answers, Follows, GoesOn, StartsIn, given, one_starts, starts_apart, anything_follows, one_answers, joined_answers, either_answers, nests_answers}
 use Rattle.dp_parse.proofs.Heights.{excluded}
 
 pub level_self : (l : ℕ) → l ≤ l

@@ -16,19 +16,19 @@ use Rattle.dp_parse.specs.declared.tree.Expression.TheVariants as tree
 use Rattle.dp_parse.specs.declared.tree.Place.{Place}
 use Rattle.dp_parse.specs.declared.tree.Order.TheVariants.{ValueFirst}
 use Rattle.dp_parse.specs.Signs.{is, head}
-use Rattle.dp_parse.specs.Input.{Reader, ◌>>=◌, ◌>>◌, gives, made, mark, enter, closed}
-use Rattle.dp_parse.specs.Rules.{Joined, Made, Mark}
+use Rattle.dp_parse.specs.Input.{Reader, ◌>>=◌, ◌>>◌, gives, made, mark, closed}
+use Rattle.dp_parse.specs.Rules.{Mark}
 use Rattle.dp_parse.specs.Grammar.{Text, variable_in, step_in, by_sign, by_kind, place, inner}
 use Rattle.dp_parse.specs.Reading.{begins_expression, variable, other, step_last, index_or_push, opening_step, opening_place, opening}
 use Rattle.dp_parse.proofs.Signs.{placed, mark_of}
-use Rattle.dp_parse.proofs.Answers.{Rules, Stop, Anything, JoinedAt, EitherAt, GivesAt, OneAt, MarkAt, MadeAt, ClosedAt, StepAt, Answers, Apart, StartsIn, give, given, behind, mark_starts, joined_starts, made_starts, nests_starts, or_starts, starts_in_more, starts_apart, gives_apart, either_apart, made_apart, anything_follows, mark_answers, made_answers, equal_answers, either_answers}
+use Rattle.dp_parse.proofs.Answers.{Rules, Anything, JoinedAt, EitherAt, GivesAt, OneAt, MarkAt, MadeAt, ClosedAt, StepAt, Answers, Apart, StartsIn, give, given, mark_starts, joined_starts, made_starts, nests_starts, or_starts, starts_in_more, starts_apart, gives_apart, either_apart, made_apart, anything_follows, mark_answers, made_answers, equal_answers, either_answers}
 use Rattle.dp_parse.proofs.Loops.{step_stop, closed_answers, closed_now}
-use Rattle.dp_parse.proofs.Readers.{marked, mark_then, made_reads, then_mark}
+use Rattle.dp_parse.proofs.Readers.{marked, mark_then, then_mark}
 use Rattle.dp_parse.proofs.Heights.{looser, stop_at, excluded}
 use Rattle.dp_parse.proofs.Least.{gives_it}
 use Rattle.dp_parse.proofs.Factored.{StepLast, EmptyIndex, PlaceEnd, OpeningPlace}
 use Rattle.dp_parse.proofs.More.{level_self, sort_starts, variable_starts, one_then, choice_answers, NestedAt, nested_answers}
-use Rattle.dp_parse.proofs.Parts.{Under, Reads, inner_answers, some_whole_under, IndexAt, OtherAt, OpeningAt, begins_step, begins_other, index_starts, other_starts}
+use Rattle.dp_parse.proofs.Parts.{Under, Reads, inner_answers, IndexAt, OtherAt, OpeningAt, begins_step, begins_other, index_starts, other_starts}
 use Rattle.dp_parse.proofs.Begins.{whole_under_starts}
 use Rattle.dp_parse.proofs.Operands.{operand_stop, step_last_answers, other_answers}
 

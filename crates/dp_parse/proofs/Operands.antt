@@ -1,5 +1,5 @@
 -- What the readers of operands answer, where the reader of the level below answers its rules.
-use Rattle.std.proofs.Common.{◌≡◌, inl, inr, ℕ, zero, suc, ◌<◌, ◌≤◌, Bool, true, false, not, ◌&&◌, ◌||◌, List, [], ◌∷◌, ◌++◌, Some, None, Ok, is_some, sym, refl, ap, ◌∙◌, arith}
+use Rattle.std.proofs.Common.{◌≡◌, inl, inr, ℕ, ◌<◌, ◌≤◌, Bool, true, false, not, ◌&&◌, List, [], ◌∷◌, ◌++◌, Some, None, Ok, refl, arith}
 use Rattle.dp_value.specs.declared.operators.UnaryOp.{UnaryOp}
 use Rattle.dp_lexer.specs.declared.token.Token.{Token}
 use Rattle.dp_lexer.specs.declared.token.TokenKind.{TokenKind}
@@ -16,23 +16,22 @@ use Rattle.dp_parse.specs.declared.tree.Place.{Place}
 use Rattle.dp_parse.specs.declared.tree.Item.{Item}
 use Rattle.dp_parse.specs.declared.tree.Order.TheVariants.{StepFirst, ValueFirst}
 use Rattle.dp_parse.specs.Signs.{sign_of, same_sign, is, head}
-use Rattle.dp_parse.specs.Input.{Outcome, Reader, and_then, ◌>>=◌, ◌>>◌, gives, made, refuse, one, mark, enter}
+use Rattle.dp_parse.specs.Input.{Reader, ◌>>=◌, ◌>>◌, gives, made, refuse, one, mark, enter}
 use Rattle.dp_parse.specs.Rules.{Rule, Joined, Made, Mark, One, Many, Closed, Perhaps}
 use Rattle.dp_parse.specs.Lists.{NextItem, AnyItems, SomeItems}
 use Rattle.dp_parse.specs.ReadingLists.{some_items, any_items, many}
-use Rattle.dp_parse.specs.Grammar.{Text, variable_in, name_in, number_in, text_in, prefix_in, step_in, constant_in, by_sign, by_kind, Kind, Sort, place, item, indexed, value_of, PlaceOf, ItemRest, inner}
-use Rattle.dp_parse.specs.Reading.{sort, sees, begins_expression, tree_of, variable, index, indices, place_rule, place_below, group, item_rest, item_rule, literal, array_call, call, isset, primary, prefixed, stepped_first, other, step_last, alone}
-use Rattle.dp_parse.specs.Reading as reading
+use Rattle.dp_parse.specs.Grammar.{Text, variable_in, name_in, number_in, text_in, prefix_in, step_in, constant_in, by_sign, by_kind, place, item, indexed, PlaceOf, ItemRest, inner}
+use Rattle.dp_parse.specs.Reading.{sort, begins_expression, tree_of, variable, index, indices, place_rule, place_below, group, item_rest, item_rule, literal, array_call, call, isset, primary, prefixed, stepped_first, other, step_last, alone}
 use Rattle.dp_parse.proofs.Signs.{and_parts, not_true, placed, mark_passes, mark_of}
-use Rattle.dp_parse.proofs.Answers.{Rules, Stop, Anything, JoinedAt, EitherAt, GivesAt, OneAt, MarkAt, MadeAt, ManyAt, Answers, Follows, Can, GoesOn, StartsIn, give, behind, mark_starts, joined_starts, made_starts, starts_apart, gives_apart, starts_follow, gives_follow, either_follows, anything_follows, one_answers, made_answers, gives_answers, joined_answers, equal_answers, stricter_answers, either_answers, guarded_answers}
+use Rattle.dp_parse.proofs.Answers.{Rules, Anything, JoinedAt, EitherAt, GivesAt, OneAt, MarkAt, MadeAt, ManyAt, Answers, Follows, Can, StartsIn, give, behind, mark_starts, joined_starts, made_starts, gives_apart, starts_follow, gives_follow, either_follows, anything_follows, one_answers, made_answers, gives_answers, joined_answers, equal_answers, stricter_answers, either_answers, guarded_answers}
 use Rattle.dp_parse.proofs.Loops.{many_none, many_answers}
-use Rattle.dp_parse.proofs.Readers.{IsReader, marked, mark_then, made_reads, then_mark}
+use Rattle.dp_parse.proofs.Readers.{marked, mark_then, made_reads, then_mark}
 use Rattle.dp_parse.proofs.Lists.{AreItems, AnyItemsAt, SomeItemsAt, any_items_answers, some_items_answers, any_items_can, some_items_can}
 use Rattle.dp_parse.proofs.Heights.{looser, stop_at, looser_less, excluded, implied}
 use Rattle.dp_parse.proofs.Least.{zero_token, zero_text, zero_tree, variable_name, variable_text, variable_place, gives_it, no_more, then_nothing, least_whole, least_operand, least_place}
 use Rattle.dp_parse.proofs.Factored.{StepLast, to_operand, from_operand}
-use Rattle.dp_parse.proofs.More.{level_self, sort_starts, variable_starts, number_starts, text_starts, name_starts, one_of_sort, name_token, one_then, choice_answers, NestedAt, nested_answers}
-use Rattle.dp_parse.proofs.Parts.{At, Under, stop_of, Reads, inner_answers, some_whole_under, some_alone_under, up, IndexAt, PlaceAt, PlaceUnder, GroupAt, ItemAt, LiteralAt, ArrayCallAt, CallAt, IssetAt, PrimaryAt, PrimaryIndexedAt, PrefixedAt, SteppedFirstAt, NumberAt, TextAt, ConstantAt, OtherAt, OperandAt, begins_constant, begins_prefix, begins_step, begins_behind_array, begins_behind_bracket, begins_behind_group, begins_behind_constant, begins_primary, begins_behind_isset, begins_behind_number, begins_behind_step, begins_other, index_starts, index_under_starts, place_starts, place_under_starts, group_starts, literal_starts, array_call_starts, call_starts, isset_starts, prefixed_starts, stepped_first_starts, number_rule_starts, text_rule_starts, behind_array_starts, behind_bracket_starts, behind_group_starts, behind_constant_starts, primary_starts, primary_indexed_starts, behind_isset_starts, behind_number_starts, behind_step_starts, other_starts}
+use Rattle.dp_parse.proofs.More.{level_self, sort_starts, one_of_sort, name_token, one_then, choice_answers, NestedAt, nested_answers}
+use Rattle.dp_parse.proofs.Parts.{Under, Reads, inner_answers, some_whole_under, some_alone_under, IndexAt, PlaceAt, PlaceUnder, GroupAt, ItemAt, LiteralAt, ArrayCallAt, CallAt, IssetAt, PrimaryAt, PrimaryIndexedAt, PrefixedAt, SteppedFirstAt, NumberAt, TextAt, ConstantAt, OtherAt, OperandAt, begins_constant, begins_prefix, begins_step, begins_behind_array, begins_behind_bracket, begins_behind_group, begins_behind_constant, begins_primary, begins_behind_isset, begins_behind_number, begins_behind_step, begins_other, index_starts, index_under_starts, place_starts, place_under_starts, group_starts, literal_starts, array_call_starts, call_starts, isset_starts, prefixed_starts, stepped_first_starts, number_rule_starts, text_rule_starts, behind_array_starts, behind_bracket_starts, behind_group_starts, behind_constant_starts, primary_indexed_starts, behind_isset_starts, behind_number_starts, behind_step_starts, other_starts}
 use Rattle.dp_parse.proofs.Begins.{whole_under_starts}
 
 -- ---- places
