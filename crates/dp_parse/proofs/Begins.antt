@@ -72,12 +72,24 @@ whole_of level text a h =
 
 -- a primary expression with no index
 primary_of : (level : ℕ) (text : List Token) (a : Expression) → Primary level (inner level) text a → OperandRule level (inner level) text a
-primary_of level text a h = inr (inr (inr (inr (inr (inr (record { front = text; back = []; value = a; split = sym (append-nil text); one = h;
-  other = record { front = []; back = []; value = []; split = refl; one = record { count = 0; chain = gives_it [] }; other = gives_it a } }))))))
+primary_of level text a h = inr (inr (inr (inr (inr (inr (record {
+  front = text;
+  back = [];
+  value = a;
+  split = sym (append-nil text);
+  one = h;
+  other = record { front = []; back = []; value = []; split = refl; one = record { count = 0; chain = gives_it [] }; other = gives_it a };
+}))))))
 
 place_of_name : (level : ℕ) (x : Token) (name : Text) → variable_in x.kind ≡ Some name → PlaceRule level (inner level) (x ∷ []) (place name [])
-place_of_name level x name e = record { front = x ∷ []; back = []; value = name; split = refl; one = record { token = x; alone = refl; is_worth = e };
-  other = record { front = []; back = []; value = []; split = refl; one = record { count = 0; chain = gives_it [] }; other = gives_it (place name []) } }
+place_of_name level x name e = record {
+  front = x ∷ [];
+  back = [];
+  value = name;
+  split = refl;
+  one = record { token = x; alone = refl; is_worth = e };
+  other = record { front = []; back = []; value = []; split = refl; one = record { count = 0; chain = gives_it [] }; other = gives_it (place name []) };
+}
 
 -- what begins with this token
 abbrev pub Opened : Token → Type 0
@@ -98,31 +110,55 @@ module _ (x : Token) where
 
   by_prefix : is_some (prefix_in (sign_of x.kind)) ≡ true → Opened x
   by_prefix e =
-      let c = one_of_sort prefix_in x e in
-      (zero_text, tree.Unary c.0 zero_tree, whole_of 1 (x ∷ zero_text) (tree.Unary c.0 zero_tree)
-      (inl (record { some = omega arith; spelled = behind (One (by_sign prefix_in)) (λ by. Made (Under part.Alone 1) (tree.Unary by)) (x ∷ []) zero_text c.0 (tree.Unary c.0 zero_tree) c.1
-      (give (Under part.Alone 1) (tree.Unary c.0) zero_text zero_tree (least_operand 0 (inner 0))) })))
+      let c = one_of_sort prefix_in x e in (
+        zero_text,
+        tree.Unary c.0 zero_tree,
+        whole_of 1 (x ∷ zero_text) (tree.Unary c.0 zero_tree)
+            (inl (record {
+              some = omega arith;
+              spelled = behind (One (by_sign prefix_in)) (λ by. Made (Under part.Alone 1) (tree.Unary by)) (x ∷ []) zero_text c.0 (tree.Unary c.0 zero_tree) c.1
+                  (give (Under part.Alone 1) (tree.Unary c.0) zero_text zero_tree (least_operand 0 (inner 0)));
+            })),
+      )
 
   by_step : is_some (step_in (sign_of x.kind)) ≡ true → Opened x
   by_step e =
-      let c = one_of_sort step_in x e in
-      (variable_text, tree.Step c.0 StepFirst variable_place, whole_of 1 (x ∷ variable_text) (tree.Step c.0 StepFirst variable_place)
-      (inr (inl (record { some = omega arith; spelled = behind (One (by_sign step_in)) (λ by. Made (PlaceOf ((inner 1).index)) (λ of. tree.Step by StepFirst of)) (x ∷ []) variable_text c.0 (tree.Step c.0 StepFirst variable_place) c.1
-      (give (PlaceOf ((inner 1).index)) (λ of. tree.Step c.0 StepFirst of) variable_text variable_place (least_place ((inner 1).index))) }))))
+      let c = one_of_sort step_in x e in (
+        variable_text,
+        tree.Step c.0 StepFirst variable_place,
+        whole_of 1 (x ∷ variable_text) (tree.Step c.0 StepFirst variable_place)
+            (inr (inl (record {
+              some = omega arith;
+              spelled = behind (One (by_sign step_in)) (λ by. Made (PlaceOf ((inner 1).index)) (λ of. tree.Step by StepFirst of)) (x ∷ []) variable_text c.0 (tree.Step c.0 StepFirst variable_place) c.1
+                  (give (PlaceOf ((inner 1).index)) (λ of. tree.Step c.0 StepFirst of) variable_text variable_place (least_place ((inner 1).index)));
+            }))),
+      )
 
   by_inclusion : is_some (inclusion_in (sign_of x.kind)) ≡ true → Opened x
   by_inclusion e =
-      let c = one_of_sort inclusion_in x e in
-      (zero_text, tree.Include c.0 zero_tree, inl (record { some = omega arith; spelled = behind (One (by_sign inclusion_in)) (λ how. Made (Under part.Whole 1) (tree.Include how)) (x ∷ []) zero_text c.0 (tree.Include c.0 zero_tree) c.1
-      (give (Under part.Whole 1) (tree.Include c.0) zero_text zero_tree (least_whole 0 (inner 0))) }))
+      let c = one_of_sort inclusion_in x e in (
+        zero_text,
+        tree.Include c.0 zero_tree,
+        inl (record {
+          some = omega arith;
+          spelled = behind (One (by_sign inclusion_in)) (λ how. Made (Under part.Whole 1) (tree.Include how)) (x ∷ []) zero_text c.0 (tree.Include c.0 zero_tree) c.1
+              (give (Under part.Whole 1) (tree.Include c.0) zero_text zero_tree (least_whole 0 (inner 0)));
+        }),
+      )
 
   by_group : is sign.OpenParenthesis (sign_of x.kind) ≡ true → Opened x
   by_group e =
-      let close = placed kind.CloseParenthesis ∷ [] in
-      (zero_token ∷ close, zero_tree, whole_of 1 (x ∷ (zero_token ∷ close)) zero_tree (primary_of 1 (x ∷ (zero_token ∷ close)) zero_tree
-      (inr (inr (inl (record { some = omega arith; spelled = marked sign.OpenParenthesis x (Joined (Under part.Whole 1) (λ within. Joined (Mark sign.CloseParenthesis) (λ _. Gives within))) (zero_token ∷ close) zero_tree e
-      (behind (Under part.Whole 1) (λ within. Joined (Mark sign.CloseParenthesis) (λ _. Gives within)) zero_text close zero_tree zero_tree (least_whole 0 (inner 0))
-      (then_nothing (Mark sign.CloseParenthesis) (λ _. Gives zero_tree) close 1 zero_tree (mark_alone sign.CloseParenthesis kind.CloseParenthesis refl) (gives_it zero_tree))) }))))))
+      let close = placed kind.CloseParenthesis ∷ [] in (
+        zero_token ∷ close,
+        zero_tree,
+        whole_of 1 (x ∷ (zero_token ∷ close)) zero_tree (primary_of 1 (x ∷ (zero_token ∷ close)) zero_tree
+            (inr (inr (inl (record {
+              some = omega arith;
+              spelled = marked sign.OpenParenthesis x (Joined (Under part.Whole 1) (λ within. Joined (Mark sign.CloseParenthesis) (λ _. Gives within))) (zero_token ∷ close) zero_tree e
+                  (behind (Under part.Whole 1) (λ within. Joined (Mark sign.CloseParenthesis) (λ _. Gives within)) zero_text close zero_tree zero_tree (least_whole 0 (inner 0))
+                  (then_nothing (Mark sign.CloseParenthesis) (λ _. Gives zero_tree) close 1 zero_tree (mark_alone sign.CloseParenthesis kind.CloseParenthesis refl) (gives_it zero_tree)));
+            }))))),
+      )
 
   -- no items
   no_items : {A : Type 0} (item : List A → Rule A) (close : Sign) (k : TokenKind) → same_sign (sign_of k) close ≡ true → AnyItems item close (placed k ∷ []) []
@@ -131,30 +167,48 @@ module _ (x : Token) where
   by_literal : is sign.OpenBracket (sign_of x.kind) ≡ true → Opened x
   by_literal e =
       let close = placed kind.CloseBracket ∷ [] in
-      let items = AnyItems (λ _. ItemAt 1) sign.CloseBracket in
-      (close, tree.Array [], whole_of 1 (x ∷ close) (tree.Array []) (primary_of 1 (x ∷ close) (tree.Array [])
-      (inr (inr (inr (inl (record { some = omega arith; spelled = marked sign.OpenBracket x (Made items tree.Array) close (tree.Array []) e
-      (give items tree.Array close [] (no_items (λ _. ItemAt 1) sign.CloseBracket kind.CloseBracket refl)) })))))))
+      let items = AnyItems (λ _. ItemAt 1) sign.CloseBracket in (
+        close,
+        tree.Array [],
+        whole_of 1 (x ∷ close) (tree.Array []) (primary_of 1 (x ∷ close) (tree.Array [])
+            (inr (inr (inr (inl (record {
+              some = omega arith;
+              spelled = marked sign.OpenBracket x (Made items tree.Array) close (tree.Array []) e
+                  (give items tree.Array close [] (no_items (λ _. ItemAt 1) sign.CloseBracket kind.CloseBracket refl));
+            })))))),
+      )
 
   by_array : is sign.Array (sign_of x.kind) ≡ true → Opened x
   by_array e =
       let close = placed kind.CloseParenthesis ∷ [] in
       let open_ = placed kind.OpenParenthesis in
-      let items = AnyItems (λ _. ItemAt 1) sign.CloseParenthesis in
-      (open_ ∷ close, tree.Array [], whole_of 1 (x ∷ (open_ ∷ close)) (tree.Array []) (primary_of 1 (x ∷ (open_ ∷ close)) (tree.Array [])
-      (inr (inr (inr (inr (inl (record { some = omega arith; spelled = marked sign.Array x (Joined (Mark sign.OpenParenthesis) (λ _. Made items tree.Array)) (open_ ∷ close) (tree.Array []) e
-      (marked sign.OpenParenthesis open_ (Made items tree.Array) close (tree.Array []) refl
-      (give items tree.Array close [] (no_items (λ _. ItemAt 1) sign.CloseParenthesis kind.CloseParenthesis refl))) }))))))))
+      let items = AnyItems (λ _. ItemAt 1) sign.CloseParenthesis in (
+        open_ ∷ close,
+        tree.Array [],
+        whole_of 1 (x ∷ (open_ ∷ close)) (tree.Array []) (primary_of 1 (x ∷ (open_ ∷ close)) (tree.Array [])
+            (inr (inr (inr (inr (inl (record {
+              some = omega arith;
+              spelled = marked sign.Array x (Joined (Mark sign.OpenParenthesis) (λ _. Made items tree.Array)) (open_ ∷ close) (tree.Array []) e
+                  (marked sign.OpenParenthesis open_ (Made items tree.Array) close (tree.Array []) refl
+                  (give items tree.Array close [] (no_items (λ _. ItemAt 1) sign.CloseParenthesis kind.CloseParenthesis refl)));
+            }))))))),
+      )
 
   by_name : (name : Text) → name_in x.kind ≡ Some name → Opened x
   by_name name e =
       let close = placed kind.CloseParenthesis ∷ [] in
       let open_ = placed kind.OpenParenthesis in
-      let items = AnyItems (λ _. Under part.Whole 1) sign.CloseParenthesis in
-      (open_ ∷ close, tree.Call name [], whole_of 1 (x ∷ (open_ ∷ close)) (tree.Call name []) (primary_of 1 (x ∷ (open_ ∷ close)) (tree.Call name [])
-      (inr (inr (inr (inr (inr (record { some = omega arith; spelled = behind (One (by_kind name_in)) (λ name. Joined (Mark sign.OpenParenthesis) (λ _. Made items (tree.Call name))) (x ∷ []) (open_ ∷ close) name (tree.Call name []) (record { token = x; alone = refl; is_worth = e })
-      (marked sign.OpenParenthesis open_ (Made items (tree.Call name)) close (tree.Call name []) refl
-      (give items (tree.Call name) close [] (no_items (λ _. Under part.Whole 1) sign.CloseParenthesis kind.CloseParenthesis refl))) }))))))))
+      let items = AnyItems (λ _. Under part.Whole 1) sign.CloseParenthesis in (
+        open_ ∷ close,
+        tree.Call name [],
+        whole_of 1 (x ∷ (open_ ∷ close)) (tree.Call name []) (primary_of 1 (x ∷ (open_ ∷ close)) (tree.Call name [])
+            (inr (inr (inr (inr (inr (record {
+              some = omega arith;
+              spelled = behind (One (by_kind name_in)) (λ name. Joined (Mark sign.OpenParenthesis) (λ _. Made items (tree.Call name))) (x ∷ []) (open_ ∷ close) name (tree.Call name []) (record { token = x; alone = refl; is_worth = e })
+                  (marked sign.OpenParenthesis open_ (Made items (tree.Call name)) close (tree.Call name []) refl
+                  (give items (tree.Call name) close [] (no_items (λ _. Under part.Whole 1) sign.CloseParenthesis kind.CloseParenthesis refl)));
+            }))))))),
+      )
 
   one_place : SomeItems (λ _. PlaceUnder 1) sign.CloseParenthesis (placed (kind.Variable variable_name) ∷ (placed kind.CloseParenthesis ∷ [])) (variable_place ∷ [])
   one_place =
@@ -169,11 +223,17 @@ module _ (x : Token) where
       let open_ = placed kind.OpenParenthesis in
       let rest = placed (kind.Variable variable_name) ∷ (placed kind.CloseParenthesis ∷ []) in
       let items = SomeItems (λ _. PlaceUnder 1) sign.CloseParenthesis in
-      let found = tree.Isset (variable_place ∷ []) in
-      (open_ ∷ rest, found, whole_of 1 (x ∷ (open_ ∷ rest)) found
-      (inr (inr (inr (inr (inl (record { some = omega arith; spelled = marked sign.Isset x (Joined (Mark sign.OpenParenthesis) (λ _. Made items tree.Isset)) (open_ ∷ rest) found e
-      (marked sign.OpenParenthesis open_ (Made items tree.Isset) rest found refl
-      (give items tree.Isset rest (variable_place ∷ []) one_place)) })))))))
+      let found = tree.Isset (variable_place ∷ []) in (
+        open_ ∷ rest,
+        found,
+        whole_of 1 (x ∷ (open_ ∷ rest)) found
+            (inr (inr (inr (inr (inl (record {
+              some = omega arith;
+              spelled = marked sign.Isset x (Joined (Mark sign.OpenParenthesis) (λ _. Made items tree.Isset)) (open_ ∷ rest) found e
+                  (marked sign.OpenParenthesis open_ (Made items tree.Isset) rest found refl
+                  (give items tree.Isset rest (variable_place ∷ []) one_place));
+            })))))),
+      )
 
   variable_opens : (name : Text) (b : Bool) → is_superglobal name ≡ b → x.kind ≡ kind.Variable name → begins_expression (cond b sign.Superglobal sign.Variable) ≡ true → Opened x
   variable_opens name true is e begins = absurd (cc)

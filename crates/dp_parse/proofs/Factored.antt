@@ -108,7 +108,7 @@ module _ {B : Type 0} (index : Rule Expression) (end : Place → Rule B) where
         split = j.split ∙ ap (λ l. l ++ j.back) p.split ∙ append_assoc p.front p.back j.back;
         one = p.one;
         other = ended_after_all (λ all. Made index (λ a. all ++ a ∷ [])) (λ all. end (place p.value all)) [] (p.back ++ j.back) b
-        (record { front = p.back; back = j.back; value = g.0; split = refl; one = g.1; other = subst (λ q. end q j.back b) g.2 j.other });
+            (record { front = p.back; back = j.back; value = g.0; split = refl; one = g.1; other = subst (λ q. end q j.back b) g.2 j.other });
       }
 
 -- ---- operators behind an operand
@@ -178,8 +178,14 @@ module _ (level : ℕ) (i : Inner) where
       go : StepLast j.value j.back v → OperandRule level i text (tree_of v)
       go (inl s) =
           let g = given (Sort step_in) (λ by. opened.Other (tree.Step by ValueFirst j.value)) j.back v s in
-          inr (inr (inl (record { front = j.front; back = j.back; value = j.value; split = j.split; one = j.one;
-            other = subst (λ x. Made (Sort step_in) (λ by. tree.Step by ValueFirst j.value) j.back (tree_of x)) (sym g.2) (give (Sort step_in) (λ by. tree.Step by ValueFirst j.value) j.back g.0 g.1) })))
+          inr (inr (inl (record {
+            front = j.front;
+            back = j.back;
+            value = j.value;
+            split = j.split;
+            one = j.one;
+            other = subst (λ x. Made (Sort step_in) (λ by. tree.Step by ValueFirst j.value) j.back (tree_of x)) (sym g.2) (give (Sort step_in) (λ by. tree.Step by ValueFirst j.value) j.back g.0 g.1);
+          })))
       go (inr n) =
           let same : text ≡ j.front = j.split ∙ ap (λ l. j.front ++ l) n.empty ∙ append-nil j.front in
           subst (λ l. OperandRule level i l (tree_of v)) (sym same) (subst (λ x. OperandRule level i j.front (tree_of x)) (sym n.same) (place_operand j.front j.value j.one))
@@ -192,8 +198,14 @@ module _ (level : ℕ) (i : Inner) where
   stepped_alone : (text : List Token) (e : Expression) → SteppedLast level i text e → Joined (PlaceRule level i) StepLast text (opened.Other e)
   stepped_alone text e j =
       let g = given (Sort step_in) (λ by. tree.Step by ValueFirst j.value) j.back e j.other in
-      record { front = j.front; back = j.back; value = j.value; split = j.split; one = j.one;
-        other = inl (subst (λ x. Made (Sort step_in) (λ by. opened.Other (tree.Step by ValueFirst j.value)) j.back (opened.Other x)) (sym g.2) (give (Sort step_in) (λ by. opened.Other (tree.Step by ValueFirst j.value)) j.back g.0 g.1)) }
+      record {
+        front = j.front;
+        back = j.back;
+        value = j.value;
+        split = j.split;
+        one = j.one;
+        other = inl (subst (λ x. Made (Sort step_in) (λ by. opened.Other (tree.Step by ValueFirst j.value)) j.back (opened.Other x)) (sym g.2) (give (Sort step_in) (λ by. opened.Other (tree.Step by ValueFirst j.value)) j.back g.0 g.1));
+      }
 
   place_alone : (text : List Token) (p : Place) → PlaceRule level i text p → Joined (PlaceRule level i) StepLast text (opened.Place p)
   place_alone text p h = record { front = text; back = []; value = p; split = sym (append-nil text); one = h; other = inr (record { empty = refl; same = refl }) }

@@ -56,9 +56,12 @@ EnclosedAt before after = JoinedAt (MarkAt before) (λ _. JoinedAt (Under part.W
 
 pub enclosed_opens : (before after : Sign) (k : TokenKind) → same_sign (sign_of k) after ≡ true → (x : Token) → is before (sign_of x.kind) ≡ true → (more : List Token) × (a : Expression) × EnclosedAt before after 2 (x ∷ more) a
 enclosed_opens before after k e x is_before =
-    let end = placed k ∷ [] in
-    (zero_token ∷ end, zero_tree, marked before x (Joined (Under part.Whole 2) (λ e. Made (Mark after) (λ _. e))) (zero_token ∷ end) zero_tree is_before
-    (behind (Under part.Whole 2) (λ e. Made (Mark after) (λ _. e)) zero_text end zero_tree zero_tree (least_whole 1 (inner 1)) (give (Mark after) (λ _. zero_tree) end 1 (mark_of after (placed k) e))))
+    let end = placed k ∷ [] in (
+      zero_token ∷ end,
+      zero_tree,
+      marked before x (Joined (Under part.Whole 2) (λ e. Made (Mark after) (λ _. e))) (zero_token ∷ end) zero_tree is_before
+          (behind (Under part.Whole 2) (λ e. Made (Mark after) (λ _. e)) zero_text end zero_tree zero_tree (least_whole 1 (inner 1)) (give (Mark after) (λ _. zero_tree) end 1 (mark_of after (placed k) e))),
+    )
 
 -- where an item may end
 abbrev pub item_stop : Item → Sign → Bool
