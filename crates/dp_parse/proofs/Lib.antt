@@ -8,3 +8,13 @@ pub mod Taken
 pub mod Reasons
 pub mod Feeds
 pub mod FileLaws
+pub mod Heights
+pub mod Least
+pub mod Factored
+pub mod More
+pub mod Parts
+pub mod Begins
+pub mod Ladders
+pub mod Operands
+pub mod Openings
+pub mod Expressions
