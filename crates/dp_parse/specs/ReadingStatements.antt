@@ -18,16 +18,12 @@ use Rattle.dp_parse.specs.declared.tree.Statement.{Statement}
 use Rattle.dp_parse.specs.declared.tree.StatementKind.{StatementKind}
 use Rattle.dp_parse.specs.declared.tree.StatementKind.TheVariants as tree
 use Rattle.dp_parse.specs.Signs.{is, head}
+use Rattle.dp_parse.specs.Lines.{line_of}
 use Rattle.dp_parse.specs.Input.{Reader, ◌>>=◌, ◌>>◌, gives, made, refuse, mark, enter, closed}
 use Rattle.dp_parse.specs.ReadingLists.{plain_items, some_items, any_plain_items, any_items}
 use Rattle.dp_parse.specs.Grammar.{Text, name_in}
 use Rattle.dp_parse.specs.Reading.{kind, variable, reading, reading_place}
 use Rattle.dp_parse.specs.Statements.{ended, whole, binding, levels_in, parameter_in, Arms, with_arm, stated, Depth, function_of, no_parts, with_statement, with_function}
-
--- the line of the first token, if there is one
-abbrev pub line_of : List Token → ℕ
-line_of [] = 0
-line_of (t ∷ ts) = t.line
 
 -- statements up to the closing brace
 module _ (body : Reader Body) where
