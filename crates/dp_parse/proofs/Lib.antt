@@ -1,2 +1,3 @@
 pub mod Signs
 pub mod Answers
+pub mod Verdicts
