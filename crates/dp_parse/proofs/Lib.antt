@@ -1,3 +1,4 @@
 pub mod Signs
 pub mod Answers
 pub mod Verdicts
+pub mod StatementReaders
