@@ -206,6 +206,12 @@ starts_apart rule stop test other apart starts m text a r h is = let x = starts 
 pub gives_apart : {L A : Type 0} (a : A) (stop : Stop A) (test : Sign → Bool) → ((s : Sign) → stop a s ≡ true → test s ≡ false) → Apart {L = L} (GivesAt a) stop test
 gives_apart a stop test apart m text b r g is = ap (λ l. test (head (l ++ r))) g.empty ∙ apart (head r) (ap (λ x. stop x (head r)) (sym g.same) ∙ is)
 
+-- the same, for a value made of what was read
+pub made_apart : {L A B : Type 0} (rule : Rules L A) (f : A → B) (rule_stop : Stop A) (stop : Stop B) (test : Sign → Bool) → ((a : A) (s : Sign) → stop (f a) s ≡ true → rule_stop a s ≡ true) → Apart rule rule_stop test → Apart (MadeAt rule f) stop test
+made_apart rule f rule_stop stop test weaker apart m text b r h is =
+    let g = given (rule m) f text b h in
+    apart m text g.0 r g.1 (weaker g.0 (head r) (ap (λ x. stop x (head r)) (sym g.2) ∙ is))
+
 pub either_apart : {L A : Type 0} (first second : Rules L A) (stop : Stop A) (test : Sign → Bool) → Apart first stop test → Apart second stop test → Apart (EitherAt first second) stop test
 either_apart first second stop test one other m text a r (inl h) is = one m text a r h is
 either_apart first second stop test one other m text a r (inr h) is = other m text a r h is
