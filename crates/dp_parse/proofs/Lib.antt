@@ -5,3 +5,4 @@ pub mod Lists
 pub mod Turns
 pub mod Verdicts
 pub mod StatementReaders
+pub mod StatementParts
