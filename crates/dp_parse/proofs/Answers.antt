@@ -4,7 +4,7 @@
 -- before the bad one begin a spelling, and with it they begin none: of no level, or, where it is too deep, not of this
 -- level, but of one above.
 use Rattle.std.specs.declared.ops.ControlFlow.{ControlFlow}
-use Rattle.std.proofs.Common.{◌≡◌, ◌⊎◌, inl, inr, ℕ, zero, suc, ◌<◌, ◌≤◌, Bool, true, false, List, [], ◌∷◌, ◌++◌, length, Option, Some, None, Ok, Err, sym, refl, ap, ◌∙◌, subst, append_assoc, append-nil, cond, arith}
+use Rattle.std.proofs.Common.{◌≡◌, ◌⊎◌, inl, inr, ℕ, zero, suc, ◌<◌, ◌≤◌, Bool, true, false, ◌||◌, List, [], ◌∷◌, ◌++◌, length, Option, Some, None, Ok, Err, sym, refl, ap, ◌∙◌, subst, append_assoc, append-nil, cond, arith}
 use Rattle.dp_lexer.specs.declared.token.Token.{Token}
 use Rattle.dp_parse.specs.declared.sign.Sign.{Sign}
 use Rattle.dp_parse.specs.declared.sign.Sign.TheVariants as sign
@@ -13,7 +13,7 @@ use Rattle.dp_parse.specs.Signs.{sign_of, same_sign, is, head}
 use Rattle.dp_parse.specs.Lines.{line_of}
 use Rattle.dp_parse.specs.Input.{Outcome, Reader, and_then, gives, met, one, enter}
 use Rattle.dp_parse.specs.Rules.{Rule, Joined, ◌or◌, Gives, Made, One, line_at, Mark, When, Nests, Without, OnLine, Closed, Many, Perhaps, Step}
-use Rattle.dp_parse.proofs.Signs.{line_back}
+use Rattle.dp_parse.proofs.Signs.{or_left, or_right, line_back}
 
 -- a rule at each level of nesting
 abbrev pub Rules : Type 0 → Type 0 → Type 1
@@ -197,6 +197,11 @@ online_starts rule test starts m text a h = starts h.first.line m text a h.spell
 
 pub starts_in_more : {L A : Type 0} (rule : Rules L A) (test wider : Sign → Bool) → ((s : Sign) → test s ≡ true → wider s ≡ true) → StartsIn rule test → StartsIn rule wider
 starts_in_more rule test wider more starts m text a h = let s = starts m text a h in (s.0, s.1, s.2, more (sign_of s.0.kind) s.3)
+
+-- each with a test of its own
+pub or_starts : {L A : Type 0} (first second : Rules L A) (s t : Sign → Bool) → StartsIn first s → StartsIn second t → StartsIn (EitherAt first second) (λ x. s x || t x)
+or_starts first second s t one other = either_starts first second (λ x. s x || t x)
+    (starts_in_more first s (λ x. s x || t x) (λ x. or_left (s x) (t x)) one) (starts_in_more second t (λ x. s x || t x) (λ x. or_right (s x) (t x)) other)
 
 -- what starts with other tokens
 pub starts_apart : {L A : Type 0} (rule : Rules L A) (stop : Stop A) (test other : Sign → Bool) → ((s : Sign) → other s ≡ true → test s ≡ false) → StartsIn rule other → Apart rule stop test

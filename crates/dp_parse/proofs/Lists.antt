@@ -1,7 +1,7 @@
 -- Lists with commas between their items.
 use Rattle.std.specs.declared.ops.ControlFlow.{ControlFlow}
 use Rattle.std.specs.declared.ops.ControlFlow.TheVariants.{Continue, Break}
-use Rattle.std.proofs.Common.{◌≡◌, inl, inr, ℕ, suc, Bool, true, false, ◌||◌, List, [], ◌∷◌, ◌++◌, length, Some, None, sym, refl, ap, ◌∙◌, subst, cond}
+use Rattle.std.proofs.Common.{◌≡◌, inl, inr, ℕ, Bool, true, false, ◌||◌, List, [], ◌∷◌, ◌++◌, Some, None, sym, refl, ap, ◌∙◌, subst, cond}
 use Rattle.dp_lexer.specs.declared.token.Token.{Token}
 use Rattle.dp_parse.specs.declared.sign.Sign.{Sign}
 use Rattle.dp_parse.specs.declared.sign.Sign.TheVariants as sign
@@ -11,7 +11,7 @@ use Rattle.dp_parse.specs.Rules.{Rule, Joined, Made, Mark, Perhaps}
 use Rattle.dp_parse.specs.Lists.{NextItem, ItemsUpTo, PlainItems, SomeItems, NoItems, AnyPlainItems, AnyItems}
 use Rattle.dp_parse.specs.ReadingLists.{next_item, last_item, plain_step, behind_comma, comma_step, plain_items, some_items, no_items, any_plain_items, any_items}
 use Rattle.dp_parse.proofs.Signs.{or_left, or_right, mark_passes, mark_fails, mark_apart, mark_of}
-use Rattle.dp_parse.proofs.Answers.{Rules, Stop, Anything, JoinedAt, EitherAt, MarkAt, MadeAt, PerhapsAt, ClosedAt, StepAt, Answers, Follows, Can, GoesOn, StartsIn, Apart, give, given, behind, mark_starts, joined_starts, made_starts, either_starts, starts_in_more, starts_apart, anything_follows, starts_follow, mark_answers, joined_answers, made_answers, equal_answers, either_answers}
+use Rattle.dp_parse.proofs.Answers.{Rules, Stop, Anything, JoinedAt, EitherAt, MarkAt, MadeAt, ClosedAt, StepAt, Answers, Follows, Can, GoesOn, StartsIn, Apart, give, given, behind, mark_starts, joined_starts, made_starts, either_starts, starts_in_more, starts_apart, anything_follows, starts_follow, mark_answers, joined_answers, made_answers, equal_answers, either_answers}
 use Rattle.dp_parse.proofs.Loops.{step_stop, closed_now, closed_follows, closed_goes_on, closed_answers}
 
 -- ---- the lists as rules at each level

@@ -6,7 +6,7 @@ use Rattle.dp_lexer.specs.declared.token.Token.{Token}
 use Rattle.dp_parse.specs.declared.sign.Sign.{Sign}
 use Rattle.dp_parse.specs.Signs.{sign_of, head}
 use Rattle.dp_parse.specs.Input.{Outcome, Reader, and_then, gives, made, until, next_of}
-use Rattle.dp_parse.specs.Rules.{Rule, Gives, Made, Chain, Many, Step}
+use Rattle.dp_parse.specs.Rules.{Gives, Chain, Step}
 use Rattle.dp_parse.specs.ReadingLists.{many_step, many}
 use Rattle.dp_parse.proofs.Signs.{or_left, or_right}
 use Rattle.dp_parse.proofs.Answers.{Rules, Stop, JoinedAt, GivesAt, MadeAt, ClosedAt, StepAt, ManyAt, IsRead, Answers, Follows, Can, GoesOn, StartsIn, Apart, give, given, begun, made_starts, gives_follow, gives_apart, made_apart, starts_in_more, joined_answers, made_answers, gives_answers, equal_answers, either_answers, either_answers_back}
@@ -132,6 +132,9 @@ module _ {L A : Type 0} (rule : Rules L A) where
 
   pub many_none : (m : L) → ManyAt rule m [] []
   many_none m = record { count = 0; chain = record { empty = refl; same = refl } }
+
+  pub many_can : (Above : L → L → Type 0) (level : L) → Can Above level (ManyAt rule)
+  many_can Above level m above = ([], [], many_none m)
 
   -- what any number of pieces, with what may be behind them, begin with
   pub many_follows : {B : Type 0} (first_stop : Stop B) (test : Sign → Bool) (stop : Stop (List A)) → StartsIn rule test → ((b : B) (s : Sign) → test s ≡ true → first_stop b s ≡ true) → ((b : B) (all : List A) (s : Sign) → stop all s ≡ true → first_stop b s ≡ true)

@@ -1,5 +1,5 @@
 -- Sorts of tokens told apart, and a token of each sort.
-use Rattle.std.proofs.Common.{◌≡◌, ℕ, Bool, true, false, not, ◌&&◌, ◌||◌, List, [], ◌∷◌, get_or, Some, None, sym, refl, ap, ◌∙◌, cond, eqb-true, eq-eqb}
+use Rattle.std.proofs.Common.{◌≡◌, ◌⊎◌, inl, inr, ℕ, Bool, true, false, not, ◌&&◌, ◌||◌, List, [], ◌∷◌, get_or, Some, None, sym, refl, ap, ◌∙◌, cond, eqb-true, eq-eqb}
 use Rattle.dp_lexer.specs.declared.token.Token.{Token}
 use Rattle.dp_lexer.specs.declared.token.TokenKind.{TokenKind}
 use Rattle.dp_parse.specs.declared.sign.Sign.{Sign}
@@ -33,6 +33,10 @@ or_right false b is = is
 pub or_false : (a b : Bool) → a ≡ false → b ≡ false → (a || b) ≡ false
 or_false a b one other = ap (λ x. x || b) one ∙ other
 
+pub or_cases : (a b : Bool) → (a || b) ≡ true → (a ≡ true) ⊎ (b ≡ true)
+or_cases true b is = inl refl
+or_cases false b is = inr is
+
 -- what does not pass the weaker test does not pass the test
 pub contrary : (a b : Bool) → (a ≡ true → b ≡ true) → b ≡ false → a ≡ false
 contrary true b to none = let is : b ≡ true = to refl in absurd (cc)
@@ -45,6 +49,14 @@ flip s t apart x passes = go (s x) refl
     go : (v : Bool) → s x ≡ v → s x ≡ false
     go true is = let u : t x ≡ false = apart x is in absurd (cc)
     go false is = is
+
+-- what each of two tests rules out, both do
+pub apart_or : (s t u : Sign → Bool) → ((x : Sign) → s x ≡ true → u x ≡ false) → ((x : Sign) → t x ≡ true → u x ≡ false) → (x : Sign) → (s x || t x) ≡ true → u x ≡ false
+apart_or s t u one other x is = elim (or_cases (s x) (t x) is) [ inl h ↦ one x h | inr h ↦ other x h ]
+
+-- two tests that pass only what a third passes
+pub within_or : (s t u : Sign → Bool) → ((x : Sign) → s x ≡ true → u x ≡ true) → ((x : Sign) → t x ≡ true → u x ≡ true) → (x : Sign) → (s x || t x) ≡ true → u x ≡ true
+within_or s t u one other x is = elim (or_cases (s x) (t x) is) [ inl h ↦ one x h | inr h ↦ other x h ]
 
 -- ---- sorts, by their numbers
 
