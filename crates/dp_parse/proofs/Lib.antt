@@ -4,6 +4,11 @@ pub mod Loops
 pub mod Readers
 pub mod Lists
 pub mod Turns
+pub mod Heights
+pub mod Least
+pub mod Factored
+pub mod More
+pub mod Parts
 pub mod Verdicts
 pub mod StatementReaders
 pub mod StatementParts

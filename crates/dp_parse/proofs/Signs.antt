@@ -60,14 +60,13 @@ within_or s t u one other x is = elim (or_cases (s x) (t x) is) [ inl h ↦ one 
 
 -- ---- sorts, by their numbers
 
-all_signs : List Sign
+abbrev pub all_signs : List Sign
 all_signs = sign.End ∷ sign.Variable ∷ sign.Superglobal ∷ sign.Name ∷ sign.Reserved ∷ sign.Number ∷ sign.Text ∷ sign.Array ∷ sign.As ∷ sign.Break ∷ sign.Continue ∷ sign.Die ∷ sign.Do ∷ sign.Echo ∷ sign.Else ∷ sign.ElseIf ∷ sign.Exit ∷ sign.False ∷ sign.For ∷ sign.Foreach ∷ sign.Function ∷ sign.Global ∷ sign.If ∷ sign.Include ∷ sign.Isset ∷ sign.Null ∷ sign.Require ∷ sign.Return ∷ sign.True ∷ sign.Unset ∷ sign.While ∷ sign.Identical ∷ sign.NotIdentical ∷ sign.Spaceship ∷ sign.CoalesceAssign ∷ sign.Equal ∷ sign.NotEqual ∷ sign.LessOrEqual ∷ sign.GreaterOrEqual ∷ sign.BothOf ∷ sign.EitherOf ∷ sign.Coalesce ∷ sign.Increment ∷ sign.Decrement ∷ sign.AddAssign ∷ sign.SubtractAssign ∷ sign.MultiplyAssign ∷ sign.ConcatAssign ∷ sign.RemainderAssign ∷ sign.Arrow ∷ sign.Assign ∷ sign.Less ∷ sign.Greater ∷ sign.Plus ∷ sign.Minus ∷ sign.Star ∷ sign.Percent ∷ sign.Dot ∷ sign.Bang ∷ sign.Question ∷ sign.Colon ∷ sign.Comma ∷ sign.Semicolon ∷ sign.OpenParenthesis ∷ sign.CloseParenthesis ∷ sign.OpenBracket ∷ sign.CloseBracket ∷ sign.OpenBrace ∷ sign.CloseBrace ∷ []
 
-sign_at : ℕ → Sign
+abbrev sign_at : ℕ → Sign
 sign_at n = get_or all_signs n sign.End
 
-at_number : (s : Sign) → sign_at (number_of s) ≡ s
-unfolding sign_at all_signs
+pub at_number : (s : Sign) → sign_at (number_of s) ≡ s
 at_number sign.End = refl
 at_number sign.Variable = refl
 at_number sign.Superglobal = refl
