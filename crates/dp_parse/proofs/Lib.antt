@@ -8,7 +8,7 @@ pub mod Heights
 pub mod Least
 pub mod Factored
 pub mod More
-pub mod Parts
+pub mod ExpressionParts
 pub mod Verdicts
 pub mod StatementReaders
 pub mod StatementParts
