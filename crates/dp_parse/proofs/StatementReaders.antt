@@ -10,7 +10,7 @@ use Rattle.dp_parse.specs.Input.{Outcome, Reader, and_then, gives, made, mark, e
 use Rattle.dp_parse.specs.Rules.{Rule, Mark, Made, Joined}
 use Rattle.dp_parse.specs.Statements.{Depth}
 use Rattle.dp_parse.proofs.Signs.{placed, mark_of, mark_alone, mark_passes, first_of_sort}
-use Rattle.dp_parse.proofs.Answers.{Rules, Stop, Anything, JoinedAt, EitherAt, GivesAt, OneAt, MarkAt, MadeAt, WhenAt, NestsAt, Begins, IsRead, IsRefused, Opens, Answers, Follows, GoesOn, StartsIn, Apart, begun, mark_starts, joined_starts, starts_follow, anything_follows, gives_follow, one_answers, mark_answers, gives_answers, joined_answers, made_answers, either_answers, nests_answers}
+use Rattle.dp_parse.proofs.Answers.{Rules, Stop, Anything, JoinedAt, EitherAt, GivesAt, OneAt, MarkAt, MadeAt, WhenAt, NestsAt, Begins, IsRead, IsRefused, Opens, Answers, Follows, GoesOn, StartsIn, Apart, begun, mark_starts, joined_starts, starts_follow, anything_follows, gives_follow, one_answers, mark_answers, gives_answers, joined_answers, made_answers, stricter_answers, either_answers, nests_answers}
 
 -- ---- depths
 
@@ -68,6 +68,10 @@ module _ (base : ℕ) (level : Depth) where
   before_mark first first_stop s k is_sort ends rest stop p f one other = joined_reader first (λ a. JoinedAt (MarkAt s) (rest a)) first_stop stop p (λ a. mark s >>= f a)
       (starts_follow first_stop (λ a. JoinedAt (MarkAt s) (rest a)) stop (is s) (λ a x. mark_passes (first_stop a) s (ends a) x) (λ a. joined_starts (MarkAt s) (rest a) (is s) (mark_starts s)))
       one (λ a. mark_then s k is_sort (rest a) stop (f a) (other a))
+
+  -- the same where fewer tokens may be behind it
+  pub stricter : {A : Type 0} (rule : Rules Depth A) (stop less : Stop A) (p : Reader A) → ((a : A) (s : Sign) → less a s ≡ true → stop a s ≡ true) → IsPartReader base rule stop level p → IsPartReader base rule less level p
+  stricter rule stop less p weaker one = record { answers = λ some ts. stricter_answers Deeper same_depth rule stop less level ts weaker (p ts) (one.answers some ts); least = one.least }
 
   -- one or the other by the next token, where each spells something
   pub either_reader : {A : Type 0} (first second : Rules Depth A) (test : Sign → Bool) (stop : Stop A) (p q : Reader A) → StartsIn first test → Apart second stop test
