@@ -12,3 +12,5 @@ pub mod ExpressionParts
 pub mod Verdicts
 pub mod StatementReaders
 pub mod StatementParts
+pub mod StatementStarts
+pub mod StatementBodies

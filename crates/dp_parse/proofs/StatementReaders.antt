@@ -96,3 +96,8 @@ nests_reader {A = A} s rest stop level p ts end here reader least =
         let m : Depth = record { expressions = level.expressions; bodies = 1 } in
         let l = least x.0.line m (omega arith) in
         (m, record { expressions = omega arith; bodies = omega (arith, none) }, x.0, x.1, l.0, l.1, x.2, record { some = omega arith; spelled = record { front = x.0 ∷ []; back = l.0; value = x.0.line; split = refl; one = mark_of s x.0 x.3; other = l.2 } })
+
+pub keyword_nests : {A : Type 0} (s : Sign) (k : TokenKind) → same_sign (sign_of k) s ≡ true → (rest : ℕ → Rules Depth A) (stop : Stop A) (level : Depth) (f : ℕ → Reader A) (ts : List Token) → same_sign sign.End s ≡ false → is s (head ts) ≡ true
+    → ((line : ℕ) → IsPartReader 1 (rest line) stop level (f line))
+    → Answers Deeper (NestsAt (λ m. m.bodies) (JoinedAt (MarkAt s) rest)) stop level ts ((enter level.bodies >> (mark s >>= f)) ts)
+keyword_nests s k is_sort rest stop level f ts end here other = nests_reader s rest stop level (mark s >>= f) ts end here (mark_then 1 level s k is_sort rest stop f other) (λ line m some. (other line).least m some)
