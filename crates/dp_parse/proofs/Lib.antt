@@ -14,3 +14,5 @@ pub mod StatementReaders
 pub mod StatementParts
 pub mod StatementStarts
 pub mod StatementBodies
+pub mod StatementLevels
+pub mod FileReaders
