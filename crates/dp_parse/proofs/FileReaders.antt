@@ -266,7 +266,7 @@ TextAt level = SpellsExpression level
 abbrev AfterText : Expression → Rules ℕ Expression
 AfterText e = λ _. Made (Perhaps (Mark sign.Semicolon)) (λ _. e)
 
-no_level : (l : ℕ) → l ≤ l
+pub no_level : (l : ℕ) → l ≤ l
 no_level l = omega arith
 
 -- nothing but the end

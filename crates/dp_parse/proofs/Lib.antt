@@ -16,3 +16,4 @@ pub mod StatementStarts
 pub mod StatementBodies
 pub mod StatementLevels
 pub mod FileReaders
+pub mod FileVerdicts
