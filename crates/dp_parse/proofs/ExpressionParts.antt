@@ -1,12 +1,9 @@
 -- The parts of expressions at each level: where they stop, what they start with, and how one level down is read.
-use Rattle.std.proofs.Common.{◌≡◌, inl, inr, ℕ, zero, suc, ◌<◌, ◌≤◌, Bool, true, ◌||◌, List, [], ◌∷◌, ◌++◌, is_some, refl, arith}
+use Rattle.std.proofs.Common.{◌≡◌, ℕ, zero, suc, ◌<◌, ◌≤◌, Bool, true, ◌||◌, List, is_some, refl, arith}
 use Rattle.dp_lexer.specs.declared.token.Token.{Token}
-use Rattle.dp_lexer.specs.declared.token.TokenKind.TheVariants as kind
 use Rattle.dp_parse.specs.declared.operand.Operand.{Operand}
-use Rattle.dp_parse.specs.declared.operand.Operand.TheVariants as opened
 use Rattle.dp_parse.specs.declared.operand.Part.{Part}
 use Rattle.dp_parse.specs.declared.operand.Part.TheVariants as part
-use Rattle.dp_parse.specs.declared.rank.Rank.{Rank}
 use Rattle.dp_parse.specs.declared.sign.Sign.{Sign}
 use Rattle.dp_parse.specs.declared.sign.Sign.TheVariants as sign
 use Rattle.dp_parse.specs.declared.tree.Expression.{Expression}
@@ -14,19 +11,16 @@ use Rattle.dp_parse.specs.declared.tree.Expression.TheVariants as tree
 use Rattle.dp_parse.specs.declared.tree.Place.{Place}
 use Rattle.dp_parse.specs.declared.tree.Item.{Item}
 use Rattle.dp_parse.specs.declared.tree.Order.TheVariants.{StepFirst}
-use Rattle.dp_parse.specs.declared.tree.Link.{Link}
 use Rattle.dp_parse.specs.Signs.{is, head}
-use Rattle.dp_parse.specs.Input.{Outcome, Reader}
-use Rattle.dp_parse.specs.Rules.{Joined, Gives, Made, Mark, Nests, Many}
+use Rattle.dp_parse.specs.Input.{Reader}
+use Rattle.dp_parse.specs.Rules.{Joined, Made, Mark}
 use Rattle.dp_parse.specs.Lists.{SomeItems, AnyItems}
-use Rattle.dp_parse.specs.Grammar.{Text, variable_in, name_in, number_in, text_in, prefix_in, step_in, inclusion_in, assignment_in, constant_in, by_sign, by_kind, Kind, Sort, place, item, indexed, value_of, Links, Ladder, ranks, PlaceOf, Index, PlaceRule, Group, ItemRest, ItemRule, Literal, ArrayCall, Call, Isset, Primary, Prefixed, SteppedFirst, OperandRule, CoalesceRest, CoalesceRule, Branches, ConditionalRest, ConditionalRule, IncludeRule, PushRule, AssignmentRule, ExpressionRule, inner, IsExpression, IsPlace}
-use Rattle.dp_parse.specs.Reading.{begins_expression}
-use Rattle.dp_parse.proofs.Signs.{mark_passes}
-use Rattle.dp_parse.proofs.Answers.{Rules, Stop, Anything, JoinedAt, EitherAt, GivesAt, OneAt, MarkAt, MadeAt, ManyAt, Answers, Can, StartsIn, mark_starts, joined_starts, made_starts, either_starts, starts_in_more, under_answers}
-use Rattle.dp_parse.proofs.Heights.{stop_at, implied}
-use Rattle.dp_parse.proofs.Least.{zero_text, zero_tree, variable_text, variable_place, index_text, least_whole, least_coalesce, least_operand, least_index}
-use Rattle.dp_parse.proofs.Factored.{PrimaryIndexed, OtherRule, AloneRule, OpeningRule, Going, Rest, WholeRule}
-use Rattle.dp_parse.proofs.More.{sort_starts, variable_starts, name_starts, number_starts, text_starts, or_starts, NestedAt}
+use Rattle.dp_parse.specs.Grammar.{variable_in, name_in, number_in, text_in, prefix_in, step_in, inclusion_in, constant_in, by_sign, by_kind, place, indexed, PlaceOf, Index, PlaceRule, Group, ItemRule, Literal, ArrayCall, Call, Isset, Primary, Prefixed, SteppedFirst, OperandRule, CoalesceRule, ConditionalRule, IncludeRule, ExpressionRule, inner}
+use Rattle.dp_parse.proofs.Answers.{Rules, Stop, JoinedAt, EitherAt, GivesAt, OneAt, MarkAt, MadeAt, ManyAt, Answers, Can, StartsIn, mark_starts, joined_starts, made_starts, or_starts, under_answers}
+use Rattle.dp_parse.proofs.Heights.{stop_at}
+use Rattle.dp_parse.proofs.Least.{zero_text, zero_tree, least_whole, least_coalesce, least_operand}
+use Rattle.dp_parse.proofs.Factored.{PrimaryIndexed, OtherRule, OpeningRule}
+use Rattle.dp_parse.proofs.More.{sort_starts, variable_starts, name_starts, number_starts, text_starts}
 
 -- ---- the rules at each level
 

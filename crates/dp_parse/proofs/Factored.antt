@@ -1,5 +1,5 @@
 -- The rules of expressions in the form in which they are read, and that they spell the same.
-use Rattle.std.proofs.Common.{◌≡◌, ◌⊎◌, inl, inr, ℕ, zero, suc, ◌<◌, List, [], ◌∷◌, ◌++◌, Some, sym, refl, ap, ◌∙◌, subst, append_assoc, append-nil, arith}
+use Rattle.std.proofs.Common.{◌≡◌, ◌⊎◌, inl, inr, ℕ, zero, suc, ◌<◌, List, [], ◌∷◌, ◌++◌, sym, refl, ap, ◌∙◌, subst, append_assoc, append-nil, arith}
 use Rattle.dp_lexer.specs.declared.token.Token.{Token}
 use Rattle.dp_parse.specs.declared.operand.Operand.{Operand}
 use Rattle.dp_parse.specs.declared.operand.Operand.TheVariants as opened
@@ -8,12 +8,12 @@ use Rattle.dp_parse.specs.declared.sign.Sign.TheVariants as sign
 use Rattle.dp_parse.specs.declared.tree.Expression.{Expression}
 use Rattle.dp_parse.specs.declared.tree.Expression.TheVariants as tree
 use Rattle.dp_parse.specs.declared.tree.Place.{Place}
-use Rattle.dp_parse.specs.declared.tree.Link.{Link}
-use Rattle.dp_parse.specs.declared.tree.Order.TheVariants.{StepFirst, ValueFirst}
+use Rattle.dp_parse.specs.declared.tree.Order.TheVariants.{ValueFirst}
 use Rattle.dp_parse.specs.Rules.{Rule, Joined, ◌or◌, Gives, Made, Mark, Nests, Chain, Closed, Many}
-use Rattle.dp_parse.specs.Grammar.{Text, Inner, number_in, step_in, assignment_in, Kind, Sort, place, indexed, value_of, chained, assigned, Links, Ladder, Variable, PlaceOf, Index, PlaceRule, Isset, Primary, Postfix, Prefixed, SteppedFirst, SteppedLast, OperandRule, CoalesceRest, CoalesceRule, ConditionalRest, ConditionalRule, IncludeRule, PushRule, AssignmentRule, ExpressionRule, ranks}
+use Rattle.dp_parse.specs.Grammar.{Inner, number_in, step_in, assignment_in, Kind, Sort, place, indexed, value_of, chained, assigned, Links, Ladder, Variable, PlaceOf, Index, PlaceRule, Isset, Primary, Prefixed, SteppedFirst, SteppedLast, OperandRule, CoalesceRest, CoalesceRule, ConditionalRest, ConditionalRule, IncludeRule, PushRule, ExpressionRule, IsExpression, ranks}
 use Rattle.dp_parse.specs.Reading.{tree_of}
 use Rattle.dp_parse.proofs.Answers.{give, given}
+use Rattle.dp_parse.proofs.Lists.{behind_made, made_behind}
 
 -- ---- one after the other
 
@@ -42,11 +42,6 @@ pub first_by : {A B : Type 0} (one other : Rule A) (second : A → Rule B) → (
 first_by one other second to text b j = record { front = j.front; back = j.back; value = j.value; split = j.split; one = to j.front j.value j.one; other = j.other }
 
 -- a rule behind a level of nesting, for a value made of its value
-pub made_outside : {A B : Type 0} (level : ℕ) (rule : Rule A) (f : A → B) (text : List Token) (b : B) → Nests level (Made rule f) text b → Made (Nests level rule) f text b
-made_outside level rule f text b n =
-    let g = given rule f text b n.spelled in
-    subst (λ x. Made (Nests level rule) f text x) (sym g.2) (give (Nests level rule) f text g.0 (record { some = n.some; spelled = g.1 }))
-
 pub made_inside : {A B : Type 0} (level : ℕ) (rule : Rule A) (f : A → B) (text : List Token) (b : B) → Made (Nests level rule) f text b → Nests level (Made rule f) text b
 made_inside level rule f text b h =
     let g = given (Nests level rule) f text b h in
@@ -216,10 +211,11 @@ module _ (level : ℕ) (i : Inner) where
 
 -- ---- expressions
 
--- behind a place and `[]`. Where no level is left that is spelled nowhere, and this rule is any.
+-- Behind a place and `[]`, which is spelled only where a level is left. At level 0, where it is not, this is a rule that
+-- the rules of the levels above spell too.
 abbrev pub PushTail : ℕ → Inner → Place → Rule Expression
-PushTail zero i to = Gives (value_of to)
-PushTail (suc level) i to = Made (Nests (suc level) (Joined (Mark sign.Assign) (λ _. i.expression))) (λ from. tree.Push to from)
+PushTail zero i to = Joined (Mark sign.Assign) (λ _. Made (IsExpression 0) (tree.Push to))
+PushTail (suc level) i to = Joined (Mark sign.Assign) (λ _. Made i.expression (tree.Push to))
 
 module _ (level : ℕ) (i : Inner) where
   -- an expression from its first operand
@@ -302,17 +298,23 @@ module _ (level : ℕ) (i : Inner) where
         other = record { front = j.back; back = back; value = g.0; split = refl; one = g.1; other = subst (λ q. Made (Nests level (Joined (Mark sign.Assign) (λ _. i.expression))) (λ from. tree.Push q from) back e) g.2 rest };
       }))
 
-  no_push : (text : List Token) (p : Place) → level ≡ 0 → PushedPlace text p → ⊥
+  pub no_push : (text : List Token) (p : Place) → level ≡ 0 → PushedPlace text p → ⊥
   no_push text p none j = let g = given (EmptyIndex level) (λ _. j.value) j.back p j.other in let some : 0 < level = g.1.some in omega arith
 
 module _ (i : Inner) where
   push_tail : (level : ℕ) (front back text : List Token) (p : Place) (e : Expression) → text ≡ front ++ back → PushedPlace level i front p → PushTail level i p back e → ExpressionRule level i text e
   push_tail zero front back text p e split one rest = absurd (no_push 0 i front p refl one)
-  push_tail (suc level) front back text p e split one rest = pushes (suc level) i front back text p e split one rest
+  push_tail (suc level) front back text p e split one rest =
+      let h = made_behind (Mark sign.Assign) (λ _. i.expression) (tree.Push p) back e rest in
+      let g = given (Joined (Mark sign.Assign) (λ _. i.expression)) (tree.Push p) back e h in
+      pushes (suc level) i front back text p e split one
+      (subst (λ x. Made (Nests (suc level) (Joined (Mark sign.Assign) (λ _. i.expression))) (λ from. tree.Push p from) back x) (sym g.2)
+      (give (Nests (suc level) (Joined (Mark sign.Assign) (λ _. i.expression))) (tree.Push p) back g.0 (record { some = omega arith; spelled = g.1 })))
 
   tail_of_push : (level : ℕ) (front back : List Token) (p : Place) (e : Expression) → PushedPlace level i front p → Made (Nests level (Joined (Mark sign.Assign) (λ _. i.expression))) (λ from. tree.Push p from) back e → PushTail level i p back e
   tail_of_push zero front back p e one rest = absurd (no_push 0 i front p refl one)
-  tail_of_push (suc level) front back p e one rest = rest
+  tail_of_push (suc level) front back p e one rest =
+      behind_made (Mark sign.Assign) (λ _. i.expression) (tree.Push p) back e (made_inside (suc level) (Joined (Mark sign.Assign) (λ _. i.expression)) (tree.Push p) back e rest).spelled
 
 module _ (level : ℕ) (i : Inner) where
   opened_expression : (front back text : List Token) (v : Operand) (e : Expression) → text ≡ front ++ back → Spells level i v front → Rest level i v back e → ExpressionRule level i text e

@@ -1,6 +1,6 @@
 -- How loosely tokens go on with an expression, and tests of sorts decided by trying each sort.
 use Rattle.std.specs.List.{list_all}
-use Rattle.std.proofs.Common.{◌≡◌, ℕ, zero, suc, ◌≤◌, ◌<◌, Bool, true, false, not, ◌&&◌, ◌||◌, List, [], ◌∷◌, get_or, is_some, nat_lt, nat_eq, sym, refl, ap, ◌∙◌, ltb-true, lt-ltb, eqb-true, arith}
+use Rattle.std.proofs.Common.{◌≡◌, ℕ, zero, suc, ◌≤◌, ◌<◌, Bool, true, false, not, ◌||◌, List, [], ◌∷◌, get_or, is_some, nat_lt, nat_eq, sym, refl, ap, ◌∙◌, ltb-true, lt-ltb, eqb-true, arith}
 use Rattle.dp_parse.specs.declared.rank.Rank.{Rank}
 use Rattle.dp_parse.specs.declared.rank.Rank.TheVariants as rank
 use Rattle.dp_parse.specs.declared.sign.Sign.{Sign}

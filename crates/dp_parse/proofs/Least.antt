@@ -1,5 +1,5 @@
 -- A shortest spelling of each part of an expression, at each level.
-use Rattle.std.proofs.Common.{◌≡◌, inl, inr, ℕ, pos, ◌<◌, List, [], ◌∷◌, ◌++◌, sym, refl, append-nil, arith}
+use Rattle.std.proofs.Common.{inl, inr, ℕ, pos, ◌<◌, List, [], ◌∷◌, sym, refl, append-nil}
 use Rattle.dp_lexer.specs.declared.token.Token.{Token}
 use Rattle.dp_lexer.specs.declared.token.TokenKind.TheVariants as kind
 use Rattle.dp_parse.specs.declared.rank.Rank.{Rank}
@@ -7,8 +7,8 @@ use Rattle.dp_parse.specs.declared.tree.Expression.{Expression}
 use Rattle.dp_parse.specs.declared.tree.Expression.TheVariants as tree
 use Rattle.dp_parse.specs.declared.sign.Sign.TheVariants as sign
 use Rattle.dp_parse.specs.declared.tree.Place.{Place}
-use Rattle.dp_parse.specs.Rules.{Rule, Joined, Gives, Made, Mark, Closed, Many}
-use Rattle.dp_parse.specs.Grammar.{Text, Inner, Ladder, Variable, PlaceOf, place, Index, OperandRule, CoalesceRule, ConditionalRule, ExpressionRule, ranks, inner, IsExpression, IsPlace}
+use Rattle.dp_parse.specs.Rules.{Rule, Joined, Gives, Closed}
+use Rattle.dp_parse.specs.Grammar.{Text, Inner, Ladder, PlaceOf, place, Index, OperandRule, CoalesceRule, ConditionalRule, ExpressionRule, ranks, inner, IsExpression, IsPlace}
 use Rattle.dp_parse.proofs.Signs.{placed, mark_alone}
 
 -- `0`

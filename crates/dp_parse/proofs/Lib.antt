@@ -9,6 +9,11 @@ pub mod Least
 pub mod Factored
 pub mod More
 pub mod ExpressionParts
+pub mod Begins
+pub mod Ladders
+pub mod Operands
+pub mod Openings
+pub mod Expressions
 pub mod Verdicts
 pub mod StatementReaders
 pub mod StatementParts

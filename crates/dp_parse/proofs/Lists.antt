@@ -88,6 +88,28 @@ trailed close front back text c n split comma end = record { front = front; back
 untrailed : (close : Sign) (text : List Token) (n : ℕ) → Mark close text n → Trailed close text n
 untrailed close text n end = record { front = []; back = text; value = None; split = refl; one = inr (record { empty = refl; same = refl }); other = end }
 
+-- ---- one list of each kind, at whatever level
+
+module _ {A : Type 0} (item : List A → Rule A) (close : Sign) (t : Token) (closes : same_sign (sign_of t.kind) close ≡ true) where
+  -- none, by the end alone
+  pub no_items_of : NoItems item close (t ∷ []) []
+  no_items_of = give (Mark close) (λ _. []) (t ∷ []) t.line (mark_of close t closes)
+
+  -- one item and the end
+  module _ (text : List Token) (a : A) (h : item [] text a) where
+    one_item : (end : Rule ℕ) → end (t ∷ []) t.line → ItemsUpTo item end (text ++ t ∷ []) (a ∷ [])
+    one_item end e = record { front = text; back = t ∷ []; value = a; split = refl; one = h; other = record { count = 0; chain = give end (λ _. a ∷ []) (t ∷ []) t.line e } }
+
+    pub plain_items_of : PlainItems item close (text ++ t ∷ []) (a ∷ [])
+    plain_items_of = one_item (Mark close) (mark_of close t closes)
+
+    pub some_items_of : SomeItems item close (text ++ t ∷ []) (a ∷ [])
+    some_items_of = one_item (Trailed close) (untrailed close (t ∷ []) t.line (mark_of close t closes))
+
+-- a list begins with an item
+pub items_start : {L A : Type 0} (item : List A → Rules L A) (end : Rules L ℕ) (test : Sign → Bool) → StartsIn (item []) test → StartsIn (ItemsUpToAt item end) test
+items_start item end test = joined_starts (item []) (λ first. ClosedAt (NextItemAt item) (λ all. MadeAt end (λ _. all)) (first ∷ [])) test
+
 module _ {L A : Type 0} (Above : L → L → Type 0) (same_level : (l : L) → Above l l) (item : List A → Rules L A) (close : Sign) (item_stop : Stop A) (test : Sign → Bool) (level : L) (read : List A → Reader A)
     (items : AreItems Above item close item_stop test level read) where
   abbrev more : List A → A → List A
@@ -165,7 +187,7 @@ module _ {L A : Type 0} (Above : L → L → Type 0) (same_level : (l : L) → A
           (λ first r _. closed_answers Above same_level (NextItemAt item) EndAt between Anything level item_between end_follows end_goes_on step steps (first ∷ []) r)
 
   up_to_starts : (end : Rules L ℕ) → StartsIn (ItemsUpToAt item end) test
-  up_to_starts end = joined_starts (item []) (λ first. ClosedAt (NextItemAt item) (λ all. MadeAt end (λ _. all)) (first ∷ [])) test (items.starts [])
+  up_to_starts end = items_start item end test (items.starts [])
 
   close_starts : StartsIn {L = L} (MarkAt close) (λ s. is sign.Comma s || is close s)
   close_starts = starts_in_more (MarkAt close) (is close) (λ s. is sign.Comma s || is close s) (λ s. or_right (is sign.Comma s) (is close s)) (mark_starts close)

@@ -1,6 +1,6 @@
 -- Further parts of the theory of outcomes, where levels of nesting are counted.
 use Rattle.std.specs.List.{list_all}
-use Rattle.std.proofs.Common.{◌≡◌, inl, inr, ℕ, suc, ◌<◌, ◌≤◌, Bool, true, false, not, ◌||◌, List, [], ◌∷◌, ◌++◌, Option, Some, None, is_some, sym, refl, ap, ◌∙◌, append_assoc, cond, arith}
+use Rattle.std.proofs.Common.{◌≡◌, ℕ, ◌<◌, ◌≤◌, Bool, true, false, not, ◌||◌, List, [], ◌∷◌, ◌++◌, Option, Some, None, is_some, sym, refl, ap, ◌∙◌, append_assoc, cond, arith}
 use Rattle.dp_lexer.specs.declared.token.Token.{Token}
 use Rattle.dp_lexer.specs.declared.token.TokenKind.{TokenKind}
 use Rattle.dp_lexer.specs.declared.token.TokenKind.TheVariants as kind
@@ -8,11 +8,11 @@ use Rattle.dp_lexer.specs.Keywords.{is_reserved}
 use Rattle.dp_parse.specs.declared.sign.Sign.{Sign}
 use Rattle.dp_parse.specs.declared.sign.Sign.TheVariants as sign
 use Rattle.dp_parse.specs.Signs.{sign_of, is, is_superglobal, head}
-use Rattle.dp_parse.specs.Input.{Outcome, Reader, and_then, ◌>>=◌, ◌>>◌, one, enter}
-use Rattle.dp_parse.specs.Rules.{Joined, One, Nests}
+use Rattle.dp_parse.specs.Input.{Outcome, Reader, ◌>>=◌, ◌>>◌, one, enter}
+use Rattle.dp_parse.specs.Rules.{One, Nests}
 use Rattle.dp_parse.specs.Grammar.{Text, unless, variable_in, name_in, number_in, text_in, by_sign, by_kind}
-use Rattle.dp_parse.proofs.Signs.{all_signs, first_of, or_left, or_right}
-use Rattle.dp_parse.proofs.Answers.{Rules, Stop, Anything, JoinedAt, EitherAt, GivesAt, OneAt, MadeAt, Answers, Follows, GoesOn, StartsIn, given, one_starts, joined_starts, starts_in_more, starts_apart, anything_follows, one_answers, joined_answers, either_answers, nests_answers}
+use Rattle.dp_parse.proofs.Signs.{all_signs, first_of}
+use Rattle.dp_parse.proofs.Answers.{Rules, Stop, Anything, JoinedAt, EitherAt, OneAt, MadeAt, Answers, Follows, GoesOn, StartsIn, given, one_starts, starts_apart, anything_follows, one_answers, joined_answers, either_answers, nests_answers}
 use Rattle.dp_parse.proofs.Heights.{excluded}
 
 pub level_self : (l : ℕ) → l ≤ l
@@ -67,6 +67,23 @@ text_starts = one_starts (by_kind text_in) (is sign.Text) (λ t a e. of t.kind a
     of (kind.Text bytes) a e = refl
     of _ a e = absurd (cc)
 
+-- a token that is a function's name
+pub name_token : (x : Token) → is sign.Name (sign_of x.kind) ≡ true → (name : Text) × One (by_kind name_in) (x ∷ []) name
+name_token x e = let n = of x.kind e in (n.0, record { token = x; alone = refl; is_worth = n.1 })
+  where
+    by_name : (name : Text) (b : Bool) → is_reserved name ≡ b → is sign.Name (cond b sign.Reserved sign.Name) ≡ true → (n : Text) × (name_in (kind.Name name) ≡ Some n)
+    by_name name true reserved e = absurd (cc)
+    by_name name false reserved e = (name, ap (λ b. unless b name) reserved)
+
+    superglobal : (b : Bool) → is sign.Name (cond b sign.Superglobal sign.Variable) ≡ true → ⊥
+    superglobal true e = absurd (cc)
+    superglobal false e = absurd (cc)
+
+    of : (k : TokenKind) → is sign.Name (sign_of k) ≡ true → (n : Text) × (name_in k ≡ Some n)
+    of (kind.Name name) e = by_name name (is_reserved name) refl e
+    of (kind.Variable name) e = absurd (superglobal (is_superglobal name) e)
+    of _ e = absurd (cc)
+
 -- ---- one after the other
 
 -- one token, and what is behind it
@@ -87,10 +104,6 @@ made_follows first_stop rule f rule_stop stop weaker follows m a ts c r h is =
     follows m a ts g.0 r g.1 (weaker a g.0 (head r) (ap (λ x. stop x (head r)) (sym g.2) ∙ is))
 
 -- ---- choices by the sort of the next token
-
-pub or_starts : {A : Type 0} (first second : Rules ℕ A) (t u : Sign → Bool) → StartsIn first t → StartsIn second u → StartsIn (EitherAt first second) (λ s. t s || u s)
-or_starts first second t u one other m text a (inl h) = starts_in_more first t (λ s. t s || u s) (λ s. or_left (t s) (u s)) one m text a h
-or_starts first second t u one other m text a (inr h) = starts_in_more second u (λ s. t s || u s) (λ s. or_right (t s) (u s)) other m text a h
 
 pub choice_answers : {A : Type 0} (first second : Rules ℕ A) (t u : Sign → Bool) (stop : Stop A) (level : ℕ) (ts : List Token) → list_all (λ s. not (u s) || not (t s)) all_signs ≡ true → StartsIn first t → StartsIn second u
     → (o p : Outcome A) → (t (head ts) ≡ true → Answers ◌≤◌ first stop level ts o) → (t (head ts) ≡ false → Answers ◌≤◌ second stop level ts p) → Answers ◌≤◌ (EitherAt first second) stop level ts (cond (t (head ts)) o p)
