@@ -1,9 +1,8 @@
 -- How statements are read, where the bodies in them are.
 use Rattle.std.specs.declared.ops.ControlFlow.{ControlFlow}
 use Rattle.std.specs.declared.ops.ControlFlow.TheVariants.{Continue, Break}
-use Rattle.std.proofs.Common.{◌≡◌, inl, inr, ℕ, zero, suc, ◌<◌, ◌≤◌, Bool, true, false, not, ◌&&◌, ◌||◌, List, [], ◌∷◌, ◌++◌, length, Option, Some, None, Ok, Err, sym, refl, ap, ◌∙◌, subst, append_assoc, append-nil, cond, arith}
+use Rattle.std.proofs.Common.{◌≡◌, inl, inr, ℕ, suc, ◌≤◌, Bool, true, false, not, ◌&&◌, List, [], ◌∷◌, ◌++◌, Some, None, Ok, sym, refl, ap, ◌∙◌, subst, append_assoc, cond, arith}
 use Rattle.dp_lexer.specs.declared.token.Token.{Token}
-use Rattle.dp_lexer.specs.declared.token.TokenKind.{TokenKind}
 use Rattle.dp_lexer.specs.declared.token.TokenKind.TheVariants as kind
 use Rattle.dp_parse.specs.declared.ended.Body.{Body}
 use Rattle.dp_parse.specs.declared.ended.Ended.{Ended}
@@ -16,16 +15,16 @@ use Rattle.dp_parse.specs.declared.tree.Expression.{Expression}
 use Rattle.dp_parse.specs.declared.tree.Statement.{Statement}
 use Rattle.dp_parse.specs.declared.tree.StatementKind.{StatementKind}
 use Rattle.dp_parse.specs.declared.tree.StatementKind.TheVariants as tree
-use Rattle.dp_parse.specs.Signs.{sign_of, same_sign, is, head}
+use Rattle.dp_parse.specs.Signs.{sign_of, is, head}
 use Rattle.dp_parse.specs.Lines.{line_of}
-use Rattle.dp_parse.specs.Input.{Outcome, Reader, and_then, gives, made, mark, enter, closed, ◌>>=◌, ◌>>◌}
-use Rattle.dp_parse.specs.Rules.{Rule, Joined, Gives, Made, Mark, When, Without}
+use Rattle.dp_parse.specs.Input.{Reader, gives, made, mark, closed, ◌>>=◌, ◌>>◌}
+use Rattle.dp_parse.specs.Rules.{Joined, Mark, Without}
 use Rattle.dp_parse.specs.ReadingLists.{any_plain_items}
-use Rattle.dp_parse.specs.Reading.{begins_expression, reading, reading_place}
-use Rattle.dp_parse.specs.Statements.{Depth, Arms, ended, whole, with_arm, stated, Bodies, ElseIf, Bound, Block, Test, ArmRule, NextArm, Otherwise, If, LoopBody, While, DoWhile, For, Foreach, AnyStatement, body_at}
+use Rattle.dp_parse.specs.Reading.{reading}
+use Rattle.dp_parse.specs.Statements.{Depth, Arms, ended, whole, with_arm, stated, Bodies, ElseIf, Bound, Block, Test, ArmRule, NextArm, Otherwise, If, LoopBody, While, DoWhile, For, Foreach}
 use Rattle.dp_parse.specs.ReadingStatements.{bodies_step, bodies, bound, block, test, next_arm, otherwise, behind_else, arms_step, arms, if_rule, loop_body, while_rule, do_while, for_rule, foreach, by_keyword, any_statement, on_its_line}
 use Rattle.dp_parse.proofs.Signs.{not_true, or_left, or_right, contrary, placed, mark_alone, mark_passes, mark_fails, mark_apart}
-use Rattle.dp_parse.proofs.Answers.{Rules, Stop, Anything, JoinedAt, EitherAt, GivesAt, MarkAt, MadeAt, WhenAt, WithoutAt, OnLineAt, ClosedAt, StepAt, Begins, Answers, Follows, GoesOn, StartsIn, Apart, give, given, behind, begun, mark_starts, joined_starts, either_starts, made_starts, when_starts, starts_in_more, starts_apart, gives_apart, either_apart, starts_follow, gives_answers, made_answers, carried, equal_answers, either_answers, by_first, by_second, without_answers, online_answers}
+use Rattle.dp_parse.proofs.Answers.{Rules, Anything, JoinedAt, EitherAt, GivesAt, MarkAt, MadeAt, WithoutAt, ClosedAt, StepAt, Answers, Follows, StartsIn, Apart, give, given, mark_starts, joined_starts, either_starts, made_starts, starts_in_more, starts_apart, gives_apart, either_apart, starts_follow, gives_answers, made_answers, carried, equal_answers, either_answers, without_answers, online_answers}
 use Rattle.dp_parse.proofs.Loops.{step_stop, closed_now, closed_follows, closed_answers, end_first}
 use Rattle.dp_parse.proofs.Lists.{AnyPlainItemsAt}
 use Rattle.dp_parse.proofs.StatementReaders.{Deeper, same_depth, IsPartReader, gives_reader, mark_reader, joined_reader, then_reader, made_reader, mark_then, before_mark, keyword_nests}

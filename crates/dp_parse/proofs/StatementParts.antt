@@ -1,34 +1,32 @@
 -- How the parts of statements in which no body stands are read.
-use Rattle.std.proofs.Common.{◌≡◌, inl, inr, ℕ, zero, suc, ◌<◌, ◌≤◌, Bool, true, false, not, ◌&&◌, ◌||◌, List, [], ◌∷◌, ◌++◌, length, nat_lt, Option, Some, None, Ok, Err, sym, refl, ap, ◌∙◌, subst, append-nil, cond, arith}
+use Rattle.std.proofs.Common.{◌≡◌, inl, inr, ℕ, ◌≤◌, Bool, true, false, not, ◌&&◌, ◌||◌, List, [], ◌∷◌, ◌++◌, nat_lt, Option, Some, None, Ok, refl, arith}
 use Rattle.dp_lexer.specs.declared.token.Token.{Token}
 use Rattle.dp_lexer.specs.declared.token.TokenKind.{TokenKind}
 use Rattle.dp_lexer.specs.declared.token.TokenKind.TheVariants as kind
 use Rattle.dp_parse.specs.declared.ended.Body.{Body}
 use Rattle.dp_parse.specs.declared.ended.Ended.{Ended}
 use Rattle.dp_parse.specs.declared.operand.Part.TheVariants as part
-use Rattle.dp_parse.specs.declared.refusal.Refusal.TheVariants.{Unexpected}
 use Rattle.dp_parse.specs.declared.sign.Sign.{Sign}
 use Rattle.dp_parse.specs.declared.sign.Sign.TheVariants as sign
 use Rattle.dp_parse.specs.declared.tree.Binding.{Binding}
 use Rattle.dp_parse.specs.declared.tree.Expression.{Expression}
 use Rattle.dp_parse.specs.declared.tree.Place.{Place}
 use Rattle.dp_parse.specs.declared.tree.StatementKind.TheVariants as tree
-use Rattle.dp_parse.specs.Signs.{sign_of, same_sign, is, head}
-use Rattle.dp_parse.specs.Input.{Outcome, Reader, and_then, gives, made, mark, one, refuse, ◌>>=◌, ◌>>◌}
-use Rattle.dp_parse.specs.Rules.{Rule, Joined, Gives, Made, One, Mark, When, Perhaps, Closed}
+use Rattle.dp_parse.specs.Signs.{sign_of, same_sign, is}
+use Rattle.dp_parse.specs.Input.{Reader, gives, made, mark, refuse, ◌>>=◌, ◌>>◌}
+use Rattle.dp_parse.specs.Rules.{Rule, Joined, Made, Mark, Perhaps, Closed}
 use Rattle.dp_parse.specs.Lists.{NextItem}
 use Rattle.dp_parse.specs.ReadingLists.{plain_items, some_items, any_plain_items}
-use Rattle.dp_parse.specs.Grammar as grammar
-use Rattle.dp_parse.specs.Grammar.{Text, Variable, Kind, variable_in, by_kind, IsExpression, IsPlace}
+use Rattle.dp_parse.specs.Grammar.{Text, Variable, variable_in, by_kind, IsExpression, IsPlace}
 use Rattle.dp_parse.specs.Reading.{kind, variable, begins_expression, reading, reading_place}
 use Rattle.dp_parse.specs.Statements.{Depth, whole, binding, levels_in, Bound, GlobalRule, Empty, Perform, Echo, Test, Loops, MaybeUpTo, Return, Unset, ExitValue, Exit, body_at}
 use Rattle.dp_parse.specs.Statements as grammar_of
 use Rattle.dp_parse.specs.ReadingStatements.{empty, bound_rest, bound, global_rule, exit_word, perform, echo, test, levels, loops_rule, break_rule, continue_rule, maybe_up_to, return_rule, unset, exit_value, exit}
-use Rattle.dp_parse.proofs.Signs.{not_true, placed, mark_of, mark_alone, mark_passes, mark_fails, mark_apart, same_self}
-use Rattle.dp_parse.proofs.Answers.{Rules, Stop, Anything, JoinedAt, EitherAt, GivesAt, OneAt, MarkAt, MadeAt, WhenAt, Answers, Follows, StartsIn, Apart, give, behind, begun, mark_starts, joined_starts, either_starts, made_starts, starts_apart, gives_apart, starts_follow, one_starts, one_answers, gives_answers, either_answers, within_answers, when_answers}
+use Rattle.dp_parse.proofs.Signs.{not_true, placed, mark_alone, mark_fails, mark_apart}
+use Rattle.dp_parse.proofs.Answers.{Rules, Stop, Anything, JoinedAt, EitherAt, GivesAt, OneAt, MarkAt, MadeAt, Answers, StartsIn, give, behind, mark_starts, joined_starts, made_starts, starts_apart, gives_apart, one_starts, one_answers, gives_answers, either_answers, within_answers, when_answers}
 use Rattle.dp_parse.proofs.More.{variable_starts}
 use Rattle.dp_parse.proofs.Lists.{PlainItemsAt, SomeItemsAt, AnyPlainItemsAt, AreItems, plain_items_answers, some_items_answers, any_plain_items_answers}
-use Rattle.dp_parse.proofs.StatementReaders.{Deeper, same_depth, IsPartReader, with_more, gives_reader, mark_reader, joined_reader, then_reader, made_reader, mark_then, before_mark, either_reader, stricter}
+use Rattle.dp_parse.proofs.StatementReaders.{Deeper, same_depth, IsPartReader, gives_reader, mark_reader, then_reader, made_reader, mark_then, before_mark, either_reader, stricter}
 
 -- ---- lists with commas
 
@@ -52,8 +50,7 @@ module _ (base : ℕ) (level : Depth) {A : Type 0} (rule : Rules Depth A) (item_
   least_items : (end : Rule ℕ) → end (placed k ∷ []) 1 → (m : Depth) → base ≤ m.bodies → (ts : List Token) × (all : List A) × Joined (rule m) (λ first. Closed (λ all. NextItem (λ _. rule m) all) (λ all. Made end (λ _. all)) (first ∷ [])) ts all
   least_items end ends m some =
       let i = reader.least m some in
-      let text : List Token = placed k ∷ [] in
-      (
+      let text : List Token = placed k ∷ [] in (
         i.0 ++ text,
         i.1 ∷ [],
         behind (rule m) (λ first. Closed (λ all. NextItem (λ _. rule m) all) (λ all. Made end (λ _. all)) (first ∷ [])) i.0 text i.1 (i.1 ∷ []) i.2 (record { count = 0; chain = give end (λ _. i.1 ∷ []) text 1 ends }),
@@ -207,22 +204,22 @@ module _ (base : ℕ) (level : Depth) where
     loops_reader = before_mark base level LevelsAt levels_stop sign.Semicolon kind.Semicolon refl (λ a. refl) (λ n _. GivesAt n) Anything (reader_at levels loops level body) (λ n _. gives n) levels_reader (λ n _. gives_reader base level n Anything)
 
     -- a word and how many loops, in a loop
-    in_loop_reader : (s : Sign) (k : TokenKind) → same_sign (sign_of k) s ≡ true → (f : ℕ → Ended) → ((n : ℕ) (x : Sign) → ended_stop (f n) x ≡ true → true ≡ true)
+    in_loop_reader : (s : Sign) (k : TokenKind) → same_sign (sign_of k) s ≡ true → (f : ℕ → Ended)
         → IsPartReader base (MadeAt (JoinedAt (MarkAt s) (λ _. StatementAt Loops loops)) f) ended_stop level (made (mark s >> reader_at loops_rule loops level body) f)
-    in_loop_reader s k is_sort f any = made_reader base level (JoinedAt (MarkAt s) (λ _. StatementAt Loops loops)) f Anything ended_stop (mark s >> reader_at loops_rule loops level body) any
+    in_loop_reader s k is_sort f = made_reader base level (JoinedAt (MarkAt s) (λ _. StatementAt Loops loops)) f Anything ended_stop (mark s >> reader_at loops_rule loops level body) (λ n x e. refl)
         (mark_then base level s k is_sort (λ _. StatementAt Loops loops) Anything (λ _. reader_at loops_rule loops level body) (λ _. loops_reader))
 
     pub break_answers : base ≤ level.bodies → (ts : List Token) → Answers Deeper (StatementAt grammar_of.Break loops) ended_stop level ts (reader_at break_rule loops level body ts)
     unfolding break_rule refuse
     break_answers some ts = when_answers Deeper same_depth (nat_lt 0 loops) (MadeAt (JoinedAt (MarkAt sign.Break) (λ _. StatementAt Loops loops)) (λ n. whole (tree.Break n))) ended_stop level ts
         (made (mark sign.Break >> reader_at loops_rule loops level body) (λ n. whole (tree.Break n)) ts)
-        (λ _. (in_loop_reader sign.Break kind.Break refl (λ n. whole (tree.Break n)) (λ n x e. refl)).answers some ts)
+        (λ _. (in_loop_reader sign.Break kind.Break refl (λ n. whole (tree.Break n))).answers some ts)
 
     pub continue_answers : base ≤ level.bodies → (ts : List Token) → Answers Deeper (StatementAt grammar_of.Continue loops) ended_stop level ts (reader_at continue_rule loops level body ts)
     unfolding continue_rule refuse
     continue_answers some ts = when_answers Deeper same_depth (nat_lt 0 loops) (MadeAt (JoinedAt (MarkAt sign.Continue) (λ _. StatementAt Loops loops)) (λ n. whole (tree.Continue n))) ended_stop level ts
         (made (mark sign.Continue >> reader_at loops_rule loops level body) (λ n. whole (tree.Continue n)) ts)
-        (λ _. (in_loop_reader sign.Continue kind.Continue refl (λ n. whole (tree.Continue n)) (λ n x e. refl)).answers some ts)
+        (λ _. (in_loop_reader sign.Continue kind.Continue refl (λ n. whole (tree.Continue n))).answers some ts)
 
     -- ---- statements of expressions and places
 

@@ -1,16 +1,14 @@
 -- How readers of the parts of statements compose.
-use Rattle.std.proofs.Common.{◌≡◌, inl, inr, ℕ, zero, suc, ◌<◌, ◌≤◌, Bool, true, false, not, ◌&&◌, ◌||◌, List, [], ◌∷◌, ◌++◌, length, Option, Some, None, Ok, Err, sym, refl, ap, ◌∙◌, subst, append-nil, cond, arith}
+use Rattle.std.proofs.Common.{◌≡◌, inl, ℕ, ◌≤◌, Bool, true, false, List, [], ◌∷◌, ◌++◌, refl, cond, arith}
 use Rattle.dp_lexer.specs.declared.token.Token.{Token}
 use Rattle.dp_lexer.specs.declared.token.TokenKind.{TokenKind}
-use Rattle.dp_parse.specs.declared.refusal.Refusal.TheVariants.{Unexpected}
 use Rattle.dp_parse.specs.declared.sign.Sign.{Sign}
 use Rattle.dp_parse.specs.declared.sign.Sign.TheVariants as sign
 use Rattle.dp_parse.specs.Signs.{sign_of, same_sign, is, head}
-use Rattle.dp_parse.specs.Input.{Outcome, Reader, and_then, gives, made, mark, enter, one, refuse, ◌>>=◌, ◌>>◌}
-use Rattle.dp_parse.specs.Rules.{Rule, Mark, Made, Joined}
+use Rattle.dp_parse.specs.Input.{Reader, gives, made, mark, enter, one, ◌>>=◌, ◌>>◌}
 use Rattle.dp_parse.specs.Statements.{Depth}
 use Rattle.dp_parse.proofs.Signs.{placed, mark_of, mark_alone, mark_passes, first_of_sort}
-use Rattle.dp_parse.proofs.Answers.{Rules, Stop, Anything, JoinedAt, EitherAt, GivesAt, OneAt, MarkAt, MadeAt, WhenAt, NestsAt, Begins, IsRead, IsRefused, Opens, Answers, Follows, GoesOn, StartsIn, Apart, begun, mark_starts, joined_starts, starts_follow, anything_follows, gives_follow, one_answers, mark_answers, gives_answers, joined_answers, made_answers, stricter_answers, either_answers, nests_answers}
+use Rattle.dp_parse.proofs.Answers.{Rules, Stop, Anything, JoinedAt, EitherAt, GivesAt, MarkAt, MadeAt, NestsAt, Opens, Answers, Follows, StartsIn, Apart, mark_starts, joined_starts, starts_follow, anything_follows, gives_follow, mark_answers, gives_answers, joined_answers, stricter_answers, either_answers, nests_answers}
 
 -- ---- depths
 

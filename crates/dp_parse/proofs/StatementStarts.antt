@@ -1,36 +1,18 @@
 -- What statements begin with, and which statement begins with which token.
-use Rattle.std.specs.declared.ops.ControlFlow.{ControlFlow}
-use Rattle.std.specs.declared.ops.ControlFlow.TheVariants.{Continue, Break}
-use Rattle.std.proofs.Common.{◌≡◌, inl, inr, ℕ, zero, suc, ◌<◌, ◌≤◌, Bool, true, false, not, ◌&&◌, ◌||◌, List, [], ◌∷◌, ◌++◌, length, nat_lt, Option, Some, None, Ok, Err, sym, refl, ap, ◌∙◌, subst, append_assoc, append-nil, cond, arith}
+use Rattle.std.proofs.Common.{◌≡◌, inl, inr, ℕ, zero, suc, Bool, true, false, not, ◌||◌, List, ◌∷◌, nat_lt, sym, refl, ap, ◌∙◌, subst}
 use Rattle.dp_lexer.specs.declared.token.Token.{Token}
-use Rattle.dp_lexer.specs.declared.token.TokenKind.{TokenKind}
-use Rattle.dp_lexer.specs.declared.token.TokenKind.TheVariants as kind
 use Rattle.dp_parse.specs.declared.ended.Body.{Body}
 use Rattle.dp_parse.specs.declared.ended.Ended.{Ended}
-use Rattle.dp_parse.specs.declared.operand.Part.TheVariants as part
 use Rattle.dp_parse.specs.declared.sign.Sign.{Sign}
 use Rattle.dp_parse.specs.declared.sign.Sign.TheVariants as sign
-use Rattle.dp_parse.specs.declared.tree.Arm.{Arm}
-use Rattle.dp_parse.specs.declared.tree.Binding.{Binding}
-use Rattle.dp_parse.specs.declared.tree.Expression.{Expression}
-use Rattle.dp_parse.specs.declared.tree.Statement.{Statement}
-use Rattle.dp_parse.specs.declared.tree.StatementKind.{StatementKind}
 use Rattle.dp_parse.specs.declared.tree.StatementKind.TheVariants as tree
-use Rattle.dp_parse.specs.Signs.{sign_of, same_sign, is, head}
-use Rattle.dp_parse.specs.Lines.{line_of}
-use Rattle.dp_parse.specs.Input.{Outcome, Reader, and_then, gives, made, mark, enter, closed, ◌>>=◌, ◌>>◌}
-use Rattle.dp_parse.specs.Rules.{Rule, Joined, Gives, Made, Mark, When, Without}
-use Rattle.dp_parse.specs.ReadingLists.{any_plain_items}
-use Rattle.dp_parse.specs.Reading.{begins_expression, reading, reading_place}
+use Rattle.dp_parse.specs.Signs.{sign_of, is}
+use Rattle.dp_parse.specs.Reading.{begins_expression}
 use Rattle.dp_parse.specs.Statements.{Depth, Arms, ended, whole, with_arm, stated, Bodies, Empty, ElseIf, Bound, GlobalRule, Perform, Echo, Block, Test, ArmRule, NextArm, Otherwise, If, LoopBody, While, DoWhile, For, Foreach, Loops, Return, Unset, Exit, AnyStatement, body_at}
 use Rattle.dp_parse.specs.Statements as grammar
-use Rattle.dp_parse.specs.ReadingStatements.{bodies_step, bodies, empty, bound, global_rule, perform, echo, block, test, next_arm, otherwise, behind_else, arms_step, arms, if_rule, loop_body, while_rule, do_while, for_rule, foreach, loops_rule, break_rule, continue_rule, return_rule, unset, exit, by_keyword, any_statement, on_its_line}
-use Rattle.dp_parse.proofs.Signs.{not_true, not_false, and_parts, or_left, or_right, placed, mark_of, mark_alone, mark_passes, mark_fails, mark_apart, same_is}
-use Rattle.dp_parse.proofs.Answers.{Rules, Stop, Anything, JoinedAt, EitherAt, GivesAt, MarkAt, MadeAt, WhenAt, WithoutAt, OnLineAt, ClosedAt, StepAt, Begins, Answers, Follows, GoesOn, StartsIn, Apart, give, given, behind, begun, mark_starts, joined_starts, either_starts, made_starts, when_starts, nests_starts, online_starts, starts_in_more, starts_apart, gives_apart, starts_follow, gives_answers, made_answers, carried, equal_answers, either_answers, by_first, by_second, without_answers, online_answers}
-use Rattle.dp_parse.proofs.Loops.{step_stop, closed_now, closed_follows, closed_answers, end_first}
-use Rattle.dp_parse.proofs.Lists.{AnyPlainItemsAt}
-use Rattle.dp_parse.proofs.StatementReaders.{Deeper, same_depth, IsPartReader, gives_reader, mark_reader, joined_reader, then_reader, made_reader, mark_then, before_mark, keyword_nests}
-use Rattle.dp_parse.proofs.StatementParts.{closing, AreRead, ExpressionAt, StatementAt, reader_at, takes_else, open_ends, ended_stop, body_stop, bound_stop, bound_reader, empty_reader, global_reader, break_answers, continue_answers, expression_starts, expression_then, any_expressions, perform_reader, echo_reader, test_reader, return_reader, unset_reader, exit_reader}
+use Rattle.dp_parse.proofs.Signs.{or_left, or_right, mark_passes, mark_apart, same_is}
+use Rattle.dp_parse.proofs.Answers.{Rules, JoinedAt, EitherAt, MarkAt, MadeAt, WhenAt, OnLineAt, StartsIn, mark_starts, joined_starts, either_starts, made_starts, when_starts, nests_starts, online_starts, starts_in_more}
+use Rattle.dp_parse.proofs.StatementParts.{AreRead, ExpressionAt, StatementAt, takes_else, open_ends}
 
 -- ---- what a statement begins with
 

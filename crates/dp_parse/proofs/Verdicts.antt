@@ -1,11 +1,10 @@
 -- What the outcome of a reader of all tokens says of the rule: what is spelled, and with which token nothing is.
-use Rattle.std.proofs.Common.{◌≡◌, ◌⊎◌, inl, inr, ℕ, zero, suc, ◌+◌, ◌-◌, ◌<◌, ◌≤◌, Bool, true, false, List, [], ◌∷◌, ◌++◌, length, take, Ok, Err, sym, refl, ap, ◌∙◌, subst, append_assoc, append-nil, length-append, arith}
+use Rattle.std.proofs.Common.{◌≡◌, inl, inr, ℕ, zero, suc, ◌+◌, ◌-◌, ◌<◌, ◌≤◌, Bool, true, false, List, [], ◌∷◌, ◌++◌, length, take, Ok, Err, sym, refl, ap, ◌∙◌, subst, append_assoc, append-nil, length-append, arith}
 use Rattle.dp_lexer.specs.declared.token.Token.{Token}
 use Rattle.dp_parse.specs.declared.refusal.Refusal.TheVariants.{Unexpected, TooDeep, Memory}
 use Rattle.dp_parse.specs.declared.sign.Sign.TheVariants as sign
-use Rattle.dp_parse.specs.Signs.{head}
 use Rattle.dp_parse.specs.Input.{Outcome, Reader}
-use Rattle.dp_parse.specs.Refused.{IsViable, IsSpelled, IsDeadAt, IsUnexpected, IsTooDeep}
+use Rattle.dp_parse.specs.Refused.{IsViable, IsDeadAt, IsUnexpected, IsTooDeep}
 use Rattle.dp_parse.proofs.Answers.{Rules, Stop, Begins, IsRead, IsRefused, Agrees, Answers}
 
 -- ---- fronts of lists
@@ -86,26 +85,31 @@ module _ {L A : Type 0} (rule : L → List Token → A → Type 0) where
 
 -- ---- the outcome of a reader that leaves no token unread
 
-module _ {L A : Type 0} (Above : L → L → Type 0) (same_level : (l : L) → Above l l) (rule : Rules L A) (stop : Stop A) (stops : (a : A) → stop a sign.End ≡ true)
-    (limits : L) (p : Reader A) (reads : (ts : List Token) → Answers Above rule stop limits ts (p ts))
-    (leaves_none : (ts : List Token) (a : A) (r : List Token) → p ts ≡ Ok (a, r) → r ≡ [])
-    (some_text : (ts : List Token) × (a : A) × rule limits ts a) where
+-- The reader reads the rule within these limits, up to the end of the tokens.
+pub record ReadsAll {L A : Type 0} (Above : L → L → Type 0) (rule : Rules L A) (stop : Stop A) (limits : L) (p : Reader A) : Type 0 where
+  pub same_level : Above limits limits
+  pub stops : (a : A) → stop a sign.End ≡ true
+  pub answers : (ts : List Token) → Answers Above rule stop limits ts (p ts)
+  pub leaves_none : (ts : List Token) (a : A) (r : List Token) → p ts ≡ Ok (a, r) → r ≡ []
+  pub some : (ts : List Token) × (a : A) × rule limits ts a
+
+module _ {L A : Type 0} {Above : L → L → Type 0} {rule : Rules L A} {stop : Stop A} {limits : L} {p : Reader A} (reader : ReadsAll Above rule stop limits p) where
   -- the whole list begins with its spelling
   begins_whole : (m : L) (ts : List Token) (a : A) → rule m ts a → Begins rule stop m ts a []
-  begins_whole m ts a h = record { text = ts; split = sym (append-nil ts); spelled = h; stops = stops a }
+  begins_whole m ts a h = record { text = ts; split = sym (append-nil ts); spelled = h; stops = reader.stops a }
 
   -- ---- what is found
 
   module _ (ts : List Token) (a : A) (r : List Token) (is : p ts ≡ Ok (a, r)) where
     read_is : IsRead Above rule stop limits ts a r
-    read_is = subst (λ o. Answers Above rule stop limits ts o) is (reads ts)
+    read_is = subst (λ o. Answers Above rule stop limits ts o) is (reader.answers ts)
 
     whole_text : ts ≡ read_is.text
-    whole_text = read_is.split ∙ ap (λ l. read_is.text ++ l) (leaves_none ts a r is) ∙ append-nil read_is.text
+    whole_text = read_is.split ∙ ap (λ l. read_is.text ++ l) (reader.leaves_none ts a r is) ∙ append-nil read_is.text
 
     -- it is spelled
     pub found : rule limits ts a
-    found = subst (λ l. rule limits l a) (sym whole_text) (read_is.spelled limits (same_level limits))
+    found = subst (λ l. rule limits l a) (sym whole_text) (read_is.spelled limits reader.same_level)
 
     -- and nothing else is, however deep it nests
     pub only : (m : L) (b : A) → rule m ts b → b ≡ a
@@ -128,7 +132,7 @@ module _ {L A : Type 0} (Above : L → L → Type 0) (same_level : (l : L) → A
 
     viable_before : IsViable rule limits (take (length ts - left) ts)
     viable_before = subst (λ l. IsViable rule limits l) (sym front_is) (elim refused.viable [
-      | inl empty ↦ (some_text.0, some_text.1, subst (λ l. rule limits (l ++ some_text.0) some_text.1) (sym empty) some_text.2)
+      | inl empty ↦ (reader.some.0, reader.some.1, subst (λ l. rule limits (l ++ reader.some.0) reader.some.1) (sym empty) reader.some.2)
       | inr more ↦ more
     ])
 
@@ -155,23 +159,25 @@ module _ {L A : Type 0} (Above : L → L → Type 0) (same_level : (l : L) → A
 
   pub unexpected : (ts : List Token) (left : ℕ) → p ts ≡ Err (Unexpected left) → (left ≤ length ts) × IsUnexpected rule limits ts (length ts - left)
   unexpected ts left is =
-      let refused : IsRefused Above rule stop limits ts false left = subst (λ o. Answers Above rule stop limits ts o) is (reads ts) in
+      let refused : IsRefused Above rule stop limits ts false left = subst (λ o. Answers Above rule stop limits ts o) is (reader.answers ts) in
       (left_within ts false left refused, record { within = omega arith; before = viable_before ts false left refused; dead = λ m. dead_at ts false left refused m (λ deep. absurd (cc)) })
 
   pub too_deep : (ts : List Token) (left : ℕ) → p ts ≡ Err (TooDeep left) → (left ≤ length ts) × IsTooDeep rule limits ts (length ts - left)
   too_deep ts left is =
-      let refused : IsRefused Above rule stop limits ts true left = subst (λ o. Answers Above rule stop limits ts o) is (reads ts) in
+      let refused : IsRefused Above rule stop limits ts true left = subst (λ o. Answers Above rule stop limits ts o) is (reader.answers ts) in
       let w = refused.beyond refl in
-      let some : length ts - left < length ts = (let e = lengths ts true left refused in let f = ap length w.6 in let g = refused.is_left in omega (arith, e, f, g)) in
-      (left_within ts true left refused, record {
-        within = some;
-        before = viable_before ts true left refused;
-        here = (dead_at ts true left refused limits (λ _. refl)).here some;
-        beyond = (w.0, (w.4, w.5, subst (λ l. rule w.0 l w.5) (sym (ap (λ l. l ++ w.4) (one_more_is ts true left refused w.2 w.3 w.6) ∙ append_assoc refused.front (w.2 ∷ []) w.4)) w.7));
-      })
+      let less : length ts - left < length ts = (let e = lengths ts true left refused in let f = ap length w.6 in let g = refused.is_left in omega (arith, e, f, g)) in (
+        left_within ts true left refused,
+        record {
+          within = less;
+          before = viable_before ts true left refused;
+          here = (dead_at ts true left refused limits (λ _. refl)).here less;
+          beyond = (w.0, (w.4, w.5, subst (λ l. rule w.0 l w.5) (sym (ap (λ l. l ++ w.4) (one_more_is ts true left refused w.2 w.3 w.6) ∙ append_assoc refused.front (w.2 ∷ []) w.4)) w.7));
+        },
+      )
 
   pub no_memory : (ts : List Token) → p ts ≡ Err Memory → ⊥
-  no_memory ts is = subst (λ o. Answers Above rule stop limits ts o) is (reads ts)
+  no_memory ts is = subst (λ o. Answers Above rule stop limits ts o) is (reader.answers ts)
 
   -- ---- the other way: each of the three decides the outcome
 
@@ -180,7 +186,7 @@ module _ {L A : Type 0} (Above : L → L → Type 0) (same_level : (l : L) → A
   all_found ts a h = go (p ts) refl
     where
       go : (o : Outcome A) → p ts ≡ o → p ts ≡ Ok (a, [])
-      go (Ok x) is = let one = only ts x.0 x.1 is limits a h in let end = leaves_none ts x.0 x.1 is in is ∙ (λ i. Ok (sym one i, end i))
+      go (Ok x) is = let one = only ts x.0 x.1 is limits a h in let end = reader.leaves_none ts x.0 x.1 is in is ∙ (λ i. Ok (sym one i, end i))
       go (Err (Unexpected left)) is = absurd (unexpected_spelled rule limits limits (length ts - left) ts a (unexpected ts left is).1 h)
       go (Err (TooDeep left)) is = absurd (too_deep_spelled rule limits (length ts - left) ts a (too_deep ts left is).1 h)
       go (Err Memory) is = absurd (no_memory ts is)

@@ -1,8 +1,7 @@
 -- How statements are read: the rules of the grammar, with each choice made by the next token.
-use Rattle.std.specs.Prelude.{ℕ, zero, suc, Bool, true, false, not, ◌&&◌, ◌||◌, nat_lt, if◌then◌else◌, List, [], ◌∷◌, ◌++◌, Option, Some, None, Ok}
+use Rattle.std.specs.Prelude.{ℕ, zero, suc, true, not, ◌&&◌, nat_lt, if◌then◌else◌, List, [], ◌∷◌, ◌++◌, Option, Some, None, Ok}
 use Rattle.std.specs.declared.ops.ControlFlow.{ControlFlow}
 use Rattle.std.specs.declared.ops.ControlFlow.TheVariants.{Continue, Break}
-use Rattle.dp_lexer.specs.declared.token.Token.{Token}
 use Rattle.dp_parse.specs.declared.ended.Ended.{Ended}
 use Rattle.dp_parse.specs.declared.ended.Body.{Body}
 use Rattle.dp_parse.specs.declared.ended.Parts.{Parts}
