@@ -22,14 +22,14 @@ use Rattle.dp_parse.specs.Rules.{Joined, Mark, Without}
 use Rattle.dp_parse.specs.ReadingLists.{any_plain_items}
 use Rattle.dp_parse.specs.Reading.{reading}
 use Rattle.dp_parse.specs.Statements.{Depth, Arms, ended, whole, with_arm, stated, Bodies, ElseIf, Bound, Block, Test, ArmRule, NextArm, Otherwise, If, LoopBody, While, DoWhile, For, Foreach}
-use Rattle.dp_parse.specs.ReadingStatements.{bodies_step, bodies, bound, block, test, next_arm, otherwise, behind_else, arms_step, arms, if_rule, loop_body, while_rule, do_while, for_rule, foreach, by_keyword, any_statement, on_its_line}
+use Rattle.dp_parse.specs.ReadingStatements.{bodies_step, bodies, bound, block, test, next_arm, otherwise, behind_else, arms_step, arms, if_rule, loop_body, while_rule, do_while, for_rule, foreach, by_keyword, any_statement, on_its_line, braced, head_body}
 use Rattle.dp_parse.proofs.Signs.{not_true, or_left, or_right, contrary, placed, mark_alone, mark_passes, mark_fails, mark_apart}
 use Rattle.dp_parse.proofs.Answers.{Rules, Anything, JoinedAt, EitherAt, GivesAt, MarkAt, MadeAt, WithoutAt, ClosedAt, StepAt, Answers, Follows, StartsIn, Apart, give, given, mark_starts, joined_starts, either_starts, made_starts, starts_in_more, starts_apart, gives_apart, either_apart, starts_follow, gives_answers, made_answers, carried, equal_answers, either_answers, without_answers, online_answers}
 use Rattle.dp_parse.proofs.Loops.{step_stop, closed_now, closed_follows, closed_answers, end_first}
 use Rattle.dp_parse.proofs.Lists.{AnyPlainItemsAt}
-use Rattle.dp_parse.proofs.StatementReaders.{Deeper, same_depth, IsPartReader, gives_reader, mark_reader, joined_reader, then_reader, made_reader, mark_then, before_mark, keyword_nests}
+use Rattle.dp_parse.proofs.StatementReaders.{Deeper, same_depth, IsPartReader, gives_reader, mark_reader, joined_reader, then_reader, made_reader, mark_then, before_mark, keyword_nests, nests_reader}
 use Rattle.dp_parse.proofs.StatementParts.{AreRead, ExpressionAt, PlaceAt, StatementAt, reader_at, takes_else, open_ends, ended_stop, body_stop, bound_stop, bound_reader, empty_reader, global_reader, break_answers, continue_answers, expression_then, any_expressions, perform_reader, echo_reader, test_reader, return_reader, unset_reader, exit_reader}
-use Rattle.dp_parse.proofs.StatementStarts.{begins_statement, BodyAt, AnyAt, LineAt, Chosen, unchosen, open_ends_other, statement_no_else, starts, any_starts, body_starts}
+use Rattle.dp_parse.proofs.StatementStarts.{begins_statement, BodyAt, AnyAt, LineAt, Chosen, unchosen, open_ends_other, statement_no_else, starts, any_starts, body_starts, BracedAt, BracedLineAt, HeadBodyAt, braced_starts, braced_line_starts, head_starts}
 
 -- where an arm may end: before an `else` only where its body is not open
 abbrev pub arms_stop : Arms → Sign → Bool
@@ -75,6 +75,51 @@ module _ (ends place_ends : Sign → Bool) (known : AreRead ends place_ends) (le
     least = λ m some. (placed kind.CloseBrace ∷ [], [], closed_now OneBody CloseBodies m [] (placed kind.CloseBrace ∷ []) [] (give (Mark sign.CloseBrace) (λ _. []) (placed kind.CloseBrace ∷ []) 1 (mark_alone sign.CloseBrace kind.CloseBrace refl)));
   }
 
+  -- ---- braces and the bodies of heads
+
+  braced_reader : IsPartReader 1 (BracedAt loops) ended_stop level (braced (body loops))
+  unfolding braced
+  braced_reader = mark_then 1 level sign.OpenBrace kind.OpenBrace refl (λ _. JoinedAt (BodiesAt loops) (λ all. GivesAt (whole (tree.Block all)))) ended_stop (λ _. bodies (body loops) >>= (λ all. gives (whole (tree.Block all))))
+      (λ _. then_reader 1 level (BodiesAt loops) (λ all. GivesAt (whole (tree.Block all))) ended_stop (bodies (body loops)) (λ all. gives (whole (tree.Block all))) bodies_reader (λ all. gives_reader 1 level (whole (tree.Block all)) ended_stop))
+
+  pub block_answers : (ts : List Token) → is sign.OpenBrace (head ts) ≡ true → Answers Deeper (StatementAt Block loops) ended_stop level ts (reader_at block loops level body ts)
+  unfolding block
+  block_answers ts here = nests_reader sign.OpenBrace (λ _. JoinedAt (BodiesAt loops) (λ all. GivesAt (whole (tree.Block all)))) ended_stop level (braced (body loops)) ts refl here braced_reader
+      (λ line m some. let g = bodies_reader.least m some in (g.0, whole (tree.Block g.1), give (BodiesAt loops m) (λ all. whole (tree.Block all)) g.0 g.1 g.2))
+
+  braced_line_answers : 1 ≤ level.bodies → (ts : List Token) → Answers Deeper (BracedLineAt loops) body_stop level ts (on_its_line (braced (body loops)) ts)
+  unfolding on_its_line
+  braced_line_answers some ts = online_answers Deeper same_depth (λ line. MadeAt (BracedAt loops) (stated line)) (is sign.OpenBrace) body_stop level ts (λ line. made_starts (BracedAt loops) (stated line) (is sign.OpenBrace) (braced_starts ends place_ends known loops))
+      (made (braced (body loops)) (stated (line_of ts)) ts)
+      (made_answers Deeper same_depth (BracedAt loops) (stated (line_of ts)) ended_stop body_stop level ts (λ a s e. e) (braced (body loops) ts) (braced_reader.answers some ts))
+
+  -- `{ }`
+  least_braced : (m : Depth) → BracedLineAt loops m (placed kind.OpenBrace ∷ (placed kind.CloseBrace ∷ [])) (stated 1 (whole (tree.Block [])))
+  least_braced m =
+      let close : List Token = placed kind.CloseBrace ∷ [] in
+      let text : List Token = placed kind.OpenBrace ∷ close in
+      let none : BodiesAt loops m close [] = closed_now OneBody CloseBodies m [] close [] (give (Mark sign.CloseBrace) (λ _. []) close 1 (mark_alone sign.CloseBrace kind.CloseBrace refl)) in
+      let braces : BracedAt loops m text (whole (tree.Block [])) = record { front = placed kind.OpenBrace ∷ []; back = close; value = 1; split = refl; one = mark_alone sign.OpenBrace kind.OpenBrace refl; other = give (BodiesAt loops m) (λ all. whole (tree.Block all)) close [] none } in
+      record { first = placed kind.OpenBrace; behind = close; begins = refl; spelled = give (BracedAt loops m) (stated 1) text (whole (tree.Block [])) braces }
+
+  brace_apart : Apart (WithoutAt sign.OpenBrace (BodyAt loops)) body_stop (is sign.OpenBrace)
+  brace_apart m text b r h here =
+      let s = body_starts ends place_ends known loops m text b h.spelled in
+      ap (λ l. is sign.OpenBrace (head (l ++ r))) s.2 ∙ ap (λ l. is sign.OpenBrace (head l)) (sym s.2) ∙ h.apart
+
+  pub head_reader : IsPartReader 1 (HeadBodyAt loops) body_stop level (head_body (body loops))
+  unfolding head_body
+  head_reader = record {
+    answers = λ some ts. either_answers Deeper same_depth (BracedLineAt loops) (WithoutAt sign.OpenBrace (BodyAt loops)) (is sign.OpenBrace) body_stop level ts (braced_line_starts ends place_ends known loops) brace_apart
+        (on_its_line (braced (body loops)) ts) (body loops ts) (λ _. braced_line_answers some ts) (λ none. without_answers Deeper same_depth sign.OpenBrace (BodyAt loops) body_stop level ts refl none (body loops ts) ((reads loops).answers some ts));
+    least = λ m some. (placed kind.OpenBrace ∷ (placed kind.CloseBrace ∷ []), stated 1 (whole (tree.Block [])), inl (least_braced m));
+  }
+
+module _ (ends place_ends : Sign → Bool) (known : AreRead ends place_ends) (level : Depth) (loops : ℕ) (body : ℕ → Reader Body) (reads : (n : ℕ) → IsPartReader 1 (BodyAt n) body_stop level (body n)) where
+  -- what reads the body of a head, in so many loops
+  heads : (n : ℕ) → IsPartReader 1 (HeadBodyAt n) body_stop level (head_body (body n))
+  heads n = head_reader ends place_ends known level n body reads
+
   -- ---- arms
 
   abbrev ArmAt : List Arm → ℕ → Rules Depth Arms
@@ -97,13 +142,13 @@ module _ (ends place_ends : Sign → Bool) (known : AreRead ends place_ends) (le
 
   arm_reader : (before : List Arm) (line : ℕ) → IsPartReader 1 (ArmAt before line) arms_stop level (reader_at next_arm loops level body before line)
   unfolding next_arm
-  arm_reader before line = then_reader 1 level (StatementAt Test loops) (λ found. MadeAt (BodyAt loops) (λ b. with_arm before line found b)) arms_stop (reader_at test loops level body) (λ found. made (body loops) (λ b. with_arm before line found b))
+  arm_reader before line = then_reader 1 level (StatementAt Test loops) (λ found. MadeAt (HeadBodyAt loops) (λ b. with_arm before line found b)) arms_stop (reader_at test loops level body) (λ found. made (head_body (body loops)) (λ b. with_arm before line found b))
       (test_reader 1 level loops body ends place_ends known)
-      (λ found. made_reader 1 level (BodyAt loops) (λ b. with_arm before line found b) body_stop arms_stop (body loops) (λ b s e. e) (reads loops))
+      (λ found. made_reader 1 level (HeadBodyAt loops) (λ b. with_arm before line found b) body_stop arms_stop (head_body (body loops)) (λ b s e. e) (heads loops))
 
   -- what is behind an `else`
   abbrev ElseAt : List Arm → Rules Depth Ended
-  ElseAt before = MadeAt (WithoutAt sign.If (BodyAt loops)) (with_else before)
+  ElseAt before = MadeAt (WithoutAt sign.If (HeadBodyAt loops)) (with_else before)
 
   abbrev GoOnAt : List Arm → ℕ → Rules Depth (ControlFlow Ended Arms)
   GoOnAt before line = MadeAt (JoinedAt (MarkAt sign.If) (λ _. ArmAt before line)) Continue
@@ -118,19 +163,19 @@ module _ (ends place_ends : Sign → Bool) (known : AreRead ends place_ends) (le
   else_apart : (before : List Arm) → Apart (MadeAt (ElseAt before) Break) (step_stop arms_stop ended_stop) (is sign.If)
   else_apart before m text v r h here =
       let e = given (ElseAt before m) Break text v h in
-      let b = given (Without sign.If (BodyAt loops m)) (with_else before) text e.0 e.1 in
-      let s = body_starts ends place_ends known loops m text b.0 b.1.spelled in
+      let b = given (Without sign.If (HeadBodyAt loops m)) (with_else before) text e.0 e.1 in
+      let s = head_starts ends place_ends known loops m text b.0 b.1.spelled in
       ap (λ l. is sign.If (head (l ++ r))) s.2 ∙ ap (λ l. is sign.If (head l)) (sym s.2) ∙ b.1.apart
 
   behind_answers : 1 ≤ level.bodies → (before : List Arm) (line : ℕ) (ts : List Token) → Answers Deeper (BehindAt before line) (step_stop arms_stop ended_stop) level ts (reader_at behind_else loops level body before line ts)
   unfolding behind_else otherwise
   behind_answers some before line ts = either_answers Deeper same_depth (GoOnAt before line) (MadeAt (ElseAt before) Break) (is sign.If) (step_stop arms_stop ended_stop) level ts (go_on_starts before line) (else_apart before)
-      (made (mark sign.If >> reader_at next_arm loops level body before line) Continue ts) (made (made (body loops) (with_else before)) Break ts)
+      (made (mark sign.If >> reader_at next_arm loops level body before line) Continue ts) (made (made (head_body (body loops)) (with_else before)) Break ts)
       (λ _. (made_reader 1 level (JoinedAt (MarkAt sign.If) (λ _. ArmAt before line)) Continue arms_stop (step_stop arms_stop ended_stop) (mark sign.If >> reader_at next_arm loops level body before line) (λ a s e. e)
       (mark_then 1 level sign.If kind.If refl (λ _. ArmAt before line) arms_stop (λ _. reader_at next_arm loops level body before line) (λ _. arm_reader before line))).answers some ts)
-      (λ none. made_answers Deeper same_depth (ElseAt before) Break ended_stop (step_stop arms_stop ended_stop) level ts (λ a s e. e) (made (body loops) (with_else before) ts)
-      (made_answers Deeper same_depth (WithoutAt sign.If (BodyAt loops)) (with_else before) body_stop ended_stop level ts (λ b s e. e) (body loops ts)
-      (without_answers Deeper same_depth sign.If (BodyAt loops) body_stop level ts refl none (body loops ts) ((reads loops).answers some ts))))
+      (λ none. made_answers Deeper same_depth (ElseAt before) Break ended_stop (step_stop arms_stop ended_stop) level ts (λ a s e. e) (made (head_body (body loops)) (with_else before) ts)
+      (made_answers Deeper same_depth (WithoutAt sign.If (HeadBodyAt loops)) (with_else before) body_stop ended_stop level ts (λ b s e. e) (head_body (body loops) ts)
+      (without_answers Deeper same_depth sign.If (HeadBodyAt loops) body_stop level ts refl none (head_body (body loops) ts) ((heads loops).answers some ts))))
 
   -- ---- one step of the arms: the grammar's, and that of the reader, which reads an `else` before it looks further
 
@@ -296,21 +341,14 @@ module _ (ends place_ends : Sign → Bool) (known : AreRead ends place_ends) (le
   if_answers ts here = keyword_nests sign.If kind.If refl (λ line. JoinedAt (ArmAt [] line) ArmsAt) ended_stop level (λ line. reader_at next_arm loops level body [] line >>= reader_at arms loops level body) ts refl here
       (λ line. joined_reader 1 level (ArmAt [] line) ArmsAt arms_stop ended_stop (reader_at next_arm loops level body [] line) (reader_at arms loops level body) arms_follow (arm_reader [] line) arms_reader)
 
-  -- ---- blocks and loops
-
-  pub block_answers : (ts : List Token) → is sign.OpenBrace (head ts) ≡ true → Answers Deeper (StatementAt Block loops) ended_stop level ts (reader_at block loops level body ts)
-  unfolding block
-  block_answers ts here =
-      let rest : ℕ → Rules Depth Ended = λ _. JoinedAt (BodiesAt loops) (λ all. GivesAt (whole (tree.Block all))) in
-      keyword_nests sign.OpenBrace kind.OpenBrace refl rest ended_stop level (λ _. bodies (body loops) >>= (λ all. gives (whole (tree.Block all)))) ts refl here
-      (λ _. then_reader 1 level (BodiesAt loops) (λ all. GivesAt (whole (tree.Block all))) ended_stop (bodies (body loops)) (λ all. gives (whole (tree.Block all))) bodies_reader (λ all. gives_reader 1 level (whole (tree.Block all)) ended_stop))
+  -- ---- loops
 
   abbrev LoopBodyAt : (Statement → StatementKind) → Rules Depth Ended
   LoopBodyAt of = StatementAt (λ l n e p b. LoopBody l n e p b of) loops
 
   loop_body_reader : (of : Statement → StatementKind) → IsPartReader 1 (LoopBodyAt of) ended_stop level (reader_at loop_body loops level body of)
   unfolding loop_body
-  loop_body_reader of = made_reader 1 level (BodyAt (suc loops)) (λ b. ended (of b.statement) b.is_open) body_stop ended_stop (body (suc loops)) (λ b s e. e) (reads (suc loops))
+  loop_body_reader of = made_reader 1 level (HeadBodyAt (suc loops)) (λ b. ended (of b.statement) b.is_open) body_stop ended_stop (head_body (body (suc loops))) (λ b s e. e) (heads (suc loops))
 
   pub while_answers : (ts : List Token) → is sign.While (head ts) ≡ true → Answers Deeper (StatementAt While loops) ended_stop level ts (reader_at while_rule loops level body ts)
   unfolding while_rule
@@ -332,8 +370,8 @@ module _ (ends place_ends : Sign → Bool) (known : AreRead ends place_ends) (le
 
   pub do_while_answers : (ts : List Token) → is sign.Do (head ts) ≡ true → Answers Deeper (StatementAt DoWhile loops) ended_stop level ts (reader_at do_while loops level body ts)
   unfolding do_while after_body
-  do_while_answers ts here = keyword_nests sign.Do kind.Do refl (λ _. JoinedAt (BodyAt (suc loops)) (λ b. JoinedAt (MarkAt sign.While) (AfterBodyAt b))) ended_stop level (λ _. body (suc loops) >>= (λ b. mark sign.While >>= after_body b)) ts refl here
-      (λ _. before_mark 1 level (BodyAt (suc loops)) body_stop sign.While kind.While refl (λ b. open_ends_other b.is_open sign.While refl) AfterBodyAt ended_stop (body (suc loops)) after_body (reads (suc loops)) after_body_reader)
+  do_while_answers ts here = keyword_nests sign.Do kind.Do refl (λ _. JoinedAt (HeadBodyAt (suc loops)) (λ b. JoinedAt (MarkAt sign.While) (AfterBodyAt b))) ended_stop level (λ _. head_body (body (suc loops)) >>= (λ b. mark sign.While >>= after_body b)) ts refl here
+      (λ _. before_mark 1 level (HeadBodyAt (suc loops)) body_stop sign.While kind.While refl (λ b. open_ends_other b.is_open sign.While refl) AfterBodyAt ended_stop (head_body (body (suc loops))) after_body (heads (suc loops)) after_body_reader)
 
   -- ---- for
 
@@ -406,7 +444,7 @@ module _ (ends place_ends : Sign → Bool) (known : AreRead ends place_ends) (le
   chosen_answers : (s : Sign) (ts : List Token) → head ts ≡ s → Answers Deeper (Chosen loops s) ended_stop level ts (reader_at by_keyword loops level body s ts)
   unfolding by_keyword
   chosen_answers sign.Echo ts e = (echo_reader 0 level loops body ends place_ends known).answers (omega arith) ts
-  chosen_answers sign.OpenBrace ts e = block_answers ts (ap (is sign.OpenBrace) e)
+  chosen_answers sign.OpenBrace ts e = block_answers ends place_ends known level loops body reads ts (ap (is sign.OpenBrace) e)
   chosen_answers sign.Semicolon ts e = (empty_reader 0 level).answers (omega arith) ts
   chosen_answers sign.If ts e = if_answers ts (ap (is sign.If) e)
   chosen_answers sign.While ts e = while_answers ts (ap (is sign.While) e)

@@ -8,10 +8,10 @@ use Rattle.dp_parse.specs.declared.sign.Sign.TheVariants as sign
 use Rattle.dp_parse.specs.declared.tree.StatementKind.TheVariants as tree
 use Rattle.dp_parse.specs.Signs.{sign_of, is}
 use Rattle.dp_parse.specs.Reading.{begins_expression}
-use Rattle.dp_parse.specs.Statements.{Depth, Arms, ended, whole, with_arm, stated, Bodies, Empty, ElseIf, Bound, GlobalRule, Perform, Echo, Block, Test, ArmRule, NextArm, Otherwise, If, LoopBody, While, DoWhile, For, Foreach, Loops, Return, Unset, Exit, AnyStatement, body_at}
+use Rattle.dp_parse.specs.Statements.{Depth, Arms, ended, whole, with_arm, stated, Bodies, Empty, ElseIf, Bound, GlobalRule, Perform, Echo, Block, Test, ArmRule, NextArm, Otherwise, If, LoopBody, While, DoWhile, For, Foreach, Loops, Return, Unset, Exit, AnyStatement, body_at, Braced, HeadBody}
 use Rattle.dp_parse.specs.Statements as grammar
 use Rattle.dp_parse.proofs.Signs.{or_left, or_right, mark_passes, mark_apart, same_is}
-use Rattle.dp_parse.proofs.Answers.{Rules, JoinedAt, EitherAt, MarkAt, MadeAt, WhenAt, OnLineAt, StartsIn, mark_starts, joined_starts, either_starts, made_starts, when_starts, nests_starts, online_starts, starts_in_more}
+use Rattle.dp_parse.proofs.Answers.{Rules, JoinedAt, EitherAt, MarkAt, MadeAt, WhenAt, OnLineAt, StartsIn, mark_starts, joined_starts, either_starts, made_starts, when_starts, nests_starts, online_starts, starts_in_more, WithoutAt, without_starts}
 use Rattle.dp_parse.proofs.StatementParts.{AreRead, ExpressionAt, StatementAt, takes_else, open_ends}
 
 -- ---- what a statement begins with
@@ -39,6 +39,17 @@ begins_statement s = begins_expression s || begins_keyword s
 
 abbrev pub BodyAt : ℕ → Rules Depth Body
 BodyAt loops m = body_at m.expressions m.bodies loops
+
+-- "{" *stmt "}"
+abbrev pub BracedAt : ℕ → Rules Depth Ended
+BracedAt loops m = Braced (BodyAt loops m)
+
+abbrev pub BracedLineAt : ℕ → Rules Depth Body
+BracedLineAt loops = OnLineAt (λ line. MadeAt (BracedAt loops) (stated line))
+
+-- the body of a head
+abbrev pub HeadBodyAt : ℕ → Rules Depth Body
+HeadBodyAt loops m = HeadBody (BodyAt loops m)
 
 abbrev pub AnyAt : ℕ → Rules Depth Ended
 AnyAt loops = StatementAt AnyStatement loops
@@ -235,3 +246,14 @@ module _ (ends place_ends : Sign → Bool) (known : AreRead ends place_ends) whe
       go : (n : ℕ) (text : List Token) (a : Body) → body_at m.expressions n loops text a → (x : Token) × (rest : List Token) × (text ≡ x ∷ rest) × (begins_statement (sign_of x.kind) ≡ true)
       go zero text a none = absurd none
       go (suc n) text a h = line_starts loops (record { expressions = m.expressions; bodies = n }) text a h
+
+  pub braced_starts : (loops : ℕ) → StartsIn (BracedAt loops) (is sign.OpenBrace)
+  braced_starts loops = joined_starts (MarkAt sign.OpenBrace) _ (is sign.OpenBrace) (mark_starts sign.OpenBrace)
+
+  pub braced_line_starts : (loops : ℕ) → StartsIn (BracedLineAt loops) (is sign.OpenBrace)
+  braced_line_starts loops = online_starts (λ line. MadeAt (BracedAt loops) (stated line)) (is sign.OpenBrace) (λ line. made_starts (BracedAt loops) (stated line) (is sign.OpenBrace) (braced_starts loops))
+
+  pub head_starts : (loops : ℕ) → StartsIn (HeadBodyAt loops) begins_statement
+  head_starts loops = either_starts (BracedLineAt loops) (WithoutAt sign.OpenBrace (BodyAt loops)) begins_statement
+      (starts_in_more (BracedLineAt loops) (is sign.OpenBrace) begins_statement (mark_passes begins_statement sign.OpenBrace refl) (braced_line_starts loops))
+      (without_starts sign.OpenBrace (BodyAt loops) begins_statement (body_starts loops))
