@@ -22,3 +22,7 @@ pub mod StatementBodies
 pub mod StatementLevels
 pub mod FileReaders
 pub mod FileVerdicts
+pub mod Taken
+pub mod Reasons
+pub mod Feeds
+pub mod FileLaws

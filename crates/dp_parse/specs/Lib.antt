@@ -10,3 +10,6 @@ pub mod Reading
 pub mod Statements
 pub mod ReadingStatements
 pub mod Refused
+pub mod Builtins
+pub mod Doubles
+pub mod Programs

@@ -2,15 +2,22 @@
 #![tactic(auto)]
 
 mod boxed;
+mod builtins;
+mod doubles;
 mod ended;
+mod errors;
+mod judging;
 mod operand;
 mod rank;
 mod refusal;
 mod sign;
 mod tree;
+mod whole;
 
 pub use boxed::Boxed;
+pub use builtins::builtin_of;
 pub use ended::{Body, Ended, Parts};
+pub use errors::ParseError;
 pub use operand::{Assignment, Operand, Part};
 pub use rank::Rank;
 pub use refusal::Refusal;
@@ -19,3 +26,4 @@ pub use tree::{
     Arm, Binding, Expression, File, Function, Inclusion, Item, Link, Operator, Order, Place,
     Statement, StatementKind,
 };
+pub use whole::{parse_expression, parse_file};
