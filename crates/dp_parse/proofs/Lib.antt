@@ -22,6 +22,7 @@ pub mod StatementBodies
 pub mod StatementLevels
 pub mod FileReaders
 pub mod FileVerdicts
+pub mod Judged
 pub mod Taken
 pub mod Reasons
 pub mod Feeds
