@@ -3,7 +3,7 @@ use Rattle.std.specs.declared.ops.ControlFlow.{ControlFlow}
 use Rattle.std.specs.declared.ops.ControlFlow.TheVariants.{Continue, Break}
 use Rattle.std.specs.List.{list_any}
 use Rattle.std.specs.Str.{bytes_eq}
-use Rattle.std.proofs.Common.{◌≡◌, inl, inr, ℕ, zero, suc, ◌≤◌, Bool, true, false, not, List, [], ◌∷◌, ◌++◌, length, Option, Some, None, Ok, Err, sym, refl, ap, ◌∙◌, subst, append-nil, cond, arith}
+use Rattle.std.proofs.Common.{◌≡◌, inl, inr, ℕ, zero, suc, ◌≤◌, Bool, true, false, not, List, [], ◌∷◌, ◌++◌, length, Option, Some, None, Ok, Err, sym, refl, ap, ◌∙◌, subst, append-nil, cond}
 use Rattle.dp_lexer.specs.declared.token.Token.{Token}
 use Rattle.dp_lexer.specs.declared.token.TokenKind.{TokenKind}
 use Rattle.dp_lexer.specs.declared.token.TokenKind.TheVariants as kind
@@ -26,6 +26,7 @@ use Rattle.dp_parse.specs.Statements.{Depth, parameter_in, function_of, Function
 use Rattle.dp_parse.specs.ReadingStatements.{bodies, body_below, statement, function_rule, file_step, file, at_end, semicolon, expression_text}
 use Rattle.dp_parse.proofs.Signs.{not_true, placed, mark_alone, mark_passes, mark_fails, mark_apart}
 use Rattle.dp_parse.proofs.Answers.{Rules, Anything, JoinedAt, EitherAt, GivesAt, OneAt, MarkAt, MadeAt, StepAt, Answers, Follows, StartsIn, Apart, give, given, mark_starts, joined_starts, made_starts, either_starts, nests_starts, starts_in_more, starts_apart, gives_apart, made_apart, gives_follow, one_starts, one_answers, gives_answers, joined_answers, made_answers, mark_answers, equal_answers, either_answers, refused_here, begun, either_answers_back, by_first, by_second}
+use Rattle.dp_parse.proofs.More.{level_self}
 use Rattle.dp_parse.proofs.Loops.{step_stop, closed_answers}
 use Rattle.dp_parse.proofs.Lists.{AnyItemsAt, AreItems, any_items_answers}
 use Rattle.dp_parse.proofs.StatementReaders.{Deeper, same_depth, IsPartReader, gives_reader, then_reader, mark_then, keyword_nests}
@@ -265,17 +266,14 @@ TextAt level = SpellsExpression level
 abbrev AfterText : Expression → Rules ℕ Expression
 AfterText e = λ _. Made (Perhaps (Mark sign.Semicolon)) (λ _. e)
 
-pub no_level : (l : ℕ) → l ≤ l
-no_level l = omega arith
-
 -- nothing but the end
 at_end_answers : (level : ℕ) (e : Expression) (ts : List Token) → Answers ◌≤◌ (GivesAt e) end_stop level ts (at_end e ts)
 unfolding at_end refuse
 at_end_answers level e ts = go (is sign.End (head ts)) refl
   where
     go : (b : Bool) → is sign.End (head ts) ≡ b → Answers ◌≤◌ (GivesAt e) end_stop level ts (cond b (Ok (e, ts)) (Err (Unexpected (length ts))))
-    go true here = gives_answers ◌≤◌ no_level e end_stop level ts
-    go false none = refused_here ◌≤◌ no_level (GivesAt e) end_stop level ts (λ m us same a q begins.
+    go true here = gives_answers ◌≤◌ level_self e end_stop level ts
+    go false none = refused_here ◌≤◌ level_self (GivesAt e) end_stop level ts (λ m us same a q begins.
         let end : is sign.End (head us) ≡ true = ap (λ l. is sign.End (head l)) (begins.split ∙ ap (λ l. l ++ q) begins.spelled.empty) ∙ begins.stops in
         let other : is sign.End (head us) ≡ false = ap (is sign.End) same ∙ none in
         absurd (cc))
@@ -306,14 +304,14 @@ from_text e m text a h = let g = given (Perhaps (Mark sign.Semicolon)) (λ _. e)
 
 semicolon_answers : (level : ℕ) (e : Expression) (ts : List Token) → Answers ◌≤◌ (AfterText e) end_stop level ts (semicolon e ts)
 unfolding semicolon
-semicolon_answers level e ts = equal_answers ◌≤◌ no_level (FactoredText e) (AfterText e) end_stop level ts (to_text e) (from_text e) (cond (is sign.Semicolon (head ts)) ((made (mark sign.Semicolon) (λ _. e) >>= at_end) ts) (at_end e ts))
-    (either_answers ◌≤◌ no_level (MarkedText e) (GivesAt e) (is sign.Semicolon) end_stop level ts
+semicolon_answers level e ts = equal_answers ◌≤◌ level_self (FactoredText e) (AfterText e) end_stop level ts (to_text e) (from_text e) (cond (is sign.Semicolon (head ts)) ((made (mark sign.Semicolon) (λ _. e) >>= at_end) ts) (at_end e ts))
+    (either_answers ◌≤◌ level_self (MarkedText e) (GivesAt e) (is sign.Semicolon) end_stop level ts
     (joined_starts (MadeAt (MarkAt sign.Semicolon) (λ _. e)) (λ a. GivesAt a) (is sign.Semicolon) (made_starts (MarkAt sign.Semicolon) (λ _. e) (is sign.Semicolon) (mark_starts sign.Semicolon)))
     (gives_apart e end_stop (is sign.Semicolon) (mark_fails (is sign.Semicolon) sign.End refl))
     ((made (mark sign.Semicolon) (λ _. e) >>= at_end) ts) (at_end e ts)
-    (λ _. joined_answers ◌≤◌ no_level (MadeAt (MarkAt sign.Semicolon) (λ _. e)) (λ a. GivesAt a) Anything end_stop level ts (λ m a us b r h stops. refl) (made (mark sign.Semicolon) (λ _. e) ts) at_end
+    (λ _. joined_answers ◌≤◌ level_self (MadeAt (MarkAt sign.Semicolon) (λ _. e)) (λ a. GivesAt a) Anything end_stop level ts (λ m a us b r h stops. refl) (made (mark sign.Semicolon) (λ _. e) ts) at_end
     (λ m above a. ([], a, record { empty = refl; same = refl }))
-    (made_answers ◌≤◌ no_level (MarkAt sign.Semicolon) (λ _. e) Anything Anything level ts (λ a s h. refl) (mark sign.Semicolon ts) (mark_answers ◌≤◌ no_level sign.Semicolon Anything level ts))
+    (made_answers ◌≤◌ level_self (MarkAt sign.Semicolon) (λ _. e) Anything Anything level ts (λ a s h. refl) (mark sign.Semicolon ts) (mark_answers ◌≤◌ level_self sign.Semicolon Anything level ts))
     (λ a r _. at_end_answers level a r))
     (λ _. at_end_answers level e ts))
 
@@ -328,7 +326,7 @@ module _ (ends place_ends : Sign → Bool) (known : AreRead ends place_ends) whe
 
   pub expression_text_answers : (level : ℕ) (ts : List Token) → Answers ◌≤◌ TextAt end_stop level ts (expression_text level ts)
   unfolding expression_text
-  expression_text_answers level ts = joined_answers ◌≤◌ no_level IsExpression AfterText (λ (a : Expression) (s : Sign). ends s) end_stop level ts after_follows (reading level part.Whole ts) semicolon
+  expression_text_answers level ts = joined_answers ◌≤◌ level_self IsExpression AfterText (λ (a : Expression) (s : Sign). ends s) end_stop level ts after_follows (reading level part.Whole ts) semicolon
       (λ m above e. ([], e, from_none e m)) (known.reads level ts) (λ e r _. semicolon_answers level e r)
     where
       from_none : (e : Expression) (m : ℕ) → AfterText e m [] e

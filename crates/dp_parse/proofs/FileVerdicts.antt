@@ -5,6 +5,7 @@ use Rattle.dp_parse.specs.declared.ended.Parts.{Parts}
 use Rattle.dp_parse.specs.declared.tree.Expression.{Expression}
 use Rattle.dp_parse.specs.Statements.{Depth, no_parts, Spells, SpellsExpression}
 use Rattle.dp_parse.specs.ReadingStatements.{file, expression_text}
+use Rattle.dp_parse.proofs.More.{level_self}
 use Rattle.dp_parse.proofs.Heights.{implied, looser}
 use Rattle.dp_parse.proofs.Least.{zero_text, zero_tree, variable_text, variable_place, least_expression, least_is_place}
 use Rattle.dp_parse.proofs.ExpressionParts.{place_starts}
@@ -12,7 +13,7 @@ use Rattle.dp_parse.proofs.Begins.{expression_starts}
 use Rattle.dp_parse.proofs.Expressions.{is_expression_answers, place_answers}
 use Rattle.dp_parse.proofs.StatementReaders.{Deeper, same_depth}
 use Rattle.dp_parse.proofs.StatementParts.{closing, AreRead}
-use Rattle.dp_parse.proofs.FileReaders.{end_stop, no_file, file_answers, file_leaves_none, no_level, expression_text_answers, some_text, text_leaves_none}
+use Rattle.dp_parse.proofs.FileReaders.{end_stop, no_file, file_answers, file_leaves_none, expression_text_answers, some_text, text_leaves_none}
 use Rattle.dp_parse.proofs.Verdicts.{ReadsAll, one_tree}
 
 -- expressions and places are read
@@ -41,7 +42,7 @@ file_reads limits = record {
 -- Single expressions are read, at every depth.
 pub text_reads : (limit : ℕ) → ReadsAll ◌≤◌ SpellsExpression end_stop limit (expression_text limit)
 text_reads limit = record {
-  same_level = no_level limit;
+  same_level = level_self limit;
   stops = λ a. refl;
   answers = expression_text_answers (looser 12) (looser 1) known limit;
   leaves_none = text_leaves_none limit;

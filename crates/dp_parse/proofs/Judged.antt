@@ -1,5 +1,5 @@
 -- What tokens are or why they are nothing, by the outcome of a reader that leaves none unread.
-use Rattle.std.proofs.Common.{◌≡◌, ◌≢◌, ◌⊎◌, inl, inr, ℕ, ◌-◌, ◌≤◌, List, length, Ok, Err, refl, sym, ap, ◌∙◌, subst, arith}
+use Rattle.std.proofs.Common.{◌≡◌, ◌≢◌, ◌⊎◌, inl, inr, List, length, Ok, Err, refl, sym, ap, subst}
 use Rattle.dp_lexer.specs.declared.token.Token.{Token}
 use Rattle.dp_parse.specs.declared.errors.ParseError.{ParseError}
 use Rattle.dp_parse.specs.declared.errors.ParseError.TheVariants as error
@@ -8,7 +8,7 @@ use Rattle.dp_parse.specs.declared.refusal.Refusal.TheVariants as refusal
 use Rattle.dp_parse.specs.Input.{Reader}
 use Rattle.dp_parse.specs.Programs.{AreWrong, told}
 use Rattle.dp_parse.proofs.Answers.{Rules, Stop}
-use Rattle.dp_parse.proofs.Verdicts.{ReadsAll, found, only, unexpected, too_deep, all_found, all_unexpected, all_too_deep, unexpected_spelled, too_deep_spelled, one_unexpected, one_too_deep, not_both}
+use Rattle.dp_parse.proofs.Verdicts.{ReadsAll, found, only, unexpected, too_deep, unexpected_spelled, too_deep_spelled, one_unexpected, one_too_deep, not_both}
 
 -- Tokens are wrong for one reason at most.
 pub one_reason : {L A : Type 0} (rule : Rules L A) (limits : L) (ts : List Token) (e why : ParseError) → e ≢ error.Memory → why ≢ error.Memory → AreWrong rule limits ts e → AreWrong rule limits ts why → e ≡ why
