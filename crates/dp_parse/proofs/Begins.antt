@@ -23,7 +23,7 @@ use Rattle.dp_parse.proofs.Heights.{implied}
 use Rattle.dp_parse.proofs.Least.{zero_token, zero_text, zero_tree, variable_name, variable_text, variable_place, gives_it, no_more, then_nothing, least_ladder, least_operand, least_whole, least_place}
 use Rattle.dp_parse.proofs.Factored.{StepLast, from_operand}
 use Rattle.dp_parse.proofs.More.{sort_starts, one_of_sort}
-use Rattle.dp_parse.proofs.Parts.{Under, ItemAt, PlaceUnder, OperandAt, PlaceAt, OtherAt, CoalesceAt, ConditionalAt, IncludeAt, At, begins_other, begins_inclusion, place_starts, other_starts}
+use Rattle.dp_parse.proofs.ExpressionParts.{Under, ItemAt, PlaceUnder, OperandAt, PlaceAt, OtherAt, CoalesceAt, ConditionalAt, IncludeAt, At, begins_other, begins_inclusion, place_starts, other_starts}
 
 -- ---- what expressions begin with
 

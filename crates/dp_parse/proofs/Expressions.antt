@@ -1,7 +1,6 @@
 -- What the readers of expressions and of places answer, at each level of nesting.
-use Rattle.std.proofs.Common.{◌≡◌, inl, inr, ℕ, zero, suc, ◌<◌, ◌≤◌, Bool, true, false, not, List, [], ◌∷◌, ◌++◌, Option, None, Ok, is_some, refl, subst, arith}
+use Rattle.std.proofs.Common.{◌≡◌, inl, inr, ℕ, zero, suc, ◌<◌, ◌≤◌, Bool, true, not, List, [], ◌∷◌, ◌++◌, Option, None, Ok, is_some, refl, subst, arith}
 use Rattle.dp_lexer.specs.declared.token.Token.{Token}
-use Rattle.dp_lexer.specs.declared.token.TokenKind.{TokenKind}
 use Rattle.dp_lexer.specs.declared.token.TokenKind.TheVariants as kind
 use Rattle.dp_parse.specs.declared.operand.Operand.{Operand}
 use Rattle.dp_parse.specs.declared.operand.Operand.TheVariants as opened
@@ -14,7 +13,7 @@ use Rattle.dp_parse.specs.declared.sign.Sign.TheVariants as sign
 use Rattle.dp_parse.specs.declared.tree.Expression.{Expression}
 use Rattle.dp_parse.specs.declared.tree.Expression.TheVariants as tree
 use Rattle.dp_parse.specs.declared.tree.Place.{Place}
-use Rattle.dp_parse.specs.Signs.{sign_of, same_sign, is, head}
+use Rattle.dp_parse.specs.Signs.{is, head}
 use Rattle.dp_parse.specs.Input.{Reader, ◌>>=◌, ◌>>◌, made, mark, enter}
 use Rattle.dp_parse.specs.Rules.{Joined, Made, Mark, One}
 use Rattle.dp_parse.specs.Grammar.{inclusion_in, assignment_in, by_sign, assigned, value_of, ranks, CoalesceRest, Branches, ConditionalRest, inner, IsExpression, IsPlace}
@@ -22,13 +21,12 @@ use Rattle.dp_parse.specs.Reading.{sort, begins_expression, ladder, ladder_from,
 use Rattle.dp_parse.proofs.Signs.{placed, mark_passes, mark_fails, not_true}
 use Rattle.dp_parse.proofs.Answers.{Rules, JoinedAt, EitherAt, GivesAt, OneAt, MarkAt, MadeAt, PerhapsAt, IsRead, Answers, Follows, Can, Apart, StartsIn, give, behind, mark_starts, joined_starts, made_starts, nests_starts, gives_apart, starts_follow, gives_follow, either_follows, joined_answers, made_answers, gives_answers, equal_answers, either_answers, perhaps_answers, within_answers}
 use Rattle.dp_parse.proofs.Readers.{marked, mark_then}
-use Rattle.dp_parse.proofs.Lists.{AreItems}
 use Rattle.dp_parse.proofs.Heights.{looser, stop_at, looser_less, excluded, implied}
 use Rattle.dp_parse.proofs.Least.{zero_text, zero_tree, gives_it, then_nothing, least_whole, least_coalesce, variable_text, variable_place, least_operand, least_expression, least_is_place}
 use Rattle.dp_parse.proofs.Factored.{PushTail, Going, AssignmentTail, Rest, spells, no_push, to_expression, from_expression}
 use Rattle.dp_parse.proofs.More.{level_self, sort_starts, one_of_sort, one_then, joined_follows, choice_answers, NestedAt, nested_answers}
-use Rattle.dp_parse.proofs.Parts.{At, Under, stop_of, may_read, Reads, inner_answers, some_whole_under, some_coalesce_under, OperandAt, OpeningAt, CoalesceAt, IncludeAt, begins_inclusion, place_starts}
-use Rattle.dp_parse.proofs.Begins.{begins_operand, expression_starts, whole_under_starts, include_starts, begins_one}
+use Rattle.dp_parse.proofs.ExpressionParts.{At, Under, stop_of, may_read, Reads, inner_answers, some_whole_under, some_coalesce_under, OperandAt, OpeningAt, CoalesceAt, IncludeAt, begins_inclusion}
+use Rattle.dp_parse.proofs.Begins.{begins_operand, whole_under_starts, include_starts, begins_one}
 use Rattle.dp_parse.proofs.Ladders.{operates, in_order, LadderAt, FromAt, from_pass, no_links, ladder_answers, ladder_from_answers}
 use Rattle.dp_parse.proofs.Operands.{operand_stop, index_answers, alone_answers}
 use Rattle.dp_parse.proofs.Operands as operands
@@ -269,12 +267,8 @@ module _ (level : ℕ) (read : Part → Reader Expression) (reads : Reads level 
   assignment_answers : (to : Place) (ts : List Token) → begins_assignment (head ts) ≡ true → Answers ◌≤◌ (AssignmentAt to) (stop_at 12) level ts (assignment level read to ts)
   unfolding assignment
   assignment_answers to ts here = nested_answers begins_assignment (JoinedAt (OneAt (by_sign assignment_in)) (λ how. MadeAt (Under part.Whole) (assigned to how))) (stop_at 12) level ts (sort assignment_in >>= (λ how. made (read part.Whole) (assigned to how))) refl here
-      (λ x e. let o = one_of_sort assignment_in x e in (
-        zero_text,
-        assigned to o.0 zero_tree,
-        behind (One (by_sign assignment_in)) (λ how. Made (Under part.Whole 2) (assigned to how)) (x ∷ []) zero_text o.0 (assigned to o.0 zero_tree) o.1
-            (give (Under part.Whole 2) (assigned to o.0) zero_text zero_tree (least_whole 1 (inner 1))),
-      ))
+      (λ x e. let o = one_of_sort assignment_in x e in (zero_text, assigned to o.0 zero_tree, behind (One (by_sign assignment_in)) (λ how. Made (Under part.Whole 2) (assigned to how)) (x ∷ []) zero_text o.0 (assigned to o.0 zero_tree) o.1
+      (give (Under part.Whole 2) (assigned to o.0) zero_text zero_tree (least_whole 1 (inner 1)))))
       (λ some. one_then (by_sign assignment_in) (λ how. MadeAt (Under part.Whole) (assigned to how)) (stop_at 12) level ts (λ how. made (read part.Whole) (assigned to how))
       (λ m above how. let w = some_whole_under level some m above in (w.0, assigned to how w.1, give (Under part.Whole m) (assigned to how) w.0 w.1 w.2))
       (λ how us. made_answers ◌≤◌ level_self (Under part.Whole) (assigned to how) (stop_at 12) (stop_at 12) level us (λ a s e. e) (read part.Whole us) (inner_answers level read reads some part.Whole us refl)))
@@ -282,12 +276,8 @@ module _ (level : ℕ) (read : Part → Reader Expression) (reads : Reads level 
   included_answers : (ts : List Token) → begins_inclusion (head ts) ≡ true → Answers ◌≤◌ IncludeAt (stop_at 12) level ts (included level read ts)
   unfolding included
   included_answers ts here = nested_answers begins_inclusion (JoinedAt (OneAt (by_sign inclusion_in)) (λ how. MadeAt (Under part.Whole) (tree.Include how))) (stop_at 12) level ts (sort inclusion_in >>= (λ how. made (read part.Whole) (tree.Include how))) refl here
-      (λ x e. let o = one_of_sort inclusion_in x e in (
-        zero_text,
-        tree.Include o.0 zero_tree,
-        behind (One (by_sign inclusion_in)) (λ how. Made (Under part.Whole 2) (tree.Include how)) (x ∷ []) zero_text o.0 (tree.Include o.0 zero_tree) o.1
-            (give (Under part.Whole 2) (tree.Include o.0) zero_text zero_tree (least_whole 1 (inner 1))),
-      ))
+      (λ x e. let o = one_of_sort inclusion_in x e in (zero_text, tree.Include o.0 zero_tree, behind (One (by_sign inclusion_in)) (λ how. Made (Under part.Whole 2) (tree.Include how)) (x ∷ []) zero_text o.0 (tree.Include o.0 zero_tree) o.1
+      (give (Under part.Whole 2) (tree.Include o.0) zero_text zero_tree (least_whole 1 (inner 1)))))
       (λ some. one_then (by_sign inclusion_in) (λ how. MadeAt (Under part.Whole) (tree.Include how)) (stop_at 12) level ts (λ how. made (read part.Whole) (tree.Include how))
       (λ m above how. let w = some_whole_under level some m above in (w.0, tree.Include how w.1, give (Under part.Whole m) (tree.Include how) w.0 w.1 w.2))
       (λ how us. made_answers ◌≤◌ level_self (Under part.Whole) (tree.Include how) (stop_at 12) (stop_at 12) level us (λ a s e. e) (read part.Whole us) (inner_answers level read reads some part.Whole us refl)))
@@ -358,34 +348,3 @@ some_expression level m above = (zero_text, zero_tree, least_expression m)
 
 pub some_place : (level : ℕ) → Can ◌≤◌ level IsPlace
 some_place level m above = (variable_text, variable_place, least_is_place m)
-
--- ---- lists of expressions and of places
-
-pub expression_items : (close : Sign) (k : TokenKind) → same_sign (sign_of k) close ≡ true → begins_expression close ≡ false → same_sign close sign.Comma ≡ false → looser 12 close ≡ true
-    → (level : ℕ) → AreItems ◌≤◌ (λ _. IsExpression) close (stop_at 12) begins_expression level (λ _. reading level part.Whole)
-expression_items close k e not_close apart loose level = record {
-  starts = λ all. expression_starts;
-  not_comma = refl;
-  not_close = not_close;
-  close_apart = apart;
-  stops_comma = λ a. refl;
-  stops_close = λ a. loose;
-  closing = placed k;
-  closes = e;
-  some_item = some_expression level;
-  reads = λ all ts. is_expression_answers level ts;
-}
-
-pub place_items : (level : ℕ) → AreItems ◌≤◌ (λ _. IsPlace) sign.CloseParenthesis (stop_at 1) (is sign.Variable) level (λ _. reading_place level)
-place_items level = record {
-  starts = λ all. place_starts;
-  not_comma = refl;
-  not_close = refl;
-  close_apart = refl;
-  stops_comma = λ a. refl;
-  stops_close = λ a. refl;
-  closing = placed kind.CloseParenthesis;
-  closes = refl;
-  some_item = some_place level;
-  reads = λ all ts. place_answers level ts;
-}

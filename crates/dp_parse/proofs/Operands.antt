@@ -31,7 +31,7 @@ use Rattle.dp_parse.proofs.Heights.{looser, stop_at, looser_less, excluded, impl
 use Rattle.dp_parse.proofs.Least.{zero_token, zero_text, zero_tree, variable_name, variable_text, variable_place, gives_it, no_more, then_nothing, least_whole, least_operand, least_place}
 use Rattle.dp_parse.proofs.Factored.{StepLast, to_operand, from_operand}
 use Rattle.dp_parse.proofs.More.{level_self, sort_starts, one_of_sort, name_token, one_then, choice_answers, NestedAt, nested_answers}
-use Rattle.dp_parse.proofs.Parts.{Under, Reads, inner_answers, some_whole_under, some_alone_under, IndexAt, PlaceAt, PlaceUnder, GroupAt, ItemAt, LiteralAt, ArrayCallAt, CallAt, IssetAt, PrimaryAt, PrimaryIndexedAt, PrefixedAt, SteppedFirstAt, NumberAt, TextAt, ConstantAt, OtherAt, OperandAt, begins_constant, begins_prefix, begins_step, begins_behind_array, begins_behind_bracket, begins_behind_group, begins_behind_constant, begins_primary, begins_behind_isset, begins_behind_number, begins_behind_step, begins_other, index_starts, index_under_starts, place_starts, place_under_starts, group_starts, literal_starts, array_call_starts, call_starts, isset_starts, prefixed_starts, stepped_first_starts, number_rule_starts, text_rule_starts, behind_array_starts, behind_bracket_starts, behind_group_starts, behind_constant_starts, primary_indexed_starts, behind_isset_starts, behind_number_starts, behind_step_starts, other_starts}
+use Rattle.dp_parse.proofs.ExpressionParts.{Under, Reads, inner_answers, some_whole_under, some_alone_under, IndexAt, PlaceAt, PlaceUnder, GroupAt, ItemAt, LiteralAt, ArrayCallAt, CallAt, IssetAt, PrimaryAt, PrimaryIndexedAt, PrefixedAt, SteppedFirstAt, NumberAt, TextAt, ConstantAt, OtherAt, OperandAt, begins_constant, begins_prefix, begins_step, begins_behind_array, begins_behind_bracket, begins_behind_group, begins_behind_constant, begins_primary, begins_behind_isset, begins_behind_number, begins_behind_step, begins_other, index_starts, index_under_starts, place_starts, place_under_starts, group_starts, literal_starts, array_call_starts, call_starts, isset_starts, prefixed_starts, stepped_first_starts, number_rule_starts, text_rule_starts, behind_array_starts, behind_bracket_starts, behind_group_starts, behind_constant_starts, primary_indexed_starts, behind_isset_starts, behind_number_starts, behind_step_starts, other_starts}
 use Rattle.dp_parse.proofs.Begins.{whole_under_starts}
 
 -- ---- places

@@ -1,10 +1,10 @@
 pub mod formers
 pub mod Signs
+pub mod Lines
 pub mod Rules
 pub mod Input
 pub mod Lists
 pub mod ReadingLists
-pub mod Lines
 pub mod Grammar
 pub mod Reading
 pub mod Statements
