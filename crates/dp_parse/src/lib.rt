@@ -26,4 +26,4 @@ pub use tree::{
     Arm, Binding, Expression, File, Function, Inclusion, Item, Link, Operator, Order, Place,
     Statement, StatementKind,
 };
-pub use whole::{parse_expression, parse_file};
+pub use whole::{one_tree, parse_expression, parse_file};

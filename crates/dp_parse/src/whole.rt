@@ -1,10 +1,13 @@
 //! Whole texts: the bytes of files and of expressions.
 
-ghost use Rattle.std.specs.Prelude.{◌≡◌, ◌≢◌, ◌<◌, ◌^◌, ◌⊎◌, length, IfOk, IfErr, MatchResult};
+ghost use Rattle.std.specs.Prelude.{◌≡◌, ◌≢◌, ◌<◌, ◌^◌, ◌⊎◌, ℕ, List, length, IfOk, IfErr, MatchResult};
+ghost use Rattle.dp_lexer.specs.declared.token.Token.{Token};
+ghost use Rattle.dp_parse.specs.declared.ended.Parts.{Parts};
 ghost use Rattle.dp_parse.specs.declared.errors.ParseError.{ParseError};
 ghost use Rattle.dp_parse.specs.declared.tree.Expression.{Expression};
 ghost use Rattle.dp_parse.specs.declared.tree.File.{File};
 ghost use Rattle.dp_lexer.specs.Tokens as spec;
+ghost use Rattle.dp_parse.specs.Statements.{Depth, Spells, SpellsExpression};
 ghost use Rattle.dp_parse.specs.Programs.{without_tokens, IsFile, IsNoFile, IsExpressionText, IsNoExpression};
 
 use crate::doubles::first_double;
@@ -90,4 +93,12 @@ pub fn parse_expression(alloc: Global, bytes: &[u8]) -> Result<Expression, Parse
         Err(why) => return Err(no_tokens(why)),
     };
     expression_of(alloc, tokens.as_slice())
+}
+
+/// Tokens spell at most one file, and at most one expression, however deep they nest.
+pub fn one_tree()
+    ensures files { (l m : Depth) (ts : List Token) (a b : Parts) → Spells l ts a → Spells m ts b → a ≡ b }
+    ensures expressions { (l m : ℕ) (ts : List Token) (a b : Expression) →
+        SpellsExpression l ts a → SpellsExpression m ts b → a ≡ b }
+{
 }
