@@ -2,11 +2,13 @@
 #![tactic(auto)]
 
 mod boxed;
+mod cursor;
 mod operand;
 mod rank;
 mod refusal;
 mod sign;
 mod tree;
+mod worths;
 
 pub use boxed::Boxed;
 pub use operand::{Assignment, Operand, Part};
