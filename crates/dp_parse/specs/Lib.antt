@@ -6,3 +6,4 @@ pub mod Lists
 pub mod ReadingLists
 pub mod Grammar
 pub mod Reading
+pub mod NestedReader

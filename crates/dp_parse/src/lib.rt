@@ -2,7 +2,10 @@
 #![tactic(auto)]
 
 mod boxed;
+mod building;
 mod cursor;
+mod lists;
+mod loops;
 mod operand;
 mod rank;
 mod refusal;
