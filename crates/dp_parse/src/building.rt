@@ -1,13 +1,13 @@
 //! Trees of their parts.
 
-ghost use Rattle.std.specs.Prelude.{◌≡◌, ◌++◌, ◌∷◌, [], Some, IfOk};
+ghost use Rattle.std.specs.Prelude.{◌≡◌, ◌++◌, ◌∷◌, [], IfOk};
 ghost use Rattle.dp_parse.specs.Grammar as grammar;
 ghost use Rattle.dp_parse.specs.Reading as spec;
 
 use crate::boxed::Boxed;
 use crate::operand::{Assignment, Operand};
 use crate::tree::{Expression, Inclusion, Link, Place};
-use dp_value::{Items, Memory, UnaryOp};
+use dp_value::{Bytes, Items, Memory, UnaryOp};
 use std::alloc::Global;
 
 /// A list without items.
@@ -24,6 +24,14 @@ pub fn with<T: Drop>(all: Items<T>, item: T) -> Result<Items<T>, Memory>
     let mut values = all.into_vec();
     values.push(item)?;
     Ok(Items::of(values))
+}
+
+/// A place of its parts.
+pub fn named(alloc: Global, name: &[u8], indices: Items<Expression>) -> Result<Place, Memory>
+    ensures { IfOk result (λ p. p ≡ grammar.place name.now indices) }
+{
+    let name = Bytes::from_slice(alloc, name)?;
+    Ok(Place { name, indices })
 }
 
 /// An operand under indices, if there are any.
@@ -59,11 +67,7 @@ pub fn tree_of(alloc: Global, operand: Operand) -> Result<Expression, Memory>
 }
 
 /// Operands of one rank, joined if there are any operators.
-pub fn chained(
-    alloc: Global,
-    first: Expression,
-    links: Items<Link>,
-) -> Result<Expression, Memory>
+pub fn chained(alloc: Global, first: Expression, links: Items<Link>) -> Result<Expression, Memory>
     ensures { IfOk result (λ e. e ≡ grammar.chained first links) }
 {
     if links.is_empty() {

@@ -4,6 +4,7 @@ ghost use Rattle.std.specs.Prelude.{◌≡◌, ◌^◌, ◌<◌, length, OnOk};
 ghost use Rattle.dp_parse.specs.Grammar as grammar;
 ghost use Rattle.dp_parse.specs.Input as input;
 ghost use Rattle.dp_parse.specs.Input.{Reads};
+ghost use Rattle.dp_parse.specs.NestedReader.{ReadsSlice};
 ghost use Rattle.dp_parse.specs.Reading as spec;
 ghost use Rattle.dp_parse.specs.Signs as signs;
 ghost use Rattle.dp_parse.specs.Signs.{head};
@@ -13,9 +14,7 @@ use crate::rank::Rank;
 use crate::refusal::Refusal;
 use crate::sign::{Sign, is_superglobal, same_sign, sign_of};
 use crate::tree::{Expression, Inclusion, Operator};
-use crate::worths::{
-    assignment_in, constant_in, inclusion_in, operator_in, prefix_in, step_in,
-};
+use crate::worths::{assignment_in, constant_in, inclusion_in, operator_in, prefix_in, step_in};
 use dp_lexer::{Token, TokenKind, is_reserved};
 use dp_value::{Bytes, UnaryOp};
 use std::alloc::Global;
@@ -88,21 +87,29 @@ impl<'a> Tokens<'a> {
         }
     }
 
-    /// A variable that a program may name, by a copy of its name.
+    /// A variable that a program may name, by its name, without a copy.
     #[tactic(auto, unfolding(crate::specs::Reading::variable))]
-    pub fn variable(&mut self, alloc: Global) -> Result<Bytes, Refusal>
-        ensures { Reads (spec.variable self.old) result self.new }
+    pub fn variable_name(&mut self) -> Result<&'a [u8], Refusal>
+        ensures { ReadsSlice (spec.variable self.old) result self.new }
     {
         match self.rest {
             [first, rest @ ..] => match &first.kind {
                 TokenKind::Variable(name) if !is_superglobal(name.as_slice()) => {
                     self.rest = rest;
-                    Ok(Bytes::from_slice(alloc, name.as_slice())?)
+                    Ok(name.as_slice())
                 }
                 _ => Err(self.refuse()),
             },
             [] => Err(self.refuse()),
         }
+    }
+
+    /// A variable that a program may name, by a copy of its name.
+    pub fn variable(&mut self, alloc: Global) -> Result<Bytes, Refusal>
+        ensures { Reads (spec.variable self.old) result self.new }
+    {
+        let name = self.variable_name()?;
+        Ok(Bytes::from_slice(alloc, name)?)
     }
 
     /// A name that a function may have, by a copy of it.

@@ -4,9 +4,14 @@
 mod boxed;
 mod building;
 mod cursor;
+mod expressions;
+mod ladders;
 mod lists;
-mod loops;
+mod openings;
 mod operand;
+mod operands;
+mod pieces;
+mod places;
 mod rank;
 mod refusal;
 mod sign;

@@ -4,8 +4,5 @@ use Rattle.dp_parse.specs.Signs.{is}
 use Rattle.dp_parse.specs.ReadingLists.{plain_step}
 use Rattle.dp_parse.proofs.lists.plain_turns.Given as goal
 
-abbrev pub ghost-plain_step : goal.ghost-plain_step
-ghost-plain_step g a = g.read
-
 abbrev pub invariant-loop-turn : goal.invariant-loop-turn
-invariant-loop-turn g l = closed (plain_step g.read l.close) l.fn.first l.fn.tokens ≡ until (plain_step g.read l.close) (l._turn-end - l._turn) l.state l.tokens
+invariant-loop-turn g l = closed (plain_step (λ _. g.P.Piece.reads l.item) l.close) l.fn.first l.fn.tokens ≡ until (plain_step (λ _. g.P.Piece.reads l.item) l.close) (l._turn-end - l._turn) l.state l.tokens
