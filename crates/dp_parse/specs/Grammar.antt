@@ -1,6 +1,5 @@
 -- The grammar of expressions (PHP manual, "Expressions" and "Operator Precedence"; what is left out is our own).
-use Rattle.std.specs.Prelude.{◌≡◌, ℕ, zero, suc, Bool, true, false, not, ◌||◌, List, [], ◌∷◌, Option, Some, None, ℤ, ◌++◌}
-use Rattle.dp_value.specs.declared.operators.BinaryOp.{BinaryOp}
+use Rattle.std.specs.Prelude.{ℕ, zero, suc, Bool, true, false, not, ◌||◌, List, [], ◌∷◌, Option, Some, None, ℤ, ◌++◌}
 use Rattle.dp_value.specs.declared.operators.BinaryOp.TheVariants as binary
 use Rattle.dp_value.specs.declared.operators.UnaryOp.{UnaryOp}
 use Rattle.dp_value.specs.declared.operators.UnaryOp.TheVariants as unary

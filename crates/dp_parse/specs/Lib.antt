@@ -13,3 +13,4 @@ pub mod Refused
 pub mod Builtins
 pub mod Doubles
 pub mod Programs
+pub mod NestedReader

@@ -2,17 +2,27 @@
 #![tactic(auto)]
 
 mod boxed;
+mod building;
 mod builtins;
+mod cursor;
 mod doubles;
 mod ended;
 mod errors;
+mod expressions;
 mod judging;
+mod ladders;
+mod lists;
+mod openings;
 mod operand;
+mod operands;
+mod pieces;
+mod places;
 mod rank;
 mod refusal;
 mod sign;
 mod tree;
 mod whole;
+mod worths;
 
 pub use boxed::Boxed;
 pub use builtins::builtin_of;
