@@ -9,3 +9,5 @@ pub mod Reading
 pub mod Statements
 pub mod ReadingStatements
 pub mod Refused
+pub mod Purity
+pub mod Lines

@@ -3,7 +3,9 @@
 
 mod boxed;
 mod ended;
+mod lines;
 mod operand;
+mod purity;
 mod rank;
 mod refusal;
 mod sign;
@@ -12,6 +14,7 @@ mod tree;
 pub use boxed::Boxed;
 pub use ended::{Body, Ended, Parts};
 pub use operand::{Assignment, Operand, Part};
+pub use purity::is_pure;
 pub use rank::Rank;
 pub use refusal::Refusal;
 pub use sign::Sign;
