@@ -10,4 +10,5 @@ pub mod Statements
 pub mod ReadingStatements
 pub mod Refused
 pub mod Purity
-pub mod Lines
+pub mod CodeLines
+pub mod NestedReader

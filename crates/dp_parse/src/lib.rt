@@ -2,17 +2,23 @@
 #![tactic(auto)]
 
 mod boxed;
+mod building;
+mod cursor;
 mod ended;
 mod lines;
+mod lists;
+mod loops;
 mod operand;
 mod purity;
 mod rank;
 mod refusal;
 mod sign;
 mod tree;
+mod worths;
 
 pub use boxed::Boxed;
 pub use ended::{Body, Ended, Parts};
+pub use lines::has_code;
 pub use operand::{Assignment, Operand, Part};
 pub use purity::is_pure;
 pub use rank::Rank;

@@ -4,7 +4,7 @@ ghost use Rattle.std.specs.Prelude.{◌≡◌, []};
 ghost use Rattle.std.specs.Option.{option_map_or};
 ghost use Rattle.std.specs.List.{flat_map};
 ghost use Rattle.dp_parse.specs.declared.tree.Function.{Function};
-ghost use Rattle.dp_parse.specs.Lines as lines;
+ghost use Rattle.dp_parse.specs.CodeLines as lines;
 
 use crate::boxed::Boxed;
 use crate::tree::{Arm, File, Function, Statement, StatementKind};

@@ -1,6 +1,6 @@
 use Rattle.std.proofs.Common.{◌≡◌, drop}
 use Rattle.std.specs.List.{flat_map}
-use Rattle.dp_parse.specs.Lines.{arm_lines, body_lines, has_line}
+use Rattle.dp_parse.specs.CodeLines.{arm_lines, body_lines, has_line}
 use Rattle.dp_parse.proofs.lines.+lines.Given as goal
 
 abbrev pub invariant-arms_have-loop-arm : goal.invariant-arms_have-loop-arm

@@ -1,7 +1,7 @@
 use Rattle.std.proofs.Common.{◌≡◌, drop}
 use Rattle.std.specs.List.{flat_map}
 use Rattle.dp_parse.specs.declared.tree.Function.{Function}
-use Rattle.dp_parse.specs.Lines.{body_lines, has_line}
+use Rattle.dp_parse.specs.CodeLines.{body_lines, has_line}
 use Rattle.dp_parse.proofs.lines.functions_have.Given as goal
 
 abbrev pub invariant-loop-function : goal.invariant-loop-function
