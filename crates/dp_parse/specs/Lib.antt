@@ -12,3 +12,5 @@ pub mod Refused
 pub mod Purity
 pub mod CodeLines
 pub mod NestedReader
+pub mod Limits
+pub mod NestedBody

@@ -59,11 +59,7 @@ pub fn tree_of(alloc: Global, operand: Operand) -> Result<Expression, Memory>
 }
 
 /// Operands of one rank, joined if there are any operators.
-pub fn chained(
-    alloc: Global,
-    first: Expression,
-    links: Items<Link>,
-) -> Result<Expression, Memory>
+pub fn chained(alloc: Global, first: Expression, links: Items<Link>) -> Result<Expression, Memory>
     ensures { IfOk result (λ e. e ≡ grammar.chained first links) }
 {
     if links.is_empty() {

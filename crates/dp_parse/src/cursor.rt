@@ -5,17 +5,17 @@ ghost use Rattle.dp_parse.specs.Grammar as grammar;
 ghost use Rattle.dp_parse.specs.Input as input;
 ghost use Rattle.dp_parse.specs.Input.{Reads};
 ghost use Rattle.dp_parse.specs.Reading as spec;
+ghost use Rattle.dp_parse.specs.ReadingStatements as statements;
 ghost use Rattle.dp_parse.specs.Signs as signs;
 ghost use Rattle.dp_parse.specs.Signs.{head};
+ghost use Rattle.dp_parse.specs.Statements as rules;
 
 use crate::operand::Assignment;
 use crate::rank::Rank;
 use crate::refusal::Refusal;
 use crate::sign::{Sign, is_superglobal, same_sign, sign_of};
 use crate::tree::{Expression, Inclusion, Operator};
-use crate::worths::{
-    assignment_in, constant_in, inclusion_in, operator_in, prefix_in, step_in,
-};
+use crate::worths::{assignment_in, constant_in, inclusion_in, operator_in, prefix_in, step_in};
 use dp_lexer::{Token, TokenKind, is_reserved};
 use dp_value::{Bytes, UnaryOp};
 use std::alloc::Global;
@@ -66,6 +66,32 @@ impl<'a> Tokens<'a> {
         ensures { result ≡ signs.is sign (head self.now) }
     {
         same_sign(self.peek(), sign)
+    }
+
+    /// The line of the next token, or 0 at the end.
+    pub fn line(&self) -> u32
+        ensures { result ≡ statements.line_of self.now }
+    {
+        match self.rest {
+            [] => 0,
+            [first, ..] => first.line,
+        }
+    }
+
+    /// A number from 1 to this one.
+    pub fn levels(&mut self, loops: u32) -> Result<u32, Refusal>
+        ensures { Reads (spec.kind (rules.levels_in loops) self.old) result self.new }
+    {
+        match self.rest {
+            [first, rest @ ..] => match &first.kind {
+                TokenKind::Number(number) if 1 <= *number && *number <= loops as i64 => {
+                    self.rest = rest;
+                    Ok(*number as u32)
+                }
+                _ => Err(self.refuse()),
+            },
+            [] => Err(self.refuse()),
+        }
     }
 
     /// The refusal that names the next token, or the end.

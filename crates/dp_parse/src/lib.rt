@@ -2,17 +2,23 @@
 #![tactic(auto)]
 
 mod boxed;
+mod branches;
 mod building;
 mod cursor;
 mod ended;
+mod expressions;
+mod jumps;
+mod levels;
 mod lines;
 mod lists;
+mod loop_statements;
 mod loops;
 mod operand;
 mod purity;
 mod rank;
 mod refusal;
 mod sign;
+mod statements;
 mod tree;
 mod worths;
 
