@@ -1,3 +1,4 @@
+pub mod NameLemmas
 pub mod TreeLines
 pub mod TreePurity
 pub mod Turns

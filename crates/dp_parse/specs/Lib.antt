@@ -14,3 +14,4 @@ pub mod CodeLines
 pub mod NestedReader
 pub mod Limits
 pub mod NestedBody
+pub mod Parameters

@@ -1,8 +1,7 @@
 -- How statements are read: the rules of the grammar, with each choice made by the next token.
-use Rattle.std.specs.Prelude.{ℕ, zero, suc, Bool, true, false, not, ◌&&◌, ◌||◌, nat_lt, if◌then◌else◌, List, [], ◌∷◌, ◌++◌, Option, Some, None, Ok}
+use Rattle.std.specs.Prelude.{ℕ, zero, suc, true, not, ◌&&◌, nat_lt, if◌then◌else◌, List, [], ◌∷◌, ◌++◌, Option, Some, None, Ok}
 use Rattle.std.specs.declared.ops.ControlFlow.{ControlFlow}
 use Rattle.std.specs.declared.ops.ControlFlow.TheVariants.{Continue, Break}
-use Rattle.dp_lexer.specs.declared.token.Token.{Token}
 use Rattle.dp_parse.specs.declared.ended.Ended.{Ended}
 use Rattle.dp_parse.specs.declared.ended.Body.{Body}
 use Rattle.dp_parse.specs.declared.ended.Parts.{Parts}
@@ -18,16 +17,15 @@ use Rattle.dp_parse.specs.declared.tree.Statement.{Statement}
 use Rattle.dp_parse.specs.declared.tree.StatementKind.{StatementKind}
 use Rattle.dp_parse.specs.declared.tree.StatementKind.TheVariants as tree
 use Rattle.dp_parse.specs.Signs.{is, head}
+use Rattle.dp_parse.specs.Lines.{line_of}
 use Rattle.dp_parse.specs.Input.{Reader, ◌>>=◌, ◌>>◌, gives, made, refuse, mark, enter, closed}
 use Rattle.dp_parse.specs.ReadingLists.{plain_items, some_items, any_plain_items, any_items}
 use Rattle.dp_parse.specs.Grammar.{Text, name_in}
 use Rattle.dp_parse.specs.Reading.{kind, variable, reading, reading_place}
 use Rattle.dp_parse.specs.Statements.{ended, whole, binding, levels_in, parameter_in, Arms, with_arm, stated, Depth, function_of, no_parts, with_statement, with_function}
 
--- the line of the first token, if there is one
-abbrev pub line_of : List Token → ℕ
-line_of [] = 0
-line_of (t ∷ ts) = t.line
+unfoldable pub on_its_line : Reader Ended → Reader Body
+on_its_line read ts = made read (stated (line_of ts)) ts
 
 -- statements up to the closing brace
 module _ (body : Reader Body) where
@@ -38,6 +36,16 @@ module _ (body : Reader Body) where
 
   unfoldable pub bodies : Reader (List Statement)
   bodies = closed bodies_step []
+
+  unfoldable pub braced : Reader Ended
+  braced = do
+    mark sign.OpenBrace
+    all ← bodies
+    gives (whole (tree.Block all))
+
+  -- the body of a head
+  unfoldable pub head_body : Reader Body
+  head_body ts = if is sign.OpenBrace (head ts) then on_its_line braced ts else body ts
 
 unfoldable pub empty : Reader Ended
 empty = made (mark sign.Semicolon) (λ _. whole tree.Empty)
@@ -57,7 +65,7 @@ unfoldable pub exit_word : Reader ℕ
 exit_word ts = if is sign.Exit (head ts) then mark sign.Exit ts else mark sign.Die ts
 
 -- The number is how many levels of bodies are left, and the next in how many loops the statement stands. `body` reads a
--- body one level down, in so many loops.
+-- statement in a body one level down, in so many loops.
 module _ (level : ℕ) (loops : ℕ) (expression : Reader Expression) (place : Reader Place) (body : ℕ → Reader Body) where
   unfoldable pub perform : Reader Ended
   perform = do
@@ -72,11 +80,7 @@ module _ (level : ℕ) (loops : ℕ) (expression : Reader Expression) (place : R
     gives (whole (tree.Echo values))
 
   unfoldable pub block : Reader Ended
-  block = do
-    enter level
-    mark sign.OpenBrace
-    all ← bodies (body loops)
-    gives (whole (tree.Block all))
+  block = enter level >> braced (body loops)
 
   unfoldable pub test : Reader Expression
   test = do
@@ -89,11 +93,11 @@ module _ (level : ℕ) (loops : ℕ) (expression : Reader Expression) (place : R
   unfoldable pub next_arm : List Arm → ℕ → Reader Arms
   next_arm arms line = do
     found ← test
-    b ← body loops
+    b ← head_body (body loops)
     gives (with_arm arms line found b)
 
   unfoldable pub otherwise : List Arm → Reader Ended
-  otherwise arms = made (body loops) (λ b. ended (tree.If arms (Some b.statement)) b.is_open)
+  otherwise arms = made (head_body (body loops)) (λ b. ended (tree.If arms (Some b.statement)) b.is_open)
 
   -- behind an `else` on this line
   unfoldable pub behind_else : List Arm → ℕ → Reader (ControlFlow Ended Arms)
@@ -118,7 +122,7 @@ module _ (level : ℕ) (loops : ℕ) (expression : Reader Expression) (place : R
     arms first
 
   unfoldable pub loop_body : (Statement → StatementKind) → Reader Ended
-  loop_body of = made (body (suc loops)) (λ b. ended (of b.statement) b.is_open)
+  loop_body of = made (head_body (body (suc loops))) (λ b. ended (of b.statement) b.is_open)
 
   unfoldable pub while_rule : Reader Ended
   while_rule = do
@@ -131,7 +135,7 @@ module _ (level : ℕ) (loops : ℕ) (expression : Reader Expression) (place : R
   do_while = do
     enter level
     mark sign.Do
-    b ← body (suc loops)
+    b ← head_body (body (suc loops))
     line ← mark sign.While
     found ← test
     mark sign.Semicolon
@@ -224,10 +228,7 @@ module _ (level : ℕ) (loops : ℕ) (expression : Reader Expression) (place : R
   unfoldable pub any_statement : Reader Ended
   any_statement ts = by_keyword (head ts) ts
 
-unfoldable pub on_its_line : Reader Ended → Reader Body
-on_its_line read ts = made read (stated (line_of ts)) ts
-
--- what reads a body one level down
+-- what reads a statement in a body one level down
 unfoldable pub body_below : (expressions : ℕ) → ℕ → ℕ → Reader Body
 body_below expressions zero loops = refuse
 body_below expressions (suc level) loops = on_its_line (any_statement level loops (reading expressions part.Whole) (reading_place expressions) (body_below expressions level))

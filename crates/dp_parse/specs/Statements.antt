@@ -44,9 +44,27 @@ abbrev pub parameter_in : List Text → TokenKind → Option Text
 parameter_in found (kind.Variable name) = if list_any (λ other. bytes_eq other name) found then None else variable_in (kind.Variable name)
 parameter_in found _ = None
 
+abbrev pub stated : ℕ → Ended → Body
+stated line e = record { statement = record { line = line; kind = e.kind }; is_open = e.is_open }
+
+-- a statement has the line of its first token
+abbrev pub OnItsLine : Rule Ended → Rule Body
+OnItsLine rule = OnLine (λ line. Made rule (stated line))
+
 -- *stmt "}"
 abbrev pub Bodies : Rule Body → Rule (List Statement)
 Bodies body = Closed (λ all. Made body (λ b. all ++ b.statement ∷ [])) (λ all. Made (Mark sign.CloseBrace) (λ _. all)) []
+
+-- "{" *stmt "}"
+abbrev pub Braced : Rule Body → Rule Ended
+Braced body = do
+  Mark sign.OpenBrace
+  all ← Bodies body
+  Gives (whole (tree.Block all))
+
+-- The body of a head is a statement. Where it is one in braces, it is no block that counts for itself.
+abbrev pub HeadBody : Rule Body → Rule Body
+HeadBody body = OnItsLine (Braced body) or Without sign.OpenBrace body
 
 -- ";"
 abbrev pub Empty : Rule Ended
@@ -72,7 +90,7 @@ abbrev pub GlobalRule : Rule Ended
 GlobalRule = Made (Mark sign.Global >> PlainItems (λ _. Variable) sign.Semicolon) (λ names. whole (tree.Global names))
 
 -- The number is how many levels of bodies are left, and the next in how many loops the statement stands. `body` is a
--- body one level down, in so many loops.
+-- statement in a body one level down, in so many loops.
 module _ (level : ℕ) (loops : ℕ) (expression : Rule Expression) (place : Rule Place) (body : ℕ → Rule Body) where
   -- expr ";"
   abbrev pub Perform : Rule Ended
@@ -90,10 +108,7 @@ module _ (level : ℕ) (loops : ℕ) (expression : Rule Expression) (place : Rul
 
   -- "{" *stmt "}"
   abbrev pub Block : Rule Ended
-  Block = Nests level (do
-    Mark sign.OpenBrace
-    all ← Bodies (body loops)
-    Gives (whole (tree.Block all)))
+  Block = Nests level (Braced (body loops))
 
   -- "(" expr ")"
   abbrev pub Test : Rule Expression
@@ -107,7 +122,7 @@ module _ (level : ℕ) (loops : ℕ) (expression : Rule Expression) (place : Rul
   abbrev pub ArmRule : List Arm → ℕ → Rule Arms
   ArmRule arms line = do
     test ← Test
-    b ← body loops
+    b ← HeadBody (body loops)
     Gives (with_arm arms line test b)
 
   -- elseif "(" expr ")" stmt, where the body before it takes none
@@ -118,7 +133,7 @@ module _ (level : ℕ) (loops : ℕ) (expression : Rule Expression) (place : Rul
   abbrev pub Otherwise : Arms → Rule Ended
   Otherwise a = When (not a.1) (do
     Mark sign.Else
-    b ← Without sign.If (body loops)
+    b ← Without sign.If (HeadBody (body loops))
     Gives (ended (tree.If a.0 (Some b.statement)) b.is_open))
 
   -- "if" "(" expr ")" stmt *( elseif "(" expr ")" stmt ) [ "else" stmt ]
@@ -130,7 +145,7 @@ module _ (level : ℕ) (loops : ℕ) (expression : Rule Expression) (place : Rul
 
   -- the body of a loop, and what it makes
   abbrev pub LoopBody : (Statement → StatementKind) → Rule Ended
-  LoopBody of = Made (body (suc loops)) (λ b. ended (of b.statement) b.is_open)
+  LoopBody of = Made (HeadBody (body (suc loops))) (λ b. ended (of b.statement) b.is_open)
 
   -- "while" "(" expr ")" stmt
   abbrev pub While : Rule Ended
@@ -143,7 +158,7 @@ module _ (level : ℕ) (loops : ℕ) (expression : Rule Expression) (place : Rul
   abbrev pub DoWhile : Rule Ended
   DoWhile = Nests level (do
     Mark sign.Do
-    b ← body (suc loops)
+    b ← HeadBody (body (suc loops))
     line ← Mark sign.While
     test ← Test
     Mark sign.Semicolon
@@ -214,14 +229,7 @@ module _ (level : ℕ) (loops : ℕ) (expression : Rule Expression) (place : Rul
       Perform or Echo or Block or Empty or If or While or DoWhile or For or Foreach
       or Break or Continue or Return or GlobalRule or Unset or Exit
 
-abbrev pub stated : ℕ → Ended → Body
-stated line e = record { statement = record { line = line; kind = e.kind }; is_open = e.is_open }
-
--- a statement has the line of its first token
-abbrev pub OnItsLine : Rule Ended → Rule Body
-OnItsLine rule = OnLine (λ line. Made rule (stated line))
-
--- a body one level down, where so many levels are left, in so many loops
+-- a statement in a body one level down, where so many levels are left, in so many loops
 abbrev pub body_at : (expressions : ℕ) → ℕ → ℕ → Rule Body
 body_at expressions zero loops = λ ts a. ⊥
 body_at expressions (suc level) loops = OnItsLine (AnyStatement level loops (IsExpression expressions) (IsPlace expressions) (body_at expressions level))
