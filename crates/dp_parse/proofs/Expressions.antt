@@ -267,8 +267,12 @@ module _ (level : ℕ) (read : Part → Reader Expression) (reads : Reads level 
   assignment_answers : (to : Place) (ts : List Token) → begins_assignment (head ts) ≡ true → Answers ◌≤◌ (AssignmentAt to) (stop_at 12) level ts (assignment level read to ts)
   unfolding assignment
   assignment_answers to ts here = nested_answers begins_assignment (JoinedAt (OneAt (by_sign assignment_in)) (λ how. MadeAt (Under part.Whole) (assigned to how))) (stop_at 12) level ts (sort assignment_in >>= (λ how. made (read part.Whole) (assigned to how))) refl here
-      (λ x e. let o = one_of_sort assignment_in x e in (zero_text, assigned to o.0 zero_tree, behind (One (by_sign assignment_in)) (λ how. Made (Under part.Whole 2) (assigned to how)) (x ∷ []) zero_text o.0 (assigned to o.0 zero_tree) o.1
-      (give (Under part.Whole 2) (assigned to o.0) zero_text zero_tree (least_whole 1 (inner 1)))))
+      (λ x e. let o = one_of_sort assignment_in x e in (
+        zero_text,
+        assigned to o.0 zero_tree,
+        behind (One (by_sign assignment_in)) (λ how. Made (Under part.Whole 2) (assigned to how)) (x ∷ []) zero_text o.0 (assigned to o.0 zero_tree) o.1
+            (give (Under part.Whole 2) (assigned to o.0) zero_text zero_tree (least_whole 1 (inner 1))),
+      ))
       (λ some. one_then (by_sign assignment_in) (λ how. MadeAt (Under part.Whole) (assigned to how)) (stop_at 12) level ts (λ how. made (read part.Whole) (assigned to how))
       (λ m above how. let w = some_whole_under level some m above in (w.0, assigned to how w.1, give (Under part.Whole m) (assigned to how) w.0 w.1 w.2))
       (λ how us. made_answers ◌≤◌ level_self (Under part.Whole) (assigned to how) (stop_at 12) (stop_at 12) level us (λ a s e. e) (read part.Whole us) (inner_answers level read reads some part.Whole us refl)))
@@ -276,8 +280,12 @@ module _ (level : ℕ) (read : Part → Reader Expression) (reads : Reads level 
   included_answers : (ts : List Token) → begins_inclusion (head ts) ≡ true → Answers ◌≤◌ IncludeAt (stop_at 12) level ts (included level read ts)
   unfolding included
   included_answers ts here = nested_answers begins_inclusion (JoinedAt (OneAt (by_sign inclusion_in)) (λ how. MadeAt (Under part.Whole) (tree.Include how))) (stop_at 12) level ts (sort inclusion_in >>= (λ how. made (read part.Whole) (tree.Include how))) refl here
-      (λ x e. let o = one_of_sort inclusion_in x e in (zero_text, tree.Include o.0 zero_tree, behind (One (by_sign inclusion_in)) (λ how. Made (Under part.Whole 2) (tree.Include how)) (x ∷ []) zero_text o.0 (tree.Include o.0 zero_tree) o.1
-      (give (Under part.Whole 2) (tree.Include o.0) zero_text zero_tree (least_whole 1 (inner 1)))))
+      (λ x e. let o = one_of_sort inclusion_in x e in (
+        zero_text,
+        tree.Include o.0 zero_tree,
+        behind (One (by_sign inclusion_in)) (λ how. Made (Under part.Whole 2) (tree.Include how)) (x ∷ []) zero_text o.0 (tree.Include o.0 zero_tree) o.1
+            (give (Under part.Whole 2) (tree.Include o.0) zero_text zero_tree (least_whole 1 (inner 1))),
+      ))
       (λ some. one_then (by_sign inclusion_in) (λ how. MadeAt (Under part.Whole) (tree.Include how)) (stop_at 12) level ts (λ how. made (read part.Whole) (tree.Include how))
       (λ m above how. let w = some_whole_under level some m above in (w.0, tree.Include how w.1, give (Under part.Whole m) (tree.Include how) w.0 w.1 w.2))
       (λ how us. made_answers ◌≤◌ level_self (Under part.Whole) (tree.Include how) (stop_at 12) (stop_at 12) level us (λ a s e. e) (read part.Whole us) (inner_answers level read reads some part.Whole us refl)))

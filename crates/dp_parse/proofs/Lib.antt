@@ -3,6 +3,9 @@ pub mod Answers
 pub mod Loops
 pub mod Readers
 pub mod Lists
+pub mod NameLemmas
+pub mod TreeLines
+pub mod TreePurity
 pub mod Turns
 pub mod Heights
 pub mod Least

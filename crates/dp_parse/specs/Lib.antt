@@ -14,3 +14,8 @@ pub mod Builtins
 pub mod Doubles
 pub mod Programs
 pub mod NestedReader
+pub mod Purity
+pub mod CodeLines
+pub mod Limits
+pub mod NestedBody
+pub mod Parameters

@@ -12,14 +12,11 @@ use Rattle.dp_parse.specs.declared.refusal.Refusal.{Refusal}
 use Rattle.dp_parse.specs.declared.refusal.Refusal.TheVariants as refusal
 use Rattle.dp_parse.specs.declared.tree.Expression.{Expression}
 use Rattle.dp_parse.specs.declared.tree.File.{File}
-use Rattle.dp_parse.specs.Statements.{Depth, Spells, SpellsExpression}
+use Rattle.dp_parse.specs.Limits.{limits}
+use Rattle.dp_parse.specs.Statements.{Spells, SpellsExpression}
 use Rattle.dp_parse.specs.Rules.{Rule}
 use Rattle.dp_parse.specs.Refused.{IsUnexpected, IsTooDeep}
 use Rattle.dp_parse.specs.Doubles.{HasNoDouble, IsDouble}
-
--- how deep expressions and bodies may nest
-abbrev pub limits : Depth
-limits = record { expressions = 32; bodies = 32 }
 
 -- the bytes are a program, and this is its tree
 pub record IsFile (bytes : List ℕ) (file : File) : Type 0 where

@@ -4,11 +4,14 @@ ghost use Rattle.std.specs.Prelude.{◌≡◌, ◌≢◌, ◌⊎◌, IfOk, IfErr
 ghost use Rattle.dp_parse.specs.declared.ended.Parts.{Parts};
 ghost use Rattle.dp_parse.specs.declared.errors.ParseError.{ParseError};
 ghost use Rattle.dp_parse.specs.declared.tree.Expression.{Expression};
-ghost use Rattle.dp_parse.specs.Programs.{limits, AreWrong, told};
+ghost use Rattle.dp_parse.specs.Programs.{AreWrong, told};
+ghost use Rattle.dp_parse.specs.Limits.{limits};
 ghost use Rattle.dp_parse.specs.Statements.{Spells, SpellsExpression};
 
+use crate::cursor::Tokens;
 use crate::ended::Parts;
 use crate::errors::ParseError;
+use crate::files::{expression_text, file};
 use crate::refusal::Refusal;
 use crate::tree::Expression;
 use dp_lexer::Token;
@@ -38,9 +41,10 @@ pub fn parts_of(alloc: Global, tokens: &[Token]) -> Result<Parts, ParseError>
     ensures refuses { (why : ParseError) → why ≢ ParseError.Memory → AreWrong Spells limits tokens.now why →
         MatchResult result (λ _. ⊥) (λ e. (e ≡ why) ⊎ (e ≡ ParseError.Memory)) }
 {
-    let _ = alloc;
-    let _ = tokens;
-    Err(refused(0, Refusal::Memory))
+    match file(alloc, &mut Tokens::new(tokens)) {
+        Ok(parts) => Ok(parts),
+        Err(refusal) => Err(refused(tokens.len(), refusal)),
+    }
 }
 
 /// The expression that the tokens spell.
@@ -52,7 +56,8 @@ pub fn expression_of(alloc: Global, tokens: &[Token]) -> Result<Expression, Pars
     ensures refuses { (why : ParseError) → why ≢ ParseError.Memory → AreWrong SpellsExpression limits.expressions tokens.now why →
         MatchResult result (λ _. ⊥) (λ e. (e ≡ why) ⊎ (e ≡ ParseError.Memory)) }
 {
-    let _ = alloc;
-    let _ = tokens;
-    Err(ParseError::Memory)
+    match expression_text(alloc, &mut Tokens::new(tokens)) {
+        Ok(found) => Ok(found),
+        Err(refusal) => Err(refused(tokens.len(), refusal)),
+    }
 }

@@ -100,5 +100,4 @@ pub fn one_tree()
     ensures files { (l m : Depth) (ts : List Token) (a b : Parts) → Spells l ts a → Spells m ts b → a ≡ b }
     ensures expressions { (l m : ℕ) (ts : List Token) (a b : Expression) →
         SpellsExpression l ts a → SpellsExpression m ts b → a ≡ b }
-{
-}
+{}
