@@ -13,7 +13,7 @@ use Rattle.dp_parse.specs.Rules.{Rule, Joined, ◌or◌, Gives, Made, Mark, Nest
 use Rattle.dp_parse.specs.Grammar.{Inner, number_in, step_in, assignment_in, Kind, Sort, place, indexed, value_of, chained, assigned, Links, Ladder, Variable, PlaceOf, Index, PlaceRule, Isset, Primary, Prefixed, SteppedFirst, SteppedLast, OperandRule, CoalesceRest, CoalesceRule, ConditionalRest, ConditionalRule, IncludeRule, PushRule, ExpressionRule, IsExpression, ranks}
 use Rattle.dp_parse.specs.Reading.{tree_of}
 use Rattle.dp_parse.proofs.Answers.{give, given}
-use Rattle.dp_parse.proofs.Lists.{behind_made, made_behind}
+use Rattle.dp_parse.proofs.ListAnswers.{behind_made, made_behind}
 
 -- ---- one after the other
 

@@ -28,7 +28,7 @@ use Rattle.dp_parse.proofs.Signs.{not_true, placed, mark_alone, mark_passes, mar
 use Rattle.dp_parse.proofs.Answers.{Rules, Anything, JoinedAt, EitherAt, GivesAt, OneAt, MarkAt, MadeAt, StepAt, Answers, Follows, StartsIn, Apart, give, given, mark_starts, joined_starts, made_starts, either_starts, nests_starts, starts_in_more, starts_apart, gives_apart, made_apart, gives_follow, one_starts, one_answers, gives_answers, joined_answers, made_answers, mark_answers, equal_answers, either_answers, refused_here, begun, either_answers_back, by_first, by_second}
 use Rattle.dp_parse.proofs.More.{level_self}
 use Rattle.dp_parse.proofs.Loops.{step_stop, closed_answers}
-use Rattle.dp_parse.proofs.Lists.{AnyItemsAt, AreItems, any_items_answers}
+use Rattle.dp_parse.proofs.ListAnswers.{AnyItemsAt, AreItems, any_items_answers}
 use Rattle.dp_parse.proofs.StatementReaders.{Deeper, same_depth, IsPartReader, gives_reader, then_reader, mark_then, keyword_nests}
 use Rattle.dp_parse.proofs.StatementParts.{AreRead, kind_reader, takes_else, body_stop}
 use Rattle.dp_parse.proofs.StatementStarts.{begins_statement, LineAt, open_ends_other, statement_no_else, line_starts}

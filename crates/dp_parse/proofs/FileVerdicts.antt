@@ -10,7 +10,7 @@ use Rattle.dp_parse.proofs.Heights.{implied, looser}
 use Rattle.dp_parse.proofs.Least.{zero_text, zero_tree, variable_text, variable_place, least_expression, least_is_place}
 use Rattle.dp_parse.proofs.ExpressionParts.{place_starts}
 use Rattle.dp_parse.proofs.Begins.{expression_starts}
-use Rattle.dp_parse.proofs.Expressions.{is_expression_answers, place_answers}
+use Rattle.dp_parse.proofs.ExpressionAnswers.{is_expression_answers, place_answers}
 use Rattle.dp_parse.proofs.StatementReaders.{Deeper, same_depth}
 use Rattle.dp_parse.proofs.StatementParts.{closing, AreRead}
 use Rattle.dp_parse.proofs.FileReaders.{end_stop, no_file, file_answers, file_leaves_none, expression_text_answers, some_text, text_leaves_none}

@@ -2,7 +2,7 @@ pub mod Signs
 pub mod Answers
 pub mod Loops
 pub mod Readers
-pub mod Lists
+pub mod ListAnswers
 pub mod NameLemmas
 pub mod TreeLines
 pub mod TreePurity
@@ -13,10 +13,10 @@ pub mod Factored
 pub mod More
 pub mod ExpressionParts
 pub mod Begins
-pub mod Ladders
-pub mod Operands
-pub mod Openings
-pub mod Expressions
+pub mod LadderAnswers
+pub mod OperandAnswers
+pub mod OpeningAnswers
+pub mod ExpressionAnswers
 pub mod Verdicts
 pub mod StatementReaders
 pub mod StatementParts

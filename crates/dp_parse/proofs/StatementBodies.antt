@@ -26,7 +26,7 @@ use Rattle.dp_parse.specs.ReadingStatements.{bodies_step, bodies, bound, block, 
 use Rattle.dp_parse.proofs.Signs.{not_true, or_left, or_right, contrary, placed, mark_alone, mark_passes, mark_fails, mark_apart}
 use Rattle.dp_parse.proofs.Answers.{Rules, Anything, JoinedAt, EitherAt, GivesAt, MarkAt, MadeAt, WithoutAt, ClosedAt, StepAt, Answers, Follows, StartsIn, Apart, give, given, mark_starts, joined_starts, either_starts, made_starts, starts_in_more, starts_apart, gives_apart, either_apart, starts_follow, gives_answers, made_answers, carried, equal_answers, either_answers, without_answers, online_answers}
 use Rattle.dp_parse.proofs.Loops.{step_stop, closed_now, closed_follows, closed_answers, end_first}
-use Rattle.dp_parse.proofs.Lists.{AnyPlainItemsAt}
+use Rattle.dp_parse.proofs.ListAnswers.{AnyPlainItemsAt}
 use Rattle.dp_parse.proofs.StatementReaders.{Deeper, same_depth, IsPartReader, gives_reader, mark_reader, joined_reader, then_reader, made_reader, mark_then, before_mark, keyword_nests, nests_reader}
 use Rattle.dp_parse.proofs.StatementParts.{AreRead, ExpressionAt, PlaceAt, StatementAt, reader_at, takes_else, open_ends, ended_stop, body_stop, bound_stop, bound_reader, empty_reader, global_reader, break_answers, continue_answers, expression_then, any_expressions, perform_reader, echo_reader, test_reader, return_reader, unset_reader, exit_reader}
 use Rattle.dp_parse.proofs.StatementStarts.{begins_statement, BodyAt, AnyAt, LineAt, Chosen, unchosen, open_ends_other, statement_no_else, starts, any_starts, body_starts, BracedAt, BracedLineAt, HeadBodyAt, braced_starts, braced_line_starts, head_starts}

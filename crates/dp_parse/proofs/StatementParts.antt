@@ -25,7 +25,7 @@ use Rattle.dp_parse.specs.ReadingStatements.{empty, bound_rest, bound, global_ru
 use Rattle.dp_parse.proofs.Signs.{not_true, placed, mark_alone, mark_fails, mark_apart}
 use Rattle.dp_parse.proofs.Answers.{Rules, Stop, Anything, JoinedAt, EitherAt, GivesAt, OneAt, MarkAt, MadeAt, Answers, StartsIn, give, behind, mark_starts, joined_starts, made_starts, starts_apart, gives_apart, one_starts, one_answers, gives_answers, either_answers, within_answers, when_answers}
 use Rattle.dp_parse.proofs.More.{variable_starts}
-use Rattle.dp_parse.proofs.Lists.{PlainItemsAt, SomeItemsAt, AnyPlainItemsAt, AreItems, plain_items_answers, some_items_answers, any_plain_items_answers}
+use Rattle.dp_parse.proofs.ListAnswers.{PlainItemsAt, SomeItemsAt, AnyPlainItemsAt, AreItems, plain_items_answers, some_items_answers, any_plain_items_answers}
 use Rattle.dp_parse.proofs.StatementReaders.{Deeper, same_depth, IsPartReader, gives_reader, mark_reader, then_reader, made_reader, mark_then, before_mark, either_reader, stricter}
 
 -- ---- lists with commas

@@ -27,10 +27,10 @@ use Rattle.dp_parse.proofs.Factored.{PushTail, Going, AssignmentTail, Rest, spel
 use Rattle.dp_parse.proofs.More.{level_self, sort_starts, one_of_sort, one_then, joined_follows, choice_answers, NestedAt, nested_answers}
 use Rattle.dp_parse.proofs.ExpressionParts.{At, Under, stop_of, may_read, Reads, inner_answers, some_whole_under, some_coalesce_under, OperandAt, OpeningAt, CoalesceAt, IncludeAt, begins_inclusion}
 use Rattle.dp_parse.proofs.Begins.{begins_operand, whole_under_starts, include_starts, begins_one}
-use Rattle.dp_parse.proofs.Ladders.{operates, in_order, LadderAt, FromAt, from_pass, no_links, ladder_answers, ladder_from_answers}
-use Rattle.dp_parse.proofs.Operands.{operand_stop, index_answers, alone_answers}
-use Rattle.dp_parse.proofs.Operands as operands
-use Rattle.dp_parse.proofs.Openings.{opening_answers, opening_starts}
+use Rattle.dp_parse.proofs.LadderAnswers.{operates, in_order, LadderAt, FromAt, from_pass, no_links, ladder_answers, ladder_from_answers}
+use Rattle.dp_parse.proofs.OperandAnswers.{operand_stop, index_answers, alone_answers}
+use Rattle.dp_parse.proofs.OperandAnswers as operands
+use Rattle.dp_parse.proofs.OpeningAnswers.{opening_answers, opening_starts}
 
 -- ---- behind operands
 

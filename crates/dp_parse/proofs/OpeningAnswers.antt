@@ -30,7 +30,7 @@ use Rattle.dp_parse.proofs.Factored.{StepLast, EmptyIndex, PlaceEnd, OpeningPlac
 use Rattle.dp_parse.proofs.More.{level_self, sort_starts, variable_starts, one_then, choice_answers, NestedAt, nested_answers}
 use Rattle.dp_parse.proofs.ExpressionParts.{Under, Reads, inner_answers, IndexAt, OtherAt, OpeningAt, begins_step, begins_other, index_starts, other_starts}
 use Rattle.dp_parse.proofs.Begins.{whole_under_starts}
-use Rattle.dp_parse.proofs.Operands.{operand_stop, step_last_answers, other_answers}
+use Rattle.dp_parse.proofs.OperandAnswers.{operand_stop, step_last_answers, other_answers}
 
 abbrev stepped : Place → UnaryOp → Operand
 stepped p by = opened.Other (tree.Step by ValueFirst p)

@@ -26,7 +26,7 @@ use Rattle.dp_parse.proofs.Signs.{and_parts, not_true, placed, mark_passes, mark
 use Rattle.dp_parse.proofs.Answers.{Rules, Anything, JoinedAt, EitherAt, GivesAt, OneAt, MarkAt, MadeAt, ManyAt, Answers, Follows, Can, StartsIn, give, behind, mark_starts, joined_starts, made_starts, gives_apart, starts_follow, gives_follow, either_follows, anything_follows, one_answers, made_answers, gives_answers, joined_answers, equal_answers, stricter_answers, either_answers, guarded_answers}
 use Rattle.dp_parse.proofs.Loops.{many_none, many_answers}
 use Rattle.dp_parse.proofs.Readers.{marked, mark_then, made_reads, then_mark}
-use Rattle.dp_parse.proofs.Lists.{AreItems, AnyItemsAt, SomeItemsAt, any_items_answers, some_items_answers, any_items_can, some_items_can}
+use Rattle.dp_parse.proofs.ListAnswers.{AreItems, AnyItemsAt, SomeItemsAt, any_items_answers, some_items_answers, any_items_can, some_items_can}
 use Rattle.dp_parse.proofs.Heights.{looser, stop_at, looser_less, excluded, implied}
 use Rattle.dp_parse.proofs.Least.{zero_token, zero_text, zero_tree, variable_name, variable_text, variable_place, gives_it, no_more, then_nothing, least_whole, least_operand, least_place}
 use Rattle.dp_parse.proofs.Factored.{StepLast, to_operand, from_operand}
