@@ -70,6 +70,7 @@ impl<F: Fn(Global, &mut Tokens<'_>, usize, Part) -> Result<Expression, Refusal>>
     }
 
     #[cycle(ladder)]
+    #[tactic(auto, unfolding(crate::specs::Reading::links_of))]
     fn links_of(
         &self,
         tokens: &mut Tokens<'_>,

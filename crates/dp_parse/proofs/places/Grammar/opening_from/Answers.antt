@@ -3,7 +3,7 @@ use Rattle.std.proofs.lemmas.Grind.{common_steps}
 use Rattle.dp_parse.specs.Input.{until}
 use Rattle.dp_parse.specs.Reading.{opening_step, below}
 use Rattle.dp_parse.proofs.Turns.{one_turn, no_turn}
-use Rattle.dp_parse.proofs.openings.Grammar.opening_from.Goals as goal
+use Rattle.dp_parse.proofs.places.Grammar.opening_from.Goals as goal
 
 pub returns-in_err-more : goal.returns-in_err-more
 unfolding until
