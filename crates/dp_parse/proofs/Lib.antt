@@ -1,4 +1,5 @@
 pub mod NameLemmas
+pub mod NestedBodies
 pub mod TreeLines
 pub mod TreePurity
 pub mod Turns

@@ -1,5 +1,6 @@
 pub mod formers
 pub mod Signs
+pub mod Lines
 pub mod Rules
 pub mod Input
 pub mod Lists
