@@ -4,6 +4,7 @@ pub mod Loops
 pub mod Readers
 pub mod ListAnswers
 pub mod NameLemmas
+pub mod NestedBodies
 pub mod TreeLines
 pub mod TreePurity
 pub mod Turns

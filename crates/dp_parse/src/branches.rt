@@ -44,7 +44,7 @@ impl<F: Fn(Global, &mut Tokens<'_>, usize, u32) -> Result<Body, Refusal>> Statem
         ensures { Reads (within spec.next_arm self.now.level self.now.loops arms line tokens.old) result tokens.new }
     {
         let test = self.test(tokens)?;
-        let Body { statement, is_open } = self.body(tokens, self.loops)?;
+        let Body { statement, is_open } = self.head_body(tokens, self.loops)?;
         let arm = Arm {
             line,
             test,
@@ -60,7 +60,7 @@ impl<F: Fn(Global, &mut Tokens<'_>, usize, u32) -> Result<Body, Refusal>> Statem
         requires some { 0 < self.now.level }
         ensures { Reads (within spec.otherwise self.now.level self.now.loops arms tokens.old) result tokens.new }
     {
-        let Body { statement, is_open } = self.body(tokens, self.loops)?;
+        let Body { statement, is_open } = self.head_body(tokens, self.loops)?;
         let otherwise = Some(Boxed::new(self.alloc, statement)?);
         Ok(Ended {
             kind: StatementKind::If { arms, otherwise },

@@ -7,7 +7,7 @@ ghost use Rattle.dp_parse.specs.Input.{Reads};
 ghost use Rattle.dp_parse.specs.NestedReader.{ReadsSlice};
 ghost use Rattle.dp_parse.specs.Parameters.{parameter};
 ghost use Rattle.dp_parse.specs.Reading as spec;
-ghost use Rattle.dp_parse.specs.ReadingStatements as statements;
+ghost use Rattle.dp_parse.specs.Lines.{line_of};
 ghost use Rattle.dp_parse.specs.Signs as signs;
 ghost use Rattle.dp_parse.specs.Signs.{head};
 ghost use Rattle.dp_parse.specs.Statements as rules;
@@ -73,7 +73,7 @@ impl<'a> Tokens<'a> {
 
     /// The line of the next token, or 0 at the end.
     pub fn line(&self) -> u32
-        ensures { result ≡ statements.line_of self.now }
+        ensures { result ≡ line_of self.now }
     {
         match self.rest {
             [] => 0,

@@ -36,7 +36,7 @@ fn function_body(alloc: Global, tokens: &mut Tokens<'_>) -> Result<Items<Stateme
         loops: 0,
         inner: statement,
     }
-    .bodies(tokens)
+    .bodies(tokens, 0)
 }
 
 /// A function.

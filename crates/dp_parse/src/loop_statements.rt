@@ -1,6 +1,6 @@
 //! Loops of programs.
 
-ghost use Rattle.std.specs.Prelude.{◌≡◌, ◌+◌, ◌<◌, ◌≤◌, ◌^◌};
+ghost use Rattle.std.specs.Prelude.{◌≡◌, suc, ◌<◌, ◌≤◌, ◌^◌};
 ghost use Rattle.dp_parse.specs.Input.{Reads};
 ghost use Rattle.dp_parse.specs.Limits as limits;
 ghost use Rattle.dp_parse.specs.Limits.{within};
@@ -47,12 +47,13 @@ fn bound(alloc: Global, tokens: &mut Tokens<'_>) -> Result<Binding, Refusal>
 
 impl<F: Fn(Global, &mut Tokens<'_>, usize, u32) -> Result<Body, Refusal>> Statements<F> {
     /// The body of a loop.
+    #[tactic(auto, using(crate::proofs::NestedBodies::one_loop_more))]
     fn looped(&self, tokens: &mut Tokens<'_>) -> Result<Body, Refusal>
         requires nests { NestsBody self.now.level self.now.loops (F.pre self.now.inner) (F.post self.now.inner) }
         requires some { 0 < self.now.level }
-        ensures { Reads (limits.body self.now.level (self.now.loops + 1) tokens.old) result tokens.new }
+        ensures { Reads (spec.head_body (limits.body self.now.level (suc self.now.loops)) tokens.old) result tokens.new }
     {
-        self.body(tokens, self.loops + 1)
+        self.head_body(tokens, self.loops + 1)
     }
 
     #[tactic(auto, unfolding(crate::specs::ReadingStatements::while_rule, crate::specs::ReadingStatements::loop_body))]

@@ -42,6 +42,17 @@ pub fn whole(kind: StatementKind) -> Ended
     }
 }
 
+/// A statement that begins on this line.
+fn stated(line: u32, ended: Ended) -> Body
+    ensures { result ≡ grammar.stated line ended }
+{
+    let Ended { kind, is_open } = ended;
+    Body {
+        statement: Statement { line, kind },
+        is_open,
+    }
+}
+
 #[tactic(auto, unfolding(crate::specs::ReadingStatements::empty))]
 fn empty(tokens: &mut Tokens<'_>) -> Result<Ended, Refusal>
     ensures { Reads (spec.empty tokens.old) result tokens.new }
@@ -64,35 +75,66 @@ impl<F: Fn(Global, &mut Tokens<'_>, usize, u32) -> Result<Body, Refusal>> Statem
     fn bodies_step(
         &self,
         tokens: &mut Tokens<'_>,
+        loops: u32,
         all: Items<Statement>,
     ) -> Result<ControlFlow<Items<Statement>, Items<Statement>>, Refusal>
         requires nests { NestsBody self.now.level self.now.loops (F.pre self.now.inner) (F.post self.now.inner) }
         requires some { 0 < self.now.level }
-        ensures { Reads (spec.bodies_step (limits.body self.now.level self.now.loops) all tokens.old) result tokens.new }
+        requires near { loops ≤ self.now.loops + 1 }
+        ensures { Reads (spec.bodies_step (limits.body self.now.level loops) all tokens.old) result tokens.new }
     {
         if tokens.sees(Sign::CloseBrace) {
             tokens.mark(Sign::CloseBrace)?;
             return Ok(ControlFlow::Break(all));
         }
-        let body = self.body(tokens, self.loops)?;
+        let body = self.body(tokens, loops)?;
         Ok(ControlFlow::Continue(with(all, body.statement)?))
     }
 
-    /// Statements up to the closing brace.
+    /// Statements in so many loops, up to the closing brace.
     #[tactic(auto, unfolding(crate::specs::ReadingStatements::bodies))]
-    pub fn bodies(&self, tokens: &mut Tokens<'_>) -> Result<Items<Statement>, Refusal>
+    pub fn bodies(&self, tokens: &mut Tokens<'_>, loops: u32) -> Result<Items<Statement>, Refusal>
         requires nests { NestsBody self.now.level self.now.loops (F.pre self.now.inner) (F.post self.now.inner) }
         requires some { 0 < self.now.level }
-        ensures { Reads (spec.bodies (limits.body self.now.level self.now.loops) tokens.old) result tokens.new }
+        requires near { loops ≤ self.now.loops + 1 }
+        ensures { Reads (spec.bodies (limits.body self.now.level loops) tokens.old) result tokens.new }
     {
         let mut state = none(self.alloc);
         for _turn in 0..tokens.left() + 1 {
-            match self.bodies_step(tokens, state)? {
+            match self.bodies_step(tokens, loops, state)? {
                 ControlFlow::Continue(more) => state = more,
                 ControlFlow::Break(all) => return Ok(all),
             }
         }
         Err(tokens.refuse())
+    }
+
+    /// Statements in braces, in so many loops.
+    #[tactic(auto, unfolding(crate::specs::ReadingStatements::braced))]
+    fn braced(&self, tokens: &mut Tokens<'_>, loops: u32) -> Result<Ended, Refusal>
+        requires nests { NestsBody self.now.level self.now.loops (F.pre self.now.inner) (F.post self.now.inner) }
+        requires some { 0 < self.now.level }
+        requires near { loops ≤ self.now.loops + 1 }
+        ensures { Reads (spec.braced (limits.body self.now.level loops) tokens.old) result tokens.new }
+    {
+        tokens.mark(Sign::OpenBrace)?;
+        let all = self.bodies(tokens, loops)?;
+        Ok(whole(StatementKind::Block(all)))
+    }
+
+    /// The body of a head, in so many loops. Its braces are no block of their own.
+    #[tactic(auto, unfolding(crate::specs::ReadingStatements::head_body, crate::specs::ReadingStatements::on_its_line))]
+    pub fn head_body(&self, tokens: &mut Tokens<'_>, loops: u32) -> Result<Body, Refusal>
+        requires nests { NestsBody self.now.level self.now.loops (F.pre self.now.inner) (F.post self.now.inner) }
+        requires some { 0 < self.now.level }
+        requires near { loops ≤ self.now.loops + 1 }
+        ensures { Reads (spec.head_body (limits.body self.now.level loops) tokens.old) result tokens.new }
+    {
+        if tokens.sees(Sign::OpenBrace) {
+            let line = tokens.line();
+            return Ok(stated(line, self.braced(tokens, loops)?));
+        }
+        self.body(tokens, loops)
     }
 
     #[tactic(auto, unfolding(crate::specs::ReadingStatements::perform))]
@@ -119,8 +161,7 @@ impl<F: Fn(Global, &mut Tokens<'_>, usize, u32) -> Result<Body, Refusal>> Statem
         ensures { Reads (within spec.block self.now.level self.now.loops tokens.old) result tokens.new }
     {
         enter(self.level, tokens)?;
-        tokens.mark(Sign::OpenBrace)?;
-        Ok(whole(StatementKind::Block(self.bodies(tokens)?)))
+        self.braced(tokens, self.loops)
     }
 
     #[tactic(auto, unfolding(crate::specs::ReadingStatements::any_statement, crate::specs::ReadingStatements::by_keyword))]
@@ -154,11 +195,7 @@ impl<F: Fn(Global, &mut Tokens<'_>, usize, u32) -> Result<Body, Refusal>> Statem
         ensures { Reads (spec.on_its_line (within spec.any_statement self.now.level self.now.loops) tokens.old) result tokens.new }
     {
         let line = tokens.line();
-        let Ended { kind, is_open } = self.any_statement(tokens)?;
-        Ok(Body {
-            statement: Statement { line, kind },
-            is_open,
-        })
+        Ok(stated(line, self.any_statement(tokens)?))
     }
 }
 

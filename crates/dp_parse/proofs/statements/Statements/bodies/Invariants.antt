@@ -5,4 +5,4 @@ use Rattle.dp_parse.specs.ReadingStatements.{bodies_step}
 use Rattle.dp_parse.proofs.statements.Statements.bodies.Given as goal
 
 abbrev pub invariant-loop-turn : goal.invariant-loop-turn
-invariant-loop-turn g l = closed (bodies_step (body l.self.level l.self.loops)) [] l.fn.tokens ≡ until (bodies_step (body l.self.level l.self.loops)) (l._turn-end - l._turn) l.state l.tokens
+invariant-loop-turn g l = closed (bodies_step (body l.self.level l.loops)) [] l.fn.tokens ≡ until (bodies_step (body l.self.level l.loops)) (l._turn-end - l._turn) l.state l.tokens
