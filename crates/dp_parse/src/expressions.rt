@@ -1,7 +1,7 @@
 //! Expressions.
 
 ghost use Rattle.std.specs.Prelude.{◌≡◌, ◌<◌, ◌-◌};
-ghost use Rattle.dp_parse.specs.Input.{Reads};
+ghost use Rattle.dp_parse.specs.Input.{◌>>◌, Reads, made, mark};
 ghost use Rattle.dp_parse.specs.NestedReader.{Nests};
 ghost use Rattle.dp_parse.specs.Reading as spec;
 
@@ -65,9 +65,22 @@ impl<F: Fn(Global, &mut Tokens<'_>, usize, Part) -> Result<Expression, Refusal>>
     {
         tokens.mark(Sign::Question)?;
         let middle = self.middle(tokens)?;
+        self.otherwise(tokens, test, middle)
+    }
+
+    /// The last part of a conditional, with its colon.
+    fn otherwise(
+        &self,
+        tokens: &mut Tokens<'_>,
+        test: Expression,
+        middle: Option<Expression>,
+    ) -> Result<Expression, Refusal>
+        requires { Nests self.now.level (F.pre self.now.inner) (F.post self.now.inner) }
+        ensures { Reads ((mark Sign.Colon >> made (spec.coalesce self.now.level (spec.below self.now.level)) (λ last. Expression.Conditional test middle last)) tokens.old) result tokens.new }
+    {
         tokens.mark(Sign::Colon)?;
-        let otherwise = self.coalesce(tokens)?;
-        Ok(conditional(self.alloc, test, middle, otherwise)?)
+        let last = self.coalesce(tokens)?;
+        Ok(conditional(self.alloc, test, middle, last)?)
     }
 
     #[tactic(auto, unfolding(crate::specs::Reading::conditional_rest))]
