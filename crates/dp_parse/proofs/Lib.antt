@@ -5,6 +5,7 @@ pub mod Readers
 pub mod ListAnswers
 pub mod NameLemmas
 pub mod NestedBodies
+pub mod ParameterLemmas
 pub mod TreeLines
 pub mod TreePurity
 pub mod Turns

@@ -1,18 +1,16 @@
 //! A cursor over tokens.
 
-ghost use Rattle.std.specs.Prelude.{◌≡◌, ◌^◌, ◌<◌, ◌++◌, ◌∷◌, [], length, OnOk};
+ghost use Rattle.std.specs.Prelude.{◌≡◌, ◌^◌, ◌<◌, length, OnOk};
 ghost use Rattle.dp_parse.specs.Grammar as grammar;
 ghost use Rattle.dp_parse.specs.Input as input;
 ghost use Rattle.dp_parse.specs.Input.{Reads};
 ghost use Rattle.dp_parse.specs.NestedReader.{ReadsSlice};
-ghost use Rattle.dp_parse.specs.Parameters.{parameter};
 ghost use Rattle.dp_parse.specs.Reading as spec;
 ghost use Rattle.dp_parse.specs.Lines.{line_of};
 ghost use Rattle.dp_parse.specs.Signs as signs;
 ghost use Rattle.dp_parse.specs.Signs.{head};
 ghost use Rattle.dp_parse.specs.Statements as rules;
 
-use crate::names::Names;
 use crate::operand::Assignment;
 use crate::rank::Rank;
 use crate::refusal::Refusal;
@@ -90,25 +88,6 @@ impl<'a> Tokens<'a> {
                 TokenKind::Number(number) if 1 <= *number && *number <= loops as i64 => {
                     self.rest = rest;
                     Ok(*number as u32)
-                }
-                _ => Err(self.refuse()),
-            },
-            [] => Err(self.refuse()),
-        }
-    }
-
-    /// The names with a variable behind them that a program may name and that is none of them, by a copy of its name.
-    pub fn parameter(&mut self, alloc: Global, mut found: Names) -> Result<Names, Refusal>
-        ensures { Reads (input.made (parameter found) (λ name. found ++ name ∷ []) self.old) result self.new }
-    {
-        match self.rest {
-            [first, rest @ ..] => match &first.kind {
-                TokenKind::Variable(name) if !is_superglobal(name.as_slice()) => {
-                    if !found.add(Bytes::from_slice(alloc, name.as_slice())?)? {
-                        return Err(self.refuse());
-                    }
-                    self.rest = rest;
-                    Ok(found)
                 }
                 _ => Err(self.refuse()),
             },

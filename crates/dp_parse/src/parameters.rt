@@ -2,7 +2,7 @@
 
 ghost use Rattle.std.specs.Prelude.{◌≡◌, ◌++◌, ◌∷◌, []};
 ghost use Rattle.dp_parse.specs.Input.{Reads, closed, made};
-ghost use Rattle.dp_parse.specs.Parameters.{parameter};
+ghost use Rattle.dp_parse.specs.Parameters as spec;
 ghost use Rattle.dp_parse.specs.ReadingLists as lists;
 
 use crate::cursor::Tokens;
@@ -13,19 +13,33 @@ use dp_value::{Bytes, Items};
 use std::alloc::Global;
 use std::ops::ControlFlow;
 
+/// The names with a parameter behind them.
+fn parameter(alloc: Global, tokens: &mut Tokens<'_>, found: Names) -> Result<Names, Refusal>
+    ensures { Reads (made (spec.checked found) (λ name. found ++ name ∷ []) tokens.old) result tokens.new }
+{
+    let mut names = found;
+    let refusal = tokens.refuse();
+    let name = tokens.variable(alloc)?;
+    if names.add(name)? {
+        Ok(names)
+    } else {
+        Err(refusal)
+    }
+}
+
 /// The next parameter, or the end behind a comma.
 fn behind_comma(
     alloc: Global,
     tokens: &mut Tokens<'_>,
     found: Names,
 ) -> Result<ControlFlow<Names, Names>, Refusal>
-    ensures { Reads (lists.behind_comma parameter Sign.CloseParenthesis found tokens.old) result tokens.new }
+    ensures { Reads (lists.behind_comma spec.checked Sign.CloseParenthesis found tokens.old) result tokens.new }
 {
     if tokens.sees(Sign::CloseParenthesis) {
         tokens.mark(Sign::CloseParenthesis)?;
         return Ok(ControlFlow::Break(found));
     }
-    Ok(ControlFlow::Continue(tokens.parameter(alloc, found)?))
+    Ok(ControlFlow::Continue(parameter(alloc, tokens, found)?))
 }
 
 fn comma_step(
@@ -33,7 +47,7 @@ fn comma_step(
     tokens: &mut Tokens<'_>,
     found: Names,
 ) -> Result<ControlFlow<Names, Names>, Refusal>
-    ensures { Reads (lists.comma_step parameter Sign.CloseParenthesis found tokens.old) result tokens.new }
+    ensures { Reads (lists.comma_step spec.checked Sign.CloseParenthesis found tokens.old) result tokens.new }
 {
     if tokens.sees(Sign::Comma) {
         tokens.mark(Sign::Comma)?;
@@ -44,7 +58,7 @@ fn comma_step(
 }
 
 fn comma_turns(alloc: Global, tokens: &mut Tokens<'_>, first: Names) -> Result<Names, Refusal>
-    ensures { Reads (closed (lists.comma_step parameter Sign.CloseParenthesis) first tokens.old) result tokens.new }
+    ensures { Reads (closed (lists.comma_step spec.checked Sign.CloseParenthesis) first tokens.old) result tokens.new }
 {
     let mut state = first;
     for _turn in 0..tokens.left() + 1 {
@@ -58,16 +72,15 @@ fn comma_turns(alloc: Global, tokens: &mut Tokens<'_>, first: Names) -> Result<N
 
 #[tactic(auto, unfolding(crate::specs::ReadingLists::some_items))]
 fn some_parameters(alloc: Global, tokens: &mut Tokens<'_>) -> Result<Names, Refusal>
-    ensures { Reads (lists.some_items parameter Sign.CloseParenthesis tokens.old) result tokens.new }
+    ensures { Reads (lists.some_items spec.checked Sign.CloseParenthesis tokens.old) result tokens.new }
 {
-    let first = tokens.parameter(alloc, Names::new(alloc))?;
+    let first = parameter(alloc, tokens, Names::new(alloc))?;
     comma_turns(alloc, tokens, first)
 }
 
-/// The parameters of a function behind its `(`, and the `)`.
 #[tactic(auto, unfolding(crate::specs::ReadingLists::any_items))]
-pub fn parameters(alloc: Global, tokens: &mut Tokens<'_>) -> Result<Items<Bytes>, Refusal>
-    ensures { Reads (lists.any_items parameter Sign.CloseParenthesis tokens.old) result tokens.new }
+fn checked_parameters(alloc: Global, tokens: &mut Tokens<'_>) -> Result<Items<Bytes>, Refusal>
+    ensures { Reads (lists.any_items spec.checked Sign.CloseParenthesis tokens.old) result tokens.new }
 {
     if tokens.sees(Sign::CloseParenthesis) {
         tokens.mark(Sign::CloseParenthesis)?;
@@ -75,4 +88,12 @@ pub fn parameters(alloc: Global, tokens: &mut Tokens<'_>) -> Result<Items<Bytes>
     }
     let names = some_parameters(alloc, tokens)?;
     Ok(names.into_items(alloc)?)
+}
+
+/// The parameters of a function behind its `(`, and the `)`.
+#[tactic(auto, using(crate::proofs::ParameterLemmas::parameters_are))]
+pub fn parameters(alloc: Global, tokens: &mut Tokens<'_>) -> Result<Items<Bytes>, Refusal>
+    ensures { Reads (lists.any_items spec.parameter Sign.CloseParenthesis tokens.old) result tokens.new }
+{
+    checked_parameters(alloc, tokens)
 }
