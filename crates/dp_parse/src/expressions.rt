@@ -202,6 +202,7 @@ pub fn expression(
 }
 
 /// A place with so many levels of nesting.
+#[tactic(auto, unfolding(crate::specs::Reading::reading_place))]
 pub fn place(alloc: Global, tokens: &mut Tokens<'_>, level: usize) -> Result<Place, Refusal>
     ensures { Reads (spec.reading_place level tokens.old) result tokens.new }
 {
