@@ -1,5 +1,5 @@
 -- What is asked of a function value that reads: that it may be called, and that it has the answer of a reader.
-use Rattle.std.specs.Prelude.{◌≡◌, ◌≢◌, ℕ, ◌-◌, ◌<◌, List, Result, Ok, Err}
+use Rattle.std.specs.Prelude.{◌≡◌, ◌≢◌, ℕ, ◌-◌, ◌<◌, List, Option, Result, Ok, Err}
 use Rattle.std.specs.Borrow.{Bor}
 use Rattle.std.specs.declared.alloc.Global.{Global}
 use denote.Ref.{MutBor}
@@ -7,9 +7,11 @@ use Rattle.dp_lexer.specs.declared.token.Token.{Token}
 use Rattle.dp_parse.specs.declared.operand.Part.{Part}
 use Rattle.dp_parse.specs.declared.refusal.Refusal.{Refusal}
 use Rattle.dp_parse.specs.declared.refusal.Refusal.TheVariants.{Memory}
+use Rattle.dp_parse.specs.declared.sign.Sign.TheVariants as sign
 use Rattle.dp_parse.specs.declared.tree.Expression.{Expression}
-use Rattle.dp_parse.specs.Input.{Outcome, Reads}
-use Rattle.dp_parse.specs.Reading.{below}
+use Rattle.dp_parse.specs.declared.tree.Expression.TheVariants as tree
+use Rattle.dp_parse.specs.Input.{Outcome, Reader, ◌>>=◌, ◌>>◌, gives, mark, Reads}
+use Rattle.dp_parse.specs.Reading.{below, coalesce}
 
 -- parts of expressions one level down, where a level is left
 pub record Nests (level : ℕ) (pre : Global → MutBor (List Token) → ℕ → Part → Type 0)
@@ -22,3 +24,10 @@ pub record Nests (level : ℕ) (pre : Global → MutBor (List Token) → ℕ →
 abbrev pub ReadsSlice : {A : Type 0} → Outcome (List A) → Result (Bor (List A)) Refusal → List Token → Type 0
 ReadsSlice outcome (Ok a) new = outcome ≡ Ok (a.now, new)
 ReadsSlice outcome (Err e) new = e ≢ Memory → outcome ≡ Err e
+
+-- the last part of a conditional, with its colon
+abbrev pub last_branch : ℕ → (Part → Reader Expression) → Expression → Option Expression → Reader Expression
+last_branch level inner test middle = do
+  mark sign.Colon
+  otherwise ← coalesce level inner
+  gives (tree.Conditional test middle otherwise)

@@ -1,8 +1,8 @@
 //! Expressions.
 
 ghost use Rattle.std.specs.Prelude.{◌≡◌, ◌<◌, ◌-◌};
-ghost use Rattle.dp_parse.specs.Input.{◌>>◌, Reads, made, mark};
-ghost use Rattle.dp_parse.specs.NestedReader.{Nests};
+ghost use Rattle.dp_parse.specs.Input.{Reads};
+ghost use Rattle.dp_parse.specs.NestedReader.{Nests, last_branch};
 ghost use Rattle.dp_parse.specs.Reading as spec;
 
 use crate::building::{assigned, coalesce, conditional, included, pushed, value_of};
@@ -65,18 +65,18 @@ impl<F: Fn(Global, &mut Tokens<'_>, usize, Part) -> Result<Expression, Refusal>>
     {
         tokens.mark(Sign::Question)?;
         let middle = self.middle(tokens)?;
-        self.otherwise(tokens, test, middle)
+        self.last_branch(tokens, test, middle)
     }
 
     /// The last part of a conditional, with its colon.
-    fn otherwise(
+    fn last_branch(
         &self,
         tokens: &mut Tokens<'_>,
         test: Expression,
         middle: Option<Expression>,
     ) -> Result<Expression, Refusal>
         requires { Nests self.now.level (F.pre self.now.inner) (F.post self.now.inner) }
-        ensures { Reads ((mark Sign.Colon >> made (spec.coalesce self.now.level (spec.below self.now.level)) (λ last. Expression.Conditional test middle last)) tokens.old) result tokens.new }
+        ensures { Reads (last_branch self.now.level (spec.below self.now.level) test middle tokens.old) result tokens.new }
     {
         tokens.mark(Sign::Colon)?;
         let last = self.coalesce(tokens)?;
@@ -202,6 +202,7 @@ pub fn expression(
 }
 
 /// A place with so many levels of nesting.
+#[tactic(auto, unfolding(crate::specs::Reading::reading_place))]
 pub fn place(alloc: Global, tokens: &mut Tokens<'_>, level: usize) -> Result<Place, Refusal>
     ensures { Reads (spec.reading_place level tokens.old) result tokens.new }
 {

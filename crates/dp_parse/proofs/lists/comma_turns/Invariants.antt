@@ -1,6 +1,5 @@
-use Rattle.std.proofs.Common.{◌≡◌, ◌-◌, []}
+use Rattle.std.proofs.Common.{◌≡◌, ◌-◌}
 use Rattle.dp_parse.specs.Input.{closed, until}
-use Rattle.dp_parse.specs.Signs.{is}
 use Rattle.dp_parse.specs.ReadingLists.{comma_step}
 use Rattle.dp_parse.proofs.lists.comma_turns.Given as goal
 

@@ -1,7 +1,6 @@
 use Rattle.std.proofs.Common.{rules, arith}
 use Rattle.std.proofs.lemmas.Grind.{common_steps}
 use Rattle.dp_parse.specs.Input.{until}
-use Rattle.dp_parse.specs.Signs.{is}
 use Rattle.dp_parse.specs.ReadingLists.{plain_step}
 use Rattle.dp_parse.proofs.Turns.{one_turn, no_turn}
 use Rattle.dp_parse.proofs.lists.plain_turns.Goals as goal

@@ -1,6 +1,5 @@
-use Rattle.std.proofs.Common.{◌≡◌, ◌-◌, []}
+use Rattle.std.proofs.Common.{◌≡◌, ◌-◌}
 use Rattle.dp_parse.specs.Input.{closed, until}
-use Rattle.dp_parse.specs.Signs.{is}
 use Rattle.dp_parse.specs.ReadingLists.{plain_step}
 use Rattle.dp_parse.proofs.lists.plain_turns.Given as goal
 

@@ -1,4 +1,4 @@
-use Rattle.std.proofs.Common.{◌≡◌, ◌+◌, ◌*◌, ◌-◌, [], length}
+use Rattle.std.proofs.Common.{◌≡◌, ◌+◌, ◌*◌, ◌-◌, length}
 use Rattle.dp_parse.specs.Input.{until}
 use Rattle.dp_parse.specs.Reading.{links_of, links_step, ladder, alone, below}
 use Rattle.dp_parse.proofs.places.Grammar.+ladder.Given as goal
