@@ -1,5 +1,7 @@
 use crate::errors::ParseError;
-use crate::tree::{Expression, Operator};
+use crate::lines::has_code;
+use crate::purity::is_pure;
+use crate::tree::{Arm, Expression, File, Link, Operator, Statement, StatementKind};
 use crate::whole::{parse_expression, parse_file};
 use dp_lexer::LexError;
 use dp_value::{BinaryOp, Memory};
@@ -24,7 +26,7 @@ struct Repeated {
     told: Told,
 }
 
-const FILES: [(&str, Told); 118] = [
+const PLACES_AND_OPERATORS: [(&str, Told); 47] = [
     ("<?php echo ;", Told::Unexpected(1)),
     ("<?php echo 1", Told::Unexpected(2)),
     ("<?php function f() {} function F() {}", Told::Double("F")),
@@ -72,6 +74,9 @@ const FILES: [(&str, Told); 118] = [
     ("<?php class();", Told::Unexpected(0)),
     ("<?php f(Abstract());", Told::Unexpected(2)),
     ("<?php array;", Told::Unexpected(1)),
+];
+
+const LISTS_AND_LOOPS: [(&str, Told); 31] = [
     ("<?php f(1,);", Told::Tree),
     ("<?php f(,);", Told::Unexpected(2)),
     ("<?php f(1 2);", Told::Unexpected(3)),
@@ -109,6 +114,9 @@ const FILES: [(&str, Told); 118] = [
         "<?php while (1) { } function f() { break; }",
         Told::Unexpected(11),
     ),
+];
+
+const BRANCHES_AND_FUNCTIONS: [(&str, Told); 34] = [
     ("<?php if (1) 1; else 2; else 3;", Told::Unexpected(9)),
     ("<?php if (1) if (2) 3; else 4; else 5;", Told::Tree),
     (
@@ -182,6 +190,9 @@ const FILES: [(&str, Told); 118] = [
         "<?php function f() {{{{{{{{{{{{{{{{{{{{{{{{{{{{{{{{{",
         Told::TooDeep(36),
     ),
+];
+
+const TOKENS: [(&str, Told); 6] = [
     ("<?php $a @", Told::Lexical(LexError::BadByte { offset: 9 })),
     (
         "<?php 'ab",
@@ -365,6 +376,25 @@ fn is_expression_told(alloc: Global, text: &[u8], told: &Told) -> bool {
     }
 }
 
+// The number of the first row whose text is not told so.
+fn first_other(alloc: Global, rows: &[(&str, Told)]) -> Option<usize> {
+    for (at, (text, told)) in rows.iter().enumerate() {
+        if !is_file_told(alloc, text.as_bytes(), told) {
+            return Some(at);
+        }
+    }
+    None
+}
+
+fn first_other_expression(alloc: Global, rows: &[(&str, Told)]) -> Option<usize> {
+    for (at, (text, told)) in rows.iter().enumerate() {
+        if !is_expression_told(alloc, text.as_bytes(), told) {
+            return Some(at);
+        }
+    }
+    None
+}
+
 fn text_of(alloc: Global, row: &Repeated) -> Result<Vec<u8>, Memory> {
     let mut text = Vec::new(alloc);
     text.extend_from_slice(row.front.as_bytes())?;
@@ -375,32 +405,161 @@ fn text_of(alloc: Global, row: &Repeated) -> Result<Vec<u8>, Memory> {
     Ok(text)
 }
 
-#[test]
-fn files_are_trees_or_refused_at_a_token(rt: HostRuntime) {
-    let alloc = rt.alloc();
-    for (text, told) in &FILES {
-        assert!(rt; is_file_told(alloc, text.as_bytes(), told), "{text}");
+fn first_other_nesting(alloc: Global, rows: &[Repeated]) -> Result<Option<usize>, Memory> {
+    for (at, row) in rows.iter().enumerate() {
+        let text = text_of(alloc, row)?;
+        if !is_file_told(alloc, text.as_slice(), &row.told) {
+            return Ok(Some(at));
+        }
     }
+    Ok(None)
+}
+
+#[test]
+fn places_and_operators(rt: HostRuntime) {
+    assert_eq!(rt; first_other(rt.alloc(), &PLACES_AND_OPERATORS), None);
+}
+
+#[test]
+fn lists_and_loops(rt: HostRuntime) {
+    assert_eq!(rt; first_other(rt.alloc(), &LISTS_AND_LOOPS), None);
+}
+
+#[test]
+fn branches_and_functions(rt: HostRuntime) {
+    assert_eq!(rt; first_other(rt.alloc(), &BRANCHES_AND_FUNCTIONS), None);
+}
+
+#[test]
+fn bytes_without_tokens(rt: HostRuntime) {
+    assert_eq!(rt; first_other(rt.alloc(), &TOKENS), None);
 }
 
 #[test]
 fn nesting_has_its_limits(rt: HostRuntime) -> Result<(), Fail> {
-    let alloc = rt.alloc();
-    for row in &REPEATED {
-        let text = text_of(alloc, row)?;
-        assert!(rt;
-            is_file_told(alloc, text.as_slice(), &row.told),
-            "{}",
-            row.piece
-        );
-    }
+    assert_eq!(rt; first_other_nesting(rt.alloc(), &REPEATED)?, None);
     Ok(())
 }
 
 #[test]
 fn expressions_stand_alone(rt: HostRuntime) {
-    let alloc = rt.alloc();
-    for (text, told) in &EXPRESSIONS {
-        assert!(rt; is_expression_told(alloc, text.as_bytes(), told), "{text}");
+    assert_eq!(rt; first_other_expression(rt.alloc(), &EXPRESSIONS), None);
+}
+
+fn is_number(e: &Expression, wanted: i64) -> bool {
+    matches!(e, Expression::Number(n) if *n == wanted)
+}
+
+// a link of this operator and this number
+fn is_link(link: &Link, by: BinaryOp, wanted: i64) -> bool {
+    match link.operator {
+        Operator::Of(found) => found == by && is_number(&link.operand, wanted),
+        Operator::Or | Operator::And => false,
+    }
+}
+
+#[test]
+fn operators_group_to_the_left(rt: HostRuntime) {
+    let Ok(Expression::Chain(first, links)) = parse_expression(rt.alloc(), b"1 - 2 - 3") else {
+        assert!(rt; false);
+        return;
+    };
+    assert!(rt; is_number(first.as_ref(), 1));
+    assert_eq!(rt; links.len(), 2);
+    assert!(rt; is_link(&links.as_slice()[0], BinaryOp::Sub, 2));
+    assert!(rt; is_link(&links.as_slice()[1], BinaryOp::Sub, 3));
+}
+
+// Whether the only statement is an `if` without `else`, in it an `if` with one.
+fn is_nearest(file: &File) -> bool {
+    match &file.body.as_slice() {
+        [
+            Statement {
+                kind: StatementKind::If {
+                    arms,
+                    otherwise: None,
+                },
+                ..
+            },
+        ] => {
+            match arms.as_slice() {
+                [Arm { body, .. }] => matches!(
+                    &body.kind,
+                    StatementKind::If {
+                        otherwise: Some(_),
+                        ..
+                    }
+                ),
+                _ => false,
+            }
+        }
+        _ => false,
+    }
+}
+
+#[test]
+fn else_belongs_to_the_nearest_if(rt: HostRuntime) {
+    let text = b"<?php if (1) if (2) 3; else 4;";
+    match parse_file(rt.alloc(), text) {
+        Ok(file) => assert!(rt; is_nearest(&file)),
+        Err(_) => assert!(rt; false),
+    }
+}
+
+const PURE: [(&str, bool); 12] = [
+    ("$a + 1 . 'x' == [$b[1] => -$c, 2]", true),
+    ("isset($a[1 + 2]) ? !$a : ($b ?? null)", true),
+    ("1 || strlen('a')", false),
+    ("[1, f() => 2]", false),
+    ("$a[$b = 1]", false),
+    ("isset($a[$b++])", false),
+    ("-($a .= 1)", false),
+    ("1 ? --$a : 2", false),
+    ("1 ?: ($a[] = 1)", false),
+    ("$a ?? ($b ??= 1)", false),
+    ("(include 'a') + 1", false),
+    ("1 % ($i - 1) == 0", true),
+];
+
+fn first_impure(alloc: Global, rows: &[(&str, bool)]) -> Option<usize> {
+    for (at, (text, wanted)) in rows.iter().enumerate() {
+        if text.len() > 1_000 {
+            return Some(at);
+        }
+        match parse_expression(alloc, text.as_bytes()) {
+            Ok(e) if is_pure(&e) == *wanted => {}
+            Ok(_) | Err(_) => return Some(at),
+        }
+    }
+    None
+}
+
+#[test]
+fn purity(rt: HostRuntime) {
+    assert_eq!(rt; first_impure(rt.alloc(), &PURE), None);
+}
+
+const LINES: &str =
+    "<?php\nfunction f($n) {\n  return $n + 1;\n}\n$x = f(f(1));\nif (1) {\n  ;\n} elseif (\n 2) echo\n 3;\ndo\n  foreach ($a\n    as $b) break;\nwhile (1);\n";
+
+// The lines of the text that have code, each as its bit.
+fn lines_with_code(file: &File) -> u32 {
+    let mut bits = 0u32;
+    for line in 0..20 {
+        if has_code(file, line) {
+            bits |= 1 << line;
+        }
+    }
+    bits
+}
+
+#[test]
+fn lines_have_code(rt: HostRuntime) {
+    match parse_file(rt.alloc(), LINES.as_bytes()) {
+        Ok(file) => {
+            assert_eq!(rt; file.lines, 15);
+            assert_eq!(rt; lines_with_code(&file), 0b111_0011_0110_1000);
+        }
+        Err(_) => assert!(rt; false),
     }
 }
