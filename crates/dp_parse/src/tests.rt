@@ -521,14 +521,20 @@ const PURE: [(&str, bool); 12] = [
     ("1 % ($i - 1) == 0", true),
 ];
 
+fn is_so_pure(alloc: Global, text: &[u8], wanted: bool) -> bool {
+    if text.len() > 1_000 {
+        return false;
+    }
+    match parse_expression(alloc, text) {
+        Ok(e) => is_pure(&e) == wanted,
+        Err(_) => false,
+    }
+}
+
 fn first_impure(alloc: Global, rows: &[(&str, bool)]) -> Option<usize> {
     for (at, (text, wanted)) in rows.iter().enumerate() {
-        if text.len() > 1_000 {
+        if !is_so_pure(alloc, text.as_bytes(), *wanted) {
             return Some(at);
-        }
-        match parse_expression(alloc, text.as_bytes()) {
-            Ok(e) if is_pure(&e) == *wanted => {}
-            Ok(_) | Err(_) => return Some(at),
         }
     }
     None
