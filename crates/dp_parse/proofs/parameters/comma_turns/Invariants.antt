@@ -1,0 +1,9 @@
+use Rattle.std.proofs.Common.{◌≡◌, ◌-◌}
+use Rattle.dp_parse.specs.declared.sign.Sign.TheVariants.{CloseParenthesis}
+use Rattle.dp_parse.specs.Input.{closed, until}
+use Rattle.dp_parse.specs.Parameters.{checked}
+use Rattle.dp_parse.specs.ReadingLists.{comma_step}
+use Rattle.dp_parse.proofs.parameters.comma_turns.Given as goal
+
+abbrev pub invariant-loop-turn : goal.invariant-loop-turn
+invariant-loop-turn l = closed (comma_step checked CloseParenthesis) l.fn.first l.fn.tokens ≡ until (comma_step checked CloseParenthesis) (l._turn-end - l._turn) l.state l.tokens

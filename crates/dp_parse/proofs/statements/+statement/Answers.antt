@@ -1,0 +1,14 @@
+use Rattle.std.proofs.Common.{◌≡◌, ◌-◌, ◌+◌, ◌<◌, arith, subst}
+use Rattle.dp_parse.specs.Input.{Outcome, Reads}
+use Rattle.dp_parse.specs.declared.ended.Body.{Body}
+use Rattle.dp_parse.proofs.NestedBodies.{body_is}
+use Rattle.dp_parse.proofs.statements.+statement.Goals as goal
+
+pub on_its_line-requires : goal.on_its_line-requires
+on_its_line-requires t c = record {
+  nests = record {
+    few = c.requires.few;
+    callable = λ alloc old around some near. (omega arith, omega (arith, c.requires.few));
+    reads = λ alloc old new around r some post. subst (λ (o : Outcome Body). Reads o r new.now) (body_is c.args.level around old.now some) post.1;
+  };
+}

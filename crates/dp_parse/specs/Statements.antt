@@ -1,0 +1,278 @@
+-- The grammar of statements (PHP manual, "Control Structures" and "Functions"; what is left out is our own).
+use Rattle.std.specs.Prelude.{◌≡◌, ℕ, zero, suc, pos, ◌<◌, ◌≤◌, Bool, true, false, not, ◌&&◌, nat_lt, nat_le, if◌then◌else◌, List, [], ◌∷◌, ◌++◌, Option, Some, None, ℤ}
+use Rattle.std.specs.List.{list_any}
+use Rattle.std.specs.Str.{bytes_eq}
+use Rattle.dp_lexer.specs.declared.token.Token.{Token}
+use Rattle.dp_lexer.specs.declared.token.TokenKind.{TokenKind}
+use Rattle.dp_lexer.specs.declared.token.TokenKind.TheVariants as kind
+use Rattle.dp_parse.specs.declared.ended.Ended.{Ended}
+use Rattle.dp_parse.specs.declared.ended.Body.{Body}
+use Rattle.dp_parse.specs.declared.ended.Parts.{Parts}
+use Rattle.dp_parse.specs.declared.sign.Sign.TheVariants as sign
+use Rattle.dp_parse.specs.declared.tree.Arm.{Arm}
+use Rattle.dp_parse.specs.declared.tree.Binding.{Binding}
+use Rattle.dp_parse.specs.declared.tree.Expression.{Expression}
+use Rattle.dp_parse.specs.declared.tree.Function.{Function}
+use Rattle.dp_parse.specs.declared.tree.Place.{Place}
+use Rattle.dp_parse.specs.declared.tree.Statement.{Statement}
+use Rattle.dp_parse.specs.declared.tree.StatementKind.{StatementKind}
+use Rattle.dp_parse.specs.declared.tree.StatementKind.TheVariants as tree
+use Rattle.dp_parse.specs.Rules.{Rule, ◌>>=◌, ◌>>◌, ◌or◌, Gives, Made, One, Mark, When, Nests, Without, OnLine, Closed, Perhaps}
+use Rattle.dp_parse.specs.Lists.{PlainItems, SomeItems, AnyPlainItems, AnyItems}
+use Rattle.dp_parse.specs.Grammar.{Text, Variable, Kind, variable_in, name_in, IsExpression, IsPlace}
+
+abbrev pub ended : StatementKind → Bool → Ended
+ended k is_open = record { kind = k; is_open = is_open }
+
+-- a statement with its end: no `else` belongs to it
+abbrev pub whole : StatementKind → Ended
+whole k = ended k false
+
+abbrev pub arm : ℕ → Expression → Statement → Arm
+arm line test body = record { line = line; test = test; body = body }
+
+abbrev pub binding : Option Text → Text → Binding
+binding key value = record { key = key; value = value }
+
+-- the levels of a `break` or `continue` in so many loops
+abbrev pub levels_in : ℕ → TokenKind → Option ℕ
+levels_in loops (kind.Number (pos n)) = if nat_le 1 n && nat_le n loops then Some n else None
+levels_in loops _ = None
+
+-- a name that is none of these
+abbrev pub parameter_in : List Text → TokenKind → Option Text
+parameter_in found (kind.Variable name) = if list_any (λ other. bytes_eq other name) found then None else variable_in (kind.Variable name)
+parameter_in found _ = None
+
+abbrev pub stated : ℕ → Ended → Body
+stated line e = record { statement = record { line = line; kind = e.kind }; is_open = e.is_open }
+
+-- a statement has the line of its first token
+abbrev pub OnItsLine : Rule Ended → Rule Body
+OnItsLine rule = OnLine (λ line. Made rule (stated line))
+
+-- *stmt "}"
+abbrev pub Bodies : Rule Body → Rule (List Statement)
+Bodies body = Closed (λ all. Made body (λ b. all ++ b.statement ∷ [])) (λ all. Made (Mark sign.CloseBrace) (λ _. all)) []
+
+-- "{" *stmt "}"
+abbrev pub Braced : Rule Body → Rule Ended
+Braced body = do
+  Mark sign.OpenBrace
+  all ← Bodies body
+  Gives (whole (tree.Block all))
+
+-- The body of a head is a statement. Where it is one in braces, it is no block that counts for itself.
+abbrev pub HeadBody : Rule Body → Rule Body
+HeadBody body = OnItsLine (Braced body) or Without sign.OpenBrace body
+
+-- ";"
+abbrev pub Empty : Rule Ended
+Empty = Made (Mark sign.Semicolon) (λ _. whole tree.Empty)
+
+-- elseif = "elseif" | "else" "if"
+abbrev pub ElseIf : Rule ℕ
+ElseIf = Mark sign.ElseIf or (Mark sign.Else >>= (λ line. Made (Mark sign.If) (λ _. line)))
+
+-- the arms so far, of which the last one ends with this body
+abbrev pub Arms : Type 0
+Arms = List Arm × Bool
+
+abbrev pub with_arm : List Arm → ℕ → Expression → Body → Arms
+with_arm arms line test b = (arms ++ arm line test b.statement ∷ [], b.is_open)
+
+-- var [ "=>" var ]
+abbrev pub Bound : Rule Binding
+Bound = Variable >>= (λ first. Made (Mark sign.Arrow >> Variable) (λ value. binding (Some first) value) or Gives (binding None first))
+
+-- "global" var *( "," var ) ";"
+abbrev pub GlobalRule : Rule Ended
+GlobalRule = Made (Mark sign.Global >> PlainItems (λ _. Variable) sign.Semicolon) (λ names. whole (tree.Global names))
+
+-- The number is how many levels of bodies are left, and the next in how many loops the statement stands. `body` is a
+-- statement in a body one level down, in so many loops.
+module _ (level : ℕ) (loops : ℕ) (expression : Rule Expression) (place : Rule Place) (body : ℕ → Rule Body) where
+  -- expr ";"
+  abbrev pub Perform : Rule Ended
+  Perform = do
+    value ← expression
+    Mark sign.Semicolon
+    Gives (whole (tree.Expression value))
+
+  -- "echo" expr *( "," expr ) ";"
+  abbrev pub Echo : Rule Ended
+  Echo = do
+    Mark sign.Echo
+    values ← PlainItems (λ _. expression) sign.Semicolon
+    Gives (whole (tree.Echo values))
+
+  -- "{" *stmt "}"
+  abbrev pub Block : Rule Ended
+  Block = Nests level (Braced (body loops))
+
+  -- "(" expr ")"
+  abbrev pub Test : Rule Expression
+  Test = do
+    Mark sign.OpenParenthesis
+    test ← expression
+    Mark sign.CloseParenthesis
+    Gives test
+
+  -- "(" expr ")" stmt, behind the word on this line
+  abbrev pub ArmRule : List Arm → ℕ → Rule Arms
+  ArmRule arms line = do
+    test ← Test
+    b ← HeadBody (body loops)
+    Gives (with_arm arms line test b)
+
+  -- elseif "(" expr ")" stmt, where the body before it takes none
+  abbrev pub NextArm : Arms → Rule Arms
+  NextArm a = When (not a.1) (ElseIf >>= ArmRule a.0)
+
+  -- "else" stmt, where the body before it takes none. With an `if` behind it, it is an elseif.
+  abbrev pub Otherwise : Arms → Rule Ended
+  Otherwise a = When (not a.1) (do
+    Mark sign.Else
+    b ← Without sign.If (HeadBody (body loops))
+    Gives (ended (tree.If a.0 (Some b.statement)) b.is_open))
+
+  -- "if" "(" expr ")" stmt *( elseif "(" expr ")" stmt ) [ "else" stmt ]
+  abbrev pub If : Rule Ended
+  If = Nests level (do
+    line ← Mark sign.If
+    first ← ArmRule [] line
+    Closed NextArm (λ a. Otherwise a or Gives (ended (tree.If a.0 None) true)) first)
+
+  -- the body of a loop, and what it makes
+  abbrev pub LoopBody : (Statement → StatementKind) → Rule Ended
+  LoopBody of = Made (HeadBody (body (suc loops))) (λ b. ended (of b.statement) b.is_open)
+
+  -- "while" "(" expr ")" stmt
+  abbrev pub While : Rule Ended
+  While = Nests level (do
+    Mark sign.While
+    test ← Test
+    LoopBody (λ b. tree.While test b))
+
+  -- "do" stmt "while" "(" expr ")" ";"
+  abbrev pub DoWhile : Rule Ended
+  DoWhile = Nests level (do
+    Mark sign.Do
+    b ← HeadBody (body (suc loops))
+    line ← Mark sign.While
+    test ← Test
+    Mark sign.Semicolon
+    Gives (whole (tree.DoWhile b.statement line test)))
+
+  -- "for" "(" exprs ";" exprs ";" exprs ")" stmt
+  abbrev pub For : Rule Ended
+  For = Nests level (do
+    Mark sign.For
+    Mark sign.OpenParenthesis
+    before ← AnyPlainItems (λ _. expression) sign.Semicolon
+    tests ← AnyPlainItems (λ _. expression) sign.Semicolon
+    after ← AnyPlainItems (λ _. expression) sign.CloseParenthesis
+    LoopBody (λ b. tree.For before tests after b))
+
+  -- "foreach" "(" expr "as" var [ "=>" var ] ")" stmt
+  abbrev pub Foreach : Rule Ended
+  Foreach = Nests level (do
+    Mark sign.Foreach
+    Mark sign.OpenParenthesis
+    subject ← expression
+    Mark sign.As
+    bound ← Bound
+    Mark sign.CloseParenthesis
+    LoopBody (λ b. tree.Foreach subject bound b))
+
+  -- [ number ] ";", where none is 1
+  abbrev pub Loops : Rule ℕ
+  Loops = (Kind (levels_in loops) or Gives 1) >>= (λ n. Made (Mark sign.Semicolon) (λ _. n))
+
+  -- ( "break" | "continue" ) [ number ] ";", in a loop
+  abbrev pub Break : Rule Ended
+  Break = When (nat_lt 0 loops) (Made (Mark sign.Break >> Loops) (λ n. whole (tree.Break n)))
+
+  abbrev pub Continue : Rule Ended
+  Continue = When (nat_lt 0 loops) (Made (Mark sign.Continue >> Loops) (λ n. whole (tree.Continue n)))
+
+  -- [ expr ] and what ends it
+  abbrev pub MaybeUpTo : Rule ℕ → Rule (Option Expression)
+  MaybeUpTo end = Made end (λ _. None) or (expression >>= (λ value. Made end (λ _. Some value)))
+
+  -- "return" [ expr ] ";"
+  abbrev pub Return : Rule Ended
+  Return = Made (Mark sign.Return >> MaybeUpTo (Mark sign.Semicolon)) (λ value. whole (tree.Return value))
+
+  -- "unset" "(" places ")" ";"
+  abbrev pub Unset : Rule Ended
+  Unset = do
+    Mark sign.Unset
+    Mark sign.OpenParenthesis
+    places ← SomeItems (λ _. place) sign.CloseParenthesis
+    Mark sign.Semicolon
+    Gives (whole (tree.Unset places))
+
+  -- ( "exit" | "die" ) [ "(" [ expr ] ")" ] ";"
+  abbrev pub ExitValue : Rule (Option Expression)
+  ExitValue = (Mark sign.OpenParenthesis >> MaybeUpTo (Mark sign.CloseParenthesis)) or Gives None
+
+  abbrev pub Exit : Rule Ended
+  Exit = do
+    Mark sign.Exit or Mark sign.Die
+    value ← ExitValue
+    Mark sign.Semicolon
+    Gives (whole (tree.Exit value))
+
+  abbrev pub AnyStatement : Rule Ended
+  AnyStatement =
+      Perform or Echo or Block or Empty or If or While or DoWhile or For or Foreach
+      or Break or Continue or Return or GlobalRule or Unset or Exit
+
+-- a statement in a body one level down, where so many levels are left, in so many loops
+abbrev pub body_at : (expressions : ℕ) → ℕ → ℕ → Rule Body
+body_at expressions zero loops = λ ts a. ⊥
+body_at expressions (suc level) loops = OnItsLine (AnyStatement level loops (IsExpression expressions) (IsPlace expressions) (body_at expressions level))
+
+-- how many levels of nesting there are, of expressions and of bodies
+pub record Depth : Type 0 where
+  pub expressions : ℕ
+  pub bodies : ℕ
+
+-- a statement outside of loops
+abbrev pub IsStatement : Depth → Rule Body
+IsStatement depth = OnItsLine (AnyStatement depth.bodies 0 (IsExpression depth.expressions) (IsPlace depth.expressions) (body_at depth.expressions depth.bodies))
+
+-- ---- files
+
+abbrev pub function_of : ℕ → Text → List Text → List Statement → Function
+function_of line name parameters body = record { line = line; name = name; parameters = parameters; body = body }
+
+-- "function" name "(" [ var *( "," var ) [ "," ] ] ")" "{" *stmt "}"
+abbrev pub FunctionRule : Depth → Rule Function
+FunctionRule depth = Nests depth.bodies (do
+  line ← Mark sign.Function
+  name ← Kind name_in
+  Mark sign.OpenParenthesis
+  parameters ← AnyItems (λ found. Kind (parameter_in found)) sign.CloseParenthesis
+  Mark sign.OpenBrace
+  all ← Bodies (body_at depth.expressions depth.bodies 0)
+  Gives (function_of line name parameters all))
+
+abbrev pub no_parts : Parts
+no_parts = record { body = []; functions = [] }
+
+abbrev pub with_statement : Parts → Body → Parts
+with_statement parts b = record { body = parts.body ++ b.statement ∷ []; functions = parts.functions }
+
+abbrev pub with_function : Parts → Function → Parts
+with_function parts f = record { body = parts.body; functions = parts.functions ++ f ∷ [] }
+
+-- file = *( function | stmt )
+abbrev pub Spells : Depth → Rule Parts
+Spells depth =
+    Closed (λ parts. Made (FunctionRule depth) (with_function parts) or Made (IsStatement depth) (with_statement parts)) (λ parts. Gives parts) no_parts
+
+-- an expression by itself: expr [ ";" ]
+abbrev pub SpellsExpression : ℕ → Rule Expression
+SpellsExpression level = IsExpression level >>= (λ e. Made (Perhaps (Mark sign.Semicolon)) (λ _. e))

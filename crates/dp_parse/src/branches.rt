@@ -1,0 +1,144 @@
+//! `if` with its arms.
+
+ghost use Rattle.std.specs.Prelude.{◌≡◌, ◌+◌, ◌<◌, ◌≤◌, ◌^◌};
+ghost use Rattle.dp_parse.specs.Input.{Reads};
+ghost use Rattle.dp_parse.specs.Limits.{within};
+ghost use Rattle.dp_parse.specs.NestedBody.{NestsBody};
+ghost use Rattle.dp_parse.specs.ReadingStatements as spec;
+
+use crate::boxed::Boxed;
+use crate::building::{none, with};
+use crate::cursor::{Tokens, enter};
+use crate::ended::{Body, Ended};
+use crate::levels::expression;
+use crate::refusal::Refusal;
+use crate::sign::Sign;
+use crate::statements::Statements;
+use crate::tree::{Arm, Expression, StatementKind};
+use dp_value::Items;
+use std::alloc::Global;
+use std::ops::ControlFlow;
+
+impl<F: Fn(Global, &mut Tokens<'_>, usize, u32) -> Result<Body, Refusal>> Statements<F> {
+    /// An expression in parentheses.
+    #[tactic(auto, unfolding(crate::specs::ReadingStatements::test))]
+    pub fn test(&self, tokens: &mut Tokens<'_>) -> Result<Expression, Refusal>
+        ensures { Reads (within spec.test self.now.level self.now.loops tokens.old) result tokens.new }
+    {
+        tokens.mark(Sign::OpenParenthesis)?;
+        let test = expression(self.alloc, tokens)?;
+        tokens.mark(Sign::CloseParenthesis)?;
+        Ok(test)
+    }
+
+    /// The arms so far, and the next one behind the word on this line.
+    #[tactic(auto, unfolding(crate::specs::ReadingStatements::next_arm))]
+    fn next_arm(
+        &self,
+        tokens: &mut Tokens<'_>,
+        arms: Items<Arm>,
+        line: u32,
+    ) -> Result<(Items<Arm>, bool), Refusal>
+        requires nests { NestsBody self.now.level self.now.loops (F.pre self.now.inner) (F.post self.now.inner) }
+        requires some { 0 < self.now.level }
+        ensures { Reads (within spec.next_arm self.now.level self.now.loops arms line tokens.old) result tokens.new }
+    {
+        let test = self.test(tokens)?;
+        let Body { statement, is_open } = self.head_body(tokens, self.loops)?;
+        let arm = Arm {
+            line,
+            test,
+            body: statement,
+        };
+        Ok((with(arms, arm)?, is_open))
+    }
+
+    /// The body behind an `else`.
+    #[tactic(auto, unfolding(crate::specs::ReadingStatements::otherwise))]
+    fn otherwise(&self, tokens: &mut Tokens<'_>, arms: Items<Arm>) -> Result<Ended, Refusal>
+        requires nests { NestsBody self.now.level self.now.loops (F.pre self.now.inner) (F.post self.now.inner) }
+        requires some { 0 < self.now.level }
+        ensures { Reads (within spec.otherwise self.now.level self.now.loops arms tokens.old) result tokens.new }
+    {
+        let Body { statement, is_open } = self.head_body(tokens, self.loops)?;
+        let otherwise = Some(Boxed::new(self.alloc, statement)?);
+        Ok(Ended {
+            kind: StatementKind::If { arms, otherwise },
+            is_open,
+        })
+    }
+
+    /// What stands behind an `else` on this line: a further arm, or the last body.
+    #[tactic(auto, unfolding(crate::specs::ReadingStatements::behind_else))]
+    fn behind_else(
+        &self,
+        tokens: &mut Tokens<'_>,
+        arms: Items<Arm>,
+        line: u32,
+    ) -> Result<ControlFlow<Ended, (Items<Arm>, bool)>, Refusal>
+        requires nests { NestsBody self.now.level self.now.loops (F.pre self.now.inner) (F.post self.now.inner) }
+        requires some { 0 < self.now.level }
+        ensures { Reads (within spec.behind_else self.now.level self.now.loops arms line tokens.old) result tokens.new }
+    {
+        if tokens.sees(Sign::If) {
+            tokens.mark(Sign::If)?;
+            return Ok(ControlFlow::Continue(self.next_arm(tokens, arms, line)?));
+        }
+        Ok(ControlFlow::Break(self.otherwise(tokens, arms)?))
+    }
+
+    fn arms_step(
+        &self,
+        tokens: &mut Tokens<'_>,
+        arms: Items<Arm>,
+        is_open: bool,
+    ) -> Result<ControlFlow<Ended, (Items<Arm>, bool)>, Refusal>
+        requires nests { NestsBody self.now.level self.now.loops (F.pre self.now.inner) (F.post self.now.inner) }
+        requires some { 0 < self.now.level }
+        ensures { Reads (within spec.arms_step self.now.level self.now.loops (arms, is_open) tokens.old) result tokens.new }
+    {
+        if !is_open && tokens.sees(Sign::ElseIf) {
+            let line = tokens.mark(Sign::ElseIf)?;
+            return Ok(ControlFlow::Continue(self.next_arm(tokens, arms, line)?));
+        }
+        if !is_open && tokens.sees(Sign::Else) {
+            let line = tokens.mark(Sign::Else)?;
+            return self.behind_else(tokens, arms, line);
+        }
+        Ok(ControlFlow::Break(Ended {
+            kind: StatementKind::If {
+                arms,
+                otherwise: None,
+            },
+            is_open: true,
+        }))
+    }
+
+    /// What stands behind the first arm.
+    #[tactic(auto, unfolding(crate::specs::ReadingStatements::arms))]
+    fn arms(&self, tokens: &mut Tokens<'_>, first: (Items<Arm>, bool)) -> Result<Ended, Refusal>
+        requires nests { NestsBody self.now.level self.now.loops (F.pre self.now.inner) (F.post self.now.inner) }
+        requires some { 0 < self.now.level }
+        ensures { Reads (within spec.arms self.now.level self.now.loops first tokens.old) result tokens.new }
+    {
+        let mut state = first;
+        for _turn in 0..tokens.left() + 1 {
+            match self.arms_step(tokens, state.0, state.1)? {
+                ControlFlow::Continue(more) => state = more,
+                ControlFlow::Break(all) => return Ok(all),
+            }
+        }
+        Err(tokens.refuse())
+    }
+
+    #[tactic(auto, unfolding(crate::specs::ReadingStatements::if_rule))]
+    pub fn if_rule(&self, tokens: &mut Tokens<'_>) -> Result<Ended, Refusal>
+        requires nests { NestsBody self.now.level self.now.loops (F.pre self.now.inner) (F.post self.now.inner) }
+        ensures { Reads (within spec.if_rule self.now.level self.now.loops tokens.old) result tokens.new }
+    {
+        enter(self.level, tokens)?;
+        let line = tokens.mark(Sign::If)?;
+        let first = self.next_arm(tokens, none(self.alloc), line)?;
+        self.arms(tokens, first)
+    }
+}

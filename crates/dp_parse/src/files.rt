@@ -1,0 +1,150 @@
+//! Functions, files, and expressions by themselves.
+
+ghost use Rattle.std.specs.Prelude.{◌≡◌, IfOk};
+ghost use Rattle.dp_parse.specs.Input.{Reads};
+ghost use Rattle.dp_parse.specs.Limits as limits;
+ghost use Rattle.dp_parse.specs.ReadingStatements as spec;
+ghost use Rattle.dp_parse.specs.Statements as grammar;
+
+use crate::building::{none, with};
+use crate::cursor::{Tokens, enter};
+use crate::ended::{Body, Parts};
+use crate::levels::{BODY_LEVELS, expression};
+use crate::parameters::parameters;
+use crate::refusal::Refusal;
+use crate::sign::Sign;
+use crate::statements::{Statements, statement};
+use crate::tree::{Expression, Function, Statement};
+use dp_value::{Items, Memory};
+use std::alloc::Global;
+use std::ops::ControlFlow;
+
+/// A statement outside of loops.
+fn outermost(alloc: Global, tokens: &mut Tokens<'_>) -> Result<Body, Refusal>
+    ensures { Reads (spec.statement limits.expression_levels limits.body_levels 0 tokens.old) result tokens.new }
+{
+    statement(alloc, tokens, BODY_LEVELS, 0)
+}
+
+/// The statements of a function up to its closing brace.
+fn function_body(alloc: Global, tokens: &mut Tokens<'_>) -> Result<Items<Statement>, Refusal>
+    ensures { Reads (spec.bodies (limits.body limits.body_levels 0) tokens.old) result tokens.new }
+{
+    Statements {
+        alloc,
+        level: BODY_LEVELS,
+        loops: 0,
+        inner: statement,
+    }
+    .bodies(tokens, 0)
+}
+
+/// A function.
+#[tactic(auto, unfolding(crate::specs::ReadingStatements::function_rule))]
+pub fn function(alloc: Global, tokens: &mut Tokens<'_>) -> Result<Function, Refusal>
+    ensures { Reads (spec.function_rule limits.limits tokens.old) result tokens.new }
+{
+    enter(BODY_LEVELS, tokens)?;
+    let line = tokens.mark(Sign::Function)?;
+    let name = tokens.name(alloc)?;
+    tokens.mark(Sign::OpenParenthesis)?;
+    let parameters = parameters(alloc, tokens)?;
+    tokens.mark(Sign::OpenBrace)?;
+    let body = function_body(alloc, tokens)?;
+    Ok(Function {
+        line,
+        name,
+        parameters,
+        body,
+    })
+}
+
+fn with_statement(parts: Parts, body: Body) -> Result<Parts, Memory>
+    ensures { IfOk result (λ more. more ≡ grammar.with_statement parts body) }
+{
+    let Parts {
+        body: before,
+        functions,
+    } = parts;
+    Ok(Parts {
+        body: with(before, body.statement)?,
+        functions,
+    })
+}
+
+fn with_function(parts: Parts, function: Function) -> Result<Parts, Memory>
+    ensures { IfOk result (λ more. more ≡ grammar.with_function parts function) }
+{
+    let Parts { body, functions } = parts;
+    Ok(Parts {
+        body,
+        functions: with(functions, function)?,
+    })
+}
+
+fn file_step(
+    alloc: Global,
+    tokens: &mut Tokens<'_>,
+    parts: Parts,
+) -> Result<ControlFlow<Parts, Parts>, Refusal>
+    ensures { Reads (spec.file_step limits.limits parts tokens.old) result tokens.new }
+{
+    if tokens.sees(Sign::End) {
+        return Ok(ControlFlow::Break(parts));
+    }
+    if tokens.sees(Sign::Function) {
+        let function = function(alloc, tokens)?;
+        return Ok(ControlFlow::Continue(with_function(parts, function)?));
+    }
+    let body = outermost(alloc, tokens)?;
+    Ok(ControlFlow::Continue(with_statement(parts, body)?))
+}
+
+/// The statements and the functions of a file, up to the end.
+#[tactic(auto, unfolding(crate::specs::ReadingStatements::file))]
+pub fn file(alloc: Global, tokens: &mut Tokens<'_>) -> Result<Parts, Refusal>
+    ensures { Reads (spec.file limits.limits tokens.old) result tokens.new }
+{
+    let mut state = Parts {
+        body: none(alloc),
+        functions: none(alloc),
+    };
+    for _turn in 0..tokens.left() + 1 {
+        match file_step(alloc, tokens, state)? {
+            ControlFlow::Continue(more) => state = more,
+            ControlFlow::Break(all) => return Ok(all),
+        }
+    }
+    Err(tokens.refuse())
+}
+
+#[tactic(auto, unfolding(crate::specs::ReadingStatements::at_end, crate::specs::Input::refuse))]
+fn at_end(tokens: &mut Tokens<'_>, found: Expression) -> Result<Expression, Refusal>
+    ensures { Reads (spec.at_end found tokens.old) result tokens.new }
+{
+    if tokens.sees(Sign::End) {
+        Ok(found)
+    } else {
+        Err(tokens.refuse())
+    }
+}
+
+/// A `;` or nothing, and the end.
+#[tactic(auto, unfolding(crate::specs::ReadingStatements::semicolon))]
+fn semicolon(tokens: &mut Tokens<'_>, found: Expression) -> Result<Expression, Refusal>
+    ensures { Reads (spec.semicolon found tokens.old) result tokens.new }
+{
+    if tokens.sees(Sign::Semicolon) {
+        tokens.mark(Sign::Semicolon)?;
+    }
+    at_end(tokens, found)
+}
+
+/// An expression by itself, possibly with a `;` behind it, up to the end.
+#[tactic(auto, unfolding(crate::specs::ReadingStatements::expression_text))]
+pub fn expression_text(alloc: Global, tokens: &mut Tokens<'_>) -> Result<Expression, Refusal>
+    ensures { Reads (spec.expression_text limits.expression_levels tokens.old) result tokens.new }
+{
+    let found = expression(alloc, tokens)?;
+    semicolon(tokens, found)
+}

@@ -1,0 +1,170 @@
+//! Statements without a body: jumps out of loops, functions and programs, and what is declared or removed.
+
+ghost use Rattle.std.specs.Prelude.{⊤, ◌≡◌, ◌<◌, ◌≤◌, ◌^◌};
+ghost use Rattle.dp_parse.specs.Input.{Reads};
+ghost use Rattle.dp_parse.specs.Limits.{within};
+ghost use Rattle.dp_parse.specs.Reading as reading;
+ghost use Rattle.dp_parse.specs.ReadingLists as lists;
+ghost use Rattle.dp_parse.specs.ReadingStatements as spec;
+ghost use Rattle.dp_parse.specs.Statements as grammar;
+
+use crate::cursor::Tokens;
+use crate::ended::{Body, Ended};
+use crate::levels::{expression, some_places};
+use crate::lists::{Piece, plain_items};
+use crate::refusal::Refusal;
+use crate::sign::Sign;
+use crate::statements::{Statements, whole};
+use crate::tree::{Expression, StatementKind};
+use dp_value::{Bytes, Items};
+use std::alloc::Global;
+
+/// A variable in a list.
+#[derive(Drop)]
+struct ListedVariable {
+    alloc: Global,
+}
+
+impl Piece<Bytes> for ListedVariable {
+    ghost reads = { λ _. reading.variable };
+
+    ghost ready = { λ _. ⊤ };
+
+    fn read(&self, tokens: &mut Tokens<'_>) -> Result<Bytes, Refusal> {
+        tokens.variable(self.alloc)
+    }
+}
+
+/// One variable or more, and what closes them.
+fn variables(alloc: Global, tokens: &mut Tokens<'_>) -> Result<Items<Bytes>, Refusal>
+    ensures { Reads (lists.plain_items (λ _. reading.variable) Sign.Semicolon tokens.old) result tokens.new }
+{
+    plain_items(alloc, tokens, Sign::Semicolon, &ListedVariable { alloc })
+}
+
+#[tactic(auto, unfolding(crate::specs::ReadingStatements::global_rule))]
+pub fn global_rule(alloc: Global, tokens: &mut Tokens<'_>) -> Result<Ended, Refusal>
+    ensures { Reads (spec.global_rule tokens.old) result tokens.new }
+{
+    tokens.mark(Sign::Global)?;
+    let names = variables(alloc, tokens)?;
+    Ok(whole(StatementKind::Global(names)))
+}
+
+#[tactic(auto, unfolding(crate::specs::ReadingStatements::exit_word))]
+fn exit_word(tokens: &mut Tokens<'_>) -> Result<u32, Refusal>
+    ensures { Reads (spec.exit_word tokens.old) result tokens.new }
+{
+    if tokens.sees(Sign::Exit) {
+        tokens.mark(Sign::Exit)
+    } else {
+        tokens.mark(Sign::Die)
+    }
+}
+
+impl<F: Fn(Global, &mut Tokens<'_>, usize, u32) -> Result<Body, Refusal>> Statements<F> {
+    /// How many loops a jump is about: 1, or a number up to that of the loops around it.
+    #[tactic(auto, unfolding(crate::specs::ReadingStatements::levels))]
+    fn levels(&self, tokens: &mut Tokens<'_>) -> Result<u32, Refusal>
+        ensures { Reads (within spec.levels self.now.level self.now.loops tokens.old) result tokens.new }
+    {
+        if tokens.sees(Sign::Number) {
+            tokens.levels(self.loops)
+        } else {
+            Ok(1)
+        }
+    }
+
+    #[tactic(auto, unfolding(crate::specs::ReadingStatements::loops_rule))]
+    fn loops_rule(&self, tokens: &mut Tokens<'_>) -> Result<u32, Refusal>
+        ensures { Reads (within spec.loops_rule self.now.level self.now.loops tokens.old) result tokens.new }
+    {
+        let count = self.levels(tokens)?;
+        tokens.mark(Sign::Semicolon)?;
+        Ok(count)
+    }
+
+    #[tactic(auto, unfolding(crate::specs::ReadingStatements::break_rule, crate::specs::Input::refuse))]
+    pub fn break_rule(&self, tokens: &mut Tokens<'_>) -> Result<Ended, Refusal>
+        ensures { Reads (within spec.break_rule self.now.level self.now.loops tokens.old) result tokens.new }
+    {
+        if self.loops == 0 {
+            return Err(tokens.refuse());
+        }
+        tokens.mark(Sign::Break)?;
+        let count = self.loops_rule(tokens)?;
+        Ok(whole(StatementKind::Break(count)))
+    }
+
+    #[tactic(auto, unfolding(crate::specs::ReadingStatements::continue_rule, crate::specs::Input::refuse))]
+    pub fn continue_rule(&self, tokens: &mut Tokens<'_>) -> Result<Ended, Refusal>
+        ensures { Reads (within spec.continue_rule self.now.level self.now.loops tokens.old) result tokens.new }
+    {
+        if self.loops == 0 {
+            return Err(tokens.refuse());
+        }
+        tokens.mark(Sign::Continue)?;
+        let count = self.loops_rule(tokens)?;
+        Ok(whole(StatementKind::Continue(count)))
+    }
+
+    /// An expression, or none, and what closes it.
+    #[tactic(auto, unfolding(crate::specs::ReadingStatements::maybe_up_to))]
+    fn maybe_up_to(
+        &self,
+        tokens: &mut Tokens<'_>,
+        close: Sign,
+    ) -> Result<Option<Expression>, Refusal>
+        ensures { Reads (within spec.maybe_up_to self.now.level self.now.loops close tokens.old) result tokens.new }
+    {
+        if tokens.sees(close) {
+            tokens.mark(close)?;
+            return Ok(None);
+        }
+        let value = expression(self.alloc, tokens)?;
+        tokens.mark(close)?;
+        Ok(Some(value))
+    }
+
+    #[tactic(auto, unfolding(crate::specs::ReadingStatements::return_rule))]
+    pub fn return_rule(&self, tokens: &mut Tokens<'_>) -> Result<Ended, Refusal>
+        ensures { Reads (within spec.return_rule self.now.level self.now.loops tokens.old) result tokens.new }
+    {
+        tokens.mark(Sign::Return)?;
+        let value = self.maybe_up_to(tokens, Sign::Semicolon)?;
+        Ok(whole(StatementKind::Return(value)))
+    }
+
+    #[tactic(auto, unfolding(crate::specs::ReadingStatements::unset))]
+    pub fn unset(&self, tokens: &mut Tokens<'_>) -> Result<Ended, Refusal>
+        ensures { Reads (within spec.unset self.now.level self.now.loops tokens.old) result tokens.new }
+    {
+        tokens.mark(Sign::Unset)?;
+        tokens.mark(Sign::OpenParenthesis)?;
+        let places = some_places(self.alloc, tokens, Sign::CloseParenthesis)?;
+        tokens.mark(Sign::Semicolon)?;
+        Ok(whole(StatementKind::Unset(places)))
+    }
+
+    #[tactic(auto, unfolding(crate::specs::ReadingStatements::exit_value))]
+    fn exit_value(&self, tokens: &mut Tokens<'_>) -> Result<Option<Expression>, Refusal>
+        ensures { Reads (within spec.exit_value self.now.level self.now.loops tokens.old) result tokens.new }
+    {
+        if tokens.sees(Sign::OpenParenthesis) {
+            tokens.mark(Sign::OpenParenthesis)?;
+            self.maybe_up_to(tokens, Sign::CloseParenthesis)
+        } else {
+            Ok(None)
+        }
+    }
+
+    #[tactic(auto, unfolding(crate::specs::ReadingStatements::exit))]
+    pub fn exit(&self, tokens: &mut Tokens<'_>) -> Result<Ended, Refusal>
+        ensures { Reads (within spec.exit self.now.level self.now.loops tokens.old) result tokens.new }
+    {
+        exit_word(tokens)?;
+        let value = self.exit_value(tokens)?;
+        tokens.mark(Sign::Semicolon)?;
+        Ok(whole(StatementKind::Exit(value)))
+    }
+}

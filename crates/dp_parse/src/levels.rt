@@ -1,0 +1,99 @@
+//! Expressions and places with as many levels of nesting as programs have.
+
+ghost use Rattle.std.specs.Prelude.{◌≡◌, ⊤};
+ghost use Rattle.dp_parse.specs.Input.{Reads};
+ghost use Rattle.dp_parse.specs.Limits as limits;
+ghost use Rattle.dp_parse.specs.ReadingLists as lists;
+
+use crate::cursor::Tokens;
+use crate::expressions;
+use crate::lists::{Piece, any_plain_items, plain_items, some_items};
+use crate::operand::Part;
+use crate::refusal::Refusal;
+use crate::sign::Sign;
+use crate::tree::{Expression, Place};
+use dp_value::Items;
+use std::alloc::Global;
+
+/// How many levels of nesting an expression has at most.
+pub const EXPRESSION_LEVELS: usize = 32;
+
+/// How many levels of nesting a body has at most.
+pub const BODY_LEVELS: usize = 32;
+
+pub fn expression(alloc: Global, tokens: &mut Tokens<'_>) -> Result<Expression, Refusal>
+    ensures { Reads (limits.expression tokens.old) result tokens.new }
+{
+    expressions::expression(alloc, tokens, EXPRESSION_LEVELS, Part::Whole)
+}
+
+pub fn place(alloc: Global, tokens: &mut Tokens<'_>) -> Result<Place, Refusal>
+    ensures { Reads (limits.place tokens.old) result tokens.new }
+{
+    expressions::place(alloc, tokens, EXPRESSION_LEVELS)
+}
+
+/// An expression in a list.
+#[derive(Drop)]
+struct ListedExpression {
+    alloc: Global,
+}
+
+impl Piece<Expression> for ListedExpression {
+    ghost reads = { λ _. limits.expression };
+
+    ghost ready = { λ _. ⊤ };
+
+    fn read(&self, tokens: &mut Tokens<'_>) -> Result<Expression, Refusal> {
+        expression(self.alloc, tokens)
+    }
+}
+
+/// A place in a list.
+#[derive(Drop)]
+struct ListedPlace {
+    alloc: Global,
+}
+
+impl Piece<Place> for ListedPlace {
+    ghost reads = { λ _. limits.place };
+
+    ghost ready = { λ _. ⊤ };
+
+    fn read(&self, tokens: &mut Tokens<'_>) -> Result<Place, Refusal> {
+        place(self.alloc, tokens)
+    }
+}
+
+/// One expression or more, and what closes them.
+pub fn some_expressions(
+    alloc: Global,
+    tokens: &mut Tokens<'_>,
+    close: Sign,
+) -> Result<Items<Expression>, Refusal>
+    ensures { Reads (lists.plain_items (λ _. limits.expression) close tokens.old) result tokens.new }
+{
+    plain_items(alloc, tokens, close, &ListedExpression { alloc })
+}
+
+/// Any number of expressions, and what closes them.
+pub fn any_expressions(
+    alloc: Global,
+    tokens: &mut Tokens<'_>,
+    close: Sign,
+) -> Result<Items<Expression>, Refusal>
+    ensures { Reads (lists.any_plain_items (λ _. limits.expression) close tokens.old) result tokens.new }
+{
+    any_plain_items(alloc, tokens, close, &ListedExpression { alloc })
+}
+
+/// One place or more, possibly with a comma behind the last, and what closes them.
+pub fn some_places(
+    alloc: Global,
+    tokens: &mut Tokens<'_>,
+    close: Sign,
+) -> Result<Items<Place>, Refusal>
+    ensures { Reads (lists.some_items (λ _. limits.place) close tokens.old) result tokens.new }
+{
+    some_items(alloc, tokens, close, &ListedPlace { alloc })
+}

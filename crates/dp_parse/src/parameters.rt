@@ -1,0 +1,99 @@
+//! The parameters of functions.
+
+ghost use Rattle.std.specs.Prelude.{◌≡◌, ◌++◌, ◌∷◌, []};
+ghost use Rattle.dp_parse.specs.Input.{Reads, closed, made};
+ghost use Rattle.dp_parse.specs.Parameters as spec;
+ghost use Rattle.dp_parse.specs.ReadingLists as lists;
+
+use crate::cursor::Tokens;
+use crate::names::Names;
+use crate::refusal::Refusal;
+use crate::sign::Sign;
+use dp_value::{Bytes, Items};
+use std::alloc::Global;
+use std::ops::ControlFlow;
+
+/// The names with a parameter behind them.
+fn parameter(alloc: Global, tokens: &mut Tokens<'_>, found: Names) -> Result<Names, Refusal>
+    ensures { Reads (made (spec.checked found) (λ name. found ++ name ∷ []) tokens.old) result tokens.new }
+{
+    let mut names = found;
+    let refusal = tokens.refuse();
+    let name = tokens.variable(alloc)?;
+    if names.add(name)? {
+        Ok(names)
+    } else {
+        Err(refusal)
+    }
+}
+
+/// The next parameter, or the end behind a comma.
+fn behind_comma(
+    alloc: Global,
+    tokens: &mut Tokens<'_>,
+    found: Names,
+) -> Result<ControlFlow<Names, Names>, Refusal>
+    ensures { Reads (lists.behind_comma spec.checked Sign.CloseParenthesis found tokens.old) result tokens.new }
+{
+    if tokens.sees(Sign::CloseParenthesis) {
+        tokens.mark(Sign::CloseParenthesis)?;
+        return Ok(ControlFlow::Break(found));
+    }
+    Ok(ControlFlow::Continue(parameter(alloc, tokens, found)?))
+}
+
+fn comma_step(
+    alloc: Global,
+    tokens: &mut Tokens<'_>,
+    found: Names,
+) -> Result<ControlFlow<Names, Names>, Refusal>
+    ensures { Reads (lists.comma_step spec.checked Sign.CloseParenthesis found tokens.old) result tokens.new }
+{
+    if tokens.sees(Sign::Comma) {
+        tokens.mark(Sign::Comma)?;
+        return behind_comma(alloc, tokens, found);
+    }
+    tokens.mark(Sign::CloseParenthesis)?;
+    Ok(ControlFlow::Break(found))
+}
+
+fn comma_turns(alloc: Global, tokens: &mut Tokens<'_>, first: Names) -> Result<Names, Refusal>
+    ensures { Reads (closed (lists.comma_step spec.checked Sign.CloseParenthesis) first tokens.old) result tokens.new }
+{
+    let mut state = first;
+    for _turn in 0..tokens.left() + 1 {
+        match comma_step(alloc, tokens, state)? {
+            ControlFlow::Continue(more) => state = more,
+            ControlFlow::Break(all) => return Ok(all),
+        }
+    }
+    Err(tokens.refuse())
+}
+
+#[tactic(auto, unfolding(crate::specs::ReadingLists::some_items))]
+fn some_parameters(alloc: Global, tokens: &mut Tokens<'_>) -> Result<Names, Refusal>
+    ensures { Reads (lists.some_items spec.checked Sign.CloseParenthesis tokens.old) result tokens.new }
+{
+    let first = parameter(alloc, tokens, Names::new(alloc))?;
+    comma_turns(alloc, tokens, first)
+}
+
+#[tactic(auto, unfolding(crate::specs::ReadingLists::any_items))]
+fn checked_parameters(alloc: Global, tokens: &mut Tokens<'_>) -> Result<Items<Bytes>, Refusal>
+    ensures { Reads (lists.any_items spec.checked Sign.CloseParenthesis tokens.old) result tokens.new }
+{
+    if tokens.sees(Sign::CloseParenthesis) {
+        tokens.mark(Sign::CloseParenthesis)?;
+        return Ok(Items::of(Vec::new(alloc)));
+    }
+    let names = some_parameters(alloc, tokens)?;
+    Ok(names.into_items(alloc)?)
+}
+
+/// The parameters of a function behind its `(`, and the `)`.
+#[tactic(auto, using(crate::proofs::ParameterLemmas::parameters_are))]
+pub fn parameters(alloc: Global, tokens: &mut Tokens<'_>) -> Result<Items<Bytes>, Refusal>
+    ensures { Reads (lists.any_items spec.parameter Sign.CloseParenthesis tokens.old) result tokens.new }
+{
+    checked_parameters(alloc, tokens)
+}
