@@ -1,11 +1,9 @@
 -- A tree is that of one list of numbers, or breaks the form.
-use Rattle.std.proofs.Common.{◌≡◌, ◌≢◌, ◌⊎◌, ◌+◌, ◌<◌, ◌≤◌, ℕ, suc, List, [], ◌∷◌, ◌++◌, length, map, take, drop, get_or, pos, refl, sym, ap, ◌∙◌, inl, inr, drop-cons}
+use Rattle.std.proofs.Common.{◌≡◌, ◌≢◌, ◌+◌, ◌<◌, ◌≤◌, ℕ, suc, List, [], ◌∷◌, ◌++◌, length, map, take, drop, get_or, refl, sym, ap, ◌∙◌, inl, inr, drop-cons}
 use Rattle.std.proofs.lemmas.List.{take_more, take_all, take-append-drop, map-append}
 use Rattle.dp_parse.specs.declared.tree.File.{File}
-use Rattle.dp_parse.specs.declared.tree.Function.{Function}
 use Rattle.dp_parse.specs.declared.tree.Statement.{Statement}
-use Rattle.dp_parse.specs.declared.tree.StatementKind.{StatementKind}
-use Rattle.dp_top.specs.Numbers.{echo, kinds, IsThin, HasOther, HasNoOther, HasFunction, BreaksAt}
+use Rattle.dp_top.specs.Numbers.{echo, kinds, IsThin, HasOther, BreaksAt}
 
 same_echo : (m n : ℕ) → echo m ≡ echo n → m ≡ n
 same_echo m n e = cc

@@ -12,7 +12,7 @@ use Rattle.dp_top.specs.Links.{Change}
 use Rattle.dp_top.specs.Numbers.{IsProgramOf}
 use Rattle.dp_top.specs.Serving.{Serves}
 use Rattle.dp_top.specs.CommandLine.{IsTalk}
-use Rattle.dp_top.specs.Talk.{Files, HasContent, IsProgram, IsTooLong, IsNotThin, Talks, Caused, ContentCaused, FileCaused, IsNotBegun, judged, file_limit, status_of, line_of, Says, Fails, IsDone, Tells, IsRefused, IsAccepted, NoneRose}
+use Rattle.dp_top.specs.Talk.{Files, HasContent, IsProgram, IsTooLong, Talks, Caused, ContentCaused, FileCaused, IsNotBegun, judged, file_limit, status_of, line_of, Says, Fails, IsDone, Tells, IsRefused, IsAccepted, NoneRose}
 
 -- ---- files
 

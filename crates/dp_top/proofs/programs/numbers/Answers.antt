@@ -1,4 +1,4 @@
-use Rattle.std.proofs.Common.{◌≡◌, ℕ, List, map, sym, ap, ◌∙◌, subst, inl}
+use Rattle.std.proofs.Common.{◌≡◌, List, map, sym, ap, ◌∙◌, subst, inl}
 use Rattle.dp_parse.specs.declared.tree.Statement.{Statement}
 use Rattle.dp_top.specs.Numbers.{echo, kinds, HasOther, or_function}
 use Rattle.dp_top.proofs.ProgramLaws.{same_numbers, broken_is_none, other_at, echoes_all}

@@ -1,4 +1,4 @@
-use Rattle.std.proofs.Common.{◌≡◌, ℕ, List, sym, ap, ◌∙◌, subst}
+use Rattle.std.proofs.Common.{sym, ap, ◌∙◌, subst}
 use Rattle.dp_parse.specs.declared.tree.File.{File}
 use Rattle.dp_top.specs.Numbers.{IsThin}
 use Rattle.dp_top.specs.Sources.{failure_of}

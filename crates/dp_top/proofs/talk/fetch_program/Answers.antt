@@ -1,5 +1,5 @@
 use Rattle.dp_top.proofs.TalkLaws.{fetched_ok, fetched_err, fetched_accepted, memory_alone}
-use Rattle.std.proofs.Common.{List, ℕ, sym, subst}
+use Rattle.std.proofs.Common.{sym, subst}
 use Rattle.dp_top.specs.Talk.{IsAccepted}
 use Rattle.dp_top.proofs.talk.fetch_program.Goals as goal
 
