@@ -21,12 +21,12 @@ echo n = statement.Echo (expression.Number (pos n) ∷ [])
 abbrev pub kinds : List Statement → List StatementKind
 kinds statements = map (λ s. s.kind) statements
 
--- the file has no function, and its statements are those of these numbers
+-- the file has no function, and its statements echo these numbers, one each, in order
 pub record IsThin (file : File) (numbers : List ℕ) : Type 0 where
   pub alone : file.functions ≡ []
   pub echoes : kinds file.body ≡ map echo numbers
 
--- the first statement that is none of a number stands on this line
+-- the first statement that is no `echo N;` stands on this line
 pub record HasOther (statements : List Statement) (line : ℕ) : Type 0 where
   pub before : List Statement
   pub other : Statement
@@ -37,7 +37,7 @@ pub record HasOther (statements : List Statement) (line : ℕ) : Type 0 where
   pub no_echo : (n : ℕ) → other.kind ≢ echo n
   pub on : line ≡ other.line
 
--- each statement is one of a number
+-- each statement is an `echo N;`
 pub record HasNoOther (statements : List Statement) : Type 0 where
   pub numbers : List ℕ
   pub echoes : kinds statements ≡ map echo numbers
@@ -54,7 +54,7 @@ abbrev pub or_function : ℕ → List Function → ℕ
 or_function line [] = line
 or_function line (first ∷ functions) = min line first.line
 
--- The file is not thin. This line is that of the first statement that is none of a number, or that of the first function;
+-- The file is not thin. This line is that of the first statement that is no `echo N;`, or that of the first function;
 -- where there are both, the lesser one.
 abbrev pub BreaksAt : File → ℕ → Type 0
 BreaksAt file line =
@@ -69,7 +69,7 @@ pub record IsProgramOf (content numbers : List ℕ) : Type 0 where
   pub is_file : IsFile content file
   pub thin : IsThin file numbers
 
--- the content is a program, but none of numbers, which this line is the first to show
+-- the content is a program, but none of numbers: on this line stands what is first none
 pub record IsOtherProgram (content : List ℕ) (line : ℕ) : Type 0 where
   pub file : File
   pub is_file : IsFile content file
