@@ -1,7 +1,6 @@
 pub mod EndLaws
 pub mod FrontLaws
-pub mod NumberLaws
+pub mod ProgramLaws
 pub mod OutputLaws
-pub mod ReadLaws
 pub mod ServingLaws
 pub mod TalkLaws

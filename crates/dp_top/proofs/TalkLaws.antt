@@ -1,6 +1,7 @@
 -- What is fetched is a file's content, and what serving a session came to decides the command's end.
-use Rattle.std.proofs.Common.{◌≡◌, ◌⊎◌, ℕ, ◌+◌, ◌<◌, ◌≤◌, List, length, Option, None, Some, MatchResult, refl, sym, ap, ◌∙◌, subst, arith, inl, inr, ⊎_elim, codes, [], ◌∷◌, length-take}
+use Rattle.std.proofs.Common.{◌≡◌, ◌≢◌, ◌⊎◌, ℕ, ◌+◌, ◌<◌, ◌≤◌, List, length, Option, None, Some, Result, Ok, Err, Vec, IfOk, IfErr, MatchResult, refl, sym, ap, ◌∙◌, subst, arith, inl, inr, ⊎_elim, codes, [], ◌∷◌, length-take}
 use Rattle.std.proofs.lemmas.List.{take_all}
+use Rattle.std.specs.declared.alloc.Global.{Global}
 use Rattle.dp_outside.specs.Causes.{Rose}
 use Rattle.dp_outside.specs.Files.{Fetches, Lacks}
 use Rattle.dp_top.specs.declared.failures.Failure.{Failure}
@@ -8,11 +9,10 @@ use Rattle.dp_top.specs.declared.failures.Failure.TheVariants as failure
 use Rattle.dp_top.specs.declared.serving.ServeEnd.{ServeEnd}
 use Rattle.dp_top.specs.declared.serving.ServeEnd.TheVariants.{Stopped, LinkEnd, ReadFault, WriteFault, OutFault, BadCommandFrame, ByteLimit, Memory}
 use Rattle.dp_top.specs.Links.{Change}
-use Rattle.dp_top.specs.Numbers.{IsThin, BreaksAt}
+use Rattle.dp_top.specs.Numbers.{IsProgramOf}
 use Rattle.dp_top.specs.Serving.{Serves}
 use Rattle.dp_top.specs.CommandLine.{IsTalk}
-use Rattle.dp_top.specs.Talk.{Files, HasContent, IsProgram, IsTooLong, IsNotThin, Talks, Caused, FileCaused, IsNotBegun, judged, file_limit, status_of, line_of, Says, Fails, IsDone, Tells, IsRefused, IsAccepted, NoneRose}
-use Rattle.dp_top.proofs.NumberLaws.{broken_is_none}
+use Rattle.dp_top.specs.Talk.{Files, HasContent, IsProgram, IsTooLong, Talks, Caused, ContentCaused, FileCaused, IsNotBegun, judged, file_limit, status_of, line_of, Says, Fails, IsDone, Tells, IsRefused, IsAccepted, NoneRose}
 
 -- ---- files
 
@@ -29,6 +29,53 @@ fetched_long (Some files) name bytes h long = record {
   is_content = h.1;
   long = omega (arith, ap length h.2, length-take (file_limit + 1) h.0);
 }
+
+pub fetched_program : (files : Files) (name bytes program : List ℕ) → Fetches files name file_limit bytes → length bytes ≤ file_limit → IsProgramOf bytes program → IsProgram files name program
+fetched_program files name bytes program h fits is = record { content = bytes; is_content = fetched_whole files name file_limit bytes h fits; fits = fits; thin = is }
+
+-- why the bytes give no program is why the file gives none
+pub fetched_caused : (failed : Failure) (files : Files) (before after : ℕ) (name bytes : List ℕ) → Fetches files name file_limit bytes → ContentCaused failed bytes
+    → FileCaused failed files before after name
+fetched_caused failure.TooLong files before after name bytes h c = fetched_long files name bytes h c
+fetched_caused (failure.Source reason number) files before after name bytes h c =
+    record { content = bytes; is_content = fetched_whole files name file_limit bytes h c.0; fits = c.0; none = c.1 }
+fetched_caused (failure.NotThin line) files before after name bytes h c =
+    record { content = bytes; is_content = fetched_whole files name file_limit bytes h c.0; fits = c.0; other = c.1 }
+fetched_caused failure.ShelfFailed files before after name bytes h c = absurd c
+fetched_caused failure.NoFile files before after name bytes h c = absurd c
+fetched_caused failure.Output files before after name bytes h c = absurd c
+fetched_caused (failure.Packet offset) files before after name bytes h c = absurd c
+fetched_caused failure.Network files before after name bytes h c = absurd c
+fetched_caused failure.Memory files before after name bytes h c = tt
+
+module _ (r : Result (Vec ℕ Global) Failure) (files : Files) where
+  pub fetched_ok : (name bytes lent : List ℕ) → lent ≡ bytes → Fetches files name file_limit bytes → IfOk r (λ _. length lent ≤ file_limit) → IfOk r (λ program. IsProgramOf lent program.items)
+      → IfOk r (λ program. IsProgram files name program.items)
+  fetched_ok name bytes lent same h = by r where
+    by : (r : Result (Vec ℕ Global) Failure) → IfOk r (λ _. length lent ≤ file_limit) → IfOk r (λ program. IsProgramOf lent program.items) → IfOk r (λ program. IsProgram files name program.items)
+    by (Ok program) fits is = fetched_program files name lent program.items (subst (Fetches files name file_limit) (sym same) h) fits is
+    by (Err failed) fits is = tt
+
+  pub fetched_err : (before after : ℕ) (name bytes lent : List ℕ) → lent ≡ bytes → Fetches files name file_limit bytes → IfErr r (λ failed. ContentCaused failed lent)
+      → IfErr r (λ failed. FileCaused failed files before after name)
+  fetched_err before after name bytes lent same h = by r where
+    by : (r : Result (Vec ℕ Global) Failure) → IfErr r (λ failed. ContentCaused failed lent) → IfErr r (λ failed. FileCaused failed files before after name)
+    by (Ok program) c = tt
+    by (Err failed) c = fetched_caused failed files before after name lent (subst (Fetches files name file_limit) (sym same) h) c
+
+-- an accepted file comes whole
+pub fetched_accepted : (files : Files) (name bytes content : List ℕ) → Fetches files name file_limit bytes → Tells files name content → IsAccepted content → IsAccepted bytes
+fetched_accepted None name bytes content h held a = absurd held
+fetched_accepted (Some files) name bytes content h held a =
+    let there : Some content ≡ Some h.0 = sym held ∙ h.1 in
+    let same : content ≡ h.0 = cc in
+    let short : length h.0 ≤ file_limit + 1 = omega (arith, ap length same, a.fits) in
+    subst IsAccepted (same ∙ sym (h.2 ∙ take_all (file_limit + 1) h.0 short)) a
+
+-- what gives up for want of memory alone refuses no source
+pub memory_alone : (r : Result (Vec ℕ Global) Failure) (P : Vec ℕ Global → Type 0) → MatchResult r P (λ e. e ≡ failure.Memory) → IfErr r (λ failed. status_of failed ≢ 201)
+memory_alone (Ok numbers) P h = tt
+memory_alone (Err failed) P h = λ e. let late : 209 ≡ 201 = sym (ap status_of h) ∙ e in omega (arith, late)
 
 -- ---- the session
 
@@ -48,6 +95,7 @@ judged_is Memory files before after key name program input out err is served = t
 pub file_caused : (failed : Failure) (files : Files) (before after : ℕ) (key name : List ℕ) (input out err : Change)
     → FileCaused failed files before after name → IsNotBegun input out err → Caused failed files before after key name input out err
 file_caused failure.TooLong files before after key name input out err h stays = (h, stays)
+file_caused (failure.Source reason number) files before after key name input out err h stays = (h, stays)
 file_caused (failure.NotThin line) files before after key name input out err h stays = (h, stays)
 file_caused failure.ShelfFailed files before after key name input out err h stays = (h, stays)
 file_caused failure.NoFile files before after key name input out err h stays = (h, stays)
@@ -102,27 +150,19 @@ held_not_lacked : (files : Files) (name content : List ℕ) → Tells files name
 held_not_lacked None name content p q = p
 held_not_lacked (Some files) name content p q = let same : Some content ≡ None = sym p ∙ q in cc
 
--- an accepted content is no cause of a refusal of the file
 module _ (files : Files) (name content : List ℕ) (held : Tells files name content) where
-  accepted_not_long : IsAccepted content → IsTooLong files name → ⊥
-  accepted_not_long a t = let same = one_content files name content t.content held t.is_content in omega (arith, a.fits, ap length same, t.long)
-
-  accepted_not_broken : (line : ℕ) → IsAccepted content → IsNotThin files name line → ⊥
-  accepted_not_broken line a t =
-      let same = one_content files name content t.content held t.is_content in
-      broken_is_none content a.program line (subst (λ (l : List ℕ). BreaksAt l line) (sym same) t.breaks) a.thin
-
   refused_no_program : (program : List ℕ) → IsRefused content → IsProgram files name program → ⊥
   refused_no_program program (inl long) p = let same = one_content files name content p.content held p.is_content in omega (arith, p.fits, ap length same, long)
   refused_no_program program (inr none) p =
-      let same = one_content files name content p.content held p.is_content in none program (subst (λ (l : List ℕ). IsThin l program) (sym same) p.thin)
+      let same = one_content files name content p.content held p.is_content in none program (subst (λ (l : List ℕ). IsProgramOf l program) (sym same) p.thin)
 
-  -- where no count rose, what fails is a packet or memory
-  accepted_fails : (failed : Failure) (before after : ℕ) (key : List ℕ) (input out err : Change) → IsAccepted content
+  -- where no count rose, and the source is not refused, what fails is a packet or memory
+  accepted_fails : (failed : Failure) (before after : ℕ) (key : List ℕ) (input out err : Change) → status_of failed ≢ 201
       → (Rose before after → ⊥) → (Rose input.faults_before input.faults → ⊥) → (Rose out.faults_before out.faults → ⊥) → (Rose err.faults_before err.faults → ⊥)
       → Caused failed files before after key name input out err → (status_of failed ≡ 207) ⊎ (status_of failed ≡ 209)
-  accepted_fails failure.TooLong before after key input out err a s i o e caused = absurd (accepted_not_long a caused.0)
-  accepted_fails (failure.NotThin line) before after key input out err a s i o e caused = absurd (accepted_not_broken line a caused.0)
+  accepted_fails failure.TooLong before after key input out err a s i o e caused = absurd (a refl)
+  accepted_fails (failure.Source reason number) before after key input out err a s i o e caused = absurd (a refl)
+  accepted_fails (failure.NotThin line) before after key input out err a s i o e caused = absurd (a refl)
   accepted_fails failure.ShelfFailed before after key input out err a s i o e caused = absurd (s caused.0)
   accepted_fails failure.NoFile before after key input out err a s i o e caused = absurd (held_not_lacked files name content held caused.0)
   accepted_fails failure.Output before after key input out err a s i o e caused = absurd (⊎_elim o e caused.1)
@@ -134,6 +174,7 @@ module _ (files : Files) (name content : List ℕ) (held : Tells files name cont
   refused_fails : (failed : Failure) (before after : ℕ) (key : List ℕ) (input out err : Change) → IsRefused content
       → Caused failed files before after key name input out err → (status_of failed ≡ 201) ⊎ (status_of failed ≡ 209) ⊎ Rose before after
   refused_fails failure.TooLong before after key input out err r caused = inl refl
+  refused_fails (failure.Source reason number) before after key input out err r caused = inl refl
   refused_fails (failure.NotThin line) before after key input out err r caused = inl refl
   refused_fails failure.ShelfFailed before after key input out err r caused = inr (inr caused.0)
   refused_fails failure.NoFile before after key input out err r caused = absurd (held_not_lacked files name content held caused.0)
@@ -145,13 +186,25 @@ module _ (files : Files) (name content : List ℕ) (held : Tells files name cont
 
 -- the same of the call's answer
 pub complete_fails : (status : ℕ) (words : List (List ℕ)) (files : Files) (before after : ℕ) (input out err : Change) → Fails status words files before after input out err
-    → (key file content : List ℕ) → IsTalk words key file → Tells files file content → IsAccepted content → NoneRose before after input out err
+    → status ≢ 201
+    → (key file content : List ℕ) → IsTalk words key file → Tells files file content → NoneRose before after input out err
     → (status ≡ 0) ⊎ (status ≡ 207) ⊎ (status ≡ 209)
-complete_fails status words files before after input out err f key file content is held a none =
+complete_fails status words files before after input out err f accepted key file content is held none =
     let same = one_talk words key file f.key f.file is f.is_talk in
     let err_not : Rose err.faults_before f.told.faults_between → ⊥ = λ rose. none.err_not (omega (arith, rose, f.told.later)) in
-    let found = accepted_fails files f.file content (subst (λ (l : List ℕ). Tells files l content) same.1 held) f.failure before after f.key input out _ a none.shelf none.input_not none.out_not err_not f.told.first in
+    let found = accepted_fails files f.file content (subst (λ (l : List ℕ). Tells files l content) same.1 held) f.failure before after f.key input out _ (λ e. accepted (f.is_status ∙ e))
+    none.shelf none.input_not none.out_not err_not f.told.first in
     ⊎_elim (λ e. inr (inl (f.is_status ∙ e))) (λ e. inr (inr (f.is_status ∙ e))) found
+
+-- a program of numbers is not answered as a bad source
+pub accepted_told : (status : ℕ) (words : List (List ℕ)) (files : Files) (key file : List ℕ) (failed : Failure) (A B : Type 0) → IsTalk words key file
+    → ((content : List ℕ) → Tells files file content → IsAccepted content → status_of failed ≢ 201)
+    → ((status ≡ status_of failed) × A) ⊎ ((status ≡ 209) × B)
+    → (k f content : List ℕ) → IsTalk words k f → Tells files f content → IsAccepted content → status ≢ 201
+accepted_told status words files key file failed A B is accepted told k f content other held a e =
+    let same = one_talk words k f key file other is in
+    let no = accepted content (subst (λ (l : List ℕ). Tells files l content) same.1 held) a in
+    ⊎_elim (λ (t : (status ≡ status_of failed) × A). no (sym t.0 ∙ e)) (λ (t : (status ≡ 209) × B). let late : 209 ≡ 201 = sym t.0 ∙ e in omega (arith, late)) told
 
 pub refused_fails_so : (status : ℕ) (words : List (List ℕ)) (files : Files) (before after : ℕ) (input out err : Change) → Fails status words files before after input out err
     → (key file content : List ℕ) → IsTalk words key file → Tells files file content → IsRefused content
@@ -164,9 +217,13 @@ refused_fails_so status words files before after input out err f key file conten
       by (inr (inl e)) = inr (inl (f.is_status ∙ e))
       by (inr (inr rose)) = inr (inr rose)
 
-pub refused_done : (words : List (List ℕ)) (files : Files) (input out err : Change) → IsDone words files input out err
+refused_done : (words : List (List ℕ)) (files : Files) (input out err : Change) → IsDone words files input out err
     → (key file content : List ℕ) → IsTalk words key file → Tells files file content → IsRefused content → ⊥
 refused_done words files input out err d key file content is held r =
     let same = one_talk words key file d.key d.file is d.is_talk in
     let there = subst (λ (l : List ℕ). Tells files l content) same.1 held in
     ⊎_elim (λ t. refused_no_program files d.file content there t.program r t.is_program) (λ t. refused_no_program files d.file content there t.program r t.is_program) d.talks
+
+pub talks_refuses_none : (words : List (List ℕ)) (files : Files) (key file : List ℕ) (input out err : Change) → IsTalk words key file → Talks files key file input out err
+    → (k f content : List ℕ) → IsTalk words k f → Tells files f content → IsRefused content → ⊥
+talks_refuses_none words files key file input out err is talks = refused_done words files input out err (record { key = key; file = file; is_talk = is; talks = talks })

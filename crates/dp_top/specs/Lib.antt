@@ -10,5 +10,6 @@ pub mod Phases
 pub mod Seen
 pub mod Serving
 pub mod Sessions
+pub mod Sources
 pub mod Talk
 pub mod Texts

@@ -5,15 +5,18 @@ use Rattle.std.specs.Io.KnownBytes.{Appends}
 use Rattle.dp_outside.specs.Causes.{Rose}
 use Rattle.dp_outside.specs.Files.{content_of, Lacks}
 use Rattle.dp_outside.specs.Streams.{AppendsFront}
+use Rattle.dp_parse.specs.declared.tree.File.{File}
 use Rattle.dp_top.specs.declared.failures.Failure.{Failure}
-use Rattle.dp_top.specs.declared.failures.Failure.TheVariants.{TooLong, NotThin, ShelfFailed, NoFile, Output, Packet, Network, Memory}
+use Rattle.dp_top.specs.declared.failures.Failure.TheVariants.{TooLong, NotThin, Source, ShelfFailed, NoFile, Output, Packet, Network, Memory}
+use Rattle.dp_top.specs.declared.failures.Reason.{Reason}
 use Rattle.dp_top.specs.declared.serving.ServeEnd.{ServeEnd}
 use Rattle.dp_top.specs.declared.serving.ServeEnd.TheVariants.{Stopped, LinkEnd, ReadFault, WriteFault, BadCommandFrame, OutFault, ByteLimit}
 use Rattle.dp_top.specs.declared.serving.ServeEnd.TheVariants as ends
 use Rattle.dp_top.specs.CommandLine.{IsTalk}
 use Rattle.dp_top.specs.Links.{Change}
-use Rattle.dp_top.specs.Numbers.{IsThin, BreaksAt}
+use Rattle.dp_top.specs.Numbers.{IsProgramOf, IsOtherProgram, BreaksAt}
 use Rattle.dp_top.specs.Serving.{IsServed, byte_limit}
+use Rattle.dp_top.specs.Sources.{IsNoProgram, reason_name, bad_source}
 
 -- ---- files
 
@@ -35,7 +38,7 @@ pub record IsProgram (files : Files) (name program : List ℕ) : Type 0 where
   pub content : List ℕ
   pub is_content : HasContent files name content
   pub fits : length content ≤ file_limit
-  pub thin : IsThin content program
+  pub thin : IsProgramOf content program
 
 -- the file of this name is longer than a file may be
 pub record IsTooLong (files : Files) (name : List ℕ) : Type 0 where
@@ -43,12 +46,19 @@ pub record IsTooLong (files : Files) (name : List ℕ) : Type 0 where
   pub is_content : HasContent files name content
   pub long : file_limit < length content
 
--- the file of this name is no program, and this is its first line that breaks the form
+-- the file of this name is no program, for this reason, at this number
+pub record IsBadSource (files : Files) (name : List ℕ) (reason : Reason) (number : ℕ) : Type 0 where
+  pub content : List ℕ
+  pub is_content : HasContent files name content
+  pub fits : length content ≤ file_limit
+  pub none : IsNoProgram content reason number
+
+-- the file of this name is a program, but none of numbers, and this is its first line that is none of such a program
 pub record IsNotThin (files : Files) (name : List ℕ) (line : ℕ) : Type 0 where
   pub content : List ℕ
   pub is_content : HasContent files name content
   pub fits : length content ≤ file_limit
-  pub breaks : BreaksAt content line
+  pub other : IsOtherProgram content line
 
 -- ---- the session
 
@@ -74,6 +84,7 @@ Talks files key name input out err = IsTalked Stopped files key name input out e
 -- why it failed; the program's own output goes to `err`
 abbrev pub Caused : Failure → Files → ℕ → ℕ → List ℕ → List ℕ → Change → Change → Change → Type 0
 Caused TooLong files before after key name input out err = IsTooLong files name × IsNotBegun input out err
+Caused (Source reason number) files before after key name input out err = IsBadSource files name reason number × IsNotBegun input out err
 Caused (NotThin line) files before after key name input out err = IsNotThin files name line × IsNotBegun input out err
 Caused ShelfFailed files before after key name input out err = Rose before after × IsNotBegun input out err
 Caused NoFile files before after key name input out err = Lacks files name × IsNotBegun input out err
@@ -89,6 +100,7 @@ Caused Memory files before after key name input out err = ⊤
 -- the status that the call answers
 abbrev pub status_of : Failure → ℕ
 status_of TooLong = 201
+status_of (Source reason number) = 201
 status_of (NotThin line) = 201
 status_of ShelfFailed = 202
 status_of NoFile = 202
@@ -99,8 +111,9 @@ status_of Memory = 209
 
 -- the line on the error output
 abbrev pub line_of : Failure → List ℕ → List ℕ
-line_of TooLong name = codes "bad source " ++ name ++ codes " TooLong 1048576\n"
-line_of (NotThin line) name = codes "bad source " ++ name ++ codes " NotThin " ++ decimal line ++ codes "\n"
+line_of TooLong name = bad_source name (codes "TooLong") file_limit
+line_of (Source reason number) name = bad_source name (reason_name reason) number
+line_of (NotThin line) name = bad_source name (codes "NotThin") line
 line_of ShelfFailed name = codes "shelf failed " ++ name ++ codes "\n"
 line_of NoFile name = codes "no file " ++ name ++ codes "\n"
 line_of Output name = codes "output failed\n"
@@ -143,15 +156,15 @@ abbrev pub Tells : Files → List ℕ → List ℕ → Type 0
 Tells None name content = ⊥
 Tells (Some files) name content = content_of name files ≡ Some content
 
--- the content is too long or spells no program
+-- the content is too long or no program of numbers
 abbrev pub IsRefused : List ℕ → Type 0
-IsRefused content = (file_limit < length content) ⊎ ((program : List ℕ) → IsThin content program → ⊥)
+IsRefused content = (file_limit < length content) ⊎ ((program : List ℕ) → IsProgramOf content program → ⊥)
 
--- the content is no longer than a file may be and spells a program
+-- the content is no longer than a file may be and is a program of numbers
 pub record IsAccepted (content : List ℕ) : Type 0 where
   pub fits : length content ≤ file_limit
   pub program : List ℕ
-  pub thin : IsThin content program
+  pub thin : IsProgramOf content program
 
 -- no count of faults rose
 pub record NoneRose (before after : ℕ) (input out err : Change) : Type 0 where
@@ -171,9 +184,24 @@ judged OutFault = Err Output
 judged ByteLimit = Err (Packet byte_limit)
 judged ends.Memory = Err Memory
 
+-- why the tree of a file gives no program
+abbrev pub TreeCaused : Failure → File → Type 0
+TreeCaused (NotThin line) file = BreaksAt file line
+TreeCaused Memory file = ⊤
+TreeCaused failure file = ⊥
+
+-- why a content gives no program
+abbrev pub ContentCaused : Failure → List ℕ → Type 0
+ContentCaused TooLong content = file_limit < length content
+ContentCaused (Source reason number) content = (length content ≤ file_limit) × IsNoProgram content reason number
+ContentCaused (NotThin line) content = (length content ≤ file_limit) × IsOtherProgram content line
+ContentCaused Memory content = ⊤
+ContentCaused failure content = ⊥
+
 -- why no program was fetched
 abbrev pub FileCaused : Failure → Files → ℕ → ℕ → List ℕ → Type 0
 FileCaused TooLong files before after name = IsTooLong files name
+FileCaused (Source reason number) files before after name = IsBadSource files name reason number
 FileCaused (NotThin line) files before after name = IsNotThin files name line
 FileCaused ShelfFailed files before after name = Rose before after
 FileCaused NoFile files before after name = Lacks files name

@@ -1,19 +1,53 @@
 //! Why a command fails, and what is told of it.
 ghost use Rattle.std.specs.Prelude.{◌≡◌, ◌⊎◌, ◌≤◌, ◌++◌, ℕ, IfOk, codes, decimal};
 ghost use Rattle.dp_top.specs.Links.{change};
+ghost use Rattle.dp_top.specs.Sources.{failure_of, reason_name, bad_source};
 ghost use Rattle.dp_top.specs.Talk.{status_of, line_of, Says};
 
+use dp_lexer::LexError;
 use dp_outside::Sink;
+use dp_parse::ParseError;
 use dp_value::{Bytes, Memory};
-use std::alloc::{AllocError, Global};
+use std::alloc::{AllocError, AllocFailed, Global};
+
+/// Why the parser refuses a file.
+#[derive(Clone, Copy, Debug, PartialEq, Eq)]
+pub enum Reason {
+    BadByte,
+    OpenString,
+    OpenComment,
+    WideNumber,
+    Unexpected,
+    TooDeep,
+    DoubleFunction,
+}
+
+impl Reason {
+    /// Its name on the error output.
+    fn name(self) -> &'static [u8]
+        ensures { result.now ≡ reason_name self }
+    {
+        match self {
+            Reason::BadByte => b"BadByte",
+            Reason::OpenString => b"OpenString",
+            Reason::OpenComment => b"OpenComment",
+            Reason::WideNumber => b"WideNumber",
+            Reason::Unexpected => b"Unexpected",
+            Reason::TooDeep => b"TooDeep",
+            Reason::DoubleFunction => b"DoubleFunction",
+        }
+    }
+}
 
 /// Why a command fails.
 #[derive(Clone, Copy, Debug, PartialEq, Eq)]
 pub enum Failure {
     /// The file is longer than 1,048,576 bytes.
     TooLong,
-    /// The file is no program: this line, counted from 1, is the first that breaks the form.
-    NotThin { line: u64 },
+    /// The file is no program. The number is an offset or that of a token, from 0.
+    Source { reason: Reason, number: u64 },
+    /// The file is a program, but none of numbers: on this line, counted from 1, stands what is first none.
+    NotThin { line: u32 },
     /// The shelf failed.
     ShelfFailed,
     /// The shelf has no file of that name.
@@ -39,6 +73,49 @@ impl From<AllocError> for Failure {
     }
 }
 
+impl<T: Drop> From<AllocFailed<T>> for Failure {
+    ghost use Rattle.std.specs.Prelude.{◌≡◌};
+    ghost use Rattle.dp_top.specs.declared.failures.Failure.TheVariants.{Memory};
+
+    ghost from_gives = { λ _ e. e ≡ Memory };
+
+    fn from(_: AllocFailed<T>) -> Self {
+        Failure::Memory
+    }
+}
+
+/// The failure that a refusal of the parser is.
+pub fn refusal(why: &ParseError) -> Failure
+    ensures { result ≡ failure_of why.now }
+{
+    match why {
+        ParseError::Lex(why) => lexical(*why),
+        ParseError::Unexpected { token } => source(Reason::Unexpected, *token as u64),
+        ParseError::TooDeep { token } => source(Reason::TooDeep, *token as u64),
+        ParseError::DoubleFunction { name: _ } => source(Reason::DoubleFunction, 0),
+        ParseError::Memory => Failure::Memory,
+    }
+}
+
+/// The failure that a refusal of the lexer is.
+fn lexical(why: LexError) -> Failure
+    ensures { result ≡ failure_of (ParseError.Lex why) }
+{
+    match why {
+        LexError::BadByte { offset } => source(Reason::BadByte, u64::from(offset)),
+        LexError::OpenString { offset } => source(Reason::OpenString, u64::from(offset)),
+        LexError::OpenComment { offset } => source(Reason::OpenComment, u64::from(offset)),
+        LexError::WideNumber { offset } => source(Reason::WideNumber, u64::from(offset)),
+        LexError::Memory => Failure::Memory,
+    }
+}
+
+fn source(reason: Reason, number: u64) -> Failure
+    ensures { result ≡ Failure.Source reason number }
+{
+    Failure::Source { reason, number }
+}
+
 impl Failure {
     /// The status that the call answers.
     fn status(self) -> u8
@@ -46,6 +123,10 @@ impl Failure {
     {
         match self {
             Failure::TooLong => 201,
+            Failure::Source {
+                reason: _,
+                number: _,
+            } => 201,
             Failure::NotThin { line: _ } => 201,
             Failure::ShelfFailed => 202,
             Failure::NoFile => 202,
@@ -61,8 +142,9 @@ impl Failure {
         ensures { IfOk result (λ line. line ≡ line_of self file.now) }
     {
         match self {
-            Failure::TooLong => named(alloc, b"bad source ", file, b" TooLong 1048576\n"),
-            Failure::NotThin { line } => bad_line(alloc, file, line),
+            Failure::TooLong => bad_source(alloc, file, b"TooLong", 1_048_576),
+            Failure::Source { reason, number } => bad_source(alloc, file, reason.name(), number),
+            Failure::NotThin { line } => bad_source(alloc, file, b"NotThin", u64::from(line)),
             Failure::ShelfFailed => named(alloc, b"shelf failed ", file, b"\n"),
             Failure::NoFile => named(alloc, b"no file ", file, b"\n"),
             Failure::Output => Bytes::from_slice(alloc, b"output failed\n"),
@@ -83,13 +165,16 @@ fn named(alloc: Global, front: &[u8], file: &[u8], back: &[u8]) -> Result<Bytes,
     Ok(Bytes::of(line))
 }
 
-fn bad_line(alloc: Global, file: &[u8], number: u64) -> Result<Bytes, Memory>
-    ensures { IfOk result (λ line. line ≡ line_of (Failure.NotThin number) file.now) }
+/// The line on a file that is refused.
+fn bad_source(alloc: Global, file: &[u8], reason: &[u8], number: u64) -> Result<Bytes, Memory>
+    ensures { IfOk result (λ line. line ≡ bad_source file.now reason.now number) }
 {
     let digits = number.to_string(alloc)?;
     let mut line = Vec::from_slice(alloc, b"bad source ")?;
     line.extend_from_slice(file)?;
-    line.extend_from_slice(b" NotThin ")?;
+    line.extend_from_slice(b" ")?;
+    line.extend_from_slice(reason)?;
+    line.extend_from_slice(b" ")?;
     line.extend_from_slice(digits.as_bytes())?;
     line.extend_from_slice(b"\n")?;
     Ok(Bytes::of(line))

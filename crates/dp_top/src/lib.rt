@@ -5,11 +5,11 @@ mod bytes;
 mod command_line;
 mod failures;
 mod orders;
+mod programs;
 mod serving;
 mod sessions;
 mod talk;
 mod texts;
-mod thin;
 mod top_call;
 
 pub use serving::{ServeEnd, Served};

@@ -1,46 +1,38 @@
 //! The command `talk`: one session over the program's own input and output.
-ghost use Rattle.std.specs.Prelude.{◌≡◌, ◌≤◌, IfOk, IfErr, MatchResult};
+ghost use Rattle.std.specs.Prelude.{◌≡◌, ◌≢◌, ◌≤◌, ℕ, List, IfOk, IfErr, MatchResult};
 ghost use Rattle.dp_top.specs.CommandLine.{IsKey, IsFileName};
 ghost use Rattle.dp_top.specs.Links.{change};
-ghost use Rattle.dp_top.specs.Talk.{IsProgram, FileCaused, Talks, Caused, judged};
+ghost use Rattle.dp_top.specs.Talk.{IsProgram, FileCaused, Talks, Caused, judged, status_of, Tells, IsAccepted};
 
 use crate::command_line::Talk;
 use crate::failures::Failure;
+use crate::programs::{FILE_LIMIT, read_program};
 use crate::serving::{ServeEnd, serve};
 use crate::sessions::Session;
-use crate::thin::{ThinError, read_program};
 use dp_outside::{Shelf, ShelfError, Sink, Source};
 use std::alloc::Global;
 
-/// The most bytes of a file.
-const FILE_LIMIT: usize = 1_048_576;
-
-/// Fetches a file and reads the program that it spells.
+/// Fetches a file and reads the program that it is.
 fn fetch_program<H: Shelf>(alloc: Global, file: &str, shelf: &mut H) -> Result<Vec<u64>, Failure>
     ensures ok { IfOk result (λ program. IsProgram (H.files shelf.old) file.now program.items) }
     ensures err { IfErr result (λ failure. FileCaused failure (H.files shelf.old) (H.faults shelf.old) (H.faults shelf.new) file.now) }
+    ensures accepted { (content : List ℕ) → Tells (H.files shelf.old) file.now content → IsAccepted content
+        → IfErr result (λ failure. status_of failure ≢ 201) }
     ensures later { H.faults shelf.old ≤ H.faults shelf.new }
     ensures files { H.files shelf.new ≡ H.files shelf.old }
 {
-    let content = match shelf.fetch(alloc, file, FILE_LIMIT) {
-        Ok(content) => content,
-        Err(ShelfError::Failed) => return Err(Failure::ShelfFailed),
-        Err(ShelfError::Missing) => return Err(Failure::NoFile),
-        Err(ShelfError::Memory) => return Err(Failure::Memory),
-    };
-    if content.as_slice().len() > FILE_LIMIT {
-        return Err(Failure::TooLong);
-    }
-    match read_program(alloc, content.as_slice()) {
-        Ok(program) => Ok(program),
-        Err(ThinError::NotThin { line }) => Err(Failure::NotThin { line }),
-        Err(ThinError::Memory) => Err(Failure::Memory),
+    match shelf.fetch(alloc, file, FILE_LIMIT) {
+        Ok(content) => read_program(alloc, content.as_slice()),
+        Err(ShelfError::Failed) => Err(Failure::ShelfFailed),
+        Err(ShelfError::Missing) => Err(Failure::NoFile),
+        Err(ShelfError::Memory) => Err(Failure::Memory),
     }
 }
 
 /// What the end of a session says of the command.
 fn judge(end: ServeEnd) -> Result<(), Failure>
-    ensures { result ≡ judged end }
+    ensures judged { result ≡ judged end }
+    ensures accepted { IfErr result (λ failure. status_of failure ≢ 201) }
 {
     match end {
         ServeEnd::Stopped => Ok(()),
@@ -76,6 +68,9 @@ pub fn talk<H: Shelf, S: Source, K: Sink, E: Sink>(
         request.entry.key.now request.entry.file.now
         (change S.left S.faults input.old input.new) (change K.taken K.faults out.old out.new)
         (change E.taken E.faults err.old err.new)) }
+    // A program of numbers is no bad source.
+    ensures accepted { (content : List ℕ) → Tells (H.files shelf.old) request.entry.file.now content → IsAccepted content
+        → IfErr result (λ failure. status_of failure ≢ 201) }
     ensures files { H.files shelf.new ≡ H.files shelf.old }
 
     ensures shelf_later { H.faults shelf.old ≤ H.faults shelf.new }

@@ -149,7 +149,7 @@ fn check<R: Wait + Sync + Threads + Send + Abort>(
 }
 
 /// Sessions that go well.
-const SESSIONS: [(&str, Row<'static>); 8] = [
+const SESSIONS: [(&str, Row<'static>); 10] = [
     ("a whole session", WHOLE),
     ("byte by byte", Row { cut: 1, ..WHOLE }),
     (
@@ -203,10 +203,27 @@ const SESSIONS: [(&str, Row<'static>); 8] = [
             ..WHOLE
         },
     ),
+    (
+        "statements on one line",
+        Row {
+            file: "<?php /* two */ echo 0x10; ECHO 9; # end",
+            input: b"run -i 1\0",
+            packets: &[INIT, STOPPING_1],
+            err: "169",
+            ..WHOLE
+        },
+    ),
+    (
+        "no line feed",
+        Row {
+            file: "<?php\necho 7;",
+            ..WHOLE
+        },
+    ),
 ];
 
-/// Words and files that are refused.
-const REFUSALS: [(&str, Row<'static>); 10] = [
+/// Words and names of files that are refused.
+const REFUSALS: [(&str, Row<'static>); 5] = [
     (
         "no words",
         Row {
@@ -257,57 +274,58 @@ const REFUSALS: [(&str, Row<'static>); 10] = [
             ..WHOLE
         },
     ),
+];
+
+/// Files that are refused, and the line.
+const FILES: [(&str, &str); 18] = [
+    ("", "bad source a.php BadByte 0\n"),
+    ("<?php $a @", "bad source a.php BadByte 9\n"),
+    ("<?php\necho 07;\n", "bad source a.php BadByte 12\n"),
+    ("<?php 'ab", "bad source a.php OpenString 6\n"),
+    ("<?php /* x", "bad source a.php OpenComment 6\n"),
     (
-        "another statement",
-        Row {
-            file: "<?php\necho 7;\nprint 7;\n",
-            status: 201,
-            packets: &[],
-            err: "bad source a.php NotThin 3\n",
-            ..WHOLE
-        },
+        "<?php 9223372036854775808;",
+        "bad source a.php WideNumber 6\n",
+    ),
+    ("<?php echo ;", "bad source a.php Unexpected 1\n"),
+    ("<?php echo 1", "bad source a.php Unexpected 2\n"),
+    (
+        "<?php (((((((((((((((((((((((((((((((((",
+        "bad source a.php TooDeep 32\n",
     ),
     (
-        "no line feed",
-        Row {
-            file: "<?php\necho 7;",
-            status: 201,
-            packets: &[],
-            err: "bad source a.php NotThin 2\n",
-            ..WHOLE
-        },
+        "<?php function f() {} function F() {}",
+        "bad source a.php DoubleFunction 0\n",
+    ),
+    ("<?php\n$a = 1;", "bad source a.php NotThin 2\n"),
+    ("<?php\necho 7;\n;", "bad source a.php NotThin 3\n"),
+    ("<?php\necho 1, 2;", "bad source a.php NotThin 2\n"),
+    ("<?php\n\necho -1;", "bad source a.php NotThin 3\n"),
+    ("<?php echo 'a';", "bad source a.php NotThin 1\n"),
+    (
+        "<?php\necho 7;\nfunction f() {}",
+        "bad source a.php NotThin 3\n",
     ),
     (
-        "a leading zero",
-        Row {
-            file: "<?php\necho 07;\n",
-            status: 201,
-            packets: &[],
-            err: "bad source a.php NotThin 2\n",
-            ..WHOLE
-        },
+        "<?php\nfunction f() {\n}\n$a = 1;",
+        "bad source a.php NotThin 2\n",
     ),
     (
-        "too great a number",
-        Row {
-            file: "<?php\necho 9223372036854775808;\n",
-            status: 201,
-            packets: &[],
-            err: "bad source a.php NotThin 2\n",
-            ..WHOLE
-        },
-    ),
-    (
-        "no tag",
-        Row {
-            file: "",
-            status: 201,
-            packets: &[],
-            err: "bad source a.php NotThin 1\n",
-            ..WHOLE
-        },
+        "<?php\n$a = 1;\nfunction f() {}",
+        "bad source a.php NotThin 2\n",
     ),
 ];
+
+/// A call over a file that is refused.
+fn refused<'a>(file: &'a str, line: &'a str) -> Row<'a> {
+    Row {
+        file,
+        status: 201,
+        packets: &[],
+        err: line,
+        ..WHOLE
+    }
+}
 
 /// Calls of the outside that fail.
 const FAULTS: [(&str, Row<'static>); 4] = [
@@ -363,6 +381,9 @@ fn sessions_refusals_and_faults(rt: HostRuntime) -> Result<(), Fail> {
     }
     for (name, row) in FAULTS {
         check(&rt, rt.alloc(), name, row)?;
+    }
+    for (file, line) in FILES {
+        check(&rt, rt.alloc(), file, refused(file, line))?;
     }
     Ok(())
 }

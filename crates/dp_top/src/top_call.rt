@@ -21,7 +21,7 @@ use std::sync::Wait;
 /// |---|---|---|
 /// | 0 | the session went well | none |
 /// | 200 | the words ask for nothing | `usage` |
-/// | 201 | the file is too long or no program | `bad source NAME REASON NUMBER` |
+/// | 201 | the file is too long, no program, or none of numbers | `bad source NAME REASON NUMBER` |
 /// | 202 | the shelf failed, or has no such file | `shelf failed NAME`, `no file NAME` |
 /// | 203 | an output failed | `output failed` |
 /// | 207 | bytes stand in no command's place, or too many came | `bad packet offset N` |

@@ -12,4 +12,4 @@ returns-in-Ok-begin-clause-ends g c =
     let same : c.in-Ok.program.items ≡ c.in-Ok-begin.session.program =
     sym (ap (λ (s : State). s.program) c.in-Ok-begin.ensures.opening ∙ c.as_slice.ensures.value) in
     let is = subst (λ (l : List ℕ). IsProgram (g.H.Shelf.files c.args.shelf.now) c.args.request.file.now l) same c.in-Ok.ensures.ok in
-    rw c.judge.ensures (judged_is c.serve.result.end _ _ _ _ _ c.in-Ok-begin.session.program _ _ _ is (c.serve.ensures.ends c.args.request.key.now c.args.request.file.now begun))
+    rw c.judge.ensures.judged (judged_is c.serve.result.end _ _ _ _ _ c.in-Ok-begin.session.program _ _ _ is (c.serve.ensures.ends c.args.request.key.now c.args.request.file.now begun))
