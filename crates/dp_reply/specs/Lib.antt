@@ -8,3 +8,4 @@ pub mod Text
 pub mod Contents
 pub mod Verdict
 pub mod Readings
+pub mod Norm
