@@ -27,4 +27,6 @@ pub use reading::{packet_of, reread};
 pub use texts::text_of;
 
 #[cfg(test)]
+mod reading_tests;
+#[cfg(test)]
 mod tests;
