@@ -8,4 +8,3 @@ pub mod Text
 pub mod Contents
 pub mod Verdict
 pub mod Readings
-pub mod Norm

@@ -23,7 +23,7 @@ pub use packet::{
     Body, BreakKind, BreakLine, HitRule, Init, Notify, Packet, ProxyReply, Response, StackLine,
 };
 pub use property::{Property, Shape};
-pub use reading::{packet_of, reread};
+pub use reading::packet_of;
 pub use texts::text_of;
 
 #[cfg(test)]

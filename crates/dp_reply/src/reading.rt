@@ -4,7 +4,6 @@ ghost use Rattle.std.specs.Prelude.{◌≡◌, Err, None, IfOk, MatchResult};
 ghost use Rattle.dp_markup.specs.declared.tree.Element.{Element as Tree};
 ghost use Rattle.dp_markup.specs.Grammar.{IsMarkup};
 ghost use Rattle.dp_reply.specs.declared.packet.Packet.{Packet as Told};
-ghost use Rattle.dp_reply.specs.Norm.{IsRereadable, norm};
 ghost use Rattle.dp_reply.specs.Readings as spec;
 ghost use Rattle.dp_reply.specs.Verdict.{Finds};
 
@@ -138,13 +137,4 @@ pub fn packet_of(alloc: Global, text: &[u8]) -> Result<Packet, ReplyError>
 {
     let e = read(alloc, text)?;
     packet_in(alloc, &e)
-}
-
-/// A packet that is written and read again is the same, but for an empty body.
-pub fn reread(alloc: Global, packet: &Packet) -> Result<Packet, ReplyError>
-    requires { IsRereadable packet.now }
-    ensures { MatchResult result (λ p. p ≡ norm packet.now) (λ e. e ≡ ReplyError.Memory) }
-{
-    let text = text_of(alloc, packet)?;
-    packet_of(alloc, text.as_slice())
 }

@@ -20,16 +20,6 @@ fn is_read_as(alloc: Global, text: &[u8], len: usize, element: &[u8]) -> Result<
     }
 }
 
-/// Whether a packet that is written and read again is the same.
-fn is_again(alloc: Global) -> Result<bool, Memory> {
-    let key = Bytes::from_slice(alloc, b"A")?;
-    let packet = Packet::Proxy(ProxyReply::Stopped { key });
-    match reread(alloc, &packet) {
-        Ok(Packet::Proxy(ProxyReply::Stopped { key })) => Ok(key.as_slice() == b"A".as_slice()),
-        _ => Ok(false),
-    }
-}
-
 fn is_none(alloc: Global, text: &[u8]) -> bool {
     matches!(packet_of(alloc, text), Err(ReplyError::NotDbgp))
 }
@@ -316,7 +306,6 @@ fn what_is_written_is_read(rt: HostRuntime) -> Result<(), Fail> {
     for (len, element) in &WRITTEN {
         assert!(rt; is_read_as(alloc, element, *len, element)?);
     }
-    assert!(rt; is_again(alloc)?);
     Ok(())
 }
 

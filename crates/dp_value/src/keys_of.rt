@@ -36,8 +36,8 @@ fn text_key(alloc: Global, bytes: &[u8]) -> Result<Key, Memory>
     }
 }
 
-/// The integer of 64 bits that a text spells in its shortest form.
-pub fn int_of_text(bytes: &[u8]) -> Option<i64>
+/// The integer that a text spells in its shortest form.
+fn int_of_text(bytes: &[u8]) -> Option<i64>
     ensures { result ≡ spelt_int bytes.now }
 {
     if !has_int_form(bytes) {

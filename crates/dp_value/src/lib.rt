@@ -21,7 +21,7 @@ pub use error::{CallError, ValueError, WriteError};
 pub use identity::same;
 pub use items::Items;
 pub use key::Key;
-pub use keys_of::{int_of_text, key_of};
+pub use keys_of::key_of;
 pub use operators::{BinaryOp, Builtin, UnaryOp};
 pub use value::{PhpArray, Value, WEIGHT_LIMIT};
 pub use weights::weight;
