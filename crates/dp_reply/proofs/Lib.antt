@@ -1,2 +1,5 @@
 -- Lemmas on what is put behind a list.
 pub mod Chains
+pub mod Levels
+pub mod Numbers
+pub mod Whole

@@ -5,3 +5,6 @@ pub mod Breakpoints
 pub mod Messages
 pub mod Packets
 pub mod Text
+pub mod Contents
+pub mod Verdict
+pub mod Readings

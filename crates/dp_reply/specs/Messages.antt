@@ -1,5 +1,5 @@
 -- The messages of errors (the codes of DBGp 1.0, "Errors"; the words are our own).
-use Rattle.std.specs.Prelude.{ℕ, Bool, true, false, ◌==◌, if◌then◌else◌, List, [], ◌∷◌, codes}
+use Rattle.std.specs.Prelude.{ℕ, Bool, true, false, ◌==◌, if◌then◌else◌, [], ◌∷◌, codes}
 use Rattle.dp_reply.specs.Parts.{Text}
 
 -- the message of a code; empty where the code has none

@@ -1,5 +1,5 @@
 -- The element that a packet is, with its attributes in order (DBGp 1.0; the order is our own).
-use Rattle.std.specs.Prelude.{◌≡◌, ℕ, Bool, true, false, ◌==◌, List, [], ◌∷◌, ◌++◌, Option, Some, None, codes, decimal, map}
+use Rattle.std.specs.Prelude.{◌≡◌, ℕ, Bool, true, false, List, [], ◌∷◌, Option, Some, None, codes, decimal, map}
 use Rattle.dp_markup.specs.declared.tree.Element.{Element}
 use Rattle.dp_markup.specs.declared.tree.Node.{Node}
 use Rattle.dp_reply.specs.declared.packet.Packet.{Packet}
@@ -13,7 +13,7 @@ use Rattle.dp_reply.specs.declared.packet.Body.{Body}
 use Rattle.dp_reply.specs.declared.packet.Body.TheVariants as body
 use Rattle.dp_reply.specs.declared.packet.ProxyReply.{ProxyReply}
 use Rattle.dp_reply.specs.declared.packet.ProxyReply.TheVariants.{Started, Stopped, Refused}
-use Rattle.dp_reply.specs.Parts.{Text, element, child, text_nodes, flag, base64, namespace}
+use Rattle.dp_reply.specs.Parts.{Text, element, child, text_nodes, base64, namespace}
 use Rattle.dp_reply.specs.Properties.{property_node}
 use Rattle.dp_reply.specs.Breakpoints.{breakpoint_node}
 use Rattle.dp_reply.specs.Messages.{message_of, reason_of, is_some_text}

@@ -1,5 +1,5 @@
 -- Properties as elements (DBGp 1.0, "Properties, variables and values").
-use Rattle.std.specs.Prelude.{ℕ, Bool, not, ◌==◌, List, [], ◌∷◌, ◌++◌, codes, decimal}
+use Rattle.std.specs.Prelude.{ℕ, not, ◌==◌, List, [], ◌∷◌, ◌++◌, codes, decimal}
 use Rattle.std.specs.Fmt.{signed_decimal}
 use Rattle.dp_markup.specs.declared.tree.Node.{Node}
 use Rattle.dp_reply.specs.declared.property.Property.{Property, fold-Property}

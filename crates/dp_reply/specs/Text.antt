@@ -1,5 +1,5 @@
 -- The text of a packet.
-use Rattle.std.specs.Prelude.{List, ◌++◌, codes}
+use Rattle.std.specs.Prelude.{◌++◌, codes}
 use Rattle.dp_markup.specs.Writing.{written}
 use Rattle.dp_reply.specs.declared.packet.Packet.{Packet}
 use Rattle.dp_reply.specs.Parts.{Text}

@@ -7,7 +7,8 @@ use crate::parts::{alone, child, put_number, text_nodes};
 use dp_markup::Node;
 use std::alloc::Global;
 
-fn message(code: u16) -> &'static [u8]
+/// The message of an error, empty where the code has none.
+pub fn message(code: u16) -> &'static [u8]
     ensures { result.now ≡ spec.message_of code }
 {
     match code {
@@ -33,7 +34,8 @@ fn message(code: u16) -> &'static [u8]
     }
 }
 
-fn reason(id: u8) -> &'static [u8]
+/// Why a proxy refused, empty where the number is none of its reasons.
+pub fn reason(id: u8) -> &'static [u8]
     ensures { result.now ≡ spec.reason_of id }
 {
     match id {

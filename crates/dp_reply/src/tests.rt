@@ -1,16 +1,32 @@
 ghost use Rattle.std.specs.Prelude.{◌≡◌, true};
 ghost use Rattle.dp_reply.specs.Messages.{is_some_text, message_of};
+ghost use Rattle.dp_reply.specs.Packets.{HasMessage};
 
 use super::*;
+use crate::faults::{message, reason};
 use dp_value::{Bytes, Items};
 use std::alloc::Global;
 use std::test::Fail;
 
 /// Whether the text is the declaration and this element, and has so many bytes.
-fn is(alloc: Global, text: &Bytes, len: usize, element: &[u8]) -> Result<bool, Memory> {
+pub fn is(alloc: Global, text: &Bytes, len: usize, element: &[u8]) -> Result<bool, Memory> {
     let mut wanted = Vec::from_slice(alloc, b"<?xml version=\"1.0\" encoding=\"iso-8859-1\"?>\n")?;
     wanted.extend_from_slice(element)?;
     Ok(text.as_slice() == wanted.as_slice() && text.len() == len)
+}
+
+/// Whether `text_of` takes the packet.
+pub fn has_message(packet: &Packet) -> bool
+    ensures { result ≡ true → HasMessage packet.now }
+{
+    match packet {
+        Packet::Response(response) => match &response.body {
+            Body::Fault(code) => !message(*code).is_empty(),
+            _ => true,
+        },
+        Packet::Proxy(ProxyReply::Refused { stopping: _, id }) => !reason(*id).is_empty(),
+        _ => true,
+    }
 }
 
 fn copy(alloc: Global, bytes: &[u8]) -> Result<Bytes, Memory> {
