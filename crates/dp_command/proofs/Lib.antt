@@ -6,6 +6,5 @@ pub mod Again
 pub mod Whole
 pub mod Written
 pub mod Formed
-pub mod Decimals
 pub mod Spellings
 pub mod Ids

@@ -3,7 +3,8 @@ use Rattle.std.specs.Prelude.{ℕ, Bool, false, ◌||◌, ◌==◌, List, [], �
 use Rattle.std.specs.Str.{bytes_eq}
 use Rattle.dp_command.specs.declared.command.StreamMode.{StreamMode}
 use Rattle.dp_command.specs.declared.command.StreamMode.TheVariants.{Disable, Copy, Redirect}
-use Rattle.dp_command.specs.Numbers.{number_of}
+use Rattle.dp_value.specs.Decimals.{decimal_in}
+use Rattle.dp_command.specs.Numbers.{greatest}
 
 -- letters and their values, in the order given
 abbrev pub Options : Type 0
@@ -28,7 +29,7 @@ abbrev pub text_given : ℕ → Options → List ℕ
 text_given letter options = unwrap_or (given letter options) []
 
 abbrev pub number_given : ℕ → Options → Option ℕ
-number_given letter options = option_and_then number_of (given letter options)
+number_given letter options = option_and_then (decimal_in greatest) (given letter options)
 
 -- the number, or 0 where none is given
 abbrev pub number_or_zero : ℕ → Options → ℕ

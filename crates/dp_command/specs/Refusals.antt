@@ -13,7 +13,8 @@ use Rattle.dp_command.specs.declared.slots.Presence.{Presence}
 use Rattle.dp_command.specs.declared.slots.Presence.TheVariants as presence
 use Rattle.dp_command.specs.Letters as letter
 use Rattle.dp_command.specs.Names.{name_of}
-use Rattle.dp_command.specs.Numbers.{number_of}
+use Rattle.dp_value.specs.Decimals.{decimal_in}
+use Rattle.dp_command.specs.Numbers.{greatest}
 use Rattle.dp_command.specs.Options.{Options, given, is_given, has_duplicate, mode_of}
 use Rattle.dp_command.specs.Table.{slots_of, payload_of}
 
@@ -39,7 +40,7 @@ id_of line = id_in (given letter.i line.options)
 
 abbrev pub has_kind : Kind → List ℕ → Bool
 has_kind Text value = true
-has_kind Number value = is_some (number_of value)
+has_kind Number value = is_some (decimal_in greatest value)
 has_kind Mode value = is_some (mode_of value)
 
 -- the option is this one, and its value may be so

@@ -7,3 +7,4 @@ pub mod Unary
 pub mod Lists
 pub mod Parts
 pub mod Builtins
+pub mod Indexing

@@ -155,3 +155,46 @@ fn lists_of_an_array(rt: HostRuntime) -> Result<(), Fail> {
     assert_eq!(rt; none, Some(CallError::Arguments));
     Ok(())
 }
+
+/// Whether a value is this text, or null.
+fn is_text(value: &Value, expected: Option<&[u8]>) -> bool {
+    match (value, expected) {
+        (Value::Text(bytes), Some(text)) => bytes.as_slice() == text,
+        (Value::Null, None) => true,
+        _ => false,
+    }
+}
+
+#[test]
+fn entries_are_read_by_indices(rt: HostRuntime) -> Result<(), Fail> {
+    let alloc = rt.alloc();
+    let mut array = PhpArray::new(alloc);
+    array.set(Key::Int(8), bytes(alloc, b"abc")?)?;
+    let array = Value::Array(array);
+    let eight = bytes(alloc, b"8")?;
+    assert!(rt; is_text(&index(alloc, &array, &eight)?, Some(b"abc")));
+    assert!(rt; is_text(&index(alloc, &array, &Value::Null)?, None));
+    assert_eq!(rt; find(alloc, &array, &array).err(), Some(ValueError::BadKey));
+    assert!(rt; is_text(&index(alloc, &Value::Null, &array)?, None));
+    let cases: [(i64, Option<&[u8]>); 5] = [
+        (0, Some(b"a")),
+        (2, Some(b"c")),
+        (-3, Some(b"a")),
+        (3, None),
+        (-4, None),
+    ];
+    for (at, expected) in cases {
+        let path = [Value::Int(8), Value::Int(at)];
+        assert!(rt; is_text(&find_by(alloc, &array, &path)?, expected));
+        let read = index_by(alloc, &array, &path).err();
+        assert_eq!(rt;
+            read,
+            if expected.is_some() {
+                None
+            } else {
+                Some(ValueError::Unsupported)
+            }
+        );
+    }
+    Ok(())
+}

@@ -1,5 +1,5 @@
 -- The two columns of an array, as its pairs.
-use Rattle.std.proofs.Common.{◌≡◌, ℕ, ◌<◌, List, length, map, get_or, vec_len, slice_get, option_map, Some, min, ap, sym, ◌∙◌, arith}
+use Rattle.std.proofs.Common.{◌≡◌, ℕ, ◌<◌, List, length, map, get_or, vec_len, slice_get, option_map, Some, ap, ◌∙◌, arith}
 use Rattle.std.proofs.lemmas.List.{length-map}
 use Rattle.std.proofs.lemmas.Option.{slice_get_read, slice_get-map, slice_get-get_or}
 use Rattle.std.proofs.lemmas.Slice.Zip.{length-zip}

@@ -1,18 +1,18 @@
 -- What `parse` gives for a text of the form of an integer.
-use Rattle.std.proofs.Common.{◌≡◌, ◌≢◌, ℕ, ℤ, pos, negsuc, ◌^◌, ◌<◌, ◌==◌, Bool, true, false, not, ◌&&◌, ◌||◌, cond, List, [], ◌∷◌, length, get_or, Option, Some, None, Result, Ok, Err, nat_lt, nat_eq, refl, ap, sym, ◌∙◌, rules, arith, w64}
+use Rattle.std.proofs.Common.{◌≡◌, ◌≢◌, ℕ, ℤ, pos, negsuc, ◌==◌, Bool, true, false, not, ◌&&◌, ◌||◌, cond, List, [], ◌∷◌, Some, Result, Ok, Err, nat_eq, refl, ap, sym, ◌∙◌, rules, arith, w64}
 use Rattle.std.proofs.lemmas.Bool.Decides.{nat_tests, Decides-eqb}
 use Rattle.std.proofs.lemmas.Fmt.{IsAscii-from_digits}
 use Rattle.std.proofs.lemmas.Slice.Eq.{bytes_eq-Decides}
-use Rattle.std.proofs.lemmas.Str.Ascii.{IsAscii-cons, IsAscii-nil}
+use Rattle.std.proofs.lemmas.Str.Ascii.{IsAscii-cons}
 use Rattle.std.proofs.lemmas.Str.Parse.{IsNumeralModel, numerals_by_value, without_leading_plus_none, not_in_digits}
 use Rattle.std.specs.Char.{is_ascii_digit}
 use Rattle.std.specs.Cmp.Lexicographic.{pointwise}
 use Rattle.std.specs.List.{list_all}
-use Rattle.std.specs.Result.{result_ok, OkIff}
+use Rattle.std.specs.Result.{result_ok}
 use Rattle.std.specs.Int.RustNames.{FitsSigned}
 use Rattle.std.specs.Str.{IsAscii}
-use Rattle.std.specs.Str.Parse.{IsNumeral, AllDigits, ParsesSigned, digits_value, signed_digits_value, without_leading_sign, without_leading_plus}
-use Rattle.dp_value.specs.IntText.{is_positive, without_minus, is_int_form, is_in_64_bits, int_of_text}
+use Rattle.std.specs.Str.Parse.{IsNumeral, ParsesSigned, digits_value, signed_digits_value, without_leading_sign}
+use Rattle.dp_value.specs.IntText.{is_positive, is_int_form, is_in_64_bits, int_of_text}
 
 own : IsNumeralModel (λ ds. list_all is_ascii_digit ds ≡ true) (digits_value 10)
 own = numerals_by_value (λ ds. list_all is_ascii_digit ds ≡ true) (search rules)

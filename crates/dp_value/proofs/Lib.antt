@@ -5,3 +5,5 @@ pub mod TableLemmas
 pub mod IntTextLemmas
 pub mod ComparisonLemmas
 pub mod WriteLemmas
+pub mod DecimalLemmas
+pub mod RemovalLemmas

@@ -1,5 +1,5 @@
 -- What an exchange and a write do to pairs and their weight, and what a limit leaves beside a weight.
-use Rattle.std.proofs.Common.{◌≡◌, ℕ, ℤ, ◌+◌, ◌≤◌, Bool, true, false, cond, nat_le, min, zero-add, List, [], ◌∷◌, Option, Some, None, Ok, Err, Result, IfErr, IsErrAnd, OnOk, OnErr, length, inl, inr, refl, ap, sym, ◌∙◌, subst, arith}
+use Rattle.std.proofs.Common.{◌≡◌, ℕ, ℤ, ◌+◌, ◌≤◌, ◌==◌, Bool, true, false, cond, nat_le, min, zero-add, List, [], ◌∷◌, Option, Some, None, Ok, Err, Result, IfErr, IsErrAnd, OnOk, OnErr, length, inl, inr, refl, ap, sym, ◌∙◌, subst, arith, ◌⊎◌}
 use Rattle.std.proofs.lemmas.Bool.Decides.{nat_tests}
 use Rattle.std.proofs.lemmas.Int.{ints, int_max_is}
 use Rattle.std.proofs.lemmas.List.Elements.{recursion_from_All}
@@ -16,7 +16,7 @@ use Rattle.dp_value.specs.Codes.{table_from-data_of_table}
 use Rattle.dp_value.specs.Key.{key_eq}
 use Rattle.dp_value.specs.Data.{Data, Table, null, weight_of, pairs_weight, data_of_table}
 use Rattle.dp_value.specs.Table.{find_value, keys_of, put, raised, swapped, table_set, table_exchange, value_at, weight_limit, IsTable, IsUpTo}
-use Rattle.dp_value.specs.Write.{entry_at, holder_of, put_last, then_data, then_table, within, light, written, IsCause}
+use Rattle.dp_value.specs.Entry.{entry_at, holder_of, then_data, then_table, within, light, written, written_in, IsCause}
 use Rattle.dp_value.proofs.KeyLemmas.{key_eq-Decides}
 
 -- ---- a key that is there
@@ -152,32 +152,34 @@ light_enough n (Ok d) e h = light_enough-by n d e (nat_le (n + weight_of d) weig
 light_enough n (Err x) e h = cc
 
 -- ---- what is written
-holder_of-table : (t : Table) → holder_of (data_of_table t) ≡ Ok t
+pub holder_of-table : (t : Table) → holder_of (data_of_table t) ≡ Ok t
 holder_of-table t = ap Ok (table_from-data_of_table t)
 
-pub written-table : (key : Key) (keys : List Key) (last : Option Key) (new : Data) (t : Table) →
-    written (key ∷ keys) last new (data_of_table t) ≡ then_data (written keys last new (entry_at t key)) (λ d. data_of_table (table_set t key d))
-written-table key keys last new t =
-    ap (λ (h : Result Table WriteError). then_table h (λ x. then_data (written keys last new (entry_at x key)) (λ d. data_of_table (table_set x key d)))) (holder_of-table t)
+-- a write that pushes, or has keys
+abbrev pub Enters : Bool → List (Option Key) → Bool → Type 0
+Enters empty keys push = (empty ≡ (length keys == 0)) × (((empty ≡ true) × (push ≡ true)) ⊎ (empty ≡ false))
 
-pub written-last : (last : Option Key) (new : Data) (t : Table) → written [] last new (data_of_table t) ≡ put_last last new t
-written-last last new t = ap (λ (h : Result Table WriteError). then_table h (put_last last new)) (holder_of-table t)
+-- goes into the array that the value is or becomes
+pub written-holder : (empty : Bool) (keys : List (Option Key)) (push : Bool) (new d : Data) → Enters empty keys push →
+    written keys push new d ≡ then_table (holder_of d) (written_in keys push new)
+written-holder empty [] true new d enters = refl
+written-holder empty [] false new d enters =
+    let nothing : empty ≡ true = enters.0 in
+    elim enters.1 [
+      | inl pushes ↦ let no : false ≡ true = pushes.1 in cc
+      | inr some ↦ cc
+    ]
+written-holder empty (key ∷ keys) push new d enters = refl
 
-pub last-asked : (beside : ℕ) (keys : List Key) (last : Option Key) (new : Data) (t : Table) → length keys ≡ 0 →
-    within beside (written keys last new (data_of_table t)) ≡ within beside (put_last last new t)
-last-asked beside [] last new t h = ap (within beside) (written-last last new t)
-last-asked beside (key ∷ keys) last new t h = absurd (omega arith)
+pub written-entered : (empty : Bool) (keys : List (Option Key)) (push : Bool) (new d : Data) (t : Table) → Enters empty keys push → holder_of d ≡ Ok t →
+    written keys push new d ≡ written_in keys push new t
+written-entered empty keys push new d t enters is =
+    written-holder empty keys push new d enters ∙ ap (λ (r : Result Table WriteError). then_table r (written_in keys push new)) is
 
--- a write depends on the array that a value is or becomes
-pub written-holder : (keys : List Key) (last : Option Key) (new d e : Data) → holder_of d ≡ holder_of e → written keys last new d ≡ written keys last new e
-written-holder [] last new d e same = ap (λ (h : Result Table WriteError). then_table h (put_last last new)) same
-written-holder (key ∷ keys) last new d e same =
-    ap (λ (h : Result Table WriteError). then_table h (λ x. then_data (written keys last new (entry_at x key)) (λ y. data_of_table (table_set x key y)))) same
-
-pub written-refused : (keys : List Key) (last : Option Key) (new d : Data) (e : WriteError) → holder_of d ≡ Err e → written keys last new d ≡ Err e
-written-refused [] last new d e is = ap (λ (h : Result Table WriteError). then_table h (put_last last new)) is
-written-refused (key ∷ keys) last new d e is =
-    ap (λ (h : Result Table WriteError). then_table h (λ x. then_data (written keys last new (entry_at x key)) (λ y. data_of_table (table_set x key y)))) is
+pub written-refused : (empty : Bool) (keys : List (Option Key)) (push : Bool) (new d : Data) (e : WriteError) → Enters empty keys push → holder_of d ≡ Err e →
+    written keys push new d ≡ Err e
+written-refused empty keys push new d e enters is =
+    written-holder empty keys push new d enters ∙ ap (λ (r : Result Table WriteError). then_table r (written_in keys push new)) is
 
 -- ---- results that are passed on
 pub at_exit : {X : Type 0} (r : Result X WriteError) (e : WriteError) (asked : Result Data WriteError) → IsErrAnd r (λ y. y ≡ e) → IsCause asked e → IfErr r (IsCause asked)
@@ -200,44 +202,43 @@ pub ok-along : {X : Type 0} (r : Result X WriteError) (asked : Result Data Write
 ok-along (Ok x) asked a b h is = is ∙ ap (λ (t : Table). let r : Result Data WriteError = Ok (data_of_table t) in r) (sym h)
 ok-along (Err e) asked a b h is = tt
 
--- ---- a write behind a first key: what is asked of the value there
-pub record IsBehind (beside inner : ℕ) (keys : List Key) (key : Key) (rest : List Key) (t : Table) (child : Data) : Type 0 where
+-- ---- a write under a first key: what is asked of the value there
+pub record IsBehind (beside inner : ℕ) (keys : List (Option Key)) (key : Key) (rest : List (Option Key)) (t : Table) (child : Data) : Type 0 where
   pub room : inner ≡ min (beside + pairs_weight (put t.pairs key null)) 18446744073709551615
-  pub first : keys ≡ key ∷ rest
+  pub first : keys ≡ Some key ∷ rest
   pub entry : entry_at t key ≡ child
 
-module _ (beside inner : ℕ) (keys : List Key) (key : Key) (rest : List Key) (last : Option Key) (new : Data) (t : Table) (child : Data) (is : IsBehind beside inner keys key rest t child) where
-  pub asked : within beside (written keys last new (data_of_table t)) ≡ then_data (within inner (written rest last new child)) (λ d. data_of_table (table_set t key d))
+module _ (beside inner : ℕ) (keys : List (Option Key)) (key : Key) (rest : List (Option Key)) (push : Bool) (new : Data) (t : Table) (child : Data) (is : IsBehind beside inner keys key rest t child) where
+  pub asked : within beside (written_in keys push new t) ≡ then_data (within inner (written rest push new child)) (λ d. data_of_table (table_set t key d))
   asked =
-      ap (λ (ks : List Key). within beside (written ks last new (data_of_table t))) is.first
-      ∙ ap (within beside) (written-table key rest last new t)
-      ∙ within_set beside t key (written rest last new (entry_at t key))
+      ap (λ (ks : List (Option Key)). within beside (written_in ks push new t)) is.first
+      ∙ within_set beside t key (written rest push new (entry_at t key))
       ∙ ap (λ (r : Result Data WriteError). then_data r (λ d. data_of_table (table_set t key d)))
-      (sym (within_min (beside + pairs_weight (put t.pairs key null)) (written rest last new (entry_at t key)))
-      ∙ ap (λ (n : ℕ). within n (written rest last new (entry_at t key))) (sym is.room)
-      ∙ ap (λ (d : Data). within inner (written rest last new d)) is.entry)
+      (sym (within_min (beside + pairs_weight (put t.pairs key null)) (written rest push new (entry_at t key)))
+      ∙ ap (λ (n : ℕ). within n (written rest push new (entry_at t key))) (sym is.room)
+      ∙ ap (λ (d : Data). within inner (written rest push new d)) is.entry)
 
-  pub behind-done : (d : Data) → within inner (written rest last new child) ≡ Ok d → within beside (written keys last new (data_of_table t)) ≡ Ok (data_of_table (table_set t key d))
+  pub behind-done : (d : Data) → within inner (written rest push new child) ≡ Ok d → within beside (written_in keys push new t) ≡ Ok (data_of_table (table_set t key d))
   behind-done d h = asked ∙ ap (λ (r : Result Data WriteError). then_data r (λ x. data_of_table (table_set t key x))) h
 
-  pub behind-cause : (e : WriteError) → IsCause (within inner (written rest last new child)) e → IsCause (within beside (written keys last new (data_of_table t))) e
+  pub behind-cause : (e : WriteError) → IsCause (within inner (written rest push new child)) e → IsCause (within beside (written_in keys push new t)) e
   behind-cause e cause = elim cause [
     | inl memory ↦ inl memory
     | inr h ↦ inr (asked ∙ ap (λ (r : Result Data WriteError). then_data r (λ x. data_of_table (table_set t key x))) h)
   ]
 
-  pub behind-light : (d : Data) → within inner (written rest last new child) ≡ Ok d → pairs_weight (put t.pairs key d) ≤ weight_limit
+  pub behind-light : (d : Data) → within inner (written rest push new child) ≡ Ok d → pairs_weight (put t.pairs key d) ≤ weight_limit
   behind-light d h =
-      let enough : inner + weight_of d ≤ weight_limit = light_enough inner (written rest last new child) d h in
+      let enough : inner + weight_of d ≤ weight_limit = light_enough inner (written rest push new child) d h in
       let room : inner ≡ min (beside + pairs_weight (put t.pairs key null)) 18446744073709551615 = is.room in
       omega (arith, weight-put t.pairs key d)
 
-  pub behind-refused : {X : Type 0} (r : Result X WriteError) → IfErr r (IsCause (within inner (written rest last new child))) → IfErr r (IsCause (within beside (written keys last new (data_of_table t))))
+  pub behind-refused : {X : Type 0} (r : Result X WriteError) → IfErr r (IsCause (within inner (written rest push new child))) → IfErr r (IsCause (within beside (written_in keys push new t)))
   behind-refused (Ok x) h = tt
   behind-refused (Err e) h = behind-cause e h
 
   module _ (table : IsTable t) (found : value_at t key ≡ Some child) where
-    pub behind-back : {X : Type 0} (r : Result X WriteError) (d : Data) → OnOk r (within inner (written rest last new child) ≡ Ok d) → OnErr r (d ≡ child) →
+    pub behind-back : {X : Type 0} (r : Result X WriteError) (d : Data) → OnOk r (within inner (written rest push new child) ≡ Ok d) → OnErr r (d ≡ child) →
         pairs_weight (swapped (swapped t.pairs key null) key d) ≤ weight_limit
     behind-back (Ok x) d done err =
         let same : swapped (swapped t.pairs key null) key d ≡ put t.pairs key d = swapped-swapped t.pairs key null d ∙ sym (put-present t.pairs key d child found) in
@@ -247,8 +248,8 @@ module _ (beside inner : ℕ) (keys : List Key) (key : Key) (rest : List Key) (l
         swapped-swapped t.pairs key null d ∙ ap (swapped t.pairs key) err ∙ swapped-same t.pairs key child found in
         omega (arith, ap pairs_weight same, table.light)
 
-    pub behind-ok : {X : Type 0} (r : Result X WriteError) (d : Data) (after : Table) → after ≡ table_exchange t key d → OnOk r (within inner (written rest last new child) ≡ Ok d) →
-        OnOk r (within beside (written keys last new (data_of_table t)) ≡ Ok (data_of_table after))
+    pub behind-ok : {X : Type 0} (r : Result X WriteError) (d : Data) (after : Table) → after ≡ table_exchange t key d → OnOk r (within inner (written rest push new child) ≡ Ok d) →
+        OnOk r (within beside (written_in keys push new t) ≡ Ok (data_of_table after))
     behind-ok (Ok x) d after h done =
         behind-done d done ∙ ap (λ (u : Table). let r : Result Data WriteError = Ok (data_of_table u) in r) (set-present t key d child table found ∙ sym h)
     behind-ok (Err e) d after h done = tt

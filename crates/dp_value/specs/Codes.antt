@@ -1,5 +1,5 @@
 -- How the logic stores an array: as a list of tokens, each value behind its parts, which two stacks read back.
-use Rattle.std.specs.Prelude.{◌≡◌, ℕ, ℤ, pos, List, [], ◌∷◌, Option, Bool, true, false, cond, ◌==◌, Some, None, refl}
+use Rattle.std.specs.Prelude.{◌≡◌, ℕ, ℤ, pos, List, [], ◌∷◌, Option, Bool, true, false, cond, ◌==◌, None, refl}
 use Rattle.std.specs.Coded.{Coded, code_by, coded×, coded_ℕ, coded_ℤ, coded_list, coded_option}
 use mathlib.Core.Path.{ap, ◌∙◌}
 use Rattle.dp_value.specs.declared.key.Key.{Key}

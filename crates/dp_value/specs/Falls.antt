@@ -1,5 +1,5 @@
 -- Each array in an array nests less deep than it.
-use Rattle.std.specs.Prelude.{◌≡◌, ℕ, ◌≤◌, suc, max, List, [], ◌∷◌, map, length}
+use Rattle.std.specs.Prelude.{◌≡◌, ◌≤◌, suc, max, List, [], ◌∷◌, map, length}
 use Rattle.std.specs.List.{zip}
 use Rattle.std.proofs.Common.{arith}
 use denote.Param.Weighed.{most}

@@ -1,5 +1,5 @@
 -- Keys of arrays.
-use Rattle.std.specs.Prelude.{ℕ, ℤ, Bool, false, List, length, nat_eq}
+use Rattle.std.specs.Prelude.{ℕ, Bool, false, length, nat_eq}
 use Rattle.std.specs.Ordering.{int_eq}
 use Rattle.std.specs.Cmp.Lexicographic.{pointwise}
 use Rattle.dp_value.specs.declared.key.Key.{Key}

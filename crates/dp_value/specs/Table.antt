@@ -1,5 +1,5 @@
 -- Arrays: what a write, a push and a removal leave. Source: the PHP manual, "Arrays".
-use Rattle.std.specs.Prelude.{◌≡◌, ℕ, ℤ, pos, ◌+ℤ◌, ◌≤ℤ◌, ◌≤◌, ◌^◌, Bool, cond, List, [], ◌∷◌, map, All, Option, Some, None, option_map, ⊤}
+use Rattle.std.specs.Prelude.{ℕ, ℤ, pos, ◌+ℤ◌, ◌≤ℤ◌, ◌≤◌, Bool, cond, List, [], ◌∷◌, map, All, Option, Some, None, ⊤}
 use Rattle.std.specs.List.{IsDistinct}
 use Rattle.std.specs.Int.{int_max}
 use Rattle.dp_value.specs.declared.key.Key.{Key}

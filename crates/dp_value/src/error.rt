@@ -70,6 +70,9 @@ pub enum WriteError {
     /// A value on the way is a text, whose bytes cannot be written.
     #[error("bytes of a text cannot be written")]
     Unsupported,
+    /// An array cannot be a key.
+    #[error("an array is no key")]
+    BadKey,
     /// The largest integer key was used, so no next one is left.
     #[error("no next key is left")]
     NextIndex,

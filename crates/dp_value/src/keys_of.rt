@@ -36,8 +36,8 @@ fn text_key(alloc: Global, bytes: &[u8]) -> Result<Key, Memory>
     }
 }
 
-/// The integer that a text spells in its shortest form.
-fn int_of_text(bytes: &[u8]) -> Option<i64>
+/// The integer of 64 bits that a text spells in its shortest form.
+pub fn int_of_text(bytes: &[u8]) -> Option<i64>
     ensures { result ≡ spelt_int bytes.now }
 {
     if !has_int_form(bytes) {
@@ -59,7 +59,7 @@ fn has_int_form(bytes: &[u8]) -> bool
 }
 
 /// Whether there are digits, and the first is not 0.
-fn starts_above_zero(bytes: &[u8]) -> bool
+pub fn starts_above_zero(bytes: &[u8]) -> bool
     ensures { result ≡ is_positive bytes.now }
 {
     match bytes {

@@ -177,22 +177,24 @@ fn arrays_refuse_what_is_too_heavy(rt: HostRuntime) -> Result<(), Fail> {
     Ok(())
 }
 
-/// Writes the integer 8 behind integer keys, and gives the cause of a refusal.
+/// Keys of these integers, of which 99 stands for an index that is no key.
+fn path(alloc: Global, keys: &[i64]) -> Result<Vec<Option<Key>>, Memory> {
+    let mut path = Vec::new(alloc);
+    for n in keys {
+        path.push(if *n == 99 { None } else { Some(Key::Int(*n)) })?;
+    }
+    Ok(path)
+}
+
+/// Writes or pushes the integer 8 under integer keys, and gives the cause of a refusal.
 fn refusal(
     alloc: Global,
     value: &mut Value,
     keys: &[i64],
-    last: Option<i64>,
+    push: bool,
 ) -> Result<Option<WriteError>, Memory> {
-    let mut path = Vec::new(alloc);
-    for n in keys {
-        path.push(Key::Int(*n))?;
-    }
-    let last = match last {
-        Some(n) => Some(Key::Int(n)),
-        None => None,
-    };
-    Ok(write_at(alloc, value, &path, last, Value::Int(8)).err())
+    let keys = path(alloc, keys)?;
+    Ok(write_at(alloc, value, &keys, push, Value::Int(8)).err())
 }
 
 /// Whether the integer 8 is behind two integer keys.
@@ -213,18 +215,19 @@ fn is_written(value: &Value, first: i64, second: i64) -> bool {
 fn entries_are_written_at_any_depth(rt: HostRuntime) -> Result<(), Fail> {
     let alloc = rt.alloc();
     let mut value = Value::Null;
-    let writes: [(&[i64], Option<i64>, Option<WriteError>); 8] = [
-        (&[1, 2], Some(3), None),
-        (&[1, 2, 3], Some(0), Some(WriteError::Scalar)),
-        (&[1, 2, 3, 4], None, Some(WriteError::Scalar)),
-        (&[1], None, None),
-        (&[1], Some(i64::MAX), None),
-        (&[1], None, Some(WriteError::NextIndex)),
-        (&[7], None, None),
-        (&[], Some(7), None),
+    let writes: [(&[i64], bool, Option<WriteError>); 9] = [
+        (&[1, 2, 3], false, None),
+        (&[1, 2, 3, 0], false, Some(WriteError::Scalar)),
+        (&[1, 2, 3, 99], true, Some(WriteError::Scalar)),
+        (&[1, 99, 3], false, Some(WriteError::BadKey)),
+        (&[1], true, None),
+        (&[1, i64::MAX], false, None),
+        (&[1], true, Some(WriteError::NextIndex)),
+        (&[7], true, None),
+        (&[7], false, None),
     ];
-    for (keys, last, cause) in writes {
-        assert_eq!(rt; refusal(alloc, &mut value, keys, last)?, cause);
+    for (keys, push, cause) in writes {
+        assert_eq!(rt; refusal(alloc, &mut value, keys, push)?, cause);
     }
     assert!(rt; is_written(&value, 1, 3));
     assert!(rt; is_written(&value, 1, i64::MAX));
@@ -236,15 +239,37 @@ fn entries_are_written_at_any_depth(rt: HostRuntime) -> Result<(), Fail> {
 fn refused_writes_leave_the_value(rt: HostRuntime) -> Result<(), Fail> {
     let alloc = rt.alloc();
     let mut value = Value::Array(heavy(alloc, 1_048_573)?);
-    let writes: [(&[i64], Option<i64>, Option<WriteError>); 4] = [
-        (&[1, 2], Some(3), Some(WriteError::TooHeavy)),
-        (&[1], None, None),
-        (&[1], None, Some(WriteError::TooHeavy)),
-        (&[0], None, Some(WriteError::Unsupported)),
+    let writes: [(&[i64], bool, Option<WriteError>); 4] = [
+        (&[1, 2, 3], false, Some(WriteError::TooHeavy)),
+        (&[1], true, None),
+        (&[1], true, Some(WriteError::TooHeavy)),
+        (&[0], true, Some(WriteError::Unsupported)),
     ];
-    for (keys, last, cause) in writes {
-        assert_eq!(rt; refusal(alloc, &mut value, keys, last)?, cause);
+    for (keys, push, cause) in writes {
+        assert_eq!(rt; refusal(alloc, &mut value, keys, push)?, cause);
     }
     assert_eq!(rt; weight(&value), 1_048_576);
+    Ok(())
+}
+
+#[test]
+fn entries_are_removed_at_any_depth(rt: HostRuntime) -> Result<(), Fail> {
+    let alloc = rt.alloc();
+    let mut value = Value::Null;
+    assert_eq!(rt; refusal(alloc, &mut value, &[1, 2, 3], false)?, None);
+    let removals: [(&[i64], Option<WriteError>, u64); 7] = [
+        (&[1, 2, 3, 99], Some(WriteError::Scalar), 3),
+        (&[1, 99, 3], Some(WriteError::BadKey), 3),
+        (&[1, 4, 99], None, 3),
+        (&[1, 2, 4], None, 3),
+        (&[1, 2, 3], None, 2),
+        (&[1], None, 0),
+        (&[1, 2], None, 0),
+    ];
+    for (keys, cause, left) in removals {
+        let keys = path(alloc, keys)?;
+        assert_eq!(rt; remove_at(&mut value, &keys).err(), cause);
+        assert_eq!(rt; weight(&value), left);
+    }
     Ok(())
 }

@@ -1,31 +1,31 @@
-ghost use Rattle.std.specs.Prelude.{◌≡◌, ◌≤◌, ◌+◌, min, IfOk, IfErr, OnOk, OnErr};
+ghost use Rattle.std.specs.Prelude.{◌≡◌, ◌≤◌, ◌+◌, min, Ok, IfOk, IfErr, OnOk, OnErr};
 ghost use Rattle.dp_value.specs.Data.{Data, data_of_table, null, pairs_weight};
-ghost use Rattle.dp_value.specs.Table.{put, table_set, weight_limit};
+ghost use Rattle.dp_value.specs.Table.{empty, put, table_set, weight_limit};
 ghost use Rattle.dp_value.specs.Value.{data_of};
-ghost use Rattle.dp_value.specs.Write.{put_last, put_under, within, written, write_result, IsCause};
+ghost use Rattle.dp_value.specs.Entry.{pushed, put_under, within, written, written_in, write_result, IsCause};
 
-use crate::{Key, PhpArray, Value, WEIGHT_LIMIT, WriteError};
+use crate::{Key, PhpArray, Value, WEIGHT_LIMIT, WriteError, weight};
 use std::alloc::Global;
 
-/// Writes one entry, however deep: the value behind `keys` and the last key, or pushed behind
-/// `keys` where there is no last key. Null and false on the way become arrays. The work grows with
-/// the number of keys, and not with the size of the arrays.
+/// Writes one entry, however deep: the value under `keys`, or a new one that is pushed there. A key that is `None` stands
+/// for an index that is no key. Without keys the value itself is replaced, or pushed into. Null and false on the way
+/// become arrays. The work grows with the number of keys, and not with the size of the arrays.
 ///
-/// The causes are tried key by key, `Scalar` and `Unsupported` by what holds the entry; behind the
-/// last one `NextIndex`, then `TooHeavy` where an array on the way would weigh more than
-/// `WEIGHT_LIMIT`. After a refusal the value is as before. Source: the PHP manual, "Arrays".
+/// The causes are tried key by key: `Scalar` and `Unsupported` by what holds the entry, then `BadKey`; behind the last key
+/// `NextIndex`, then `TooHeavy` where the value, or an array on the way, would weigh more than `WEIGHT_LIMIT`. After a
+/// refusal the value is as before. Source: the PHP manual, "Arrays".
 pub fn write_at(
     alloc: Global,
     value: &mut Value,
-    keys: &[Key],
-    last: Option<Key>,
+    keys: &[Option<Key>],
+    push: bool,
     new: Value,
 ) -> Result<(), WriteError>
-    ensures ok { OnOk result (write_result keys.now last (data_of new) (data_of value.old) ≡ Ok (data_of value.new)) }
-    ensures refused { IfErr result (λ e. IsCause (write_result keys.now last (data_of new) (data_of value.old)) e) }
+    ensures ok { OnOk result (write_result keys.now push (data_of new) (data_of value.old) ≡ Ok (data_of value.new)) }
+    ensures refused { IfErr result (λ e. IsCause (write_result keys.now push (data_of new) (data_of value.old)) e) }
     ensures err { OnErr result (value.new ≡ value.old) }
 {
-    write(alloc, value, keys, last, new, 0)
+    write(alloc, value, keys, push, new, 0)
 }
 
 /// Writes one entry of a value beside which so much else weighs.
@@ -33,19 +33,22 @@ pub fn write_at(
 fn write(
     alloc: Global,
     value: &mut Value,
-    keys: &[Key],
-    last: Option<Key>,
+    keys: &[Option<Key>],
+    push: bool,
     new: Value,
     beside: u64,
 ) -> Result<(), WriteError>
-    ensures ok { OnOk result (within beside (written keys.now last (data_of new) (data_of value.old)) ≡ Ok (data_of value.new)) }
-    ensures refused { IfErr result (λ e. IsCause (within beside (written keys.now last (data_of new) (data_of value.old))) e) }
+    ensures ok { OnOk result (within beside (written keys.now push (data_of new) (data_of value.old)) ≡ Ok (data_of value.new)) }
+    ensures refused { IfErr result (λ e. IsCause (within beside (written keys.now push (data_of new) (data_of value.old))) e) }
     ensures err { OnErr result (value.new ≡ value.old) }
 {
+    if keys.is_empty() && !push {
+        return replace(value, new, beside);
+    }
     match value {
-        Value::Array(array) => write_into(alloc, array, keys, last, new, beside),
+        Value::Array(array) => write_into(alloc, array, keys, push, new, beside),
         Value::Null | Value::Bool(false) => {
-            let array = write_new(alloc, keys, last, new, beside)?;
+            let array = write_new(alloc, keys, push, new, beside)?;
             *value = Value::Array(array);
             Ok(())
         }
@@ -58,16 +61,16 @@ fn write(
 #[cycle(writing)]
 fn write_new(
     alloc: Global,
-    keys: &[Key],
-    last: Option<Key>,
+    keys: &[Option<Key>],
+    push: bool,
     new: Value,
     beside: u64,
 ) -> Result<PhpArray, WriteError>
-    ensures ok { IfOk result (λ array. within beside (written keys.now last (data_of new) null) ≡ Ok (data_of_table array)) }
-    ensures refused { IfErr result (λ e. IsCause (within beside (written keys.now last (data_of new) null)) e) }
+    ensures ok { IfOk result (λ array. within beside (written_in keys.now push (data_of new) empty) ≡ Ok (data_of_table array)) }
+    ensures refused { IfErr result (λ e. IsCause (within beside (written_in keys.now push (data_of new) empty)) e) }
 {
     let mut array = PhpArray::new(alloc);
-    write_into(alloc, &mut array, keys, last, new, beside)?;
+    write_into(alloc, &mut array, keys, push, new, beside)?;
     Ok(array)
 }
 
@@ -76,25 +79,28 @@ fn write_new(
 fn write_into(
     alloc: Global,
     array: &mut PhpArray,
-    keys: &[Key],
-    last: Option<Key>,
+    keys: &[Option<Key>],
+    push: bool,
     new: Value,
     beside: u64,
 ) -> Result<(), WriteError>
-    ensures ok { OnOk result (within beside (written keys.now last (data_of new) (data_of_table array.old)) ≡ Ok (data_of_table array.new)) }
-    ensures refused { IfErr result (λ e. IsCause (within beside (written keys.now last (data_of new) (data_of_table array.old))) e) }
+    ensures ok { OnOk result (within beside (written_in keys.now push (data_of new) array.old) ≡ Ok (data_of_table array.new)) }
+    ensures refused { IfErr result (λ e. IsCause (within beside (written_in keys.now push (data_of new) array.old)) e) }
     ensures err { OnErr result (array.new ≡ array.old) }
 {
     let Some((key, rest)) = keys.split_first() else {
-        return write_last(array, last, new, beside);
+        return push_into(array, new, beside);
+    };
+    let Some(key) = key else {
+        return Err(WriteError::BadKey);
     };
     let beside_child = beside_entry(array, key, beside);
     let Some(mut child) = array.exchange(key, Value::Null) else {
         let mut child = Value::Null;
-        write(alloc, &mut child, rest, last, new, beside_child)?;
+        write(alloc, &mut child, rest, push, new, beside_child)?;
         return set_entry(array, key.try_clone()?, child);
     };
-    let result = write(alloc, &mut child, rest, last, new, beside_child);
+    let result = write(alloc, &mut child, rest, push, new, beside_child);
     let _ = array.exchange(key, child);
     result
 }
@@ -106,18 +112,26 @@ fn beside_entry(array: &PhpArray, key: &Key, beside: u64) -> u64
     array.weight_with(key, &Value::Null).saturating_add(beside)
 }
 
-/// Puts the last value of a write into its array.
-fn write_last(
-    array: &mut PhpArray,
-    last: Option<Key>,
-    new: Value,
-    beside: u64,
-) -> Result<(), WriteError>
-    ensures ok { OnOk result (within beside (put_last last (data_of new) array.old) ≡ Ok (data_of_table array.new)) }
-    ensures refused { IfErr result (λ e. IsCause (within beside (put_last last (data_of new) array.old)) e) }
+/// Puts a value in the place of another, where it is not too heavy.
+fn replace(value: &mut Value, new: Value, beside: u64) -> Result<(), WriteError>
+    ensures ok { OnOk result (within beside (Ok (data_of new)) ≡ Ok (data_of value.new)) }
+    ensures refused { IfErr result (λ e. IsCause (within beside (Ok (data_of new))) e) }
+    ensures err { OnErr result (value.new ≡ value.old) }
+{
+    if weight(&new).saturating_add(beside) > WEIGHT_LIMIT {
+        return Err(WriteError::TooHeavy);
+    }
+    *value = new;
+    Ok(())
+}
+
+/// Pushes a value into an array beside which so much else weighs.
+fn push_into(array: &mut PhpArray, new: Value, beside: u64) -> Result<(), WriteError>
+    ensures ok { OnOk result (within beside (pushed (data_of new) array.old) ≡ Ok (data_of_table array.new)) }
+    ensures refused { IfErr result (λ e. IsCause (within beside (pushed (data_of new) array.old)) e) }
     ensures err { OnErr result (array.new ≡ array.old) }
 {
-    let Some(key) = last_key(array, last) else {
+    let Some(key) = next_key(array) else {
         return Err(WriteError::NextIndex);
     };
     let weight = array.weight_with(&key, &new).saturating_add(beside);
@@ -127,17 +141,14 @@ fn write_last(
     set_entry(array, key, new)
 }
 
-/// The key under which the last value of a write goes: the one given, or the next integer key.
-fn last_key(array: &PhpArray, last: Option<Key>) -> Option<Key>
-    ensures { (d : Data) → put_last last d array.now ≡ put_under result d array.now }
+/// The key under which a pushed value goes.
+fn next_key(array: &PhpArray) -> Option<Key>
+    ensures { (d : Data) → pushed d array.now ≡ put_under result d array.now }
 {
-    match last {
-        Some(key) => Some(key),
-        None => match array.largest {
-            None => Some(Key::Int(0)),
-            Some(i64::MAX) => None,
-            Some(largest) => Some(Key::Int(largest + 1)),
-        },
+    match array.largest {
+        None => Some(Key::Int(0)),
+        Some(i64::MAX) => None,
+        Some(largest) => Some(Key::Int(largest + 1)),
     }
 }
 

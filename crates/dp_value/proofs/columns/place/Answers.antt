@@ -1,4 +1,4 @@
-use Rattle.std.proofs.Common.{◌≡◌, Bool, MatchOption, subst}
+use Rattle.std.proofs.Common.{Bool, MatchOption, subst}
 use Rattle.dp_value.specs.declared.key.Key.{Key}
 use Rattle.dp_value.specs.contracts.key.KeyPartialEq.TheImpl.{ghosts}
 use Rattle.dp_value.specs.Place.{IsAbsent, IsFirst}

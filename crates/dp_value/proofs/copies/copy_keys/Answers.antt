@@ -1,9 +1,8 @@
-use Rattle.std.proofs.Common.{◌≡◌, ◌++◌, ◌∷◌, [], List, Bool, false, ◌<◌, take, length, get_or, subst, ap, sym, ◌∙◌, arith}
+use Rattle.std.proofs.Common.{◌≡◌, ◌++◌, ◌∷◌, [], List, ◌<◌, take, length, subst, ap, sym, ◌∙◌, arith}
 use Rattle.std.proofs.lemmas.List.{take_more}
-use Rattle.std.specs.List.{list_any, IsDistinct}
+use Rattle.std.specs.List.{IsDistinct}
 use Rattle.indexmap.specs.IndexSet.{insert_key}
 use Rattle.dp_value.specs.declared.key.Key.{Key}
-use Rattle.dp_value.specs.Key.{key_eq}
 use Rattle.dp_value.specs.contracts.key.KeyPartialEq.TheImpl.{ghosts}
 use Rattle.dp_value.proofs.KeyLemmas.{inserted_new, distinct_keys, fresh}
 use Rattle.dp_value.proofs.copies.copy_keys.Goals as goal

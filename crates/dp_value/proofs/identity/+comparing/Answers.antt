@@ -1,11 +1,6 @@
-use Rattle.std.proofs.Common.{◌≡◌, ◌<◌, ℕ, Bool, true, false, not, ◌&&◌, drop, length, map, get_or, slice_get, Some, refl, sym, ap, subst, ◌∙◌, arith, add-one}
-use Rattle.dp_value.specs.declared.key.Key.{Key}
-use Rattle.dp_value.specs.contracts.key.KeyPartialEq.TheImpl.{ghosts}
-use Rattle.dp_value.specs.Key.{key_eq}
-use Rattle.dp_value.specs.Data.{Data, Table, null, entries_of}
-use Rattle.dp_value.specs.Comparison.{identical, identical_entries}
+use Rattle.std.proofs.Common.{◌<◌, length, map, get_or, slice_get, sym, ap, ◌∙◌, arith}
+use Rattle.dp_value.specs.Data.{Table, null}
 use Rattle.dp_value.specs.Value.{data_of}
-use Rattle.dp_value.proofs.KeyLemmas.{derived_eq}
 use Rattle.dp_value.proofs.ArrayLemmas.{kept_length, row, row_of_key}
 use Rattle.dp_value.proofs.ComparisonLemmas.{identical-lengths, differ-by_key, differ-by_value, same-so_far, same-at_end}
 use Rattle.dp_value.proofs.identity.+comparing.Goals as goal

@@ -1,10 +1,9 @@
-use Rattle.std.proofs.Common.{◌≡◌, List, ℕ, Bool, true, false, None, Some, sym, ap, rules, arith, ◌∙◌}
+use Rattle.std.proofs.Common.{◌≡◌, List, ℕ, false, Some, sym, ap, ◌∙◌}
 use Rattle.std.proofs.lemmas.Str.{IsUtf8-from_ascii}
 use Rattle.std.specs.Result.{MatchResult, is_ok, result_ok}
 use Rattle.std.specs.Str.{IsUtf8}
 use Rattle.std.proofs.Common.{Bor, Result, Ok, Err}
 use Rattle.std.proofs.lemmas.Option.{same_Some}
-use Rattle.dp_value.specs.IntText.{int_of_text}
 use Rattle.dp_value.proofs.IntTextLemmas.{form-IsAscii, parsed_int}
 use Rattle.dp_value.proofs.keys_of.int_of_text.Goals as goal
 

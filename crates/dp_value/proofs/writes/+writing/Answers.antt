@@ -1,4 +1,4 @@
-use Rattle.std.proofs.Common.{◌≡◌, IfErr, OnOk, Result, Ok, Err, Option, Some, None, unwrap_or, inr, ap, sym, ◌∙◌, subst, arith, rules}
+use Rattle.std.proofs.Common.{◌≡◌, ◌∷◌, IfErr, OnOk, Result, Ok, Err, Option, Some, None, unwrap_or, inr, ap, sym, ◌∙◌, subst, arith, rules}
 use Rattle.dp_value.specs.declared.error.WriteError.{WriteError}
 use Rattle.dp_value.specs.declared.error.WriteError.TheVariants.{Scalar, Unsupported}
 use Rattle.dp_value.specs.declared.key.Key.{Key}
@@ -6,48 +6,38 @@ use Rattle.dp_value.specs.declared.value.Value.{Value}
 use Rattle.dp_value.specs.Data.{Data, Table, data_of_table, null, pairs_weight}
 use Rattle.dp_value.specs.Table.{put, swapped, table_set, table_exchange, value_at}
 use Rattle.dp_value.specs.Value.{data_of}
-use Rattle.dp_value.specs.Write.{entry_at, holder_of, within, written, IsCause}
-use Rattle.dp_value.proofs.WriteLemmas.{at_exit, on_err, err-along, ok-along, last-asked, written-holder, written-refused, exchange-none, exchange-exchange, data-along, weight-swapped_null, IsBehind, behind-done, behind-cause, behind-light, behind-refused, behind-back, behind-ok, behind-err}
+use Rattle.dp_value.specs.Entry.{entry_at, holder_of, within, written_in, IsCause}
+use Rattle.dp_value.proofs.WriteLemmas.{at_exit, on_err, err-along, ok-along, written-entered, written-refused, holder_of-table, exchange-none, exchange-exchange, data-along, weight-swapped_null, IsBehind, behind-done, behind-cause, behind-light, behind-refused, behind-back, behind-ok, behind-err}
 use Rattle.dp_value.proofs.writes.+writing.Goals as goal
-use Rattle.dp_value.proofs.writes.+writing.Goals.{write-in-Null-2, write-in-Bool+else-value, write-in-Bool+then-value, write-in-Int-1}
+use Rattle.dp_value.proofs.writes.+writing.Goals.{write-in-Bool+then-value, write-in-Int-1}
+
+pub write-returns-in-Array-clause-ok : goal.write-returns-in-Array-clause-ok
+write-returns-in-Array-clause-ok t c =
+    let is : holder_of (data_of c.args.value.now) ≡ Ok c.in-Array.array =
+    ap (λ (v : Value). holder_of (data_of v)) c.in-Array.is ∙ holder_of-table c.in-Array.array in
+    let same = written-entered c.is_empty.result c.args.keys.now c.args.push (data_of c.args.new) (data_of c.args.value.now) c.in-Array.array (c.is_empty.ensures, c.else-is_empty.either) is in
+    subst (λ (r : Result Data WriteError). OnOk c.write_into.result (within c.args.beside r ≡ Ok (data_of_table c.write_into.new.array))) (sym same) c.write_into.ensures.ok
+
+pub write-returns-in-Array-clause-refused : goal.write-returns-in-Array-clause-refused
+write-returns-in-Array-clause-refused t c =
+    let is : holder_of (data_of c.args.value.now) ≡ Ok c.in-Array.array =
+    ap (λ (v : Value). holder_of (data_of v)) c.in-Array.is ∙ holder_of-table c.in-Array.array in
+    let same = written-entered c.is_empty.result c.args.keys.now c.args.push (data_of c.args.new) (data_of c.args.value.now) c.in-Array.array (c.is_empty.ensures, c.else-is_empty.either) is in
+    subst (λ (r : Result Data WriteError). IfErr c.write_into.result (IsCause (within c.args.beside r))) (sym same) c.write_into.ensures.refused
 
 pub write-returns-in-Text-clause-refused : goal.write-returns-in-Text-clause-refused
 write-returns-in-Text-clause-refused t c =
     let is : holder_of (data_of c.args.value.now) ≡ Err Unsupported = ap (λ (v : Value). holder_of (data_of v)) c.in-Text.is in
-    inr (ap (within c.args.beside) (written-refused c.args.keys.now c.args.last (data_of c.args.new) (data_of c.args.value.now) Unsupported is))
+    inr (ap (within c.args.beside) (written-refused c.is_empty.result c.args.keys.now c.args.push (data_of c.args.new) (data_of c.args.value.now) Unsupported (c.is_empty.ensures, c.else-is_empty.either) is))
 
 pub write-returns-in-Bool-true-clause-refused : goal.write-returns-in-Bool-true-clause-refused
 write-returns-in-Bool-true-clause-refused t c =
     let is : holder_of (data_of c.args.value.now) ≡ Err Scalar =
     search rules in
-    inr (ap (within c.args.beside) (written-refused c.args.keys.now c.args.last (data_of c.args.new) (data_of c.args.value.now) Scalar is))
-
-pub write-returns-in_err-array-in-Null-clause-refused : goal.write-returns-in_err-array-in-Null-clause-refused
-write-returns-in_err-array-in-Null-clause-refused t c =
-    let is : holder_of (data_of c.args.value.now) ≡ holder_of null =
-    search rules in
-    let same = written-holder c.args.keys.now c.args.last (data_of c.args.new) (data_of c.args.value.now) null is in
-    at_exit c.from_residual.result c.in_err-array-in-Null.field-0.0 (within c.args.beside (written c.args.keys.now c.args.last (data_of c.args.new) (data_of c.args.value.now))) c.from_residual.ensures.1
-    (subst (λ (r : Result Data WriteError). IsCause (within c.args.beside r) c.in_err-array-in-Null.field-0.0) (sym same) c.in_err-array-in-Null.ensures.refused)
-
-pub write-returns-in_ok-array-in-Null-clause-ok : goal.write-returns-in_ok-array-in-Null-clause-ok
-write-returns-in_ok-array-in-Null-clause-ok t c =
-    let is : holder_of (data_of c.args.value.now) ≡ holder_of null =
-    search rules in
-    ap (within c.args.beside) (written-holder c.args.keys.now c.args.last (data_of c.args.new) (data_of c.args.value.now) null is) ∙ c.in_ok-array-in-Null.ensures.ok
-
-pub write_into-returns-in_default-clause-ok : goal.write_into-returns-in_default-clause-ok
-write_into-returns-in_default-clause-ok t c =
-    subst (λ (r : Result Data WriteError). OnOk c.write_last.result (r ≡ Ok (data_of_table c.write_last.new.array)))
-    (sym (last-asked c.args.beside c.args.keys.now c.args.last (data_of c.args.new) c.args.array.now c.in_default.ensures.cases)) c.write_last.ensures.ok
-
-pub write_into-returns-in_default-clause-refused : goal.write_into-returns-in_default-clause-refused
-write_into-returns-in_default-clause-refused t c =
-    subst (λ (r : Result Data WriteError). IfErr c.write_last.result (IsCause r))
-    (sym (last-asked c.args.beside c.args.keys.now c.args.last (data_of c.args.new) c.args.array.now c.in_default.ensures.cases)) c.write_last.ensures.refused
+    inr (ap (within c.args.beside) (written-refused c.is_empty.result c.args.keys.now c.args.push (data_of c.args.new) (data_of c.args.value.now) Scalar (c.is_empty.ensures, c.else-is_empty.either) is))
 
 pub write_into-exchange-requires : goal.write_into-exchange-requires
-write_into-exchange-requires t c = λ is. omega (arith, weight-swapped_null c.args.array.now.pairs c.in-Some.key.now, is.light)
+write_into-exchange-requires t c = λ is. omega (arith, weight-swapped_null c.args.array.now.pairs c.in-Some-key.key, is.light)
 
 -- the entry under a key that is not there
 absent : (t : Table) (key : Key) → None ≡ value_at t key → entry_at t key ≡ null
@@ -58,35 +48,35 @@ present t key d has = ap (λ (o : Option Data). unwrap_or o null) (sym has)
 
 pub write_into-returns-in_err-write-clause-refused : goal.write_into-returns-in_err-write-clause-refused
 write_into-returns-in_err-write-clause-refused t c =
-    let is : IsBehind c.args.beside c.beside_entry-beside_child.result c.args.keys.now c.in-Some.key.now c.in-Some.rest.now c.args.array.now null = record {
+    let is : IsBehind c.args.beside c.beside_entry-beside_child.result c.args.keys.now c.in-Some-key.key c.in-Some.rest.now c.args.array.now null = record {
       room = c.beside_entry-beside_child.ensures;
-      first = c.in-Some.ensures.cases.0;
-      entry = absent c.args.array.now c.in-Some.key.now c.in_default-exchange.ensures.value;
+      first = c.in-Some.ensures.cases.0 ∙ ap (λ (o : Option Key). o ∷ c.in-Some.rest.now) c.in-Some-key.is;
+      entry = absent c.args.array.now c.in-Some-key.key c.in_default-exchange.ensures.value;
     } in
-    at_exit c.from_residual.result c.in_err-write.field-0.0 (within c.args.beside (written c.args.keys.now c.args.last (data_of c.args.new) (data_of_table c.args.array.now))) c.from_residual.ensures.1
-    (behind-cause c.args.beside c.beside_entry-beside_child.result c.args.keys.now c.in-Some.key.now c.in-Some.rest.now c.args.last (data_of c.args.new) c.args.array.now null is c.in_err-write.field-0.0 c.in_err-write.ensures.refused)
+    at_exit c.from_residual.result c.in_err-write.field-0.0 (within c.args.beside (written_in c.args.keys.now c.args.push (data_of c.args.new) c.args.array.now)) c.from_residual.ensures.1
+    (behind-cause c.args.beside c.beside_entry-beside_child.result c.args.keys.now c.in-Some-key.key c.in-Some.rest.now c.args.push (data_of c.args.new) c.args.array.now null is c.in_err-write.field-0.0 c.in_err-write.ensures.refused)
 
 pub write_into-returns-in_err-write-clause-err : goal.write_into-returns-in_err-write-clause-err
 write_into-returns-in_err-write-clause-err t c =
     on_err c.from_residual.result c.exchange.new.self c.args.array.now
-    (c.in_default-exchange.ensures.exchanged ∙ exchange-none c.args.array.now c.in-Some.key.now null (sym c.in_default-exchange.ensures.value))
+    (c.in_default-exchange.ensures.exchanged ∙ exchange-none c.args.array.now c.in-Some-key.key null (sym c.in_default-exchange.ensures.value))
 
 pub write_into-returns-in_err-try_clone-clause-err : goal.write_into-returns-in_err-try_clone-clause-err
 write_into-returns-in_err-try_clone-clause-err t c =
     on_err c.from_residual-in_err-try_clone.result c.exchange.new.self c.args.array.now
-    (c.in_default-exchange.ensures.exchanged ∙ exchange-none c.args.array.now c.in-Some.key.now null (sym c.in_default-exchange.ensures.value))
+    (c.in_default-exchange.ensures.exchanged ∙ exchange-none c.args.array.now c.in-Some-key.key null (sym c.in_default-exchange.ensures.value))
 
 pub write_into-set_entry-requires : goal.write_into-set_entry-requires
 write_into-set_entry-requires t c =
-    let is : IsBehind c.args.beside c.beside_entry-beside_child.result c.args.keys.now c.in-Some.key.now c.in-Some.rest.now c.args.array.now null = record {
+    let is : IsBehind c.args.beside c.beside_entry-beside_child.result c.args.keys.now c.in-Some-key.key c.in-Some.rest.now c.args.array.now null = record {
       room = c.beside_entry-beside_child.ensures;
-      first = c.in-Some.ensures.cases.0;
-      entry = absent c.args.array.now c.in-Some.key.now c.in_default-exchange.ensures.value;
+      first = c.in-Some.ensures.cases.0 ∙ ap (λ (o : Option Key). o ∷ c.in-Some.rest.now) c.in-Some-key.is;
+      entry = absent c.args.array.now c.in-Some-key.key c.in_default-exchange.ensures.value;
     } in
-    let light = behind-light c.args.beside c.beside_entry-beside_child.result c.args.keys.now c.in-Some.key.now c.in-Some.rest.now c.args.last (data_of c.args.new) c.args.array.now null is
+    let light = behind-light c.args.beside c.beside_entry-beside_child.result c.args.keys.now c.in-Some-key.key c.in-Some.rest.now c.args.push (data_of c.args.new) c.args.array.now null is
     (data_of c.write.new.value) c.in_ok-write.ensures.ok in
     let same : c.exchange.new.self ≡ c.args.array.now =
-    c.in_default-exchange.ensures.exchanged ∙ exchange-none c.args.array.now c.in-Some.key.now null (sym c.in_default-exchange.ensures.value) in
+    c.in_default-exchange.ensures.exchanged ∙ exchange-none c.args.array.now c.in-Some-key.key null (sym c.in_default-exchange.ensures.value) in
     omega (
       arith,
       light,
@@ -96,39 +86,39 @@ write_into-set_entry-requires t c =
 
 pub write_into-returns-in_default-exchange-clause-ok : goal.write_into-returns-in_default-exchange-clause-ok
 write_into-returns-in_default-exchange-clause-ok t c =
-    let is : IsBehind c.args.beside c.beside_entry-beside_child.result c.args.keys.now c.in-Some.key.now c.in-Some.rest.now c.args.array.now null = record {
+    let is : IsBehind c.args.beside c.beside_entry-beside_child.result c.args.keys.now c.in-Some-key.key c.in-Some.rest.now c.args.array.now null = record {
       room = c.beside_entry-beside_child.ensures;
-      first = c.in-Some.ensures.cases.0;
-      entry = absent c.args.array.now c.in-Some.key.now c.in_default-exchange.ensures.value;
+      first = c.in-Some.ensures.cases.0 ∙ ap (λ (o : Option Key). o ∷ c.in-Some.rest.now) c.in-Some-key.is;
+      entry = absent c.args.array.now c.in-Some-key.key c.in_default-exchange.ensures.value;
     } in
-    let done = behind-done c.args.beside c.beside_entry-beside_child.result c.args.keys.now c.in-Some.key.now c.in-Some.rest.now c.args.last (data_of c.args.new) c.args.array.now null is
+    let done = behind-done c.args.beside c.beside_entry-beside_child.result c.args.keys.now c.in-Some-key.key c.in-Some.rest.now c.args.push (data_of c.args.new) c.args.array.now null is
     (data_of c.write.new.value) c.in_ok-write.ensures.ok in
     let same : c.exchange.new.self ≡ c.args.array.now =
-    c.in_default-exchange.ensures.exchanged ∙ exchange-none c.args.array.now c.in-Some.key.now null (sym c.in_default-exchange.ensures.value) in
-    let set : table_set c.exchange.new.self c.in_ok-try_clone.field-0 (data_of c.write.new.value) ≡ table_set c.args.array.now c.in-Some.key.now (data_of c.write.new.value) =
+    c.in_default-exchange.ensures.exchanged ∙ exchange-none c.args.array.now c.in-Some-key.key null (sym c.in_default-exchange.ensures.value) in
+    let set : table_set c.exchange.new.self c.in_ok-try_clone.field-0 (data_of c.write.new.value) ≡ table_set c.args.array.now c.in-Some-key.key (data_of c.write.new.value) =
     ap (λ (x : Table). table_set x c.in_ok-try_clone.field-0 (data_of c.write.new.value)) same
     ∙ ap (λ (k : Key). table_set c.args.array.now k (data_of c.write.new.value)) c.in_ok-try_clone.ensures in
-    ok-along c.set_entry.result (within c.args.beside (written c.args.keys.now c.args.last (data_of c.args.new) (data_of_table c.args.array.now))) c.set_entry.new.array
+    ok-along c.set_entry.result (within c.args.beside (written_in c.args.keys.now c.args.push (data_of c.args.new) c.args.array.now)) c.set_entry.new.array
     (table_set c.exchange.new.self c.in_ok-try_clone.field-0 (data_of c.write.new.value)) c.set_entry.ensures.ok
     (done ∙ ap (λ (u : Table). let r : Result Data WriteError = Ok (data_of_table u) in r) (sym set))
 
 pub write_into-returns-in_default-exchange-clause-err : goal.write_into-returns-in_default-exchange-clause-err
 write_into-returns-in_default-exchange-clause-err t c =
     err-along c.set_entry.result c.set_entry.new.array c.exchange.new.self c.args.array.now c.set_entry.ensures.err
-    (c.in_default-exchange.ensures.exchanged ∙ exchange-none c.args.array.now c.in-Some.key.now null (sym c.in_default-exchange.ensures.value))
+    (c.in_default-exchange.ensures.exchanged ∙ exchange-none c.args.array.now c.in-Some-key.key null (sym c.in_default-exchange.ensures.value))
 
 pub write_into-exchange-requires-2 : goal.write_into-exchange-requires-2
 write_into-exchange-requires-2 t c =
-    let is : IsBehind c.args.beside c.beside_entry-beside_child.result c.args.keys.now c.in-Some.key.now c.in-Some.rest.now c.args.array.now (data_of c.in-Some-exchange.child) = record {
+    let is : IsBehind c.args.beside c.beside_entry-beside_child.result c.args.keys.now c.in-Some-key.key c.in-Some.rest.now c.args.array.now (data_of c.in-Some-exchange.child) = record {
       room = c.beside_entry-beside_child.ensures;
-      first = c.in-Some.ensures.cases.0;
-      entry = present c.args.array.now c.in-Some.key.now (data_of c.in-Some-exchange.child) c.in-Some-exchange.ensures.value;
+      first = c.in-Some.ensures.cases.0 ∙ ap (λ (o : Option Key). o ∷ c.in-Some.rest.now) c.in-Some-key.is;
+      entry = present c.args.array.now c.in-Some-key.key (data_of c.in-Some-exchange.child) c.in-Some-exchange.ensures.value;
     } in
-    let back = behind-back c.args.beside c.beside_entry-beside_child.result c.args.keys.now c.in-Some.key.now c.in-Some.rest.now c.args.last (data_of c.args.new) c.args.array.now
+    let back = behind-back c.args.beside c.beside_entry-beside_child.result c.args.keys.now c.in-Some-key.key c.in-Some.rest.now c.args.push (data_of c.args.new) c.args.array.now
     (data_of c.in-Some-exchange.child) is c.in-Some-exchange.ensures.table (sym c.in-Some-exchange.ensures.value)
     c.write-result.result (data_of c.write-result.new.value) c.write-result.ensures.ok
     (data-along c.write-result.result c.write-result.new.value c.in-Some-exchange.child c.write-result.ensures.err) in
-    λ table. omega (arith, back, ap (λ (x : Table). pairs_weight (swapped x.pairs c.in-Some.key.now (data_of c.write-result.new.value))) c.in-Some-exchange.ensures.exchanged)
+    λ table. omega (arith, back, ap (λ (x : Table). pairs_weight (swapped x.pairs c.in-Some-key.key (data_of c.write-result.new.value))) c.in-Some-exchange.ensures.exchanged)
 
 -- the array after the value was put back
 put_back : (t u v : Table) (key : Key) (d : Data) → u ≡ table_exchange t key null → v ≡ table_exchange u key d → v ≡ table_exchange t key d
@@ -137,48 +127,36 @@ put_back t u v key d taken back =
 
 pub write_into-returns-clause-ok : goal.write_into-returns-clause-ok
 write_into-returns-clause-ok t c =
-    let is : IsBehind c.args.beside c.beside_entry-beside_child.result c.args.keys.now c.in-Some.key.now c.in-Some.rest.now c.args.array.now (data_of c.in-Some-exchange.child) = record {
+    let is : IsBehind c.args.beside c.beside_entry-beside_child.result c.args.keys.now c.in-Some-key.key c.in-Some.rest.now c.args.array.now (data_of c.in-Some-exchange.child) = record {
       room = c.beside_entry-beside_child.ensures;
-      first = c.in-Some.ensures.cases.0;
-      entry = present c.args.array.now c.in-Some.key.now (data_of c.in-Some-exchange.child) c.in-Some-exchange.ensures.value;
+      first = c.in-Some.ensures.cases.0 ∙ ap (λ (o : Option Key). o ∷ c.in-Some.rest.now) c.in-Some-key.is;
+      entry = present c.args.array.now c.in-Some-key.key (data_of c.in-Some-exchange.child) c.in-Some-exchange.ensures.value;
     } in
-    behind-ok c.args.beside c.beside_entry-beside_child.result c.args.keys.now c.in-Some.key.now c.in-Some.rest.now c.args.last (data_of c.args.new) c.args.array.now
+    behind-ok c.args.beside c.beside_entry-beside_child.result c.args.keys.now c.in-Some-key.key c.in-Some.rest.now c.args.push (data_of c.args.new) c.args.array.now
     (data_of c.in-Some-exchange.child) is c.in-Some-exchange.ensures.table (sym c.in-Some-exchange.ensures.value)
     c.write-result.result (data_of c.write-result.new.value) c.exchange-2.new.self
-    (put_back c.args.array.now c.exchange.new.self c.exchange-2.new.self c.in-Some.key.now (data_of c.write-result.new.value) c.in-Some-exchange.ensures.exchanged c.exchange-2.ensures.exchanged)
+    (put_back c.args.array.now c.exchange.new.self c.exchange-2.new.self c.in-Some-key.key (data_of c.write-result.new.value) c.in-Some-exchange.ensures.exchanged c.exchange-2.ensures.exchanged)
     c.write-result.ensures.ok
 
 pub write_into-returns-clause-refused : goal.write_into-returns-clause-refused
 write_into-returns-clause-refused t c =
-    let is : IsBehind c.args.beside c.beside_entry-beside_child.result c.args.keys.now c.in-Some.key.now c.in-Some.rest.now c.args.array.now (data_of c.in-Some-exchange.child) = record {
+    let is : IsBehind c.args.beside c.beside_entry-beside_child.result c.args.keys.now c.in-Some-key.key c.in-Some.rest.now c.args.array.now (data_of c.in-Some-exchange.child) = record {
       room = c.beside_entry-beside_child.ensures;
-      first = c.in-Some.ensures.cases.0;
-      entry = present c.args.array.now c.in-Some.key.now (data_of c.in-Some-exchange.child) c.in-Some-exchange.ensures.value;
+      first = c.in-Some.ensures.cases.0 ∙ ap (λ (o : Option Key). o ∷ c.in-Some.rest.now) c.in-Some-key.is;
+      entry = present c.args.array.now c.in-Some-key.key (data_of c.in-Some-exchange.child) c.in-Some-exchange.ensures.value;
     } in
-    behind-refused c.args.beside c.beside_entry-beside_child.result c.args.keys.now c.in-Some.key.now c.in-Some.rest.now c.args.last (data_of c.args.new) c.args.array.now
+    behind-refused c.args.beside c.beside_entry-beside_child.result c.args.keys.now c.in-Some-key.key c.in-Some.rest.now c.args.push (data_of c.args.new) c.args.array.now
     (data_of c.in-Some-exchange.child) is c.write-result.result c.write-result.ensures.refused
 
 pub write_into-returns-clause-err : goal.write_into-returns-clause-err
 write_into-returns-clause-err t c =
-    let is : IsBehind c.args.beside c.beside_entry-beside_child.result c.args.keys.now c.in-Some.key.now c.in-Some.rest.now c.args.array.now (data_of c.in-Some-exchange.child) = record {
+    let is : IsBehind c.args.beside c.beside_entry-beside_child.result c.args.keys.now c.in-Some-key.key c.in-Some.rest.now c.args.array.now (data_of c.in-Some-exchange.child) = record {
       room = c.beside_entry-beside_child.ensures;
-      first = c.in-Some.ensures.cases.0;
-      entry = present c.args.array.now c.in-Some.key.now (data_of c.in-Some-exchange.child) c.in-Some-exchange.ensures.value;
+      first = c.in-Some.ensures.cases.0 ∙ ap (λ (o : Option Key). o ∷ c.in-Some.rest.now) c.in-Some-key.is;
+      entry = present c.args.array.now c.in-Some-key.key (data_of c.in-Some-exchange.child) c.in-Some-exchange.ensures.value;
     } in
-    behind-err c.args.beside c.beside_entry-beside_child.result c.args.keys.now c.in-Some.key.now c.in-Some.rest.now c.args.last (data_of c.args.new) c.args.array.now
+    behind-err c.args.beside c.beside_entry-beside_child.result c.args.keys.now c.in-Some-key.key c.in-Some.rest.now c.args.push (data_of c.args.new) c.args.array.now
     (data_of c.in-Some-exchange.child) is c.in-Some-exchange.ensures.table (sym c.in-Some-exchange.ensures.value)
     c.write-result.result (data_of c.write-result.new.value) c.exchange-2.new.self
-    (put_back c.args.array.now c.exchange.new.self c.exchange-2.new.self c.in-Some.key.now (data_of c.write-result.new.value) c.in-Some-exchange.ensures.exchanged c.exchange-2.ensures.exchanged)
+    (put_back c.args.array.now c.exchange.new.self c.exchange-2.new.self c.in-Some-key.key (data_of c.write-result.new.value) c.in-Some-exchange.ensures.exchanged c.exchange-2.ensures.exchanged)
     (data-along c.write-result.result c.write-result.new.value c.in-Some-exchange.child c.write-result.ensures.err)
-
-pub write_new-returns-in_err-write_into-clause-refused : goal.write_new-returns-in_err-write_into-clause-refused
-write_new-returns-in_err-write_into-clause-refused t c =
-    let is : holder_of null ≡ holder_of (data_of_table c.new-array.result) = ap (λ (u : Table). holder_of (data_of_table u)) (sym c.new-array.ensures) in
-    let same = written-holder c.args.keys.now c.args.last (data_of c.args.new) null (data_of_table c.new-array.result) is in
-    at_exit c.from_residual.result c.in_err-write_into.field-0.0 (within c.args.beside (written c.args.keys.now c.args.last (data_of c.args.new) null)) c.from_residual.ensures.1
-    (subst (λ (r : Result Data WriteError). IsCause (within c.args.beside r) c.in_err-write_into.field-0.0) (sym same) c.in_err-write_into.ensures.refused)
-
-pub write_new-returns-clause-ok : goal.write_new-returns-clause-ok
-write_new-returns-clause-ok t c =
-    let is : holder_of null ≡ holder_of (data_of_table c.new-array.result) = ap (λ (u : Table). holder_of (data_of_table u)) (sym c.new-array.ensures) in
-    ap (within c.args.beside) (written-holder c.args.keys.now c.args.last (data_of c.args.new) null (data_of_table c.new-array.result) is) ∙ c.in_ok-write_into.ensures.ok

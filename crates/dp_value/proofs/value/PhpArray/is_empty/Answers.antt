@@ -1,4 +1,4 @@
-use Rattle.std.proofs.Common.{◌≡◌, ℕ, ◌==◌, length, ap, ◌∙◌}
+use Rattle.std.proofs.Common.{ℕ, ◌==◌, length, ap, ◌∙◌}
 use Rattle.dp_value.specs.Data.{Table}
 use Rattle.dp_value.proofs.ArrayLemmas.{kept_length}
 use Rattle.dp_value.proofs.value.PhpArray.is_empty.Goals as goal

@@ -1,4 +1,4 @@
-use Rattle.std.proofs.Common.{◌≡◌, length, ap, ◌∙◌}
+use Rattle.std.proofs.Common.{length, ap, ◌∙◌}
 use Rattle.dp_value.specs.Data.{Table}
 use Rattle.dp_value.proofs.ArrayLemmas.{kept_length}
 use Rattle.dp_value.proofs.value.PhpArray.len.Goals as goal

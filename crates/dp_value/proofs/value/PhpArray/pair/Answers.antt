@@ -1,4 +1,4 @@
-use Rattle.std.proofs.Common.{◌≡◌, map, slice_get, sym, ap, ◌∙◌}
+use Rattle.std.proofs.Common.{map, slice_get, sym, ap, ◌∙◌}
 use Rattle.dp_value.specs.Data.{Table}
 use Rattle.dp_value.specs.Value.{data_of}
 use Rattle.dp_value.proofs.PairLemmas.{zip_none, zip_some}

@@ -1,11 +1,11 @@
-use Rattle.std.proofs.Common.{◌≡◌, ◌<◌, ◌+◌, List, length, map, remove, slice_get, is_some, Some, get_or, ap, sym, subst, ◌∙◌, arith}
+use Rattle.std.proofs.Common.{◌≡◌, ◌<◌, List, length, map, remove, is_some, ap, sym, subst, ◌∙◌, arith}
 use Rattle.std.proofs.lemmas.List.{length-map}
 use Rattle.std.proofs.lemmas.List.Edits.{length-remove}
 use Rattle.std.proofs.lemmas.Option.{slice_get-get_or}
 use Rattle.std.specs.List.{zip}
 use Rattle.dp_value.specs.declared.key.Key.{Key}
 use Rattle.dp_value.specs.declared.value.Value.{Value}
-use Rattle.dp_value.specs.Data.{Table, null, pairs_weight}
+use Rattle.dp_value.specs.Data.{Table, null}
 use Rattle.dp_value.specs.Key.{key_eq}
 use Rattle.dp_value.specs.Inside.{table_of}
 use Rattle.dp_value.specs.Table.{value_at, take_away, table_remove, IsTable}

@@ -1,7 +1,6 @@
-use Rattle.std.proofs.Common.{◌≡◌, ◌≤◌, ◌<◌, ◌+◌, Some, slice_get, length, map, ap, arith, ◌∙◌}
+use Rattle.std.proofs.Common.{◌<◌, length, map, ap, arith, ◌∙◌}
 use Rattle.std.proofs.lemmas.List.{length-map}
-use Rattle.dp_value.specs.Data.{Table, weight_of, pairs_weight}
-use Rattle.dp_value.specs.Inside.{table_of}
+use Rattle.dp_value.specs.Data.{Table, pairs_weight}
 use Rattle.dp_value.specs.Table.{put}
 use Rattle.dp_value.specs.Value.{data_of}
 use Rattle.dp_value.proofs.PairLemmas.{weight-put-first, weight-put-absent, weight-at}

@@ -1,0 +1,145 @@
+ghost use Rattle.std.specs.Prelude.{◌≡◌, ◌⊎◌, [], ◌∷◌, map, option_map, Ok, Err, Some, IfOk, MatchResult};
+ghost use Rattle.dp_value.specs.Data.{text};
+ghost use Rattle.dp_value.specs.Value.{data_of};
+ghost use Rattle.dp_operations.specs.Answers.{Answers};
+ghost use Rattle.dp_operations.specs.Indexing.{byte_at as byte_of, data_of_found, found_by, indexed, indexed_by, letter_at as letter_of, looked_up, read_by as read_under, reading};
+
+use dp_value::{Bytes, Memory, Value, ValueError, key_of};
+use std::alloc::Global;
+
+/// The value read under an index: of an array the one under its key, and null where there is none; of a text one byte; of
+/// another value null.
+///
+/// `BadKey` comes exactly where an array is read by an array, and `Unsupported` exactly where a text has no byte under the
+/// index. Takes time and memory for the value that is read. Source: the PHP manual, "Arrays" and "Strings".
+pub fn index(alloc: Global, holder: &Value, index: &Value) -> Result<Value, ValueError>
+    ensures { Answers result (indexed (data_of holder.now) (data_of index.now)) }
+{
+    match under(alloc, holder, index, true) {
+        Ok(found) => Ok(copy(alloc, found)?),
+        Err(why) => Err(why),
+    }
+}
+
+/// The value that `isset` finds under an index: as [`index`] reads it, and null where a text has no byte there.
+///
+/// `BadKey` comes exactly where an array is read by an array. Source: the PHP manual, "isset".
+pub fn find(alloc: Global, holder: &Value, index: &Value) -> Result<Value, ValueError>
+    ensures { Answers result (looked_up (data_of holder.now) (data_of index.now)) }
+{
+    match under(alloc, holder, index, false) {
+        Ok(found) => Ok(copy(alloc, found)?),
+        Err(why) => Err(why),
+    }
+}
+
+/// The value read under indices, one after another, as [`index`] reads it under one. Takes time and memory for the
+/// value that is read, and not for those on the way.
+pub fn index_by(alloc: Global, holder: &Value, indices: &[Value]) -> Result<Value, ValueError>
+    ensures { Answers result (indexed_by (map data_of indices.now) (data_of holder.now)) }
+{
+    read_by(alloc, holder, indices, true)
+}
+
+/// The value that `isset` finds under indices, one after another, as [`find`] finds it under one. Takes time and memory
+/// for the value that is found, and not for those on the way.
+pub fn find_by(alloc: Global, holder: &Value, indices: &[Value]) -> Result<Value, ValueError>
+    ensures { Answers result (found_by (map data_of indices.now) (data_of holder.now)) }
+{
+    read_by(alloc, holder, indices, false)
+}
+
+/// What stands under an index.
+#[derive(Clone, Copy)]
+pub(crate) enum Found<'a> {
+    Nothing,
+    Letter(u8),
+    Entry(&'a Value),
+}
+
+/// What a reading gives under indices, one after another.
+fn read_by(
+    alloc: Global,
+    holder: &Value,
+    indices: &[Value],
+    plain: bool,
+) -> Result<Value, ValueError>
+    ensures { Answers result (read_under (reading plain) (map data_of indices.now) (data_of holder.now)) }
+{
+    let Some((index, rest)) = indices.split_first() else {
+        return Ok(holder.try_clone()?);
+    };
+    match under(alloc, holder, index, plain) {
+        Ok(Found::Entry(value)) => read_by(alloc, value, rest, plain),
+        Ok(found) => {
+            let value = copy(alloc, found)?;
+            read_by(alloc, &value, rest, plain)
+        }
+        Err(why) => Err(why),
+    }
+}
+
+/// What a reading gives under an index.
+fn under<'a>(
+    alloc: Global,
+    holder: &'a Value,
+    index: &Value,
+    plain: bool,
+) -> Result<Found<'a>, ValueError>
+    ensures { MatchResult result (λ found. reading plain (data_of holder.now) (data_of index.now) ≡ Ok (data_of_found found))
+        (λ e. (e ≡ ValueError.Memory) ⊎ (reading plain (data_of holder.now) (data_of index.now) ≡ Err e)) }
+{
+    match holder {
+        Value::Array(array) => {
+            let key = match key_of(alloc, index) {
+                Ok(key) => key,
+                Err(why) => return Err(why),
+            };
+            match array.get(&key) {
+                Some(value) => Ok(Found::Entry(value)),
+                None => Ok(Found::Nothing),
+            }
+        }
+        Value::Text(bytes) => match letter_at(bytes.as_slice(), index) {
+            Some(byte) => Ok(Found::Letter(byte)),
+            None if plain => Err(ValueError::Unsupported),
+            None => Ok(Found::Nothing),
+        },
+        Value::Null | Value::Bool(_) | Value::Int(_) => Ok(Found::Nothing),
+    }
+}
+
+/// The byte of a text under an index; only an integer has a position.
+fn letter_at(bytes: &[u8], index: &Value) -> Option<u8>
+    ensures { option_map (λ byte. text (byte ∷ [])) result ≡ letter_of bytes.now (data_of index.now) }
+{
+    match index {
+        Value::Int(position) => byte_at(bytes, *position),
+        _ => None,
+    }
+}
+
+/// A byte of a text by its position, which is counted from the end where it is negative.
+fn byte_at(bytes: &[u8], position: i64) -> Option<u8>
+    ensures { result ≡ byte_of bytes.now position }
+{
+    if position < 0 {
+        let back = position.unsigned_abs() as usize;
+        if back > bytes.len() {
+            return None;
+        }
+        return Some(bytes[bytes.len() - back]);
+    }
+    bytes.get(position as usize).copied()
+}
+
+/// A copy of what stands under an index; null where nothing does.
+fn copy(alloc: Global, found: Found) -> Result<Value, Memory>
+    ensures { IfOk result (λ value. data_of value ≡ data_of_found found.entry) }
+{
+    match found {
+        Found::Nothing => Ok(Value::Null),
+        Found::Letter(byte) => Ok(Value::Text(Bytes::of(vec![in alloc; byte]?))),
+        Found::Entry(value) => value.try_clone(),
+    }
+}
