@@ -28,7 +28,7 @@ come_more : (ps : Pieces) (p : Piece) (t rest : List ℕ) → Come IsNext ps (t 
 come_more [] p t rest come next = (next, tt)
 come_more (q ∷ ps) p t rest come next = (subst (λ l. IsNext q.0 q.1 l) (sym (append_assoc (texts ps) t rest) ∙ ap (λ l. l ++ rest) (sym (texts_more ps p t))) come.0, come_more ps p t rest come.1 next)
 
-feeds_over : (xs ys : List ℕ) → feeds (xs ++ ys) ≡ feeds xs + feeds ys
+pub feeds_over : (xs ys : List ℕ) → feeds (xs ++ ys) ≡ feeds xs + feeds ys
 feeds_over [] ys = omega arith
 feeds_over (x ∷ xs) ys = omega (arith, feeds_over xs ys)
 

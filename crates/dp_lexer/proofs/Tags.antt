@@ -6,7 +6,7 @@ use Rattle.std.proofs.Math.Seq.{take-append_seam, drop-append_seam}
 use Rattle.dp_lexer.specs.Bytes.{is_space, begins}
 use Rattle.dp_lexer.specs.Tokens.{HasTag}
 
-length_lowered : (xs : List ℕ) → length (str_to_ascii_lowercase xs) ≡ length xs
+pub length_lowered : (xs : List ℕ) → length (str_to_ascii_lowercase xs) ≡ length xs
 length_lowered [] = refl
 length_lowered (x ∷ xs) = let e = length_lowered xs in omega (arith, e)
 

@@ -16,7 +16,8 @@ use std::alloc::{AllocError, Global};
 // How many bytes the tag has.
 const TAG: usize = 5;
 
-fn feeds(bytes: &[u8]) -> usize
+/// How many line feeds there are. Takes no memory.
+pub fn line_feeds(bytes: &[u8]) -> usize
     ensures { result ≡ feeds bytes.now }
 {
     let mut n = 0;
@@ -95,7 +96,7 @@ fn lex_from(alloc: Global, at: usize, bytes: &[u8]) -> Result<Vec<Token>, LexErr
             return Err(LexError::Memory);
         }
         let (text, more) = rest.split_at(len);
-        line += feeds(text);
+        line += line_feeds(text);
         rest = more;
     }
     Ok(tokens)

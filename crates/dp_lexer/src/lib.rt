@@ -17,7 +17,7 @@ mod spelling;
 mod token;
 
 pub use errors::LexError;
-pub use lexer::{lex, lex_expression};
+pub use lexer::{lex, lex_expression, line_feeds};
 pub use reserved::is_reserved;
 pub use spelling::Spelling;
 pub use token::{Token, TokenKind};

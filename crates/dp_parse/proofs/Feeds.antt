@@ -1,25 +1,11 @@
 -- How many line feeds a file may have.
-use Rattle.std.proofs.Common.{◌≡◌, ℕ, suc, ◌+◌, ◌<◌, ◌≤◌, ◌==◌, if◌then◌else◌, Bool, true, false, List, [], ◌∷◌, ◌++◌, length, codes, refl, sym, ap, ◌∙◌, cond, length-append, eqb-true, arith}
+use Rattle.std.proofs.Common.{◌≡◌, ℕ, ◌+◌, ◌≤◌, ◌==◌, if◌then◌else◌, Bool, true, false, List, [], ◌∷◌, length, codes, refl, sym, ap, ◌∙◌, length-append, eqb-true, arith}
 use Rattle.std.specs.Char.{to_ascii_lowercase}
 use Rattle.std.specs.Str.{str_to_ascii_lowercase}
 use Rattle.dp_lexer.specs.declared.token.Token.{Token}
-use Rattle.dp_lexer.specs.Tokens.{feeds, HasTag, AreFileTokens}
-
-feeds_within : (bytes : List ℕ) → feeds bytes ≤ length bytes
-feeds_within [] = omega arith
-feeds_within (b ∷ bytes) = go (b == 10) (feeds_within bytes)
-  where
-    go : (k : Bool) → feeds bytes ≤ length bytes → (if k then 1 else 0) + feeds bytes ≤ length (b ∷ bytes)
-    go true h = omega arith
-    go false h = omega arith
-
-feeds_append : (a b : List ℕ) → feeds (a ++ b) ≡ feeds a + feeds b
-feeds_append [] b = omega arith
-feeds_append (x ∷ a) b = let e = feeds_append a b in omega (arith, e)
-
-lower_length : (l : List ℕ) → length (str_to_ascii_lowercase l) ≡ length l
-lower_length [] = refl
-lower_length (x ∷ l) = ap suc (lower_length l)
+use Rattle.dp_lexer.specs.Tokens.{feeds, AreFileTokens}
+use Rattle.dp_lexer.proofs.Chains.{feeds_over, feeds_within}
+use Rattle.dp_lexer.proofs.Tags.{length_lowered}
 
 -- the tag has five bytes, and its first is no line feed
 tag_feeds : (tag : List ℕ) → str_to_ascii_lowercase tag ≡ codes "<?php" → (length tag ≡ 5) × (feeds tag ≤ 4)
@@ -27,7 +13,7 @@ tag_feeds [] e = absurd (cc)
 tag_feeds (x ∷ a) e = (five, go (x == 10) refl)
   where
     five : length (x ∷ a) ≡ 5
-    five = sym (lower_length (x ∷ a)) ∙ ap length e
+    five = sym (length_lowered (x ∷ a)) ∙ ap length e
 
     first : List ℕ → ℕ
     first [] = 0
@@ -46,7 +32,7 @@ file_feeds bytes ts are =
     let t = tag_feeds are.tag.tag are.tag.spelled in
     let e = ap length are.tag.whole in
     let f = ap feeds are.tag.whole in
-    let g = feeds_append are.tag.tag are.rest in
+    let g = feeds_over are.tag.tag are.rest in
     let h = length-append are.tag.tag are.rest in
     let w = feeds_within are.rest in
     let a = t.0 in

@@ -1,5 +1,5 @@
 -- What a file is, where its tokens are found.
-use Rattle.std.proofs.Common.{◌≡◌, ◌≢◌, ◌⊎◌, inl, inr, ℕ, ◌+◌, List, MatchResult, Result, Ok, Err, refl, sym, ap, ◌∙◌, subst}
+use Rattle.std.proofs.Common.{◌≡◌, ◌≢◌, ◌⊎◌, inl, inr, ℕ, ◌+◌, List, refl, sym, ap, ◌∙◌, subst}
 use Rattle.dp_lexer.specs.declared.errors.LexError.{LexError}
 use Rattle.dp_lexer.specs.declared.errors.LexError.TheVariants as lex
 use Rattle.dp_lexer.specs.declared.fault.Fault.{Fault}
@@ -8,13 +8,13 @@ use Rattle.dp_lexer.specs.Tokens.{AreFileTokens, IsFileRefused, error_of, feeds}
 use Rattle.dp_parse.specs.declared.ended.Parts.{Parts}
 use Rattle.dp_parse.specs.declared.errors.ParseError.{ParseError}
 use Rattle.dp_parse.specs.declared.errors.ParseError.TheVariants as error
-use Rattle.dp_parse.specs.declared.tree.File.{File}
-use Rattle.dp_parse.specs.Doubles.{HasNoDouble, IsDouble}
+use Rattle.dp_tree.specs.declared.tree.File.{File}
+use Rattle.dp_tree.specs.Doubles.{HasNoDouble, IsDouble}
 use Rattle.dp_parse.specs.Programs.{without_tokens, AreWrong, IsFile, IsNoFile}
 use Rattle.dp_parse.specs.Limits.{limits}
 use Rattle.dp_parse.specs.Statements.{Spells}
 use Rattle.dp_parse.proofs.Reasons.{lexical_refuses}
-use Rattle.dp_parse.proofs.Taken.{double_free, one_double}
+use Rattle.dp_tree.proofs.Taken.{double_free, one_double}
 
 -- ---- bytes without tokens
 

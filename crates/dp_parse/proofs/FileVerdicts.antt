@@ -2,19 +2,20 @@
 use Rattle.std.proofs.Common.{◌≡◌, ℕ, ◌≤◌, List, [], refl}
 use Rattle.dp_lexer.specs.declared.token.Token.{Token}
 use Rattle.dp_parse.specs.declared.ended.Parts.{Parts}
-use Rattle.dp_parse.specs.declared.tree.Expression.{Expression}
+use Rattle.dp_tree.specs.declared.tree.Expression.{Expression}
 use Rattle.dp_parse.specs.Statements.{Depth, no_parts, Spells, SpellsExpression}
 use Rattle.dp_parse.specs.ReadingStatements.{file, expression_text}
-use Rattle.dp_parse.proofs.More.{level_self}
-use Rattle.dp_parse.proofs.Heights.{implied, looser}
-use Rattle.dp_parse.proofs.Least.{zero_text, zero_tree, variable_text, variable_place, least_expression, least_is_place}
-use Rattle.dp_parse.proofs.ExpressionParts.{place_starts}
-use Rattle.dp_parse.proofs.Begins.{expression_starts}
-use Rattle.dp_parse.proofs.ExpressionAnswers.{is_expression_answers, place_answers}
+use Rattle.dp_rules.proofs.More.{level_self}
+use Rattle.dp_expressions.proofs.Heights.{looser}
+use Rattle.dp_expressions.proofs.Least.{zero_text, zero_tree, variable_text, variable_place, least_expression, least_is_place}
+use Rattle.dp_expressions.proofs.ExpressionParts.{place_starts}
+use Rattle.dp_expressions.proofs.Begins.{expression_starts}
+use Rattle.dp_expressions.proofs.ExpressionAnswers.{is_expression_answers, place_answers}
 use Rattle.dp_parse.proofs.StatementReaders.{Deeper, same_depth}
 use Rattle.dp_parse.proofs.StatementParts.{closing, AreRead}
 use Rattle.dp_parse.proofs.FileReaders.{end_stop, no_file, file_answers, file_leaves_none, expression_text_answers, some_text, text_leaves_none}
-use Rattle.dp_parse.proofs.Verdicts.{ReadsAll, one_tree}
+use Rattle.dp_rules.proofs.Verdicts.{ReadsAll, one_tree}
+use Rattle.dp_rules.proofs.Signs.{implied}
 
 -- expressions and places are read
 pub known : AreRead (looser 12) (looser 1)

@@ -3,12 +3,12 @@ use Rattle.std.proofs.Common.{◌≡◌, ◌≢◌, ◌⊎◌, inl, inr, List, l
 use Rattle.dp_lexer.specs.declared.token.Token.{Token}
 use Rattle.dp_parse.specs.declared.errors.ParseError.{ParseError}
 use Rattle.dp_parse.specs.declared.errors.ParseError.TheVariants as error
-use Rattle.dp_parse.specs.declared.refusal.Refusal.{Refusal}
-use Rattle.dp_parse.specs.declared.refusal.Refusal.TheVariants as refusal
-use Rattle.dp_parse.specs.Input.{Reader}
+use Rattle.dp_rules.specs.declared.refusal.Refusal.{Refusal}
+use Rattle.dp_rules.specs.declared.refusal.Refusal.TheVariants as refusal
+use Rattle.dp_rules.specs.Input.{Reader}
 use Rattle.dp_parse.specs.Programs.{AreWrong, told}
-use Rattle.dp_parse.proofs.Answers.{Rules, Stop}
-use Rattle.dp_parse.proofs.Verdicts.{ReadsAll, found, only, unexpected, too_deep, unexpected_spelled, too_deep_spelled, one_unexpected, one_too_deep, not_both}
+use Rattle.dp_rules.proofs.Answers.{Rules, Stop}
+use Rattle.dp_rules.proofs.Verdicts.{ReadsAll, found, only, unexpected, too_deep, unexpected_spelled, too_deep_spelled, one_unexpected, one_too_deep, not_both}
 
 -- Tokens are wrong for one reason at most.
 pub one_reason : {L A : Type 0} (rule : Rules L A) (limits : L) (ts : List Token) (e why : ParseError) → e ≢ error.Memory → why ≢ error.Memory → AreWrong rule limits ts e → AreWrong rule limits ts why → e ≡ why

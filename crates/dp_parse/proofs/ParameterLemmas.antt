@@ -1,18 +1,14 @@
 -- A parameter among others, by what a variable is.
-use Rattle.std.proofs.Common.{◌≡◌, ℕ, Bool, true, false, not, if◌then◌else◌, List, [], ◌∷◌, length, Option, Some, None, Ok, Err, refl, sym, ap}
-use Rattle.std.specs.List.{list_any}
-use Rattle.std.specs.Str.{bytes_eq}
+use Rattle.std.proofs.Common.{◌≡◌, Bool, true, false, not, if◌then◌else◌, List, [], ◌∷◌, length, None, refl, sym, ap}
 use Rattle.dp_lexer.specs.declared.token.Token.{Token}
 use Rattle.dp_lexer.specs.declared.token.TokenKind.{TokenKind}
 use Rattle.dp_lexer.specs.declared.token.TokenKind.TheVariants as kind
-use Rattle.dp_parse.specs.declared.refusal.Refusal.TheVariants.{Unexpected}
-use Rattle.dp_parse.specs.Grammar.{Text, unless, variable_in}
-use Rattle.dp_parse.specs.Input.{Reader, and_then, met}
+use Rattle.dp_rules.specs.Worths.{Text, unless, variable_in}
+use Rattle.dp_rules.specs.Input.{Reader, and_then, met, variable}
 use Rattle.dp_parse.specs.Parameters.{parameter, chosen, stands, checked}
-use Rattle.dp_parse.specs.ReadingLists.{any_items}
-use Rattle.dp_parse.specs.declared.sign.Sign.{Sign}
-use Rattle.dp_parse.specs.Reading.{variable}
-use Rattle.dp_parse.specs.Signs.{is_superglobal}
+use Rattle.dp_rules.specs.ReadingLists.{any_items}
+use Rattle.dp_rules.specs.declared.sign.Sign.{Sign}
+use Rattle.dp_rules.specs.Signs.{is_superglobal}
 use Rattle.dp_parse.specs.Statements.{parameter_in}
 
 module _ (found : List Text) (t : Token) (ts : List Token) where

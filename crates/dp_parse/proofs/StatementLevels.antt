@@ -3,14 +3,14 @@ use Rattle.std.proofs.Common.{◌≡◌, inl, inr, ℕ, zero, suc, ◌≤◌, Bo
 use Rattle.dp_lexer.specs.declared.token.Token.{Token}
 use Rattle.dp_lexer.specs.declared.token.TokenKind.TheVariants as kind
 use Rattle.dp_parse.specs.declared.ended.Body.{Body}
-use Rattle.dp_parse.specs.declared.sign.Sign.{Sign}
-use Rattle.dp_parse.specs.declared.sign.Sign.TheVariants as sign
-use Rattle.dp_parse.specs.declared.tree.StatementKind.TheVariants as tree
-use Rattle.dp_parse.specs.Rules.{Mark}
+use Rattle.dp_rules.specs.declared.sign.Sign.{Sign}
+use Rattle.dp_rules.specs.declared.sign.Sign.TheVariants as sign
+use Rattle.dp_tree.specs.declared.tree.StatementKind.TheVariants as tree
+use Rattle.dp_rules.specs.Rules.{Mark}
 use Rattle.dp_parse.specs.Statements.{Depth, whole, stated, body_at}
 use Rattle.dp_parse.specs.ReadingStatements.{any_statement, on_its_line, body_below, statement}
-use Rattle.dp_parse.proofs.Signs.{placed, mark_alone}
-use Rattle.dp_parse.proofs.Answers.{Answers, give, below_answers}
+use Rattle.dp_rules.proofs.Signs.{placed, mark_alone}
+use Rattle.dp_rules.proofs.Answers.{Answers, give, below_answers}
 use Rattle.dp_parse.proofs.StatementReaders.{Deeper, IsPartReader}
 use Rattle.dp_parse.proofs.StatementParts.{AreRead, reader_at, body_stop}
 use Rattle.dp_parse.proofs.StatementStarts.{BodyAt, AnyAt, LineAt}

@@ -5,28 +5,29 @@ use Rattle.dp_lexer.specs.declared.token.TokenKind.{TokenKind}
 use Rattle.dp_lexer.specs.declared.token.TokenKind.TheVariants as kind
 use Rattle.dp_parse.specs.declared.ended.Body.{Body}
 use Rattle.dp_parse.specs.declared.ended.Ended.{Ended}
-use Rattle.dp_parse.specs.declared.operand.Part.TheVariants as part
-use Rattle.dp_parse.specs.declared.sign.Sign.{Sign}
-use Rattle.dp_parse.specs.declared.sign.Sign.TheVariants as sign
-use Rattle.dp_parse.specs.declared.tree.Binding.{Binding}
-use Rattle.dp_parse.specs.declared.tree.Expression.{Expression}
-use Rattle.dp_parse.specs.declared.tree.Place.{Place}
-use Rattle.dp_parse.specs.declared.tree.StatementKind.TheVariants as tree
-use Rattle.dp_parse.specs.Signs.{sign_of, same_sign, is}
-use Rattle.dp_parse.specs.Input.{Reader, gives, made, mark, refuse, ◌>>=◌, ◌>>◌}
-use Rattle.dp_parse.specs.Rules.{Rule, Joined, Made, Mark, Perhaps, Closed}
-use Rattle.dp_parse.specs.Lists.{NextItem}
-use Rattle.dp_parse.specs.ReadingLists.{plain_items, some_items, any_plain_items}
-use Rattle.dp_parse.specs.Grammar.{Text, Variable, variable_in, by_kind, IsExpression, IsPlace}
-use Rattle.dp_parse.specs.Reading.{kind, variable, begins_expression, reading, reading_place}
-use Rattle.dp_parse.specs.Statements.{Depth, whole, binding, levels_in, Bound, GlobalRule, Empty, Perform, Echo, Test, Loops, MaybeUpTo, Return, Unset, ExitValue, Exit, body_at}
+use Rattle.dp_expressions.specs.declared.operand.Part.TheVariants as part
+use Rattle.dp_rules.specs.declared.sign.Sign.{Sign}
+use Rattle.dp_rules.specs.declared.sign.Sign.TheVariants as sign
+use Rattle.dp_tree.specs.declared.tree.Binding.{Binding}
+use Rattle.dp_tree.specs.declared.tree.Expression.{Expression}
+use Rattle.dp_tree.specs.declared.tree.Place.{Place}
+use Rattle.dp_tree.specs.declared.tree.StatementKind.TheVariants as tree
+use Rattle.dp_rules.specs.Signs.{sign_of, same_sign, is}
+use Rattle.dp_rules.specs.Input.{Reader, gives, made, mark, refuse, ◌>>=◌, ◌>>◌, kind, variable}
+use Rattle.dp_rules.specs.Rules.{Rule, Joined, Made, Mark, Perhaps, Closed}
+use Rattle.dp_rules.specs.Lists.{NextItem}
+use Rattle.dp_rules.specs.ReadingLists.{plain_items, some_items, any_plain_items}
+use Rattle.dp_expressions.specs.Grammar.{IsExpression, IsPlace}
+use Rattle.dp_expressions.specs.Reading.{begins_expression, reading, reading_place}
+use Rattle.dp_parse.specs.Statements.{Depth, whole, binding, Bound, GlobalRule, Empty, Perform, Echo, Test, Loops, MaybeUpTo, Return, Unset, ExitValue, Exit, body_at}
 use Rattle.dp_parse.specs.Statements as grammar_of
 use Rattle.dp_parse.specs.ReadingStatements.{empty, bound_rest, bound, global_rule, exit_word, perform, echo, test, levels, loops_rule, break_rule, continue_rule, maybe_up_to, return_rule, unset, exit_value, exit}
-use Rattle.dp_parse.proofs.Signs.{not_true, placed, mark_alone, mark_fails, mark_apart}
-use Rattle.dp_parse.proofs.Answers.{Rules, Stop, Anything, JoinedAt, EitherAt, GivesAt, OneAt, MarkAt, MadeAt, Answers, StartsIn, give, behind, mark_starts, joined_starts, made_starts, starts_apart, gives_apart, one_starts, one_answers, gives_answers, either_answers, within_answers, when_answers}
-use Rattle.dp_parse.proofs.More.{variable_starts}
-use Rattle.dp_parse.proofs.ListAnswers.{PlainItemsAt, SomeItemsAt, AnyPlainItemsAt, AreItems, plain_items_answers, some_items_answers, any_plain_items_answers}
+use Rattle.dp_rules.proofs.Signs.{not_true, placed, mark_alone, mark_fails, mark_apart}
+use Rattle.dp_rules.proofs.Answers.{Rules, Stop, Anything, JoinedAt, EitherAt, GivesAt, OneAt, MarkAt, MadeAt, Answers, StartsIn, give, behind, mark_starts, joined_starts, made_starts, starts_apart, gives_apart, one_starts, one_answers, gives_answers, either_answers, within_answers, when_answers}
+use Rattle.dp_rules.proofs.More.{variable_starts}
+use Rattle.dp_rules.proofs.ListAnswers.{PlainItemsAt, SomeItemsAt, AnyPlainItemsAt, AreItems, plain_items_answers, some_items_answers, any_plain_items_answers}
 use Rattle.dp_parse.proofs.StatementReaders.{Deeper, same_depth, IsPartReader, gives_reader, mark_reader, then_reader, made_reader, mark_then, before_mark, either_reader, stricter}
+use Rattle.dp_rules.specs.Worths.{Text, Variable, variable_in, by_kind, number_up_to}
 
 -- ---- lists with commas
 
@@ -181,21 +182,21 @@ module _ (base : ℕ) (level : Depth) where
     levels_stop n s = is sign.Semicolon s
 
     abbrev LevelsAt : Rules Depth ℕ
-    LevelsAt = EitherAt (OneAt (by_kind (levels_in loops))) (GivesAt 1)
+    LevelsAt = EitherAt (OneAt (by_kind (number_up_to loops))) (GivesAt 1)
 
-    levels_starts : StartsIn {L = Depth} (OneAt (by_kind (levels_in loops))) (is sign.Number)
-    levels_starts = one_starts (by_kind (levels_in loops)) (is sign.Number) (λ t a e. of t.kind a e)
+    levels_starts : StartsIn {L = Depth} (OneAt (by_kind (number_up_to loops))) (is sign.Number)
+    levels_starts = one_starts (by_kind (number_up_to loops)) (is sign.Number) (λ t a e. of t.kind a e)
       where
-        of : (k : TokenKind) (a : ℕ) → levels_in loops k ≡ Some a → is sign.Number (sign_of k) ≡ true
+        of : (k : TokenKind) (a : ℕ) → number_up_to loops k ≡ Some a → is sign.Number (sign_of k) ≡ true
         of (kind.Number n) a e = refl
         of _ a e = absurd (cc)
 
     levels_reader : IsPartReader base LevelsAt levels_stop level (reader_at levels loops level body)
     unfolding levels
     levels_reader = record {
-      answers = λ some ts. either_answers Deeper same_depth (OneAt (by_kind (levels_in loops))) (GivesAt 1) (is sign.Number) levels_stop level ts levels_starts
+      answers = λ some ts. either_answers Deeper same_depth (OneAt (by_kind (number_up_to loops))) (GivesAt 1) (is sign.Number) levels_stop level ts levels_starts
           (gives_apart 1 levels_stop (is sign.Number) (mark_fails (is sign.Number) sign.Semicolon refl))
-          (kind (levels_in loops) ts) (Ok (1, ts)) (λ _. one_answers Deeper same_depth (by_kind (levels_in loops)) levels_stop level ts) (λ _. gives_answers Deeper same_depth 1 levels_stop level ts);
+          (kind (number_up_to loops) ts) (Ok (1, ts)) (λ _. one_answers Deeper same_depth (by_kind (number_up_to loops)) levels_stop level ts) (λ _. gives_answers Deeper same_depth 1 levels_stop level ts);
       least = λ m some. ([], 1, inr (record { empty = refl; same = refl }));
     }
 

@@ -3,15 +3,15 @@ use Rattle.std.proofs.Common.{◌≡◌, inl, inr, ℕ, zero, suc, Bool, true, f
 use Rattle.dp_lexer.specs.declared.token.Token.{Token}
 use Rattle.dp_parse.specs.declared.ended.Body.{Body}
 use Rattle.dp_parse.specs.declared.ended.Ended.{Ended}
-use Rattle.dp_parse.specs.declared.sign.Sign.{Sign}
-use Rattle.dp_parse.specs.declared.sign.Sign.TheVariants as sign
-use Rattle.dp_parse.specs.declared.tree.StatementKind.TheVariants as tree
-use Rattle.dp_parse.specs.Signs.{sign_of, is}
-use Rattle.dp_parse.specs.Reading.{begins_expression}
+use Rattle.dp_rules.specs.declared.sign.Sign.{Sign}
+use Rattle.dp_rules.specs.declared.sign.Sign.TheVariants as sign
+use Rattle.dp_tree.specs.declared.tree.StatementKind.TheVariants as tree
+use Rattle.dp_rules.specs.Signs.{sign_of, is}
+use Rattle.dp_expressions.specs.Reading.{begins_expression}
 use Rattle.dp_parse.specs.Statements.{Depth, Arms, ended, whole, with_arm, stated, Bodies, Empty, ElseIf, Bound, GlobalRule, Perform, Echo, Block, Test, ArmRule, NextArm, Otherwise, If, LoopBody, While, DoWhile, For, Foreach, Loops, Return, Unset, Exit, AnyStatement, body_at, Braced, HeadBody}
 use Rattle.dp_parse.specs.Statements as grammar
-use Rattle.dp_parse.proofs.Signs.{or_left, or_right, mark_passes, mark_apart, same_is}
-use Rattle.dp_parse.proofs.Answers.{Rules, JoinedAt, EitherAt, MarkAt, MadeAt, WhenAt, OnLineAt, StartsIn, mark_starts, joined_starts, either_starts, made_starts, when_starts, nests_starts, online_starts, starts_in_more, WithoutAt, without_starts}
+use Rattle.dp_rules.proofs.Signs.{or_left, or_right, mark_passes, mark_apart, same_is}
+use Rattle.dp_rules.proofs.Answers.{Rules, JoinedAt, EitherAt, MarkAt, MadeAt, WhenAt, OnLineAt, StartsIn, mark_starts, joined_starts, either_starts, made_starts, when_starts, nests_starts, online_starts, starts_in_more, WithoutAt, without_starts}
 use Rattle.dp_parse.proofs.StatementParts.{AreRead, ExpressionAt, StatementAt, takes_else, open_ends}
 
 -- ---- what a statement begins with

@@ -1,11 +1,11 @@
 -- How deep programs nest, and what is read of statements within that.
 use Rattle.std.specs.Prelude.{ℕ}
 use Rattle.dp_parse.specs.declared.ended.Body.{Body}
-use Rattle.dp_parse.specs.declared.operand.Part.TheVariants as part
-use Rattle.dp_parse.specs.declared.tree.Expression.{Expression}
-use Rattle.dp_parse.specs.declared.tree.Place.{Place}
-use Rattle.dp_parse.specs.Input.{Reader}
-use Rattle.dp_parse.specs.Reading.{reading, reading_place}
+use Rattle.dp_expressions.specs.declared.operand.Part.TheVariants as part
+use Rattle.dp_tree.specs.declared.tree.Expression.{Expression}
+use Rattle.dp_tree.specs.declared.tree.Place.{Place}
+use Rattle.dp_rules.specs.Input.{Reader}
+use Rattle.dp_expressions.specs.Reading.{reading, reading_place}
 use Rattle.dp_parse.specs.ReadingStatements.{body_below}
 use Rattle.dp_parse.specs.Statements.{Depth}
 

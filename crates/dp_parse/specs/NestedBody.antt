@@ -4,8 +4,8 @@ use Rattle.std.specs.declared.alloc.Global.{Global}
 use denote.Ref.{MutBor}
 use Rattle.dp_lexer.specs.declared.token.Token.{Token}
 use Rattle.dp_parse.specs.declared.ended.Body.{Body}
-use Rattle.dp_parse.specs.declared.refusal.Refusal.{Refusal}
-use Rattle.dp_parse.specs.Input.{Reads}
+use Rattle.dp_rules.specs.declared.refusal.Refusal.{Refusal}
+use Rattle.dp_rules.specs.Input.{Reads}
 use Rattle.dp_parse.specs.Limits.{body}
 
 -- Where a level of bodies is left, it may be called in at most one loop more, and has the answer of the reader.

@@ -8,15 +8,15 @@ use Rattle.dp_lexer.specs.Tokens.{AreFileTokens, AreTokens, IsFileRefused, IsRef
 use Rattle.dp_parse.specs.declared.ended.Parts.{Parts}
 use Rattle.dp_parse.specs.declared.errors.ParseError.{ParseError}
 use Rattle.dp_parse.specs.declared.errors.ParseError.TheVariants as error
-use Rattle.dp_parse.specs.declared.refusal.Refusal.{Refusal}
-use Rattle.dp_parse.specs.declared.refusal.Refusal.TheVariants as refusal
-use Rattle.dp_parse.specs.declared.tree.Expression.{Expression}
-use Rattle.dp_parse.specs.declared.tree.File.{File}
+use Rattle.dp_rules.specs.declared.refusal.Refusal.{Refusal}
+use Rattle.dp_rules.specs.declared.refusal.Refusal.TheVariants as refusal
+use Rattle.dp_tree.specs.declared.tree.Expression.{Expression}
+use Rattle.dp_tree.specs.declared.tree.File.{File}
 use Rattle.dp_parse.specs.Limits.{limits}
 use Rattle.dp_parse.specs.Statements.{Spells, SpellsExpression}
-use Rattle.dp_parse.specs.Rules.{Rule}
-use Rattle.dp_parse.specs.Refused.{IsUnexpected, IsTooDeep}
-use Rattle.dp_parse.specs.Doubles.{HasNoDouble, IsDouble}
+use Rattle.dp_rules.specs.Rules.{Rule}
+use Rattle.dp_rules.specs.Refused.{IsUnexpected, IsTooDeep}
+use Rattle.dp_tree.specs.Doubles.{HasNoDouble, IsDouble}
 
 -- the bytes are a program, and this is its tree
 pub record IsFile (bytes : List ℕ) (file : File) : Type 0 where

@@ -5,24 +5,24 @@ use Rattle.std.specs.declared.ops.ControlFlow.TheVariants.{Continue, Break}
 use Rattle.dp_parse.specs.declared.ended.Ended.{Ended}
 use Rattle.dp_parse.specs.declared.ended.Body.{Body}
 use Rattle.dp_parse.specs.declared.ended.Parts.{Parts}
-use Rattle.dp_parse.specs.declared.operand.Part.TheVariants as part
-use Rattle.dp_parse.specs.declared.sign.Sign.{Sign}
-use Rattle.dp_parse.specs.declared.sign.Sign.TheVariants as sign
-use Rattle.dp_parse.specs.declared.tree.Arm.{Arm}
-use Rattle.dp_parse.specs.declared.tree.Binding.{Binding}
-use Rattle.dp_parse.specs.declared.tree.Expression.{Expression}
-use Rattle.dp_parse.specs.declared.tree.Function.{Function}
-use Rattle.dp_parse.specs.declared.tree.Place.{Place}
-use Rattle.dp_parse.specs.declared.tree.Statement.{Statement}
-use Rattle.dp_parse.specs.declared.tree.StatementKind.{StatementKind}
-use Rattle.dp_parse.specs.declared.tree.StatementKind.TheVariants as tree
-use Rattle.dp_parse.specs.Signs.{is, head}
-use Rattle.dp_parse.specs.Lines.{line_of}
-use Rattle.dp_parse.specs.Input.{Reader, ◌>>=◌, ◌>>◌, gives, made, refuse, mark, enter, closed}
-use Rattle.dp_parse.specs.ReadingLists.{plain_items, some_items, any_plain_items, any_items}
-use Rattle.dp_parse.specs.Grammar.{Text, name_in}
-use Rattle.dp_parse.specs.Reading.{kind, variable, reading, reading_place}
-use Rattle.dp_parse.specs.Statements.{ended, whole, binding, levels_in, parameter_in, Arms, with_arm, stated, Depth, function_of, no_parts, with_statement, with_function}
+use Rattle.dp_expressions.specs.declared.operand.Part.TheVariants as part
+use Rattle.dp_rules.specs.declared.sign.Sign.{Sign}
+use Rattle.dp_rules.specs.declared.sign.Sign.TheVariants as sign
+use Rattle.dp_tree.specs.declared.tree.Arm.{Arm}
+use Rattle.dp_tree.specs.declared.tree.Binding.{Binding}
+use Rattle.dp_tree.specs.declared.tree.Expression.{Expression}
+use Rattle.dp_tree.specs.declared.tree.Function.{Function}
+use Rattle.dp_tree.specs.declared.tree.Place.{Place}
+use Rattle.dp_tree.specs.declared.tree.Statement.{Statement}
+use Rattle.dp_tree.specs.declared.tree.StatementKind.{StatementKind}
+use Rattle.dp_tree.specs.declared.tree.StatementKind.TheVariants as tree
+use Rattle.dp_rules.specs.Signs.{is, head}
+use Rattle.dp_rules.specs.Lines.{line_of}
+use Rattle.dp_rules.specs.Input.{Reader, ◌>>=◌, ◌>>◌, gives, made, refuse, mark, enter, closed, kind, variable}
+use Rattle.dp_rules.specs.ReadingLists.{plain_items, some_items, any_plain_items, any_items}
+use Rattle.dp_rules.specs.Worths.{Text, name_in, number_up_to}
+use Rattle.dp_expressions.specs.Reading.{reading, reading_place}
+use Rattle.dp_parse.specs.Statements.{ended, whole, binding, parameter_in, Arms, with_arm, stated, Depth, function_of, no_parts, with_statement, with_function}
 
 unfoldable pub on_its_line : Reader Ended → Reader Body
 on_its_line read ts = made read (stated (line_of ts)) ts
@@ -163,7 +163,7 @@ module _ (level : ℕ) (loops : ℕ) (expression : Reader Expression) (place : R
     loop_body (λ b. tree.Foreach subject found b)
 
   unfoldable pub levels : Reader ℕ
-  levels ts = if is sign.Number (head ts) then kind (levels_in loops) ts else Ok (1, ts)
+  levels ts = if is sign.Number (head ts) then kind (number_up_to loops) ts else Ok (1, ts)
 
   unfoldable pub loops_rule : Reader ℕ
   loops_rule = levels >>= (λ n. made (mark sign.Semicolon) (λ _. n))

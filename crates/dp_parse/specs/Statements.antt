@@ -1,25 +1,25 @@
 -- The grammar of statements (PHP manual, "Control Structures" and "Functions"; what is left out is our own).
-use Rattle.std.specs.Prelude.{◌≡◌, ℕ, zero, suc, pos, ◌<◌, ◌≤◌, Bool, true, false, not, ◌&&◌, nat_lt, nat_le, if◌then◌else◌, List, [], ◌∷◌, ◌++◌, Option, Some, None, ℤ}
+use Rattle.std.specs.Prelude.{ℕ, zero, suc, Bool, true, false, not, nat_lt, if◌then◌else◌, List, [], ◌∷◌, ◌++◌, Option, Some, None}
 use Rattle.std.specs.List.{list_any}
 use Rattle.std.specs.Str.{bytes_eq}
-use Rattle.dp_lexer.specs.declared.token.Token.{Token}
 use Rattle.dp_lexer.specs.declared.token.TokenKind.{TokenKind}
 use Rattle.dp_lexer.specs.declared.token.TokenKind.TheVariants as kind
 use Rattle.dp_parse.specs.declared.ended.Ended.{Ended}
 use Rattle.dp_parse.specs.declared.ended.Body.{Body}
 use Rattle.dp_parse.specs.declared.ended.Parts.{Parts}
-use Rattle.dp_parse.specs.declared.sign.Sign.TheVariants as sign
-use Rattle.dp_parse.specs.declared.tree.Arm.{Arm}
-use Rattle.dp_parse.specs.declared.tree.Binding.{Binding}
-use Rattle.dp_parse.specs.declared.tree.Expression.{Expression}
-use Rattle.dp_parse.specs.declared.tree.Function.{Function}
-use Rattle.dp_parse.specs.declared.tree.Place.{Place}
-use Rattle.dp_parse.specs.declared.tree.Statement.{Statement}
-use Rattle.dp_parse.specs.declared.tree.StatementKind.{StatementKind}
-use Rattle.dp_parse.specs.declared.tree.StatementKind.TheVariants as tree
-use Rattle.dp_parse.specs.Rules.{Rule, ◌>>=◌, ◌>>◌, ◌or◌, Gives, Made, One, Mark, When, Nests, Without, OnLine, Closed, Perhaps}
-use Rattle.dp_parse.specs.Lists.{PlainItems, SomeItems, AnyPlainItems, AnyItems}
-use Rattle.dp_parse.specs.Grammar.{Text, Variable, Kind, variable_in, name_in, IsExpression, IsPlace}
+use Rattle.dp_rules.specs.declared.sign.Sign.TheVariants as sign
+use Rattle.dp_tree.specs.declared.tree.Arm.{Arm}
+use Rattle.dp_tree.specs.declared.tree.Binding.{Binding}
+use Rattle.dp_tree.specs.declared.tree.Expression.{Expression}
+use Rattle.dp_tree.specs.declared.tree.Function.{Function}
+use Rattle.dp_tree.specs.declared.tree.Place.{Place}
+use Rattle.dp_tree.specs.declared.tree.Statement.{Statement}
+use Rattle.dp_tree.specs.declared.tree.StatementKind.{StatementKind}
+use Rattle.dp_tree.specs.declared.tree.StatementKind.TheVariants as tree
+use Rattle.dp_rules.specs.Rules.{Rule, ◌>>=◌, ◌>>◌, ◌or◌, Gives, Made, Mark, When, Nests, Without, OnLine, Closed, Perhaps}
+use Rattle.dp_rules.specs.Lists.{PlainItems, SomeItems, AnyPlainItems, AnyItems}
+use Rattle.dp_expressions.specs.Grammar.{IsExpression, IsPlace}
+use Rattle.dp_rules.specs.Worths.{Text, Variable, Kind, variable_in, name_in, number_up_to}
 
 abbrev pub ended : StatementKind → Bool → Ended
 ended k is_open = record { kind = k; is_open = is_open }
@@ -33,11 +33,6 @@ arm line test body = record { line = line; test = test; body = body }
 
 abbrev pub binding : Option Text → Text → Binding
 binding key value = record { key = key; value = value }
-
--- the levels of a `break` or `continue` in so many loops
-abbrev pub levels_in : ℕ → TokenKind → Option ℕ
-levels_in loops (kind.Number (pos n)) = if nat_le 1 n && nat_le n loops then Some n else None
-levels_in loops _ = None
 
 -- a name that is none of these
 abbrev pub parameter_in : List Text → TokenKind → Option Text
@@ -187,7 +182,7 @@ module _ (level : ℕ) (loops : ℕ) (expression : Rule Expression) (place : Rul
 
   -- [ number ] ";", where none is 1
   abbrev pub Loops : Rule ℕ
-  Loops = (Kind (levels_in loops) or Gives 1) >>= (λ n. Made (Mark sign.Semicolon) (λ _. n))
+  Loops = (Kind (number_up_to loops) or Gives 1) >>= (λ n. Made (Mark sign.Semicolon) (λ _. n))
 
   -- ( "break" | "continue" ) [ number ] ";", in a loop
   abbrev pub Break : Rule Ended

@@ -1,20 +1,16 @@
 //! `if` with its arms.
 
 ghost use Rattle.std.specs.Prelude.{◌≡◌, ◌+◌, ◌<◌, ◌≤◌, ◌^◌};
-ghost use Rattle.dp_parse.specs.Input.{Reads};
+ghost use Rattle.dp_rules.specs.Input.{Reads};
 ghost use Rattle.dp_parse.specs.Limits.{within};
 ghost use Rattle.dp_parse.specs.NestedBody.{NestsBody};
 ghost use Rattle.dp_parse.specs.ReadingStatements as spec;
 
-use crate::boxed::Boxed;
-use crate::building::{none, with};
-use crate::cursor::{Tokens, enter};
 use crate::ended::{Body, Ended};
 use crate::levels::expression;
-use crate::refusal::Refusal;
-use crate::sign::Sign;
 use crate::statements::Statements;
-use crate::tree::{Arm, Expression, StatementKind};
+use dp_rules::{Refusal, Sign, Tokens, enter, none, with};
+use dp_tree::{Arm, Boxed, Expression, StatementKind};
 use dp_value::Items;
 use std::alloc::Global;
 use std::ops::ControlFlow;

@@ -1,6 +1,6 @@
 //! What statements are read in.
 
-use crate::tree::{Function, Statement, StatementKind};
+use dp_tree::{Function, Statement, StatementKind};
 use dp_value::Items;
 
 /// What a statement does, and whether an `else` behind it could still belong to it.

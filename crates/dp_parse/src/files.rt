@@ -1,20 +1,17 @@
 //! Functions, files, and expressions by themselves.
 
 ghost use Rattle.std.specs.Prelude.{◌≡◌, IfOk};
-ghost use Rattle.dp_parse.specs.Input.{Reads};
+ghost use Rattle.dp_rules.specs.Input.{Reads};
 ghost use Rattle.dp_parse.specs.Limits as limits;
 ghost use Rattle.dp_parse.specs.ReadingStatements as spec;
 ghost use Rattle.dp_parse.specs.Statements as grammar;
 
-use crate::building::{none, with};
-use crate::cursor::{Tokens, enter};
 use crate::ended::{Body, Parts};
 use crate::levels::{BODY_LEVELS, expression};
 use crate::parameters::parameters;
-use crate::refusal::Refusal;
-use crate::sign::Sign;
 use crate::statements::{Statements, statement};
-use crate::tree::{Expression, Function, Statement};
+use dp_rules::{Refusal, Sign, Tokens, enter, none, with};
+use dp_tree::{Expression, Function, Statement};
 use dp_value::{Items, Memory};
 use std::alloc::Global;
 use std::ops::ControlFlow;
@@ -118,7 +115,7 @@ pub fn file(alloc: Global, tokens: &mut Tokens<'_>) -> Result<Parts, Refusal>
     Err(tokens.refuse())
 }
 
-#[tactic(auto, unfolding(crate::specs::ReadingStatements::at_end, crate::specs::Input::refuse))]
+#[tactic(auto, unfolding(crate::specs::ReadingStatements::at_end, dp_rules::specs::Input::refuse))]
 fn at_end(tokens: &mut Tokens<'_>, found: Expression) -> Result<Expression, Refusal>
     ensures { Reads (spec.at_end found tokens.old) result tokens.new }
 {

@@ -3,18 +3,17 @@
 ghost use Rattle.std.specs.Prelude.{◌≡◌, ◌≢◌, ◌⊎◌, IfOk, IfErr, MatchResult};
 ghost use Rattle.dp_parse.specs.declared.ended.Parts.{Parts};
 ghost use Rattle.dp_parse.specs.declared.errors.ParseError.{ParseError};
-ghost use Rattle.dp_parse.specs.declared.tree.Expression.{Expression};
+ghost use Rattle.dp_tree.specs.declared.tree.Expression.{Expression};
 ghost use Rattle.dp_parse.specs.Programs.{AreWrong, told};
 ghost use Rattle.dp_parse.specs.Limits.{limits};
 ghost use Rattle.dp_parse.specs.Statements.{Spells, SpellsExpression};
 
-use crate::cursor::Tokens;
 use crate::ended::Parts;
 use crate::errors::ParseError;
 use crate::files::{expression_text, file};
-use crate::refusal::Refusal;
-use crate::tree::Expression;
 use dp_lexer::Token;
+use dp_rules::{Refusal, Tokens};
+use dp_tree::Expression;
 use std::alloc::Global;
 
 // The refusal of so many tokens, by the number of the token that is named.

@@ -1,21 +1,18 @@
 //! Statements without a body: jumps out of loops, functions and programs, and what is declared or removed.
 
 ghost use Rattle.std.specs.Prelude.{⊤, ◌≡◌, ◌<◌, ◌≤◌, ◌^◌};
-ghost use Rattle.dp_parse.specs.Input.{Reads};
+ghost use Rattle.dp_rules.specs.Input.{Reads};
 ghost use Rattle.dp_parse.specs.Limits.{within};
-ghost use Rattle.dp_parse.specs.Reading as reading;
-ghost use Rattle.dp_parse.specs.ReadingLists as lists;
+ghost use Rattle.dp_rules.specs.Input as input;
+ghost use Rattle.dp_rules.specs.ReadingLists as lists;
 ghost use Rattle.dp_parse.specs.ReadingStatements as spec;
 ghost use Rattle.dp_parse.specs.Statements as grammar;
 
-use crate::cursor::Tokens;
 use crate::ended::{Body, Ended};
 use crate::levels::{expression, some_places};
-use crate::lists::{Piece, plain_items};
-use crate::refusal::Refusal;
-use crate::sign::Sign;
 use crate::statements::{Statements, whole};
-use crate::tree::{Expression, StatementKind};
+use dp_rules::{Piece, Refusal, Sign, Tokens, plain_items};
+use dp_tree::{Expression, StatementKind};
 use dp_value::{Bytes, Items};
 use std::alloc::Global;
 
@@ -26,7 +23,7 @@ struct ListedVariable {
 }
 
 impl Piece<Bytes> for ListedVariable {
-    ghost reads = { λ _. reading.variable };
+    ghost reads = { λ _. input.variable };
 
     ghost ready = { λ _. ⊤ };
 
@@ -37,7 +34,7 @@ impl Piece<Bytes> for ListedVariable {
 
 /// One variable or more, and what closes them.
 fn variables(alloc: Global, tokens: &mut Tokens<'_>) -> Result<Items<Bytes>, Refusal>
-    ensures { Reads (lists.plain_items (λ _. reading.variable) Sign.Semicolon tokens.old) result tokens.new }
+    ensures { Reads (lists.plain_items (λ _. input.variable) Sign.Semicolon tokens.old) result tokens.new }
 {
     plain_items(alloc, tokens, Sign::Semicolon, &ListedVariable { alloc })
 }
@@ -69,7 +66,7 @@ impl<F: Fn(Global, &mut Tokens<'_>, usize, u32) -> Result<Body, Refusal>> Statem
         ensures { Reads (within spec.levels self.now.level self.now.loops tokens.old) result tokens.new }
     {
         if tokens.sees(Sign::Number) {
-            tokens.levels(self.loops)
+            tokens.number_up_to(self.loops)
         } else {
             Ok(1)
         }
@@ -84,7 +81,7 @@ impl<F: Fn(Global, &mut Tokens<'_>, usize, u32) -> Result<Body, Refusal>> Statem
         Ok(count)
     }
 
-    #[tactic(auto, unfolding(crate::specs::ReadingStatements::break_rule, crate::specs::Input::refuse))]
+    #[tactic(auto, unfolding(crate::specs::ReadingStatements::break_rule, dp_rules::specs::Input::refuse))]
     pub fn break_rule(&self, tokens: &mut Tokens<'_>) -> Result<Ended, Refusal>
         ensures { Reads (within spec.break_rule self.now.level self.now.loops tokens.old) result tokens.new }
     {
@@ -96,7 +93,7 @@ impl<F: Fn(Global, &mut Tokens<'_>, usize, u32) -> Result<Body, Refusal>> Statem
         Ok(whole(StatementKind::Break(count)))
     }
 
-    #[tactic(auto, unfolding(crate::specs::ReadingStatements::continue_rule, crate::specs::Input::refuse))]
+    #[tactic(auto, unfolding(crate::specs::ReadingStatements::continue_rule, dp_rules::specs::Input::refuse))]
     pub fn continue_rule(&self, tokens: &mut Tokens<'_>) -> Result<Ended, Refusal>
         ensures { Reads (within spec.continue_rule self.now.level self.now.loops tokens.old) result tokens.new }
     {

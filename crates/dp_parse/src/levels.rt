@@ -1,17 +1,13 @@
 //! Expressions and places with as many levels of nesting as programs have.
 
 ghost use Rattle.std.specs.Prelude.{◌≡◌, ⊤};
-ghost use Rattle.dp_parse.specs.Input.{Reads};
+ghost use Rattle.dp_rules.specs.Input.{Reads};
 ghost use Rattle.dp_parse.specs.Limits as limits;
-ghost use Rattle.dp_parse.specs.ReadingLists as lists;
+ghost use Rattle.dp_rules.specs.ReadingLists as lists;
 
-use crate::cursor::Tokens;
-use crate::expressions;
-use crate::lists::{Piece, any_plain_items, plain_items, some_items};
-use crate::operand::Part;
-use crate::refusal::Refusal;
-use crate::sign::Sign;
-use crate::tree::{Expression, Place};
+use dp_expressions::Part;
+use dp_rules::{Piece, Refusal, Sign, Tokens, any_plain_items, plain_items, some_items};
+use dp_tree::{Expression, Place};
 use dp_value::Items;
 use std::alloc::Global;
 
@@ -24,13 +20,13 @@ pub const BODY_LEVELS: usize = 32;
 pub fn expression(alloc: Global, tokens: &mut Tokens<'_>) -> Result<Expression, Refusal>
     ensures { Reads (limits.expression tokens.old) result tokens.new }
 {
-    expressions::expression(alloc, tokens, EXPRESSION_LEVELS, Part::Whole)
+    dp_expressions::expression(alloc, tokens, EXPRESSION_LEVELS, Part::Whole)
 }
 
 pub fn place(alloc: Global, tokens: &mut Tokens<'_>) -> Result<Place, Refusal>
     ensures { Reads (limits.place tokens.old) result tokens.new }
 {
-    expressions::place(alloc, tokens, EXPRESSION_LEVELS)
+    dp_expressions::place(alloc, tokens, EXPRESSION_LEVELS)
 }
 
 /// An expression in a list.

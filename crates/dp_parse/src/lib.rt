@@ -1,53 +1,27 @@
-//! Files and expressions as trees: exactly the grammar of programs.
+//! Files and expressions as trees: exactly the grammar of programs. It is the upper layer of the parser: statements,
+//! functions and files, and the calls on bytes, over the rules of dp_rules, the expressions of dp_expressions and the
+//! trees of dp_tree, which it hands on.
 #![tactic(auto)]
 
-mod boxed;
 mod branches;
-mod building;
-mod builtins;
-mod cursor;
-mod doubles;
 mod ended;
 mod errors;
-mod expressions;
 mod files;
 mod judging;
 mod jumps;
-mod ladders;
 mod levels;
-mod lines;
-mod lists;
 mod loop_statements;
 mod names;
-mod openings;
-mod operand;
-mod operands;
 mod parameters;
-mod pieces;
-mod places;
-mod purity;
-mod rank;
-mod refusal;
-mod sign;
 mod statements;
-mod tree;
 mod whole;
-mod worths;
 
-pub use boxed::Boxed;
-pub use builtins::builtin_of;
+pub use dp_tree::{
+    Arm, Binding, Boxed, Expression, File, Function, Inclusion, Item, Link, Operator, Order, Place,
+    Statement, StatementKind, builtin_of, has_code, is_pure,
+};
 pub use ended::{Body, Ended, Parts};
 pub use errors::ParseError;
-pub use lines::has_code;
-pub use operand::{Assignment, Operand, Part};
-pub use purity::is_pure;
-pub use rank::Rank;
-pub use refusal::Refusal;
-pub use sign::Sign;
-pub use tree::{
-    Arm, Binding, Expression, File, Function, Inclusion, Item, Link, Operator, Order, Place,
-    Statement, StatementKind,
-};
 pub use whole::{one_tree, parse_expression, parse_file};
 
 #[cfg(test)]

@@ -1,20 +1,17 @@
 //! Loops of programs.
 
 ghost use Rattle.std.specs.Prelude.{◌≡◌, suc, ◌<◌, ◌≤◌, ◌^◌};
-ghost use Rattle.dp_parse.specs.Input.{Reads};
+ghost use Rattle.dp_rules.specs.Input.{Reads};
 ghost use Rattle.dp_parse.specs.Limits as limits;
 ghost use Rattle.dp_parse.specs.Limits.{within};
 ghost use Rattle.dp_parse.specs.NestedBody.{NestsBody};
 ghost use Rattle.dp_parse.specs.ReadingStatements as spec;
 
-use crate::boxed::Boxed;
-use crate::cursor::{Tokens, enter};
 use crate::ended::{Body, Ended};
 use crate::levels::{any_expressions, expression};
-use crate::refusal::Refusal;
-use crate::sign::Sign;
 use crate::statements::{Statements, whole};
-use crate::tree::{Binding, StatementKind};
+use dp_rules::{Refusal, Sign, Tokens, enter};
+use dp_tree::{Binding, Boxed, StatementKind};
 use dp_value::Bytes;
 use std::alloc::Global;
 

@@ -1,14 +1,12 @@
 //! The parameters of functions.
 
 ghost use Rattle.std.specs.Prelude.{◌≡◌, ◌++◌, ◌∷◌, []};
-ghost use Rattle.dp_parse.specs.Input.{Reads, closed, made};
+ghost use Rattle.dp_rules.specs.Input.{Reads, closed, made};
 ghost use Rattle.dp_parse.specs.Parameters as spec;
-ghost use Rattle.dp_parse.specs.ReadingLists as lists;
+ghost use Rattle.dp_rules.specs.ReadingLists as lists;
 
-use crate::cursor::Tokens;
 use crate::names::Names;
-use crate::refusal::Refusal;
-use crate::sign::Sign;
+use dp_rules::{Refusal, Sign, Tokens};
 use dp_value::{Bytes, Items};
 use std::alloc::Global;
 use std::ops::ControlFlow;
@@ -70,7 +68,7 @@ fn comma_turns(alloc: Global, tokens: &mut Tokens<'_>, first: Names) -> Result<N
     Err(tokens.refuse())
 }
 
-#[tactic(auto, unfolding(crate::specs::ReadingLists::some_items))]
+#[tactic(auto, unfolding(dp_rules::specs::ReadingLists::some_items))]
 fn some_parameters(alloc: Global, tokens: &mut Tokens<'_>) -> Result<Names, Refusal>
     ensures { Reads (lists.some_items spec.checked Sign.CloseParenthesis tokens.old) result tokens.new }
 {
@@ -78,7 +76,7 @@ fn some_parameters(alloc: Global, tokens: &mut Tokens<'_>) -> Result<Names, Refu
     comma_turns(alloc, tokens, first)
 }
 
-#[tactic(auto, unfolding(crate::specs::ReadingLists::any_items))]
+#[tactic(auto, unfolding(dp_rules::specs::ReadingLists::any_items))]
 fn checked_parameters(alloc: Global, tokens: &mut Tokens<'_>) -> Result<Items<Bytes>, Refusal>
     ensures { Reads (lists.any_items spec.checked Sign.CloseParenthesis tokens.old) result tokens.new }
 {

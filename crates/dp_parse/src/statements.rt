@@ -1,21 +1,18 @@
 //! Statements. Each rule is told what reads the body of a statement one level down, so that it is proved by itself.
 
 ghost use Rattle.std.specs.Prelude.{◌≡◌, ◌+◌, ◌<◌, ◌≤◌, ◌^◌};
-ghost use Rattle.dp_parse.specs.Input.{Reads};
+ghost use Rattle.dp_rules.specs.Input.{Reads};
 ghost use Rattle.dp_parse.specs.Limits as limits;
 ghost use Rattle.dp_parse.specs.Limits.{within};
 ghost use Rattle.dp_parse.specs.NestedBody.{NestsBody};
 ghost use Rattle.dp_parse.specs.ReadingStatements as spec;
 ghost use Rattle.dp_parse.specs.Statements as grammar;
 
-use crate::building::{none, with};
-use crate::cursor::{Tokens, enter};
 use crate::ended::{Body, Ended};
 use crate::jumps::global_rule;
 use crate::levels::{expression, some_expressions};
-use crate::refusal::Refusal;
-use crate::sign::Sign;
-use crate::tree::{Statement, StatementKind};
+use dp_rules::{Refusal, Sign, Tokens, enter, none, with};
+use dp_tree::{Statement, StatementKind};
 use dp_value::Items;
 use std::alloc::Global;
 use std::ops::ControlFlow;

@@ -1,9 +1,7 @@
 use crate::errors::ParseError;
-use crate::lines::has_code;
-use crate::purity::is_pure;
-use crate::tree::{Arm, Expression, File, Link, Operator, Statement, StatementKind};
 use crate::whole::{parse_expression, parse_file};
 use dp_lexer::LexError;
+use dp_tree::{Arm, Expression, File, Link, Operator, Statement, StatementKind, has_code, is_pure};
 use dp_value::{BinaryOp, Memory};
 use std::alloc::Global;
 use std::test::Fail;

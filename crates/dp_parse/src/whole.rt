@@ -4,32 +4,17 @@ ghost use Rattle.std.specs.Prelude.{◌≡◌, ◌≢◌, ◌<◌, ◌^◌, ◌�
 ghost use Rattle.dp_lexer.specs.declared.token.Token.{Token};
 ghost use Rattle.dp_parse.specs.declared.ended.Parts.{Parts};
 ghost use Rattle.dp_parse.specs.declared.errors.ParseError.{ParseError};
-ghost use Rattle.dp_parse.specs.declared.tree.Expression.{Expression};
-ghost use Rattle.dp_parse.specs.declared.tree.File.{File};
-ghost use Rattle.dp_lexer.specs.Tokens as spec;
+ghost use Rattle.dp_tree.specs.declared.tree.Expression.{Expression};
+ghost use Rattle.dp_tree.specs.declared.tree.File.{File};
 ghost use Rattle.dp_parse.specs.Statements.{Depth, Spells, SpellsExpression};
 ghost use Rattle.dp_parse.specs.Programs.{without_tokens, IsFile, IsNoFile, IsExpressionText, IsNoExpression};
 
-use crate::doubles::first_double;
 use crate::ended::Parts;
 use crate::errors::ParseError;
 use crate::judging::{expression_of, parts_of};
-use crate::tree::{Expression, File};
-use dp_lexer::{LexError, lex, lex_expression};
+use dp_lexer::{LexError, lex, lex_expression, line_feeds};
+use dp_tree::{Expression, File, first_double};
 use std::alloc::Global;
-
-// How many line feeds there are.
-fn feeds(bytes: &[u8]) -> usize
-    ensures { result ≡ spec.feeds bytes.now }
-{
-    let mut count = 0;
-    for byte in bytes {
-        if *byte == b'\n' {
-            count += 1;
-        }
-    }
-    count
-}
 
 // Why there are no tokens.
 fn no_tokens(why: LexError) -> ParseError
@@ -69,7 +54,7 @@ pub fn parse_file(alloc: Global, bytes: &[u8]) -> Result<File, ParseError>
     if let Some(name) = first_double(alloc, functions.as_slice())? {
         return Err(ParseError::DoubleFunction { name });
     }
-    let lines = 1 + feeds(bytes) as u32;
+    let lines = 1 + line_feeds(bytes) as u32;
     Ok(File {
         body,
         functions,

@@ -60,7 +60,7 @@ pub split_at-requires : goal.split_at-requires
 split_at-requires c = (takes_some c.loop-rest.rest.now c.in-Ok.found.0 c.in-Ok.found.1 c.in-Ok.ensures).1
 
 pub overflow_add-line : goal.overflow_add-line
-overflow_add-line c = omega (arith, c.feeds-line.ensures, feeds_within c.split_at.result.0.now, c.split_at.ensures.front_len, (takes_some c.loop-rest.rest.now c.in-Ok.found.0 c.in-Ok.found.1 c.in-Ok.ensures).1, line_within c.args.at c.args.bytes.now c.loop-rest.rest.now c.loop-rest.tokens.items c.loop-rest.line c.loop-rest.invariant)
+overflow_add-line c = omega (arith, c.line_feeds-line.ensures, feeds_within c.split_at.result.0.now, c.split_at.ensures.front_len, (takes_some c.loop-rest.rest.now c.in-Ok.found.0 c.in-Ok.found.1 c.in-Ok.ensures).1, line_within c.args.at c.args.bytes.now c.loop-rest.rest.now c.loop-rest.tokens.items c.loop-rest.line c.loop-rest.invariant)
 
 pub loop-rest-smaller : goal.loop-rest-smaller
 loop-rest-smaller c = let t = takes_some c.loop-rest.rest.now c.in-Ok.found.0 c.in-Ok.found.1 c.in-Ok.ensures in omega (arith, t.0, t.1, c.split_at.ensures.back_len)
@@ -70,8 +70,8 @@ loop-rest-preserved c =
     let n = c.in-Ok.found.1 in
     let step = next_lexed c.args.at c.args.bytes.now c.loop-rest.rest.now c.loop-rest.tokens.items c.loop-rest.line c.in-Ok.found.0 c.in-Ok.found.1 c.loop-rest.invariant c.in-Ok.ensures in
     let items = pushed c.push_token.result _ (grind (arith, common_steps)) c.push_token.ensures in
-    let lines = c.feeds-line.ensures ∙ ap feeds c.split_at.ensures.front in
-    subst (λ r. IsLexed c.args.at c.args.bytes.now c.push_token.new.tokens.items (c.loop-rest.line + c.feeds-line.result) r) (sym c.split_at.ensures.back)
+    let lines = c.line_feeds-line.ensures ∙ ap feeds c.split_at.ensures.front in
+    subst (λ r. IsLexed c.args.at c.args.bytes.now c.push_token.new.tokens.items (c.loop-rest.line + c.line_feeds-line.result) r) (sym c.split_at.ensures.back)
     (subst (λ k. IsLexed c.args.at c.args.bytes.now c.push_token.new.tokens.items (c.loop-rest.line + k) (drop c.in-Ok.found.1 c.loop-rest.rest.now)) (sym lines)
     (subst (λ ts. IsLexed c.args.at c.args.bytes.now ts (c.loop-rest.line + feeds (take c.in-Ok.found.1 c.loop-rest.rest.now)) (drop c.in-Ok.found.1 c.loop-rest.rest.now)) (sym items) step))
 

@@ -1,6 +1,4 @@
-use Rattle.std.proofs.Common.{◌≡◌, ◌≢◌, List, Ok, Err, ap, sym, ◌∙◌}
-use Rattle.dp_lexer.specs.declared.token.Token.{Token}
-use Rattle.dp_parse.specs.declared.refusal.Refusal.TheVariants as refusal
+use Rattle.std.proofs.Common.{ap, sym, ◌∙◌}
 use Rattle.dp_parse.specs.Limits.{limits}
 use Rattle.dp_parse.specs.ReadingStatements.{file}
 use Rattle.dp_parse.proofs.FileVerdicts.{file_reads}

@@ -1,10 +1,10 @@
 use Rattle.std.proofs.Common.{rules, arith}
 use Rattle.std.proofs.lemmas.Grind.{common_steps}
-use Rattle.dp_parse.specs.Input.{until}
-use Rattle.dp_parse.specs.declared.sign.Sign.TheVariants.{CloseParenthesis}
+use Rattle.dp_rules.specs.Input.{until}
+use Rattle.dp_rules.specs.declared.sign.Sign.TheVariants.{CloseParenthesis}
 use Rattle.dp_parse.specs.Parameters.{checked}
-use Rattle.dp_parse.specs.ReadingLists.{comma_step}
-use Rattle.dp_parse.proofs.Turns.{one_turn, no_turn}
+use Rattle.dp_rules.specs.ReadingLists.{comma_step}
+use Rattle.dp_rules.proofs.Turns.{one_turn, no_turn}
 use Rattle.dp_parse.proofs.parameters.comma_turns.Goals as goal
 
 pub returns-in_err-more : goal.returns-in_err-more

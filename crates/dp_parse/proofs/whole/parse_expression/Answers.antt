@@ -1,4 +1,4 @@
-use Rattle.std.proofs.Common.{◌≡◌, ◌≢◌, ◌⊎◌, inl, inr, List, MatchResult, ap, ◌∙◌, refl, sym, subst}
+use Rattle.std.proofs.Common.{◌≡◌, ◌≢◌, ◌⊎◌, inr, List, MatchResult, ap, ◌∙◌, refl, sym, subst}
 use Rattle.dp_lexer.specs.declared.token.Token.{Token}
 use Rattle.dp_lexer.specs.Tokens.{AreTokens, IsRefused}
 use Rattle.dp_parse.specs.declared.errors.ParseError.{ParseError}

@@ -1,8 +1,6 @@
-use Rattle.std.proofs.Common.{◌≡◌, ◌+◌, ◌≤◌, ◌<◌, List, sym, ◌∙◌, Fits, w32, length, MatchOption, subst, ap, Err, arith}
-use Rattle.dp_lexer.specs.declared.token.Token.{Token}
-use Rattle.dp_lexer.specs.Tokens.{AreFileTokens, IsFileRefused, feeds}
-use Rattle.dp_parse.specs.declared.errors.ParseError.TheVariants as error
-use Rattle.dp_parse.specs.Doubles.{HasNoDouble, IsDouble}
+use Rattle.std.proofs.Common.{◌+◌, sym, ◌∙◌, MatchOption, subst, ap, Err, arith}
+use Rattle.dp_lexer.specs.Tokens.{IsFileRefused}
+use Rattle.dp_tree.specs.Doubles.{HasNoDouble, IsDouble}
 use Rattle.dp_parse.specs.Programs.{IsNoFile}
 use Rattle.dp_parse.proofs.Reasons.{lexical_cause}
 use Rattle.dp_parse.proofs.Feeds.{file_feeds}
@@ -42,14 +40,14 @@ returns-in-Some-clause-refuses c =
     (subst (λ fs. IsDouble fs c.in-Some.name) c.as_slice-2.ensures (subst (λ o. MatchOption o (HasNoDouble c.as_slice-2.result.now) (IsDouble c.as_slice-2.result.now)) c.in-Some.is c.in_ok-name.ensures))
 
 pub overflow_cast-lines : goal.overflow_cast-lines
-overflow_cast-lines c = let w = file_feeds c.args.bytes.now c.in-Ok.tokens.items c.in-Ok.ensures.found in let e = c.feeds.ensures in let r = c.requires in omega (arith, w, e, r)
+overflow_cast-lines c = let w = file_feeds c.args.bytes.now c.in-Ok.tokens.items c.in-Ok.ensures.found in let e = c.line_feeds.ensures in let r = c.requires in omega (arith, w, e, r)
 
 pub overflow_add-lines : goal.overflow_add-lines
-overflow_add-lines c = let w = file_feeds c.args.bytes.now c.in-Ok.tokens.items c.in-Ok.ensures.found in let e = c.feeds.ensures in let r = c.requires in omega (arith, w, e, r)
+overflow_add-lines c = let w = file_feeds c.args.bytes.now c.in-Ok.tokens.items c.in-Ok.ensures.found in let e = c.line_feeds.ensures in let r = c.requires in omega (arith, w, e, r)
 
 pub returns-clause-only : goal.returns-clause-only
 returns-clause-only c = λ file h.
-    (λ i. record { body = c.in-Ok-parts_of.parts.body; functions = c.in-Ok-parts_of.parts.functions; lines = 1 + c.feeds.ensures i })
+    (λ i. record { body = c.in-Ok-parts_of.parts.body; functions = c.in-Ok-parts_of.parts.functions; lines = 1 + c.line_feeds.ensures i })
     ∙ file_only c.args.bytes.now c.as_slice.result.now (λ us are. c.as_slice.ensures.value ∙ c.in-Ok.ensures.only us are) c.in-Ok.ensures.refuses
     c.in-Ok-parts_of.parts c.in-Ok-parts_of.ensures.only c.in-Ok-parts_of.ensures.refuses
     (subst HasNoDouble c.as_slice-2.ensures (subst (λ o. MatchOption o (HasNoDouble c.as_slice-2.result.now) (IsDouble c.as_slice-2.result.now)) c.in_default.is c.in_ok-name.ensures)) file h

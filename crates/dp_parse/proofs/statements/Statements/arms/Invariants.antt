@@ -1,5 +1,5 @@
 use Rattle.std.proofs.Common.{◌≡◌, ◌-◌}
-use Rattle.dp_parse.specs.Input.{closed, until}
+use Rattle.dp_rules.specs.Input.{closed, until}
 use Rattle.dp_parse.specs.Limits.{within}
 use Rattle.dp_parse.specs.ReadingStatements.{arms_step}
 use Rattle.dp_parse.proofs.statements.Statements.arms.Given as goal

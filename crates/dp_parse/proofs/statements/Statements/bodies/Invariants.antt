@@ -1,5 +1,5 @@
 use Rattle.std.proofs.Common.{◌≡◌, ◌-◌, []}
-use Rattle.dp_parse.specs.Input.{closed, until}
+use Rattle.dp_rules.specs.Input.{closed, until}
 use Rattle.dp_parse.specs.Limits.{body}
 use Rattle.dp_parse.specs.ReadingStatements.{bodies_step}
 use Rattle.dp_parse.proofs.statements.Statements.bodies.Given as goal

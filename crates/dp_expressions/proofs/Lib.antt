@@ -1,0 +1,9 @@
+pub mod Heights
+pub mod Least
+pub mod Factored
+pub mod ExpressionParts
+pub mod Begins
+pub mod LadderAnswers
+pub mod OperandAnswers
+pub mod OpeningAnswers
+pub mod ExpressionAnswers

@@ -1,0 +1,125 @@
+//! Operands and the operators between them.
+
+ghost use Rattle.std.specs.Prelude.{◌≡◌, ◌<◌};
+ghost use Rattle.dp_rules.specs.Input.{Reads};
+ghost use Rattle.dp_expressions.specs.NestedReader.{Nests};
+ghost use Rattle.dp_expressions.specs.Reading as spec;
+ghost use Rattle.dp_expressions.specs.Grammar as grammar;
+
+use crate::building::chained;
+use crate::operand::Part;
+use crate::places::Grammar;
+use crate::rank::Rank;
+use crate::worths::{is_single, operator, operator_in};
+use dp_rules::{Refusal, Tokens, none, with};
+use dp_tree::{Expression, Link};
+use dp_value::Items;
+use std::alloc::Global;
+use std::ops::ControlFlow;
+
+/// The ranks, those that bind more tightly later.
+pub const RANKS: [Rank; 7] = [
+    Rank::Or,
+    Rank::And,
+    Rank::Equality,
+    Rank::Comparison,
+    Rank::Concatenation,
+    Rank::Sum,
+    Rank::Product,
+];
+
+/// Whether a further operator of this rank may join operands.
+fn may_go_on(rank: Rank, links: &[Link]) -> bool
+    ensures { result ≡ grammar.may_go_on rank links.now }
+{
+    match links {
+        [] => true,
+        [_, ..] => !is_single(rank),
+    }
+}
+
+impl<F: Fn(Global, &mut Tokens<'_>, usize, Part) -> Result<Expression, Refusal>> Grammar<F> {
+    #[cycle(ladder)]
+    #[tactic(auto, unfolding(crate::specs::Reading::link_of))]
+    fn link_of(&self, tokens: &mut Tokens<'_>, more: &[Rank], rank: Rank) -> Result<Link, Refusal>
+        requires { Nests self.now.level (F.pre self.now.inner) (F.post self.now.inner) }
+        ensures { Reads (spec.link_of (spec.ladder more.now (spec.alone self.now.level (spec.below self.now.level))) rank tokens.old) result tokens.new }
+    {
+        let operator = operator(tokens, rank)?;
+        let operand = self.ladder(tokens, more)?;
+        Ok(Link { operator, operand })
+    }
+
+    #[cycle(ladder)]
+    fn links_step(
+        &self,
+        tokens: &mut Tokens<'_>,
+        more: &[Rank],
+        rank: Rank,
+        all: Items<Link>,
+    ) -> Result<ControlFlow<Items<Link>, Items<Link>>, Refusal>
+        requires { Nests self.now.level (F.pre self.now.inner) (F.post self.now.inner) }
+        ensures { Reads (spec.links_step (spec.ladder more.now (spec.alone self.now.level (spec.below self.now.level))) rank all tokens.old) result tokens.new }
+    {
+        if may_go_on(rank, all.as_slice()) && operator_in(rank, tokens.peek()).is_some() {
+            let link = self.link_of(tokens, more, rank)?;
+            return Ok(ControlFlow::Continue(with(all, link)?));
+        }
+        Ok(ControlFlow::Break(all))
+    }
+
+    #[cycle(ladder)]
+    #[tactic(auto, unfolding(crate::specs::Reading::links_of))]
+    fn links_of(
+        &self,
+        tokens: &mut Tokens<'_>,
+        more: &[Rank],
+        rank: Rank,
+    ) -> Result<Items<Link>, Refusal>
+        requires { Nests self.now.level (F.pre self.now.inner) (F.post self.now.inner) }
+        ensures { Reads (spec.links_of (spec.ladder more.now (spec.alone self.now.level (spec.below self.now.level))) rank tokens.old) result tokens.new }
+    {
+        let mut state = none(self.alloc);
+        for _turn in 0..tokens.left() + 1 {
+            match self.links_step(tokens, more, rank, state)? {
+                ControlFlow::Continue(next) => state = next,
+                ControlFlow::Break(all) => return Ok(all),
+            }
+        }
+        Err(tokens.refuse())
+    }
+
+    /// Operands joined by operators of these ranks, the loosest first.
+    #[cycle(ladder)]
+    #[tactic(auto, unfolding(crate::specs::Reading::ladder))]
+    pub fn ladder(&self, tokens: &mut Tokens<'_>, ranks: &[Rank]) -> Result<Expression, Refusal>
+        requires { Nests self.now.level (F.pre self.now.inner) (F.post self.now.inner) }
+        ensures { Reads (spec.ladder ranks.now (spec.alone self.now.level (spec.below self.now.level)) tokens.old) result tokens.new }
+    {
+        let [rank, more @ ..] = ranks else {
+            return self.alone(tokens);
+        };
+        let first = self.ladder(tokens, more)?;
+        let links = self.links_of(tokens, more, *rank)?;
+        Ok(chained(self.alloc, first, links)?)
+    }
+
+    /// The same, where the first operand was read before.
+    #[tactic(auto, unfolding(crate::specs::Reading::ladder_from))]
+    pub fn ladder_from(
+        &self,
+        tokens: &mut Tokens<'_>,
+        ranks: &[Rank],
+        first: Expression,
+    ) -> Result<Expression, Refusal>
+        requires { Nests self.now.level (F.pre self.now.inner) (F.post self.now.inner) }
+        ensures { Reads (spec.ladder_from ranks.now (spec.alone self.now.level (spec.below self.now.level)) first tokens.old) result tokens.new }
+    {
+        let [rank, more @ ..] = ranks else {
+            return Ok(first);
+        };
+        let left = self.ladder_from(tokens, more, first)?;
+        let links = self.links_of(tokens, more, *rank)?;
+        Ok(chained(self.alloc, left, links)?)
+    }
+}

@@ -1,0 +1,18 @@
+//! Expressions: their grammar as rules over tokens, and the functions that read them. A part of an expression is read with
+//! as many levels of nesting as it is given; what stands behind it is left to the caller. Statements come a layer above.
+#![tactic(auto)]
+
+mod building;
+mod expressions;
+mod ladders;
+mod openings;
+mod operand;
+mod operands;
+mod pieces;
+mod places;
+mod rank;
+mod worths;
+
+pub use expressions::{expression, place};
+pub use operand::{Assignment, Operand, Part};
+pub use rank::Rank;

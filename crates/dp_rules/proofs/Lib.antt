@@ -1,0 +1,9 @@
+pub mod Signs
+pub mod Answers
+pub mod Loops
+pub mod Readers
+pub mod ListAnswers
+pub mod More
+pub mod Taking
+pub mod Turns
+pub mod Verdicts

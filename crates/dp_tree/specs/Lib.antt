@@ -1,0 +1,5 @@
+pub mod formers
+pub mod Builtins
+pub mod Doubles
+pub mod Purity
+pub mod CodeLines
