@@ -15,7 +15,7 @@ use Rattle.dp_markup.specs.Rules.{Rule, Joined, ◌or◌, Made, One, passing, Ma
 use Rattle.dp_markup.specs.Classes.{is_white, is_digit, is_name, is_plain_in_text, is_plain_in_value, within_byte, decimal_behind}
 use Rattle.dp_markup.specs.Escaping.{decimal, plain_or_number, escaped, escaped_all}
 use Rattle.dp_markup.specs.Writing.{attribute_text, node_layer, element_layer, written, node_text, nodes_text}
-use Rattle.dp_markup.specs.Grammar.{Text, Attributes, White, Spaced, Number, Reference, Value, Attribute, TagPiece, TagEnd, Start, ContentPiece, EndTag, IsOpened, Document, limit, IsMarkup, is_new, attribute_in_tag, with_run, with_child, nodes_of, no_content, element}
+use Rattle.dp_markup.specs.Grammar.{Text, Attributes, White, Spaced, Number, Reference, Value, Attribute, TagPiece, TagEnd, Start, ContentPiece, EndTag, IsOpened, Prolog, Document, limit, IsMarkup, is_new, attribute_in_tag, with_run, with_child, nodes_of, no_content, element}
 use Rattle.dp_markup.specs.Readable.{AreBytes, AreAttributes, is_text, FitsBehind, AreNodes, IsReadable}
 use Rattle.dp_markup.proofs.Loops.{give}
 use Rattle.dp_markup.proofs.Basics.{one_byte, mark_of, before, marked, named_of, spaced}
@@ -174,10 +174,10 @@ start_spelled n attributes name all = record { front = n; back = flat_map attrib
 
 -- ---- nodes
 
-text_node : (t : Text) → node_text (node.Text t) ≡ escaped_all t
+pub text_node : (t : Text) → node_text (node.Text t) ≡ escaped_all t
 text_node t = ap node_text (sym (node.rolls-Text t)) ∙ fold-roll-Node Text Text node_layer element_layer (Node-F.Text t)
 
-child_node : (e : Element) → node_text (node.Child e) ≡ written e
+pub child_node : (e : Element) → node_text (node.Child e) ≡ written e
 child_node e = ap node_text (sym (node.rolls-Child e)) ∙ fold-roll-Node Text Text node_layer element_layer (Node-F.Child e)
 
 is_node : (n : Node) (v : Node-F Node Element) → out-Node n ≡ v → n ≡ roll-Node v
@@ -262,12 +262,16 @@ spelled_behind (suc level) e all =
       other = give (Closed (ContentPiece (IsOpened level)) (EndTag e.name) no_content) (element tag) (nodes_text e.children ++ (60 ∷ 47 ∷ (e.name ++ 62 ∷ []))) e.children nodes;
     }
 
-pub written_is_markup : (e : Element) → IsReadable limit e → IsMarkup (written e) e
-written_is_markup e all = subst (λ l. Document limit l e) (sym (written_behind e)) (record {
-  front = 60 ∷ [];
+-- whatever may stand before the root
+pub behind_prolog : (front : Text) (e : Element) → IsReadable limit e → Prolog (front ++ 60 ∷ []) 60 → IsMarkup (front ++ written e) e
+behind_prolog front e all prolog = subst (λ l. Document limit (front ++ l) e) (sym (written_behind e)) (record {
+  front = front ++ 60 ∷ [];
   back = behind e;
   value = 60;
-  split = refl;
-  one = record { count = 0; chain = mark_of 60 };
+  split = sym (append_assoc front (60 ∷ []) (behind e));
+  one = prolog;
   other = record { front = behind e; back = []; value = e; split = sym (append-nil (behind e)); one = spelled_behind limit e all; other = record { count = 0; chain = record { empty = refl; same = refl } } };
 })
+
+pub written_is_markup : (e : Element) → IsReadable limit e → IsMarkup (written e) e
+written_is_markup e all = behind_prolog [] e all (record { count = 0; chain = mark_of 60 })

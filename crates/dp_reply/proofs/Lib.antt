@@ -1,5 +1,10 @@
--- Lemmas on what is put behind a list.
-pub mod Chains
+-- Why packets that are written are read again.
 pub mod Levels
-pub mod Numbers
 pub mod Whole
+pub mod Leaves
+pub mod Declaration
+pub mod Law
+pub mod Nodes
+pub mod Lines
+pub mod Values
+pub mod Bodies

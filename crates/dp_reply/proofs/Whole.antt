@@ -6,7 +6,7 @@ use Rattle.dp_markup.specs.declared.error.MarkupError.{MarkupError}
 use Rattle.dp_markup.specs.declared.error.MarkupError.TheVariants as markup
 use Rattle.dp_reply.specs.declared.error.ReplyError.{ReplyError}
 use Rattle.dp_reply.specs.declared.error.ReplyError.TheVariants.{NotDbgp, Memory}
-use Rattle.dp_reply.specs.declared.packet.Packet.{Packet}
+use Rattle.dp_packet.specs.declared.packet.Packet.{Packet}
 use Rattle.dp_reply.specs.Readings.{packet_in, IsPacket}
 use Rattle.dp_reply.specs.Verdict.{Finds, refusal_of}
 

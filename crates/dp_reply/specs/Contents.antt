@@ -1,16 +1,15 @@
 -- What is found in an element that is read: numbers, texts, attributes and elements.
-use Rattle.std.specs.Prelude.{ℕ, nat_le, Bool, true, false, ◌&&◌, ◌||◌, ◌==◌, cond, if◌then◌else◌, List, [], ◌∷◌, Option, Some, None, codes, flat_map}
+use Rattle.std.specs.Prelude.{ℕ, Bool, true, false, ◌||◌, ◌==◌, if◌then◌else◌, List, [], ◌∷◌, Option, Some, None, codes, flat_map}
 use Rattle.std.specs.List.{list_any}
-use Rattle.std.specs.Str.Parse.{digits_value}
 use Rattle.base64.specs.Engines.{standard}
 use Rattle.base64.specs.GeneralPurpose.{decoded_of}
-use Rattle.dp_value.specs.IntText.{is_positive}
+use Rattle.dp_value.specs.Decimals.{decimal_in}
 use Rattle.dp_markup.specs.declared.tree.Element.{Element}
 use Rattle.dp_markup.specs.declared.tree.Node.{Node}
 use Rattle.dp_markup.specs.declared.tree.Node.TheOpen.{Node-F}
 use Rattle.dp_markup.specs.declared.tree.Node.TheViews.{out-Node}
 use Rattle.dp_markup.specs.Grammar.{same_text, stands, value_of}
-use Rattle.dp_reply.specs.Parts.{Text}
+use Rattle.dp_packet.specs.Parts.{Text}
 
 -- ---- what may be missing
 
@@ -34,14 +33,6 @@ each f (a ∷ rest) = do
   Some (b ∷ bs)
 
 -- ---- what a text says
-
--- `0`, or a digit from 1 to 9 followed by digits
-abbrev pub is_decimal : Text → Bool
-is_decimal text = same_text text (codes "0") || is_positive text
-
--- the number whose decimal the text is, where it is at most this
-unfoldable pub number_in : ℕ → Text → Option ℕ
-number_in most text = cond (is_decimal text && nat_le (digits_value 10 text) most) (Some (digits_value 10 text)) None
 
 -- the greatest numbers of 8, 16, 32 and 64 bits
 abbrev pub most_8 : ℕ
@@ -69,12 +60,12 @@ abbrev pub attribute : Text → Element → Option Text
 attribute name e = value_of e.attributes name
 
 abbrev pub number_at : Text → ℕ → Element → Option ℕ
-number_at name most e = attribute name e >>= number_in most
+number_at name most e = attribute name e >>= decimal_in most
 
 -- a number that may be missing, but is one where the attribute stands
 abbrev pub optional_number : ℕ → Option Text → Option (Option ℕ)
 optional_number most None = Some None
-optional_number most (Some text) = number_in most text >>= λ n. Some (Some n)
+optional_number most (Some text) = decimal_in most text >>= λ n. Some (Some n)
 
 abbrev pub is_named : Text → Element → Bool
 is_named name e = same_text e.name name

@@ -1,10 +1,5 @@
--- What packets are as elements, and their texts.
-pub mod Parts
-pub mod Properties
-pub mod Breakpoints
-pub mod Messages
-pub mod Packets
-pub mod Text
+-- What is found in elements, the packets that they are, and the normal form of packets.
 pub mod Contents
 pub mod Verdict
 pub mod Readings
+pub mod Norm

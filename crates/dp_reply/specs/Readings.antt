@@ -4,25 +4,25 @@ use Rattle.std.specs.Prelude.{◌≡◌, ℕ, zero, suc, nat_le, Bool, true, fal
 use Rattle.dp_value.specs.IntText.{int_of_text}
 use Rattle.dp_markup.specs.declared.tree.Element.{Element}
 use Rattle.dp_markup.specs.Grammar.{same_text, limit}
-use Rattle.dp_reply.specs.declared.packet.Packet.{Packet}
-use Rattle.dp_reply.specs.declared.packet.Packet.TheVariants as packet
-use Rattle.dp_reply.specs.declared.packet.Init.{Init}
-use Rattle.dp_reply.specs.declared.packet.Response.{Response}
-use Rattle.dp_reply.specs.declared.packet.Notify.{Notify}
-use Rattle.dp_reply.specs.declared.packet.StackLine.{StackLine}
-use Rattle.dp_reply.specs.declared.packet.BreakLine.{BreakLine}
-use Rattle.dp_reply.specs.declared.packet.BreakKind.{BreakKind}
-use Rattle.dp_reply.specs.declared.packet.BreakKind.TheVariants as kind
-use Rattle.dp_reply.specs.declared.packet.HitRule.{HitRule}
-use Rattle.dp_reply.specs.declared.packet.HitRule.TheVariants as rule
-use Rattle.dp_reply.specs.declared.packet.Body.{Body}
-use Rattle.dp_reply.specs.declared.packet.Body.TheVariants as body
-use Rattle.dp_reply.specs.declared.packet.ProxyReply.{ProxyReply}
-use Rattle.dp_reply.specs.declared.packet.ProxyReply.TheVariants.{Started, Stopped, Refused}
-use Rattle.dp_reply.specs.declared.property.Property.{Property}
-use Rattle.dp_reply.specs.declared.property.Shape.{Shape}
-use Rattle.dp_reply.specs.declared.property.Shape.TheVariants as shape
-use Rattle.dp_reply.specs.Parts.{Text}
+use Rattle.dp_packet.specs.declared.packet.Packet.{Packet}
+use Rattle.dp_packet.specs.declared.packet.Packet.TheVariants as packet
+use Rattle.dp_packet.specs.declared.packet.Init.{Init}
+use Rattle.dp_packet.specs.declared.packet.Response.{Response}
+use Rattle.dp_packet.specs.declared.packet.Notify.{Notify}
+use Rattle.dp_packet.specs.declared.packet.StackLine.{StackLine}
+use Rattle.dp_packet.specs.declared.packet.BreakLine.{BreakLine}
+use Rattle.dp_packet.specs.declared.packet.BreakKind.{BreakKind}
+use Rattle.dp_packet.specs.declared.packet.BreakKind.TheVariants as kind
+use Rattle.dp_packet.specs.declared.packet.HitRule.{HitRule}
+use Rattle.dp_packet.specs.declared.packet.HitRule.TheVariants as rule
+use Rattle.dp_packet.specs.declared.packet.Body.{Body}
+use Rattle.dp_packet.specs.declared.packet.Body.TheVariants as body
+use Rattle.dp_packet.specs.declared.packet.ProxyReply.{ProxyReply}
+use Rattle.dp_packet.specs.declared.packet.ProxyReply.TheVariants.{Started, Stopped, Refused}
+use Rattle.dp_packet.specs.declared.property.Property.{Property}
+use Rattle.dp_packet.specs.declared.property.Shape.{Shape}
+use Rattle.dp_packet.specs.declared.property.Shape.TheVariants as shape
+use Rattle.dp_packet.specs.Parts.{Text}
 use Rattle.dp_reply.specs.Contents.{◌>>=◌, ◌or◌, each, most_8, most_16, most_32, most_64, flag_in, bytes_in, attribute, number_at, optional_number, is_named, is_namespace, words, elements, text_in, elements_in, only, only_in}
 
 -- ---- properties

@@ -1,9 +1,7 @@
 //! What is found in an element that is read.
 
 ghost use Rattle.std.specs.Prelude.{◌≡◌, ◌≤◌, ◌++◌, ◌∷◌, not, IfOk, OnOk, IfSome, option_copied, option_to_list};
-ghost use Rattle.std.specs.List.{list_all};
-ghost use Rattle.std.specs.Char.{is_ascii_digit};
-ghost use Rattle.dp_value.specs.IntText as int_text;
+ghost use Rattle.dp_value.specs.Decimals.{decimal_in};
 ghost use Rattle.dp_markup.specs.Grammar as grammar;
 ghost use Rattle.dp_markup.specs.declared.tree.Node.TheViews.{out-Node};
 ghost use Rattle.dp_reply.specs.Contents as spec;
@@ -13,49 +11,13 @@ use crate::error::ReplyError;
 use base64::DecodeAllocError;
 use base64::engine::general_purpose::STANDARD;
 use dp_markup::{Element, Node};
-use dp_value::{Bytes, Memory};
+use dp_value::{Bytes, Memory, decimal};
 use std::alloc::Global;
 
 pub fn same_text(a: &[u8], b: &[u8]) -> bool
     ensures { result ≡ grammar.same_text a.now b.now }
 {
     a == b
-}
-
-fn all_digits(text: &[u8]) -> bool
-    ensures { result ≡ list_all is_ascii_digit text.now }
-{
-    text.iter().all(|b| b.is_ascii_digit())
-}
-
-/// Whether there are digits, and the first is not 0.
-fn is_positive(text: &[u8]) -> bool
-    ensures { result ≡ int_text.is_positive text.now }
-{
-    match text {
-        [] => false,
-        [first, ..] => *first != b'0' && all_digits(text),
-    }
-}
-
-fn is_decimal(text: &[u8]) -> bool
-    ensures { result ≡ spec.is_decimal text.now }
-{
-    same_text(text, b"0") || is_positive(text)
-}
-
-/// The number whose decimal the text is, where it is at most `most`.
-#[tactic(auto, unfolding(crate::specs::Contents::number_in))]
-pub fn number(text: &[u8], most: u64) -> Option<u64>
-    ensures value { result ≡ spec.number_in most text.now }
-    ensures bound { IfSome result (λ n. n ≤ most) }
-{
-    if !is_decimal(text) {
-        return None;
-    }
-    let text = str::from_utf8(text).ok()?;
-    let number = text.parse::<u64>().ok()?;
-    if number <= most { Some(number) } else { None }
 }
 
 pub fn flag(text: &[u8]) -> Result<bool, ReplyError>
@@ -134,16 +96,16 @@ pub fn number_at(e: &Element, name: &[u8], most: u64) -> Result<u64, ReplyError>
     ensures bound { IfOk result (λ n. n ≤ most) }
 {
     let text = attribute(e, name)?;
-    match number(text, most) {
+    match decimal(text, most) {
         Some(number) => Ok(number),
         None => Err(ReplyError::NotDbgp),
     }
 }
 
 pub fn number_of_32_bits(text: &[u8]) -> Result<u32, ReplyError>
-    ensures { Finds (λ n. n) result (spec.number_in spec.most_32 text.now) }
+    ensures { Finds (λ n. n) result (decimal_in spec.most_32 text.now) }
 {
-    match number(text, u32::MAX as u64) {
+    match decimal(text, u32::MAX as u64) {
         Some(number) => Ok(number as u32),
         None => Err(ReplyError::NotDbgp),
     }

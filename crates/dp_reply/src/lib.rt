@@ -1,32 +1,21 @@
-//! The packets of DBGp as typed values, and their texts.
+//! Packets that are read, and what is read of a packet that was written. The packets themselves are those of
+//! `dp_packet`.
 #![tactic(auto)]
 
-mod breakpoints;
 mod contents;
 mod error;
-mod faults;
 mod lists;
-mod packet;
-mod parts;
-mod properties;
-mod property;
 mod read_breakpoints;
 mod read_properties;
 mod read_responses;
 mod reading;
-mod responses;
-mod texts;
 
-pub use dp_value::Memory;
-pub use error::ReplyError;
-pub use packet::{
-    Body, BreakKind, BreakLine, HitRule, Init, Notify, Packet, ProxyReply, Response, StackLine,
+pub use dp_packet::{
+    Body, BreakKind, BreakLine, HitRule, Init, Memory, Notify, Packet, Property, ProxyReply,
+    Response, Shape, StackLine, file_uri, has_message, message, reason, text_of,
 };
-pub use property::{Property, Shape};
-pub use reading::packet_of;
-pub use texts::text_of;
+pub use error::ReplyError;
+pub use reading::{packet_of, reread};
 
 #[cfg(test)]
 mod reading_tests;
-#[cfg(test)]
-mod tests;

@@ -10,8 +10,8 @@ use crate::contents::{
     optional_text, same_text, text_in,
 };
 use crate::error::ReplyError;
-use crate::packet::{BreakKind, BreakLine, HitRule};
 use dp_markup::Element;
+use dp_packet::{BreakKind, BreakLine, HitRule};
 use dp_value::Bytes;
 use std::alloc::Global;
 

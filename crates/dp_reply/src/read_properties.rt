@@ -1,9 +1,9 @@
 //! Properties as they are read.
 
-ghost use Rattle.std.specs.Prelude.{◌≡◌, IfOk};
+ghost use Rattle.std.specs.Prelude.{◌≡◌};
 ghost use Rattle.dp_markup.specs.declared.tree.Node.TheViews.{out-Node};
 ghost use Rattle.dp_markup.specs.Grammar.{limit};
-ghost use Rattle.dp_value.specs.IntText.{int_of_text};
+ghost use Rattle.dp_value.specs.IntText as int_text;
 ghost use Rattle.dp_reply.specs.Contents.{each, elements, elements_of, elements_in};
 ghost use Rattle.dp_reply.specs.Readings as spec;
 ghost use Rattle.dp_reply.specs.Verdict.{Finds, behind};
@@ -13,9 +13,9 @@ use crate::contents::{
     same_text, text_in,
 };
 use crate::error::ReplyError;
-use crate::property::{Property, Shape};
 use dp_markup::{Element, Node};
-use dp_value::{Bytes, Items, Key, Memory, Value, key_of};
+use dp_packet::{Property, Shape};
+use dp_value::{Items, int_of_text};
 use std::alloc::Global;
 
 /// Nothing that is read nests deeper.
@@ -33,22 +33,11 @@ fn bool_in(alloc: Global, e: &Element) -> Result<Shape, ReplyError>
     Ok(Shape::Bool(flag(text.as_slice())?))
 }
 
-// The integer of 64 bits that a text spells: the key that it becomes, where that is an integer.
-fn int_of(alloc: Global, text: Bytes) -> Result<Option<i64>, Memory>
-    ensures { IfOk result (λ i. i ≡ int_of_text text) }
-{
-    match key_of(alloc, &Value::Text(text)) {
-        Ok(Key::Int(number)) => Ok(Some(number)),
-        Ok(Key::Text(_)) => Ok(None),
-        Err(_) => Err(Memory),
-    }
-}
-
 fn int_in(alloc: Global, e: &Element) -> Result<Shape, ReplyError>
     ensures { Finds (λ s. s) result (spec.int_in e.now) }
 {
     let text = text_in(alloc, e)?;
-    match int_of(alloc, text)? {
+    match int_of_text(text.as_slice()) {
         Some(number) => Ok(Shape::Int(number)),
         None => Err(ReplyError::NotDbgp),
     }

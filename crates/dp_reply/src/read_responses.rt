@@ -11,12 +11,10 @@ use crate::contents::{
 };
 use crate::error::ReplyError;
 use crate::lists::{Entry, entries};
-use crate::packet::{Body, BreakLine, Response, StackLine};
-use crate::parts::put;
-use crate::property::Property;
 use crate::read_breakpoints::breakpoint_in;
 use crate::read_properties::property_in;
 use dp_markup::{Element, Node};
+use dp_packet::{Body, BreakLine, Property, Response, StackLine};
 use dp_value::{Bytes, Items, Memory};
 use std::alloc::Global;
 
@@ -185,12 +183,9 @@ fn own_attributes(
     let mut own = Vec::new(alloc);
     for attribute in attributes {
         if is_own(attribute.0.as_slice()) {
-            put(
-                alloc,
-                &mut own,
-                attribute.0.as_slice(),
-                attribute.1.as_slice(),
-            )?;
+            let name = Bytes::from_slice(alloc, attribute.0.as_slice())?;
+            let value = Bytes::from_slice(alloc, attribute.1.as_slice())?;
+            own.push((name, value))?;
         }
     }
     Ok(Items::of(own))

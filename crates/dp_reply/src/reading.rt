@@ -3,17 +3,17 @@
 ghost use Rattle.std.specs.Prelude.{◌≡◌, Err, None, IfOk, MatchResult};
 ghost use Rattle.dp_markup.specs.declared.tree.Element.{Element as Tree};
 ghost use Rattle.dp_markup.specs.Grammar.{IsMarkup};
-ghost use Rattle.dp_reply.specs.declared.packet.Packet.{Packet as Told};
+ghost use Rattle.dp_packet.specs.declared.packet.Packet.{Packet as Told};
+ghost use Rattle.dp_reply.specs.Norm.{IsRereadable, norm};
 ghost use Rattle.dp_reply.specs.Readings as spec;
 ghost use Rattle.dp_reply.specs.Verdict.{Finds};
 
 use crate::contents::{attribute, bytes, flag, is_named, number_at, only_element, text, text_in};
 use crate::error::ReplyError;
-use crate::packet::{BreakLine, Init, Notify, Packet, ProxyReply};
 use crate::read_breakpoints::breakpoint_in;
 use crate::read_responses::{error_in, response_in};
-use crate::texts::text_of;
 use dp_markup::{Element, read};
+use dp_packet::{BreakLine, Init, Notify, Packet, ProxyReply, text_of};
 use dp_value::Bytes;
 use std::alloc::Global;
 
@@ -137,4 +137,13 @@ pub fn packet_of(alloc: Global, text: &[u8]) -> Result<Packet, ReplyError>
 {
     let e = read(alloc, text)?;
     packet_in(alloc, &e)
+}
+
+/// A packet that is written and read again is the same, but for an empty body.
+pub fn reread(alloc: Global, packet: &Packet) -> Result<Packet, ReplyError>
+    requires { IsRereadable packet.now }
+    ensures { MatchResult result (λ p. p ≡ norm packet.now) (λ e. e ≡ ReplyError.Memory) }
+{
+    let text = text_of(alloc, packet)?;
+    packet_of(alloc, text.as_slice())
 }

@@ -1,7 +1,6 @@
 //! Packets that are read: those that we write, others, texts that are none, and frames of Xdebug.
 
 use super::*;
-use crate::tests::{has_message, is};
 use dp_value::Bytes;
 use std::alloc::Global;
 use std::test::Fail;
@@ -11,12 +10,23 @@ fn is_read_as(alloc: Global, text: &[u8], len: usize, element: &[u8]) -> Result<
     match packet_of(alloc, text) {
         Ok(packet) => {
             if has_message(&packet) {
-                is(alloc, &text_of(alloc, &packet)?, len, element)
+                let text = text_of(alloc, &packet)?;
+                Ok(text.len() == len && text.as_slice().ends_with(element))
             } else {
                 Ok(false)
             }
         }
         Err(_) => Ok(false),
+    }
+}
+
+/// Whether a packet that is written and read again is the same.
+fn is_again(alloc: Global) -> Result<bool, Memory> {
+    let key = Bytes::from_slice(alloc, b"A")?;
+    let packet = Packet::Proxy(ProxyReply::Stopped { key });
+    match reread(alloc, &packet) {
+        Ok(Packet::Proxy(ProxyReply::Stopped { key })) => Ok(key.as_slice() == b"A".as_slice()),
+        _ => Ok(false),
     }
 }
 
@@ -306,6 +316,7 @@ fn what_is_written_is_read(rt: HostRuntime) -> Result<(), Fail> {
     for (len, element) in &WRITTEN {
         assert!(rt; is_read_as(alloc, element, *len, element)?);
     }
+    assert!(rt; is_again(alloc)?);
     Ok(())
 }
 

@@ -1,0 +1,137 @@
+ghost use Rattle.std.specs.Prelude.{◌≡◌, ◌++◌, ◌∷◌, [], map, IfOk, OnOk};
+ghost use Rattle.dp_packet.specs.Breakpoints as spec;
+
+use crate::Memory;
+use crate::packet::{BreakKind, BreakLine, HitRule};
+use crate::parts::{
+    alone, child, put, put_flag, put_given, put_given_number, put_number, text_nodes,
+};
+use dp_markup::Node;
+use dp_value::Bytes;
+use std::alloc::Global;
+
+fn kind_name(kind: BreakKind) -> &'static [u8]
+    ensures { result.now ≡ spec.kind_name kind }
+{
+    match kind {
+        BreakKind::Line => b"line",
+        BreakKind::Call => b"call",
+        BreakKind::Return => b"return",
+        BreakKind::Conditional => b"conditional",
+    }
+}
+
+fn rule_name(rule: HitRule) -> &'static [u8]
+    ensures { result.now ≡ spec.rule_name rule }
+{
+    match rule {
+        HitRule::AtLeast => b">=",
+        HitRule::Exactly => b"==",
+        HitRule::Multiple => b"%",
+    }
+}
+
+fn state_name(enabled: bool) -> &'static [u8]
+    ensures { result.now ≡ spec.state_name enabled }
+{
+    if enabled { b"enabled" } else { b"disabled" }
+}
+
+fn put_kind(
+    alloc: Global,
+    attributes: &mut Vec<(Bytes, Bytes)>,
+    line: &BreakLine,
+) -> Result<(), Memory>
+    ensures { OnOk result (attributes.new.items ≡
+        attributes.old.items ++ spec.kind_attributes line.now) }
+{
+    put_number(alloc, attributes, b"id", line.id as u64)?;
+    put(alloc, attributes, b"type", kind_name(line.kind))?;
+    put(alloc, attributes, b"state", state_name(line.enabled))
+}
+
+fn put_place(
+    alloc: Global,
+    attributes: &mut Vec<(Bytes, Bytes)>,
+    line: &BreakLine,
+) -> Result<(), Memory>
+    ensures { OnOk result (attributes.new.items ≡
+        attributes.old.items ++ spec.place_attributes line.now) }
+{
+    put_given(alloc, attributes, b"filename", &line.uri)?;
+    put_given_number(alloc, attributes, b"lineno", line.line)?;
+    put_given(alloc, attributes, b"function", &line.function)
+}
+
+fn put_counts(
+    alloc: Global,
+    attributes: &mut Vec<(Bytes, Bytes)>,
+    line: &BreakLine,
+) -> Result<(), Memory>
+    ensures { OnOk result (attributes.new.items ≡
+        attributes.old.items ++ spec.count_attributes line.now) }
+{
+    put_number(alloc, attributes, b"hit_count", line.hits)?;
+    put_number(alloc, attributes, b"hit_value", line.hit_value as u64)?;
+    Ok(())
+}
+
+fn put_rule(
+    alloc: Global,
+    attributes: &mut Vec<(Bytes, Bytes)>,
+    rule: HitRule,
+) -> Result<(), Memory>
+    ensures { OnOk result (attributes.new.items ≡
+        attributes.old.items ++ spec.rule_attribute rule ∷ []) }
+{
+    put(alloc, attributes, b"hit_condition", rule_name(rule))
+}
+
+fn put_hits(
+    alloc: Global,
+    attributes: &mut Vec<(Bytes, Bytes)>,
+    line: &BreakLine,
+) -> Result<(), Memory>
+    ensures { OnOk result (attributes.new.items ≡
+        attributes.old.items ++ spec.hit_attributes line.now) }
+{
+    put_counts(alloc, attributes, line)?;
+    put_rule(alloc, attributes, line.hit_rule)?;
+    put_flag(alloc, attributes, b"temporary", line.temporary)?;
+    Ok(())
+}
+
+fn expression_nodes(alloc: Global, expression: &Option<Bytes>) -> Result<Vec<Node>, Memory>
+    ensures { IfOk result (λ nodes. nodes.items ≡ spec.expression_nodes expression.now) }
+{
+    match expression {
+        None => Ok(Vec::new(alloc)),
+        Some(text) => {
+            let nodes = text_nodes(alloc, text.as_slice())?;
+            alone(alloc, child(alloc, b"expression", Vec::new(alloc), nodes)?)
+        }
+    }
+}
+
+/// The element of a breakpoint.
+pub fn breakpoint_of(alloc: Global, line: &BreakLine) -> Result<Node, Memory>
+    ensures { IfOk result (λ n. n ≡ spec.breakpoint_node line.now) }
+{
+    let mut attributes = Vec::new(alloc);
+    put_kind(alloc, &mut attributes, line)?;
+    put_place(alloc, &mut attributes, line)?;
+    put_hits(alloc, &mut attributes, line)?;
+    let nodes = expression_nodes(alloc, &line.expression)?;
+    child(alloc, b"breakpoint", attributes, nodes)
+}
+
+/// The elements of breakpoints.
+pub fn breakpoint_nodes(alloc: Global, lines: &[BreakLine]) -> Result<Vec<Node>, Memory>
+    ensures { IfOk result (λ nodes. nodes.items ≡ map spec.breakpoint_node lines.now) }
+{
+    let mut nodes = Vec::new(alloc);
+    for line in lines {
+        nodes.push(breakpoint_of(alloc, line)?)?;
+    }
+    Ok(nodes)
+}

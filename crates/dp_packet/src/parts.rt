@@ -1,0 +1,163 @@
+ghost use Rattle.std.specs.Prelude.{◌≡◌, ◌++◌, ◌∷◌, [], decimal, IfOk, OnOk};
+ghost use Rattle.dp_markup.specs.declared.tree.Node.TheVariants as node;
+ghost use Rattle.dp_packet.specs.Breakpoints.{given_number};
+ghost use Rattle.dp_packet.specs.Parts as spec;
+
+use crate::Memory;
+use dp_markup::{Element, Node};
+use dp_value::{Bytes, Items};
+use itoa::Buffer;
+use std::alloc::Global;
+
+/// Puts an attribute behind the others.
+pub fn put(
+    alloc: Global,
+    attributes: &mut Vec<(Bytes, Bytes)>,
+    name: &[u8],
+    value: &[u8],
+) -> Result<(), Memory>
+    ensures { OnOk result (attributes.new.items ≡
+        attributes.old.items ++ (name.now, value.now) ∷ []) }
+{
+    let pair = (
+        Bytes::from_slice(alloc, name)?,
+        Bytes::from_slice(alloc, value)?,
+    );
+    attributes.push(pair)?;
+    Ok(())
+}
+
+pub fn put_number(
+    alloc: Global,
+    attributes: &mut Vec<(Bytes, Bytes)>,
+    name: &[u8],
+    number: u64,
+) -> Result<(), Memory>
+    ensures { OnOk result (attributes.new.items ≡
+        attributes.old.items ++ (name.now, decimal number) ∷ []) }
+{
+    let mut buffer = Buffer::new();
+    put(alloc, attributes, name, buffer.format(number).as_bytes())
+}
+
+/// Puts an attribute that may be missing.
+pub fn put_given(
+    alloc: Global,
+    attributes: &mut Vec<(Bytes, Bytes)>,
+    name: &[u8],
+    value: &Option<Bytes>,
+) -> Result<(), Memory>
+    ensures { OnOk result (attributes.new.items ≡
+        attributes.old.items ++ spec.given name.now value.now) }
+{
+    match value {
+        None => Ok(()),
+        Some(value) => put(alloc, attributes, name, value.as_slice()),
+    }
+}
+
+pub fn put_given_number(
+    alloc: Global,
+    attributes: &mut Vec<(Bytes, Bytes)>,
+    name: &[u8],
+    value: Option<u32>,
+) -> Result<(), Memory>
+    ensures { OnOk result (attributes.new.items ≡
+        attributes.old.items ++ given_number name.now value) }
+{
+    match value {
+        None => Ok(()),
+        Some(number) => put_number(alloc, attributes, name, number as u64),
+    }
+}
+
+/// Puts all of these attributes.
+pub fn put_all(
+    alloc: Global,
+    attributes: &mut Vec<(Bytes, Bytes)>,
+    more: &[(Bytes, Bytes)],
+) -> Result<(), Memory>
+    ensures { OnOk result (attributes.new.items ≡ attributes.old.items ++ more.now) }
+{
+    for attribute in more {
+        put(
+            alloc,
+            attributes,
+            attribute.0.as_slice(),
+            attribute.1.as_slice(),
+        )?;
+    }
+    Ok(())
+}
+
+pub fn put_namespace(alloc: Global, attributes: &mut Vec<(Bytes, Bytes)>) -> Result<(), Memory>
+    ensures { OnOk result (attributes.new.items ≡ attributes.old.items ++ spec.namespace ∷ []) }
+{
+    put(alloc, attributes, b"xmlns", b"urn:debugger_protocol_v1")
+}
+
+pub fn flag(value: bool) -> &'static [u8]
+    ensures { result.now ≡ spec.flag value }
+{
+    if value { b"1" } else { b"0" }
+}
+
+pub fn put_flag(
+    alloc: Global,
+    attributes: &mut Vec<(Bytes, Bytes)>,
+    name: &[u8],
+    value: bool,
+) -> Result<(), Memory>
+    ensures { OnOk result (attributes.new.items ≡
+        attributes.old.items ++ (name.now, spec.flag value) ∷ []) }
+{
+    put(alloc, attributes, name, flag(value))
+}
+
+/// An element of this name.
+pub fn element(
+    alloc: Global,
+    name: &[u8],
+    attributes: Vec<(Bytes, Bytes)>,
+    children: Vec<Node>,
+) -> Result<Element, Memory>
+    ensures { IfOk result (λ e. e ≡ spec.element name.now attributes.items children.items) }
+{
+    Ok(Element {
+        name: Bytes::from_slice(alloc, name)?,
+        attributes: Items::of(attributes),
+        children: Items::of(children),
+    })
+}
+
+/// The same, as what stands in another element.
+pub fn child(
+    alloc: Global,
+    name: &[u8],
+    attributes: Vec<(Bytes, Bytes)>,
+    children: Vec<Node>,
+) -> Result<Node, Memory>
+    ensures { IfOk result (λ n. n ≡ spec.child name.now attributes.items children.items) }
+{
+    Ok(Node::Child(element(alloc, name, attributes, children)?))
+}
+
+/// A text as what stands in an element.
+pub fn text_nodes(alloc: Global, text: &[u8]) -> Result<Vec<Node>, Memory>
+    ensures { IfOk result (λ nodes. nodes.items ≡ spec.text_nodes text.now) }
+{
+    let mut nodes = Vec::new(alloc);
+    if !text.is_empty() {
+        nodes.push(Node::Text(Bytes::from_slice(alloc, text)?))?;
+    }
+    Ok(nodes)
+}
+
+/// One node.
+pub fn alone(alloc: Global, n: Node) -> Result<Vec<Node>, Memory>
+    ensures { IfOk result (λ nodes. nodes.items ≡ n ∷ []) }
+{
+    let mut nodes = Vec::new(alloc);
+    nodes.push(n)?;
+    Ok(nodes)
+}
