@@ -1,0 +1,9 @@
+pub mod ValueLemmas
+pub mod Owners
+pub mod Pairs
+pub mod Declared
+pub mod Slots
+pub mod Homes
+pub mod Writing
+pub mod Parameters
+pub mod Kept

@@ -1,0 +1,5 @@
+pub mod States
+pub mod Variables
+pub mod Faults
+pub mod Places
+pub mod Functions

@@ -1,0 +1,51 @@
+-- Variables in the order of their first assignment.
+use Rattle.std.specs.Prelude.{ℕ, List, Option, Some, None, slice_get}
+use Rattle.std.specs.Map.{lookup, remove_entry}
+use Rattle.std.specs.Option.{option_map_or}
+use Rattle.std.specs.Str.{bytes_eq}
+use Rattle.dp_value.specs.declared.value.Value.{Value}
+use Rattle.dp_state.specs.declared.vars.Slot.{Slot}
+use Rattle.dp_state.specs.declared.vars.Slot.TheVariants.{Held, Bound}
+use Rattle.indexmap.specs.IndexMap.{insert_entry}
+
+-- names and what they have
+abbrev pub Variables : Type 0
+Variables = List (List ℕ × Slot)
+
+-- what a name has
+abbrev pub slot_of : Variables → List ℕ → Option Slot
+slot_of variables name = lookup (bytes_eq name) variables
+
+-- with a slot for a name: a name that is there keeps its place, a new one goes last
+abbrev pub with_slot : Variables → List ℕ → Slot → Variables
+with_slot variables name slot = insert_entry bytes_eq variables name slot
+
+-- without a name
+abbrev pub without : Variables → List ℕ → Variables
+without variables name = remove_entry (bytes_eq name) variables
+
+-- the value that a slot holds
+abbrev pub value_held : Option Slot → Option Value
+value_held None = None
+value_held (Some Bound) = None
+value_held (Some (Held value)) = Some value
+
+-- the value of a name that has this slot, where the global variable of its name has that value
+abbrev pub value_through : Option Slot → Option Value → Option Value
+value_through None global = None
+value_through (Some Bound) global = global
+value_through (Some (Held value)) global = Some value
+
+-- the value of a name among variables beside the global ones
+abbrev pub value_in : Variables → Variables → List ℕ → Option Value
+value_in globals variables name = value_through (slot_of variables name) (value_held (slot_of globals name))
+
+-- ---- inside the crate
+-- with the variable at a position of others
+abbrev pub with_pair : Variables → ℕ → Variables → Variables
+with_pair from at to = option_map_or (λ variable. with_slot to variable.0 variable.1) (slice_get from at) to
+
+-- a slot with a value in the place of the one that it holds
+abbrev pub with_held : Value → Slot → Slot
+with_held value (Held old) = Held value
+with_held value Bound = Bound

@@ -1,0 +1,131 @@
+//! The frames of calls and of included files.
+
+ghost use Rattle.std.specs.Prelude.{◌≡◌, ◌++◌, [], Ok, IfOk, IfErr, OnOk, OnErr};
+ghost use Rattle.dp_state.specs.States.{IsCause};
+ghost use Rattle.dp_state.specs.Functions.{any_declared as has_declared, called, included, included_frame as frame_of_file, is_declared as has_one, with_parameters};
+
+use crate::moments::FatalKind;
+use crate::state::{Fault, Frame, FrameKind, State};
+use crate::steps::FRAME_LIMIT;
+use crate::vars::{Slot, Vars};
+use dp_bundle::{Bundle, FunctionRef};
+use dp_tree::Function;
+use dp_value::{Bytes, Items, Memory, Value};
+use std::alloc::Global;
+use std::mem;
+
+impl State {
+    /// Puts a frame on top for a call of this function of a file, on the function's line, with its parameters set. Values
+    /// beyond the parameters are left out.
+    ///
+    /// `Arguments` comes exactly where there are fewer values than parameters, else `TooDeep` exactly where there would be
+    /// more than [`FRAME_LIMIT`] frames. After a refusal the state is as before.
+    pub fn call(
+        &mut self,
+        file: u32,
+        function: &Function,
+        values: Items<Value>,
+    ) -> Result<(), Fault>
+        ensures ok { OnOk result (called file function.now values self.old ≡ Ok self.new) }
+        ensures refused { IfErr result (IsCause (called file function.now values self.old)) }
+        ensures err { OnErr result (self.new ≡ self.old) }
+    {
+        if values.len() < function.parameters.len() {
+            return Err(Fault::Fatal(FatalKind::Arguments));
+        }
+        let alloc = self.allocator();
+        let frame = Frame {
+            kind: FrameKind::Called(function.name.try_clone()?),
+            file,
+            line: function.line,
+            shares: false,
+            vars: parameters(alloc, function.parameters.as_slice(), values)?,
+        };
+        self.enter(frame)
+    }
+
+    /// Puts a frame on top for this file of a bundle, on line 1, that shares the variables of the frame below it, and
+    /// declares the functions of the file in order.
+    ///
+    /// `TooDeep` comes exactly where there would be more than [`FRAME_LIMIT`] frames, else `Redeclared` exactly where a
+    /// function of the file has the name of one that is declared, in any case of letters. After a refusal the state is as
+    /// before.
+    pub fn include(&mut self, bundle: &Bundle, file: u32) -> Result<(), Fault>
+        ensures ok { OnOk result (included bundle.now file self.old ≡ Ok self.new) }
+        ensures refused { IfErr result (IsCause (included bundle.now file self.old)) }
+        ensures err { OnErr result (self.new ≡ self.old) }
+    {
+        if self.frames.len() >= FRAME_LIMIT {
+            return Err(Fault::Fatal(FatalKind::TooDeep));
+        }
+        let alloc = self.allocator();
+        let functions = bundle.functions(alloc, file)?;
+        if self.any_declared(bundle, functions.as_slice()) {
+            return Err(Fault::Fatal(FatalKind::Redeclared));
+        }
+        self.enter(included_frame(alloc, file))?;
+        match declare(alloc, &mut self.declared, functions.as_slice()) {
+            Ok(()) => Ok(()),
+            Err(Memory) => {
+                self.leave();
+                Err(Fault::Memory)
+            }
+        }
+    }
+
+    // Whether one of these functions has the name of one that is declared.
+    fn any_declared(&self, bundle: &Bundle, functions: &[FunctionRef]) -> bool
+        ensures { result ≡ has_declared bundle.now self.now.declared functions.now }
+    {
+        functions.iter().any(|f| self.is_declared(bundle, *f))
+    }
+
+    // Whether this function has the name of one that is declared.
+    fn is_declared(&self, bundle: &Bundle, reference: FunctionRef) -> bool
+        ensures { result ≡ has_one bundle.now self.now.declared reference }
+    {
+        match bundle.function(reference) {
+            Some(function) => self.function(bundle, function.name.as_slice()).is_some(),
+            None => false,
+        }
+    }
+}
+
+// Parameters with their values.
+fn parameters(alloc: Global, names: &[Bytes], values: Items<Value>) -> Result<Vars, Memory>
+    ensures { IfOk result (λ vars. vars ≡ with_parameters names.now values []) }
+{
+    let mut vars = Vars::new(alloc);
+    for (name, value) in names.iter().zip(values.into_vec()) {
+        vars.set(name.try_clone()?, Slot::Held(value))?;
+    }
+    Ok(vars)
+}
+
+// The frame of an included file.
+fn included_frame(alloc: Global, file: u32) -> Frame
+    ensures { result ≡ frame_of_file file }
+{
+    Frame {
+        kind: FrameKind::Included,
+        file,
+        line: 1,
+        shares: true,
+        vars: Vars::new(alloc),
+    }
+}
+
+// Puts functions behind those that are declared.
+fn declare(
+    alloc: Global,
+    declared: &mut Items<FunctionRef>,
+    functions: &[FunctionRef],
+) -> Result<(), Memory>
+    ensures ok { OnOk result (declared.new ≡ declared.old ++ functions.now) }
+    ensures err { OnErr result (declared.new ≡ declared.old) }
+{
+    let mut held = mem::replace(declared, Items::of(Vec::new(alloc))).into_vec();
+    let added = held.extend_from_slice(functions);
+    *declared = Items::of(held);
+    added
+}

@@ -1,0 +1,97 @@
+//! Writes and removals among variables.
+
+ghost use Rattle.std.specs.Prelude.{◌≡◌, not, is_some, None, Ok, IfOk, IfErr, OnOk, OnErr};
+ghost use Rattle.dp_state.specs.Variables.{slot_of, value_held, with_slot};
+ghost use Rattle.dp_state.specs.Places.{assigned_in, removed_in, with_null, IsCauseIn};
+ghost use Rattle.dp_state.specs.declared.vars.Slot.TheVariants as variable;
+
+use crate::state::Fault;
+use crate::vars::{Slot, Vars};
+use dp_value::{Bytes, Key, Memory, Value, remove_at, write_at};
+use std::alloc::Global;
+
+/// Gives a variable a value, or gives it to the entry of the variable under `keys`, or pushes it there.
+pub(crate) fn assign_in(
+    vars: &mut Vars,
+    name: &Bytes,
+    keys: &[Option<Key>],
+    push: bool,
+    value: Value,
+) -> Result<(), Fault>
+    ensures ok { OnOk result (assigned_in name.now keys.now push value vars.old ≡ Ok vars.new) }
+    ensures refused { IfErr result (IsCauseIn (assigned_in name.now keys.now push value vars.old)) }
+    ensures err { OnErr result (vars.new ≡ vars.old) }
+{
+    let alloc = vars.allocator();
+    let Some(mut held) = vars.exchange(name, Value::Null) else {
+        return assign_new(alloc, vars, name, keys, push, value);
+    };
+    let done = write_at(alloc, &mut held, keys, push, value);
+    let _ = vars.exchange(name, held);
+    match done {
+        Ok(()) => Ok(()),
+        Err(why) => Err(Fault::from(why)),
+    }
+}
+
+/// The same where the name holds no value yet.
+fn assign_new(
+    alloc: Global,
+    vars: &mut Vars,
+    name: &Bytes,
+    keys: &[Option<Key>],
+    push: bool,
+    value: Value,
+) -> Result<(), Fault>
+    requires { value_held (slot_of vars.old name.now) ≡ None }
+    ensures ok { OnOk result (assigned_in name.now keys.now push value vars.old ≡ Ok vars.new) }
+    ensures refused { IfErr result (IsCauseIn (assigned_in name.now keys.now push value vars.old)) }
+    ensures err { OnErr result (vars.new ≡ vars.old) }
+{
+    let mut made = Value::Null;
+    match write_at(alloc, &mut made, keys, push, value) {
+        Ok(()) => {
+            vars.set(name.try_clone()?, Slot::Held(made))?;
+            Ok(())
+        }
+        Err(why) => Err(Fault::from(why)),
+    }
+}
+
+/// Takes the entry of a variable under `keys` away. Where the name holds no value, nothing changes.
+pub(crate) fn remove_in(vars: &mut Vars, name: &Bytes, keys: &[Option<Key>]) -> Result<(), Fault>
+    ensures ok { OnOk result (removed_in name.now keys.now vars.old ≡ Ok vars.new) }
+    ensures refused { IfErr result (IsCauseIn (removed_in name.now keys.now vars.old)) }
+    ensures err { OnErr result (vars.new ≡ vars.old) }
+{
+    let Some(mut held) = vars.exchange(name, Value::Null) else {
+        return Ok(());
+    };
+    let done = remove_at(&mut held, keys);
+    let _ = vars.exchange(name, held);
+    match done {
+        Ok(()) => Ok(()),
+        Err(why) => Err(Fault::from(why)),
+    }
+}
+
+/// Gives a name null where it is missing, and says whether it was.
+pub(crate) fn make_null(vars: &mut Vars, name: &Bytes) -> Result<bool, Memory>
+    ensures made { IfOk result (λ made. made ≡ not (is_some (slot_of vars.old name.now))) }
+    ensures ok { OnOk result (vars.new ≡ with_null name.now vars.old) }
+    ensures err { OnErr result (vars.new ≡ vars.old) }
+{
+    if vars.get(name).is_some() {
+        return Ok(false);
+    }
+    vars.set(name.try_clone()?, Slot::Held(Value::Null))?;
+    Ok(true)
+}
+
+/// Gives a name the mark that it is bound.
+pub(crate) fn bind_in(vars: &mut Vars, name: &Bytes) -> Result<(), Memory>
+    ensures ok { OnOk result (vars.new ≡ with_slot vars.old name.now variable.Bound) }
+    ensures err { OnErr result (vars.new ≡ vars.old) }
+{
+    vars.set(name.try_clone()?, Slot::Bound)
+}

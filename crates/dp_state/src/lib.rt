@@ -1,0 +1,23 @@
+//! The states of a program that runs, and the steps on a state that evaluate nothing.
+#![tactic(auto)]
+
+mod calls;
+mod copies;
+mod entries;
+mod faults;
+mod functions;
+mod moments;
+mod opening;
+mod places;
+mod reading;
+mod state;
+mod steps;
+mod vars;
+
+pub use moments::{FatalKind, Moment, MomentKind, Outcome, Path};
+pub use state::{Fault, Frame, FrameKind, State};
+pub use steps::{FRAME_LIMIT, OUTPUT_LIMIT};
+pub use vars::{Slot, Vars};
+
+#[cfg(test)]
+mod tests;

@@ -1,0 +1,42 @@
+//! Where a program begins.
+
+ghost use Rattle.std.specs.Prelude.{◌≡◌, IfOk};
+ghost use Rattle.dp_state.specs.States.{first_frame, opening};
+
+use crate::state::{Frame, FrameKind, State};
+use crate::vars::Vars;
+use dp_bundle::Bundle;
+use dp_value::{Bytes, Items, Memory};
+use std::alloc::Global;
+
+impl State {
+    /// The state in which a program begins: the main frame alone, on line 1, no variables, the functions of the main
+    /// file declared, nothing written, no moment.
+    pub fn opening(alloc: Global, bundle: &Bundle) -> Result<State, Memory>
+        ensures { IfOk result (λ state. state ≡ opening bundle.now) }
+    {
+        let declared = bundle.functions(alloc, 0)?;
+        let mut frames = Vec::new(alloc);
+        frames.push(main_frame(alloc))?;
+        Ok(State {
+            frames: Items::of(frames),
+            globals: Vars::new(alloc),
+            declared,
+            output: Bytes::of(Vec::new(alloc)),
+            moments: 0,
+        })
+    }
+}
+
+// The frame of the main file, on line 1.
+fn main_frame(alloc: Global) -> Frame
+    ensures { result ≡ first_frame }
+{
+    Frame {
+        kind: FrameKind::Main,
+        file: 0,
+        line: 1,
+        shares: false,
+        vars: Vars::new(alloc),
+    }
+}

@@ -1,0 +1,154 @@
+//! Writes of variables and of their entries, and `unset` and `global`.
+
+ghost use Rattle.std.specs.Prelude.{◌≡◌, ◌≤◌, ◌<◌, ◌-◌, [], Ok, Some, length, option_map, slice_get, IfErr, OnOk, OnErr};
+ghost use Rattle.dp_state.specs.States.{own_variables, IsCause};
+ghost use Rattle.dp_state.specs.Variables.{slot_of};
+ghost use Rattle.dp_state.specs.Places.{assigned, home as home_of, is_bound as is_mark, unset, with_global, with_own, with_vars, without_variable};
+
+use crate::entries::{assign_in, bind_in, make_null, remove_in};
+use crate::state::{Fault, Frame, State};
+use crate::vars::{Slot, Vars};
+use dp_value::{Bytes, Items, Key, Memory, Value};
+use std::mem;
+
+impl State {
+    /// Gives the variable of this name at a level a value, or gives it to the entry of the variable under `keys`, or
+    /// pushes it there. A key that is `None` stands for an index that is no key. A name that is bound is the global
+    /// variable's. What is missing is created. The work grows with the number of keys, and not with what the variable
+    /// holds.
+    ///
+    /// The causes are tried key by key: `Scalar` and `Unsupported` by what holds the entry, then `BadKey`; behind the last
+    /// key `NextIndex`, then `TooHeavy`. After a refusal the state is as before.
+    pub fn assign(
+        &mut self,
+        level: usize,
+        name: &Bytes,
+        keys: &[Option<Key>],
+        push: bool,
+        value: Value,
+    ) -> Result<(), Fault>
+        ensures ok { OnOk result (assigned level name.now keys.now push value self.old ≡ Ok self.new) }
+        ensures refused { IfErr result (IsCause (assigned level name.now keys.now push value self.old)) }
+        ensures err { OnErr result (self.new ≡ self.old) }
+    {
+        let at = self.home(level, name);
+        let mut vars = self.take_own(at);
+        let done = assign_in(&mut vars, name, keys, push, value);
+        let _ = self.exchange_own(at, vars);
+        done
+    }
+
+    /// Takes a variable of the top frame away, or its entry under `keys` where there are any. A key that is `None` stands
+    /// for an index that is no key. A name that is bound is bound no more, and the global variable stays; an entry of it
+    /// is an entry of the global variable. Where the variable or an entry on the way is missing, nothing changes.
+    ///
+    /// The causes are tried key by key: `Scalar` and `Unsupported` by what holds the entry, then `BadKey`. After a refusal
+    /// the state is as before. Takes no memory.
+    pub fn unset(&mut self, name: &Bytes, keys: &[Option<Key>]) -> Result<(), Fault>
+        ensures ok { OnOk result (unset name.now keys.now self.old ≡ Ok self.new) }
+        ensures refused { IfErr result (IsCause (unset name.now keys.now self.old)) }
+        ensures err { OnErr result (self.new ≡ self.old) }
+    {
+        if keys.is_empty() {
+            self.remove(name);
+            return Ok(());
+        }
+        let at = self.home(0, name);
+        let mut vars = self.take_own(at);
+        let done = remove_in(&mut vars, name, keys);
+        let _ = self.exchange_own(at, vars);
+        done
+    }
+
+    /// Binds a name of the top frame to the global variable of this name; where that one is missing, it becomes null.
+    /// Where the top frame uses the global variables, nothing is bound. After a refusal the state is as before.
+    pub fn bind(&mut self, name: &Bytes) -> Result<(), Memory>
+        ensures ok { OnOk result (self.new ≡ with_global name.now self.old) }
+        ensures err { OnErr result (self.new ≡ self.old) }
+    {
+        let at = self.owner_at(0);
+        let made = make_null(&mut self.globals, name)?;
+        if at == 0 {
+            return Ok(());
+        }
+        let mut vars = self.take_own(at);
+        let bound = bind_in(&mut vars, name);
+        let _ = self.exchange_own(at, vars);
+        match bound {
+            Ok(()) => Ok(()),
+            Err(why) => {
+                if made {
+                    self.globals.remove(name);
+                }
+                Err(why)
+            }
+        }
+    }
+
+    // Takes a variable of the top frame away.
+    fn remove(&mut self, name: &Bytes)
+        ensures { self.new ≡ without_variable name.now self.old }
+    {
+        let at = self.owner_at(0);
+        let mut vars = self.take_own(at);
+        vars.remove(name);
+        let _ = self.exchange_own(at, vars);
+    }
+
+    // The position of the frame among whose own variables a variable at a level stands.
+    fn home(&self, level: usize, name: &Bytes) -> usize
+        ensures home { result ≡ home_of self.now level name.now }
+        ensures within { result ≤ length self.now.frames - 1 }
+    {
+        if is_bound(self.variables(level), name) {
+            return 0;
+        }
+        self.owner_at(level)
+    }
+
+    // Takes the own variables of the frame at this position out, and leaves none there.
+    fn take_own(&mut self, at: usize) -> Vars
+        requires { at ≤ length self.old.frames - 1 }
+        ensures taken { result ≡ own_variables self.old at }
+        ensures left { self.new ≡ with_own at [] self.old }
+    {
+        let alloc = self.allocator();
+        self.exchange_own(at, Vars::new(alloc))
+    }
+
+    // Gives the frame at this position its own variables, and gives those out that it had.
+    fn exchange_own(&mut self, at: usize, vars: Vars) -> Vars
+        requires { at ≤ length self.old.frames - 1 }
+        ensures taken { result ≡ own_variables self.old at }
+        ensures given { self.new ≡ with_own at vars self.old }
+    {
+        if at == 0 {
+            return mem::replace(&mut self.globals, vars);
+        }
+        let alloc = self.allocator();
+        let mut frames = mem::replace(&mut self.frames, Items::of(Vec::new(alloc))).into_vec();
+        let old = exchange_vars(&mut frames, at, vars);
+        self.frames = Items::of(frames);
+        old
+    }
+}
+
+// Gives the frame at this position its own variables, and gives those out that it had.
+fn exchange_vars(frames: &mut Vec<Frame>, at: usize, vars: Vars) -> Vars
+    requires { at < length frames.old.items }
+    ensures taken { option_map (λ frame. frame.vars) (slice_get frames.old.items at) ≡ Some result }
+    ensures given { frames.new.items ≡ with_vars at vars frames.old.items }
+{
+    mem::replace(&mut frames[at].vars, vars)
+}
+
+// Whether a name is bound to the global variable of its name.
+fn is_bound(vars: &Vars, name: &Bytes) -> bool
+    ensures { result ≡ is_mark (slot_of vars.now name.now) }
+{
+    match vars.get(name) {
+        Some(Slot::Bound) => true,
+        Some(Slot::Held(_)) => false,
+        None => false,
+    }
+}
