@@ -1,4 +1,5 @@
 pub mod Causes
+pub mod Changes
 pub mod Fakes
 pub mod Files
 pub mod Hosts

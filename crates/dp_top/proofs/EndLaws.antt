@@ -13,7 +13,7 @@ use Rattle.dp_top.specs.declared.sessions.SessionEnd.{SessionEnd}
 use Rattle.dp_top.specs.declared.sessions.SessionEnd.TheVariants.{Finished}
 use Rattle.dp_top.specs.Exchanges.{Stands, Converses}
 use Rattle.dp_top.specs.Folds.{Reply, quiet, unless_ended, followed, replies}
-use Rattle.dp_top.specs.Links.{Change, change}
+use Rattle.dp_outside.specs.Changes.{Change, change}
 use Rattle.dp_top.specs.Serving.{EndsBy, IsServed, Serves, RanOn, CanRunOn, outcome_of}
 use Rattle.dp_top.specs.Sessions.{State, opening, step, served, alone, own, ending, unshown}
 use Rattle.dp_top.specs.Texts.{init_text}

@@ -1,6 +1,9 @@
 pub mod EndLaws
+pub mod FileLaws
 pub mod FrontLaws
 pub mod ProgramLaws
 pub mod OutputLaws
 pub mod ServingLaws
 pub mod TalkLaws
+pub mod TaskLaws
+pub mod TextLaws

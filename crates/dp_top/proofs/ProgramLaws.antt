@@ -1,8 +1,8 @@
 -- A tree is that of one list of numbers, or breaks the form.
 use Rattle.std.proofs.Common.{◌≡◌, ◌≢◌, ◌+◌, ◌<◌, ◌≤◌, ℕ, suc, List, [], ◌∷◌, ◌++◌, length, map, take, drop, get_or, refl, sym, ap, ◌∙◌, inl, inr, drop-cons}
 use Rattle.std.proofs.lemmas.List.{take_more, take_all, take-append-drop, map-append}
-use Rattle.dp_parse.specs.declared.tree.File.{File}
-use Rattle.dp_parse.specs.declared.tree.Statement.{Statement}
+use Rattle.dp_tree.specs.declared.tree.File.{File}
+use Rattle.dp_tree.specs.declared.tree.Statement.{Statement}
 use Rattle.dp_top.specs.Numbers.{echo, kinds, IsThin, HasOther, BreaksAt}
 
 same_echo : (m n : ℕ) → echo m ≡ echo n → m ≡ n

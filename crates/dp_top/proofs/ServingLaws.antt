@@ -6,7 +6,7 @@ use Rattle.std.proofs.KnownBytes.{Appends-nil, Appends-trans, Consumes-nil, Cons
 use Rattle.std.proofs.lemmas.List.Concat.{flat_map-append}
 use Rattle.dp_wire.specs.Frames.{IsCommand, command_frame, commands_in, packet_frame, BeginsCommand}
 use Rattle.dp_top.specs.Folds.{Reply, quiet, unless_ended, followed, replies}
-use Rattle.dp_top.specs.Links.{Change, change}
+use Rattle.dp_outside.specs.Changes.{Change, change}
 use Rattle.dp_top.specs.Exchanges.{Stands, Delivers, Reached, Conversation}
 
 module _ {S E : Type 0} where

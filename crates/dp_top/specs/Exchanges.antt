@@ -10,7 +10,7 @@ use Rattle.dp_top.specs.declared.serving.Piece.{Piece}
 use Rattle.dp_top.specs.declared.serving.Piece.TheVariants.{Came, End, Failed}
 use Rattle.dp_top.specs.declared.sessions.SessionEnd.{SessionEnd}
 use Rattle.dp_top.specs.Folds.{Reply, replies, followed}
-use Rattle.dp_top.specs.Links.{Change}
+use Rattle.dp_outside.specs.Changes.{Change}
 use Rattle.dp_top.specs.Serving.{EndsBy}
 use Rattle.dp_top.specs.declared.serving.ServeEnd.{ServeEnd}
 

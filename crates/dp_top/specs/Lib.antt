@@ -1,9 +1,10 @@
 pub mod Answers
 pub mod CommandLine
 pub mod Exchanges
+pub mod Failures
+pub mod Files
 pub mod Folds
 pub mod Fronts
-pub mod Links
 pub mod Numbers
 pub mod Orders
 pub mod Phases
@@ -12,4 +13,5 @@ pub mod Serving
 pub mod Sessions
 pub mod Sources
 pub mod Talk
+pub mod Tasks
 pub mod Texts

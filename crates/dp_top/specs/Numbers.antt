@@ -3,12 +3,12 @@
 use Rattle.std.specs.Prelude.{◌≡◌, ◌≢◌, ℕ, pos, min, ◌⊎◌, List, [], ◌∷◌, ◌++◌, length, take, map}
 use Rattle.std.specs.List.{flat_map}
 use Rattle.std.specs.Fmt.{decimal}
-use Rattle.dp_parse.specs.declared.tree.Expression.TheVariants as expression
-use Rattle.dp_parse.specs.declared.tree.File.{File}
-use Rattle.dp_parse.specs.declared.tree.Function.{Function}
-use Rattle.dp_parse.specs.declared.tree.Statement.{Statement}
-use Rattle.dp_parse.specs.declared.tree.StatementKind.{StatementKind}
-use Rattle.dp_parse.specs.declared.tree.StatementKind.TheVariants as statement
+use Rattle.dp_tree.specs.declared.tree.Expression.TheVariants as expression
+use Rattle.dp_tree.specs.declared.tree.File.{File}
+use Rattle.dp_tree.specs.declared.tree.Function.{Function}
+use Rattle.dp_tree.specs.declared.tree.Statement.{Statement}
+use Rattle.dp_tree.specs.declared.tree.StatementKind.{StatementKind}
+use Rattle.dp_tree.specs.declared.tree.StatementKind.TheVariants as statement
 use Rattle.dp_parse.specs.Programs.{IsFile}
 
 -- ---- their trees

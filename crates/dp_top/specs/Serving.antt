@@ -9,7 +9,7 @@ use Rattle.dp_top.specs.declared.sessions.Outcome.{Outcome}
 use Rattle.dp_top.specs.declared.sessions.Outcome.TheVariants.{Done}
 use Rattle.dp_top.specs.declared.sessions.SessionEnd.{SessionEnd}
 use Rattle.dp_top.specs.declared.sessions.SessionEnd.TheVariants.{Finished}
-use Rattle.dp_top.specs.Links.{Change}
+use Rattle.dp_outside.specs.Changes.{Change}
 use Rattle.dp_top.specs.Sessions.{alone, own, ending}
 
 -- the most bytes that one session reads

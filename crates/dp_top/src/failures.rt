@@ -1,8 +1,8 @@
 //! Why a command fails, and what is told of it.
 ghost use Rattle.std.specs.Prelude.{◌≡◌, ◌⊎◌, ◌≤◌, ◌++◌, ℕ, IfOk, codes, decimal};
-ghost use Rattle.dp_top.specs.Links.{change};
+ghost use Rattle.dp_outside.specs.Changes.{change};
 ghost use Rattle.dp_top.specs.Sources.{failure_of, reason_name, bad_source};
-ghost use Rattle.dp_top.specs.Talk.{status_of, line_of, Says};
+ghost use Rattle.dp_top.specs.Failures.{status_of, line_of, Says};
 
 use dp_lexer::LexError;
 use dp_outside::Sink;
@@ -54,7 +54,9 @@ pub enum Failure {
     NoFile,
     /// An output failed.
     Output,
-    /// No command stands at this offset from the first byte read.
+    /// The input ended inside a frame.
+    PeerEnd,
+    /// No command and no packet stands at this offset from the first byte read.
     Packet { offset: u64 },
     /// The link failed.
     Network,
@@ -131,6 +133,7 @@ impl Failure {
             Failure::ShelfFailed => 202,
             Failure::NoFile => 202,
             Failure::Output => 203,
+            Failure::PeerEnd => 206,
             Failure::Packet { offset: _ } => 207,
             Failure::Network => 208,
             Failure::Memory => 209,
@@ -148,6 +151,7 @@ impl Failure {
             Failure::ShelfFailed => named(alloc, b"shelf failed ", file, b"\n"),
             Failure::NoFile => named(alloc, b"no file ", file, b"\n"),
             Failure::Output => Bytes::from_slice(alloc, b"output failed\n"),
+            Failure::PeerEnd => Bytes::from_slice(alloc, b"peer ended\n"),
             Failure::Packet { offset } => bad_packet(alloc, offset),
             Failure::Network => Bytes::from_slice(alloc, b"network failed\n"),
             Failure::Memory => Bytes::from_slice(alloc, b"out of memory\n"),

@@ -3,6 +3,7 @@
 
 mod bytes;
 mod command_line;
+mod commands;
 mod failures;
 mod orders;
 mod programs;

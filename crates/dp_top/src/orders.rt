@@ -55,20 +55,21 @@ pub fn is_transaction_id(bytes: &[u8]) -> bool
 }
 
 /// Whether each byte is a letter or digit of ASCII.
-pub fn are_alphanumeric(bytes: &[u8]) -> bool
+fn are_alphanumeric(bytes: &[u8]) -> bool
     ensures { result ≡ list_all is_alphanumeric bytes.now }
 {
     bytes.iter().all(|byte| alphanumeric(*byte))
 }
 
 /// Whether the byte is a letter or digit of ASCII.
-pub fn alphanumeric(byte: u8) -> bool
+fn alphanumeric(byte: u8) -> bool
     ensures { result ≡ is_alphanumeric byte }
 {
     in_range(48, 57, byte) || in_range(65, 90, byte) || in_range(97, 122, byte)
 }
 
-fn in_range(low: u8, high: u8, byte: u8) -> bool
+/// Whether the byte lies between these two, or is one of them.
+pub fn in_range(low: u8, high: u8, byte: u8) -> bool
     ensures { result ≡ between low high byte }
 {
     low <= byte && byte <= high

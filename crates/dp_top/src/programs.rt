@@ -1,7 +1,7 @@
 //! Programs of numbers, out of the text of a file.
 ghost use Rattle.std.specs.Prelude.{◌≡◌, ◌≢◌, ◌≤◌, ℕ, List, min, length, IfOk, IfErr, IfSome, IfNone, MatchResult};
 ghost use Rattle.dp_top.specs.Numbers.{echo, or_function, IsThin, IsProgramOf};
-ghost use Rattle.dp_top.specs.Talk.{file_limit, TreeCaused, ContentCaused};
+ghost use Rattle.dp_top.specs.Files.{file_limit, TreeCaused, ContentCaused};
 
 use crate::failures::{Failure, refusal};
 use dp_parse::{Expression, File, Function, StatementKind, parse_file};

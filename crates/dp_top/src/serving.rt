@@ -4,7 +4,7 @@ ghost use Rattle.std.specs.List.{flat_map, AllByRecursion};
 ghost use Rattle.std.specs.Io.KnownBytes.{Appends};
 ghost use Rattle.dp_outside.specs.Causes.{HasCause, Rose};
 ghost use Rattle.dp_wire.specs.Frames.{IsPacketText, packet_frame};
-ghost use Rattle.dp_top.specs.Links.{change};
+ghost use Rattle.dp_outside.specs.Changes.{change};
 ghost use Rattle.dp_top.specs.Sessions.{opening, step, unshown};
 ghost use Rattle.dp_top.specs.Texts.{init_text};
 ghost use Rattle.dp_top.specs.Exchanges.{Delivers, AnswersHeld, ReadsPiece, Converses};

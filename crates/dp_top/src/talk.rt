@@ -1,8 +1,10 @@
 //! The command `talk`: one session over the program's own input and output.
 ghost use Rattle.std.specs.Prelude.{◌≡◌, ◌≢◌, ◌≤◌, ℕ, List, IfOk, IfErr, MatchResult};
 ghost use Rattle.dp_top.specs.CommandLine.{IsKey, IsFileName};
-ghost use Rattle.dp_top.specs.Links.{change};
-ghost use Rattle.dp_top.specs.Talk.{IsProgram, FileCaused, Talks, Caused, judged, status_of, Tells, IsAccepted};
+ghost use Rattle.dp_outside.specs.Changes.{change};
+ghost use Rattle.dp_top.specs.Failures.{status_of};
+ghost use Rattle.dp_top.specs.Files.{IsProgram, FileCaused, Tells, IsAccepted};
+ghost use Rattle.dp_top.specs.Talk.{Talks, TalkCaused, judged};
 
 use crate::command_line::Talk;
 use crate::failures::Failure;
@@ -64,7 +66,7 @@ pub fn talk<H: Shelf, S: Source, K: Sink, E: Sink>(
         (λ _. Talks (H.files shelf.old) request.entry.key.now request.entry.file.now
         (change S.left S.faults input.old input.new) (change K.taken K.faults out.old out.new)
         (change E.taken E.faults err.old err.new))
-        (λ failure. Caused failure (H.files shelf.old) (H.faults shelf.old) (H.faults shelf.new)
+        (λ failure. TalkCaused failure (H.files shelf.old) (H.faults shelf.old) (H.faults shelf.new)
         request.entry.key.now request.entry.file.now
         (change S.left S.faults input.old input.new) (change K.taken K.faults out.old out.new)
         (change E.taken E.faults err.old err.new)) }

@@ -15,6 +15,11 @@ const PROGRAM: &str = "<?php\necho 7;\n";
 const INIT: &str = "208 <init@ appid=\"dbgp\" idekey=\"K\" session=\"\" thread=\"1\" parent=\"\" \
 language=\"PHP\" protocol_version=\"1.0\" fileuri=\"file:///a.php\"></init>";
 
+/// The key and the name of the file stand there as the packet has them.
+const ENCODED: &str =
+    "220 <init@ appid=\"dbgp\" idekey=\"&amp;K\" session=\"\" thread=\"1\" parent=\"\" \
+language=\"PHP\" protocol_version=\"1.0\" fileuri=\"file:///a%20b%25.php\"></init>";
+
 const STARTING: &str =
     "164 <response@ command=\"status\" transaction_id=\"9\" status=\"starting\" reason=\"ok\"></response>";
 
@@ -39,6 +44,8 @@ const SESSION: &[u8] = b"step_into -i 1\0run -i 2\0run -i 3\0";
 #[derive(Clone, Copy)]
 struct Row<'a> {
     words: &'a [&'a str],
+    /// The name and the content of the only file.
+    name: &'a str,
     file: &'a str,
     input: &'a [u8],
     cut: usize,
@@ -48,12 +55,15 @@ struct Row<'a> {
     err_fails: u64,
     status: u8,
     packets: &'a [&'a str],
+    /// What stands on the output behind the packets.
+    shown: &'a [u8],
     err: &'a str,
 }
 
 /// The session of one `echo`, served whole.
 const WHOLE: Row<'static> = Row {
     words: &["talk", "K", "a.php"],
+    name: "a.php",
     file: PROGRAM,
     input: SESSION,
     cut: 0,
@@ -63,7 +73,18 @@ const WHOLE: Row<'static> = Row {
     err_fails: 0,
     status: 0,
     packets: &[INIT, BREAK, STOPPING, STOPPED],
+    shown: b"",
     err: "7",
+};
+
+/// One packet, shown.
+const SHOWN: Row<'static> = Row {
+    words: &["show"],
+    input: b"7\0<a></a>\0",
+    packets: &[],
+    shown: b"<a></a>\n",
+    err: "",
+    ..WHOLE
 };
 
 /// A list with this number, or with none where it is 0.
@@ -106,7 +127,7 @@ fn call<R: Wait + Sync + Threads + Send>(
     for word in row.words {
         words.push(String::from_str(alloc, word)?)?;
     }
-    let name = String::from_str(alloc, "a.php")?;
+    let name = String::from_str(alloc, row.name)?;
     let content = Vec::from_slice(alloc, row.file.as_bytes())?;
     let mut shelf = MapShelf::new(
         vec![in alloc; (name, content)]?,
@@ -141,15 +162,16 @@ fn check<R: Wait + Sync + Threads + Send + Abort>(
     row: Row<'_>,
 ) -> Result<(), Memory> {
     let (status, out, err) = call(rt, alloc, row)?;
-    let packets = wire(alloc, row.packets)?;
+    let mut wanted = wire(alloc, row.packets)?;
+    wanted.extend_from_slice(row.shown)?;
     assert_eq!(rt; status, row.status, "{name}");
-    assert_eq!(rt; out.taken(), packets.as_slice(), "{name}");
+    assert_eq!(rt; out.taken(), wanted.as_slice(), "{name}");
     assert_eq!(rt; err.taken(), row.err.as_bytes(), "{name}");
     Ok(())
 }
 
 /// Sessions that go well.
-const SESSIONS: [(&str, Row<'static>); 10] = [
+const SESSIONS: [(&str, Row<'static>); 11] = [
     ("a whole session", WHOLE),
     ("byte by byte", Row { cut: 1, ..WHOLE }),
     (
@@ -214,6 +236,16 @@ const SESSIONS: [(&str, Row<'static>); 10] = [
         },
     ),
     (
+        "a key and a name with other bytes",
+        Row {
+            words: &["talk", "&K", "/a b%.php"],
+            name: "/a b%.php",
+            input: b"",
+            packets: &[ENCODED],
+            ..WHOLE
+        },
+    ),
+    (
         "no line feed",
         Row {
             file: "<?php\necho 7;",
@@ -222,8 +254,57 @@ const SESSIONS: [(&str, Row<'static>); 10] = [
     ),
 ];
 
+/// Packets that are shown.
+const SHOWS: [(&str, Row<'static>); 6] = [
+    ("a packet", SHOWN),
+    (
+        "a shelf that nobody uses",
+        Row {
+            shelf_fails: 1,
+            ..SHOWN
+        },
+    ),
+    (
+        "half a packet",
+        Row {
+            input: b"7\0<a></a>\x007\0<a></a>",
+            status: 206,
+            err: "peer ended\n",
+            ..SHOWN
+        },
+    ),
+    (
+        "what is no markup",
+        Row {
+            input: b"7\0<a></a>\x003\0<a/\0",
+            status: 207,
+            err: "bad packet offset 10\n",
+            ..SHOWN
+        },
+    ),
+    (
+        "an input that fails",
+        Row {
+            input_fails: 2,
+            status: 208,
+            err: "network failed\n",
+            ..SHOWN
+        },
+    ),
+    (
+        "an output that fails",
+        Row {
+            out_fails: 1,
+            status: 203,
+            shown: b"",
+            err: "output failed\n",
+            ..SHOWN
+        },
+    ),
+];
+
 /// Words and names of files that are refused.
-const REFUSALS: [(&str, Row<'static>); 5] = [
+const REFUSALS: [(&str, Row<'static>); 8] = [
     (
         "no words",
         Row {
@@ -245,9 +326,41 @@ const REFUSALS: [(&str, Row<'static>); 5] = [
         },
     ),
     (
+        "a word too many",
+        Row {
+            words: &["show", "x"],
+            status: 200,
+            packets: &[],
+            err: "usage\n",
+            ..WHOLE
+        },
+    ),
+    (
         "a key that is none",
         Row {
             words: &["talk", "-k", "a.php"],
+            status: 200,
+            packets: &[],
+            err: "usage\n",
+            ..WHOLE
+        },
+    ),
+    (
+        "an option that is none",
+        Row {
+            words: &["talk", "K", "-a.php"],
+            name: "-a.php",
+            status: 200,
+            packets: &[],
+            err: "usage\n",
+            ..WHOLE
+        },
+    ),
+    (
+        "an empty name",
+        Row {
+            words: &["talk", "K", ""],
+            name: "",
             status: 200,
             packets: &[],
             err: "usage\n",
@@ -374,6 +487,9 @@ const FAULTS: [(&str, Row<'static>); 4] = [
 #[test]
 fn sessions_refusals_and_faults(rt: HostRuntime) -> Result<(), Fail> {
     for (name, row) in SESSIONS {
+        check(&rt, rt.alloc(), name, row)?;
+    }
+    for (name, row) in SHOWS {
         check(&rt, rt.alloc(), name, row)?;
     }
     for (name, row) in REFUSALS {

@@ -1,52 +1,76 @@
 //! The texts of the packets that are sent.
-ghost use Rattle.std.specs.Prelude.{◌≡◌, ◌+◌, ◌≤◌, length, IfOk, codes};
+ghost use Rattle.std.specs.Prelude.{◌≡◌, ◌≤◌, [], ◌∷◌, true, length, codes, IfOk};
+ghost use Rattle.dp_packet.specs.declared.packet.Packet.TheVariants as packet;
+ghost use Rattle.dp_packet.specs.Packets.{has_words};
+ghost use Rattle.dp_packet.specs.Text.{text};
 ghost use Rattle.dp_wire.specs.Frames.{IsPacketText};
-ghost use Rattle.dp_top.specs.Texts.{without_slash, init_packet, init_text, state_text, unknown_text};
+ghost use Rattle.dp_top.specs.Texts.{init_text, state_text, unknown_text};
 
-use dp_value::{Bytes, Memory};
+use dp_packet::{Body, Init, Packet, Response, file_uri, text_of};
+use dp_value::{Bytes, Items, Memory};
 use std::alloc::Global;
 
-const DECLARATION: &[u8] = b"<?xml version=\"1.0\" encoding=\"iso-8859-1\"?>\n";
-
-/// A file's name without one leading `/`.
-#[tactic(auto, unfolding(crate::specs::Texts::without_slash))]
-fn relative(name: &[u8]) -> &[u8]
-    ensures text { result.now ≡ without_slash name.now }
-    ensures short { length result.now ≤ length name.now }
-{
-    match name {
-        [b'/', rest @ ..] => rest,
-        _ => name,
-    }
-}
-
-/// The packet that opens a session of this key over this file.
+/// The packet that opens a session of this key over the file of this name.
+#[tactic(auto, unfolding(crate::specs::Texts::init_text))]
 pub fn init(alloc: Global, key: &[u8], file: &[u8]) -> Result<Bytes, Memory>
     requires key { length key.now ≤ 128 }
     requires file { length file.now ≤ 255 }
     ensures text { IfOk result (λ text. text ≡ init_text key.now file.now) }
     ensures is_text { IfOk result IsPacketText }
 {
-    packet_of(alloc, key, relative(file))
+    let idekey = Bytes::from_slice(alloc, key)?;
+    let fileuri = file_uri(alloc, file)?;
+    text_of(alloc, &Packet::Init(Init { idekey, fileuri }))
 }
 
-fn packet_of(alloc: Global, key: &[u8], path: &[u8]) -> Result<Bytes, Memory>
-    requires key { length key.now ≤ 128 }
-    requires path { length path.now ≤ 255 }
-    ensures text { IfOk result (λ text. text ≡ init_packet key.now path.now) }
-    ensures is_text { IfOk result IsPacketText }
+/// An attribute.
+fn attribute(alloc: Global, name: &[u8], value: &[u8]) -> Result<(Bytes, Bytes), Memory>
+    ensures { IfOk result (λ pair. pair ≡ (name.now, value.now)) }
 {
-    let mut text = Vec::from_slice(alloc, DECLARATION)?;
-    text.extend_from_slice(b"<init xmlns=\"urn:debugger_protocol_v1\" appid=\"dbgp\" idekey=\"")?;
-    text.extend_from_slice(key)?;
-    text.extend_from_slice(b"\" session=\"\" thread=\"1\" parent=\"\" language=\"PHP\" ")?;
-    text.extend_from_slice(b"protocol_version=\"1.0\" fileuri=\"file:///")?;
-    text.extend_from_slice(path)?;
-    text.extend_from_slice(b"\"></init>")?;
-    Ok(Bytes::of(text))
+    let name = Bytes::from_slice(alloc, name)?;
+    let value = Bytes::from_slice(alloc, value)?;
+    Ok((name, value))
+}
+
+/// The attributes of a response that tells a status.
+fn attributes(alloc: Global, status: &[u8]) -> Result<Items<(Bytes, Bytes)>, Memory>
+    ensures { IfOk result (λ list. list ≡ (codes "status", status.now) ∷ (codes "reason", codes "ok") ∷ []) }
+{
+    let mut list = Vec::new(alloc);
+    list.push(attribute(alloc, b"status", status)?)?;
+    list.push(attribute(alloc, b"reason", b"ok")?)?;
+    Ok(Items::of(list))
+}
+
+/// The text of a response.
+fn response(
+    alloc: Global,
+    command: &[u8],
+    id: &[u8],
+    attributes: Items<(Bytes, Bytes)>,
+    body: Body,
+) -> Result<Bytes, Memory>
+    requires { has_words body ≡ true }
+    ensures { IfOk result (λ bytes. bytes ≡ text (packet.Response (record {
+      command = command.now;
+      id = id.now;
+      attributes = attributes;
+      body = body;
+    }))) }
+{
+    let command = Bytes::from_slice(alloc, command)?;
+    let id = Bytes::from_slice(alloc, id)?;
+    let packet = Packet::Response(Response {
+        command,
+        id,
+        attributes,
+        body,
+    });
+    text_of(alloc, &packet)
 }
 
 /// The response to a command that tells a status.
+#[tactic(auto, unfolding(crate::specs::Texts::state_text))]
 pub fn state(alloc: Global, command: &[u8], id: &[u8], status: &[u8]) -> Result<Bytes, Memory>
     requires command { length command.now ≤ 64 }
     requires id { length id.now ≤ 64 }
@@ -54,25 +78,16 @@ pub fn state(alloc: Global, command: &[u8], id: &[u8], status: &[u8]) -> Result<
     ensures text { IfOk result (λ text. text ≡ state_text command.now id.now status.now) }
     ensures is_text { IfOk result IsPacketText }
 {
-    let mut text = Vec::from_slice(alloc, DECLARATION)?;
-    text.extend_from_slice(b"<response xmlns=\"urn:debugger_protocol_v1\" command=\"")?;
-    text.extend_from_slice(command)?;
-    text.extend_from_slice(b"\" transaction_id=\"")?;
-    text.extend_from_slice(id)?;
-    text.extend_from_slice(b"\" status=\"")?;
-    text.extend_from_slice(status)?;
-    text.extend_from_slice(b"\" reason=\"ok\"></response>")?;
-    Ok(Bytes::of(text))
+    let attributes = attributes(alloc, status)?;
+    response(alloc, command, id, attributes, Body::Nothing)
 }
 
 /// The response to a line that is no command.
+#[tactic(auto, unfolding(crate::specs::Texts::unknown_text))]
 pub fn unknown(alloc: Global) -> Result<Bytes, Memory>
     ensures text { IfOk result (λ text. text ≡ unknown_text) }
     ensures is_text { IfOk result IsPacketText }
 {
-    let mut text = Vec::from_slice(alloc, DECLARATION)?;
-    text.extend_from_slice(b"<response xmlns=\"urn:debugger_protocol_v1\" ")?;
-    text.extend_from_slice(b"command=\"\" transaction_id=\"\"><error code=\"4\">")?;
-    text.extend_from_slice(b"<message>unimplemented command</message></error></response>")?;
-    Ok(Bytes::of(text))
+    let none = Items::of(Vec::new(alloc));
+    response(alloc, b"", b"", none, Body::Fault(4))
 }

@@ -1,34 +1,38 @@
 //! The top call.
 ghost use Rattle.std.specs.Prelude.{◌≡◌, ◌≢◌, ◌↔◌, ◌⊎◌, ◌≤◌, ℕ, List, codes, map, string_bytes};
 ghost use Rattle.dp_outside.specs.Causes.{Rose};
-ghost use Rattle.dp_top.specs.CommandLine.{IsTalk};
-ghost use Rattle.dp_top.specs.Links.{change};
-ghost use Rattle.dp_top.specs.Talk.{Says, IsUntouched, IsDone, Fails, Tells, IsAccepted, IsRefused, NoneRose};
+ghost use Rattle.dp_outside.specs.Changes.{change, IsUntouched};
+ghost use Rattle.dp_top.specs.CommandLine.{IsTalk, Task, Asks};
+ghost use Rattle.dp_top.specs.Failures.{Says};
+ghost use Rattle.dp_top.specs.Files.{Tells, IsAccepted, IsRefused};
+ghost use Rattle.dp_top.specs.Tasks.{IsDone, Fails, NoneRose};
 
 use crate::command_line::read_words;
+use crate::commands::carry_out;
 use crate::failures::{report, say};
-use crate::talk::talk;
 use dp_outside::{Net, Shelf, Sink, Source, Spawner};
 use std::alloc::Global;
 use std::sync::Wait;
 
 /// Does what the words of a command line ask for, and answers the status with which the program ends.
 ///
-/// `words` are the command line without the program's name. The one command is `talk KEY FILE`: it serves a session
-/// of KEY over the program in FILE, with `input` and `out` as the link, and the program's own output on `err`.
+/// `words` are the command line without the program's name: `talk KEY FILE` serves a session of KEY over the program in
+/// FILE, with `input` and `out` as the link, and the program's own output on `err`; `show` reads framed packets from
+/// `input` and prints the element of each on `out`, in canonical text with a line feed.
 ///
 /// | status | comes | line on `err` |
 /// |---|---|---|
-/// | 0 | the session went well | none |
+/// | 0 | the session went well; all packets are shown | none |
 /// | 200 | the words ask for nothing | `usage` |
 /// | 201 | the file is too long, no program, or none of numbers | `bad source NAME REASON NUMBER` |
 /// | 202 | the shelf failed, or has no such file | `shelf failed NAME`, `no file NAME` |
 /// | 203 | an output failed | `output failed` |
-/// | 207 | bytes stand in no command's place, or too many came | `bad packet offset N` |
+/// | 206 | the input of `show` ended inside a frame | `peer ended` |
+/// | 207 | bytes stand in no command's or packet's place, a packet's text is no markup, or too many came | `bad packet offset N` |
 /// | 208 | the input failed | `network failed` |
 /// | 209 | want of memory | `out of memory` |
 ///
-/// It waits in the calls of `input` alone. `net` and `spawner` are not used.
+/// It waits in the calls of `input` alone. `show` does not use the shelf; `net` and `spawner` are not used.
 pub fn top<R: Wait + Sync, H: Shelf, S: Source, K: Sink, E: Sink, N: Net, P: Spawner>(
     rt: &R,
     alloc: Global,
@@ -40,7 +44,7 @@ pub fn top<R: Wait + Sync, H: Shelf, S: Source, K: Sink, E: Sink, N: Net, P: Spa
     net: &mut N,
     spawner: &mut P,
 ) -> u8
-    ensures usage { (result ≡ 200) ↔ ((key file : List ℕ) → IsTalk (map string_bytes words.now) key file → ⊥) }
+    ensures usage { (result ≡ 200) ↔ ((task : Task) → Asks (map string_bytes words.now) task → ⊥) }
     ensures usage_told { result ≡ 200 → Says (change E.taken E.faults err.old err.new) (codes "usage\n") }
     ensures usage_input { result ≡ 200 → IsUntouched (change S.left S.faults input.old input.new) }
     ensures usage_out { result ≡ 200 → IsUntouched (change K.taken K.faults out.old out.new) }
@@ -59,11 +63,17 @@ pub fn top<R: Wait + Sync, H: Shelf, S: Source, K: Sink, E: Sink, N: Net, P: Spa
         → NoneRose (H.faults shelf.old) (H.faults shelf.new) (change S.left S.faults input.old input.new)
         (change K.taken K.faults out.old out.new) (change E.taken E.faults err.old err.new)
         → (result ≡ 0) ⊎ (result ≡ 207) ⊎ (result ≡ 209) }
+    // Where no count rose, every packet is shown, or the input ended inside one, or what is no packet is told.
+    ensures complete_show { Asks (map string_bytes words.now) Task.show
+        → NoneRose (H.faults shelf.old) (H.faults shelf.new) (change S.left S.faults input.old input.new)
+        (change K.taken K.faults out.old out.new) (change E.taken E.faults err.old err.new)
+        → (result ≡ 0) ⊎ (result ≡ 206) ⊎ (result ≡ 207) ⊎ (result ≡ 209) }
     // Where it is too long or no program, it is refused, unless the shelf fails first.
     ensures refused { (key file content : List ℕ) → IsTalk (map string_bytes words.now) key file
         → Tells (H.files shelf.old) file content → IsRefused content
         → (result ≡ 201) ⊎ (result ≡ 209) ⊎ Rose (H.faults shelf.old) (H.faults shelf.new) }
 
+    ensures show_shelf { Asks (map string_bytes words.now) Task.show → H.faults shelf.new ≡ H.faults shelf.old }
     ensures files { H.files shelf.new ≡ H.files shelf.old }
     ensures net { N.faults net.new ≡ N.faults net.old }
     ensures spawner { P.faults spawner.new ≡ P.faults spawner.old }
@@ -77,9 +87,9 @@ pub fn top<R: Wait + Sync, H: Shelf, S: Source, K: Sink, E: Sink, N: Net, P: Spa
             say(err, b"usage\n");
             200
         }
-        Some(request) => match talk(alloc, request, shelf, input, out, err) {
+        Some(command) => match carry_out(alloc, command, shelf, input, out, err) {
             Ok(()) => 0,
-            Err(failure) => report(alloc, failure, request.file.as_bytes(), err),
+            Err(failure) => report(alloc, failure, command.file(), err),
         },
     }
 }

@@ -54,6 +54,13 @@ impl Packets {
         &self.bytes[self.from..]
     }
 
+    /// How many bytes of the stream were dropped: the place of the first byte held. Stays at 2^64 - 1. Takes no memory.
+    pub fn dropped(&self) -> u64
+        ensures { result ≡ self.now.dropped }
+    {
+        self.dropped
+    }
+
     /// Appends a piece of the stream. On want of memory all stays as before.
     pub fn feed(&mut self, piece: &[u8]) -> Result<(), Memory>
         ensures ok { OnOk result (self.new.held ≡ self.old.held ++ piece.now) }

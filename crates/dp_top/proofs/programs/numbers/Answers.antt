@@ -1,5 +1,5 @@
 use Rattle.std.proofs.Common.{◌≡◌, List, map, sym, ap, ◌∙◌, subst, inl}
-use Rattle.dp_parse.specs.declared.tree.Statement.{Statement}
+use Rattle.dp_tree.specs.declared.tree.Statement.{Statement}
 use Rattle.dp_top.specs.Numbers.{echo, kinds, HasOther, or_function}
 use Rattle.dp_top.proofs.ProgramLaws.{same_numbers, broken_is_none, other_at, echoes_all}
 use Rattle.dp_top.proofs.programs.numbers.Goals as goal

@@ -1,5 +1,5 @@
 use Rattle.std.proofs.Common.{sym, ap, ◌∙◌, subst}
-use Rattle.dp_parse.specs.declared.tree.File.{File}
+use Rattle.dp_tree.specs.declared.tree.File.{File}
 use Rattle.dp_top.specs.Numbers.{IsThin}
 use Rattle.dp_top.specs.Sources.{failure_of}
 use Rattle.dp_top.proofs.programs.read_program.Goals as goal

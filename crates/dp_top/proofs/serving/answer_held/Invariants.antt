@@ -1,6 +1,6 @@
 use Rattle.std.proofs.Common.{◌≡◌, ◌≤◌, None, length}
 use Rattle.dp_top.specs.Exchanges.{Reached}
-use Rattle.dp_top.specs.Links.{change}
+use Rattle.dp_outside.specs.Changes.{change}
 use Rattle.dp_top.specs.Sessions.{step}
 use Rattle.dp_top.proofs.serving.answer_held.Given as goal
 

@@ -3,7 +3,7 @@ use Rattle.std.specs.List.{flat_map}
 use Rattle.dp_wire.specs.Frames.{IsPartialCommand, command_frame}
 use Rattle.dp_wire.proofs.NextLaws.{none_partial}
 use Rattle.dp_top.specs.Exchanges.{Conversation}
-use Rattle.dp_top.specs.Links.{change}
+use Rattle.dp_outside.specs.Changes.{change}
 use Rattle.dp_top.specs.Sessions.{step}
 use Rattle.dp_top.specs.declared.sessions.SessionEnd.{SessionEnd}
 use Rattle.dp_top.specs.declared.sessions.SessionEnd.TheVariants.{Finished}

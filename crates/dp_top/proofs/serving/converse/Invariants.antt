@@ -1,7 +1,7 @@
 use Rattle.std.proofs.Common.{◌≡◌, ◌≤◌, ◌-◌, ℕ, None, List, length}
 use Rattle.dp_wire.specs.Frames.{IsPartialCommand}
 use Rattle.dp_top.specs.Exchanges.{Conversation}
-use Rattle.dp_top.specs.Links.{change}
+use Rattle.dp_outside.specs.Changes.{change}
 use Rattle.dp_top.specs.Serving.{byte_limit}
 use Rattle.dp_top.specs.Sessions.{step}
 use Rattle.dp_top.proofs.serving.converse.Given as goal

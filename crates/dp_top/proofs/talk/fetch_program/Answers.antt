@@ -1,6 +1,6 @@
-use Rattle.dp_top.proofs.TalkLaws.{fetched_ok, fetched_err, fetched_accepted, memory_alone}
+use Rattle.dp_top.proofs.FileLaws.{fetched_ok, fetched_err, fetched_accepted, memory_alone}
 use Rattle.std.proofs.Common.{sym, subst}
-use Rattle.dp_top.specs.Talk.{IsAccepted}
+use Rattle.dp_top.specs.Files.{IsAccepted}
 use Rattle.dp_top.proofs.talk.fetch_program.Goals as goal
 
 pub returns-in-Ok-clause-ok : goal.returns-in-Ok-clause-ok

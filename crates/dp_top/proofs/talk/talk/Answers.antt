@@ -1,6 +1,6 @@
 use Rattle.std.proofs.Common.{◌≡◌, ℕ, List, sym, ap, ◌∙◌, subst}
 use Rattle.dp_top.specs.Sessions.{State}
-use Rattle.dp_top.specs.Talk.{IsProgram}
+use Rattle.dp_top.specs.Files.{IsProgram}
 use Rattle.dp_top.specs.Texts.{init_text}
 use Rattle.dp_top.proofs.TalkLaws.{judged_is}
 use Rattle.dp_top.proofs.talk.talk.Goals as goal

@@ -1,5 +1,5 @@
--- What a call does to the objects of the outside that it is lent.
-use Rattle.std.specs.Prelude.{ℕ, List}
+-- What a call does to an object of the outside that it is lent.
+use Rattle.std.specs.Prelude.{◌≡◌, ℕ, List}
 use Rattle.std.specs.declared.option.Option.{Option}
 
 -- what an object told and how often it had failed, before a call and after it
@@ -12,3 +12,7 @@ pub record Change : Type 0 where
 abbrev pub change : {X : Type 0} → (X → Option (List ℕ)) → (X → ℕ) → X → X → Change
 change told faults before after =
     record { told_before = told before; told = told after; faults_before = faults before; faults = faults after }
+
+-- nothing was read or written, and nothing failed
+abbrev pub IsUntouched : Change → Type 0
+IsUntouched object = (object.told ≡ object.told_before) × (object.faults ≡ object.faults_before)

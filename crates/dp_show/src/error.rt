@@ -1,0 +1,44 @@
+use std::alloc::{AllocError, AllocFailed};
+use thiserror::Error;
+
+/// Why not all that is read was shown.
+#[derive(Clone, Copy, Debug, PartialEq, Eq, Error)]
+pub enum ShowError {
+    /// The input ended inside a frame.
+    #[error("the input ended inside a frame")]
+    PeerEnd,
+    /// What stands at this offset from the first byte read is no packet: no frame begins with that byte, or the text of
+    /// the frame that begins there is no markup within 64 levels.
+    #[error("bad packet at offset {offset}")]
+    BadPacket { offset: u64 },
+    /// The input failed.
+    #[error("the input failed")]
+    ReadFault,
+    /// The output failed.
+    #[error("the output failed")]
+    OutFault,
+    #[error("out of memory")]
+    Memory,
+}
+
+impl From<AllocError> for ShowError {
+    ghost use Rattle.std.specs.Prelude.{◌≡◌};
+    ghost use Rattle.dp_show.specs.declared.error.ShowError.TheVariants.{Memory as WantOfMemory};
+
+    ghost from_gives = { λ _ e. e ≡ WantOfMemory };
+
+    fn from(_: AllocError) -> ShowError {
+        ShowError::Memory
+    }
+}
+
+impl<T: Drop> From<AllocFailed<T>> for ShowError {
+    ghost use Rattle.std.specs.Prelude.{◌≡◌};
+    ghost use Rattle.dp_show.specs.declared.error.ShowError.TheVariants.{Memory as WantOfMemory};
+
+    ghost from_gives = { λ _ e. e ≡ WantOfMemory };
+
+    fn from(_: AllocFailed<T>) -> ShowError {
+        ShowError::Memory
+    }
+}

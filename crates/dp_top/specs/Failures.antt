@@ -1,0 +1,49 @@
+-- What is told of a failure: a status, and a line on the error output.
+use Rattle.std.specs.Prelude.{◌⊎◌, ℕ, ◌≤◌, List, ◌++◌, codes, Option}
+use Rattle.std.specs.Fmt.{decimal}
+use Rattle.std.specs.Io.KnownBytes.{Appends}
+use Rattle.dp_outside.specs.Causes.{Rose}
+use Rattle.dp_outside.specs.Changes.{Change}
+use Rattle.dp_outside.specs.Streams.{AppendsFront}
+use Rattle.dp_top.specs.declared.failures.Failure.{Failure}
+use Rattle.dp_top.specs.declared.failures.Failure.TheVariants.{TooLong, NotThin, Source, ShelfFailed, NoFile, Output, PeerEnd, Packet, Network, Memory}
+use Rattle.dp_top.specs.Files.{file_limit}
+use Rattle.dp_top.specs.Sources.{reason_name, bad_source}
+
+-- the status that the call answers
+abbrev pub status_of : Failure → ℕ
+status_of TooLong = 201
+status_of (Source reason number) = 201
+status_of (NotThin line) = 201
+status_of ShelfFailed = 202
+status_of NoFile = 202
+status_of Output = 203
+status_of PeerEnd = 206
+status_of (Packet offset) = 207
+status_of Network = 208
+status_of Memory = 209
+
+-- the line on the error output
+abbrev pub line_of : Failure → List ℕ → List ℕ
+line_of TooLong name = bad_source name (codes "TooLong") file_limit
+line_of (Source reason number) name = bad_source name (reason_name reason) number
+line_of (NotThin line) name = bad_source name (codes "NotThin") line
+line_of ShelfFailed name = codes "shelf failed " ++ name ++ codes "\n"
+line_of NoFile name = codes "no file " ++ name ++ codes "\n"
+line_of Output name = codes "output failed\n"
+line_of PeerEnd name = codes "peer ended\n"
+line_of (Packet offset) name = codes "bad packet offset " ++ decimal offset ++ codes "\n"
+line_of Network name = codes "network failed\n"
+line_of Memory name = codes "out of memory\n"
+
+-- the line was put, or the put failed and a front of it stands there
+abbrev pub Says : Change → List ℕ → Type 0
+Says err line = Appends err.told_before err.told line ⊎ (Rose err.faults_before err.faults × AppendsFront err.told_before err.told line)
+
+-- the object first changed so, and then the line was said
+pub record ThenSays (err : Change) (First : Change → Type 0) (line : List ℕ) : Type 0 where
+  pub between : Option (List ℕ)
+  pub faults_between : ℕ
+  pub first : First (record { told_before = err.told_before; told = between; faults_before = err.faults_before; faults = faults_between })
+  pub later : faults_between ≤ err.faults
+  pub says : Says (record { told_before = between; told = err.told; faults_before = faults_between; faults = err.faults }) line

@@ -1,0 +1,71 @@
+-- The answers of the top call: what each task does, and why it fails.
+use Rattle.std.specs.Prelude.{◌≡◌, ◌⊎◌, ℕ, List, Result, Ok, Err}
+use Rattle.dp_outside.specs.Causes.{Rose}
+use Rattle.dp_outside.specs.Changes.{Change, IsUntouched}
+use Rattle.dp_show.specs.declared.error.ShowError.{ShowError}
+use Rattle.dp_show.specs.declared.error.ShowError.TheVariants as ends
+use Rattle.dp_show.specs.Shows.{Shows, Ends}
+use Rattle.dp_top.specs.declared.failures.Failure.{Failure}
+use Rattle.dp_top.specs.declared.failures.Failure.TheVariants.{TooLong, NotThin, Source, ShelfFailed, NoFile, Output, PeerEnd, Packet, Network, Memory}
+use Rattle.dp_top.specs.CommandLine.{Task, talk, show, Asks, file_of}
+use Rattle.dp_top.specs.Failures.{status_of, line_of, ThenSays}
+use Rattle.dp_top.specs.Files.{Files}
+use Rattle.dp_top.specs.Talk.{Talks, TalkCaused}
+
+-- ---- `show`
+
+-- the failure that an end of `show` is
+abbrev pub failure_of : ShowError → Failure
+failure_of ends.PeerEnd = PeerEnd
+failure_of (ends.BadPacket offset) = Packet offset
+failure_of ends.ReadFault = Network
+failure_of ends.OutFault = Output
+failure_of ends.Memory = Memory
+
+-- why it failed
+abbrev pub ShowCaused : Failure → Change → Change → Type 0
+ShowCaused PeerEnd input out = Ends (Err ends.PeerEnd) input out
+ShowCaused (Packet offset) input out = Ends (Err (ends.BadPacket offset)) input out
+ShowCaused Network input out = Ends (Err ends.ReadFault) input out
+ShowCaused Output input out = Ends (Err ends.OutFault) input out
+ShowCaused Memory input out = Ends (Err ends.Memory) input out
+ShowCaused TooLong input out = ⊥
+ShowCaused (Source reason number) input out = ⊥
+ShowCaused (NotThin line) input out = ⊥
+ShowCaused ShelfFailed input out = ⊥
+ShowCaused NoFile input out = ⊥
+
+-- ---- each task
+
+-- it went well
+abbrev pub Does : Task → Files → Change → Change → Change → Type 0
+Does (talk key file) files input out err = Talks files key file input out err
+Does show files input out err = Shows (Ok tt) input out × IsUntouched err
+
+-- why it failed
+abbrev pub Caused : Failure → Task → Files → ℕ → ℕ → Change → Change → Change → Type 0
+Caused failure (talk key file) files before after input out err = TalkCaused failure files before after key file input out err
+Caused failure show files before after input out err = ShowCaused failure input out × IsUntouched err
+
+-- ---- the answers
+
+-- A status but 0 and 200 is that of a failure: it has its cause, and its line is said.
+pub record Fails (status : ℕ) (words : List (List ℕ)) (files : Files) (before after : ℕ) (input out err : Change) : Type 0 where
+  pub task : Task
+  pub asks : Asks words task
+  pub failure : Failure
+  pub is_status : status ≡ status_of failure
+  pub told : ThenSays err (Caused failure task files before after input out) (line_of failure (file_of task))
+
+-- The words are in their grammar, and what they ask for went well.
+pub record IsDone (words : List (List ℕ)) (files : Files) (input out err : Change) : Type 0 where
+  pub task : Task
+  pub asks : Asks words task
+  pub does : Does task files input out err
+
+-- no count of faults rose
+pub record NoneRose (before after : ℕ) (input out err : Change) : Type 0 where
+  pub shelf : Rose before after → ⊥
+  pub input_not : Rose input.faults_before input.faults → ⊥
+  pub out_not : Rose out.faults_before out.faults → ⊥
+  pub err_not : Rose err.faults_before err.faults → ⊥
