@@ -485,13 +485,23 @@ const FAULTS: [(&str, Row<'static>); 4] = [
 ];
 
 #[test]
-fn sessions_refusals_and_faults(rt: HostRuntime) -> Result<(), Fail> {
+fn sessions_go_well(rt: HostRuntime) -> Result<(), Fail> {
     for (name, row) in SESSIONS {
         check(&rt, rt.alloc(), name, row)?;
     }
+    Ok(())
+}
+
+#[test]
+fn packets_are_shown(rt: HostRuntime) -> Result<(), Fail> {
     for (name, row) in SHOWS {
         check(&rt, rt.alloc(), name, row)?;
     }
+    Ok(())
+}
+
+#[test]
+fn refusals_and_faults(rt: HostRuntime) -> Result<(), Fail> {
     for (name, row) in REFUSALS {
         check(&rt, rt.alloc(), name, row)?;
     }
