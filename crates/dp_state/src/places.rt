@@ -43,7 +43,7 @@ impl State {
     /// is an entry of the global variable. Where the variable or an entry on the way is missing, nothing changes.
     ///
     /// The causes are tried key by key: `Scalar` and `Unsupported` by what holds the entry, then `BadKey`. After a refusal
-    /// the state is as before. Takes no memory.
+    /// the state is as before.
     pub fn unset(&mut self, name: &Bytes, keys: &[Option<Key>]) -> Result<(), Fault>
         ensures ok { OnOk result (unset name.now keys.now self.old ≡ Ok self.new) }
         ensures refused { IfErr result (IsCause (unset name.now keys.now self.old)) }
