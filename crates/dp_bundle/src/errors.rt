@@ -1,0 +1,40 @@
+ghost use Rattle.std.specs.Prelude.{◌≡◌};
+
+use dp_parse::ParseError;
+use dp_value::Memory;
+use std::alloc::AllocFailed;
+use thiserror::Error;
+
+/// Why files are no program. A file is named by its number, from 0.
+#[derive(Debug, Drop, Error)]
+pub enum BundleError {
+    /// The file is not in the grammar.
+    #[error("{error}")]
+    Source { file: u32, error: ParseError },
+    /// The file is longer than [`FILE_LIMIT`](crate::FILE_LIMIT).
+    #[error("file {file} is too long")]
+    TooLong { file: u32 },
+    /// Want of memory.
+    #[error("out of memory")]
+    Memory,
+}
+
+impl From<Memory> for BundleError {
+    ghost use Rattle.dp_bundle.specs.declared.errors.BundleError.TheVariants as error;
+
+    ghost from_gives = { λ _ e. e ≡ error.Memory };
+
+    fn from(_refused: Memory) -> BundleError {
+        BundleError::Memory
+    }
+}
+
+impl<T: Drop> From<AllocFailed<T>> for BundleError {
+    ghost use Rattle.dp_bundle.specs.declared.errors.BundleError.TheVariants as error;
+
+    ghost from_gives = { λ _ e. e ≡ error.Memory };
+
+    fn from(_refused: AllocFailed<T>) -> BundleError {
+        BundleError::Memory
+    }
+}

@@ -1,0 +1,71 @@
+//! The making of a bundle.
+
+ghost use Rattle.std.specs.Prelude.{◌≡◌, ◌⊎◌, ◌≤◌, length, Result, Err, IfOk, IfErr, MatchResult};
+ghost use Rattle.std.specs.Prelude.{List};
+ghost use Rattle.dp_bundle.specs.Bundles.{file_limit, AreForBundle, IsAnswer, IsBundleFile, IsRefused, Makes, source_of as named_source};
+ghost use Rattle.dp_bundle.specs.declared.bundle.Bundle.{Bundle as Made};
+ghost use Rattle.dp_bundle.specs.declared.errors.BundleError.{BundleError as Refusal};
+ghost use Rattle.dp_bundle.specs.declared.bundle.BundleFile.{BundleFile as MadeFile};
+
+use crate::bundle::{Bundle, BundleFile, FILE_LIMIT};
+use crate::errors::BundleError;
+use dp_parse::{ParseError, parse_file};
+use dp_value::{Bytes, Items};
+use std::alloc::Global;
+
+// The refusal of the file of this number, whose text has no tree.
+fn source_of(number: u32, why: ParseError) -> BundleError
+    ensures { result ≡ named_source number why }
+{
+    match why {
+        ParseError::Memory => BundleError::Memory,
+        error => BundleError::Source {
+            file: number,
+            error,
+        },
+    }
+}
+
+// The file of this number.
+fn file_of(alloc: Global, number: u32, name: Bytes, text: Bytes) -> Result<BundleFile, BundleError>
+    ensures made { IfOk result (λ file. IsBundleFile (name, text) file) }
+    ensures cause { IfErr result (λ e. (e ≡ BundleError.Memory) ⊎ IsRefused number text e) }
+    ensures only { (file : MadeFile) → IsBundleFile (name, text) file →
+        MatchResult result (λ made. made ≡ file) (λ e. e ≡ BundleError.Memory) }
+    ensures refuses { (why : Refusal) → IsRefused number text why →
+        MatchResult result (λ _. ⊥) (λ e. (e ≡ why) ⊎ (e ≡ BundleError.Memory)) }
+{
+    if text.len() > FILE_LIMIT {
+        return Err(BundleError::TooLong { file: number });
+    }
+    match parse_file(alloc, text.as_slice()) {
+        Ok(tree) => Ok(BundleFile { name, text, tree }),
+        Err(why) => Err(source_of(number, why)),
+    }
+}
+
+impl Bundle {
+    /// The program of these files, by their names and texts; the first is the main file.
+    ///
+    /// The first file that is refused is named: `TooLong` where it is longer than [`FILE_LIMIT`], else `Source` where
+    /// it is not in the grammar. Takes time linear in the bytes.
+    pub fn new(alloc: Global, files: Items<(Bytes, Bytes)>) -> Result<Bundle, BundleError>
+        requires { AreForBundle files }
+        // What is answered is what the files make, unless memory runs out.
+        ensures made { (result ≡ Err BundleError.Memory) ⊎ Makes files result }
+        // Files make one thing alone, and that is answered, unless memory runs out.
+        ensures only { (asked : Result Made Refusal) → Makes files asked → IsAnswer asked result }
+    {
+        let mut made = Vec::new(alloc);
+        for (name, text) in files.into_vec() {
+            let file = match file_of(alloc, made.len() as u32, name, text) {
+                Ok(file) => file,
+                Err(why) => return Err(why),
+            };
+            made.push(file)?;
+        }
+        Ok(Bundle {
+            files: Items::of(made),
+        })
+    }
+}
