@@ -1,0 +1,105 @@
+-- Calls and included files by how many frames more can be on the stack, and names that are bound.
+use Rattle.std.proofs.Common.{◌≡◌, ℕ, zero, suc, ◌-◌, pos, List, [], Result, Ok, Err, refl, sym, ap, ◌∙◌, arith}
+use Rattle.dp_bundle.specs.declared.bundle.Bundle.{Bundle}
+use Rattle.dp_state.specs.declared.moments.FatalKind.TheVariants.{TooDeep}
+use Rattle.dp_state.specs.declared.state.State.{State}
+use Rattle.dp_tree.specs.declared.tree.Function.{Function}
+use Rattle.dp_value.specs.declared.value.Value.{Value}
+use Rattle.dp_value.specs.declared.value.Value.TheVariants.{Int}
+use Rattle.dp_state.specs.Functions.{included}
+use Rattle.dp_state.specs.States.{left}
+use Rattle.dp_meaning.specs.declared.halt.Halt.{Halt}
+use Rattle.dp_meaning.specs.declared.signal.Signal.{Signal}
+use Rattle.dp_meaning.specs.declared.signal.Signal.TheVariants.{Next}
+use Rattle.dp_meaning.specs.Drive.{Rules, Reached, Gives, Ends, Stops, Evaluates}
+use Rattle.dp_meaning.specs.Calls.{call_run, callee}
+use Rattle.dp_meaning.specs.Loops.{do_turns, turns}
+use Rattle.dp_meaning.specs.Programs.{file_run, function_run, returned, setting_of, statements_of}
+use Rattle.dp_meaning.specs.Run.{Run, Done, and_then, fatal, taken}
+use Rattle.dp_meaning.specs.Setting.{Part}
+use Rattle.dp_meaning.specs.Statements.{body_run}
+use Rattle.dp_meaning.proofs.Drives.{breaks_off}
+
+module _ (bundle : Bundle) (bound depth : ℕ) where
+  pub setting-bundle : (setting_of bundle bound depth).bundle ≡ bundle
+  unfolding setting_of
+  setting-bundle = go depth
+    where
+      go : (depth : ℕ) → (setting_of bundle bound depth).bundle ≡ bundle
+      go zero = refl
+      go (suc depth) = refl
+
+  pub setting-bound : (setting_of bundle bound depth).bound ≡ bound
+  unfolding setting_of
+  setting-bound = go depth
+    where
+      go : (depth : ℕ) → (setting_of bundle bound depth).bound ≡ bound
+      go zero = refl
+      go (suc depth) = refl
+
+  -- a call in the bundle
+  pub call-is : (name : List ℕ) (arguments : Part (List Value)) (s : State)
+      → call_run (callee (setting_of bundle bound depth).bundle name s) arguments (setting_of bundle bound depth) s
+      ≡ call_run (callee bundle name s) arguments (setting_of bundle bound depth) s
+  call-is name arguments s = ap (λ (b : Bundle). call_run (callee b name s) arguments (setting_of bundle bound depth) s) setting-bundle
+
+  -- loops whose turns are bounded by what parts go by
+  module _ (line : ℕ) (body : State → Run Signal) (s : State) where
+    pub bounded-turns : (test next : State → Run (List Value))
+        → turns (setting_of bundle bound depth).bound line test next body s ≡ turns bound line test next body s
+    bounded-turns test next = ap (λ (n : ℕ). turns n line test next body s) setting-bound
+
+    pub bounded-do : (test : State → Run Value) → do_turns (setting_of bundle bound depth).bound line test body s ≡ do_turns bound line test body s
+    bounded-do test = ap (λ (n : ℕ). do_turns n line test body s) setting-bound
+
+  -- the run of a file of the bundle
+  pub file-is : (file : ℕ) (s : State) → file_run file (setting_of bundle bound depth) s
+      ≡ and_then (taken (included bundle file s) s) (λ _ t.
+      and_then (body_run (statements_of bundle file) (setting_of bundle bound depth) t) (λ g u. Done (returned (Int (pos 1)) g) (left u)))
+  file-is file s =
+      ap (λ (b : Bundle). and_then (taken (included b file s) s) (λ _ t.
+      and_then (body_run (statements_of b file) (setting_of bundle bound depth) t) (λ g u. Done (returned (Int (pos 1)) g) (left u))))
+      setting-bundle
+
+  pub zero-call : depth ≡ 0 → (file : ℕ) (f : Function) (values : List Value) (s : State)
+      → (setting_of bundle bound depth).call file f values s ≡ fatal TooDeep s
+  unfolding setting_of
+  zero-call e file f values s = rw e refl
+
+  pub zero-include : depth ≡ 0 → (file : ℕ) (s : State) → (setting_of bundle bound depth).include file s ≡ fatal TooDeep s
+  unfolding setting_of
+  zero-include e file s = rw e refl
+
+  pub suc-call : (depth ≡ 0 → ⊥) → (file : ℕ) (f : Function) (values : List Value) (s : State)
+      → (setting_of bundle bound depth).call file f values s ≡ function_run file f values (setting_of bundle bound (depth - 1)) s
+  unfolding setting_of
+  suc-call differs file f values s = go depth differs
+    where
+      go : (depth : ℕ) → (depth ≡ 0 → ⊥) → (setting_of bundle bound depth).call file f values s
+          ≡ function_run file f values (setting_of bundle bound (depth - 1)) s
+      go zero differs = absurd (differs refl)
+      go (suc depth) differs = let e : suc depth - 1 ≡ depth = omega arith in rw e refl
+
+  pub suc-include : (depth ≡ 0 → ⊥) → (file : ℕ) (s : State) → (setting_of bundle bound depth).include file s
+      ≡ file_run file (setting_of bundle bound (depth - 1)) s
+  unfolding setting_of
+  suc-include differs file s = go depth differs
+    where
+      go : (depth : ℕ) → (depth ≡ 0 → ⊥) → (setting_of bundle bound depth).include file s ≡ file_run file (setting_of bundle bound (depth - 1)) s
+      go zero differs = absurd (differs refl)
+      go (suc depth) differs = let e : suc depth - 1 ≡ depth = omega arith in rw e refl
+
+-- a step that gives nothing, as a statement
+abbrev as_next : Reached Unit → Reached Signal
+as_next (Gives a s) = Gives Next s
+as_next (Ends o s) = Ends o s
+as_next (Stops m s) = Stops m s
+
+pub then-next : {rules : Rules} {s t : State} → Evaluates {A = Unit} rules (Done tt s) (Ok tt) t → Evaluates rules (Done Next s) (Ok Next) t
+then-next e = record { meets = ap as_next e.meets }
+
+-- and one that breaks off
+pub next-off : {rules : Rules} {s t : State} {h : Halt} → Evaluates {A = Unit} rules (Done tt s) (Err h) t
+    → Evaluates {A = Signal} rules (Done Next s) (Err h) t
+unfolding and_then
+next-off e = breaks_off (λ _ u. Done Next u) e

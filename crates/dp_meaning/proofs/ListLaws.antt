@@ -1,0 +1,54 @@
+-- Lists of parts, one element after another.
+use Rattle.std.proofs.Common.{◌≡◌, ℕ, zero, suc, ◌+◌, ◌<◌, List, [], ◌∷◌, ◌++◌, length, get_or, drop, drop-cons, add-one, map, Some, slice_get, arith, Result, Ok, Err, refl, sym, ap, ◌∙◌, subst, append_assoc, append-nil}
+use Rattle.dp_state.specs.declared.state.State.{State}
+use Rattle.dp_tree.specs.declared.tree.Expression.{Expression}
+use Rattle.dp_value.specs.declared.value.Value.{Value}
+use Rattle.dp_meaning.specs.declared.halt.Halt.{Halt}
+use Rattle.dp_meaning.specs.Drive.{Rules, Evaluates}
+use Rattle.dp_meaning.specs.Expressions.{evaluation, evaluations}
+use Rattle.dp_meaning.specs.Run.{Run, Done, and_then}
+use Rattle.dp_meaning.specs.Setting.{Setting}
+use Rattle.dp_meaning.proofs.Drives.{gives, breaks_off, goes_on}
+use Rattle.dp_meaning.proofs.Runs.{and_then-assoc, and_then-Done}
+
+-- the elements from one on
+pub front : {X : Type 0} (xs : List X) (i : ℕ) (x : X) → i < length xs → x ≡ get_or xs i x → drop i xs ≡ x ∷ drop (i + 1) xs
+front xs i x within is = rw (add-one, drop-cons xs i x) (ap (λ y. y ∷ drop (suc i) xs) (sym is))
+
+-- the element at a position, and the elements from there on
+pub front-at : {X : Type 0} (xs : List X) (i : ℕ) → i < length xs → (x : X) × (slice_get xs i ≡ Some x) × (drop i xs ≡ x ∷ drop (suc i) xs)
+front-at [] i h = absurd (omega arith)
+front-at (y ∷ ys) zero h = (y, refl, refl)
+front-at (y ∷ ys) (suc i) h = let r = front-at ys i (omega arith) in (r.0, r.1, r.2)
+
+-- ---- values of expressions, where some are there
+
+abbrev pub more_values : List Expression → List Value → Setting → State → Run (List Value)
+more_values es done setting s = and_then (evaluations es setting s) (λ values t. Done (done ++ values) t)
+
+module _ (rules : Rules) (setting : Setting) where
+  pub values-first : (es : List Expression) (s : State) (x : Result (List Value) Halt) (t : State)
+      → Evaluates rules (more_values es [] setting s) x t → Evaluates rules (evaluations es setting s) x t
+  values-first es s x t e = subst (λ r. Evaluates rules r x t) (and_then-Done (evaluations es setting s)) e
+
+  pub values-all : (done : List Value) (s : State) → Evaluates rules (more_values [] done setting s) (Ok done) s
+  unfolding and_then
+  values-all done s = subst (λ l. Evaluates rules (Done l s) (Ok done) s) (sym (append-nil done)) gives
+
+  module _ (e : Expression) (es : List Expression) (done : List Value) (s t : State) where
+    pub values-break : (h : Halt) → Evaluates rules (evaluation e setting s) (Err h) t
+        → Evaluates rules (more_values (e ∷ es) done setting s) (Err h) t
+    values-break h ev = breaks_off _ (breaks_off _ ev)
+
+    joined : (v : Value) (u : State) → and_then (and_then (evaluations es setting u) (λ values w. Done (v ∷ values) w)) (λ values w. Done
+        (done ++ values) w)
+        ≡ more_values es (done ++ v ∷ []) setting u
+    unfolding and_then
+    joined v u = and_then-assoc (evaluations es setting u) (λ values w. Done (v ∷ values) w) (λ values w. Done (done ++ values) w)
+        ∙ (λ i. and_then (evaluations es setting u) (λ values w. Done (sym (append_assoc done (v ∷ []) values) i) w))
+
+    pub values-more : (v : Value) (x : Result (List Value) Halt) (u : State) → Evaluates rules (evaluation e setting s) (Ok v) t
+        → Evaluates rules (more_values es (done ++ v ∷ []) setting t) x u → Evaluates rules (more_values (e ∷ es) done setting s) x u
+    values-more v x u ev more =
+        subst (λ r. Evaluates rules r x u) (sym (and_then-assoc (evaluation e setting s) _ (λ values w. Done (done ++ values) w)))
+        (goes_on _ ev (subst (λ r. Evaluates rules r x u) (sym (joined v t)) more))

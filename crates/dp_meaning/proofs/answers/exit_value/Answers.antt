@@ -1,0 +1,17 @@
+use Rattle.std.proofs.Common.{sym, ◌∙◌}
+use Rattle.dp_meaning.proofs.Drives.{breaks_off, ends, goes_on}
+use Rattle.dp_meaning.proofs.Tails.{step-err, step-ok}
+use Rattle.dp_meaning.proofs.answers.exit_value.Goals as goal
+
+pub returns-in-Some : goal.returns-in-Some
+returns-in-Some c = λ rules. rw (c.in-Int.is, sym c.status.ensures ∙ c.in-Some.is) ends
+
+pub returns-in-None : goal.returns-in-None
+returns-in-None c = λ rules. rw (c.in-Int.is, sym c.status.ensures ∙ c.in-None.is, c.fatal.ensures) ends
+
+pub returns-in-Ok : goal.returns-in-Ok
+returns-in-Ok c = λ rules. rw c.in-Text.is (goes_on _ (step-ok rules _ _ _ (rw c.as_slice.ensures at c.in-Ok.ensures.ok)) ends)
+
+pub returns-in-Err : goal.returns-in-Err
+returns-in-Err c = λ rules.
+    rw (c.in-Text.is, c.fault.ensures, c.in-Err.ensures.err) (breaks_off _ (step-err rules _ _ _ (rw c.as_slice.ensures at c.in-Err.ensures.refused)))

@@ -1,0 +1,273 @@
+-- The measures of the evaluator's recursion, and what its loops keep: what the rest of a list gives, the whole list gives.
+use Rattle.std.proofs.Common.{◌≡◌, ℕ, ◌+◌, ◌-◌, ◌*◌, max, List, map, drop, Option, Result}
+use Rattle.std.specs.Prelude.{option_map}
+use Rattle.std.specs.Option.{option_map_or}
+use denote.Param.Weighed.{most}
+use Rattle.dp_operations.specs.Indexing.{indexed, looked_up}
+use Rattle.dp_state.specs.declared.state.State.{State}
+use Rattle.dp_tree.specs.declared.tree.Expression.{size-Expression}
+use Rattle.dp_tree.specs.declared.tree.Item.{size-Item}
+use Rattle.dp_tree.specs.declared.tree.Link.{size-Link}
+use Rattle.dp_tree.specs.declared.tree.Place.{size-Place}
+use Rattle.dp_value.specs.declared.value.Value.{Value}
+use Rattle.dp_value.specs.declared.value.Value.TheVariants as variant
+use Rattle.dp_value.specs.Table.{empty}
+use Rattle.dp_meaning.specs.declared.halt.Halt.{Halt}
+use Rattle.dp_meaning.specs.declared.signal.Signal.{Signal}
+use Rattle.dp_meaning.specs.Drive.{Evaluates}
+use Rattle.dp_meaning.specs.Evaluation.{goes_by}
+use Rattle.dp_meaning.specs.Expressions.{evaluation, evaluations, expression_run, indices_run, item_run_of, items_run, link_run, links_run, place_run}
+use Rattle.dp_meaning.specs.Loops.{do_turns, each_run, entries, turns}
+use Rattle.dp_meaning.specs.Places.{isset_run, unset_run}
+use Rattle.dp_meaning.specs.Programs.{statements_of}
+use Rattle.dp_meaning.specs.Sizes.{arm_size, body_size, expression_size, expressions_size, frame_size, kind_size, optional_size, sizes_sum, statement_size}
+use Rattle.dp_meaning.specs.Statements.{arm_run, arms_run, body_run, echoes, statement_run}
+use Rattle.dp_meaning.proofs.ListLaws.{more_values}
+use Rattle.dp_meaning.proofs.evaluator.Evaluator.+evaluate.Given as goal
+
+abbrev pub decreases-arms : goal.decreases-arms
+decreases-arms g l = l.self.now.depth * frame_size l.self.now.bundle.now + (sizes_sum
+    (map arm_size l.arms.now) + option_map_or statement_size l.otherwise.now 0 + 1)
+
+abbrev pub decreases-array : goal.decreases-array
+decreases-array g l = l.self.now.depth * frame_size l.self.now.bundle.now + (4 * most size-Item l.items.now + 2)
+
+abbrev pub decreases-assign : goal.decreases-assign
+decreases-assign g l = l.self.now.depth * frame_size l.self.now.bundle.now + (4 * max (size-Place l.place.now) (size-Expression l.right.now) + 3)
+
+abbrev pub decreases-assign_under : goal.decreases-assign_under
+decreases-assign_under g l = l.self.now.depth * frame_size l.self.now.bundle.now + (4 * size-Expression l.right.now + 1)
+
+abbrev pub decreases-body : goal.decreases-body
+decreases-body g l = l.self.now.depth * frame_size l.self.now.bundle.now + body_size l.statements.now
+
+abbrev pub decreases-call : goal.decreases-call
+decreases-call g l = l.self.now.depth * frame_size l.self.now.bundle.now
+
+abbrev pub decreases-chain : goal.decreases-chain
+decreases-chain g l = l.self.now.depth * frame_size l.self.now.bundle.now + (4 * max (size-Expression l.first.now) (most size-Link l.links.now) + 3)
+
+abbrev pub decreases-chosen : goal.decreases-chosen
+decreases-chosen g l = l.self.now.depth * frame_size l.self.now.bundle.now + (4 * option_map_or size-Expression l.middle.now 0 + 1)
+
+abbrev pub decreases-call_builtin : goal.decreases-call_builtin
+decreases-call_builtin g l = l.self.now.depth * frame_size l.self.now.bundle.now + (4 * most size-Expression l.arguments.now + 2)
+
+abbrev pub decreases-coalesce : goal.decreases-coalesce
+decreases-coalesce g l = l.self.now.depth * frame_size l.self.now.bundle.now + (4 * max (size-Expression l.left.now)
+    (size-Expression l.right.now) + 3)
+
+abbrev pub decreases-coalesce_assign : goal.decreases-coalesce_assign
+decreases-coalesce_assign g l = l.self.now.depth * frame_size l.self.now.bundle.now + (4 * max (size-Place l.place.now)
+    (size-Expression l.right.now) + 3)
+
+abbrev pub decreases-coalesce_under : goal.decreases-coalesce_under
+decreases-coalesce_under g l = l.self.now.depth * frame_size l.self.now.bundle.now + (4 * size-Expression l.right.now + 2)
+
+abbrev pub decreases-compound : goal.decreases-compound
+decreases-compound g l = l.self.now.depth * frame_size l.self.now.bundle.now + (4 * max (size-Place l.place.now) (size-Expression l.right.now) + 3)
+
+abbrev pub decreases-compound_from : goal.decreases-compound_from
+decreases-compound_from g l = l.self.now.depth * frame_size l.self.now.bundle.now + (4 * size-Expression l.right.now + 1)
+
+abbrev pub decreases-compound_under : goal.decreases-compound_under
+decreases-compound_under g l = l.self.now.depth * frame_size l.self.now.bundle.now + (4 * size-Expression l.right.now + 2)
+
+abbrev pub decreases-conditional : goal.decreases-conditional
+decreases-conditional g l = l.self.now.depth * frame_size l.self.now.bundle.now + (4 * max (size-Expression l.test.now) (max
+    (option_map_or size-Expression l.middle.now 0) (size-Expression l.otherwise.now)) + 3)
+
+abbrev pub decreases-do_turns : goal.decreases-do_turns
+decreases-do_turns g l = l.self.now.depth * frame_size l.self.now.bundle.now + (expression_size l.test.now + statement_size l.body.now + 1)
+
+abbrev pub decreases-each : goal.decreases-each
+decreases-each g l = l.self.now.depth * frame_size l.self.now.bundle.now + (statement_size l.body.now + 1)
+
+abbrev pub decreases-echo : goal.decreases-echo
+decreases-echo g l = l.self.now.depth * frame_size l.self.now.bundle.now + (expressions_size l.operands.now + 1)
+
+abbrev pub decreases-entry : goal.decreases-entry
+decreases-entry g l = l.self.now.depth * frame_size l.self.now.bundle.now + (4 * size-Expression l.e.now + 1)
+
+abbrev pub decreases-exit : goal.decreases-exit
+decreases-exit g l = l.self.now.depth * frame_size l.self.now.bundle.now + (optional_size l.value.now + 3)
+
+abbrev pub decreases-expression : goal.decreases-expression
+decreases-expression g l = l.self.now.depth * frame_size l.self.now.bundle.now + expression_size l.e.now
+
+abbrev pub decreases-file : goal.decreases-file
+decreases-file g l = l.self.now.depth * frame_size l.self.now.bundle.now
+
+abbrev pub decreases-found : goal.decreases-found
+decreases-found g l = l.self.now.depth * frame_size l.self.now.bundle.now + (expression_size l.e.now + 1)
+
+abbrev pub decreases-found_at : goal.decreases-found_at
+decreases-found_at g l = l.self.now.depth * frame_size l.self.now.bundle.now + (4 * size-Place l.place.now + 2)
+
+abbrev pub decreases-found_entry : goal.decreases-found_entry
+decreases-found_entry g l = l.self.now.depth * frame_size l.self.now.bundle.now + (4 * size-Expression l.e.now + 1)
+
+abbrev pub decreases-found_index : goal.decreases-found_index
+decreases-found_index g l = l.self.now.depth * frame_size l.self.now.bundle.now + (4 * max (size-Expression l.base.now)
+    (most size-Expression l.indices.now) + 3)
+
+abbrev pub decreases-found_under : goal.decreases-found_under
+decreases-found_under g l = l.self.now.depth * frame_size l.self.now.bundle.now + (4 * most size-Expression l.indices.now + 2)
+
+abbrev pub decreases-found_variable_entry : goal.decreases-found_variable_entry
+decreases-found_variable_entry g l = l.self.now.depth * frame_size l.self.now.bundle.now + (4 * size-Expression l.e.now + 1)
+
+abbrev pub decreases-function : goal.decreases-function
+decreases-function g l = l.self.now.depth * frame_size l.self.now.bundle.now + (body_size l.function.now.body + 1)
+
+abbrev pub decreases-include : goal.decreases-include
+decreases-include g l = l.self.now.depth * frame_size l.self.now.bundle.now + 1
+
+abbrev pub decreases-included : goal.decreases-included
+decreases-included g l = l.self.now.depth * frame_size l.self.now.bundle.now + (body_size (statements_of l.self.now.bundle.now l.file) + 1)
+
+abbrev pub decreases-inclusion : goal.decreases-inclusion
+decreases-inclusion g l = l.self.now.depth * frame_size l.self.now.bundle.now + (4 * size-Expression l.file.now + 2)
+
+abbrev pub decreases-index : goal.decreases-index
+decreases-index g l = l.self.now.depth * frame_size l.self.now.bundle.now + (4 * max (size-Expression l.base.now)
+    (most size-Expression l.indices.now) + 3)
+
+abbrev pub decreases-isset : goal.decreases-isset
+decreases-isset g l = l.self.now.depth * frame_size l.self.now.bundle.now + (4 * most size-Place l.places.now + 3)
+
+abbrev pub decreases-item : goal.decreases-item
+decreases-item g l = l.self.now.depth * frame_size l.self.now.bundle.now + (4 * size-Item l.item.now + 1)
+
+abbrev pub decreases-joined : goal.decreases-joined
+decreases-joined g l = l.self.now.depth * frame_size l.self.now.bundle.now + (4 * size-Expression l.operand.now + 1)
+
+abbrev pub decreases-keyed : goal.decreases-keyed
+decreases-keyed g l = l.self.now.depth * frame_size l.self.now.bundle.now + (4 * max (size-Expression l.key.now) (size-Expression l.item.now) + 2)
+
+abbrev pub decreases-keyed_by : goal.decreases-keyed_by
+decreases-keyed_by g l = l.self.now.depth * frame_size l.self.now.bundle.now + (4 * size-Expression l.item.now + 1)
+
+abbrev pub decreases-kind : goal.decreases-kind
+decreases-kind g l = l.self.now.depth * frame_size l.self.now.bundle.now + kind_size l.kind.now
+
+abbrev pub decreases-last : goal.decreases-last
+decreases-last g l = l.self.now.depth * frame_size l.self.now.bundle.now + (4 * size-Expression l.item.now + 1)
+
+abbrev pub decreases-link : goal.decreases-link
+decreases-link g l = l.self.now.depth * frame_size l.self.now.bundle.now + (4 * size-Link l.link.now + 1)
+
+abbrev pub decreases-links : goal.decreases-links
+decreases-links g l = l.self.now.depth * frame_size l.self.now.bundle.now + (4 * most size-Link l.links.now + 2)
+
+abbrev pub decreases-named : goal.decreases-named
+decreases-named g l = l.self.now.depth * frame_size l.self.now.bundle.now + (expressions_size l.arguments.now + 1)
+
+abbrev pub decreases-return_value : goal.decreases-return_value
+decreases-return_value g l = l.self.now.depth * frame_size l.self.now.bundle.now + (optional_size l.value.now + 3)
+
+abbrev pub decreases-statement : goal.decreases-statement
+decreases-statement g l = l.self.now.depth * frame_size l.self.now.bundle.now + statement_size l.statement.now
+
+abbrev pub decreases-step : goal.decreases-step
+decreases-step g l = l.self.now.depth * frame_size l.self.now.bundle.now + (4 * size-Place l.place.now + 3)
+
+abbrev pub decreases-truth : goal.decreases-truth
+decreases-truth g l = l.self.now.depth * frame_size l.self.now.bundle.now + (4 * size-Expression l.operand.now + 1)
+
+abbrev pub decreases-turns : goal.decreases-turns
+decreases-turns g l = l.self.now.depth * frame_size l.self.now.bundle.now +
+    (expressions_size l.tests.now + expressions_size l.after.now + statement_size l.body.now + 1)
+
+abbrev pub decreases-unary : goal.decreases-unary
+decreases-unary g l = l.self.now.depth * frame_size l.self.now.bundle.now + (4 * size-Expression l.operand.now + 1)
+
+abbrev pub decreases-under : goal.decreases-under
+decreases-under g l = l.self.now.depth * frame_size l.self.now.bundle.now + (4 * most size-Expression l.indices.now + 2)
+
+abbrev pub decreases-unset : goal.decreases-unset
+decreases-unset g l = l.self.now.depth * frame_size l.self.now.bundle.now + (4 * most size-Place l.places.now + 3)
+
+abbrev pub decreases-values : goal.decreases-values
+decreases-values g l = l.self.now.depth * frame_size l.self.now.bundle.now + (4 * most size-Expression l.all.now + 1)
+
+abbrev pub decreases-variable_entry : goal.decreases-variable_entry
+decreases-variable_entry g l = l.self.now.depth * frame_size l.self.now.bundle.now + (4 * size-Expression l.e.now + 1)
+
+abbrev pub invariant-values-loop-e : goal.invariant-values-loop-e
+invariant-values-loop-e g l = (x : Result (List Value) Halt) (t : State)
+    → Evaluates (g.O.Outside.rules l.self.outside.now) (more_values (drop l.e-index l.all) l.values.items (goes_by l.self) l.state) x t
+    → Evaluates (g.O.Outside.rules l.self.outside.now) (evaluations l.all (goes_by l.self) l.fn.state) x t
+
+abbrev pub invariant-array-loop-item : goal.invariant-array-loop-item
+invariant-array-loop-item g l = (x : Result Value Halt) (t : State)
+    → Evaluates (g.O.Outside.rules l.self.outside.now) (items_run (map item_run_of (drop l.item-index l.items)) l.array
+    (goes_by l.self) l.state) x t → Evaluates (g.O.Outside.rules l.self.outside.now) (items_run (map item_run_of l.items)
+    (variant.Array empty) (goes_by l.self) l.fn.state) x t
+
+abbrev pub invariant-links-loop-link : goal.invariant-links-loop-link
+invariant-links-loop-link g l = (x : Result Value Halt) (t : State)
+    → Evaluates (g.O.Outside.rules l.self.outside.now) (links_run (map link_run (drop l.link-index l.links)) l.value
+    (goes_by l.self) l.state) x t → Evaluates (g.O.Outside.rules l.self.outside.now) (links_run (map link_run l.links) l.fn.first
+    (goes_by l.self) l.fn.state) x t
+
+abbrev pub invariant-isset-loop-place : goal.invariant-isset-loop-place
+invariant-isset-loop-place g l = (x : Result Value Halt) (t : State)
+    → Evaluates (g.O.Outside.rules l.self.outside.now) (isset_run (map place_run (drop l.place-index l.places)) (goes_by l.self) l.state) x t
+    → Evaluates (g.O.Outside.rules l.self.outside.now) (isset_run (map place_run l.places) (goes_by l.self) l.fn.state) x t
+
+abbrev pub invariant-unset-loop-place : goal.invariant-unset-loop-place
+invariant-unset-loop-place g l = (x : Result Unit Halt) (t : State)
+    → Evaluates (g.O.Outside.rules l.self.outside.now) (unset_run (map place_run (drop l.place-index l.places)) (goes_by l.self) l.state) x t
+    → Evaluates (g.O.Outside.rules l.self.outside.now) (unset_run (map place_run l.places) (goes_by l.self) l.fn.state) x t
+
+abbrev pub invariant-body-loop-statement : goal.invariant-body-loop-statement
+invariant-body-loop-statement g l = (x : Result Signal Halt) (t : State)
+    → Evaluates (g.O.Outside.rules l.self.outside.now) (body_run (drop l.statement-index l.statements) (goes_by l.self) l.state) x t
+    → Evaluates (g.O.Outside.rules l.self.outside.now) (body_run l.statements (goes_by l.self) l.fn.state) x t
+
+abbrev pub invariant-echo-loop-operand : goal.invariant-echo-loop-operand
+invariant-echo-loop-operand g l = (x : Result Signal Halt) (t : State)
+    → Evaluates (g.O.Outside.rules l.self.outside.now) (echoes (map expression_run (drop l.operand-index l.operands))
+    (goes_by l.self) l.state) x t → Evaluates (g.O.Outside.rules l.self.outside.now) (echoes (map expression_run l.operands)
+    (goes_by l.self) l.fn.state) x t
+
+abbrev pub invariant-arms-loop-arm : goal.invariant-arms-loop-arm
+invariant-arms-loop-arm g l = (x : Result Signal Halt) (t : State)
+    → Evaluates (g.O.Outside.rules l.self.outside.now) (arms_run (map arm_run (drop l.arm-index l.arms)) (option_map statement_run l.otherwise)
+    (goes_by l.self) l.state) x t → Evaluates (g.O.Outside.rules l.self.outside.now) (arms_run (map arm_run l.arms)
+    (option_map statement_run l.otherwise) (goes_by l.self) l.fn.state) x t
+
+abbrev pub invariant-turns-loop-turn : goal.invariant-turns-loop-turn
+invariant-turns-loop-turn g l = (x : Result Signal Halt) (t : State)
+    → Evaluates (g.O.Outside.rules l.self.outside.now) (turns (l.self.bound - l._turn) l.line (evaluations l.tests (goes_by l.self))
+    (evaluations l.after (goes_by l.self)) (statement_run l.body (goes_by l.self)) l.state) x t
+    → Evaluates (g.O.Outside.rules l.self.outside.now) (turns l.self.bound l.line (evaluations l.tests (goes_by l.self)) (evaluations l.after
+    (goes_by l.self)) (statement_run l.body (goes_by l.self)) l.fn.state) x t
+
+abbrev pub invariant-do_turns-loop-turn : goal.invariant-do_turns-loop-turn
+invariant-do_turns-loop-turn g l = (x : Result Signal Halt) (t : State)
+    → Evaluates (g.O.Outside.rules l.self.outside.now) (do_turns (l.self.bound - l._turn) l.line (evaluation l.test (goes_by l.self))
+    (statement_run l.body (goes_by l.self)) l.state) x t
+    → Evaluates (g.O.Outside.rules l.self.outside.now) (do_turns l.self.bound l.line (evaluation l.test (goes_by l.self)) (statement_run l.body
+    (goes_by l.self)) l.fn.state) x t
+
+abbrev pub invariant-each-loop-at : goal.invariant-each-loop-at
+invariant-each-loop-at g l = (x : Result Signal Halt) (t : State)
+    → Evaluates (g.O.Outside.rules l.self.outside.now) (each_run l.line l.binding (drop l.at l.array.pairs) (statement_run l.body
+    (goes_by l.self)) l.state) x t
+    → Evaluates (g.O.Outside.rules l.self.outside.now) (each_run l.line l.binding (entries l.fn.subject) (statement_run l.body
+    (goes_by l.self)) l.fn.state) x t
+
+abbrev pub invariant-under-loop-e : goal.invariant-under-loop-e
+invariant-under-loop-e g l = (x : Result Value Halt) (t : State)
+    → Evaluates (g.O.Outside.rules l.self.outside.now) (indices_run indexed (map expression_run (drop l.e-index l.indices)) l.value
+    (goes_by l.self) l.state) x t
+    → Evaluates (g.O.Outside.rules l.self.outside.now) (indices_run indexed (map expression_run l.indices) l.fn.base (goes_by l.self) l.fn.state) x t
+
+abbrev pub invariant-found_under-loop-e : goal.invariant-found_under-loop-e
+invariant-found_under-loop-e g l = (x : Result Value Halt) (t : State)
+    → Evaluates (g.O.Outside.rules l.self.outside.now) (indices_run looked_up (map expression_run (drop l.e-index l.indices)) l.value
+    (goes_by l.self) l.state) x t
+    → Evaluates (g.O.Outside.rules l.self.outside.now) (indices_run looked_up (map expression_run l.indices) l.fn.base
+    (goes_by l.self) l.fn.state) x t

@@ -1,0 +1,64 @@
+-- A run up to a moment at which it stops. Private to the evaluator: `trace` says the same without a stop.
+use Rattle.std.specs.Prelude.{◌≡◌, ℕ, ◌+◌, nat_lt, nat_eq, if◌then◌else◌, [], Result, Ok, Err}
+use Rattle.dp_state.specs.declared.moments.Moment.{Moment}
+use Rattle.dp_state.specs.declared.moments.MomentKind.{MomentKind}
+use Rattle.dp_state.specs.declared.moments.Outcome.{Outcome}
+use Rattle.dp_state.specs.declared.moments.Outcome.TheVariants.{Bound, Fatal}
+use Rattle.dp_state.specs.declared.state.Fault.{Fault}
+use Rattle.dp_state.specs.declared.state.Fault.TheVariants as fault
+use Rattle.dp_state.specs.declared.state.State.{State}
+use Rattle.dp_state.specs.States.{file_of, line_of}
+use Rattle.dp_meaning.specs.declared.halt.Halt.{Halt}
+use Rattle.dp_meaning.specs.declared.halt.Halt.TheVariants.{Memory, Finished, Stopped}
+use Rattle.dp_meaning.specs.Run.{Run, Done, Over, At}
+use Rattle.dp_meaning.specs.Trace.{moment_of}
+use Rattle.dp_meaning.specs.Writes.{Writes, arrived, written, writes_of}
+
+-- the bound, the number of the moment at which the run stops, and the writes
+pub record Rules : Type 0 where
+  pub bound : ℕ
+  pub stop : ℕ
+  pub writes : Writes
+
+-- no writes, and no stop
+abbrev pub quiet : ℕ → Rules
+quiet bound = record { bound = bound; stop = 0; writes = writes_of (record { files = [] }) [] }
+
+-- how far a run came: it gave something, the program was over, or it came to the stop
+pub data Reached (A : Type 0) : Type 0 where
+  Gives : A → State → Reached A
+  Ends : Outcome → State → Reached A
+  Stops : Moment → State → Reached A
+
+-- a run until the moment of the stop and its writes
+abbrev pub drive : {A : Type 0} → Rules → Run A → Reached A
+drive rules (Done a s) = Gives a s
+drive rules (Over o s) = Ends o s
+drive rules (At kind line s go) =
+    if nat_lt s.moments rules.bound
+    then (
+    if nat_eq (s.moments + 1) rules.stop
+    then Stops (moment_of kind (arrived line s)) (written rules.writes (s.moments + 1) (arrived line s))
+    else drive rules (go (written rules.writes (s.moments + 1) (arrived line s)))
+    )
+    else Ends Bound s
+
+-- what the evaluator answers and the state that it leaves are what a run reached
+abbrev pub Meets : {A : Type 0} → Result A Halt → State → Reached A → Type 0
+Meets (Ok a) s reached = reached ≡ Gives a s
+Meets (Err Memory) s reached = Unit {0}
+Meets (Err (Finished o)) s reached = reached ≡ Ends o s
+Meets (Err (Stopped moment)) s reached = reached ≡ Stops moment s
+
+-- the evaluator's answer is what the run gives, with the state that it leaves. Want of memory says nothing
+pub record Evaluates {A : Type 0} (rules : Rules) (run : Run A) (result : Result A Halt) (s : State) : Type 0 where
+  pub meets : Meets result s (drive rules run)
+
+-- a moment by itself
+abbrev pub moment_run : MomentKind → ℕ → State → Run Unit
+moment_run kind line s = At kind line s (λ t. Done tt t)
+
+-- what a refused step is to the evaluator
+abbrev pub halt_of : Fault → State → Halt
+halt_of (fault.Fatal kind) s = Finished (Fatal kind (file_of s) (line_of s))
+halt_of fault.Memory s = Memory

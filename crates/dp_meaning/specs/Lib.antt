@@ -1,0 +1,16 @@
+pub mod Run
+pub mod Values
+pub mod Setting
+pub mod Places
+pub mod Calls
+pub mod Expressions
+pub mod Loops
+pub mod Statements
+pub mod Programs
+pub mod Writes
+pub mod Trace
+pub mod Past
+pub mod Drive
+pub mod Evaluation
+pub mod Sizes
+pub mod Pure

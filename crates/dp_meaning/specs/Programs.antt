@@ -1,0 +1,61 @@
+-- What calls of functions and included files do, and whole programs.
+use Rattle.std.specs.Prelude.{ℕ, zero, suc, pos, List, [], slice_get}
+use Rattle.std.specs.Option.{option_map_or}
+use Rattle.dp_tree.specs.declared.tree.Function.{Function}
+use Rattle.dp_tree.specs.declared.tree.Statement.{Statement}
+use Rattle.dp_bundle.specs.declared.bundle.Bundle.{Bundle}
+use Rattle.dp_state.specs.declared.moments.FatalKind.TheVariants.{TooDeep}
+use Rattle.dp_state.specs.declared.moments.MomentKind.TheVariants.{Enter, Leave}
+use Rattle.dp_state.specs.declared.state.State.{State}
+use Rattle.dp_state.specs.Functions.{called, included}
+use Rattle.dp_state.specs.States.{frame_limit, left, line_of, opening}
+use Rattle.dp_value.specs.declared.value.Value.{Value}
+use Rattle.dp_value.specs.declared.value.Value.TheVariants.{Null, Int}
+use Rattle.dp_meaning.specs.declared.signal.Signal.{Signal}
+use Rattle.dp_meaning.specs.declared.signal.Signal.TheVariants.{Next, Break, Continue, Return}
+use Rattle.dp_meaning.specs.Run.{Run, Done, At, fatal, taken, ◌>>=◌}
+use Rattle.dp_meaning.specs.Setting.{Setting, Part}
+use Rattle.dp_meaning.specs.Statements.{body_run}
+
+-- what a body gives: its return value, or this where it has none
+abbrev pub returned : Value → Signal → Value
+returned none Next = none
+returned none (Break loops) = none
+returned none (Continue loop) = none
+returned none (Return v) = v
+
+-- A call: its parameters are set, then it enters, on the line of `function`; it leaves on the line of its last moment, before its frame goes. Without
+-- a return it gives null.
+abbrev pub function_run : ℕ → Function → List Value → Part Value
+function_run file f values setting s =
+    taken (called file f values s) s >>= λ _ t. At Enter f.line t (λ u.
+    body_run f.body setting u >>= λ g v. At Leave (line_of v) v (λ w. Done (returned Null g) (left w)))
+
+-- the statements of the file of this number
+abbrev pub statements_of : Bundle → ℕ → List Statement
+statements_of bundle file = option_map_or (λ f. f.tree.body) (slice_get bundle.files file) []
+
+-- an included file: its functions are declared, then it runs; without a return it gives 1
+abbrev pub file_run : ℕ → Part Value
+file_run file setting s =
+    taken (included setting.bundle file s) s >>= λ _ t.
+    body_run (statements_of setting.bundle file) setting t >>= λ g u. Done (returned (Int (pos 1)) g) (left u)
+
+-- what parts go by, where so many frames more can be on the stack
+unfoldable pub setting_of : Bundle → ℕ → ℕ → Setting
+setting_of bundle bound zero = record {
+  bundle = bundle;
+  bound = bound;
+  call = λ file f values s. fatal TooDeep s;
+  include = λ file s. fatal TooDeep s;
+}
+setting_of bundle bound (suc depth) = record {
+  bundle = bundle;
+  bound = bound;
+  call = λ file f values s. function_run file f values (setting_of bundle bound depth) s;
+  include = λ file s. file_run file (setting_of bundle bound depth) s;
+}
+
+-- the whole program: its main file, from the opening state
+unfoldable pub program_run : Bundle → ℕ → Run Signal
+program_run bundle bound = body_run (statements_of bundle 0) (setting_of bundle bound frame_limit) (opening bundle)

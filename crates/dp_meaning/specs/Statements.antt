@@ -1,0 +1,144 @@
+-- What statements do. Source: the PHP manual, "Control Structures".
+use Rattle.std.specs.Prelude.{ℕ, ℤ, pos, negsuc, nat_le, if◌then◌else◌, List, [], ◌∷◌, map, Option, Some, None}
+use Rattle.dp_value.specs.declared.value.Value.{Value}
+use Rattle.dp_value.specs.declared.value.Value.TheVariants.{Null, Bool, Int, Text, Array}
+use Rattle.dp_value.specs.Value.{data_of}
+use Rattle.dp_operations.specs.Text.{text_of}
+use Rattle.dp_tree.specs.declared.tree.Arm.{Arm, fold-Arm}
+use Rattle.dp_tree.specs.declared.tree.Expression.{Expression}
+use Rattle.dp_tree.specs.declared.tree.Place.{Place}
+use Rattle.dp_tree.specs.declared.tree.Statement.{Statement, fold-Statement}
+use Rattle.dp_tree.specs.declared.tree.StatementKind.{StatementKind, fold-StatementKind}
+use Rattle.dp_tree.specs.declared.tree.StatementKind.TheOpen.{Statement-F, StatementKind-F, Arm-F}
+use Rattle.dp_state.specs.declared.moments.FatalKind.TheVariants.{Unsupported}
+use Rattle.dp_state.specs.declared.moments.MomentKind.TheVariants as moment
+use Rattle.dp_state.specs.declared.moments.Outcome.TheVariants.{Exit}
+use Rattle.dp_state.specs.declared.state.State.{State}
+use Rattle.dp_state.specs.Places.{with_global}
+use Rattle.dp_state.specs.States.{printed}
+use Rattle.dp_meaning.specs.declared.signal.Signal.{Signal}
+use Rattle.dp_meaning.specs.declared.signal.Signal.TheVariants.{Next, Break, Continue, Return}
+use Rattle.dp_meaning.specs.Expressions.{ExpressionRun, expression_run, evaluation, evaluations, place_run}
+use Rattle.dp_meaning.specs.Loops.{turns, do_turns, each_run, entries}
+use Rattle.dp_meaning.specs.Places.{unset_run}
+use Rattle.dp_meaning.specs.Run.{Run, Done, Over, At, fatal, taken, ◌>>=◌}
+use Rattle.dp_meaning.specs.Setting.{Setting, Part}
+use Rattle.dp_meaning.specs.Values.{holds}
+
+-- what a statement does has its moments from the line of its first token on
+abbrev pub KindRun : Type 0
+KindRun = ℕ → Part Signal
+
+-- an arm of an `if`, by what is done where its test does not hold
+abbrev pub ArmRun : Type 0
+ArmRun = Part Signal → Part Signal
+
+-- a moment before a statement, a test or a binding on this line
+abbrev pub placed : {A : Type 0} → ℕ → State → (State → Run A) → Run A
+placed line s next = At moment.Place line s next
+
+-- the next statement, unless the one before broke off
+abbrev pub go_on : Signal → (State → Run Signal) → State → Run Signal
+go_on Next next s = next s
+go_on (Break loops) next s = Done (Break loops) s
+go_on (Continue loop) next s = Done (Continue loop) s
+go_on (Return v) next s = Done (Return v) s
+
+-- statements, one after another
+abbrev pub sequence : List (Part Signal) → Part Signal
+sequence [] setting s = Done Next s
+sequence (first ∷ rest) setting s = first setting s >>= λ g t. go_on g (sequence rest setting) t
+
+-- the text of a value is written
+abbrev pub print_run : Value → State → Run Unit
+print_run v s = taken (printed (text_of (data_of v)) s) s
+
+-- `echo`: each operand is evaluated and written before the next
+abbrev pub echoes : List ExpressionRun → Part Signal
+echoes [] setting s = Done Next s
+echoes (first ∷ rest) setting s =
+    first.value setting s >>= λ v t. print_run v t >>= λ _ u. echoes rest setting u
+
+-- the arms of an `if`, and what is done where no test holds
+abbrev pub arms_run : List ArmRun → Option (Part Signal) → Part Signal
+arms_run [] None setting s = Done Next s
+arms_run [] (Some otherwise) setting s = otherwise setting s
+arms_run (arm ∷ arms) otherwise setting s = arm (arms_run arms otherwise) setting s
+
+abbrev pub with_globals : List (List ℕ) → State → State
+with_globals [] s = s
+with_globals (name ∷ names) s = with_globals names (with_global name s)
+
+-- the status that an integer is: one from 0 to 199
+abbrev pub status_of : ℤ → Option ℕ
+status_of (pos n) = if nat_le n 199 then Some n else None
+status_of (negsuc n) = None
+
+abbrev pub exit_with : Option ℕ → State → Run Signal
+exit_with None s = fatal Unsupported s
+exit_with (Some status) s = Over (Exit status) s
+
+-- `exit` with a value: an integer is the status; a text is written, and the status is 0
+abbrev pub exit_run : Value → State → Run Signal
+exit_run Null s = fatal Unsupported s
+exit_run (Bool b) s = fatal Unsupported s
+exit_run (Int n) s = exit_with (status_of n) s
+exit_run (Text bytes) s = taken (printed bytes s) s >>= λ _ t. Over (Exit 0) t
+exit_run (Array t) s = fatal Unsupported s
+
+-- `return`
+abbrev pub return_run : Option Expression → Part Signal
+return_run None setting s = Done (Return Null) s
+return_run (Some e) setting s = evaluation e setting s >>= λ v t. Done (Return v) t
+
+-- `exit`
+abbrev pub end_run : Option Expression → Part Signal
+end_run None setting s = Over (Exit 0) s
+end_run (Some e) setting s = evaluation e setting s >>= λ v t. exit_run v t
+
+-- ---- each layer of a tree, where the runs of its parts are known
+
+abbrev pub statement_layer : Statement-F KindRun ArmRun (Part Signal) → Part Signal
+statement_layer statement = statement.kind statement.line
+
+-- a test stands on the line of its `if`, `elseif` or `else if`
+abbrev pub arm_layer : Arm-F KindRun ArmRun (Part Signal) → ArmRun
+arm_layer arm otherwise setting s =
+    placed arm.line s (λ t. evaluation arm.test setting t >>= λ v u. if holds v then arm.body setting u else otherwise setting u)
+
+abbrev pub kind_layer : StatementKind-F KindRun ArmRun (Part Signal) → KindRun
+kind_layer (StatementKind-F.Expression e) line setting s = placed line s (λ t. evaluation e setting t >>= λ _ u. Done Next u)
+kind_layer (StatementKind-F.Echo operands) line setting s = placed line s (λ t. echoes (map expression_run operands) setting t)
+kind_layer (StatementKind-F.Block statements) line setting s = sequence statements setting s
+kind_layer StatementKind-F.Empty line setting s = Done Next s
+kind_layer (StatementKind-F.If arms otherwise) line setting s = arms_run arms otherwise setting s
+kind_layer (StatementKind-F.While test body) line setting s =
+    turns setting.bound line (evaluations (test ∷ []) setting) (evaluations [] setting) (body setting) s
+kind_layer (StatementKind-F.DoWhile body end test) line setting s = do_turns setting.bound end (evaluation test setting) (body setting) s
+kind_layer (StatementKind-F.For before tests after body) line setting s =
+    placed line s (λ t. evaluations before setting t >>= λ _ u.
+    turns setting.bound line (evaluations tests setting) (evaluations after setting) (body setting) u)
+kind_layer (StatementKind-F.Foreach subject binding body) line setting s =
+    placed line s (λ t. evaluation subject setting t >>= λ v u. each_run line binding (entries v) (body setting) u)
+kind_layer (StatementKind-F.Break loops) line setting s = placed line s (λ t. Done (Break loops) t)
+kind_layer (StatementKind-F.Continue loop) line setting s = placed line s (λ t. Done (Continue loop) t)
+kind_layer (StatementKind-F.Return value) line setting s = placed line s (λ t. return_run value setting t)
+kind_layer (StatementKind-F.Global names) line setting s = placed line s (λ t. Done Next (with_globals names t))
+kind_layer (StatementKind-F.Unset places) line setting s =
+    placed line s (λ t. unset_run (map place_run places) setting t >>= λ _ u. Done Next u)
+kind_layer (StatementKind-F.Exit value) line setting s = placed line s (λ t. end_run value setting t)
+
+-- ---- whole trees
+
+unfoldable pub statement_run : Statement → Part Signal
+statement_run = fold-Statement KindRun ArmRun (Part Signal) kind_layer arm_layer statement_layer
+
+unfoldable pub kind_run : StatementKind → KindRun
+kind_run = fold-StatementKind KindRun ArmRun (Part Signal) kind_layer arm_layer statement_layer
+
+unfoldable pub arm_run : Arm → ArmRun
+arm_run = fold-Arm KindRun ArmRun (Part Signal) kind_layer arm_layer statement_layer
+
+-- the statements of a function or a file
+abbrev pub body_run : List Statement → Part Signal
+body_run statements = sequence (map statement_run statements)

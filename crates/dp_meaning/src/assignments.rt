@@ -1,0 +1,178 @@
+//! The evaluation of assignments, steps and `isset`.
+
+#![tactic(auto, using(crate::proofs::Drives::evaluating))]
+
+use crate::answers::is_missing;
+use crate::changes::{combine, step_place};
+use crate::evaluator::Evaluator;
+use crate::halt::Halt;
+use crate::operands::present;
+use crate::outside::Outside;
+use crate::places::{assign_place, found_place, old_place};
+use dp_state::State;
+use dp_tree::{Expression, Order, Place};
+use dp_value::{BinaryOp, Bytes, UnaryOp, Value};
+
+impl<O: Outside> Evaluator<'_, O> {
+    ghost use Rattle.std.specs.Prelude.{map};
+    ghost use Rattle.dp_meaning.specs.Drive.{Evaluates};
+    ghost use Rattle.dp_meaning.specs.Evaluation.{goes_by};
+    ghost use Rattle.dp_meaning.specs.Expressions.{evaluation, place_run};
+    ghost use Rattle.dp_meaning.specs.Places.{assigned_under, assignment, coalescing, coalescing_under, compound, compound_from, compound_under, found_at, isset_run, step};
+
+    /// `place = right`, or `place[] = right`
+    #[cycle(evaluate)]
+    pub(crate) fn assign(
+        &self,
+        place: &Place,
+        right: &Expression,
+        push: bool,
+        state: &mut State,
+    ) -> Result<Value, Halt>
+        ensures { Evaluates (O.rules self.now.outside.now) (assignment push (place_run place.now) (evaluation right.now) (goes_by self.now) state.old) result state.new }
+    {
+        let indices = self.values(place.indices.as_slice(), state)?;
+        self.assign_under(&place.name, indices.as_slice(), push, right, state)
+    }
+
+    /// An assignment under indices that are evaluated.
+    #[cycle(evaluate)]
+    fn assign_under(
+        &self,
+        name: &Bytes,
+        indices: &[Value],
+        push: bool,
+        right: &Expression,
+        state: &mut State,
+    ) -> Result<Value, Halt>
+        ensures { Evaluates (O.rules self.now.outside.now) (assigned_under push name.now (evaluation right.now) indices.now (goes_by self.now) state.old) result state.new }
+    {
+        let value = self.expression(right, state)?;
+        assign_place(self.alloc, name, indices, push, value, state)
+    }
+
+    /// `place += right` and its like
+    #[cycle(evaluate)]
+    pub(crate) fn compound(
+        &self,
+        op: BinaryOp,
+        place: &Place,
+        right: &Expression,
+        state: &mut State,
+    ) -> Result<Value, Halt>
+        ensures { Evaluates (O.rules self.now.outside.now) (compound op (place_run place.now) (evaluation right.now) (goes_by self.now) state.old) result state.new }
+    {
+        let indices = self.values(place.indices.as_slice(), state)?;
+        self.compound_under(op, &place.name, indices.as_slice(), right, state)
+    }
+
+    /// A compound assignment under indices that are evaluated.
+    #[cycle(evaluate)]
+    fn compound_under(
+        &self,
+        op: BinaryOp,
+        name: &Bytes,
+        indices: &[Value],
+        right: &Expression,
+        state: &mut State,
+    ) -> Result<Value, Halt>
+        ensures { Evaluates (O.rules self.now.outside.now) (compound_under op name.now (evaluation right.now) indices.now (goes_by self.now) state.old) result state.new }
+    {
+        let old = old_place(self.alloc, name, indices, state)?;
+        self.compound_from(op, name, indices, &old, right, state)
+    }
+
+    /// A compound assignment whose old value is read.
+    #[cycle(evaluate)]
+    fn compound_from(
+        &self,
+        op: BinaryOp,
+        name: &Bytes,
+        indices: &[Value],
+        old: &Value,
+        right: &Expression,
+        state: &mut State,
+    ) -> Result<Value, Halt>
+        ensures { Evaluates (O.rules self.now.outside.now) (compound_from op name.now (evaluation right.now) indices.now old.now (goes_by self.now) state.old) result state.new }
+    {
+        let value = self.expression(right, state)?;
+        combine(self.alloc, op, name, indices, old, &value, state)
+    }
+
+    /// `place ??= right`
+    #[cycle(evaluate)]
+    pub(crate) fn coalesce_assign(
+        &self,
+        place: &Place,
+        right: &Expression,
+        state: &mut State,
+    ) -> Result<Value, Halt>
+        ensures { Evaluates (O.rules self.now.outside.now) (coalescing (place_run place.now) (evaluation right.now) (goes_by self.now) state.old) result state.new }
+    {
+        let indices = self.values(place.indices.as_slice(), state)?;
+        self.coalesce_under(&place.name, indices.as_slice(), right, state)
+    }
+
+    /// A `??=` under indices that are evaluated.
+    #[cycle(evaluate)]
+    fn coalesce_under(
+        &self,
+        name: &Bytes,
+        indices: &[Value],
+        right: &Expression,
+        state: &mut State,
+    ) -> Result<Value, Halt>
+        ensures { Evaluates (O.rules self.now.outside.now) (coalescing_under name.now (evaluation right.now) indices.now (goes_by self.now) state.old) result state.new }
+    {
+        let old = found_place(self.alloc, name, indices, state)?;
+        match present(old) {
+            Some(old) => Ok(old),
+            None => self.assign_under(name, indices, false, right, state),
+        }
+    }
+
+    /// `++` and `--`
+    #[cycle(evaluate)]
+    pub(crate) fn step(
+        &self,
+        op: UnaryOp,
+        order: Order,
+        place: &Place,
+        state: &mut State,
+    ) -> Result<Value, Halt>
+        ensures { Evaluates (O.rules self.now.outside.now) (step op order (place_run place.now) (goes_by self.now) state.old) result state.new }
+    {
+        let indices = self.values(place.indices.as_slice(), state)?;
+        step_place(
+            self.alloc,
+            op,
+            order,
+            &place.name,
+            indices.as_slice(),
+            state,
+        )
+    }
+
+    /// `isset`
+    #[cycle(evaluate)]
+    pub(crate) fn isset(&self, places: &[Place], state: &mut State) -> Result<Value, Halt>
+        ensures { Evaluates (O.rules self.now.outside.now) (isset_run (map place_run places.now) (goes_by self.now) state.old) result state.new }
+    {
+        for place in places {
+            let found = self.found_at(place, state)?;
+            if is_missing(&found) {
+                return Ok(Value::Bool(false));
+            }
+        }
+        Ok(Value::Bool(true))
+    }
+
+    /// The value of a place as isset finds it.
+    #[cycle(evaluate)]
+    fn found_at(&self, place: &Place, state: &mut State) -> Result<Value, Halt>
+        ensures { Evaluates (O.rules self.now.outside.now) (found_at (place_run place.now) (goes_by self.now) state.old) result state.new }
+    {
+        let indices = self.values(place.indices.as_slice(), state)?;
+        found_place(self.alloc, &place.name, indices.as_slice(), state)
+    }
+}

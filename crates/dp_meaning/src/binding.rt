@@ -1,0 +1,65 @@
+//! The binding of names: those of a `foreach`, and those of a `global`.
+
+ghost use Rattle.std.specs.Prelude.{◌≡◌, Some, slice_get, IfOk};
+ghost use Rattle.dp_value.specs.declared.key.Key.{Key as EntryKey};
+ghost use Rattle.dp_value.specs.Data.{Data};
+ghost use Rattle.dp_value.specs.Value.{data_of, value_of};
+ghost use Rattle.dp_operations.specs.Lists.{data_of_key};
+ghost use Rattle.dp_meaning.specs.Drive.{Evaluates, Rules};
+ghost use Rattle.dp_meaning.specs.Loops.{bind, bind_key as bind_run};
+ghost use Rattle.dp_meaning.specs.Run.{Done};
+ghost use Rattle.dp_meaning.specs.Statements.{with_globals};
+
+use crate::halt::Halt;
+use crate::places::assign_variable;
+use dp_state::State;
+use dp_tree::Binding;
+use dp_value::{Bytes, Key, Memory, PhpArray, Value};
+
+/// Binds the entry at a position: its value, then its key.
+pub(crate) fn bind_entry(
+    binding: &Binding,
+    array: &PhpArray,
+    at: usize,
+    state: &mut State,
+) -> Result<(), Halt>
+    ensures { (entry : EntryKey × Data) → slice_get array.now.pairs at ≡ Some entry → (rules : Rules) → Evaluates rules (bind binding.now entry state.old) result state.new }
+{
+    match array.pair(at) {
+        None => Ok(()),
+        Some((key, value)) => {
+            assign_variable(&binding.value, value.try_clone()?, state)?;
+            bind_key(&binding.key, key, state)
+        }
+    }
+}
+
+/// Binds the key of an entry.
+fn bind_key(name: &Option<Bytes>, key: &Key, state: &mut State) -> Result<(), Halt>
+    ensures { (rules : Rules) → Evaluates rules (bind_run name.now key.now state.old) result state.new }
+{
+    match name {
+        None => Ok(()),
+        Some(name) => assign_variable(name, value_of_key(key)?, state),
+    }
+}
+
+/// A key as a value.
+fn value_of_key(key: &Key) -> Result<Value, Memory>
+    ensures { IfOk result (λ value. data_of value ≡ data_of_key key.now) }
+{
+    match key {
+        Key::Int(n) => Ok(Value::Int(*n)),
+        Key::Text(bytes) => Ok(Value::Text(bytes.try_clone()?)),
+    }
+}
+
+/// Binds names of the top frame to the global variables.
+pub(crate) fn bind_all(names: &[Bytes], state: &mut State) -> Result<(), Halt>
+    ensures { (rules : Rules) → Evaluates rules (Done tt (with_globals names.now state.old)) result state.new }
+{
+    for name in names {
+        state.bind(name)?;
+    }
+    Ok(())
+}

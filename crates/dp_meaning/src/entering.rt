@@ -1,0 +1,93 @@
+//! The frames of calls and of included files, and what they give.
+
+ghost use Rattle.std.specs.Prelude.{◌≡◌, IfOk, None};
+ghost use Rattle.dp_value.specs.Value.{data_of};
+ghost use Rattle.dp_operations.specs.Text.{text_of};
+ghost use Rattle.dp_bundle.specs.Files.{file_named};
+ghost use Rattle.dp_state.specs.Functions.{called, included};
+ghost use Rattle.dp_meaning.specs.Calls.{inclusion_run};
+ghost use Rattle.dp_meaning.specs.Drive.{Evaluates, Rules};
+ghost use Rattle.dp_meaning.specs.Programs.{returned as value_returned, statements_of as body_of};
+ghost use Rattle.dp_meaning.specs.Run.{taken};
+ghost use Rattle.dp_meaning.specs.Setting.{Setting};
+
+use crate::faults::{fatal, fault};
+use crate::halt::Halt;
+use crate::signal::Signal;
+use dp_bundle::Bundle;
+use dp_operations::text;
+use dp_state::{FatalKind, State};
+use dp_tree::{Function, Inclusion, Statement};
+use dp_value::{Items, Memory, Value};
+use std::alloc::Global;
+
+/// Enters a function of a file.
+pub(crate) fn enter_call(
+    file: u32,
+    function: &Function,
+    values: Items<Value>,
+    state: &mut State,
+) -> Result<(), Halt>
+    ensures { (rules : Rules) → Evaluates rules (taken (called file function.now values state.old) state.old) result state.new }
+{
+    match state.call(file, function, values) {
+        Ok(()) => Ok(()),
+        Err(why) => Err(fault(why, state)),
+    }
+}
+
+/// Enters a file.
+pub(crate) fn enter_file(bundle: &Bundle, file: u32, state: &mut State) -> Result<(), Halt>
+    ensures { (rules : Rules) → Evaluates rules (taken (included bundle.now file state.old) state.old) result state.new }
+{
+    match state.include(bundle, file) {
+        Ok(()) => Ok(()),
+        Err(why) => Err(fault(why, state)),
+    }
+}
+
+/// The number of the file whose name is the text of a value, if there is one.
+pub(crate) fn file_named_by(
+    alloc: Global,
+    bundle: &Bundle,
+    name: &Value,
+) -> Result<Option<u32>, Memory>
+    ensures { IfOk result (λ file. file ≡ file_named bundle.now (text_of (data_of name.now))) }
+{
+    let Ok(name) = text(alloc, name) else {
+        return Err(Memory);
+    };
+    bundle.file_named(name.as_slice())
+}
+
+/// What the inclusion of a missing file gives.
+pub(crate) fn not_included(how: Inclusion, state: &State) -> Result<Value, Halt>
+    ensures { (rules : Rules) (setting : Setting) → Evaluates rules (inclusion_run how None setting state.now) result state.now }
+{
+    match how {
+        Inclusion::Include => Ok(Value::Bool(false)),
+        Inclusion::Require => Err(fatal(FatalKind::NoFile, state)),
+    }
+}
+
+/// What a body gives: its return value, or this where it has none.
+pub(crate) fn returned(none: Value, signal: Signal) -> Value
+    ensures { result ≡ value_returned none signal }
+{
+    match signal {
+        Signal::Return(value) => value,
+        Signal::Next => none,
+        Signal::Break(_) => none,
+        Signal::Continue(_) => none,
+    }
+}
+
+/// The statements of the file of this number.
+pub(crate) fn statements_of(bundle: &Bundle, file: u32) -> &[Statement]
+    ensures { result.now ≡ body_of bundle.now file }
+{
+    match bundle.files.as_slice().get(file as usize) {
+        Some(file) => file.tree.body.as_slice(),
+        None => &[],
+    }
+}

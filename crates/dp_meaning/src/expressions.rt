@@ -1,0 +1,104 @@
+//! The evaluation of expressions.
+
+#![tactic(auto, using(crate::proofs::Drives::evaluating))]
+
+use crate::answers::value_of;
+use crate::evaluator::Evaluator;
+use crate::halt::Halt;
+use crate::operands::{text_value, variable_value};
+use crate::outside::Outside;
+use dp_operations::unary;
+use dp_state::State;
+use dp_tree::{Expression, Inclusion};
+use dp_value::{Items, UnaryOp, Value};
+
+impl<O: Outside> Evaluator<'_, O> {
+    ghost use Rattle.dp_meaning.specs.Drive.{Evaluates};
+    ghost use Rattle.dp_meaning.specs.Evaluation.{goes_by};
+    ghost use Rattle.dp_meaning.specs.Expressions.{evaluations, expression_run, included, operated};
+
+    /// The value of an expression.
+    #[cycle(evaluate)]
+    pub(crate) fn expression(&self, e: &Expression, state: &mut State) -> Result<Value, Halt>
+        ensures { Evaluates (O.rules self.now.outside.now) ((expression_run e.now).value (goes_by self.now) state.old) result state.new }
+    {
+        match e {
+            Expression::Null => Ok(Value::Null),
+            Expression::Bool(b) => Ok(Value::Bool(*b)),
+            Expression::Number(n) => Ok(Value::Int(*n)),
+            Expression::Text(bytes) => text_value(bytes),
+            Expression::Variable(name) => variable_value(name, state),
+            Expression::Array(items) => self.array(items.as_slice(), state),
+            Expression::Call(name, arguments) => self.named(name, arguments.as_slice(), state),
+            Expression::Isset(places) => self.isset(places.as_slice(), state),
+            Expression::Index(base, indices) => self.index(
+                base.as_ref(),
+                indices.as_slice(),
+                state,
+            ),
+            Expression::Unary(op, operand) => self.unary(*op, operand.as_ref(), state),
+            Expression::Step(op, order, place) => self.step(*op, *order, place, state),
+            Expression::Chain(first, links) => self.chain(first.as_ref(), links.as_slice(), state),
+            Expression::Coalesce(left, right) => {
+                self.coalesce(left.as_ref(), right.as_ref(), state)
+            }
+            Expression::Conditional(test, middle, otherwise) => {
+                self.conditional(test.as_ref(), middle, otherwise.as_ref(), state)
+            }
+            Expression::Include(how, file) => self.inclusion(*how, file.as_ref(), state),
+            Expression::Assign(place, right) => self.assign(place, right.as_ref(), false, state),
+            Expression::Compound(op, place, right) => {
+                self.compound(*op, place, right.as_ref(), state)
+            }
+            Expression::CoalesceAssign(place, right) => {
+                self.coalesce_assign(place, right.as_ref(), state)
+            }
+            Expression::Push(place, right) => self.assign(place, right.as_ref(), true, state),
+        }
+    }
+
+    /// The value of an expression to the left of `??`.
+    #[cycle(evaluate)]
+    pub(crate) fn found(&self, e: &Expression, state: &mut State) -> Result<Value, Halt>
+        ensures { Evaluates (O.rules self.now.outside.now) ((expression_run e.now).found (goes_by self.now) state.old) result state.new }
+    {
+        match e {
+            Expression::Index(base, indices) => self.found_index(
+                base.as_ref(),
+                indices.as_slice(),
+                state,
+            ),
+            _ => self.expression(e, state),
+        }
+    }
+
+    /// The values of expressions, one after another.
+    #[cycle(evaluate)]
+    pub(crate) fn values(&self, all: &[Expression], state: &mut State) -> Result<Items<Value>, Halt>
+        ensures { Evaluates (O.rules self.now.outside.now) (evaluations all.now (goes_by self.now) state.old) result state.new }
+    {
+        let mut values = Vec::new(self.alloc);
+        for e in all {
+            values.push(self.expression(e, state)?)?;
+        }
+        Ok(Items::of(values))
+    }
+
+    /// The value of an operator with one operand.
+    #[cycle(evaluate)]
+    fn unary(&self, op: UnaryOp, operand: &Expression, state: &mut State) -> Result<Value, Halt>
+        ensures { Evaluates (O.rules self.now.outside.now) (operated op (expression_run operand.now) (goes_by self.now) state.old) result state.new }
+    {
+        let value = self.expression(operand, state)?;
+        value_of(unary(op, &value), state)
+    }
+
+    /// The value of an `include` or a `require`.
+    #[cycle(evaluate)]
+    fn inclusion(&self, how: Inclusion, file: &Expression, state: &mut State) -> Result<Value, Halt>
+        ensures { Evaluates (O.rules self.now.outside.now) (included how (expression_run file.now) (goes_by self.now) state.old) result state.new }
+    {
+        let value = self.expression(file, state)?;
+        self.include(how, &value, state)
+    }
+}

@@ -1,0 +1,109 @@
+//! Variables that are read in their place.
+
+ghost use Rattle.std.specs.Prelude.{◌≡◌, true, IfSome, [], ◌∷◌};
+ghost use Rattle.dp_tree.specs.Purity.{is_pure as pure};
+ghost use Rattle.dp_tree.specs.declared.tree.Expression.TheVariants as tree;
+ghost use Rattle.dp_value.specs.Value.{data_of};
+ghost use Rattle.dp_operations.specs.Builtins.{builtin_of};
+ghost use Rattle.dp_operations.specs.Indexing.{indexed, looked_up};
+ghost use Rattle.dp_meaning.specs.Drive.{Evaluates, Rules};
+ghost use Rattle.dp_meaning.specs.Evaluation.{IsEntry};
+ghost use Rattle.dp_meaning.specs.Places.{variable as value_named};
+ghost use Rattle.dp_meaning.specs.Values.{builtin_run, value_run};
+
+use crate::answers::{builtin_value, value_of};
+use crate::halt::Halt;
+use dp_operations::{builtin, find, index};
+use dp_state::State;
+use dp_tree::{Expression, is_pure};
+use dp_value::{Builtin, Bytes, Value};
+use std::alloc::Global;
+use std::slice;
+
+/// An entry of a variable under an index that changes nothing, and the indices behind it.
+#[derive(Clone, Copy)]
+pub(crate) struct Entry<'a> {
+    pub(crate) name: &'a Bytes,
+    pub(crate) index: &'a Expression,
+    pub(crate) rest: &'a [Expression],
+}
+
+/// The entry that is read, where the base is a variable and the first index changes nothing.
+pub(crate) fn entry_of<'a>(base: &'a Expression, indices: &'a [Expression]) -> Option<Entry<'a>>
+    ensures { IfSome result (λ entry. IsEntry base.now indices.now entry) }
+{
+    match base {
+        Expression::Variable(name) => pure_entry(name, indices),
+        _ => None,
+    }
+}
+
+/// The entry of a variable under these indices, where the first one changes nothing.
+fn pure_entry<'a>(name: &'a Bytes, indices: &'a [Expression]) -> Option<Entry<'a>>
+    ensures { IfSome result (λ entry. (entry.name.now ≡ name.now) × (indices.now ≡ entry.index.now ∷ entry.rest.now) × (pure entry.index.now ≡ true)) }
+{
+    let (index, rest) = indices.split_first()?;
+    if !is_pure(index) {
+        return None;
+    }
+    Some(Entry { name, index, rest })
+}
+
+/// The entry of a variable under an index.
+pub(crate) fn entry_in_place(
+    alloc: Global,
+    name: &Bytes,
+    at: &Value,
+    state: &State,
+) -> Result<Value, Halt>
+    ensures { (rules : Rules) → Evaluates rules (value_run (indexed (data_of (value_named name.now state.now)) (data_of at.now)) state.now) result state.now }
+{
+    match state.read(name) {
+        Some(value) => value_of(index(alloc, value, at), state),
+        None => value_of(index(alloc, &Value::Null, at), state),
+    }
+}
+
+/// The entry of a variable under an index, as isset finds it.
+pub(crate) fn found_in_place(
+    alloc: Global,
+    name: &Bytes,
+    at: &Value,
+    state: &State,
+) -> Result<Value, Halt>
+    ensures { (rules : Rules) → Evaluates rules (value_run (looked_up (data_of (value_named name.now state.now)) (data_of at.now)) state.now) result state.now }
+{
+    match state.read(name) {
+        Some(value) => value_of(find(alloc, value, at), state),
+        None => value_of(find(alloc, &Value::Null, at), state),
+    }
+}
+
+/// The variable that is the only argument, where one is.
+pub(crate) fn only_variable(arguments: &[Expression]) -> Option<&Bytes>
+    ensures { IfSome result (λ name. arguments.now ≡ tree.Variable name.now ∷ []) }
+{
+    let (first, rest) = arguments.split_first()?;
+    if !rest.is_empty() {
+        return None;
+    }
+    match first {
+        Expression::Variable(name) => Some(name),
+        _ => None,
+    }
+}
+
+/// The value of a built-in function of a variable alone.
+pub(crate) fn builtin_in_place(
+    alloc: Global,
+    function: Builtin,
+    name: &Bytes,
+    state: &State,
+) -> Result<Value, Halt>
+    ensures { (rules : Rules) → Evaluates rules (builtin_run (builtin_of function (data_of (value_named name.now state.now) ∷ [])) state.now) result state.now }
+{
+    match state.read(name) {
+        Some(value) => builtin_value(builtin(alloc, function, slice::from_ref(value)), state),
+        None => builtin_value(builtin(alloc, function, &[Value::Null]), state),
+    }
+}

@@ -1,0 +1,82 @@
+//! The evaluation of array literals.
+
+#![tactic(auto, using(crate::proofs::Drives::evaluating))]
+
+use crate::evaluator::Evaluator;
+use crate::halt::Halt;
+use crate::items::{pushed, put};
+use crate::outside::Outside;
+use dp_state::State;
+use dp_tree::{Expression, Item};
+use dp_value::{PhpArray, Value};
+
+impl<O: Outside> Evaluator<'_, O> {
+    ghost use Rattle.std.specs.Prelude.{map, Option, Some, None};
+    ghost use Rattle.dp_value.specs.declared.value.Value.TheVariants as variant;
+    ghost use Rattle.dp_value.specs.Table.{empty};
+    ghost use Rattle.dp_meaning.specs.Drive.{Evaluates};
+    ghost use Rattle.dp_meaning.specs.Evaluation.{goes_by};
+    ghost use Rattle.dp_meaning.specs.Expressions.{expression_run, item_run, item_run_of, items_run, keyed_run};
+
+    /// The value of a literal.
+    #[cycle(evaluate)]
+    pub(crate) fn array(&self, items: &[Item], state: &mut State) -> Result<Value, Halt>
+        ensures { Evaluates (O.rules self.now.outside.now) (items_run (map item_run_of items.now) (variant.Array empty) (goes_by self.now) state.old) result state.new }
+    {
+        let mut array = Value::Array(PhpArray::new(self.alloc));
+        for item in items {
+            array = self.item(item, array, state)?;
+        }
+        Ok(array)
+    }
+
+    /// A literal with one item more.
+    #[cycle(evaluate)]
+    fn item(&self, item: &Item, array: Value, state: &mut State) -> Result<Value, Halt>
+        ensures { Evaluates (O.rules self.now.outside.now) (item_run_of item.now array (goes_by self.now) state.old) result state.new }
+    {
+        match &item.key {
+            None => self.last(&item.value, array, state),
+            Some(key) => self.keyed(key, &item.value, array, state),
+        }
+    }
+
+    /// A literal with one item more, behind its last.
+    #[cycle(evaluate)]
+    fn last(&self, item: &Expression, array: Value, state: &mut State) -> Result<Value, Halt>
+        ensures { Evaluates (O.rules self.now.outside.now) (item_run None (expression_run item.now) array (goes_by self.now) state.old) result state.new }
+    {
+        let value = self.expression(item, state)?;
+        pushed(self.alloc, array, value, state)
+    }
+
+    /// A literal with one item more, under a key.
+    #[cycle(evaluate)]
+    fn keyed(
+        &self,
+        key: &Expression,
+        item: &Expression,
+        array: Value,
+        state: &mut State,
+    ) -> Result<Value, Halt>
+        ensures { Evaluates (O.rules self.now.outside.now) (item_run (Some (expression_run key.now)) (expression_run item.now) array (goes_by self.now) state.old) result state.new }
+    {
+        let at = self.expression(key, state)?;
+        self.keyed_by(&at, item, array, state)
+    }
+
+    /// A literal with one item more, under an index.
+    #[cycle(evaluate)]
+    fn keyed_by(
+        &self,
+        at: &Value,
+        item: &Expression,
+        array: Value,
+        state: &mut State,
+    ) -> Result<Value, Halt>
+        ensures { Evaluates (O.rules self.now.outside.now) (keyed_run at.now (expression_run item.now) array (goes_by self.now) state.old) result state.new }
+    {
+        let value = self.expression(item, state)?;
+        put(self.alloc, array, at, value, state)
+    }
+}

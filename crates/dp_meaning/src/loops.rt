@@ -1,0 +1,99 @@
+//! The evaluation of loops.
+
+#![tactic(auto, using(crate::proofs::Drives::evaluating))]
+
+use crate::binding::bind_entry;
+use crate::evaluator::Evaluator;
+use crate::halt::Halt;
+use crate::outside::Outside;
+use crate::signal::Signal;
+use crate::turning::{Turn, last_holds, turn_over};
+use dp_state::{Outcome, State};
+use dp_tree::{Binding, Expression, Statement};
+use dp_value::{Value, truthy};
+
+impl<O: Outside> Evaluator<'_, O> {
+    ghost use Rattle.dp_meaning.specs.Drive.{Evaluates};
+    ghost use Rattle.dp_meaning.specs.Evaluation.{goes_by};
+    ghost use Rattle.dp_meaning.specs.Expressions.{evaluation, evaluations};
+    ghost use Rattle.dp_meaning.specs.Loops.{do_turns, each_run, entries, turns};
+    ghost use Rattle.dp_meaning.specs.Statements.{statement_run};
+
+    /// The turns of a `while` or a `for`.
+    #[cycle(evaluate)]
+    pub(crate) fn turns(
+        &self,
+        line: u32,
+        tests: &[Expression],
+        after: &[Expression],
+        body: &Statement,
+        state: &mut State,
+    ) -> Result<Signal, Halt>
+        ensures { Evaluates (O.rules self.now.outside.now) (turns self.now.bound line (evaluations tests.now (goes_by self.now)) (evaluations after.now (goes_by self.now)) (statement_run body.now (goes_by self.now)) state.old) result state.new }
+    {
+        for _turn in 0..self.bound {
+            self.place(line, state)?;
+            let values = self.values(tests, state)?;
+            if !last_holds(values.as_slice()) {
+                return Ok(Signal::Next);
+            }
+            match turn_over(self.statement(body, state)?) {
+                Turn::On => {}
+                Turn::Out(signal) => return Ok(signal),
+            }
+            let _values = self.values(after, state)?;
+        }
+        Err(Halt::Finished(Outcome::Bound))
+    }
+
+    /// The turns of a `do`.
+    #[cycle(evaluate)]
+    pub(crate) fn do_turns(
+        &self,
+        line: u32,
+        test: &Expression,
+        body: &Statement,
+        state: &mut State,
+    ) -> Result<Signal, Halt>
+        ensures { Evaluates (O.rules self.now.outside.now) (do_turns self.now.bound line (evaluation test.now (goes_by self.now)) (statement_run body.now (goes_by self.now)) state.old) result state.new }
+    {
+        for _turn in 0..self.bound {
+            match turn_over(self.statement(body, state)?) {
+                Turn::On => {}
+                Turn::Out(signal) => return Ok(signal),
+            }
+            self.place(line, state)?;
+            let value = self.expression(test, state)?;
+            if !truthy(&value) {
+                return Ok(Signal::Next);
+            }
+        }
+        Err(Halt::Finished(Outcome::Bound))
+    }
+
+    /// The turns of a `foreach`.
+    #[cycle(evaluate)]
+    pub(crate) fn each(
+        &self,
+        line: u32,
+        binding: &Binding,
+        subject: &Value,
+        body: &Statement,
+        state: &mut State,
+    ) -> Result<Signal, Halt>
+        ensures { Evaluates (O.rules self.now.outside.now) (each_run line binding.now (entries subject.now) (statement_run body.now (goes_by self.now)) state.old) result state.new }
+    {
+        let Value::Array(array) = subject else {
+            return Ok(Signal::Next);
+        };
+        for at in 0..array.len() {
+            self.place(line, state)?;
+            bind_entry(binding, array, at, state)?;
+            match turn_over(self.statement(body, state)?) {
+                Turn::On => {}
+                Turn::Out(signal) => return Ok(signal),
+            }
+        }
+        Ok(Signal::Next)
+    }
+}

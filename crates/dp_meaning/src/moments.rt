@@ -1,0 +1,49 @@
+//! The moments of a run.
+
+ghost use Rattle.std.specs.Prelude.{◌≡◌, IfOk};
+ghost use Rattle.dp_meaning.specs.Trace.{function_called, function_of as name_of, moment_of as moment_at};
+
+use dp_state::{FrameKind, Moment, MomentKind, State};
+use dp_value::{Bytes, Memory};
+
+/// The moment that has come in a state.
+pub(crate) fn moment_of(kind: MomentKind, state: &State) -> Result<Moment, Memory>
+    ensures { IfOk result (λ moment. moment ≡ moment_at kind state.now) }
+{
+    let Ok(depth) = u32::try_from(state.frames.len()) else {
+        return Err(Memory);
+    };
+    Ok(Moment {
+        number: state.moments,
+        kind,
+        file: state.file(),
+        line: state.line(),
+        depth,
+        function: function_of(kind, state)?,
+    })
+}
+
+/// The function that is entered or left.
+fn function_of(kind: MomentKind, state: &State) -> Result<Option<Bytes>, Memory>
+    ensures { IfOk result (λ name. name ≡ name_of kind state.now) }
+{
+    match kind {
+        MomentKind::Place => Ok(None),
+        MomentKind::Enter => called(state),
+        MomentKind::Leave => called(state),
+    }
+}
+
+/// The name of the function of the top frame.
+fn called(state: &State) -> Result<Option<Bytes>, Memory>
+    ensures { IfOk result (λ name. name ≡ function_called state.now) }
+{
+    match state.frames.as_slice().last() {
+        None => Ok(None),
+        Some(frame) => match &frame.kind {
+            FrameKind::Main => Ok(None),
+            FrameKind::Called(name) => Ok(Some(name.try_clone()?)),
+            FrameKind::Included => Ok(None),
+        },
+    }
+}

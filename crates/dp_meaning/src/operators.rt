@@ -1,0 +1,144 @@
+//! The evaluation of operators that may leave an operand out.
+
+#![tactic(auto, using(crate::proofs::Drives::evaluating))]
+
+use crate::answers::value_of;
+use crate::evaluator::Evaluator;
+use crate::halt::Halt;
+use crate::operands::{kept, present};
+use crate::outside::Outside;
+use dp_operations::binary;
+use dp_state::State;
+use dp_tree::{Boxed, Expression, Link, Operator};
+use dp_value::{BinaryOp, Value, truthy};
+
+impl<O: Outside> Evaluator<'_, O> {
+    ghost use Rattle.std.specs.Prelude.{map, option_map};
+    ghost use Rattle.dp_tree.specs.declared.tree.Operator.TheVariants.{Of};
+    ghost use Rattle.dp_meaning.specs.Drive.{Evaluates};
+    ghost use Rattle.dp_meaning.specs.Evaluation.{goes_by};
+    ghost use Rattle.dp_meaning.specs.Expressions.{chained, choice, coalesced, conditional, expression_run, link_run, links_run, operator_run, tested};
+
+    /// The value of operands that are joined from left to right.
+    #[cycle(evaluate)]
+    pub(crate) fn chain(
+        &self,
+        first: &Expression,
+        links: &[Link],
+        state: &mut State,
+    ) -> Result<Value, Halt>
+        ensures { Evaluates (O.rules self.now.outside.now) (chained (expression_run first.now) (map link_run links.now) (goes_by self.now) state.old) result state.new }
+    {
+        let value = self.expression(first, state)?;
+        self.links(value, links, state)
+    }
+
+    /// The value of operands that are joined to a first one.
+    #[cycle(evaluate)]
+    fn links(&self, first: Value, links: &[Link], state: &mut State) -> Result<Value, Halt>
+        ensures { Evaluates (O.rules self.now.outside.now) (links_run (map link_run links.now) first (goes_by self.now) state.old) result state.new }
+    {
+        let mut value = first;
+        for link in links {
+            value = self.link(&value, link, state)?;
+        }
+        Ok(value)
+    }
+
+    /// The value of two operands that are joined.
+    #[cycle(evaluate)]
+    fn link(&self, left: &Value, link: &Link, state: &mut State) -> Result<Value, Halt>
+        ensures { Evaluates (O.rules self.now.outside.now) (link_run link.now left.now (goes_by self.now) state.old) result state.new }
+    {
+        match link.operator {
+            Operator::Or => {
+                if truthy(left) {
+                    return Ok(Value::Bool(true));
+                }
+                self.truth(&link.operand, state)
+            }
+            Operator::And => {
+                if !truthy(left) {
+                    return Ok(Value::Bool(false));
+                }
+                self.truth(&link.operand, state)
+            }
+            Operator::Of(op) => self.joined(op, left, &link.operand, state),
+        }
+    }
+
+    /// Whether the value of an operand is true.
+    #[cycle(evaluate)]
+    fn truth(&self, operand: &Expression, state: &mut State) -> Result<Value, Halt>
+        ensures { Evaluates (O.rules self.now.outside.now) (tested (expression_run operand.now) (goes_by self.now) state.old) result state.new }
+    {
+        let value = self.expression(operand, state)?;
+        Ok(Value::Bool(truthy(&value)))
+    }
+
+    /// The value of an operator with two operands, of which the left one is evaluated.
+    #[cycle(evaluate)]
+    fn joined(
+        &self,
+        op: BinaryOp,
+        left: &Value,
+        operand: &Expression,
+        state: &mut State,
+    ) -> Result<Value, Halt>
+        ensures { Evaluates (O.rules self.now.outside.now) (operator_run (Of op) (expression_run operand.now) left.now (goes_by self.now) state.old) result state.new }
+    {
+        let right = self.expression(operand, state)?;
+        value_of(binary(self.alloc, op, left, &right), state)
+    }
+
+    /// `a ?? b`
+    #[cycle(evaluate)]
+    pub(crate) fn coalesce(
+        &self,
+        left: &Expression,
+        right: &Expression,
+        state: &mut State,
+    ) -> Result<Value, Halt>
+        ensures { Evaluates (O.rules self.now.outside.now) (coalesced (expression_run left.now) (expression_run right.now) (goes_by self.now) state.old) result state.new }
+    {
+        let value = self.found(left, state)?;
+        match present(value) {
+            Some(value) => Ok(value),
+            None => self.expression(right, state),
+        }
+    }
+
+    /// `a ? b : c`, or `a ?: c`
+    #[cycle(evaluate)]
+    pub(crate) fn conditional(
+        &self,
+        test: &Expression,
+        middle: &Option<Boxed<Expression>>,
+        otherwise: &Expression,
+        state: &mut State,
+    ) -> Result<Value, Halt>
+        ensures { Evaluates (O.rules self.now.outside.now) (conditional (expression_run test.now) (option_map expression_run middle.now) (expression_run otherwise.now) (goes_by self.now) state.old) result state.new }
+    {
+        let value = self.expression(test, state)?;
+        match kept(value) {
+            Some(value) => self.chosen(middle, value, state),
+            None => self.expression(otherwise, state),
+        }
+    }
+
+    /// The value of a conditional whose test holds.
+    #[cycle(evaluate)]
+    fn chosen(
+        &self,
+        middle: &Option<Boxed<Expression>>,
+        test: Value,
+        state: &mut State,
+    ) -> Result<Value, Halt>
+        ensures { Evaluates (O.rules self.now.outside.now) (choice (option_map expression_run middle.now) test (goes_by self.now) state.old) result state.new }
+    {
+        match middle {
+            None => Ok(test),
+            Some(middle) => self.expression(middle.as_ref(), state),
+        }
+    }
+}

@@ -1,0 +1,153 @@
+//! What is done with places whose indices are evaluated.
+
+ghost use Rattle.std.specs.Prelude.{◌≡◌, IfOk, is_some};
+ghost use Rattle.std.specs.List.{list_all};
+ghost use Rattle.dp_value.specs.KeyOf.{key_of_data};
+ghost use Rattle.dp_value.specs.Value.{data_of};
+ghost use Rattle.dp_state.specs.Places.{keys_of_indices, unset, with_global};
+ghost use Rattle.dp_meaning.specs.Drive.{Evaluates, Rules};
+ghost use Rattle.dp_meaning.specs.Loops.{bind_name};
+ghost use Rattle.dp_meaning.specs.Places.{assign_run, found_run, old_run, read_run, variable as value_named};
+ghost use Rattle.dp_meaning.specs.Run.{Done, taken};
+
+use crate::answers::value_of;
+use crate::faults::{fatal, fault};
+use crate::halt::Halt;
+use dp_operations::{find_by, index_by};
+use dp_state::{FatalKind, State};
+use dp_value::{Bytes, Key, Memory, Value, ValueError, key_of};
+use std::alloc::Global;
+
+/// The value of a variable of the top frame, null where it is missing.
+pub(crate) fn variable(name: &Bytes, state: &State) -> Result<Value, Memory>
+    ensures { IfOk result (λ value. value ≡ value_named name.now state.now) }
+{
+    match state.read(name) {
+        Some(value) => value.try_clone(),
+        None => Ok(Value::Null),
+    }
+}
+
+/// The value of a place.
+pub(crate) fn read_place(
+    alloc: Global,
+    name: &Bytes,
+    indices: &[Value],
+    state: &State,
+) -> Result<Value, Halt>
+    ensures { (rules : Rules) → Evaluates rules (read_run name.now indices.now state.now) result state.now }
+{
+    match state.read(name) {
+        Some(value) => value_of(index_by(alloc, value, indices), state),
+        None => value_of(index_by(alloc, &Value::Null, indices), state),
+    }
+}
+
+/// The value of a place as isset finds it.
+pub(crate) fn found_place(
+    alloc: Global,
+    name: &Bytes,
+    indices: &[Value],
+    state: &State,
+) -> Result<Value, Halt>
+    ensures { (rules : Rules) → Evaluates rules (found_run name.now indices.now state.now) result state.now }
+{
+    match state.read(name) {
+        Some(value) => value_of(find_by(alloc, value, indices), state),
+        None => value_of(find_by(alloc, &Value::Null, indices), state),
+    }
+}
+
+/// The old value of a place that is changed.
+pub(crate) fn old_place(
+    alloc: Global,
+    name: &Bytes,
+    indices: &[Value],
+    state: &State,
+) -> Result<Value, Halt>
+    ensures { (rules : Rules) → Evaluates rules (old_run name.now indices.now state.now) result state.now }
+{
+    if !are_keys(alloc, indices)? {
+        return Err(fatal(FatalKind::BadKey, state));
+    }
+    read_place(alloc, name, indices, state)
+}
+
+/// Writes a value, or one more entry, and gives the value.
+pub(crate) fn assign_place(
+    alloc: Global,
+    name: &Bytes,
+    indices: &[Value],
+    push: bool,
+    value: Value,
+    state: &mut State,
+) -> Result<Value, Halt>
+    ensures { (rules : Rules) → Evaluates rules (assign_run name.now indices.now push value state.old) result state.new }
+{
+    let keys = keys_of(alloc, indices)?;
+    let copy = value.try_clone()?;
+    match state.assign(0, name, keys.as_slice(), push, value) {
+        Ok(()) => Ok(copy),
+        Err(why) => Err(fault(why, state)),
+    }
+}
+
+/// Gives a variable a value.
+pub(crate) fn assign_variable(name: &Bytes, value: Value, state: &mut State) -> Result<(), Halt>
+    ensures { (rules : Rules) → Evaluates rules (bind_name name.now value state.old) result state.new }
+{
+    match state.assign(0, name, &[], false, value) {
+        Ok(()) => Ok(()),
+        Err(why) => Err(fault(why, state)),
+    }
+}
+
+/// Takes a variable, or an entry of it, away.
+pub(crate) fn unset_place(
+    alloc: Global,
+    name: &Bytes,
+    indices: &[Value],
+    state: &mut State,
+) -> Result<(), Halt>
+    ensures { (rules : Rules) → Evaluates rules (taken (unset name.now (keys_of_indices indices.now) state.old) state.old) result state.new }
+{
+    let keys = keys_of(alloc, indices)?;
+    match state.unset(name, keys.as_slice()) {
+        Ok(()) => Ok(()),
+        Err(why) => Err(fault(why, state)),
+    }
+}
+
+/// The keys that indices become. One that is an array becomes none.
+fn keys_of(alloc: Global, indices: &[Value]) -> Result<Vec<Option<Key>>, Memory>
+    ensures { IfOk result (λ keys. keys.items ≡ keys_of_indices indices.now) }
+{
+    let mut keys = Vec::with_capacity(alloc, indices.len())?;
+    for index in indices {
+        keys.push(key_at(alloc, index)?)?;
+    }
+    Ok(keys)
+}
+
+/// Whether each index becomes a key.
+fn are_keys(alloc: Global, indices: &[Value]) -> Result<bool, Memory>
+    ensures { IfOk result (λ are. are ≡ list_all is_some (keys_of_indices indices.now)) }
+{
+    for index in indices {
+        if key_at(alloc, index)?.is_none() {
+            return Ok(false);
+        }
+    }
+    Ok(true)
+}
+
+/// The key that an index becomes.
+pub(crate) fn key_at(alloc: Global, index: &Value) -> Result<Option<Key>, Memory>
+    ensures { IfOk result (λ key. key ≡ key_of_data (data_of index.now)) }
+{
+    match key_of(alloc, index) {
+        Ok(key) => Ok(Some(key)),
+        Err(ValueError::BadKey) => Ok(None),
+        Err(_) => Err(Memory),
+    }
+}

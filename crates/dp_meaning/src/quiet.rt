@@ -1,0 +1,27 @@
+//! Moments at which nothing is done.
+
+use crate::halt::Halt;
+use crate::outside::Outside;
+use dp_state::{MomentKind, Outcome, State};
+
+/// A bound alone: nothing is written, and nothing stops the run before it.
+#[derive(Clone, Copy)]
+pub(crate) struct Quiet {
+    pub(crate) bound: u64,
+}
+
+impl Outside for Quiet {
+    ghost use Rattle.dp_meaning.specs.Drive.{quiet};
+
+    ghost rules = { λ q. quiet q.bound };
+
+    fn at_moment(&self, kind: MomentKind, line: u32, state: &mut State) -> Result<(), Halt> {
+        let _kind = kind;
+        if state.moments >= self.bound {
+            return Err(Halt::Finished(Outcome::Bound));
+        }
+        state.count();
+        state.set_line(line);
+        Ok(())
+    }
+}

@@ -1,0 +1,206 @@
+//! The evaluation of statements.
+
+#![tactic(auto, using(crate::proofs::Drives::evaluating))]
+
+use crate::answers::{exit_value, print_value};
+use crate::binding::bind_all;
+use crate::evaluator::Evaluator;
+use crate::halt::Halt;
+use crate::outside::Outside;
+use crate::places::unset_place;
+use crate::signal::Signal;
+use dp_state::{Outcome, State};
+use dp_tree::{Arm, Boxed, Expression, Place, Statement, StatementKind};
+use dp_value::{Value, truthy};
+use std::slice;
+
+impl<O: Outside> Evaluator<'_, O> {
+    ghost use Rattle.std.specs.Prelude.{map, option_map, ◌≡◌};
+    ghost use Rattle.dp_meaning.specs.Drive.{Evaluates};
+    ghost use Rattle.dp_meaning.specs.Evaluation.{goes_by};
+    ghost use Rattle.dp_meaning.specs.Expressions.{expression_run, place_run};
+    ghost use Rattle.dp_meaning.specs.Places.{unset_run};
+    ghost use Rattle.dp_meaning.specs.Run.{Done};
+    ghost use Rattle.dp_meaning.specs.Statements.{arm_run, arms_run, body_run, echoes, end_run, kind_run, return_run, statement_run};
+
+    /// Statements, one after another.
+    #[cycle(evaluate)]
+    pub(crate) fn body(&self, statements: &[Statement], state: &mut State) -> Result<Signal, Halt>
+        ensures { Evaluates (O.rules self.now.outside.now) (body_run statements.now (goes_by self.now) state.old) result state.new }
+    {
+        for statement in statements {
+            match self.statement(statement, state)? {
+                Signal::Next => {}
+                Signal::Break(loops) => return Ok(Signal::Break(loops)),
+                Signal::Continue(number) => return Ok(Signal::Continue(number)),
+                Signal::Return(value) => return Ok(Signal::Return(value)),
+            }
+        }
+        Ok(Signal::Next)
+    }
+
+    /// One statement.
+    #[cycle(evaluate)]
+    pub(crate) fn statement(&self, statement: &Statement, state: &mut State) -> Result<Signal, Halt>
+        ensures { Evaluates (O.rules self.now.outside.now) (statement_run statement.now (goes_by self.now) state.old) result state.new }
+    {
+        self.kind(&statement.kind, statement.line, state)
+    }
+
+    /// What a statement does, from this line on.
+    #[cycle(evaluate)]
+    fn kind(&self, kind: &StatementKind, line: u32, state: &mut State) -> Result<Signal, Halt>
+        ensures { Evaluates (O.rules self.now.outside.now) (kind_run kind.now line (goes_by self.now) state.old) result state.new }
+    {
+        match kind {
+            StatementKind::Expression(e) => {
+                self.place(line, state)?;
+                let _value = self.expression(e, state)?;
+                Ok(Signal::Next)
+            }
+            StatementKind::Echo(operands) => {
+                self.place(line, state)?;
+                self.echo(operands.as_slice(), state)
+            }
+            StatementKind::Block(statements) => self.body(statements.as_slice(), state),
+            StatementKind::Empty => Ok(Signal::Next),
+            StatementKind::If { arms, otherwise } => {
+                self.arms(arms.as_slice(), otherwise, state)
+            }
+            StatementKind::While { test, body } => {
+                self.turns(line, slice::from_ref(test), &[], body.as_ref(), state)
+            }
+            StatementKind::DoWhile {
+                body,
+                line: end,
+                test,
+            } => self.do_turns(*end, test, body.as_ref(), state),
+            StatementKind::For {
+                before,
+                tests,
+                after,
+                body,
+            } => {
+                self.place(line, state)?;
+                let _values = self.values(before.as_slice(), state)?;
+                self.turns(
+                    line,
+                    tests.as_slice(),
+                    after.as_slice(),
+                    body.as_ref(),
+                    state,
+                )
+            }
+            StatementKind::Foreach {
+                subject,
+                binding,
+                body,
+            } => {
+                self.place(line, state)?;
+                let subject = self.expression(subject, state)?;
+                self.each(line, binding, &subject, body.as_ref(), state)
+            }
+            StatementKind::Break(loops) => {
+                self.place(line, state)?;
+                Ok(Signal::Break(*loops))
+            }
+            StatementKind::Continue(number) => {
+                self.place(line, state)?;
+                Ok(Signal::Continue(*number))
+            }
+            StatementKind::Return(value) => {
+                self.place(line, state)?;
+                self.return_value(value, state)
+            }
+            StatementKind::Global(names) => {
+                self.place(line, state)?;
+                bind_all(names.as_slice(), state)?;
+                Ok(Signal::Next)
+            }
+            StatementKind::Unset(places) => {
+                self.place(line, state)?;
+                self.unset(places.as_slice(), state)?;
+                Ok(Signal::Next)
+            }
+            StatementKind::Exit(value) => {
+                self.place(line, state)?;
+                self.exit(value, state)
+            }
+        }
+    }
+
+    /// `echo`
+    #[cycle(evaluate)]
+    fn echo(&self, operands: &[Expression], state: &mut State) -> Result<Signal, Halt>
+        ensures { Evaluates (O.rules self.now.outside.now) (echoes (map expression_run operands.now) (goes_by self.now) state.old) result state.new }
+    {
+        for operand in operands {
+            let value = self.expression(operand, state)?;
+            print_value(self.alloc, &value, state)?;
+        }
+        Ok(Signal::Next)
+    }
+
+    /// The arms of an `if`, and what is done where no test holds.
+    #[cycle(evaluate)]
+    fn arms(
+        &self,
+        arms: &[Arm],
+        otherwise: &Option<Boxed<Statement>>,
+        state: &mut State,
+    ) -> Result<Signal, Halt>
+        ensures { Evaluates (O.rules self.now.outside.now) (arms_run (map arm_run arms.now) (option_map statement_run otherwise.now) (goes_by self.now) state.old) result state.new }
+    {
+        for arm in arms {
+            self.place(arm.line, state)?;
+            let value = self.expression(&arm.test, state)?;
+            if truthy(&value) {
+                return self.statement(&arm.body, state);
+            }
+        }
+        match otherwise {
+            None => Ok(Signal::Next),
+            Some(statement) => self.statement(statement.as_ref(), state),
+        }
+    }
+
+    /// `return`
+    #[cycle(evaluate)]
+    fn return_value(&self, value: &Option<Expression>, state: &mut State) -> Result<Signal, Halt>
+        ensures { Evaluates (O.rules self.now.outside.now) (return_run value.now (goes_by self.now) state.old) result state.new }
+    {
+        match value {
+            None => Ok(Signal::Return(Value::Null)),
+            Some(e) => {
+                let value = self.expression(e, state)?;
+                Ok(Signal::Return(value))
+            }
+        }
+    }
+
+    /// `unset`
+    #[cycle(evaluate)]
+    fn unset(&self, places: &[Place], state: &mut State) -> Result<(), Halt>
+        ensures { Evaluates (O.rules self.now.outside.now) (unset_run (map place_run places.now) (goes_by self.now) state.old) result state.new }
+    {
+        for place in places {
+            let indices = self.values(place.indices.as_slice(), state)?;
+            unset_place(self.alloc, &place.name, indices.as_slice(), state)?;
+        }
+        Ok(())
+    }
+
+    /// `exit`
+    #[cycle(evaluate)]
+    fn exit(&self, value: &Option<Expression>, state: &mut State) -> Result<Signal, Halt>
+        ensures { Evaluates (O.rules self.now.outside.now) (end_run value.now (goes_by self.now) state.old) result state.new }
+    {
+        match value {
+            None => Err(Halt::Finished(Outcome::Exit(0))),
+            Some(e) => {
+                let value = self.expression(e, state)?;
+                exit_value(&value, state)
+            }
+        }
+    }
+}
