@@ -1,0 +1,275 @@
+-- The run of a program: what is fetched, what its files make, and what its end is.
+use Rattle.std.proofs.Common.{◌≡◌, ◌⊎◌, ℕ, zero, suc, ◌+◌, ◌<◌, ◌≤◌, Bool, true, false, List, [], ◌∷◌, ◌++◌, length, map, All, Option, Some, None, Result, Ok, Err, refl, sym, ap, ◌∙◌, subst, arith, inl, inr, ⊎_elim, get_or, take, IsSome, String, string_bytes}
+use Rattle.std.specs.declared.alloc.Global.{Global}
+use Rattle.std.specs.Prelude.{IfOk, MatchResult}
+use Rattle.std.specs.List.{IsDistinct}
+use Rattle.std.specs.Str.{bytes_eq}
+use Rattle.std.specs.Io.KnownBytes.{Appends}
+use Rattle.std.proofs.lemmas.List.{length-map, length-take, get_or-map, map-append, take_all, take_more}
+use Rattle.std.proofs.lemmas.List.Elements.{All-push}
+use Rattle.dp_outside.specs.Causes.{Rose}
+use Rattle.dp_outside.specs.Changes.{Change, IsUntouched}
+use Rattle.dp_outside.specs.Files.{Fetches, Lacks}
+use Rattle.dp_bundle.specs.Bundles.{Given, AreForBundle, IsAnswer, IsFileName, Makes, without_slash}
+use Rattle.dp_bundle.specs.declared.bundle.Bundle.{Bundle}
+use Rattle.dp_bundle.specs.declared.errors.BundleError.{BundleError}
+use Rattle.dp_bundle.specs.declared.errors.BundleError.TheVariants as unmade
+use Rattle.dp_state.specs.declared.moments.Outcome.{Outcome}
+use Rattle.dp_state.specs.declared.moments.Outcome.TheVariants as way
+use Rattle.dp_meaning.specs.Trace.{outcome_of, plain}
+use Rattle.dp_meaning.proofs.Exits.{exit_small}
+use Rattle.dp_run.specs.declared.error.RunError.{RunError}
+use Rattle.dp_run.specs.declared.error.RunError.TheVariants as run
+use Rattle.dp_run.specs.Runs.{AreFetched, AreNames, Ends, FetchCaused, FetchingCaused, Files, Holds, IsHeld, IsMade, IsNext, IsPlainPut, IsPlainUnput, IsRefused, Make, RunCaused, Runs, file_limit, is_bad_file, judged, refusal}
+
+-- ---- what is fetched, one file after another
+
+name_of : Given → List ℕ
+name_of file = file.0
+
+pub fetched_none : (files : Files) → AreFetched files [] []
+fetched_none files = record { named = refl; contents = λ k d below. absurd (omega (arith, below)) }
+
+pub fetched_next : (files : Files) (names : List (List ℕ)) (name : List ℕ) (fetched more : List Given) → AreFetched files names fetched → IsNext files name fetched more
+    → AreFetched files (names ++ name ∷ []) more
+fetched_next files names name fetched more are next = record {
+  named = ap (map (λ (f : Given). f.0)) next.appended ∙ map-append (λ (f : Given). f.0) fetched ((name, next.content) ∷ []) ∙ ap (λ (l : List (List ℕ)). l ++ name ∷ []) are.named;
+  contents = subst (All (λ (f : Given). Fetches files f.0 file_limit f.1)) (sym next.appended)
+      (All-push (λ (f : Given). Fetches files f.0 file_limit f.1) fetched (name, next.content) are.contents next.is_content);
+}
+
+-- as many as names
+pub fetched_count : (files : Files) (names : List (List ℕ)) (fetched : List Given) → AreFetched files names fetched → length fetched ≡ length names
+fetched_count files names fetched are = sym (length-map fetched (λ (f : Given). f.0)) ∙ ap length are.named
+
+-- why one file was not fetched is why the files were not
+pub not_fetched : (why : RunError) (number : ℕ) (name : List ℕ) (files : Files) (first before after : ℕ) (names : List (List ℕ)) → FetchCaused why number name files before after
+    → first ≤ before → number < length names → get_or names number [] ≡ name → FetchingCaused why names files first after
+not_fetched (run.ShelfFailed file) number name files first before after names h later below at = (omega (arith, h.0, below), omega (arith, h.1, later))
+not_fetched (run.NoFile file) number name files first before after names h later below at =
+    (omega (arith, h.0, below), subst (Lacks files) (sym (ap (λ n. get_or names n []) h.0 ∙ at)) h.1)
+not_fetched run.Memory number name files first before after names h later below at = tt
+not_fetched (run.TooLong file) number name files first before after names h later below at = absurd h
+not_fetched (run.Source file why) number name files first before after names h later below at = absurd h
+not_fetched (run.Fatal kind file line) number name files first before after names h later below at = absurd h
+not_fetched run.Bound number name files first before after names h later below at = absurd h
+not_fetched run.OutFault number name files first before after names h later below at = absurd h
+
+-- files that are fetched under a program's names are for a bundle
+pub for_bundle : (files : Files) (names : List (List ℕ)) (fetched : List Given) → AreNames names → AreFetched files names fetched → AreForBundle fetched
+for_bundle files names fetched are given =
+    let count = fetched_count files names fetched given in
+    record {
+      some = omega (arith, are.some, count);
+      few = omega (arith, are.few, count);
+      named = λ k d below.
+          subst IsFileName (ap (λ (l : List (List ℕ)). get_or l k d.0) (sym given.named) ∙ get_or-map (λ (f : Given). f.0) fetched k d d.0 below)
+          (are.named k d.0 (omega (arith, below, count)));
+      apart = subst (IsDistinct bytes_eq) (ap (map without_slash) (sym given.named) ∙ bare_names fetched) are.apart;
+    } where
+      bare_names : (l : List Given) → map without_slash (map (λ (f : Given). f.0) l) ≡ map (λ (f : Given). without_slash f.0) l
+      bare_names [] = refl
+      bare_names (f ∷ l) = ap (λ (m : List (List ℕ)). without_slash f.0 ∷ m) (bare_names l)
+
+-- ---- a loop over names
+
+module _ (files : Files) (names : List (String Global)) (i : ℕ) (fetched : List Given) (are : AreFetched files (map string_bytes (take i names)) fetched) (more : i < length names) where
+  pub so_many : length fetched ≡ i
+  so_many = omega (arith, more, fetched_count files (map string_bytes (take i names)) fetched are, length-map (take i names) string_bytes, length-take i names)
+
+  pub one_more : (item : String Global) (after : List Given) → item ≡ get_or names i item → IsNext files (string_bytes item) fetched after
+      → AreFetched files (map string_bytes (take (i + 1) names)) after
+  one_more item after is next =
+      let path : map string_bytes (take (i + 1) names) ≡ map string_bytes (take i names) ++ string_bytes item ∷ [] =
+      ap (map string_bytes) (take_more names i item more) ∙ map-append string_bytes (take i names) (get_or names i item ∷ [])
+      ∙ ap (λ (s : String Global). map string_bytes (take i names) ++ string_bytes s ∷ []) (sym is) in
+      subst (λ (l : List (List ℕ)). AreFetched files l after) (sym path) (fetched_next files (map string_bytes (take i names)) (string_bytes item) fetched after are next)
+
+  pub none_more : (why : RunError) (item : String Global) (first before after : ℕ) → item ≡ get_or names i item → first ≤ before
+      → FetchCaused why (length fetched) (string_bytes item) files before after → FetchingCaused why (map string_bytes names) files first after
+  none_more why item first before after is later h =
+      not_fetched why i (string_bytes item) files first before after (map string_bytes names)
+      (subst (λ n. FetchCaused why n (string_bytes item) files before after) so_many h) later (omega (arith, more, length-map names string_bytes))
+      (get_or-map string_bytes names i item [] more ∙ ap string_bytes (sym is))
+
+pub all_fetched : (files : Files) (names : List (String Global)) (i : ℕ) (fetched : List Given) → AreFetched files (map string_bytes (take i names)) fetched → length names ≤ i
+    → AreFetched files (map string_bytes names) fetched
+all_fetched files names i fetched are over = subst (λ (l : List (String Global)). AreFetched files (map string_bytes l) fetched) (take_all i names over) are
+
+-- ---- what fetched files make
+
+pub made_ok : (fetched : List Given) (program : Bundle) → (Ok program ≡ Err unmade.Memory) ⊎ Makes fetched (Ok program) → Makes fetched (Ok program)
+made_ok fetched program (inl e) = absurd (cc)
+made_ok fetched program (inr makes) = makes
+
+abbrev unmade_by : BundleError → Result Bundle BundleError
+unmade_by why = Err why
+
+pub made_err : (fetched : List Given) (why : BundleError) → (unmade_by why ≡ unmade_by unmade.Memory) ⊎ Makes fetched (Err why) → IsMade fetched (refusal why)
+made_err fetched why (inl e) = let same : why ≡ unmade.Memory = cc in inl (ap refusal same)
+made_err fetched why (inr makes) = inr (why, makes, refl)
+
+pub only_ok : {A : Type 0} (program : Bundle) (a : A) (asked : Result Bundle BundleError) → IsAnswer asked (Ok program) → IsRefused asked (Ok a)
+only_ok program a (Ok other) h = tt
+only_ok program a (Err e) (inl same) = absurd (cc)
+only_ok program a (Err e) (inr same) = absurd (cc)
+
+pub only_err : (A : Type 0) (why : BundleError) (asked : Result Bundle BundleError) → IsAnswer asked (Err why) → IsRefused {A = A} asked (Err (refusal why))
+only_err A why (Ok other) (inl same) = absurd (cc)
+only_err A why (Ok other) (inr same) = let memory : why ≡ unmade.Memory = cc in ap (λ (e : BundleError). is_bad_file (refusal e)) memory
+only_err A why (Err e) (inl same) = let one : why ≡ e = cc in inl (ap refusal one)
+only_err A why (Err e) (inr same) = let memory : why ≡ unmade.Memory = cc in inr (ap refusal memory)
+
+-- ---- what the end of a program is
+
+module _ (files : Files) (before after : ℕ) (names : List (List ℕ)) (bound : ℕ) (out : Change) where
+  -- files that were not fetched
+  pub fetching_run : (why : RunError) → FetchingCaused why names files before after → IsUntouched out → RunCaused why files before after names bound out
+  fetching_run (run.ShelfFailed file) h stays = (h.0, h.1, stays)
+  fetching_run (run.NoFile file) h stays = (h.0, h.1, stays)
+  fetching_run run.Memory h stays = tt
+  fetching_run (run.TooLong file) h stays = absurd h
+  fetching_run (run.Source file why) h stays = absurd h
+  fetching_run (run.Fatal kind file line) h stays = absurd h
+  fetching_run run.Bound h stays = absurd h
+  fetching_run run.OutFault h stays = absurd h
+
+  module _ (fetched : List Given) (are : AreFetched files names fetched) where
+    made_of : (made : Result Bundle BundleError) → Makes fetched made → Make files names made
+    made_of made h = record { fetched = fetched; are = are; makes = h }
+
+    refused_run : (e : BundleError) → Makes fetched (Err e) → IsUntouched out → RunCaused (refusal e) files before after names bound out
+    refused_run (unmade.Source file why) h stays = (made_of _ h, stays)
+    refused_run (unmade.TooLong file) h stays = (made_of _ h, stays)
+    refused_run unmade.Memory h stays = tt
+
+    -- files that make no program
+    pub unmade_run : (why : RunError) → IsMade fetched why → IsUntouched out → RunCaused why files before after names bound out
+    unmade_run why (inl e) stays = subst (λ (w : RunError). RunCaused w files before after names bound out) (sym e) tt
+    unmade_run why (inr (e, makes, same)) stays = subst (λ (w : RunError). RunCaused w files before after names bound out) (sym same) (refused_run e makes stays)
+
+    module _ (program : Bundle) (makes : Makes fetched (Ok program)) where
+      ended : (outcome : Outcome) → outcome ≡ outcome_of (plain program bound).end → Appends out.told_before out.told (plain program bound).state.output
+          → Ends outcome files names bound out
+      ended outcome is wrote = record { program = program; made = made_of _ makes; is_end = is; wrote = wrote }
+
+      -- a program that was run to its end
+      pub put_run : (status : ℕ) → IsPlainPut status program bound out → Runs status files names bound out
+      put_run status h = record { outcome = _; ends = ended _ refl h.0; is_status = h.1 }
+
+      by_end : (why : RunError) (outcome : Outcome) → Ends outcome files names bound out → judged outcome ≡ Err why → RunCaused why files before after names bound out
+      by_end why way.Done ends e = absurd (cc)
+      by_end why (way.Exit status) ends e = absurd (cc)
+      by_end why (way.Fatal kind file line) ends e =
+          let same : run.Fatal kind file line ≡ why = cc in subst (λ (w : RunError). RunCaused w files before after names bound out) same ends
+      by_end why way.Bound ends e = let same : run.Bound ≡ why = cc in subst (λ (w : RunError). RunCaused w files before after names bound out) same ends
+
+      -- one whose end is a failure, or whose output failed
+      pub unput_run : (why : RunError) → IsPlainUnput why program bound out → RunCaused why files before after names bound out
+      unput_run why (inl e) = subst (λ (w : RunError). RunCaused w files before after names bound out) (sym e) tt
+      unput_run why (inr (inl h)) = by_end why _ (ended _ refl h.0) h.1
+      unput_run why (inr (inr h)) =
+          subst (λ (w : RunError). RunCaused w files before after names bound out) (sym h.0) (record { program = program; made = made_of _ makes; wrote = h.1 }, h.2)
+
+-- the status of a program is one of 200
+pub put_small : (status : ℕ) (program : Bundle) (bound : ℕ) (out : Change) → IsPlainPut status program bound out → status ≤ 199
+put_small status program bound out h = by (outcome_of (plain program bound).end) refl h.1 where
+  by : (outcome : Outcome) → outcome_of (plain program bound).end ≡ outcome → judged outcome ≡ Ok status → status ≤ 199
+  by way.Done is e = let same : 0 ≡ status = cc in omega (arith, same)
+  by (way.Exit n) is e = let same : n ≡ status = cc in omega (arith, same, exit_small program bound [] n is)
+  by (way.Fatal kind file line) is e = absurd (cc)
+  by way.Bound is e = absurd (cc)
+
+pub small_status : (program : Bundle) (bound : ℕ) (out : Change) (result : Result ℕ RunError)
+    → MatchResult result (λ status. IsPlainPut status program bound out) (λ why. IsPlainUnput why program bound out) → IfOk result (λ status. status ≤ 199)
+small_status program bound out (Ok status) h = put_small status program bound out h
+small_status program bound out (Err why) h = tt
+
+-- what fails once there is a program tells of no bad file
+pub unput_good : (why : RunError) (program : Bundle) (bound : ℕ) (out : Change) → IsPlainUnput why program bound out → is_bad_file why ≡ false
+unput_good why program bound out (inl e) = ap is_bad_file e
+unput_good why program bound out (inr (inr h)) = ap is_bad_file h.0
+unput_good why program bound out (inr (inl h)) = by (outcome_of (plain program bound).end) h.1 where
+  by : (outcome : Outcome) → judged outcome ≡ Err why → is_bad_file why ≡ false
+  by way.Done e = absurd (cc)
+  by (way.Exit n) e = absurd (cc)
+  by (way.Fatal kind file line) e = let same : run.Fatal kind file line ≡ why = cc in sym (ap is_bad_file same)
+  by way.Bound e = let same : run.Bound ≡ why = cc in sym (ap is_bad_file same)
+
+-- ---- what a shelf holds
+
+one_content : (files : Files) (name first other : List ℕ) → IsSome files → Fetches files name file_limit first → Fetches files name file_limit other → first ≡ other
+one_content None name first other tells p q = let no : false ≡ true = tells in absurd (cc)
+one_content (Some files) name first other tells p q =
+    let same : Some p.0 ≡ Some q.0 = sym p.1 ∙ q.1 in
+    let content : p.0 ≡ q.0 = cc in
+    p.2 ∙ ap (take (file_limit + 1)) content ∙ sym q.2
+
+module _ (P : Given → Type 0) (file : Given) (rest : List Given) (all : All P (file ∷ rest)) where
+  head_of : P file
+  head_of = all 0 file (omega arith)
+
+  tail_of : All P rest
+  tail_of = λ k d below. all (suc k) d (omega (arith, below))
+
+-- what a shelf that tells its files gives for names is one thing
+pub one_fetched : (files : Files) (names : List (List ℕ)) (first other : List Given) → IsSome files → AreFetched files names first → AreFetched files names other → first ≡ other
+one_fetched files names [] [] tells p q = refl
+one_fetched files names [] (g ∷ other) tells p q = let no : [] ≡ g.0 ∷ map (λ (f : Given). f.0) other = p.named ∙ sym q.named in absurd (cc)
+one_fetched files names (f ∷ first) [] tells p q = let no : f.0 ∷ map (λ (f : Given). f.0) first ≡ [] = p.named ∙ sym q.named in absurd (cc)
+one_fetched files names (f ∷ first) (g ∷ other) tells p q =
+    let same : f.0 ∷ map (λ (f : Given). f.0) first ≡ g.0 ∷ map (λ (f : Given). f.0) other = p.named ∙ sym q.named in
+    let name : f.0 ≡ g.0 = cc in
+    let names_same : map (λ (f : Given). f.0) first ≡ map (λ (f : Given). f.0) other = cc in
+    let fetches = λ (file : Given). Fetches files file.0 file_limit file.1 in
+    let content : f.1 ≡ g.1 = one_content files g.0 f.1 g.1 tells (subst (λ (n : List ℕ). Fetches files n file_limit f.1) name (head_of fetches f first p.contents))
+    (head_of fetches g other q.contents) in
+    let rest : first ≡ other = one_fetched files (map (λ (f : Given). f.0) first) first other tells
+    (record { named = refl; contents = tail_of fetches f first p.contents }) (record { named = sym names_same; contents = tail_of fetches g other q.contents }) in
+    λ i. (name i, content i) ∷ rest i
+
+not_lacked : (files : Files) (name content : List ℕ) → IsSome files → Fetches files name file_limit content → Lacks files name → ⊥
+not_lacked None name content tells p q = let no : false ≡ true = tells in cc
+not_lacked (Some files) name content tells p q = let same : Some p.0 ≡ None = sym p.1 ∙ q in cc
+
+held_not_lacked : (files : Files) (names : List (List ℕ)) (made : Result Bundle BundleError) (k : ℕ) → Holds files names made → k < length names → Lacks files (get_or names k []) → ⊥
+held_not_lacked files names made k held below lacks =
+    let fetched = held.make.fetched in
+    let named = held.make.are.named in
+    let within : k < length fetched = omega (arith, below, fetched_count files names fetched held.make.are) in
+    let here : (get_or fetched k ([], [])).0 ≡ get_or names k [] =
+    sym (get_or-map (λ (f : Given). f.0) fetched k ([], []) [] within) ∙ ap (λ (l : List (List ℕ)). get_or l k []) named in
+    not_lacked files (get_or names k []) (get_or fetched k ([], [])).1 held.tells
+    (subst (λ (n : List ℕ). Fetches files n file_limit (get_or fetched k ([], [])).1) here (held.make.are.contents k ([], []) within)) lacks
+
+-- the run of files that a shelf holds
+pub held_fetched : {A : Type 0} (files : Files) (names : List (List ℕ)) (fetched : List Given) (before after : ℕ) (asked : Result Bundle BundleError) (result : Result A RunError)
+    → AreFetched files names fetched → ((a : Result Bundle BundleError) → Makes fetched a → IsRefused a result)
+    → Holds files names asked → IsHeld asked result before after
+held_fetched files names fetched before after asked result are only held =
+    by asked result (only asked (subst (λ (l : List Given). Makes l asked) (one_fetched files names held.make.fetched fetched held.tells held.make.are are) held.make.makes)) where
+      by : {A : Type 0} (asked : Result Bundle BundleError) (result : Result A RunError) → IsRefused asked result → IsHeld asked result before after
+      by (Ok program) result h = h
+      by (Err e) (Ok a) h = h
+      by (Err e) (Err why) (inl same) = inl same
+      by (Err e) (Err why) (inr same) = inr (inl same)
+
+-- the same where they were not fetched
+pub held_unfetched : (A : Type 0) (files : Files) (names : List (List ℕ)) (before after : ℕ) (asked : Result Bundle BundleError) (why : RunError)
+    → FetchingCaused why names files before after → Holds files names asked → IsHeld {A = A} asked (Err why) before after
+held_unfetched A files names before after (Ok program) (run.ShelfFailed file) h held = refl
+held_unfetched A files names before after (Ok program) (run.NoFile file) h held = absurd (held_not_lacked files names _ file held h.0 h.1)
+held_unfetched A files names before after (Ok program) run.Memory h held = refl
+held_unfetched A files names before after (Ok program) (run.TooLong file) h held = absurd h
+held_unfetched A files names before after (Ok program) (run.Source file why) h held = absurd h
+held_unfetched A files names before after (Ok program) (run.Fatal kind file line) h held = absurd h
+held_unfetched A files names before after (Ok program) run.Bound h held = absurd h
+held_unfetched A files names before after (Ok program) run.OutFault h held = absurd h
+held_unfetched A files names before after (Err e) (run.ShelfFailed file) h held = inr (inr h.1)
+held_unfetched A files names before after (Err e) (run.NoFile file) h held = absurd (held_not_lacked files names _ file held h.0 h.1)
+held_unfetched A files names before after (Err e) run.Memory h held = inr (inl refl)
+held_unfetched A files names before after (Err e) (run.TooLong file) h held = absurd h
+held_unfetched A files names before after (Err e) (run.Source file why) h held = absurd h
+held_unfetched A files names before after (Err e) (run.Fatal kind file line) h held = absurd h
+held_unfetched A files names before after (Err e) run.Bound h held = absurd h
+held_unfetched A files names before after (Err e) run.OutFault h held = absurd h

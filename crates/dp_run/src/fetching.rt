@@ -1,0 +1,94 @@
+//! The files of a program, fetched from a shelf.
+
+ghost use Rattle.std.specs.Prelude.{◌≡◌, ◌≤◌, ◌<◌, ◌++◌, ◌∷◌, [], length, map, string_bytes, IfOk, IfErr, OnOk};
+ghost use Rattle.dp_outside.specs.Files.{Fetches};
+ghost use Rattle.dp_run.specs.Runs.{AreFetched, FetchCaused, FetchingCaused, IsNext, file_limit};
+
+use crate::error::RunError;
+use dp_bundle::FILE_LIMIT;
+use dp_outside::{Shelf, ShelfError};
+use dp_value::{Bytes, Items};
+use std::alloc::Global;
+
+/// A file as a bundle takes it.
+fn given(alloc: Global, name: &str, content: Vec<u8>) -> Result<(Bytes, Bytes), RunError>
+    ensures ok { IfOk result (λ file. (file.0 ≡ name.now) × (file.1 ≡ content.items)) }
+    ensures err { IfErr result (λ why. why ≡ RunError.Memory) }
+{
+    match Bytes::from_slice(alloc, name.as_bytes()) {
+        Ok(name) => Ok((name, Bytes::of(content))),
+        Err(_) => Err(RunError::Memory),
+    }
+}
+
+/// Fetches the file of this number.
+fn fetch<H: Shelf>(
+    alloc: Global,
+    number: u32,
+    name: &str,
+    shelf: &mut H,
+) -> Result<(Bytes, Bytes), RunError>
+    ensures ok { IfOk result (λ file. (file.0 ≡ name.now) × Fetches (H.files shelf.old) name.now file_limit file.1) }
+    ensures err { IfErr result (λ why. FetchCaused why number name.now (H.files shelf.old) (H.faults shelf.old) (H.faults shelf.new)) }
+    ensures later { H.faults shelf.old ≤ H.faults shelf.new }
+    ensures files { H.files shelf.new ≡ H.files shelf.old }
+{
+    match shelf.fetch(alloc, name, FILE_LIMIT) {
+        Ok(content) => given(alloc, name, content.into_vec()),
+        Err(ShelfError::Failed) => Err(RunError::ShelfFailed { file: number }),
+        Err(ShelfError::Missing) => Err(RunError::NoFile { file: number }),
+        Err(ShelfError::Memory) => Err(RunError::Memory),
+    }
+}
+
+/// Puts a file behind those that are fetched.
+fn keep(fetched: &mut Vec<(Bytes, Bytes)>, file: (Bytes, Bytes)) -> Result<(), RunError>
+    ensures ok { OnOk result (fetched.new.items ≡ fetched.old.items ++ file ∷ []) }
+    ensures err { IfErr result (λ why. why ≡ RunError.Memory) }
+{
+    match fetched.push(file) {
+        Ok(()) => Ok(()),
+        Err(_) => Err(RunError::Memory),
+    }
+}
+
+/// Fetches one file more.
+fn fetch_next<H: Shelf>(
+    alloc: Global,
+    name: &str,
+    shelf: &mut H,
+    fetched: &mut Vec<(Bytes, Bytes)>,
+) -> Result<(), RunError>
+    requires { length fetched.old.items < 64 }
+    ensures ok { OnOk result (IsNext (H.files shelf.old) name.now fetched.old.items fetched.new.items) }
+    ensures err { IfErr result (λ why. FetchCaused why (length fetched.old.items) name.now (H.files shelf.old) (H.faults shelf.old) (H.faults shelf.new)) }
+    ensures later { H.faults shelf.old ≤ H.faults shelf.new }
+    ensures files { H.files shelf.new ≡ H.files shelf.old }
+{
+    match fetch(alloc, fetched.len() as u32, name, shelf) {
+        Ok(file) => keep(fetched, file),
+        Err(why) => Err(why),
+    }
+}
+
+/// Fetches files, in their order.
+pub(crate) fn fetch_all<H: Shelf>(
+    alloc: Global,
+    names: &[String],
+    shelf: &mut H,
+) -> Result<Items<(Bytes, Bytes)>, RunError>
+    requires { length names.now ≤ 64 }
+    ensures ok { IfOk result (λ fetched. AreFetched (H.files shelf.old) (map string_bytes names.now) fetched) }
+    ensures err { IfErr result (λ why. FetchingCaused why (map string_bytes names.now) (H.files shelf.old) (H.faults shelf.old) (H.faults shelf.new)) }
+    ensures later { H.faults shelf.old ≤ H.faults shelf.new }
+    ensures files { H.files shelf.new ≡ H.files shelf.old }
+{
+    let mut fetched = Vec::new(alloc);
+    for name in names {
+        match fetch_next(alloc, name.as_str(), shelf, &mut fetched) {
+            Ok(()) => {}
+            Err(why) => return Err(why),
+        }
+    }
+    Ok(Items::of(fetched))
+}
