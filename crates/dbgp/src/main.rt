@@ -4,10 +4,17 @@
 use dp_outside::{FileShelf, NoNet, NoSpawner, Reading, Writing};
 use dp_top::top;
 use std::alloc::{AllocError, Global};
-use std::env;
-use std::io::ErrorKind;
+use std::fs::Files;
+use std::io::{ErrorKind, Read, Write};
 use std::process::ExitCode;
 use std::rt::Env;
+use std::sync::Wait;
+use std::thread::{Builder, Threads};
+use std::{env, thread};
+
+/// How large the stack is on which the top call runs. A value of the language is nested at most 1,048,576 deep, since each
+/// level weighs 1; copying it takes the most stack a level, less than 4 KiB.
+const STACK_SIZE: usize = 8 << 30;
 
 /// The words of the command line, without the program's name. Where the system does not give them as text there are
 /// none, and none ask for anything.
@@ -26,20 +33,25 @@ fn words(rt: &(impl Env + AllocGlobal)) -> Result<Vec<String>, AllocError> {
     }
 }
 
-fn main(rt: HostRuntime) -> ExitCode {
-    let alloc = rt.alloc();
-    let Ok(words) = words(&rt) else {
-        return ExitCode::from(209);
+/// Makes the real objects, and calls the top call.
+fn call<
+    R: Threads + Wait + Sync + Send + Env + AllocGlobal + Files,
+    I: Read + Drop,
+    O: Write + Drop,
+    E: Write + Drop,
+>(rt: &R, stdin: I, stdout: O, stderr: E) -> u8 {
+    let Ok(words) = words(rt) else {
+        return 209;
     };
-    let mut shelf = FileShelf::new(&rt);
-    let mut input = Reading::new(rt.stdin());
-    let mut out = Writing::new(rt.stdout());
-    let mut err = Writing::new(rt.stderr());
+    let mut shelf = FileShelf::new(rt);
+    let mut input = Reading::new(stdin);
+    let mut out = Writing::new(stdout);
+    let mut err = Writing::new(stderr);
     let mut net = NoNet::new();
-    let mut spawner: NoSpawner<HostRuntime> = NoSpawner::new();
-    ExitCode::from(top(
-        &rt,
-        alloc,
+    let mut spawner: NoSpawner<R> = NoSpawner::new();
+    top(
+        rt,
+        rt.alloc(),
         words.as_slice(),
         &mut shelf,
         &mut input,
@@ -47,5 +59,20 @@ fn main(rt: HostRuntime) -> ExitCode {
         &mut err,
         &mut net,
         &mut spawner,
-    ))
+    )
+}
+
+/// The answer of the top call, in a thread of its own with a large stack. Where the system gives no such thread, the
+/// call is made on the stack that there is.
+fn main(rt: HostRuntime) -> ExitCode {
+    let status = thread::scope(thread::scope_env(), &rt, |scope| {
+        match Builder::new()
+            .stack_size(STACK_SIZE)
+            .spawn_scoped(scope, || call(&rt, rt.stdin(), rt.stdout(), rt.stderr()))
+        {
+            Ok(thread) => thread.join(&rt),
+            Err(_) => call(&rt, rt.stdin(), rt.stdout(), rt.stderr()),
+        }
+    });
+    ExitCode::from(status)
 }

@@ -36,6 +36,8 @@ fetched_caused (failure.NotThin line) files before after name bytes h c =
     record { content = bytes; is_content = fetched_whole files name file_limit bytes h c.0; fits = c.0; other = c.1 }
 fetched_caused failure.ShelfFailed files before after name bytes h c = absurd c
 fetched_caused failure.NoFile files before after name bytes h c = absurd c
+fetched_caused (failure.Fatal kind line) files before after name bytes h c = absurd c
+fetched_caused (failure.Bound steps) files before after name bytes h c = absurd c
 fetched_caused failure.Output files before after name bytes h c = absurd c
 fetched_caused failure.PeerEnd files before after name bytes h c = absurd c
 fetched_caused (failure.Packet offset) files before after name bytes h c = absurd c

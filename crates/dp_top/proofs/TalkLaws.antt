@@ -29,6 +29,8 @@ file_caused (failure.Source reason number) files before after key name input out
 file_caused (failure.NotThin line) files before after key name input out err h stays = (h, stays)
 file_caused failure.ShelfFailed files before after key name input out err h stays = (h, stays)
 file_caused failure.NoFile files before after key name input out err h stays = (h, stays)
+file_caused (failure.Fatal kind line) files before after key name input out err h stays = absurd h
+file_caused (failure.Bound steps) files before after key name input out err h stays = absurd h
 file_caused failure.Output files before after key name input out err h stays = absurd h
 file_caused failure.PeerEnd files before after key name input out err h stays = absurd h
 file_caused (failure.Packet offset) files before after key name input out err h stays = absurd h

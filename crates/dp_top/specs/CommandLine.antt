@@ -1,9 +1,13 @@
 -- The words of a command line, without the program's name, and what they ask for.
-use Rattle.std.specs.Prelude.{◌≡◌, ℕ, ◌≤◌, Bool, true, false, List, [], ◌∷◌, length, codes, ◌==◌}
+use Rattle.std.specs.Prelude.{◌≡◌, ℕ, zero, suc, ◌≤◌, Bool, true, false, ◌&&◌, not, if◌then◌else◌, List, [], ◌∷◌, length, map, All, codes, ◌==◌, Option, Some, None, option_map, string_bytes}
 use Rattle.std.specs.List.{list_all}
+use Rattle.std.specs.Str.{bytes_eq}
+use Rattle.dp_bundle.specs.Bundles.{without_slash}
+use Rattle.dp_value.specs.Decimals.{decimal_in}
 use Rattle.dp_wire.specs.Frames.{has_no_nul}
 use Rattle.dp_top.specs.Orders.{between}
 use Rattle.dp_top.specs.declared.command_line.Command.{Command}
+use Rattle.dp_top.specs.declared.command_line.Run.{Run}
 use Rattle.dp_top.specs.declared.command_line.Command.TheVariants as told
 
 -- the key of an IDE: 1 to 128 bytes, each from 0x21 to 0x7e
@@ -31,23 +35,89 @@ pub record IsTalk (words : List (List ℕ)) (key file : List ℕ) : Type 0 where
   pub key_is_none : is_option key ≡ false
   pub file_is_none : is_option file ≡ false
 
+-- a word that is the name of a file, and asks for no option
+pub record IsFileWord (word : List ℕ) : Type 0 where
+  pub is_name : IsFileName word
+  pub is_none : is_option word ≡ false
+
+-- ---- the words behind `run`
+
+-- how many moments a program may have where the words do not say it, the most that they may ask for, and the most files
+abbrev pub default_bound : ℕ
+default_bound = 1000000
+
+abbrev pub bound_limit : ℕ
+bound_limit = 100000000
+
+abbrev pub most_files : ℕ
+most_files = 64
+
+abbrev pub not_zero : Option ℕ → Option ℕ
+not_zero None = None
+not_zero (Some zero) = None
+not_zero (Some (suc n)) = Some (suc n)
+
+-- the bound that a word is: a decimal from 1 to the most
+abbrev pub bound_of : List ℕ → Option ℕ
+bound_of word = not_zero (decimal_in bound_limit word)
+
+-- what is run: at most how many moments it may have, and the names of its files
+pub record Ask : Type 0 where
+  pub bound : ℕ
+  pub names : List (List ℕ)
+
+abbrev pub with_bound : List (List ℕ) → Option Ask
+with_bound [] = None
+with_bound (number ∷ names) = option_map (λ bound. record { bound = bound; names = names }) (bound_of number)
+
+-- the words are the names, behind `--bound N` or without it
+abbrev pub ask_of : List (List ℕ) → Option Ask
+ask_of [] = Some (record { bound = default_bound; names = [] })
+ask_of (word ∷ words) =
+    if bytes_eq word (codes "--bound") then with_bound words else Some (record { bound = default_bound; names = word ∷ words })
+
+-- whether no two names are the same without one leading `/` of each
+abbrev pub are_apart : List (List ℕ) → Bool
+are_apart [] = true
+are_apart (name ∷ names) = list_all (λ other. not (bytes_eq (without_slash name) (without_slash other))) names && are_apart names
+
+-- the names of a program's files: 1 to the most, apart also without one leading `/`
+pub record AreFileWords (names : List (List ℕ)) : Type 0 where
+  pub some : 1 ≤ length names
+  pub few : length names ≤ most_files
+  pub named : All IsFileWord names
+  pub apart : are_apart names ≡ true
+
+-- what stands behind `run`
+pub record Follows (words : List (List ℕ)) (ask : Ask) : Type 0 where
+  pub asked : ask_of words ≡ Some ask
+  pub files : AreFileWords ask.names
+
+-- the words are `run [--bound N] FILE..`
+pub record IsRun (words : List (List ℕ)) (ask : Ask) : Type 0 where
+  pub behind : List (List ℕ)
+  pub words_are : words ≡ codes "run" ∷ behind
+  pub follows : Follows behind ask
+
 -- ---- what is asked for
 
 pub data Task : Type 0 where
+  run : Ask → Task
   talk : (key file : List ℕ) → Task
   show : Task
 
 -- the words ask for this
 abbrev pub Asks : List (List ℕ) → Task → Type 0
+Asks words (run ask) = IsRun words ask
 Asks words (talk key file) = IsTalk words key file
 Asks words show = words ≡ codes "show" ∷ []
 
--- the file that a failure of it names, if any
-abbrev pub file_of : Task → List ℕ
-file_of (talk key file) = file
-file_of show = []
+-- what `run` is asked for, apart from where its words lie in memory
+abbrev pub ask_told : Run → Ask
+ask_told request = record { bound = request.bound; names = map string_bytes request.files.now }
 
 -- a command of the code, apart from where its words lie in memory
 abbrev pub task_of : Command → Task
+task_of (told.Run request) = run (ask_told request)
 task_of (told.Talk request) = talk request.key.now request.file.now
 task_of told.Show = show

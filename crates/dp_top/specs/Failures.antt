@@ -5,8 +5,10 @@ use Rattle.std.specs.Io.KnownBytes.{Appends}
 use Rattle.dp_outside.specs.Causes.{Rose}
 use Rattle.dp_outside.specs.Changes.{Change}
 use Rattle.dp_outside.specs.Streams.{AppendsFront}
+use Rattle.dp_state.specs.declared.moments.FatalKind.{FatalKind}
+use Rattle.dp_state.specs.declared.moments.FatalKind.TheVariants as kinds
 use Rattle.dp_top.specs.declared.failures.Failure.{Failure}
-use Rattle.dp_top.specs.declared.failures.Failure.TheVariants.{TooLong, NotThin, Source, ShelfFailed, NoFile, Output, PeerEnd, Packet, Network, Memory}
+use Rattle.dp_top.specs.declared.failures.Failure.TheVariants.{TooLong, NotThin, Source, ShelfFailed, NoFile, Fatal, Bound, Output, PeerEnd, Packet, Network, Memory}
 use Rattle.dp_top.specs.Files.{file_limit}
 use Rattle.dp_top.specs.Sources.{reason_name, bad_source}
 
@@ -17,11 +19,33 @@ status_of (Source reason number) = 201
 status_of (NotThin line) = 201
 status_of ShelfFailed = 202
 status_of NoFile = 202
+status_of (Fatal kind line) = 255
+status_of (Bound steps) = 255
 status_of Output = 203
 status_of PeerEnd = 206
 status_of (Packet offset) = 207
 status_of Network = 208
 status_of Memory = 209
+
+-- the name of a fatal fault
+abbrev pub kind_name : FatalKind → List ℕ
+kind_name kinds.Overflow = codes "Overflow"
+kind_name kinds.DivByZero = codes "DivByZero"
+kind_name kinds.BadKey = codes "BadKey"
+kind_name kinds.NextIndex = codes "NextIndex"
+kind_name kinds.Unsupported = codes "Unsupported"
+kind_name kinds.TooHeavy = codes "TooHeavy"
+kind_name kinds.NoFunction = codes "NoFunction"
+kind_name kinds.Arguments = codes "Arguments"
+kind_name kinds.Redeclared = codes "Redeclared"
+kind_name kinds.TooDeep = codes "TooDeep"
+kind_name kinds.NoFile = codes "NoFile"
+kind_name kinds.Scalar = codes "Scalar"
+kind_name kinds.OutputFull = codes "OutputFull"
+
+-- the line on a fatal fault: its name, the file, and the line there
+abbrev pub fatal_line : List ℕ → List ℕ → ℕ → List ℕ
+fatal_line kind name line = codes "fatal " ++ kind ++ codes " in " ++ name ++ codes " on line " ++ decimal line ++ codes "\n"
 
 -- the line on the error output
 abbrev pub line_of : Failure → List ℕ → List ℕ
@@ -30,6 +54,8 @@ line_of (Source reason number) name = bad_source name (reason_name reason) numbe
 line_of (NotThin line) name = bad_source name (codes "NotThin") line
 line_of ShelfFailed name = codes "shelf failed " ++ name ++ codes "\n"
 line_of NoFile name = codes "no file " ++ name ++ codes "\n"
+line_of (Fatal kind line) name = fatal_line (kind_name kind) name line
+line_of (Bound steps) name = codes "bound reached after " ++ decimal steps ++ codes " steps\n"
 line_of Output name = codes "output failed\n"
 line_of PeerEnd name = codes "peer ended\n"
 line_of (Packet offset) name = codes "bad packet offset " ++ decimal offset ++ codes "\n"

@@ -8,6 +8,7 @@ pub mod Fronts
 pub mod Numbers
 pub mod Orders
 pub mod Phases
+pub mod Runs
 pub mod Seen
 pub mod Serving
 pub mod Sessions

@@ -4,7 +4,7 @@ use Rattle.dp_outside.specs.Causes.{Rose}
 use Rattle.dp_outside.specs.Changes.{Change, IsUntouched}
 use Rattle.dp_outside.specs.Files.{Lacks}
 use Rattle.dp_top.specs.declared.failures.Failure.{Failure}
-use Rattle.dp_top.specs.declared.failures.Failure.TheVariants.{TooLong, NotThin, Source, ShelfFailed, NoFile, Output, PeerEnd, Packet, Network, Memory}
+use Rattle.dp_top.specs.declared.failures.Failure.TheVariants.{TooLong, NotThin, Source, ShelfFailed, NoFile, Fatal, Bound, Output, PeerEnd, Packet, Network, Memory}
 use Rattle.dp_top.specs.declared.serving.ServeEnd.{ServeEnd}
 use Rattle.dp_top.specs.declared.serving.ServeEnd.TheVariants.{Stopped, LinkEnd, ReadFault, WriteFault, BadCommandFrame, OutFault, ByteLimit}
 use Rattle.dp_top.specs.declared.serving.ServeEnd.TheVariants as ends
@@ -34,6 +34,8 @@ TalkCaused (Source reason number) files before after key name input out err = Is
 TalkCaused (NotThin line) files before after key name input out err = IsNotThin files name line × IsNotBegun input out err
 TalkCaused ShelfFailed files before after key name input out err = Rose before after × IsNotBegun input out err
 TalkCaused NoFile files before after key name input out err = Lacks files name × IsNotBegun input out err
+TalkCaused (Fatal kind line) files before after key name input out err = ⊥
+TalkCaused (Bound steps) files before after key name input out err = ⊥
 TalkCaused Output files before after key name input out err =
     ((program : List ℕ) × IsProgram files name program) × (Rose out.faults_before out.faults ⊎ Rose err.faults_before err.faults)
 TalkCaused PeerEnd files before after key name input out err = ⊥

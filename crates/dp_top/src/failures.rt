@@ -2,11 +2,12 @@
 ghost use Rattle.std.specs.Prelude.{◌≡◌, ◌⊎◌, ◌≤◌, ◌++◌, ℕ, IfOk, codes, decimal};
 ghost use Rattle.dp_outside.specs.Changes.{change};
 ghost use Rattle.dp_top.specs.Sources.{failure_of, reason_name, bad_source};
-ghost use Rattle.dp_top.specs.Failures.{status_of, line_of, Says};
+ghost use Rattle.dp_top.specs.Failures.{status_of, line_of, kind_name, fatal_line, Says};
 
 use dp_lexer::LexError;
 use dp_outside::Sink;
 use dp_parse::ParseError;
+use dp_state::FatalKind;
 use dp_value::{Bytes, Memory};
 use std::alloc::{AllocError, AllocFailed, Global};
 
@@ -52,6 +53,10 @@ pub enum Failure {
     ShelfFailed,
     /// The shelf has no file of that name.
     NoFile,
+    /// The program could not go on, on this line of the file.
+    Fatal { kind: FatalKind, line: u32 },
+    /// The program would have had more moments than this.
+    Bound { steps: u64 },
     /// An output failed.
     Output,
     /// The input ended inside a frame.
@@ -62,6 +67,25 @@ pub enum Failure {
     Network,
     /// Want of memory.
     Memory,
+}
+
+/// A failure, and the name of the file that it is of, where it is of one, else nothing.
+#[derive(Clone, Copy, Debug)]
+pub struct Refused<'a> {
+    pub failure: Failure,
+    pub name: &'a [u8],
+}
+
+impl<'a> Refused<'a> {
+    ghost use Rattle.std.specs.Prelude.{◌≡◌, []};
+
+    /// A failure that names no file.
+    pub fn unnamed(failure: Failure) -> Refused<'a>
+        ensures failure { result.failure ≡ failure }
+        ensures name { result.name.now ≡ [] }
+    {
+        Refused { failure, name: b"" }
+    }
 }
 
 impl From<AllocError> for Failure {
@@ -132,6 +156,8 @@ impl Failure {
             Failure::NotThin { line: _ } => 201,
             Failure::ShelfFailed => 202,
             Failure::NoFile => 202,
+            Failure::Fatal { kind: _, line: _ } => 255,
+            Failure::Bound { steps: _ } => 255,
             Failure::Output => 203,
             Failure::PeerEnd => 206,
             Failure::Packet { offset: _ } => 207,
@@ -150,6 +176,8 @@ impl Failure {
             Failure::NotThin { line } => bad_source(alloc, file, b"NotThin", u64::from(line)),
             Failure::ShelfFailed => named(alloc, b"shelf failed ", file, b"\n"),
             Failure::NoFile => named(alloc, b"no file ", file, b"\n"),
+            Failure::Fatal { kind, line } => fatal(alloc, kind_name(kind), file, line),
+            Failure::Bound { steps } => bound_reached(alloc, steps),
             Failure::Output => Bytes::from_slice(alloc, b"output failed\n"),
             Failure::PeerEnd => Bytes::from_slice(alloc, b"peer ended\n"),
             Failure::Packet { offset } => bad_packet(alloc, offset),
@@ -182,6 +210,55 @@ fn bad_source(alloc: Global, file: &[u8], reason: &[u8], number: u64) -> Result<
     line.extend_from_slice(digits.as_bytes())?;
     line.extend_from_slice(b"\n")?;
     Ok(Bytes::of(line))
+}
+
+/// The name of a fatal fault on the error output.
+fn kind_name(kind: FatalKind) -> &'static [u8]
+    ensures { result.now ≡ kind_name kind }
+{
+    match kind {
+        FatalKind::Overflow => b"Overflow",
+        FatalKind::DivByZero => b"DivByZero",
+        FatalKind::BadKey => b"BadKey",
+        FatalKind::NextIndex => b"NextIndex",
+        FatalKind::Unsupported => b"Unsupported",
+        FatalKind::TooHeavy => b"TooHeavy",
+        FatalKind::NoFunction => b"NoFunction",
+        FatalKind::Arguments => b"Arguments",
+        FatalKind::Redeclared => b"Redeclared",
+        FatalKind::TooDeep => b"TooDeep",
+        FatalKind::NoFile => b"NoFile",
+        FatalKind::Scalar => b"Scalar",
+        FatalKind::OutputFull => b"OutputFull",
+    }
+}
+
+/// The line on a fatal fault.
+fn fatal(alloc: Global, kind: &[u8], file: &[u8], line: u32) -> Result<Bytes, Memory>
+    ensures { IfOk result (λ text. text ≡ fatal_line kind.now file.now line) }
+{
+    let digits = line.to_string(alloc)?;
+    let mut text = Vec::from_slice(alloc, b"fatal ")?;
+    text.extend_from_slice(kind)?;
+    text.extend_from_slice(b" in ")?;
+    text.extend_from_slice(file)?;
+    text.extend_from_slice(b" on line ")?;
+    text.extend_from_slice(digits.as_bytes())?;
+    text.extend_from_slice(b"\n")?;
+    Ok(Bytes::of(text))
+}
+
+/// The line on a bound that was reached.
+fn bound_reached(alloc: Global, steps: u64) -> Result<Bytes, Memory>
+    ensures { IfOk result (λ line. line ≡ codes "bound reached after " ++ decimal steps ++ codes " steps\n") }
+{
+    let digits = steps.to_string(alloc)?;
+    named(
+        alloc,
+        b"bound reached after ",
+        digits.as_bytes(),
+        b" steps\n",
+    )
 }
 
 fn bad_packet(alloc: Global, offset: u64) -> Result<Bytes, Memory>

@@ -5,8 +5,10 @@ mod bytes;
 mod command_line;
 mod commands;
 mod failures;
+mod names;
 mod orders;
 mod programs;
+mod run;
 mod serving;
 mod sessions;
 mod talk;
@@ -19,5 +21,7 @@ pub use top_call::top;
 
 #[cfg(test)]
 mod plain;
+#[cfg(test)]
+mod run_tests;
 #[cfg(test)]
 mod tests;

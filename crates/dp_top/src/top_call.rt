@@ -1,10 +1,13 @@
 //! The top call.
-ghost use Rattle.std.specs.Prelude.{◌≡◌, ◌≢◌, ◌↔◌, ◌⊎◌, ◌≤◌, ℕ, List, codes, map, string_bytes};
+ghost use Rattle.std.specs.Prelude.{◌≡◌, ◌↔◌, ◌⊎◌, ◌<◌, ◌≤◌, ℕ, List, Ok, Err, codes, map, string_bytes};
 ghost use Rattle.dp_outside.specs.Causes.{Rose};
 ghost use Rattle.dp_outside.specs.Changes.{change, IsUntouched};
-ghost use Rattle.dp_top.specs.CommandLine.{IsTalk, Task, Asks};
+ghost use Rattle.dp_bundle.specs.declared.bundle.Bundle.{Bundle};
+ghost use Rattle.dp_bundle.specs.declared.errors.BundleError.{BundleError};
+ghost use Rattle.dp_top.specs.CommandLine.{Ask, IsRun, IsTalk, Task, Asks};
 ghost use Rattle.dp_top.specs.Failures.{Says};
 ghost use Rattle.dp_top.specs.Files.{Tells, IsAccepted, IsRefused};
+ghost use Rattle.dp_run.specs.Runs.{Holds};
 ghost use Rattle.dp_top.specs.Tasks.{IsDone, Fails, NoneRose};
 
 use crate::command_line::read_words;
@@ -16,23 +19,25 @@ use std::sync::Wait;
 
 /// Does what the words of a command line ask for, and answers the status with which the program ends.
 ///
-/// `words` are the command line without the program's name: `talk KEY FILE` serves a session of KEY over the program in
-/// FILE, with `input` and `out` as the link, and the program's own output on `err`; `show` reads framed packets from
+/// `words` are the command line without the program's name: `run [--bound N] FILE..` runs the program of the files, of
+/// which the first is the main one, and puts its output on `out`; `talk KEY FILE` serves a session of KEY over the program
+/// in FILE, with `input` and `out` as the link, and the program's own output on `err`; `show` reads framed packets from
 /// `input` and prints the element of each on `out`, in canonical text with a line feed.
 ///
 /// | status | comes | line on `err` |
 /// |---|---|---|
-/// | 0 | the session went well; all packets are shown | none |
+/// | 0 to 199 | the program exited so, or came to its end; the session went well; all packets are shown (0) | none |
 /// | 200 | the words ask for nothing | `usage` |
-/// | 201 | the file is too long, no program, or none of numbers | `bad source NAME REASON NUMBER` |
-/// | 202 | the shelf failed, or has no such file | `shelf failed NAME`, `no file NAME` |
+/// | 201 | a file is too long or no program, or that of `talk` none of numbers | `bad source NAME REASON NUMBER` |
+/// | 202 | the shelf failed, or lacks a file | `shelf failed NAME`, `no file NAME` |
 /// | 203 | an output failed | `output failed` |
 /// | 206 | the input of `show` ended inside a frame | `peer ended` |
 /// | 207 | bytes stand in no command's or packet's place, a packet's text is no markup, or too many came | `bad packet offset N` |
 /// | 208 | the input failed | `network failed` |
 /// | 209 | want of memory | `out of memory` |
+/// | 255 | the program could not go on, or would have had more moments than N | `fatal KIND in NAME on line N`, `bound reached after N steps` |
 ///
-/// It waits in the calls of `input` alone. `show` does not use the shelf; `net` and `spawner` are not used.
+/// It waits in the calls of `input` alone. `show` does not use the shelf, nor `run` the input; `net` and `spawner` are not used.
 pub fn top<R: Wait + Sync, H: Shelf, S: Source, K: Sink, E: Sink, N: Net, P: Spawner>(
     rt: &R,
     alloc: Global,
@@ -50,13 +55,24 @@ pub fn top<R: Wait + Sync, H: Shelf, S: Source, K: Sink, E: Sink, N: Net, P: Spa
     ensures usage_out { result ≡ 200 → IsUntouched (change K.taken K.faults out.old out.new) }
     ensures usage_shelf { result ≡ 200 → H.faults shelf.new ≡ H.faults shelf.old }
 
-    ensures done { result ≡ 0 → IsDone (map string_bytes words.now) (H.files shelf.old)
+    ensures done { result ≤ 199 → IsDone result (map string_bytes words.now) (H.files shelf.old)
         (change S.left S.faults input.old input.new) (change K.taken K.faults out.old out.new)
         (change E.taken E.faults err.old err.new) }
-    ensures fails { result ≢ 0 → result ≢ 200 → Fails result (map string_bytes words.now) (H.files shelf.old)
+    ensures fails { 200 < result → Fails result (map string_bytes words.now) (H.files shelf.old)
         (H.faults shelf.old) (H.faults shelf.new) (change S.left S.faults input.old input.new)
         (change K.taken K.faults out.old out.new) (change E.taken E.faults err.old err.new) }
 
+    // Where the shelf tells the files, they make a program, and no count rose, it is run to its end, and all that it wrote
+    // is put.
+    ensures complete_run { (ask : Ask) (program : Bundle) → IsRun (map string_bytes words.now) ask
+        → Holds (H.files shelf.old) ask.names (Ok program)
+        → NoneRose (H.faults shelf.old) (H.faults shelf.new) (change S.left S.faults input.old input.new)
+        (change K.taken K.faults out.old out.new) (change E.taken E.faults err.old err.new)
+        → (result ≤ 199) ⊎ (result ≡ 255) ⊎ (result ≡ 209) }
+    // Where they make none, that is told, unless the shelf fails first.
+    ensures refused_run { (ask : Ask) (why : BundleError) → IsRun (map string_bytes words.now) ask
+        → Holds (H.files shelf.old) ask.names (Err why)
+        → (result ≡ 201) ⊎ (result ≡ 209) ⊎ Rose (H.faults shelf.old) (H.faults shelf.new) }
     // Where the shelf tells the file, it is a program, and no count rose, the session is served whole.
     ensures complete { (key file content : List ℕ) → IsTalk (map string_bytes words.now) key file
         → Tells (H.files shelf.old) file content → IsAccepted content
@@ -88,8 +104,8 @@ pub fn top<R: Wait + Sync, H: Shelf, S: Source, K: Sink, E: Sink, N: Net, P: Spa
             200
         }
         Some(command) => match carry_out(alloc, command, shelf, input, out, err) {
-            Ok(()) => 0,
-            Err(failure) => report(alloc, failure, command.file(), err),
+            Ok(status) => status,
+            Err(refused) => report(alloc, refused.failure, refused.name, err),
         },
     }
 }
