@@ -1,0 +1,3 @@
+pub mod ServingLaws
+pub mod EndLaws
+pub mod GrowthLaws

@@ -1,0 +1,148 @@
+use Rattle.std.proofs.Common.{◌≡◌, ℕ, None, List, [], ◌++◌, length, refl, sym, ap, ◌∙◌, subst, arith, length-append, length-take}
+use Rattle.std.specs.List.{flat_map}
+use Rattle.dp_wire.specs.Frames.{IsPartialCommand, command_frame}
+use Rattle.dp_wire.proofs.NextLaws.{none_partial}
+use Rattle.dp_serving.specs.Exchanges.{Conversation}
+use Rattle.dp_outside.specs.Changes.{change}
+use Rattle.dp_serving.proofs.EndLaws.{is_served}
+use Rattle.dp_serving.proofs.ServingLaws.{talk_first, talk_kept, talk_goes_on}
+use Rattle.dp_serving.proofs.conversing.converse.Goals as goal
+
+pub pieces-init : goal.pieces-init
+pieces-init g c =
+    let first = talk_first g.A.Responder.step g.S.Source.left g.S.Source.faults g.K.Sink.taken g.K.Sink.faults g.E.Sink.taken g.E.Sink.faults
+    c.args.session.now c.args.init.now c.args.source.now c.args.sink.now c.open.new.sink c.args.out.now c.in_ok-open.ensures.ok in
+    let none : [] ≡ c.new-commands.result = sym c.new-commands.ensures in (
+      omega arith,
+      omega (arith, c.in_ok-open.ensures.later),
+      omega arith,
+      omega arith,
+      subst IsPartialCommand none (none_partial [] refl (omega arith)),
+      (
+        [],
+        refl,
+        subst (λ (l : List ℕ). (talk : Conversation g.A.Responder.step c.args.session.now c.args.session.now c.args.init.now [] l
+            (change g.S.Source.left g.S.Source.faults c.args.source.now c.args.source.now) (change g.K.Sink.taken g.K.Sink.faults c.args.sink.now c.open.new.sink)
+            (change g.E.Sink.taken g.E.Sink.faults c.args.out.now c.args.out.now)) × (talk.so_far.ended ≡ None)) none first,
+      ),
+    )
+
+pub returns-in-Failed-clause-ok : goal.returns-in-Failed-clause-ok
+returns-in-Failed-clause-ok g c =
+    let piece = rw c.in-Failed.is at c.in_ok-read_piece.ensures.ok in
+    let inv = c.pieces.invariant in
+    let kept = talk_kept g.A.Responder.step g.S.Source.left g.S.Source.faults g.K.Sink.taken g.K.Sink.faults g.E.Sink.taken g.E.Sink.faults
+    _ _ _ inv.5.0 c.pieces.commands c.read_piece.new.commands c.args.source.now c.pieces.source c.read_piece.new.source _ _ inv.5.2.0 piece.0 piece.2 in
+    is_served g.A.Responder.step _ _ _ _ _ _ _ (record {
+      read = inv.5.0;
+      held = c.read_piece.new.commands;
+      talk = kept.0;
+      ends = (ap (λ r. r.ended) kept.1 ∙ inv.5.2.1, subst IsPartialCommand (sym piece.2) inv.4, omega (arith, piece.1, inv.0));
+    })
+
+pub returns-in-End-clause-ok : goal.returns-in-End-clause-ok
+returns-in-End-clause-ok g c =
+    let piece = rw c.in-End.is at c.in_ok-read_piece.ensures.ok in
+    let inv = c.pieces.invariant in
+    let kept = talk_kept g.A.Responder.step g.S.Source.left g.S.Source.faults g.K.Sink.taken g.K.Sink.faults g.E.Sink.taken g.E.Sink.faults
+    _ _ _ inv.5.0 c.pieces.commands c.read_piece.new.commands c.args.source.now c.pieces.source c.read_piece.new.source _ _ inv.5.2.0 piece.0 piece.2 in
+    is_served g.A.Responder.step _ _ _ _ _ _ _ (record {
+      read = inv.5.0;
+      held = c.read_piece.new.commands;
+      talk = kept.0;
+      ends = (ap (λ r. r.ended) kept.1 ∙ inv.5.2.1, subst IsPartialCommand (sym piece.2) inv.4, piece.1);
+    })
+
+pub returns-in-Ended-clause-ok : goal.returns-in-Ended-clause-ok
+returns-in-Ended-clause-ok g c =
+    let piece = rw c.in-Came.is at c.in_ok-read_piece.ensures.ok in
+    let answers = c.in_ok-end.ensures.ok in
+    let stops = rw c.in-Ended.is at answers.stops in
+    let inv = c.pieces.invariant in
+    let after = talk_goes_on g.A.Responder.step g.S.Source.left g.S.Source.faults g.K.Sink.taken g.K.Sink.faults g.E.Sink.taken g.E.Sink.faults
+    _ _ _ _ inv.5.0 c.pieces.commands c.read_piece.new.commands piece.2.0 c.answer_held.new.commands
+    c.args.source.now c.pieces.source c.read_piece.new.source c.args.sink.now c.pieces.sink c.answer_held.new.sink c.args.out.now c.pieces.out c.answer_held.new.out
+    inv.5.2.0 inv.5.2.1 piece.2.1 piece.2.2 answers.reached in
+    is_served g.A.Responder.step _ _ _ _ _ _ _ (record {
+      read = inv.5.0 ++ piece.2.0;
+      held = c.answer_held.new.commands;
+      talk = after.0;
+      ends = after.1 ∙ stops;
+    })
+
+pub overflow_sub-offset : goal.overflow_sub-offset
+overflow_sub-offset g c =
+    let piece = rw c.in-Came.is at c.in_ok-read_piece.ensures.ok in
+    let answers = c.in_ok-end.ensures.ok in
+    let fed = answers.reached.stands.whole in
+    let inv = c.pieces.invariant in
+    let whole = inv.5.2.0.stands.whole in
+    omega (
+      arith,
+      ap length c.bytes.ensures,
+      ap length fed,
+      ap length piece.2.2,
+      ap length whole,
+      piece.2.3,
+      inv.5.1,
+      length-append (flat_map command_frame answers.reached.stands.lines) c.answer_held.new.commands,
+      length-append c.pieces.commands piece.2.0,
+      length-append (flat_map command_frame inv.5.2.0.stands.lines) c.pieces.commands,
+    )
+
+pub returns-in-TooLong-clause-ok : goal.returns-in-TooLong-clause-ok
+returns-in-TooLong-clause-ok g c =
+    let piece = rw c.in-Came.is at c.in_ok-read_piece.ensures.ok in
+    let answers = c.in_ok-end.ensures.ok in
+    let stops = rw c.in-TooLong.is at answers.stops in
+    let inv = c.pieces.invariant in
+    let after = talk_goes_on g.A.Responder.step g.S.Source.left g.S.Source.faults g.K.Sink.taken g.K.Sink.faults g.E.Sink.taken g.E.Sink.faults
+    _ _ _ _ inv.5.0 c.pieces.commands c.read_piece.new.commands piece.2.0 c.answer_held.new.commands
+    c.args.source.now c.pieces.source c.read_piece.new.source c.args.sink.now c.pieces.sink c.answer_held.new.sink c.args.out.now c.pieces.out c.answer_held.new.out
+    inv.5.2.0 inv.5.2.1 piece.2.1 piece.2.2 answers.reached in
+    is_served g.A.Responder.step _ _ _ _ _ _ _ (record {
+      read = inv.5.0 ++ piece.2.0;
+      held = c.answer_held.new.commands;
+      talk = after.0;
+      ends = (
+        after.1 ∙ stops.0,
+        stops.1,
+        omega (
+          arith,
+          ap length c.bytes.ensures,
+          ap length after.0.stands.whole,
+          piece.2.3,
+          inv.5.1,
+          length-append inv.5.0 piece.2.0,
+          length-append (flat_map command_frame after.0.stands.lines) c.answer_held.new.commands,
+        ),
+      );
+    })
+
+pub pieces-preserved : goal.pieces-preserved
+pieces-preserved g c =
+    let piece = rw c.in-Came.is at c.in_ok-read_piece.ensures.ok in
+    let answers = c.in_ok-end.ensures.ok in
+    let stops = rw c.in-Partial.is at answers.stops in
+    let inv = c.pieces.invariant in
+    let after = talk_goes_on g.A.Responder.step g.S.Source.left g.S.Source.faults g.K.Sink.taken g.K.Sink.faults g.E.Sink.taken g.E.Sink.faults
+    _ _ _ _ inv.5.0 c.pieces.commands c.read_piece.new.commands piece.2.0 c.answer_held.new.commands
+    c.args.source.now c.pieces.source c.read_piece.new.source c.args.sink.now c.pieces.sink c.answer_held.new.sink c.args.out.now c.pieces.out c.answer_held.new.out
+    inv.5.2.0 inv.5.2.1 piece.2.1 piece.2.2 answers.reached in (
+      omega (arith, c.in_ok-read_piece.ensures.later),
+      omega (arith, c.in_ok-end.ensures.sink_later),
+      omega (arith, c.in_ok-end.ensures.out_later),
+      omega (arith, piece.1, c.min-room.ensures, length-take c.min-room.result c.pieces.buffer),
+      stops.1,
+      (inv.5.0 ++ piece.2.0, omega (arith, length-append inv.5.0 piece.2.0, piece.2.3, inv.5.1), (after.0, after.1 ∙ stops.0)),
+    )
+
+pub returns-clause-ok : goal.returns-clause-ok
+returns-clause-ok g c =
+    let inv = c.pieces.invariant in
+    is_served g.A.Responder.step _ _ _ _ _ _ _ (record {
+      read = inv.5.0;
+      held = c.pieces.commands;
+      talk = inv.5.2.0;
+      ends = (inv.5.2.1, inv.4, omega (arith, inv.5.1));
+    })

@@ -1,0 +1,4 @@
+pub mod Folds
+pub mod Growth
+pub mod Serving
+pub mod Exchanges

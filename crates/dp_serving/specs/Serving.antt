@@ -1,0 +1,48 @@
+-- A session that was served over a link, by how it ended.
+use Rattle.std.specs.Prelude.{◌≡◌, ℕ, ◌+◌, List, ◌++◌, length, Option, None, Some}
+use Rattle.std.specs.List.{flat_map}
+use Rattle.std.specs.Io.KnownBytes.{Appends, Consumes, IsAtEnd}
+use Rattle.dp_outside.specs.Causes.{Rose}
+use Rattle.dp_outside.specs.Changes.{Change}
+use Rattle.dp_wire.specs.Frames.{packet_frame, rest_of, IsPartialCommand, BeginsNoCommand}
+use Rattle.dp_serving.specs.declared.conversing.Fault.{Fault}
+use Rattle.dp_serving.specs.declared.conversing.Fault.TheVariants.{Write, Out, Memory}
+use Rattle.dp_serving.specs.declared.conversing.Over.{Over}
+use Rattle.dp_serving.specs.declared.conversing.Over.TheVariants.{Ended, LinkEnd, ReadFault, BadCommandFrame, ByteLimit}
+use Rattle.dp_serving.specs.Folds.{Reply}
+use Rattle.dp_serving.specs.Growth.{served}
+
+-- the most bytes that one session reads
+abbrev pub byte_limit : ℕ
+byte_limit = 4294967295
+
+-- why a session that no fault of a put cut short ended here: whether a command has ended it, what of the bytes read
+-- is no whole command, and what became of the source
+abbrev pub EndsBy : {E : Type 0} → Over E → Option E → List ℕ → List ℕ → Change → Type 0
+EndsBy (Ended end) ended rest read source = ended ≡ Some end
+EndsBy LinkEnd ended rest read source = (ended ≡ None) × IsPartialCommand rest × IsAtEnd source.told
+EndsBy ReadFault ended rest read source = (ended ≡ None) × IsPartialCommand rest × Rose source.faults_before source.faults
+EndsBy (BadCommandFrame offset) ended rest read source = (ended ≡ None) × BeginsNoCommand rest × (offset + length rest ≡ length read)
+EndsBy ByteLimit ended rest read source = (ended ≡ None) × IsPartialCommand rest × (length read ≡ byte_limit)
+
+-- why a fault cut a session short
+abbrev pub IsCause : {E : Type 0} → Fault E → Change → Change → Type 0
+IsCause (Write ended) sink out = Rose sink.faults_before sink.faults
+IsCause Out sink out = Rose out.faults_before out.faults
+IsCause Memory sink out = Unit {0}
+
+-- why the first packet was not sent
+abbrev pub OpenFault : {E : Type 0} → Fault E → ℕ → ℕ → Type 0
+OpenFault (Write ended) before now = Rose before now
+OpenFault Out before now = ⊥
+OpenFault Memory before now = Unit {0}
+
+-- Read from the source, written on the link and to the program's own output is what the first packet and the commands
+-- among the bytes read lead to.
+pub record IsServed {S E : Type 0} (step : S → List ℕ → Reply S E) (start state : S) (init : List ℕ) (over : Over E) (source sink out : Change) : Type 0 where
+  pub read : List ℕ
+  pub consumed : Consumes source.told_before source.told read
+  pub sent : Appends sink.told_before sink.told (packet_frame init ++ flat_map packet_frame (served step start read).packets)
+  pub printed : Appends out.told_before out.told (served step start read).program
+  pub is_state : (served step start read).state ≡ state
+  pub ends : EndsBy over (served step start read).ended (rest_of read) read source

@@ -1,0 +1,14 @@
+//! Sessions over a link: commands are read in whatever pieces they come, each whole one is answered, and its packets
+//! are sent. What a command means is left to whoever answers.
+#![tactic(auto)]
+
+mod conversing;
+mod laws;
+mod responder;
+mod sending;
+
+pub use conversing::{Fault, Over, converse};
+pub use dp_value::Memory;
+pub use laws::one_session_grows;
+pub use responder::{Answer, Responder};
+pub use sending::put_some;
