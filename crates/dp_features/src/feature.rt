@@ -1,0 +1,118 @@
+//! The names of features, and what values they can have.
+ghost use Rattle.std.specs.Prelude.{◌≡◌};
+ghost use Rattle.std.specs.List.{find};
+ghost use Rattle.std.specs.Str.{bytes_eq};
+ghost use Rattle.dp_features.specs.Features as spec;
+
+use dp_value::decimal;
+
+/// A feature of the engine: DBGp 1.0, "feature_get".
+#[derive(Clone, Copy, Debug, PartialEq, Eq)]
+pub enum Feature {
+    LanguageSupportsThreads,
+    LanguageName,
+    LanguageVersion,
+    Encoding,
+    ProtocolVersion,
+    SupportsAsync,
+    DataEncoding,
+    BreakpointLanguages,
+    BreakpointTypes,
+    MultipleSessions,
+    MaxChildren,
+    MaxData,
+    MaxDepth,
+    ShowHidden,
+    NotifyOk,
+    SupportsPostmortem,
+}
+
+const EVERY: [Feature; 16] = [
+    Feature::LanguageSupportsThreads,
+    Feature::LanguageName,
+    Feature::LanguageVersion,
+    Feature::Encoding,
+    Feature::ProtocolVersion,
+    Feature::SupportsAsync,
+    Feature::DataEncoding,
+    Feature::BreakpointLanguages,
+    Feature::BreakpointTypes,
+    Feature::MultipleSessions,
+    Feature::MaxChildren,
+    Feature::MaxData,
+    Feature::MaxDepth,
+    Feature::ShowHidden,
+    Feature::NotifyOk,
+    Feature::SupportsPostmortem,
+];
+
+fn first_of(features: &[Feature], name: &[u8]) -> Option<Feature>
+    ensures { result ≡ find (λ feature. bytes_eq (spec.name_of feature) name.now) features.now }
+{
+    for feature in features {
+        if feature.name() == name {
+            return Some(*feature);
+        }
+    }
+    None
+}
+
+/// Whether the text is a decimal from `least` to `most`.
+fn is_within(least: u64, most: u64, text: &[u8]) -> bool
+    ensures { result ≡ spec.is_within least most text.now }
+{
+    match decimal(text, most) {
+        Some(number) => least <= number,
+        None => false,
+    }
+}
+
+impl Feature {
+    /// The feature of this name. Takes no memory.
+    #[tactic(auto, unfolding(crate::specs::Features::feature_named))]
+    pub fn of(name: &[u8]) -> Option<Feature>
+        ensures { result ≡ spec.feature_named name.now }
+    {
+        first_of(&EVERY, name)
+    }
+
+    /// Its name. Takes no memory.
+    pub fn name(self) -> &'static [u8]
+        ensures { result.now ≡ spec.name_of self }
+    {
+        match self {
+            Feature::LanguageSupportsThreads => b"language_supports_threads",
+            Feature::LanguageName => b"language_name",
+            Feature::LanguageVersion => b"language_version",
+            Feature::Encoding => b"encoding",
+            Feature::ProtocolVersion => b"protocol_version",
+            Feature::SupportsAsync => b"supports_async",
+            Feature::DataEncoding => b"data_encoding",
+            Feature::BreakpointLanguages => b"breakpoint_languages",
+            Feature::BreakpointTypes => b"breakpoint_types",
+            Feature::MultipleSessions => b"multiple_sessions",
+            Feature::MaxChildren => b"max_children",
+            Feature::MaxData => b"max_data",
+            Feature::MaxDepth => b"max_depth",
+            Feature::ShowHidden => b"show_hidden",
+            Feature::NotifyOk => b"notify_ok",
+            Feature::SupportsPostmortem => b"supports_postmortem",
+        }
+    }
+
+    /// Whether it can be set to this value. Takes no memory.
+    pub fn may_be(self, value: &[u8]) -> bool
+        ensures { result ≡ spec.may_be self value.now }
+    {
+        match self {
+            Feature::Encoding => value == b"iso-8859-1".as_slice(),
+            Feature::MultipleSessions => is_within(0, 1, value),
+            Feature::MaxChildren => is_within(1, 1_048_576, value),
+            Feature::MaxData => is_within(0, 1_048_576, value),
+            Feature::MaxDepth => is_within(0, 32, value),
+            Feature::ShowHidden => is_within(0, 1, value),
+            Feature::NotifyOk => is_within(0, 1, value),
+            _ => false,
+        }
+    }
+}

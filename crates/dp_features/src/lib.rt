@@ -1,0 +1,12 @@
+//! The features of the engine: their names, their values, and what they can be set to.
+#![tactic(auto)]
+
+mod feature;
+mod features;
+
+pub use dp_value::Memory;
+pub use feature::Feature;
+pub use features::Features;
+
+#[cfg(test)]
+mod tests;
