@@ -8,3 +8,4 @@ pub mod Written
 pub mod Formed
 pub mod Spellings
 pub mod Ids
+pub mod Short

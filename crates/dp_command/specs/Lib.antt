@@ -2,6 +2,7 @@ pub mod Sorts
 pub mod Grammar
 pub mod Canonical
 pub mod Reading
+pub mod Lines
 pub mod Names
 pub mod Numbers
 pub mod Letters

@@ -27,7 +27,7 @@ pub use names::CommandName;
 pub use numbers::number_of;
 pub use options::{has_duplicate, option_value};
 pub use reading::{read_line, reread};
-pub use refusals::{check_line, id_of};
+pub use refusals::{check_line, fits_row, id_of};
 pub use writing::write_line;
 
 #[cfg(test)]

@@ -1,9 +1,11 @@
 //! Reading a whole line.
 
-ghost use Rattle.std.specs.Prelude.{◌≡◌, Err, IfOk, MatchResult};
+ghost use Rattle.std.specs.Prelude.{◌≡◌, ◌≤◌, length, Err, IfOk, MatchResult};
+ghost use Rattle.std.specs.List.{AllByRecursion};
 ghost use Rattle.dp_command.specs.Grammar.{spelt};
 ghost use Rattle.dp_command.specs.Reading.{Gives, parts_at, seen_text};
 ghost use Rattle.dp_command.specs.Canonical.{IsWellFormed};
+ghost use Rattle.dp_command.specs.Lines.{line_of};
 
 use crate::errors::LineError;
 use crate::line::Line;
@@ -27,7 +29,9 @@ fn parts(
     Ok((Bytes::from_slice(alloc, name)?, options, text))
 }
 
+#[tactic(auto, unfolding(crate::specs::Lines::line_of))]
 fn line(alloc: Global, bytes: &[u8]) -> Result<Line, LineError>
+    ensures read { Gives (λ line. line) result (line_of bytes.now) }
     ensures found { IfOk result (λ line. spelt bytes.now line) }
     ensures only { (line : Line) → spelt bytes.now line →
         MatchResult result (λ read. read ≡ line) (λ e. e ≡ LineError.Memory) }
@@ -52,8 +56,12 @@ fn line(alloc: Global, bytes: &[u8]) -> Result<Line, LineError>
 
 /// The line that the bytes spell, all of the bytes. DBGp 1.0, "Command Line Format".
 pub fn read_line(alloc: Global, bytes: &[u8]) -> Result<Line, LineError>
+    // What is read is what reading from left to right gives.
+    ensures read { Gives (λ line. line) result (line_of bytes.now) }
     // What is read is spelt so.
     ensures found { IfOk result (λ line. spelt bytes.now line) }
+    // No value is longer than the bytes.
+    ensures short { IfOk result (λ line. AllByRecursion (λ o. length o.1 ≤ length bytes.now) line.options) }
     // Each line that is read is well formed.
     ensures formed { IfOk result (λ line. IsWellFormed line) }
     // What is spelt so is read, unless memory runs out.

@@ -65,8 +65,10 @@ pub fn check_line(line: &Line) -> Result<CommandName, Refusal>
     Ok(name)
 }
 
+/// Whether the options and the payload are those of the command's row: nothing is missing, nothing stands there that is
+/// not in the row, and nothing is malformed. Takes no memory.
 #[tactic(auto, unfolding(crate::specs::Refusals::fits_row))]
-fn fits_row(name: CommandName, line: &Line) -> bool
+pub fn fits_row(name: CommandName, line: &Line) -> bool
     ensures { result ≡ spec.fits_row name line.now }
 {
     let options = line.options.as_slice();

@@ -2,7 +2,7 @@
 
 ghost use Rattle.std.specs.Prelude.{◌≡◌, List, ℕ, length, IfOk, MatchResult};
 ghost use Rattle.base64.specs.Engines.{standard};
-ghost use Rattle.base64.specs.GeneralPurpose.{encode_of, IsBytes};
+ghost use Rattle.base64.specs.GeneralPurpose.{decoded_of, encode_of, IsBytes};
 ghost use Rattle.dp_command.specs.Reading.{Gives, byte_at, items_at, quoted_at, bare_at, value_at, option_at, options_at};
 
 use crate::errors::LineError;
@@ -116,7 +116,9 @@ pub fn options(alloc: Global, bytes: &[u8]) -> Result<(Items<(u8, Bytes)>, &[u8]
 }
 
 // What a text decodes to: strict base64, of which each list of bytes has one.
+#[tactic(auto, unfolding(base64::specs::GeneralPurpose::decoded_of))]
 pub fn payload(alloc: Global, text: &[u8]) -> Result<Bytes, LineError>
+    ensures read { Gives (λ p. p) result (decoded_of standard text.now) }
     ensures found { IfOk result (λ p. IsBytes p × (text.now ≡ encode_of standard p)) }
     ensures only { (p : List ℕ) → IsBytes p → text.now ≡ encode_of standard p →
         MatchResult result (λ q. q ≡ p) (λ e. e ≡ LineError.Memory) }

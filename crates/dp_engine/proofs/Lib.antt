@@ -1,0 +1,11 @@
+pub mod Stopping
+pub mod Refusing
+pub mod Growing
+pub mod Bounds
+pub mod Arriving
+pub mod Fitting
+pub mod Outputs
+pub mod Watching
+pub mod ServingLaws
+pub mod Turning
+pub mod Answering

@@ -1,0 +1,263 @@
+-- Watching a program changes nothing of it.
+use Rattle.std.proofs.Common.{◌≡◌, ◌≢◌, ℕ, ◌+◌, ◌≤◌, List, [], ◌∷◌, ◌++◌, length, drop, Option, Some, None, refl, sym, ap, subst, ◌∙◌, arith, add-one, append_assoc, append-nil}
+use Rattle.std.specs.Prelude.{option_map, option_and_then, slice_get}
+use Rattle.std.specs.Option.{option_map_or}
+use Rattle.std.proofs.lemmas.List.{drop_all}
+use Rattle.std.proofs.Math.Seq.{drop-append_seam}
+use Rattle.dp_bundle.specs.declared.bundle.Bundle.{Bundle}
+use Rattle.dp_command.specs.declared.command.Command.{Command}
+use Rattle.dp_command.specs.declared.command.Continuation.{Continuation}
+use Rattle.dp_command.specs.declared.command.Finish.TheVariants.{Stop, Detach}
+use Rattle.dp_command.specs.declared.command.Request.{Request}
+use Rattle.dp_command.specs.declared.command.Request.TheVariants as request
+use Rattle.dp_command.specs.declared.command.StreamMode.{StreamMode}
+use Rattle.dp_command.specs.declared.command.StreamMode.TheVariants.{Disable}
+use Rattle.dp_command.specs.declared.line.Line.{Line}
+use Rattle.dp_command.specs.Commands.{command_of}
+use Rattle.dp_command.specs.Lines.{line_of}
+use Rattle.dp_features.specs.declared.features.Features.{Features}
+use Rattle.dp_meaning.specs.Trace.{moment_at, now, outcome, output, plain, program_trace}
+use Rattle.dp_packet.specs.Parts.{Text}
+use Rattle.dp_serving.specs.Folds.{Reply, unless_ended, followed, replies}
+use Rattle.dp_state.specs.declared.moments.Moment.{Moment}
+use Rattle.dp_state.specs.declared.state.State.{State as Program}
+use Rattle.dp_wire.specs.Frames.{commands_in}
+use Rattle.dp_engine.specs.declared.session.SessionEnd.{SessionEnd}
+use Rattle.dp_engine.specs.declared.session.SessionEnd.TheVariants.{Finished, Killed, Detached}
+use Rattle.dp_engine.specs.declared.states.Phase.{Phase}
+use Rattle.dp_engine.specs.declared.states.Phase.TheVariants.{Starting, Break, Stopping}
+use Rattle.dp_engine.specs.Answers.{answer, asked, at_end, at_stop, continued, moved, performed, to_program, turn, turn_of}
+use Rattle.dp_engine.specs.Refusals.{refusal_of_line}
+use Rattle.dp_engine.specs.Served.{Begins, ChangesNothing, answers, ending_after, rest_after}
+use Rattle.dp_engine.specs.Session.{State, opening, outcome_of, output_by, output_so_far, stop_of, trace_of, unwritten, whole_output, written_between}
+use Rattle.dp_engine.specs.Stops.{depth_of, stops}
+use Rattle.dp_engine.proofs.Outputs.{begins_same, stays_written}
+use Rattle.dp_engine.proofs.Stopping.{stop_is_there}
+
+-- ---- what a turn does to a session: nothing, it sets features, or the program goes on
+
+pub data Moves (state : State) : State → Type 0 where
+  stays : Moves state state
+  sets : (features : Features) → Moves state (record state { features = features })
+  goes : (mode : Continuation) → state.phase ≢ Stopping → Moves state (moved state (stop_of mode state))
+
+not_stopping : (phase other : Phase) → other ≢ Stopping → phase ≡ other → phase ≢ Stopping
+not_stopping phase other n e f = n (sym e ∙ f)
+
+continued_moves : (command id : Text) (mode : Continuation) (phase : Phase) (state : State) → state.phase ≡ phase → Moves state (continued command id mode phase state).next
+continued_moves command id mode Starting state e = goes mode (not_stopping state.phase Starting (λ f. cc) e)
+continued_moves command id mode Break state e = goes mode (not_stopping state.phase Break (λ f. cc) e)
+continued_moves command id mode Stopping state e = stays
+
+performed_moves : (command id : Text) (r : Request) (state : State) → Moves state (performed command id r state).next
+performed_moves command id (request.FeatureSet name value) state = sets _
+performed_moves command id (request.Continue mode) state = continued_moves command id mode state.phase state refl
+performed_moves command id (request.Finish Stop) state = stays
+performed_moves command id (request.Finish Detach) state = stays
+performed_moves command id r state = stays
+
+asked_moves : (command id : Text) (c : Option Command) (state : State) → Moves state (asked command id c state).next
+asked_moves command id (Some c) state = performed_moves command c.id c.request state
+asked_moves command id None state = stays
+
+turn_of_moves : (line : Option Line) (code : Option ℕ) (state : State) → Moves state (turn_of line code state).next
+turn_of_moves line (Some code) state = stays
+turn_of_moves line None state = asked_moves _ _ (option_and_then command_of line) state
+
+pub turn_moves : (state : State) (bytes : List ℕ) → Moves state (turn state bytes).next
+unfolding turn
+turn_moves state bytes = turn_of_moves (line_of bytes) (refusal_of_line state (line_of bytes)) state
+
+-- ---- lists
+
+begins_all : (o l m : List ℕ) → Begins o l → Begins l m → Begins o m
+begins_all o l m p q = (p.0 ++ q.0, q.1 ∙ ap (λ (x : List ℕ). x ++ q.0) p.1 ∙ append_assoc o p.0 q.0)
+
+begins_none : (l : List ℕ) → Begins [] l
+begins_none l = (l, refl)
+
+-- what follows the first list in the second, and what follows the second in the third
+pieces_join : (a b c : List ℕ) → Begins a b → Begins b c → drop (length a) b ++ drop (length b) c ≡ drop (length a) c
+pieces_join a b c p q =
+    let first : drop (length a) b ≡ p.0 = ap (drop (length a)) p.1 ∙ drop-append_seam a p.0 in
+    let second : drop (length b) c ≡ q.0 = ap (drop (length b)) q.1 ∙ drop-append_seam b q.0 in
+    let whole : drop (length a) c ≡ p.0 ++ q.0 =
+    ap (drop (length a)) (q.1 ∙ ap (λ (x : List ℕ). x ++ q.0) p.1 ∙ append_assoc a p.0 q.0) ∙ drop-append_seam a (p.0 ++ q.0) in
+    (λ i. first i ++ second i) ∙ sym whole
+
+whole_piece : (a b : List ℕ) → Begins a b → a ++ drop (length a) b ≡ b
+whole_piece a b p = ap (λ (x : List ℕ). a ++ x) (ap (drop (length a)) p.1 ∙ drop-append_seam a p.0) ∙ sym p.1
+
+-- features change nothing of the output
+pub features_apart : (phase : Phase) (state : State) (features : Features) → output_by phase state ≡ output_by phase (record state { features = features })
+features_apart Starting state features = refl
+features_apart Break state features = refl
+features_apart Stopping state features = refl
+
+-- ---- sessions without writes
+
+module _ (bundle : Bundle) (bound : ℕ) where
+  -- where the program stands: before its first moment, at a moment, or at its end
+  abbrev IsPlaced : Phase → ℕ → Type 0
+  IsPlaced Starting moment = moment ≡ 0
+  IsPlaced Break moment = (k : ℕ) × (p : Moment × Program) × (moment ≡ k + 1) × (slice_get (plain bundle bound).moments k ≡ Some p)
+  IsPlaced Stopping moment = Unit {0}
+
+  record IsPlain (state : State) : Type 0 where
+    of : state.bundle ≡ bundle
+    within : state.bound ≡ bound
+    no_writes : state.writes ≡ []
+    no_stream : state.stdout ≡ Disable
+    placed : IsPlaced state.phase state.moment
+
+  abbrev plain_output : List ℕ
+  plain_output = output bundle bound []
+
+  -- the session's values, without writes
+  at_values : (state : State) → IsPlain state → (moment : ℕ) → option_map_or (λ (s : Program). s.output) (now state.bundle state.bound state.writes moment) [] ≡ option_map_or (λ (s : Program). s.output) (now bundle bound [] moment) []
+  at_values state h moment = λ i. option_map_or (λ (s : Program). s.output) (now (h.of i) (h.within i) (h.no_writes i) moment) []
+
+  whole_is : (state : State) → IsPlain state → whole_output state ≡ plain_output
+  whole_is state h = λ i. output (h.of i) (h.within i) (h.no_writes i)
+
+  outcome_is : (state : State) → IsPlain state → outcome_of state ≡ outcome bundle bound []
+  outcome_is state h = λ i. outcome (h.of i) (h.within i) (h.no_writes i)
+
+  -- the output at a moment
+  output_past : (k : ℕ) (p : Moment × Program) → slice_get (plain bundle bound).moments k ≡ Some p → option_map_or (λ (s : Program). s.output) (now bundle bound [] (k + 1)) [] ≡ p.1.output
+  output_past k p is =
+      ap (λ (n : ℕ). option_map_or (λ (s : Program). s.output) (now bundle bound [] n) []) (add-one k)
+      ∙ ap (λ (o : Option (Moment × Program)). option_map_or (λ (s : Program). s.output) (option_map (λ (m : Moment × Program). m.1) o) []) is
+
+  so_far_begins : (phase : Phase) (state : State) → IsPlain state → IsPlaced phase state.moment → Begins (output_by phase state) plain_output
+  so_far_begins Starting state h placed =
+      subst (λ (o : List ℕ). Begins o plain_output) (sym (at_values state h state.moment ∙ ap (λ (n : ℕ). option_map_or (λ (s : Program). s.output) (now bundle bound [] n) []) placed)) (begins_none plain_output)
+  so_far_begins Break state h placed =
+      let k = placed.0 in
+      let p = placed.1 in
+      subst (λ (o : List ℕ). Begins o plain_output)
+      (sym (at_values state h state.moment ∙ ap (λ (n : ℕ). option_map_or (λ (s : Program). s.output) (now bundle bound [] n) []) placed.2 ∙ output_past k p placed.3))
+      (stays_written bundle bound k p placed.3).end
+  so_far_begins Stopping state h placed = subst (λ (o : List ℕ). Begins o plain_output) (sym (whole_is state h)) (begins_same plain_output)
+
+  -- ---- the output grows from turn to turn
+
+  trace_is : (state : State) → IsPlain state → (trace_of state).moments ≡ (plain bundle bound).moments
+  trace_is state h = λ i. (program_trace (h.of i) (h.within i) (h.no_writes i)).moments
+
+  -- the output at the moment at which the program stops
+  stopped_output : (state : State) → IsPlain state → (k : ℕ) (m : Moment × Program) (j : ℕ) → j ≡ k + 1 → slice_get (plain bundle bound).moments k ≡ Some m → output_so_far (at_stop state j) ≡ m.1.output
+  stopped_output state h k m j e is =
+      at_values state h j ∙ ap (λ (n : ℕ). option_map_or (λ (s : Program). s.output) (now bundle bound [] n) []) e ∙ output_past k m is
+
+  later_begins : (phase : Phase) (state : State) → IsPlain state → phase ≢ Stopping → IsPlaced phase state.moment → (k : ℕ) (m : Moment × Program) → state.moment ≤ k
+      → slice_get (plain bundle bound).moments k ≡ Some m → Begins (output_by phase state) m.1.output
+  later_begins Starting state h not_over placed k m late is =
+      subst (λ (o : List ℕ). Begins o m.1.output) (sym (at_values state h state.moment ∙ ap (λ (n : ℕ). option_map_or (λ (s : Program). s.output) (now bundle bound [] n) []) placed)) (begins_none m.1.output)
+  later_begins Break state h not_over placed k m late is =
+      let p = placed.1 in
+      subst (λ (o : List ℕ). Begins o m.1.output)
+      (sym (at_values state h state.moment ∙ ap (λ (n : ℕ). option_map_or (λ (s : Program). s.output) (now bundle bound [] n) []) placed.2 ∙ output_past placed.0 p placed.3))
+      ((stays_written bundle bound placed.0 p placed.3).later k m is (omega (arith, late, placed.2)))
+  later_begins Stopping state h not_over placed k m late is = absurd (not_over refl)
+
+  record Grows (state next : State) : Type 0 where
+    is_plain : IsPlain next
+    begins : Begins (output_so_far state) (output_so_far next)
+
+  ended_grows : (state : State) → IsPlain state → Grows state (at_end state)
+  ended_grows state h = record {
+    is_plain = record { of = h.of; within = h.within; no_writes = h.no_writes; no_stream = h.no_stream; placed = tt };
+    begins = subst (Begins (output_so_far state)) (sym (whole_is state h)) (so_far_begins state.phase state h h.placed);
+  }
+
+  stopped_grows : (state : State) → IsPlain state → state.phase ≢ Stopping → (mode : Continuation) (j : ℕ) → stop_of mode state ≡ Some j → Grows state (at_stop state j)
+  stopped_grows state h not_over mode j e =
+      let there = stop_is_there (stops mode (depth_of (moment_at (trace_of state) state.moment))) state.moment (trace_of state).moments j e in
+      let is : slice_get (plain bundle bound).moments there.0 ≡ Some there.1 = ap (λ (l : List (Moment × Program)). slice_get l there.0) (sym (trace_is state h)) ∙ there.4 in
+      record {
+        is_plain = record { of = h.of; within = h.within; no_writes = h.no_writes; no_stream = h.no_stream; placed = (there.0, there.1, there.2, is) };
+        begins = subst (Begins (output_so_far state)) (sym (stopped_output state h there.0 there.1 j there.2 is)) (later_begins state.phase state h not_over h.placed there.0 there.1 there.3 is);
+      }
+
+  moved_grows : (state : State) → IsPlain state → state.phase ≢ Stopping → (mode : Continuation) (stop : Option ℕ) → stop_of mode state ≡ stop → Grows state (moved state stop)
+  moved_grows state h not_over mode None e = ended_grows state h
+  moved_grows state h not_over mode (Some j) e = stopped_grows state h not_over mode j e
+
+  move_grows : (state next : State) → IsPlain state → Moves state next → Grows state next
+  move_grows state _ h stays = record { is_plain = h; begins = begins_same (output_so_far state) }
+  move_grows state _ h (sets features) = record {
+    is_plain = record { of = h.of; within = h.within; no_writes = h.no_writes; no_stream = h.no_stream; placed = h.placed };
+    begins = subst (Begins (output_so_far state)) (features_apart state.phase state features) (begins_same (output_so_far state));
+  }
+  move_grows state _ h (goes mode not_over) = moved_grows state h not_over mode (stop_of mode state) refl
+
+  -- ---- over all commands
+
+  -- what a session has shown is what the program has written from its first state to its last
+  record Shows (state : State) (r : Reply State SessionEnd) : Type 0 where
+    is_plain : IsPlain r.state
+    begins : Begins (output_so_far state) (output_so_far r.state)
+    shown : r.program ≡ drop (length (output_so_far state)) (output_so_far r.state)
+
+  shown_by : (mode : StreamMode) (output : List ℕ) → mode ≡ Disable → to_program mode output ≡ output
+  shown_by mode output e = ap (λ (m : StreamMode). to_program m output) e
+
+  answer_shows : (state : State) (line : List ℕ) → IsPlain state → Shows state (answer state line)
+  unfolding answer
+  answer_shows state line h =
+      let grown = move_grows state (turn state line).next h (turn_moves state line) in
+      record {
+        is_plain = grown.is_plain;
+        begins = grown.begins;
+        shown = shown_by state.stdout (written_between state (turn state line).next) h.no_stream;
+      }
+
+  followed_shows : (state : State) (first rest : Reply State SessionEnd) → Shows state first → Shows first.state rest → Shows state (followed first rest)
+  followed_shows state first rest p q = cases first.ended where
+    cases : (ended : Option SessionEnd) → Shows state (unless_ended ended first rest)
+    cases (Some end) = p
+    cases None = record {
+      is_plain = q.is_plain;
+      begins = begins_all (output_so_far state) (output_so_far first.state) (output_so_far rest.state) p.begins q.begins;
+      shown = (λ i. p.shown i ++ q.shown i) ∙ pieces_join (output_so_far state) (output_so_far first.state) (output_so_far rest.state) p.begins q.begins;
+    }
+
+  replies_show : (state : State) (lines : List (List ℕ)) → IsPlain state → Shows state (replies answer state lines)
+  replies_show state [] h = record {
+    is_plain = h;
+    begins = begins_same (output_so_far state);
+    shown = sym (drop_all (length (output_so_far state)) (output_so_far state) (omega arith));
+  }
+  replies_show state (line ∷ lines) h =
+      let first = answer_shows state line h in
+      followed_shows state (answer state line) (replies answer (answer state line).state lines) first (replies_show (answer state line).state lines first.is_plain)
+
+  opening_plain : IsPlain (opening bundle bound)
+  opening_plain = record { of = refl; within = refl; no_writes = refl; no_stream = refl; placed = refl }
+
+  -- the program goes on to its end
+  goes_on_whole : (state : State) (r : Reply State SessionEnd) → output_so_far state ≡ [] → Shows state r → r.program ++ unwritten r.state ≡ plain_output
+  goes_on_whole state r none s =
+      let program : r.program ≡ output_so_far r.state = s.shown ∙ ap (λ (o : List ℕ). drop (length o) (output_so_far r.state)) none in
+      let whole = whole_is r.state s.is_plain in
+      (λ i. program i ++ drop (length (output_so_far r.state)) (whole i)) ∙ whole_piece (output_so_far r.state) plain_output (so_far_begins r.state.phase r.state s.is_plain s.is_plain.placed)
+
+  front_of_whole : (state : State) (r : Reply State SessionEnd) → output_so_far state ≡ [] → Shows state r → Begins (r.program ++ []) plain_output
+  front_of_whole state r none s =
+      let program : r.program ++ [] ≡ output_so_far r.state = append-nil r.program ∙ s.shown ∙ ap (λ (o : List ℕ). drop (length o) (output_so_far r.state)) none in
+      subst (λ (o : List ℕ). Begins o plain_output) (sym program) (so_far_begins r.state.phase r.state s.is_plain s.is_plain.placed)
+
+  changes_by : (state : State) (r : Reply State SessionEnd) → output_so_far state ≡ [] → Shows state r → (ended : Option SessionEnd) → r.ended ≡ ended → ChangesNothing bundle bound r (ending_after ended r.state)
+  changes_by state r none s None e =
+      (ap (λ (o : Option SessionEnd). r.program ++ rest_after o r.state) e ∙ goes_on_whole state r none s, outcome_is r.state s.is_plain)
+  changes_by state r none s (Some Detached) e =
+      (ap (λ (o : Option SessionEnd). r.program ++ rest_after o r.state) e ∙ goes_on_whole state r none s, outcome_is r.state s.is_plain)
+  changes_by state r none s (Some (Finished o)) e =
+      (ap (λ (o : Option SessionEnd). r.program ++ rest_after o r.state) e ∙ goes_on_whole state r none s, outcome_is r.state s.is_plain)
+  changes_by state r none s (Some Killed) e =
+      subst (λ (l : List ℕ). Begins l plain_output) (sym (ap (λ (o : Option SessionEnd). r.program ++ rest_after o r.state) e)) (front_of_whole state r none s)
+
+  pub changes_nothing : (bytes : List ℕ) → ChangesNothing bundle bound (answers bundle bound bytes) (ending_after (answers bundle bound bytes).ended (answers bundle bound bytes).state)
+  changes_nothing bytes =
+      changes_by (opening bundle bound) (answers bundle bound bytes) refl (replies_show (opening bundle bound) (commands_in bytes) opening_plain) (answers bundle bound bytes).ended refl

@@ -1,0 +1,10 @@
+use Rattle.std.proofs.Common.{[], ◌∙◌}
+use Rattle.dp_packet.specs.declared.packet.Body.TheVariants.{Fault}
+use Rattle.dp_engine.proofs.Fitting.{fault_fits, made_fits}
+use Rattle.dp_engine.proofs.responses.fault.Goals as goal
+
+pub returns-clause-fits : goal.returns-clause-fits
+returns-clause-fits c =
+    let command = c.args.command.now in
+    let id = c.args.id.now in
+    made_fits command id c.of.result [] (Fault c.args.code) c.response.result c.response.ensures (c.of.ensures ∙ c.new.ensures.items) (fault_fits command id c.requires.command c.requires.id c.args.code c.requires.code)

@@ -1,0 +1,11 @@
+use Rattle.dp_packet.specs.declared.packet.Body.TheVariants.{Nothing}
+use Rattle.dp_engine.specs.Responses.{status_attributes}
+use Rattle.dp_engine.proofs.Fitting.{made_fits, status_fits}
+use Rattle.dp_engine.proofs.responses.status.Goals as goal
+
+pub returns-clause-fits : goal.returns-clause-fits
+returns-clause-fits c =
+    let command = c.args.command.now in
+    let id = c.args.id.now in
+    made_fits command id c.in_ok-attributes.attributes (status_attributes c.args.status.now c.args.reason.now) Nothing c.response.result c.response.ensures c.in_ok-attributes.ensures
+    (status_fits command id c.requires.command c.requires.id c.args.status.now c.args.reason.now c.requires.status c.requires.reason)

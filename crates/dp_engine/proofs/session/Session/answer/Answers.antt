@@ -1,0 +1,7 @@
+use Rattle.dp_engine.proofs.Answering.{answered}
+use Rattle.dp_engine.proofs.session.Session.answer.Goals as goal
+
+pub returns-clause-ok : goal.returns-clause-ok
+returns-clause-ok c =
+    answered c.args.self.now c.give.new.self c.args.line.now c.in_ok-line.line c.in_ok-turn.turn c.give.result
+    c.give.ensures.quiet c.in_ok-line.ensures.value c.in_ok-turn.ensures c.give.ensures.ok

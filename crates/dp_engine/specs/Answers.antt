@@ -1,0 +1,162 @@
+-- What one command leads to in a session: DBGp 1.0, "status", "Options and Configuration", "Continuation Commands".
+use Rattle.std.specs.Prelude.{ℕ, true, List, [], ◌∷◌, ◌++◌, Option, Some, None, option_map, option_and_then, codes}
+use Rattle.std.specs.Option.{option_map_or}
+use Rattle.dp_command.specs.declared.command.Command.{Command}
+use Rattle.dp_command.specs.declared.command.Continuation.{Continuation}
+use Rattle.dp_command.specs.declared.command.Finish.TheVariants.{Stop, Detach}
+use Rattle.dp_command.specs.declared.command.Request.{Request}
+use Rattle.dp_command.specs.declared.command.Request.TheVariants as request
+use Rattle.dp_command.specs.declared.command.StreamMode.{StreamMode}
+use Rattle.dp_command.specs.declared.command.StreamMode.TheVariants.{Disable, Copy, Redirect}
+use Rattle.dp_command.specs.declared.line.Line.{Line}
+use Rattle.dp_command.specs.Commands.{command_of}
+use Rattle.dp_command.specs.Lines.{line_of}
+use Rattle.dp_command.specs.Names.{name_of}
+use Rattle.dp_command.specs.Refusals.{id_of}
+use Rattle.dp_features.specs.Features.{feature_named, value_of, with_setting}
+use Rattle.dp_packet.specs.declared.packet.Response.{Response}
+use Rattle.dp_packet.specs.Parts.{Text, flag}
+use Rattle.dp_serving.specs.Folds.{Reply}
+use Rattle.dp_engine.specs.declared.session.SessionEnd.{SessionEnd}
+use Rattle.dp_engine.specs.declared.session.SessionEnd.TheVariants.{Finished, Killed, Detached}
+use Rattle.dp_engine.specs.declared.states.Phase.{Phase}
+use Rattle.dp_engine.specs.declared.states.Phase.TheVariants.{Starting, Break, Stopping}
+use Rattle.dp_engine.specs.declared.states.Reason.TheVariants as reason
+use Rattle.dp_engine.specs.Refusals.{refusal_of_line, of_command}
+use Rattle.dp_engine.specs.Responses.{response_text, status_response, feature_response, set_response, fault_response, streams}
+use Rattle.dp_engine.specs.Session.{State, outcome_of, stop_of, written_between}
+use Rattle.dp_engine.specs.States.{phase_name, reason_name, reason_of, is_built}
+
+-- What a command leads to: its response, what the session knows then, and how it has ended, if it has.
+pub record Turn : Type 0 where
+  pub response : Response
+  pub next : State
+  pub ended : Option SessionEnd
+
+-- a response that ends nothing
+abbrev pub goes_on : Response → State → Turn
+goes_on r next = record { response = r; next = next; ended = None }
+
+-- ---- going on
+
+-- at this moment the program stops
+abbrev pub at_stop : State → ℕ → State
+at_stop state n = record state { moment = n; phase = Break; reason = reason.Ok }
+
+-- the program has come to its end
+abbrev pub at_end : State → State
+at_end state = record state { phase = Stopping; reason = reason_of (outcome_of state) }
+
+-- where the program comes to when it goes on
+abbrev pub moved : State → Option ℕ → State
+moved state (Some n) = at_stop state n
+moved state None = at_end state
+
+-- a response with the state and the reason of a session
+abbrev pub state_response : Text → Text → State → Response
+state_response command id state = status_response command id (phase_name state.phase) (reason_name state.reason)
+
+abbrev pub stopped_response : Text → Text → Response
+stopped_response command id = status_response command id (codes "stopped") (codes "ok")
+
+abbrev pub advanced : Text → Text → Continuation → State → Turn
+advanced command id mode state =
+    let next = moved state (stop_of mode state) in goes_on (state_response command id next) next
+
+-- once the program has ended, going on ends the session
+abbrev pub continued : Text → Text → Continuation → Phase → State → Turn
+continued command id mode Starting state = advanced command id mode state
+continued command id mode Break state = advanced command id mode state
+continued command id mode Stopping state =
+    record { response = stopped_response command id; next = state; ended = Some (Finished (outcome_of state)) }
+
+-- ---- ending the session
+
+-- a program that has not ended is killed
+abbrev pub end_by_stop : Phase → State → SessionEnd
+end_by_stop Starting state = Killed
+end_by_stop Break state = Killed
+end_by_stop Stopping state = Finished (outcome_of state)
+
+abbrev pub stopped : Text → Text → State → Turn
+stopped command id state = record { response = stopped_response command id; next = state; ended = Some (end_by_stop state.phase state) }
+
+abbrev pub detached : Text → Text → State → Turn
+detached command id state =
+    record { response = status_response command id (codes "stopping") (codes "ok"); next = state; ended = Some Detached }
+
+-- ---- features
+
+-- a feature has a value; of the built commands it is known that they are there
+abbrev pub feature_told : Text → Text → Text → State → Response
+feature_told command id name state =
+    feature_response command id name
+    (flag (option_map_or (λ feature. true) (feature_named name) (of_command is_built (name_of name))))
+    (option_map (value_of state.features) (feature_named name))
+
+abbrev pub feature_put : Text → Text → Text → Text → State → Turn
+feature_put command id name value state =
+    goes_on (set_response command id name) (record state { features = with_setting name value state.features })
+
+-- ---- commands
+
+-- a refused command changes nothing
+abbrev pub refused : Text → Text → ℕ → State → Turn
+refused command id code state = goes_on (fault_response command id code) state
+
+-- what a command of this name and id asks for is done; what is not built is refused before
+abbrev pub performed : Text → Text → Request → State → Turn
+performed command id request.Status state = goes_on (state_response command id state) state
+performed command id (request.FeatureGet name) state = goes_on (feature_told command id name state) state
+performed command id (request.FeatureSet name value) state = feature_put command id name value state
+performed command id (request.Continue mode) state = continued command id mode state.phase state
+performed command id (request.Finish Stop) state = stopped command id state
+performed command id (request.Finish Detach) state = detached command id state
+performed command id other state = refused command id 4 state
+
+-- the name that a response repeats; empty where the bytes spell no line
+abbrev pub command_in : Option Line → Text
+command_in line = option_map_or (λ l. l.name) line []
+
+-- the transaction id that a response repeats; empty where there is none, or the bytes spell no line
+abbrev pub id_in : Option Line → Text
+id_in line = option_map_or id_of line []
+
+abbrev pub asked : Text → Text → Option Command → State → Turn
+asked command id (Some c) state = performed command c.id c.request state
+asked command id None state = refused command id 4 state
+
+abbrev pub turn_of : Option Line → Option ℕ → State → Turn
+turn_of line (Some code) state = refused (command_in line) (id_in line) code state
+turn_of line None state = asked (command_in line) (id_in line) (option_and_then command_of line) state
+
+-- what these bytes lead to
+unfoldable pub turn : State → List ℕ → Turn
+turn state bytes = turn_of (line_of bytes) (refusal_of_line state (line_of bytes)) state
+
+-- ---- what is sent
+
+-- what goes to the IDE of the program's output
+abbrev pub to_ide : StreamMode → List ℕ → List Text
+to_ide Disable output = []
+to_ide Copy output = streams output
+to_ide Redirect output = streams output
+
+-- what goes to the program's own output
+abbrev pub to_program : StreamMode → List ℕ → List ℕ
+to_program Disable output = output
+to_program Copy output = output
+to_program Redirect output = []
+
+-- the output that the program wrote in this turn goes out before the response
+abbrev pub sent : State → Turn → Reply State SessionEnd
+sent state taken = record {
+  packets = to_ide state.stdout (written_between state taken.next) ++ response_text taken.response ∷ [];
+  program = to_program state.stdout (written_between state taken.next);
+  state = taken.next;
+  ended = taken.ended;
+}
+
+-- the answer to a command
+unfoldable pub answer : State → List ℕ → Reply State SessionEnd
+answer state bytes = sent state (turn state bytes)

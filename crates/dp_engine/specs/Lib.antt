@@ -1,0 +1,12 @@
+pub mod Stops
+pub mod States
+pub mod Session
+pub mod Responses
+pub mod Refusals
+pub mod Answers
+pub mod Served
+pub mod Standing
+pub mod Turns
+pub mod Sizes
+pub mod Serving
+pub mod Closing

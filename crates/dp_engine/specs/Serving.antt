@@ -1,0 +1,50 @@
+-- A session that was served over a link, by how it ended.
+use Rattle.std.specs.Prelude.{◌≡◌, ◌⊎◌, ℕ, ◌+◌, List, [], length, Option, None, Some}
+use Rattle.std.specs.Io.KnownBytes.{Appends, Consumes, IsAtEnd}
+use Rattle.dp_bundle.specs.declared.bundle.Bundle.{Bundle}
+use Rattle.dp_outside.specs.Causes.{Rose}
+use Rattle.dp_outside.specs.Changes.{Change}
+use Rattle.dp_serving.specs.Serving.{byte_limit}
+use Rattle.dp_state.specs.declared.moments.Outcome.{Outcome}
+use Rattle.dp_wire.specs.Frames.{rest_of, IsPartialCommand, BeginsNoCommand}
+use Rattle.dp_engine.specs.declared.serving.ServeEnd.{ServeEnd}
+use Rattle.dp_engine.specs.declared.serving.ServeEnd.TheVariants.{Stopped, Detached, LinkEnd, ReadFault, WriteFault, OutFault, BadCommandFrame, ByteLimit, Memory}
+use Rattle.dp_engine.specs.declared.serving.Served.{Served}
+use Rattle.dp_engine.specs.declared.session.SessionEnd.{SessionEnd}
+use Rattle.dp_engine.specs.declared.session.SessionEnd.TheVariants as end
+use Rattle.dp_engine.specs.Served.{alone, answers, ending, own}
+
+-- a command has ended the session for good: the program had ended, or was killed
+abbrev pub IsOver : Option SessionEnd → Type 0
+IsOver ended = (ended ≡ Some end.Killed) ⊎ ((o : Outcome) × (ended ≡ Some (end.Finished o)))
+
+-- why a session that no fault of a put cut short ended here: whether a command has ended it, what of the bytes read
+-- is no whole command, and what became of the source
+abbrev pub EndsBy : ServeEnd → Option SessionEnd → List ℕ → List ℕ → Change → Type 0
+EndsBy Stopped ended rest read source = IsOver ended
+EndsBy Detached ended rest read source = ended ≡ Some end.Detached
+EndsBy LinkEnd ended rest read source = (ended ≡ None) × IsPartialCommand rest × IsAtEnd source.told
+EndsBy ReadFault ended rest read source = (ended ≡ None) × IsPartialCommand rest × Rose source.faults_before source.faults
+EndsBy (BadCommandFrame offset) ended rest read source = (ended ≡ None) × BeginsNoCommand rest × (offset + length rest ≡ length read)
+EndsBy ByteLimit ended rest read source = (ended ≡ None) × IsPartialCommand rest × (length read ≡ byte_limit)
+EndsBy cut ended rest read source = ⊥
+
+-- Read from the source, written on the link and to the program's own output is what the session, served alone, comes to,
+-- and the program has ended as it does there.
+pub record IsServed (served : Served) (bundle : Bundle) (bound : ℕ) (key : List ℕ) (source sink out : Change) : Type 0 where
+  pub read : List ℕ
+  pub consumed : Consumes source.told_before source.told read
+  pub sent : Appends sink.told_before sink.told (alone bundle bound key read)
+  pub printed : Appends out.told_before out.told (own bundle bound read)
+  pub outcome : served.outcome ≡ ending bundle bound read
+  pub ends : EndsBy served.end (answers bundle bound read).ended (rest_of read) read source
+
+-- every end has its cause
+abbrev pub ServesTo : ServeEnd → Served → Bundle → ℕ → List ℕ → Change → Change → Change → Type 0
+ServesTo WriteFault served bundle bound key source sink out = Rose sink.faults_before sink.faults
+ServesTo OutFault served bundle bound key source sink out = Rose out.faults_before out.faults × (served.outcome ≡ None)
+ServesTo Memory served bundle bound key source sink out = served.outcome ≡ None
+ServesTo end served bundle bound key source sink out = IsServed served bundle bound key source sink out
+
+abbrev pub Serves : Served → Bundle → ℕ → List ℕ → Change → Change → Change → Type 0
+Serves served bundle bound key source sink out = ServesTo served.end served bundle bound key source sink out

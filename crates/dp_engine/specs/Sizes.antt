@@ -1,0 +1,36 @@
+-- Lines, requests and responses that are short enough for a packet.
+use Rattle.std.specs.Prelude.{◌≡◌, ℕ, ◌≤◌, ◌<◌, true, length, Option, Some, None}
+use Rattle.std.specs.List.{AllByRecursion}
+use Rattle.dp_command.specs.declared.command.Request.{Request}
+use Rattle.dp_command.specs.declared.command.Request.TheVariants.{FeatureGet, FeatureSet}
+use Rattle.dp_command.specs.declared.line.Line.{Line}
+use Rattle.dp_packet.specs.declared.packet.Packet.TheVariants as packet
+use Rattle.dp_packet.specs.declared.packet.Response.{Response}
+use Rattle.dp_packet.specs.Messages.{is_some_text, message_of}
+use Rattle.dp_packet.specs.Packets.{HasMessage}
+use Rattle.dp_wire.specs.Frames.{command_limit, packet_limit}
+use Rattle.dp_engine.specs.Responses.{response_text}
+
+-- the name and the values of a line that a command may have
+pub record IsShort (line : Line) : Type 0 where
+  pub name : length line.name ≤ 64
+  pub values : AllByRecursion (λ o. length o.1 ≤ command_limit) line.options
+
+abbrev pub IsShortLine : Option Line → Type 0
+IsShortLine None = Unit {0}
+IsShortLine (Some line) = IsShort line
+
+-- the names that a request holds and its response repeats
+abbrev pub IsShortRequest : Request → Type 0
+IsShortRequest (FeatureGet name) = length name ≤ command_limit
+IsShortRequest (FeatureSet name value) = length name ≤ command_limit
+IsShortRequest request = Unit {0}
+
+-- a code that has a message
+abbrev pub IsCode : ℕ → Type 0
+IsCode code = (is_some_text (message_of code) ≡ true) × (code < 1000)
+
+-- a packet can be made of it
+pub record Fits (r : Response) : Type 0 where
+  pub known : HasMessage (packet.Response r)
+  pub short : length (response_text r) ≤ packet_limit

@@ -1,0 +1,19 @@
+//! One session of the engine with an IDE, and serving it over a link.
+#![tactic(auto)]
+
+mod arrivals;
+mod laws;
+mod refusals;
+mod responses;
+mod serving;
+mod session;
+mod states;
+mod turns;
+
+pub use dp_value::Memory;
+pub use laws::{more_commands_only_add, refused_exactly, watching_changes_nothing};
+pub use serving::{ServeEnd, Served, serve};
+pub use session::{Answer, Session, SessionEnd};
+
+#[cfg(test)]
+mod tests;

@@ -1,0 +1,128 @@
+//! Serving one session over a link.
+ghost use Rattle.std.specs.Prelude.{◌≡◌, ◌≤◌, ℕ, List, None, Some};
+ghost use Rattle.std.specs.Io.KnownBytes.{Appends};
+ghost use Rattle.dp_outside.specs.Changes.{change};
+ghost use Rattle.dp_wire.specs.Frames.{IsPacketText};
+ghost use Rattle.dp_engine.specs.Closing.{CanRunOn, Closes, RanOn};
+ghost use Rattle.dp_engine.specs.Responses.{init_text};
+ghost use Rattle.dp_engine.specs.Serving.{Serves};
+ghost use Rattle.dp_engine.specs.Session.{opening};
+
+use crate::session::{Session, SessionEnd};
+use dp_outside::{Sink, Source};
+use dp_serving::{Fault, Over, converse, put_some};
+use dp_state::Outcome;
+use dp_value::Bytes;
+use std::alloc::Global;
+
+/// How a session over a link ended.
+#[derive(Clone, Copy, Debug, PartialEq, Eq)]
+pub enum ServeEnd {
+    /// A command ended the session: the program had come to its end, or was killed.
+    Stopped,
+    /// A command ended the session, and the program ran on by itself.
+    Detached,
+    /// The source gave its end.
+    LinkEnd,
+    /// The source failed.
+    ReadFault,
+    /// The link's sink failed.
+    WriteFault,
+    /// No command begins at this offset from the first byte read.
+    BadCommandFrame { offset: u64 },
+    /// The program's own output failed.
+    OutFault,
+    /// The most bytes of a session were read.
+    ByteLimit,
+    /// Want of memory.
+    Memory,
+}
+
+/// A session that was served, and how its program ended: not at all where it was killed, and unknown where its output or
+/// memory failed.
+#[derive(Clone, Copy, Debug, PartialEq, Eq)]
+pub struct Served {
+    pub end: ServeEnd,
+    pub outcome: Option<Outcome>,
+}
+
+/// A session whose program did not run to its end.
+fn cut_short(end: ServeEnd) -> Served
+    ensures { result ≡ record { end = end; outcome = None } }
+{
+    Served { end, outcome: None }
+}
+
+/// Runs the program on to its end, once the session is over.
+fn run_on<E: Sink>(alloc: Global, session: Session<'_>, end: ServeEnd, out: &mut E) -> Served
+    requires { CanRunOn end }
+    ensures ran { RanOn end result session.entry (change E.taken E.faults out.old out.new) }
+    ensures out_later { E.faults out.old ≤ E.faults out.new }
+{
+    let Ok((rest, outcome)) = session.finish(alloc) else {
+        return cut_short(ServeEnd::Memory);
+    };
+    match put_some(out, rest.as_slice()) {
+        Ok(()) => Served {
+            end,
+            outcome: Some(outcome),
+        },
+        Err(_) => cut_short(ServeEnd::OutFault),
+    }
+}
+
+/// What becomes of the program once the session is over.
+fn close<E: Sink>(
+    alloc: Global,
+    session: Session<'_>,
+    over: Over<SessionEnd>,
+    out: &mut E,
+) -> Served
+    ensures closes { Closes over result session.entry (change E.taken E.faults out.old out.new) }
+    ensures out_later { E.faults out.old ≤ E.faults out.new }
+{
+    match over {
+        Over::Ended(SessionEnd::Killed) => cut_short(ServeEnd::Stopped),
+        Over::Ended(SessionEnd::Detached) => run_on(alloc, session, ServeEnd::Detached, out),
+        Over::Ended(SessionEnd::Finished(_)) => run_on(alloc, session, ServeEnd::Stopped, out),
+        Over::LinkEnd => run_on(alloc, session, ServeEnd::LinkEnd, out),
+        Over::ReadFault => run_on(alloc, session, ServeEnd::ReadFault, out),
+        Over::BadCommandFrame { offset } => {
+            run_on(alloc, session, ServeEnd::BadCommandFrame { offset }, out)
+        }
+        Over::ByteLimit => run_on(alloc, session, ServeEnd::ByteLimit, out),
+    }
+}
+
+/// Serves a session over a link: sends its first packet and answers each command that comes, up to an end.
+///
+/// The program's own output goes to `out`. Where the link ends or fails first, the program runs on to its end, unless a
+/// command has killed it. It waits in the calls of the link alone.
+pub fn serve<S: Source, K: Sink, E: Sink>(
+    alloc: Global,
+    mut session: Session<'_>,
+    init: Bytes,
+    source: &mut S,
+    sink: &mut K,
+    out: &mut E,
+) -> Served
+    requires opening { session ≡ opening session.bundle session.bound }
+    requires text { IsPacketText init }
+
+    ensures serves { (key : List ℕ) → init ≡ init_text session.entry.bundle key
+        → Serves result session.entry.bundle session.entry.bound key
+        (change S.left S.faults source.old source.new) (change K.taken K.faults sink.old sink.new)
+        (change E.taken E.faults out.old out.new) }
+
+    ensures source_later { S.faults source.old ≤ S.faults source.new }
+    ensures sink_later { K.faults sink.old ≤ K.faults sink.new }
+    ensures out_later { E.faults out.old ≤ E.faults out.new }
+{
+    match converse(alloc, &mut session, init.as_slice(), source, sink, out) {
+        Ok(over) => close(alloc, session, over, out),
+        Err(Fault::Write(Some(SessionEnd::Killed))) => cut_short(ServeEnd::WriteFault),
+        Err(Fault::Write(_)) => run_on(alloc, session, ServeEnd::WriteFault, out),
+        Err(Fault::Out) => cut_short(ServeEnd::OutFault),
+        Err(Fault::Memory) => cut_short(ServeEnd::Memory),
+    }
+}

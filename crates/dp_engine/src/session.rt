@@ -1,0 +1,276 @@
+//! One session of the engine with an IDE.
+ghost use Rattle.std.specs.Prelude.{◌≡◌, ◌≤◌, ◌∷◌, [], drop, length, IfOk, OnErr};
+ghost use Rattle.std.specs.List.{AllByRecursion};
+ghost use Rattle.dp_wire.specs.Frames.{IsCommand, IsPacketText};
+ghost use Rattle.dp_engine.specs.Responses.{init_text, main_name, response_text};
+ghost use Rattle.dp_engine.specs.Sizes.{Fits, IsShortLine};
+ghost use Rattle.dp_command.specs.declared.command.StreamMode.TheVariants.{Disable};
+ghost use Rattle.dp_command.specs.Lines.{line_of};
+
+use crate::arrivals::{Arrival, run_out};
+use crate::states::Standing;
+use crate::turns::{Step, Turn};
+use dp_bundle::Bundle;
+use dp_command::{Line, LineError, read_line};
+use dp_features::Features;
+use dp_packet::{Init, Packet, Response, file_uri, text_of};
+use dp_serving::Responder;
+use dp_state::{Outcome, State};
+use dp_value::{Bytes, Items, Memory};
+use std::alloc::Global;
+use std::marker::Model;
+
+/// How a command ends a session.
+#[derive(Clone, Copy, Debug, PartialEq, Eq)]
+pub enum SessionEnd {
+    /// The program had come to its end.
+    Finished(Outcome),
+    /// The program was stopped before its end.
+    Killed,
+    /// The program runs on by itself.
+    Detached,
+}
+
+/// What one command leads to.
+pub type Answer = dp_serving::Answer<SessionEnd>;
+
+/// A session. Contracts see what it knows.
+///
+/// It finds the program's state by running it again for each command that goes on.
+#[derive(Debug, Drop)]
+pub struct Session<'a> {
+    pub(crate) bundle: &'a Bundle,
+    pub(crate) bound: u64,
+    /// The number of the current moment, 0 before the first, and the depth there.
+    pub(crate) moment: u64,
+    pub(crate) depth: u32,
+    pub(crate) standing: Standing,
+    pub(crate) features: Features,
+    /// The program's state at the moment, and the last one after its end.
+    pub(crate) program: State,
+}
+
+impl<'a> Model for Session<'a> {
+    ghost use Rattle.std.specs.Coded.{codes};
+    ghost use Rattle.dp_bundle.specs.contracts.bundle.Bundle as bundle_type;
+    ghost use Rattle.dp_meaning.specs.contracts.writing.NumberedWrite as write_type;
+    ghost use Rattle.dp_engine.specs.Session.{State as Known};
+
+    ghost Value = { Known };
+
+    ghost coded = { Prim.hlevel (codes, bundle_type.the_row.coded, write_type.the_row.coded) };
+
+    ghost use Rattle.dp_engine.specs.Standing.{known, IsAt, IsDeep};
+
+    ghost view = { λ s. known s.bundle.now s.bound s.moment s.standing s.features };
+
+    ghost invariant = { λ s. IsAt s.standing s.bundle.now s.bound s.moment s.program
+        × IsDeep s.bundle.now s.bound s.moment s.depth };
+}
+
+/// The line that the bytes spell, if they spell one.
+fn read(alloc: Global, bytes: &[u8]) -> Result<Option<Line>, Memory>
+    requires { IsCommand bytes.now }
+    ensures value { IfOk result (λ line. line ≡ line_of bytes.now) }
+    ensures short { IfOk result IsShortLine }
+{
+    match read_line(alloc, bytes) {
+        Ok(line) => Ok(Some(line)),
+        Err(LineError::Parse) => Ok(None),
+        Err(LineError::Memory) => Err(Memory),
+    }
+}
+
+/// What follows so many bytes.
+fn tail(bytes: &[u8], count: usize) -> &[u8]
+    ensures { result.now ≡ drop count bytes.now }
+{
+    if count <= bytes.len() {
+        &bytes[count..]
+    } else {
+        &[]
+    }
+}
+
+impl<'a> Session<'a> {
+    ghost use Rattle.dp_engine.specs.Answers as spec;
+    ghost use Rattle.dp_engine.specs.Session.{opening, outcome_of, output_so_far, unwritten, written_between};
+    ghost use Rattle.dp_engine.specs.Turns.{after, given, Leads};
+    ghost use Rattle.dp_serving.specs.Folds.{reply_of};
+
+    /// A session over a program that may have so many moments, in the state starting, and the text of its first packet.
+    ///
+    /// The key has at most 128 bytes, the name of the main file at most 255.
+    pub fn begin(
+        alloc: Global,
+        bundle: &'a Bundle,
+        key: &[u8],
+        bound: u64,
+    ) -> Result<(Session<'a>, Bytes), Memory>
+        requires key { length key.now ≤ 128 }
+        requires name { length (main_name bundle.now) ≤ 255 }
+        ensures opening { IfOk result (λ begun. begun.0 ≡ opening bundle.now bound) }
+        ensures text { IfOk result (λ begun. begun.1 ≡ init_text bundle.now key.now) }
+        ensures is_text { IfOk result (λ begun. IsPacketText begun.1) }
+    {
+        let program = State::opening(alloc, bundle)?;
+        let init = first_packet(alloc, bundle, key)?;
+        let session = Session {
+            bundle,
+            bound,
+            moment: 0,
+            depth: 1,
+            standing: Standing::Starting,
+            features: Features::new(),
+            program,
+        };
+        Ok((session, init))
+    }
+
+    /// Answers one whole command, without its NUL. On want of memory nothing has changed.
+    pub fn answer(&mut self, alloc: Global, line: &[u8]) -> Result<Answer, Memory>
+        requires { IsCommand line.now }
+        ensures ok { IfOk result (λ answer. reply_of answer self.new ≡ spec.answer self.old line.now) }
+        ensures are_texts { IfOk result (λ answer. AllByRecursion IsPacketText answer.packets) }
+        ensures err { OnErr result (self.new ≡ self.old) }
+    {
+        let line = read(alloc, line)?;
+        let turn = self.turn(alloc, line)?;
+        self.give(alloc, turn)
+    }
+
+    /// Makes a turn, and answers what is sent of it.
+    fn give(&mut self, alloc: Global, turn: Turn) -> Result<Answer, Memory>
+        requires leads { Leads turn.step self.old }
+        requires fits { Fits turn.response }
+        ensures ok { IfOk result (λ answer. reply_of answer self.new ≡ given turn self.old) }
+        ensures are_texts { IfOk result (λ answer. AllByRecursion IsPacketText answer.packets) }
+        ensures quiet { self.old.stdout ≡ Disable }
+        ensures err { OnErr result (self.new ≡ self.old) }
+    {
+        let Turn {
+            response,
+            step,
+            ended,
+        } = turn;
+        let program = self.written(alloc, &step)?;
+        let packets = sent(alloc, response)?;
+        self.take(step);
+        Ok(Answer {
+            packets,
+            program,
+            ended,
+        })
+    }
+
+    /// What the program has written by the time of a step.
+    fn output_after<'b>(&'b self, step: &'b Step) -> &'b [u8]
+        requires { Leads step.now self.now }
+        ensures { result.now ≡ output_so_far (after step.now self.now) }
+    {
+        match step {
+            Step::Come(arrival) => arrival.output(),
+            Step::Set(_) => self.program.output.as_slice(),
+            Step::Stay => self.program.output.as_slice(),
+        }
+    }
+
+    /// What the program writes in a step.
+    fn written(&self, alloc: Global, step: &Step) -> Result<Bytes, Memory>
+        requires { Leads step.now self.now }
+        ensures text { IfOk result (λ text. text ≡ written_between self.now (after step.now self.now)) }
+        // None of it goes to the IDE.
+        ensures quiet { self.now.stdout ≡ Disable }
+    {
+        let before = self.program.output.len();
+        Bytes::from_slice(alloc, tail(self.output_after(step), before))
+    }
+
+    /// Makes a step.
+    fn take(&mut self, step: Step)
+        requires { Leads step self.old }
+        ensures { self.new ≡ after step self.old }
+    {
+        match step {
+            Step::Stay => {}
+            Step::Set(features) => self.features = features,
+            Step::Come(
+                Arrival::Moment {
+                    number,
+                    depth,
+                    program,
+                },
+            ) => {
+                self.moment = number;
+                self.depth = depth;
+                self.standing = Standing::Break;
+                self.program = program;
+            }
+            Step::Come(Arrival::End { outcome, program }) => {
+                self.standing = Standing::Stopping(outcome);
+                self.program = program;
+            }
+        }
+    }
+
+    /// Runs the program on to its end, and answers the rest of its output and how it ended.
+    pub fn finish(self, alloc: Global) -> Result<(Bytes, Outcome), Memory>
+        ensures rest { IfOk result (λ rest. rest.0 ≡ unwritten self.entry) }
+        ensures outcome { IfOk result (λ rest. rest.1 ≡ outcome_of self.entry) }
+    {
+        let before = self.program.output.len();
+        match run_out(alloc, self.bundle, self.bound)? {
+            Arrival::End { outcome, program } => {
+                let rest = Bytes::from_slice(alloc, tail(program.output.as_slice(), before))?;
+                Ok((rest, outcome))
+            }
+            Arrival::Moment { .. } => unreachable!(),
+        }
+    }
+}
+
+/// The texts of the packets that a response goes out in.
+fn sent(alloc: Global, response: Response) -> Result<Items<Bytes>, Memory>
+    requires { Fits response }
+    ensures value { IfOk result (λ texts. texts ≡ response_text response ∷ []) }
+    ensures are_texts { IfOk result (λ texts. AllByRecursion IsPacketText texts) }
+{
+    let text = text_of(alloc, &Packet::Response(response))?;
+    let mut texts = Vec::new(alloc);
+    texts.push(text)?;
+    Ok(Items::of(texts))
+}
+
+/// The text of the packet that opens a session.
+fn first_packet(alloc: Global, bundle: &Bundle, key: &[u8]) -> Result<Bytes, Memory>
+    requires key { length key.now ≤ 128 }
+    requires name { length (main_name bundle.now) ≤ 255 }
+    ensures text { IfOk result (λ text. text ≡ init_text bundle.now key.now) }
+    ensures is_text { IfOk result IsPacketText }
+{
+    let idekey = Bytes::from_slice(alloc, key)?;
+    let fileuri = file_uri(alloc, main_file(bundle))?;
+    text_of(alloc, &Packet::Init(Init { idekey, fileuri }))
+}
+
+/// The name of the main file.
+fn main_file(bundle: &Bundle) -> &[u8]
+    ensures { result.now ≡ main_name bundle.now }
+{
+    match bundle.files.as_slice().first() {
+        Some(file) => file.name.as_slice(),
+        None => &[],
+    }
+}
+
+impl<'a> Responder for Session<'a> {
+    ghost use Rattle.dp_engine.specs.Answers.{answer};
+
+    type End = SessionEnd;
+
+    ghost step = { answer };
+
+    fn answer(&mut self, alloc: Global, line: &[u8]) -> Result<Answer, Memory> {
+        Session::answer(self, alloc, line)
+    }
+}
