@@ -1,16 +1,16 @@
 -- The run of a program: what is fetched, what its files make, and what its end is.
-use Rattle.std.proofs.Common.{◌≡◌, ◌⊎◌, ℕ, zero, suc, ◌+◌, ◌<◌, ◌≤◌, Bool, true, false, List, [], ◌∷◌, ◌++◌, length, map, All, Option, Some, None, Result, Ok, Err, refl, sym, ap, ◌∙◌, subst, arith, inl, inr, ⊎_elim, get_or, take, IsSome, String, string_bytes}
+use Rattle.std.proofs.Common.{◌≡◌, ◌⊎◌, ℕ, suc, ◌+◌, ◌<◌, ◌≤◌, true, false, List, [], ◌∷◌, ◌++◌, length, map, All, Some, None, Result, Ok, Err, refl, sym, ap, ◌∙◌, subst, arith, inl, inr, get_or, take, IsSome, String, string_bytes}
 use Rattle.std.specs.declared.alloc.Global.{Global}
-use Rattle.std.specs.Prelude.{IfOk, MatchResult}
+use Rattle.std.specs.Prelude.{IfOk, IfErr, MatchResult}
 use Rattle.std.specs.List.{IsDistinct}
 use Rattle.std.specs.Str.{bytes_eq}
 use Rattle.std.specs.Io.KnownBytes.{Appends}
 use Rattle.std.proofs.lemmas.List.{length-map, length-take, get_or-map, map-append, take_all, take_more}
 use Rattle.std.proofs.lemmas.List.Elements.{All-push}
-use Rattle.dp_outside.specs.Causes.{Rose}
 use Rattle.dp_outside.specs.Changes.{Change, IsUntouched}
 use Rattle.dp_outside.specs.Files.{Fetches, Lacks}
-use Rattle.dp_bundle.specs.Bundles.{Given, AreForBundle, IsAnswer, IsFileName, Makes, without_slash}
+use Rattle.dp_bundle.specs.Bundles.{Given, AreForBundle, IsAnswer, IsFileName, Makes, MakesFrom, without_slash}
+use Rattle.dp_bundle.specs.declared.bundle.BundleFile.{BundleFile}
 use Rattle.dp_bundle.specs.declared.bundle.Bundle.{Bundle}
 use Rattle.dp_bundle.specs.declared.errors.BundleError.{BundleError}
 use Rattle.dp_bundle.specs.declared.errors.BundleError.TheVariants as unmade
@@ -20,7 +20,7 @@ use Rattle.dp_meaning.specs.Trace.{outcome_of, plain}
 use Rattle.dp_meaning.proofs.Exits.{exit_small}
 use Rattle.dp_run.specs.declared.error.RunError.{RunError}
 use Rattle.dp_run.specs.declared.error.RunError.TheVariants as run
-use Rattle.dp_run.specs.Runs.{AreFetched, AreNames, Ends, FetchCaused, FetchingCaused, Files, Holds, IsHeld, IsMade, IsNext, IsPlainPut, IsPlainUnput, IsRefused, Make, RunCaused, Runs, file_limit, is_bad_file, judged, refusal}
+use Rattle.dp_run.specs.Runs.{AreFetched, AreNames, Ends, FetchCaused, FetchingCaused, Files, Holds, IsHeld, IsMade, IsNext, IsPlainPut, IsPlainUnput, IsRefused, Make, NoProgram, RunCaused, Runs, file_limit, is_bad_file, judged, refusal}
 
 -- ---- what is fetched, one file after another
 
@@ -120,56 +120,94 @@ only_err A why (Ok other) (inr same) = let memory : why ≡ unmade.Memory = cc i
 only_err A why (Err e) (inl same) = let one : why ≡ e = cc in inl (ap refusal one)
 only_err A why (Err e) (inr same) = let memory : why ≡ unmade.Memory = cc in inr (ap refusal memory)
 
--- ---- what the end of a program is
+-- ---- why there is no program
 
-module _ (files : Files) (before after : ℕ) (names : List (List ℕ)) (bound : ℕ) (out : Change) where
+module _ (files : Files) (before after : ℕ) (names : List (List ℕ)) where
   -- files that were not fetched
-  pub fetching_run : (why : RunError) → FetchingCaused why names files before after → IsUntouched out → RunCaused why files before after names bound out
-  fetching_run (run.ShelfFailed file) h stays = (h.0, h.1, stays)
-  fetching_run (run.NoFile file) h stays = (h.0, h.1, stays)
-  fetching_run run.Memory h stays = tt
-  fetching_run (run.TooLong file) h stays = absurd h
-  fetching_run (run.Source file why) h stays = absurd h
-  fetching_run (run.Fatal kind file line) h stays = absurd h
-  fetching_run run.Bound h stays = absurd h
-  fetching_run run.OutFault h stays = absurd h
+  pub fetching_none : (why : RunError) → FetchingCaused why names files before after → NoProgram why files before after names
+  fetching_none (run.ShelfFailed file) h = h
+  fetching_none (run.NoFile file) h = h
+  fetching_none run.Memory h = tt
+  fetching_none (run.TooLong file) h = absurd h
+  fetching_none (run.Source file why) h = absurd h
+  fetching_none (run.Fatal kind file line) h = absurd h
+  fetching_none run.Bound h = absurd h
+  fetching_none run.OutFault h = absurd h
 
   module _ (fetched : List Given) (are : AreFetched files names fetched) where
     made_of : (made : Result Bundle BundleError) → Makes fetched made → Make files names made
     made_of made h = record { fetched = fetched; are = are; makes = h }
 
-    refused_run : (e : BundleError) → Makes fetched (Err e) → IsUntouched out → RunCaused (refusal e) files before after names bound out
-    refused_run (unmade.Source file why) h stays = (made_of _ h, stays)
-    refused_run (unmade.TooLong file) h stays = (made_of _ h, stays)
-    refused_run unmade.Memory h stays = tt
+    refused_none : (e : BundleError) → Makes fetched (Err e) → NoProgram (refusal e) files before after names
+    refused_none (unmade.Source file why) h = made_of _ h
+    refused_none (unmade.TooLong file) h = made_of _ h
+    refused_none unmade.Memory h = tt
 
-    -- files that make no program
-    pub unmade_run : (why : RunError) → IsMade fetched why → IsUntouched out → RunCaused why files before after names bound out
-    unmade_run why (inl e) stays = subst (λ (w : RunError). RunCaused w files before after names bound out) (sym e) tt
-    unmade_run why (inr (e, makes, same)) stays = subst (λ (w : RunError). RunCaused w files before after names bound out) (sym same) (refused_run e makes stays)
+    -- files that make none
+    unmade_none : (why : RunError) → IsMade fetched why → NoProgram why files before after names
+    unmade_none why (inl e) = subst (λ (w : RunError). NoProgram w files before after names) (sym e) tt
+    unmade_none why (inr (e, makes, same)) = subst (λ (w : RunError). NoProgram w files before after names) (sym same) (refused_none e makes)
 
-    module _ (program : Bundle) (makes : Makes fetched (Ok program)) where
-      ended : (outcome : Outcome) → outcome ≡ outcome_of (plain program bound).end → Appends out.told_before out.told (plain program bound).state.output
-          → Ends outcome files names bound out
-      ended outcome is wrote = record { program = program; made = made_of _ makes; is_end = is; wrote = wrote }
+    pub program_made : (result : Result Bundle RunError) → IfOk result (λ program. Makes fetched (Ok program)) → IfOk result (λ program. Make files names (Ok program))
+    program_made (Ok program) h = made_of _ h
+    program_made (Err why) h = tt
 
-      -- a program that was run to its end
-      pub put_run : (status : ℕ) → IsPlainPut status program bound out → Runs status files names bound out
-      put_run status h = record { outcome = _; ends = ended _ refl h.0; is_status = h.1 }
+    pub program_named : (result : Result Bundle RunError) → IfOk result (λ program. Makes fetched (Ok program))
+        → IfOk result (λ program. map (λ (f : BundleFile). f.name) program.files ≡ names)
+    program_named (Ok program) h = names_made 0 fetched program.files h ∙ are.named where
+      names_made : (number : ℕ) (given : List Given) (made : List BundleFile) → MakesFrom number given (Ok made)
+          → map (λ (f : BundleFile). f.name) made ≡ map (λ (f : Given). f.0) given
+      names_made number [] [] h = refl
+      names_made number [] (f ∷ rest) h = absurd h
+      names_made number (g ∷ more) [] h = absurd h
+      names_made number (g ∷ more) (f ∷ rest) h = λ i. h.0.named i ∷ names_made (suc number) more rest h.1 i
+    program_named (Err why) h = tt
 
-      by_end : (why : RunError) (outcome : Outcome) → Ends outcome files names bound out → judged outcome ≡ Err why → RunCaused why files before after names bound out
-      by_end why way.Done ends e = absurd (cc)
-      by_end why (way.Exit status) ends e = absurd (cc)
-      by_end why (way.Fatal kind file line) ends e =
-          let same : run.Fatal kind file line ≡ why = cc in subst (λ (w : RunError). RunCaused w files before after names bound out) same ends
-      by_end why way.Bound ends e = let same : run.Bound ≡ why = cc in subst (λ (w : RunError). RunCaused w files before after names bound out) same ends
+    pub program_caused : (result : Result Bundle RunError) → IfErr result (λ why. IsMade fetched why) → IfErr result (λ why. NoProgram why files before after names)
+    program_caused (Ok program) h = tt
+    program_caused (Err why) h = unmade_none why h
 
-      -- one whose end is a failure, or whose output failed
-      pub unput_run : (why : RunError) → IsPlainUnput why program bound out → RunCaused why files before after names bound out
-      unput_run why (inl e) = subst (λ (w : RunError). RunCaused w files before after names bound out) (sym e) tt
-      unput_run why (inr (inl h)) = by_end why _ (ended _ refl h.0) h.1
-      unput_run why (inr (inr h)) =
-          subst (λ (w : RunError). RunCaused w files before after names bound out) (sym h.0) (record { program = program; made = made_of _ makes; wrote = h.1 }, h.2)
+-- ---- what the end of a program is
+
+module _ (files : Files) (before after : ℕ) (names : List (List ℕ)) (bound : ℕ) (out : Change) where
+  -- where there is no program
+  pub none_run : (why : RunError) → NoProgram why files before after names → IsUntouched out → RunCaused why files before after names bound out
+  none_run (run.ShelfFailed file) h stays = (h.0, h.1, stays)
+  none_run (run.NoFile file) h stays = (h.0, h.1, stays)
+  none_run (run.TooLong file) h stays = (h, stays)
+  none_run (run.Source file why) h stays = (h, stays)
+  none_run run.Memory h stays = tt
+  none_run (run.Fatal kind file line) h stays = absurd h
+  none_run run.Bound h stays = absurd h
+  none_run run.OutFault h stays = absurd h
+
+  module _ (program : Bundle) (made : Make files names (Ok program)) where
+    ended : (outcome : Outcome) → outcome ≡ outcome_of (plain program bound).end → Appends out.told_before out.told (plain program bound).state.output
+        → Ends outcome files names bound out
+    ended outcome is wrote = record { program = program; made = made; is_end = is; wrote = wrote }
+
+    -- a program that was run to its end
+    put_run : (status : ℕ) → IsPlainPut status program bound out → Runs status files names bound out
+    put_run status h = record { outcome = _; ends = ended _ refl h.0; is_status = h.1 }
+
+    by_end : (why : RunError) (outcome : Outcome) → Ends outcome files names bound out → judged outcome ≡ Err why → RunCaused why files before after names bound out
+    by_end why way.Done ends e = absurd (cc)
+    by_end why (way.Exit status) ends e = absurd (cc)
+    by_end why (way.Fatal kind file line) ends e =
+        let same : run.Fatal kind file line ≡ why = cc in subst (λ (w : RunError). RunCaused w files before after names bound out) same ends
+    by_end why way.Bound ends e = let same : run.Bound ≡ why = cc in subst (λ (w : RunError). RunCaused w files before after names bound out) same ends
+
+    -- one whose end is a failure, or whose output failed
+    unput_run : (why : RunError) → IsPlainUnput why program bound out → RunCaused why files before after names bound out
+    unput_run why (inl e) = subst (λ (w : RunError). RunCaused w files before after names bound out) (sym e) tt
+    unput_run why (inr (inl h)) = by_end why _ (ended _ refl h.0) h.1
+    unput_run why (inr (inr h)) =
+        subst (λ (w : RunError). RunCaused w files before after names bound out) (sym h.0) (record { program = program; made = made; wrote = h.1 }, h.2)
+
+    pub ends_run : (result : Result ℕ RunError) → MatchResult result (λ status. IsPlainPut status program bound out) (λ why. IsPlainUnput why program bound out)
+        → MatchResult result (λ status. Runs status files names bound out) (λ why. RunCaused why files before after names bound out)
+    ends_run (Ok status) h = put_run status h
+    ends_run (Err why) h = unput_run why h
 
 -- the status of a program is one of 200
 pub put_small : (status : ℕ) (program : Bundle) (bound : ℕ) (out : Change) → IsPlainPut status program bound out → status ≤ 199
@@ -195,6 +233,19 @@ unput_good why program bound out (inr (inl h)) = by (outcome_of (plain program b
   by (way.Exit n) e = absurd (cc)
   by (way.Fatal kind file line) e = let same : run.Fatal kind file line ≡ why = cc in sym (ap is_bad_file same)
   by way.Bound e = let same : run.Bound ≡ why = cc in sym (ap is_bad_file same)
+
+-- what the files make decides what may fail
+pub held_run : (asked : Result Bundle BundleError) (program : Bundle) (bound : ℕ) (out : Change) (before after : ℕ) (result : Result ℕ RunError)
+    → IsHeld {A = Bundle} asked (Ok program) before after
+    → MatchResult result (λ status. IsPlainPut status program bound out) (λ why. IsPlainUnput why program bound out)
+    → IsHeld {A = ℕ} asked result before after
+held_run (Ok made) program bound out before after (Ok status) held ends = tt
+held_run (Ok made) program bound out before after (Err why) held ends = unput_good why program bound out ends
+held_run (Err e) program bound out before after result held ends = absurd held
+
+pub held_none : (asked : Result Bundle BundleError) (why : RunError) (before after : ℕ) → IsHeld {A = Bundle} asked (Err why) before after → IsHeld {A = ℕ} asked (Err why) before after
+held_none (Ok made) why before after h = h
+held_none (Err e) why before after h = h
 
 -- ---- what a shelf holds
 

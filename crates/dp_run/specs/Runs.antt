@@ -50,6 +50,15 @@ pub record Holds (files : Files) (names : List (List ℕ)) (made : Result Bundle
   pub tells : IsSome files
   pub make : Make files names made
 
+-- why the files of these names were not fetched, or make no program
+abbrev pub NoProgram : RunError → Files → ℕ → ℕ → List (List ℕ) → Type 0
+NoProgram (ShelfFailed file) files before after names = (file < length names) × Rose before after
+NoProgram (NoFile file) files before after names = (file < length names) × Lacks files (get_or names file [])
+NoProgram (TooLong file) files before after names = Make files names (Err (unmade.TooLong file))
+NoProgram (Source file why) files before after names = Make files names (Err (unmade.Source file why))
+NoProgram Memory files before after names = ⊤
+NoProgram why files before after names = ⊥
+
 -- ---- its run
 
 -- the program of these files ended so, and all that it wrote was put

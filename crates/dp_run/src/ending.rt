@@ -11,8 +11,8 @@ use dp_outside::Sink;
 use dp_state::Outcome;
 use std::alloc::Global;
 
-/// What the end of a program comes to: a status, or why there is none.
-fn judge(outcome: Outcome) -> Result<u8, RunError>
+/// What the end of a program comes to: a status, or why there is none. Takes no memory.
+pub fn judge(outcome: Outcome) -> Result<u8, RunError>
     ensures { result ≡ judged outcome }
 {
     match outcome {

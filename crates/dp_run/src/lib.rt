@@ -1,10 +1,13 @@
-//! The run of a program whose files lie on a shelf, with its output on a sink.
+//! Programs whose files lie on a shelf, and their run, with its output on a sink.
 #![tactic(auto)]
 
 mod ending;
 mod error;
 mod fetching;
+mod programs;
 mod running;
 
+pub use ending::judge;
 pub use error::RunError;
+pub use programs::fetch_program;
 pub use running::run;

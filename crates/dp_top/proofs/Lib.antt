@@ -1,11 +1,4 @@
-pub mod EndLaws
-pub mod FileLaws
-pub mod FrontLaws
-pub mod ProgramLaws
 pub mod NameLaws
 pub mod RunTold
-pub mod OutputLaws
-pub mod ServingLaws
 pub mod TalkLaws
 pub mod TaskLaws
-pub mod TextLaws

@@ -1,5 +1,5 @@
 -- Words that are names of files, as the strings that hold them.
-use Rattle.std.proofs.Common.{◌≡◌, ◌≢◌, ℕ, zero, suc, ◌≤◌, ◌<◌, Bool, true, false, ◌&&◌, not, List, [], ◌∷◌, length, map, All, get_or, sym, ap, ◌∙◌, refl, subst, arith, take, ◌+◌, String, string_bytes, Global}
+use Rattle.std.proofs.Common.{◌≡◌, ◌≢◌, ℕ, zero, suc, ◌≤◌, ◌<◌, Bool, true, false, ◌&&◌, not, List, [], ◌∷◌, length, map, All, get_or, sym, ap, refl, subst, arith, take, ◌+◌, String, string_bytes, Global}
 use Rattle.std.specs.Prelude.{◌==◌, IsTrue, IsUtf8}
 use Rattle.std.specs.List.{AllByRecursion, IsDistinct, list_all}
 use Rattle.std.specs.Str.{bytes_eq}

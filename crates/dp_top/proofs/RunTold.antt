@@ -1,5 +1,5 @@
 -- What is told of the end of a run, by what the files are.
-use Rattle.std.proofs.Common.{◌≡◌, ◌≢◌, ◌⊎◌, ℕ, false, Result, Ok, Err, refl, sym, ap, ◌∙◌, subst, inl, inr, arith}
+use Rattle.std.proofs.Common.{◌≡◌, ◌≢◌, ℕ, false, Result, Ok, Err, refl, sym, ap, ◌∙◌, subst, inl, inr, arith}
 use Rattle.dp_bundle.specs.declared.bundle.Bundle.{Bundle}
 use Rattle.dp_bundle.specs.declared.errors.BundleError.{BundleError}
 use Rattle.dp_bundle.specs.declared.errors.BundleError.TheVariants as unmade
@@ -8,12 +8,12 @@ use Rattle.dp_parse.specs.declared.errors.ParseError.{ParseError}
 use Rattle.dp_parse.specs.declared.errors.ParseError.TheVariants as parse
 use Rattle.dp_run.specs.declared.error.RunError.{RunError}
 use Rattle.dp_run.specs.declared.error.RunError.TheVariants as run
-use Rattle.dp_run.specs.Runs.{IsHeld, is_bad_file, refusal}
+use Rattle.dp_run.specs.Runs.{IsHeld as IsRunHeld, is_bad_file, refusal}
 use Rattle.dp_top.specs.declared.failures.Failure.{Failure}
 use Rattle.dp_top.specs.declared.failures.Failure.TheVariants.{NoFile}
 use Rattle.dp_top.specs.declared.failures.Refused.{Refused}
 use Rattle.dp_top.specs.Failures.{status_of}
-use Rattle.dp_top.specs.Runs.{failure_of, IsBadSource, IsRunHeld}
+use Rattle.dp_top.specs.Runs.{failure_of, IsBadSource, IsHeld}
 use Rattle.dp_top.specs.Sources.{failure_of as failure_of_source}
 
 abbrev pub IsGood : Failure → Type 0
@@ -45,13 +45,13 @@ bad bound (unmade.Source file why) = bad_source why
 bad bound (unmade.TooLong file) = inl refl
 bad bound unmade.Memory = inr refl
 
-pub held_status : (asked : Result Bundle BundleError) (status before after : ℕ) → IsHeld asked (Ok status) before after → IsRunHeld {A = ℕ} asked (Ok status) before after
+pub held_status : (asked : Result Bundle BundleError) (status before after : ℕ) → IsRunHeld asked (Ok status) before after → IsHeld {A = ℕ} asked (Ok status) before after
 held_status (Ok program) status before after h = tt
 held_status (Err e) status before after h = h
 
-pub held_failure : (bound : ℕ) (asked : Result Bundle BundleError) (why : RunError) (refused : Refused) (before after : ℕ) → refused.failure ≡ failure_of bound why
-    → IsHeld {A = ℕ} asked (Err why) before after → IsRunHeld {A = ℕ} asked (Err refused) before after
-held_failure bound (Ok program) why refused before after told h = subst IsGood (sym told) (good bound why h)
-held_failure bound (Err e) why refused before after told (inl same) = inl (subst IsBadSource (sym (told ∙ ap (failure_of bound) same)) (bad bound e))
-held_failure bound (Err e) why refused before after told (inr (inl memory)) = inl (inr (told ∙ ap (failure_of bound) memory))
-held_failure bound (Err e) why refused before after told (inr (inr rose)) = inr rose
+pub held_failure : (A : Type 0) (bound : ℕ) (asked : Result Bundle BundleError) (why : RunError) (refused : Refused) (before after : ℕ) → refused.failure ≡ failure_of bound why
+    → IsRunHeld {A = A} asked (Err why) before after → IsHeld {A = ℕ} asked (Err refused) before after
+held_failure A bound (Ok program) why refused before after told h = subst IsGood (sym told) (good bound why h)
+held_failure A bound (Err e) why refused before after told (inl same) = inl (subst IsBadSource (sym (told ∙ ap (failure_of bound) same)) (bad bound e))
+held_failure A bound (Err e) why refused before after told (inr (inl memory)) = inl (inr (told ∙ ap (failure_of bound) memory))
+held_failure A bound (Err e) why refused before after told (inr (inr rose)) = inr rose

@@ -1,38 +1,138 @@
 -- What serving a session came to decides the end of `talk`.
-use Rattle.std.proofs.Common.{◌≡◌, ℕ, List, MatchResult, refl, inl, inr}
-use Rattle.dp_outside.specs.Changes.{Change}
+use Rattle.std.proofs.Common.{◌≡◌, ◌≤◌, ℕ, List, [], ◌∷◌, length, map, get_or, Option, None, Some, Result, Ok, Err, refl, sym, ap, ◌∙◌, subst, inl, inr, arith}
+use Rattle.std.specs.Prelude.{IfOk, IfErr, MatchResult, slice_get}
+use Rattle.std.specs.Option.{option_map_or}
+use Rattle.dp_outside.specs.Changes.{Change, IsUntouched}
+use Rattle.dp_bundle.specs.declared.bundle.Bundle.{Bundle}
+use Rattle.dp_bundle.specs.declared.bundle.BundleFile.{BundleFile}
+use Rattle.dp_bundle.specs.declared.errors.BundleError.{BundleError}
+use Rattle.dp_engine.specs.declared.serving.ServeEnd.{ServeEnd}
+use Rattle.dp_engine.specs.declared.serving.ServeEnd.TheVariants.{Stopped, Detached, LinkEnd, ReadFault, WriteFault, OutFault, BadCommandFrame, ByteLimit, Memory}
+use Rattle.dp_engine.specs.declared.serving.Served.{Served}
+use Rattle.dp_engine.specs.declared.session.SessionEnd.{SessionEnd}
+use Rattle.dp_engine.specs.declared.session.SessionEnd.TheVariants.{Finished, Killed, Detached as gone}
+use Rattle.dp_engine.specs.Served.{ending_after}
+use Rattle.dp_engine.specs.Serving.{Serves, ServesTo}
+use Rattle.dp_engine.specs.Responses.{main_name}
+use Rattle.dp_engine.specs.Session.{State, outcome_of}
+use Rattle.dp_meaning.proofs.Exits.{exit_small}
+use Rattle.dp_run.specs.declared.error.RunError.{RunError}
+use Rattle.dp_run.specs.Runs.{Files, IsHeld as IsRunHeld, Make, NoProgram, judged as judged_end}
+use Rattle.dp_state.specs.declared.moments.Outcome.{Outcome}
+use Rattle.dp_state.specs.declared.moments.Outcome.TheVariants as way
 use Rattle.dp_top.specs.declared.failures.Failure.{Failure}
 use Rattle.dp_top.specs.declared.failures.Failure.TheVariants as failure
-use Rattle.dp_top.specs.declared.serving.ServeEnd.{ServeEnd}
-use Rattle.dp_top.specs.declared.serving.ServeEnd.TheVariants.{Stopped, LinkEnd, ReadFault, WriteFault, OutFault, BadCommandFrame, ByteLimit, Memory}
-use Rattle.dp_top.specs.Files.{Files, IsProgram, FileCaused}
-use Rattle.dp_top.specs.Serving.{Serves}
-use Rattle.dp_top.specs.Talk.{Talks, TalkCaused, IsNotBegun, judged}
+use Rattle.dp_top.specs.declared.failures.Refused.{Refused}
+use Rattle.dp_top.specs.CommandLine.{AreFileWords, Ask}
+use Rattle.dp_top.specs.Runs.{IsHeld, IsRunTold}
+use Rattle.dp_top.specs.Talk.{ServedSo, Talks, TalkFails, Told, UnservedSo, end_told, ended, judged, judged_by, told_in, unnamed}
+use Rattle.dp_top.proofs.RunTold.{IsGood}
 
-pub judged_is : (end : ServeEnd) (files : Files) (before after : ℕ) (key name program : List ℕ) (input out err : Change)
-    → IsProgram files name program → Serves end program key name input out err
-    → MatchResult (judged end) (λ _. Talks files key name input out err) (λ failure. TalkCaused failure files before after key name input out err)
-judged_is Stopped files before after key name program input out err is served = inl (record { program = program; is_program = is; served = served })
-judged_is LinkEnd files before after key name program input out err is served = inr (record { program = program; is_program = is; served = served })
-judged_is ReadFault files before after key name program input out err is served = record { program = program; is_program = is; served = served }
-judged_is WriteFault files before after key name program input out err is served = ((program, is), inl served)
-judged_is (BadCommandFrame offset) files before after key name program input out err is served = inl (record { program = program; is_program = is; served = served })
-judged_is OutFault files before after key name program input out err is served = ((program, is), inr served)
-judged_is ByteLimit files before after key name program input out err is served = inr (refl, record { program = program; is_program = is; served = served })
-judged_is Memory files before after key name program input out err is served = tt
+-- ---- what is told
 
--- why no program was fetched is why the command failed
-pub file_caused : (failed : Failure) (files : Files) (before after : ℕ) (key name : List ℕ) (input out err : Change)
-    → FileCaused failed files before after name → IsNotBegun input out err → TalkCaused failed files before after key name input out err
-file_caused failure.TooLong files before after key name input out err h stays = (h, stays)
-file_caused (failure.Source reason number) files before after key name input out err h stays = (h, stays)
-file_caused (failure.NotThin line) files before after key name input out err h stays = (h, stays)
-file_caused failure.ShelfFailed files before after key name input out err h stays = (h, stays)
-file_caused failure.NoFile files before after key name input out err h stays = (h, stays)
-file_caused (failure.Fatal kind line) files before after key name input out err h stays = absurd h
-file_caused (failure.Bound steps) files before after key name input out err h stays = absurd h
-file_caused failure.Output files before after key name input out err h stays = absurd h
-file_caused failure.PeerEnd files before after key name input out err h stays = absurd h
-file_caused (failure.Packet offset) files before after key name input out err h stays = absurd h
-file_caused failure.Network files before after key name input out err h stays = absurd h
-file_caused failure.Memory files before after key name input out err h stays = tt
+pub unnamed_told : (refused : Refused) (why : Failure) → refused.failure ≡ why → refused.name.now ≡ [] → told_in (Err refused) ≡ unnamed why
+unnamed_told refused why failed name = λ i. Err (failed i, name i)
+
+pub end_status : (ask : Ask) (status : ℕ) (outcome : Outcome) → Ok status ≡ judged_end outcome → told_in (Ok status) ≡ ended ask (Some outcome)
+end_status ask status outcome e = ap (end_told ask) e
+
+pub end_failure : (ask : Ask) (refused : Refused) (why : RunError) (outcome : Outcome) → IsRunTold refused.failure refused.name.now ask why → Err why ≡ judged_end outcome
+    → told_in (Err refused) ≡ ended ask (Some outcome)
+end_failure ask refused why outcome told e = (λ i. Err (told.0 i, told.1 i)) ∙ ap (end_told ask) e
+
+pub by_its_end : (ask : Ask) (served : Served) (end : ServeEnd) (told : Told) → served.end ≡ end → told ≡ judged_by ask served.outcome end → told ≡ judged ask served
+by_its_end ask served end told is e = e ∙ ap (judged_by ask served.outcome) (sym is)
+
+-- ---- no end of a session is a bad source
+
+abbrev IsGoodTold : Told → Type 0
+IsGoodTold (Ok status) = Unit {0}
+IsGoodTold (Err why) = IsGood why.0
+
+good_end : (ask : Ask) (outcome : Option Outcome) → IsGoodTold (ended ask outcome)
+good_end ask None = ((λ e. omega (arith, e)), (λ e. cc))
+good_end ask (Some way.Done) = tt
+good_end ask (Some (way.Exit status)) = tt
+good_end ask (Some (way.Fatal kind file line)) = ((λ e. omega (arith, e)), (λ e. cc))
+good_end ask (Some way.Bound) = ((λ e. omega (arith, e)), (λ e. cc))
+
+good_judged : (ask : Ask) (outcome : Option Outcome) (end : ServeEnd) → IsGoodTold (judged_by ask outcome end)
+good_judged ask outcome Stopped = good_end ask outcome
+good_judged ask outcome Detached = good_end ask outcome
+good_judged ask outcome LinkEnd = good_end ask outcome
+good_judged ask outcome ReadFault = ((λ e. omega (arith, e)), (λ e. cc))
+good_judged ask outcome WriteFault = ((λ e. omega (arith, e)), (λ e. cc))
+good_judged ask outcome OutFault = ((λ e. omega (arith, e)), (λ e. cc))
+good_judged ask outcome (BadCommandFrame offset) = ((λ e. omega (arith, e)), (λ e. cc))
+good_judged ask outcome ByteLimit = ((λ e. omega (arith, e)), (λ e. cc))
+good_judged ask outcome Memory = ((λ e. omega (arith, e)), (λ e. cc))
+
+pub good_served : (ask : Ask) (served : Served) (result : Result ℕ Refused) → told_in result ≡ judged ask served → IfErr result (λ why. IsGood why.failure)
+good_served ask served (Ok status) told = tt
+good_served ask served (Err why) told = subst IsGoodTold (sym told) (good_judged ask served.outcome served.end)
+
+pub good_memory : (refused : Refused) → refused.failure ≡ failure.Memory → IsGood refused.failure
+good_memory refused memory = subst IsGood (sym memory) ((λ e. omega (arith, e)), (λ e. cc))
+
+-- ---- a status is one of 200
+
+end_small : (ask : Ask) (state : State) (status : ℕ) (o : Outcome) → outcome_of state ≡ o → ended ask (Some o) ≡ Ok status → status ≤ 199
+end_small ask state status way.Done is e = let same : 0 ≡ status = cc in omega (arith, same)
+end_small ask state status (way.Exit n) is e = let same : n ≡ status = cc in omega (arith, same, exit_small state.bundle state.bound state.writes n is)
+end_small ask state status (way.Fatal kind file line) is e = absurd (cc)
+end_small ask state status way.Bound is e = absurd (cc)
+
+ended_small : (ask : Ask) (ended_by : Option SessionEnd) (state : State) (status : ℕ) → ended ask (ending_after ended_by state) ≡ Ok status → status ≤ 199
+ended_small ask (Some Killed) state status e = absurd (cc)
+ended_small ask (Some gone) state status e = end_small ask state status (outcome_of state) refl e
+ended_small ask (Some (Finished o)) state status e = end_small ask state status (outcome_of state) refl e
+ended_small ask None state status e = end_small ask state status (outcome_of state) refl e
+
+module _ (ask : Ask) (served : Served) (program : Bundle) (key : List ℕ) (input out err : Change) where
+  small : (status : ℕ) (end : ServeEnd) → ServesTo end served program ask.bound key input out err → judged_by ask served.outcome end ≡ Ok status → status ≤ 199
+  small status Stopped s e = ended_small ask _ _ status (ap (ended ask) (sym s.outcome) ∙ e)
+  small status Detached s e = ended_small ask _ _ status (ap (ended ask) (sym s.outcome) ∙ e)
+  small status LinkEnd s e = ended_small ask _ _ status (ap (ended ask) (sym s.outcome) ∙ e)
+  small status ReadFault s e = absurd (cc)
+  small status WriteFault s e = absurd (cc)
+  small status OutFault s e = absurd (cc)
+  small status (BadCommandFrame offset) s e = absurd (cc)
+  small status ByteLimit s e = absurd (cc)
+  small status Memory s e = absurd (cc)
+
+  pub small_served : (result : Result ℕ Refused) → told_in result ≡ judged ask served → Serves served program ask.bound key input out err → IfOk result (λ status. status ≤ 199)
+  small_served (Ok status) told s = small status served.end s (sym told)
+  small_served (Err why) told s = tt
+
+  -- what was served is what is told
+  pub served_told : (result : Result ℕ Refused) → told_in result ≡ judged ask served → Serves served program ask.bound key input out err
+      → MatchResult result (λ status. ServedSo status program key ask input out err) (λ why. UnservedSo why.failure why.name.now program key ask input out err)
+  served_told (Ok status) told s = record { served = served; serves = s; told = sym told }
+  served_told (Err why) told s = inr (record { served = served; serves = s; told = sym told })
+
+-- ---- a session over the program of the files
+
+module _ (files : Files) (before after : ℕ) (key : List ℕ) (ask : Ask) (input out err : Change) where
+  pub program_served : (program : Bundle) → Make files ask.names (Ok program) → (result : Result ℕ Refused)
+      → MatchResult result (λ status. ServedSo status program key ask input out err) (λ why. UnservedSo why.failure why.name.now program key ask input out err)
+      → MatchResult result (λ status. Talks status files key ask input out err) (λ why. TalkFails why.failure why.name.now files before after key ask input out err)
+  program_served program made (Ok status) h = record { served = h.served; is = record { program = program; made = made; serves = h.serves }; told = h.told }
+  program_served program made (Err why) (inl memory) = inl memory
+  program_served program made (Err why) (inr h) = inr (inr (record { served = h.served; is = record { program = program; made = made; serves = h.serves }; told = h.told }))
+
+  pub none_served : (refused : Refused) (why : RunError) → NoProgram why files before after ask.names → IsRunTold refused.failure refused.name.now ask why
+      → IsUntouched input → IsUntouched out → IsUntouched err → TalkFails refused.failure refused.name.now files before after key ask input out err
+  none_served refused why caused told i o e = inr (inl (record { cause = why; caused = caused; told = told; input_stays = i; out_stays = o; err_stays = e }))
+
+pub held_served : (asked : Result Bundle BundleError) (program : Bundle) (result : Result ℕ Refused) (before after : ℕ) → IsRunHeld {A = Bundle} asked (Ok program) before after
+    → ((made : Bundle) (b a : ℕ) → IsHeld (Ok made) result b a) → IsHeld asked result before after
+held_served (Ok made) program result before after held good = good made before after
+held_served (Err e) program result before after held good = absurd held
+
+-- the name of the main file is no longer than a name may be
+pub main_short : (program : Bundle) (names : List (List ℕ)) → map (λ (f : BundleFile). f.name) program.files ≡ names → AreFileWords names → length (main_name program) ≤ 255
+main_short program names named files = by program.files named where
+  by : (made : List BundleFile) → map (λ (f : BundleFile). f.name) made ≡ names → length (option_map_or (λ (f : BundleFile). f.name) (slice_get made 0) []) ≤ 255
+  by [] e = omega arith
+  by (f ∷ rest) e =
+      subst (λ (l : List (List ℕ)). length (get_or l 0 f.name) ≤ 255) (sym e) ((files.named 0 f.name (omega (arith, files.some))).is_name.short)

@@ -1,39 +1,59 @@
 -- The answers of the call: what the words ask for, why it failed, and what is told of it.
-use Rattle.std.proofs.Common.{◌≡◌, ◌≢◌, ◌⊎◌, ℕ, ◌+◌, ◌<◌, ◌≤◌, List, Contains, length, Option, None, Some, Result, Ok, Err, refl, sym, ap, ◌∙◌, subst, arith, inl, inr, ⊎_elim, codes, [], ◌∷◌}
+use Rattle.std.proofs.Common.{◌≡◌, ◌⊎◌, ℕ, ◌<◌, ◌≤◌, List, Option, None, Some, Result, Ok, Err, refl, sym, ap, ◌∙◌, subst, arith, inl, inr, ⊎_elim, codes, [], ◌∷◌}
 use Rattle.dp_outside.specs.Causes.{Rose}
-use Rattle.dp_outside.specs.Changes.{Change, IsUntouched}
-use Rattle.dp_outside.specs.Files.{Lacks}
+use Rattle.dp_outside.specs.Changes.{Change}
 use Rattle.dp_show.specs.declared.error.ShowError.{ShowError}
 use Rattle.dp_show.specs.declared.error.ShowError.TheVariants as ends
 use Rattle.dp_show.specs.Shows.{Ends}
 use Rattle.dp_show.proofs.ShowLaws.{cut_of}
 use Rattle.dp_top.specs.declared.failures.Failure.{Failure}
 use Rattle.dp_top.specs.declared.failures.Failure.TheVariants as failure
-use Rattle.dp_bundle.specs.Bundles.{Given}
 use Rattle.dp_bundle.specs.declared.bundle.Bundle.{Bundle}
 use Rattle.dp_bundle.specs.declared.errors.BundleError.{BundleError}
-use Rattle.dp_top.specs.CommandLine.{Ask, IsRun, IsTalk, Task, run, talk, show, Asks, ask_of}
+use Rattle.dp_engine.specs.declared.serving.ServeEnd.{ServeEnd}
+use Rattle.dp_engine.specs.declared.serving.ServeEnd.TheVariants as serve
+use Rattle.dp_engine.specs.Serving.{EndsBy, ServesTo}
+use Rattle.dp_engine.specs.declared.session.SessionEnd.{SessionEnd}
 use Rattle.dp_run.specs.declared.error.RunError.{RunError}
 use Rattle.dp_run.specs.declared.error.RunError.TheVariants as end
-use Rattle.dp_run.specs.Runs.{Holds, RunCaused}
+use Rattle.dp_run.specs.Runs.{Files, Holds, NoProgram, RunCaused}
+use Rattle.dp_state.specs.declared.moments.Outcome.{Outcome}
+use Rattle.dp_state.specs.declared.moments.Outcome.TheVariants as way
 use Rattle.dp_top.specs.declared.failures.Refused.{Refused}
-use Rattle.dp_top.specs.Runs.{IsBadSource, IsRunHeld, RunFails, failure_of as failure_told}
-use Rattle.dp_top.proofs.RunTold.{IsGood, bad_source}
+use Rattle.dp_top.specs.CommandLine.{Ask, IsRun, IsTalk, Task, run, talk, show, Asks, ask_in, ask_of}
 use Rattle.dp_top.specs.Failures.{status_of, line_of, Says}
-use Rattle.dp_top.specs.Files.{Files, HasContent, IsProgram, file_limit, Tells, IsRefused, IsAccepted}
-use Rattle.dp_top.specs.Numbers.{IsProgramOf}
-use Rattle.dp_top.specs.Talk.{Talks, TalkCaused}
+use Rattle.dp_top.specs.Runs.{IsBadSource, IsHeld, RunFails, failure_of as failure_told}
+use Rattle.dp_top.specs.Talk.{EndsSo, TalkFails, Told, ended, judged_by}
 use Rattle.dp_top.specs.Tasks.{failure_of, ShowCaused, Does, Caused, Fails, NoneRose}
+use Rattle.dp_top.proofs.RunTold.{IsGood, bad_source}
+
+abbrev asked_for : ℕ → List (List ℕ) → Ask
+asked_for bound names = record { bound = bound; names = names }
+
+-- a key and a program
+one_session : (key k : List ℕ) (ask other : Ask)
+    → Some (asked_for ask.bound (key ∷ ask.names)) ≡ Some (asked_for other.bound (k ∷ other.names)) → talk key ask ≡ talk k other
+one_session key k ask other asked =
+    let whole : asked_for ask.bound (key ∷ ask.names) ≡ asked_for other.bound (k ∷ other.names) = cc in
+    let bounds : ask.bound ≡ other.bound = ap (λ (a : Ask). a.bound) whole in
+    let words : key ∷ ask.names ≡ k ∷ other.names = ap (λ (a : Ask). a.names) whole in
+    let keys : key ≡ k = cc in
+    let names : ask.names ≡ other.names = cc in
+    λ i. talk (keys i) (asked_for (bounds i) (names i))
+
+abbrev first_letter : List (List ℕ) → ℕ
+first_letter [] = 0
+first_letter ([] ∷ words) = 0
+first_letter ((letter ∷ word) ∷ words) = letter
 
 -- the words ask for one task
 one_task : (words : List (List ℕ)) (task other : Task) → Asks words task → Asks words other → task ≡ other
-one_task words (talk key file) (talk k f) p q =
-    let same : codes "talk" ∷ key ∷ file ∷ [] ≡ codes "talk" ∷ k ∷ f ∷ [] = sym p.words_are ∙ q.words_are in
-    let keys : key ≡ k = cc in
-    let files : file ≡ f = cc in
-    λ i. talk (keys i) (files i)
-one_task words (talk key file) show p q = let same : codes "talk" ∷ key ∷ file ∷ [] ≡ codes "show" ∷ [] = sym p.words_are ∙ q in absurd (cc)
-one_task words show (talk k f) p q = let same : codes "show" ∷ [] ≡ codes "talk" ∷ k ∷ f ∷ [] = sym p ∙ q.words_are in absurd (cc)
+one_task words (talk key ask) (talk k other) p q =
+    let same : codes "talk" ∷ p.behind ≡ codes "talk" ∷ q.behind = sym p.words_are ∙ q.words_are in
+    let behind : p.behind ≡ q.behind = cc in
+    one_session key k ask other (sym p.speaks.asked ∙ ap ask_of behind ∙ q.speaks.asked)
+one_task words (talk key ask) show p q = absurd (omega (arith, ap first_letter (sym p.words_are ∙ q)))
+one_task words show (talk k ask) p q = absurd (omega (arith, ap first_letter (sym p ∙ q.words_are)))
 one_task words show show p q = refl
 one_task words (run ask) (run other) p q =
     let same : codes "run" ∷ p.behind ≡ codes "run" ∷ q.behind = sym p.words_are ∙ q.words_are in
@@ -41,9 +61,9 @@ one_task words (run ask) (run other) p q =
     let asked : Some ask ≡ Some other = sym p.follows.asked ∙ ap ask_of behind ∙ q.follows.asked in
     let asks : ask ≡ other = cc in
     λ i. run (asks i)
-one_task words (run ask) (talk k f) p q = let same : codes "run" ∷ p.behind ≡ codes "talk" ∷ k ∷ f ∷ [] = sym p.words_are ∙ q.words_are in absurd (cc)
+one_task words (run ask) (talk k other) p q = let same : codes "run" ∷ p.behind ≡ codes "talk" ∷ q.behind = sym p.words_are ∙ q.words_are in absurd (cc)
 one_task words (run ask) show p q = let same : codes "run" ∷ p.behind ≡ codes "show" ∷ [] = sym p.words_are ∙ q in absurd (cc)
-one_task words (talk key file) (run ask) p q = let same : codes "talk" ∷ key ∷ file ∷ [] ≡ codes "run" ∷ q.behind = sym p.words_are ∙ q.words_are in absurd (cc)
+one_task words (talk key ask) (run other) p q = let same : codes "talk" ∷ p.behind ≡ codes "run" ∷ q.behind = sym p.words_are ∙ q.words_are in absurd (cc)
 one_task words show (run ask) p q = let same : codes "show" ∷ [] ≡ codes "run" ∷ q.behind = sym p ∙ q.words_are in absurd (cc)
 
 -- ---- failures
@@ -64,7 +84,7 @@ show_cut failure.Output input out h = cut_of ends.OutFault input out h
 show_cut failure.Memory input out h = h
 show_cut failure.TooLong input out h = absurd h
 show_cut (failure.Source reason number) input out h = absurd h
-show_cut (failure.NotThin line) input out h = absurd h
+show_cut failure.Stopped input out h = absurd h
 show_cut failure.ShelfFailed input out h = absurd h
 show_cut (failure.Fatal kind line) input out h = absurd h
 show_cut (failure.Bound steps) input out h = absurd h
@@ -73,14 +93,14 @@ show_cut failure.NoFile input out h = absurd h
 -- the name that is told with want of memory
 abbrev memory_name : Task → List ℕ → List ℕ
 memory_name (run ask) name = []
-memory_name (talk key file) name = name
+memory_name (talk key ask) name = name
 memory_name show name = name
 
 -- want of memory may come in place of any failure
 memory_instead : (failed : Failure) (name : List ℕ) (task : Task) (files : Files) (before after : ℕ) (input out err : Change) → Caused failed name task files before after input out err
     → Caused failure.Memory (memory_name task name) task files before after input out err
 memory_instead failed name (run ask) files before after input out err h = (record { why = end.Memory; caused = tt; told = (refl, refl) }, h.1, h.2)
-memory_instead failed name (talk key file) files before after input out err h = (h.0, tt)
+memory_instead failed name (talk key ask) files before after input out err h = inl refl
 memory_instead failed name show files before after input out err h = (h.0, show_cut failed input out h.1, h.2)
 
 -- the failure is told, or there is no memory for its line
@@ -112,7 +132,7 @@ fails_told status words files before after task name input out told0 told1 told2
 above : (failed : Failure) → 200 < status_of failed
 above failure.TooLong = omega arith
 above (failure.Source reason number) = omega arith
-above (failure.NotThin line) = omega arith
+above failure.Stopped = omega arith
 above failure.ShelfFailed = omega arith
 above failure.NoFile = omega arith
 above (failure.Fatal kind line) = omega arith
@@ -139,97 +159,74 @@ caused_of status words files before after input out err f task asks =
 
 -- ---- `talk`
 
--- a shelf that tells a file's content has no other under that name
-one_content : (files : Files) (name content other : List ℕ) → Tells files name content → HasContent files name other → content ≡ other
-one_content None name content other p q = absurd p
-one_content (Some files) name content other p q = let same : Some content ≡ Some other = sym p ∙ q in cc
+-- where no count rose and the files are not told as bad, what fails is a packet, the program's end, a stop or memory
+module _ (failed : Failure) (name : List ℕ) (files : Files) (before after : ℕ) (key : List ℕ) (ask : Ask) (input out err : Change) (good : IsGood failed)
+    (shelf : Rose before after → ⊥) (taken : Rose input.faults_before input.faults → ⊥) (sent : Rose out.faults_before out.faults → ⊥) (put : Rose err.faults_before err.faults → ⊥) where
+  abbrev IsTalkEnd : Failure → Type 0
+  IsTalkEnd f = (status_of f ≡ 207) ⊎ (status_of f ≡ 210) ⊎ (status_of f ≡ 255) ⊎ (status_of f ≡ 209)
 
-held_not_lacked : (files : Files) (name content : List ℕ) → Tells files name content → Lacks files name → ⊥
-held_not_lacked None name content p q = p
-held_not_lacked (Some files) name content p q = let same : Some content ≡ None = sym p ∙ q in cc
+  unserved : (why : RunError) → NoProgram why files before after ask.names → failed ≡ failure_told ask.bound why → IsTalkEnd failed
+  unserved (end.ShelfFailed file) caused told = absurd (shelf caused.1)
+  unserved (end.NoFile file) caused told = absurd (good.1 told)
+  unserved (end.TooLong file) caused told = absurd (good.0 (ap status_of told))
+  unserved (end.Source file why) caused told =
+      ⊎_elim (λ e. absurd (good.0 (ap status_of told ∙ e))) (λ e. inr (inr (inr (ap status_of (told ∙ e))))) (bad_source why)
+  unserved (end.Fatal kind file line) caused told = absurd caused
+  unserved end.Bound caused told = absurd caused
+  unserved end.OutFault caused told = absurd caused
+  unserved end.Memory caused told = inr (inr (inr (ap status_of told)))
 
-module _ (files : Files) (name content : List ℕ) (held : Tells files name content) where
-  refused_no_program : (program : List ℕ) → IsRefused content → IsProgram files name program → ⊥
-  refused_no_program program (inl long) p = let same = one_content files name content p.content held p.is_content in omega (arith, p.fits, ap length same, long)
-  refused_no_program program (inr none) p =
-      let same = one_content files name content p.content held p.is_content in none program (subst (λ (l : List ℕ). IsProgramOf l program) (sym same) p.thin)
+  abbrev failure_in : Told → Failure
+  failure_in (Ok status) = failure.Memory
+  failure_in (Err why) = why.0
 
-  -- where no count rose, and the source is not refused, what fails is a packet or memory
-  accepted_fails : (failed : Failure) (before after : ℕ) (key : List ℕ) (input out err : Change) → status_of failed ≢ 201
-      → (Rose before after → ⊥) → (Rose input.faults_before input.faults → ⊥) → (Rose out.faults_before out.faults → ⊥) → (Rose err.faults_before err.faults → ⊥)
-      → TalkCaused failed files before after key name input out err → (status_of failed ≡ 207) ⊎ (status_of failed ≡ 209)
-  accepted_fails failure.TooLong before after key input out err a s i o e caused = absurd (a refl)
-  accepted_fails (failure.Source reason number) before after key input out err a s i o e caused = absurd (a refl)
-  accepted_fails (failure.NotThin line) before after key input out err a s i o e caused = absurd (a refl)
-  accepted_fails failure.ShelfFailed before after key input out err a s i o e caused = absurd (s caused.0)
-  accepted_fails failure.NoFile before after key input out err a s i o e caused = absurd (held_not_lacked files name content held caused.0)
-  accepted_fails (failure.Fatal kind line) before after key input out err a s i o e caused = absurd caused
-  accepted_fails (failure.Bound steps) before after key input out err a s i o e caused = absurd caused
-  accepted_fails failure.Output before after key input out err a s i o e caused = absurd (⊎_elim o e caused.1)
-  accepted_fails failure.PeerEnd before after key input out err a s i o e caused = absurd caused
-  accepted_fails (failure.Packet offset) before after key input out err a s i o e caused = inl refl
-  accepted_fails failure.Network before after key input out err a s i o e caused = absurd (i caused.served.ends.2)
-  accepted_fails failure.Memory before after key input out err a s i o e caused = inr refl
+  by_outcome : (outcome : Option Outcome) → ended ask outcome ≡ Err (failed, name) → IsTalkEnd failed
+  by_outcome None e = let same : failure.Stopped ≡ failed = ap failure_in e in inr (inl (sym (ap status_of same)))
+  by_outcome (Some way.Done) e = absurd (cc)
+  by_outcome (Some (way.Exit status)) e = absurd (cc)
+  by_outcome (Some (way.Fatal kind file line)) e = let same : failure.Fatal kind line ≡ failed = ap failure_in e in inr (inr (inl (sym (ap status_of same))))
+  by_outcome (Some way.Bound) e = let same : failure.Bound ask.bound ≡ failed = ap failure_in e in inr (inr (inl (sym (ap status_of same))))
 
-  -- a refused content is answered so, unless the shelf or memory failed
-  refused_fails : (failed : Failure) (before after : ℕ) (key : List ℕ) (input out err : Change) → IsRefused content
-      → TalkCaused failed files before after key name input out err → (status_of failed ≡ 201) ⊎ (status_of failed ≡ 209) ⊎ Rose before after
-  refused_fails failure.TooLong before after key input out err r caused = inl refl
-  refused_fails (failure.Source reason number) before after key input out err r caused = inl refl
-  refused_fails (failure.NotThin line) before after key input out err r caused = inl refl
-  refused_fails failure.ShelfFailed before after key input out err r caused = inr (inr caused.0)
-  refused_fails failure.NoFile before after key input out err r caused = absurd (held_not_lacked files name content held caused.0)
-  refused_fails (failure.Fatal kind line) before after key input out err r caused = absurd caused
-  refused_fails (failure.Bound steps) before after key input out err r caused = absurd caused
-  refused_fails failure.Output before after key input out err r caused = absurd (refused_no_program caused.0.0 r caused.0.1)
-  refused_fails failure.PeerEnd before after key input out err r caused = absurd caused
-  refused_fails (failure.Packet offset) before after key input out err r (inl t) = absurd (refused_no_program t.program r t.is_program)
-  refused_fails (failure.Packet offset) before after key input out err r (inr t) = absurd (refused_no_program t.1.program r t.1.is_program)
-  refused_fails failure.Network before after key input out err r caused = absurd (refused_no_program caused.program r caused.is_program)
-  refused_fails failure.Memory before after key input out err r caused = inr (inl refl)
+  module _ (h : EndsSo failed name files key ask input out err) where
+    read_fault : (ended_by : Option SessionEnd) (rest read : List ℕ) → h.served.end ≡ serve.ReadFault → EndsBy h.served.end ended_by rest read input → Rose input.faults_before input.faults
+    read_fault ended_by rest read is ends = (subst (λ (e : ServeEnd). EndsBy e ended_by rest read input) is ends).2
+
+    by_end : (e : ServeEnd) → h.served.end ≡ e → ServesTo e h.served h.is.program ask.bound key input out err → judged_by ask h.served.outcome e ≡ Err (failed, name) → IsTalkEnd failed
+    by_end serve.Stopped is s e = by_outcome h.served.outcome e
+    by_end serve.Detached is s e = by_outcome h.served.outcome e
+    by_end serve.LinkEnd is s e = by_outcome h.served.outcome e
+    by_end serve.ReadFault is s e = absurd (taken (read_fault _ _ _ is s.ends))
+    by_end serve.WriteFault is s e = absurd (sent s)
+    by_end serve.OutFault is s e = absurd (put s.0)
+    by_end (serve.BadCommandFrame offset) is s e = let same : failure.Packet offset ≡ failed = ap failure_in e in inl (sym (ap status_of same))
+    by_end serve.ByteLimit is s e = let same : failure.Packet 4294967295 ≡ failed = ap failure_in e in inl (sym (ap status_of same))
+    by_end serve.Memory is s e = let same : failure.Memory ≡ failed = ap failure_in e in inr (inr (inr (sym (ap status_of same))))
+
+  talk_end : TalkFails failed name files before after key ask input out err → IsTalkEnd failed
+  talk_end (inl memory) = inr (inr (inr (ap status_of memory)))
+  talk_end (inr (inl u)) = unserved u.cause u.caused u.told.0
+  talk_end (inr (inr h)) = by_end h h.served.end refl h.is.serves h.told
 
 -- the same of the call's answer
-pub complete_fails : (status : ℕ) (words : List (List ℕ)) (files : Files) (before after : ℕ) (input out err : Change) → Fails status words files before after input out err
-    → status ≢ 201
-    → (key file content : List ℕ) → IsTalk words key file → Tells files file content → NoneRose before after input out err
-    → (status ≡ 0) ⊎ (status ≡ 207) ⊎ (status ≡ 209)
-complete_fails status words files before after input out err f accepted key file content is held none =
-    let err_not : Rose err.faults_before f.told.faults_between → ⊥ = λ rose. none.err_not (omega (arith, rose, f.told.later)) in
-    let caused = caused_of status words files before after input out err f (talk key file) is in
-    let found = accepted_fails files file content held f.failure before after key input out (before_line err f.told.between f.told.faults_between) (λ e. accepted (f.is_status ∙ e))
-    none.shelf none.input_not none.out_not err_not caused.1 in
-    ⊎_elim (λ e. inr (inl (f.is_status ∙ e))) (λ e. inr (inr (f.is_status ∙ e))) found
-
--- a program of numbers is not answered as a bad source
-pub accepted_told : (status : ℕ) (words : List (List ℕ)) (files : Files) (task : Task) (failed : Failure) (A B : Type 0) → Asks words task
-    → ((key file content : List ℕ) → task ≡ talk key file → Tells files file content → IsAccepted content → status_of failed ≢ 201)
-    → ((status ≡ status_of failed) × A) ⊎ ((status ≡ 209) × B)
-    → (k f content : List ℕ) → IsTalk words k f → Tells files f content → IsAccepted content → status ≢ 201
-accepted_told status words files task failed A B asks accepted told k f content other held a e =
-    let no = accepted k f content (one_task words task (talk k f) asks other) held a in
-    ⊎_elim (λ (t : (status ≡ status_of failed) × A). no (sym t.0 ∙ e)) (λ (t : (status ≡ 209) × B). let late : 209 ≡ 201 = sym t.0 ∙ e in omega (arith, late)) told
-
-pub refused_fails_so : (status : ℕ) (words : List (List ℕ)) (files : Files) (before after : ℕ) (input out err : Change) → Fails status words files before after input out err
-    → (key file content : List ℕ) → IsTalk words key file → Tells files file content → IsRefused content
-    → (status ≡ 201) ⊎ (status ≡ 209) ⊎ Rose before after
-refused_fails_so status words files before after input out err f key file content is held r =
-    let caused = caused_of status words files before after input out err f (talk key file) is in
-    by (refused_fails files file content held f.failure before after key input out (before_line err f.told.between f.told.faults_between) r caused.1) where
-      by : (status_of f.failure ≡ 201) ⊎ (status_of f.failure ≡ 209) ⊎ Rose before after → (status ≡ 201) ⊎ (status ≡ 209) ⊎ Rose before after
-      by (inl e) = inl (f.is_status ∙ e)
-      by (inr (inl e)) = inr (inl (f.is_status ∙ e))
-      by (inr (inr rose)) = inr (inr rose)
-
-pub talks_refuses_none : (status : ℕ) (words : List (List ℕ)) (files : Files) (task : Task) (input out err : Change) → Asks words task → Does status task files input out err
-    → (key file content : List ℕ) → IsTalk words key file → Tells files file content → IsRefused content → ⊥
-talks_refuses_none status words files task input out err asks does key file content is held r =
-    let talks = subst (λ (t : Task). Does status t files input out err) (one_task words task (talk key file) asks is) does in
-    ⊎_elim (λ t. refused_no_program files file content held t.program r t.is_program) (λ t. refused_no_program files file content held t.program r t.is_program) talks.1
-
--- a session that went well has the status 0
-pub talks_well : (status : ℕ) (words : List (List ℕ)) (files : Files) (task : Task) (input out err : Change) → Asks words task → Does status task files input out err
-    → (key file : List ℕ) → IsTalk words key file → status ≡ 0
-talks_well status words files task input out err asks does key file is = (subst (λ (t : Task). Does status t files input out err) (one_task words task (talk key file) asks is) does).0
+pub complete_talk_told : (status : ℕ) (words : List (List ℕ)) (files : Files) (before after : ℕ) (task : Task) (input out err : Change) (refused : Refused) (A B : Type 0) → Asks words task
+    → Caused refused.failure refused.name.now task files before after input out err
+    → ((ask : Ask) (asked : Result Bundle BundleError) → ask_in task ≡ Some ask → Holds files ask.names asked → IsHeld {A = ℕ} asked (Err refused) before after)
+    → ((status ≡ status_of refused.failure) × A) ⊎ ((status ≡ 209) × B)
+    → (key : List ℕ) (ask : Ask) (program : Bundle) → IsTalk words key ask → Holds files ask.names (Ok program)
+    → (Rose before after → ⊥) → (Rose input.faults_before input.faults → ⊥) → (Rose out.faults_before out.faults → ⊥) → (Rose err.faults_before err.faults → ⊥)
+    → (status ≤ 199) ⊎ (status ≡ 207) ⊎ (status ≡ 210) ⊎ (status ≡ 255) ⊎ (status ≡ 209)
+complete_talk_told status words files before after task input out err refused A B asks caused held told key ask program is holds shelf taken sent put =
+    let same = one_task words task (talk key ask) asks is in
+    let fails = subst (λ (t : Task). Caused refused.failure refused.name.now t files before after input out err) same caused in
+    by told (talk_end refused.failure refused.name.now files before after key ask input out err (held ask (Ok program) (ap ask_in same) holds) shelf taken sent put fails) where
+      by : ((status ≡ status_of refused.failure) × A) ⊎ ((status ≡ 209) × B)
+          → (status_of refused.failure ≡ 207) ⊎ (status_of refused.failure ≡ 210) ⊎ (status_of refused.failure ≡ 255) ⊎ (status_of refused.failure ≡ 209)
+          → (status ≤ 199) ⊎ (status ≡ 207) ⊎ (status ≡ 210) ⊎ (status ≡ 255) ⊎ (status ≡ 209)
+      by (inr t) e = inr (inr (inr (inr t.0)))
+      by (inl t) (inl e) = inr (inl (t.0 ∙ e))
+      by (inl t) (inr (inl e)) = inr (inr (inl (t.0 ∙ e)))
+      by (inl t) (inr (inr (inl e))) = inr (inr (inr (inl (t.0 ∙ e))))
+      by (inl t) (inr (inr (inr e))) = inr (inr (inr (inr (t.0 ∙ e))))
 
 -- ---- `run`
 
@@ -251,7 +248,7 @@ module _ (failed : Failure) (files : Files) (before after : ℕ) (ask : Ask) (ou
 
 pub complete_run_told : (status : ℕ) (words : List (List ℕ)) (files : Files) (before after : ℕ) (task : Task) (input out err : Change) (refused : Refused) (A B : Type 0) → Asks words task
     → Caused refused.failure refused.name.now task files before after input out err
-    → ((ask : Ask) (asked : Result Bundle BundleError) → task ≡ run ask → Holds files ask.names asked → IsRunHeld {A = ℕ} asked (Err refused) before after)
+    → ((ask : Ask) (asked : Result Bundle BundleError) → ask_in task ≡ Some ask → Holds files ask.names asked → IsHeld {A = ℕ} asked (Err refused) before after)
     → ((status ≡ status_of refused.failure) × A) ⊎ ((status ≡ 209) × B)
     → (ask : Ask) (program : Bundle) → IsRun words ask → Holds files ask.names (Ok program) → (Rose before after → ⊥) → (Rose out.faults_before out.faults → ⊥)
     → (status ≤ 199) ⊎ (status ≡ 255) ⊎ (status ≡ 209)
@@ -259,7 +256,7 @@ complete_run_told status words files before after task input out err refused A B
     let same = one_task words task (run ask) asks is in
     let fails : RunFails refused.failure refused.name.now files before after ask out =
     (subst (λ (t : Task). Caused refused.failure refused.name.now t files before after input out err) same caused).0 in
-    by told (by_why refused.failure files before after ask out (held ask (Ok program) same holds) shelf put fails.why fails.caused fails.told.0) where
+    by told (by_why refused.failure files before after ask out (held ask (Ok program) (ap ask_in same) holds) shelf put fails.why fails.caused fails.told.0) where
       by : ((status ≡ status_of refused.failure) × A) ⊎ ((status ≡ 209) × B) → (status_of refused.failure ≡ 255) ⊎ (status_of refused.failure ≡ 209)
           → (status ≤ 199) ⊎ (status ≡ 255) ⊎ (status ≡ 209)
       by (inr t) end = inr (inr t.0)
@@ -274,9 +271,9 @@ refused_told status before after failed A B (inl told) (inr rose) = inr (inr ros
 refused_told status before after failed A B (inl told) (inl (inl e)) = inl (told.0 ∙ e)
 refused_told status before after failed A B (inl told) (inl (inr e)) = inr (inl (told.0 ∙ ap status_of e))
 
--- what is asked for is this
-pub asks_run : (words : List (List ℕ)) (task : Task) (ask : Ask) → Asks words task → IsRun words ask → task ≡ run ask
-asks_run words task ask asks other = one_task words task (run ask) asks other
+-- it is asked for this program
+pub asks_program : (words : List (List ℕ)) (task other : Task) (ask : Ask) → Asks words task → Asks words other → ask_in other ≡ Some ask → ask_in task ≡ Some ask
+asks_program words task other ask asks is program = ap ask_in (one_task words task other asks is) ∙ program
 
 -- ---- `show`
 
@@ -290,7 +287,7 @@ show_fails failure.Output input out i o h = absurd (o h.0)
 show_fails failure.Memory input out i o h = inr (inr refl)
 show_fails failure.TooLong input out i o h = absurd h
 show_fails (failure.Source reason number) input out i o h = absurd h
-show_fails (failure.NotThin line) input out i o h = absurd h
+show_fails failure.Stopped input out i o h = absurd h
 show_fails failure.ShelfFailed input out i o h = absurd h
 show_fails (failure.Fatal kind line) input out i o h = absurd h
 show_fails (failure.Bound steps) input out i o h = absurd h

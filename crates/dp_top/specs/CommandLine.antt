@@ -1,14 +1,16 @@
 -- The words of a command line, without the program's name, and what they ask for.
-use Rattle.std.specs.Prelude.{◌≡◌, ℕ, zero, suc, ◌≤◌, Bool, true, false, ◌&&◌, not, if◌then◌else◌, List, [], ◌∷◌, length, map, All, codes, ◌==◌, Option, Some, None, option_map, string_bytes}
+use Rattle.std.specs.Prelude.{◌≡◌, ℕ, zero, suc, ◌≤◌, nat_le, Bool, true, false, ◌&&◌, not, if◌then◌else◌, List, [], ◌∷◌, length, map, All, codes, ◌==◌, Option, Some, None, option_map, string_bytes}
 use Rattle.std.specs.List.{list_all}
 use Rattle.std.specs.Str.{bytes_eq}
 use Rattle.dp_bundle.specs.Bundles.{without_slash}
 use Rattle.dp_value.specs.Decimals.{decimal_in}
 use Rattle.dp_wire.specs.Frames.{has_no_nul}
-use Rattle.dp_top.specs.Orders.{between}
 use Rattle.dp_top.specs.declared.command_line.Command.{Command}
-use Rattle.dp_top.specs.declared.command_line.Run.{Run}
+use Rattle.dp_top.specs.declared.command_line.Program.{Program}
 use Rattle.dp_top.specs.declared.command_line.Command.TheVariants as told
+
+abbrev pub between : ℕ → ℕ → ℕ → Bool
+between low high byte = nat_le low byte && nat_le byte high
 
 -- the key of an IDE: 1 to 128 bytes, each from 0x21 to 0x7e
 pub record IsKey (key : List ℕ) : Type 0 where
@@ -27,20 +29,12 @@ abbrev pub is_option : List ℕ → Bool
 is_option [] = false
 is_option (byte ∷ word) = byte == 45
 
--- the words are `talk KEY FILE`
-pub record IsTalk (words : List (List ℕ)) (key file : List ℕ) : Type 0 where
-  pub words_are : words ≡ codes "talk" ∷ key ∷ file ∷ []
-  pub is_key : IsKey key
-  pub is_file : IsFileName file
-  pub key_is_none : is_option key ≡ false
-  pub file_is_none : is_option file ≡ false
-
 -- a word that is the name of a file, and asks for no option
 pub record IsFileWord (word : List ℕ) : Type 0 where
   pub is_name : IsFileName word
   pub is_none : is_option word ≡ false
 
--- ---- the words behind `run`
+-- ---- the words behind a command
 
 -- how many moments a program may have where the words do not say it, the most that they may ask for, and the most files
 abbrev pub default_bound : ℕ
@@ -61,7 +55,7 @@ not_zero (Some (suc n)) = Some (suc n)
 abbrev pub bound_of : List ℕ → Option ℕ
 bound_of word = not_zero (decimal_in bound_limit word)
 
--- what is run: at most how many moments it may have, and the names of its files
+-- a program that is asked for: how many moments it may have, and the names of its files
 pub record Ask : Type 0 where
   pub bound : ℕ
   pub names : List (List ℕ)
@@ -99,25 +93,48 @@ pub record IsRun (words : List (List ℕ)) (ask : Ask) : Type 0 where
   pub words_are : words ≡ codes "run" ∷ behind
   pub follows : Follows behind ask
 
+-- the session of a key over a program
+pub record IsSession (key : List ℕ) (ask : Ask) : Type 0 where
+  pub is_key : IsKey key
+  pub is_none : is_option key ≡ false
+  pub files : AreFileWords ask.names
+
+-- what stands behind `talk`
+pub record Speaks (words : List (List ℕ)) (key : List ℕ) (ask : Ask) : Type 0 where
+  pub asked : ask_of words ≡ Some (record { bound = ask.bound; names = key ∷ ask.names })
+  pub session : IsSession key ask
+
+-- the words are `talk [--bound N] KEY FILE..`
+pub record IsTalk (words : List (List ℕ)) (key : List ℕ) (ask : Ask) : Type 0 where
+  pub behind : List (List ℕ)
+  pub words_are : words ≡ codes "talk" ∷ behind
+  pub speaks : Speaks behind key ask
+
 -- ---- what is asked for
 
 pub data Task : Type 0 where
   run : Ask → Task
-  talk : (key file : List ℕ) → Task
+  talk : (key : List ℕ) → Ask → Task
   show : Task
 
 -- the words ask for this
 abbrev pub Asks : List (List ℕ) → Task → Type 0
 Asks words (run ask) = IsRun words ask
-Asks words (talk key file) = IsTalk words key file
+Asks words (talk key ask) = IsTalk words key ask
 Asks words show = words ≡ codes "show" ∷ []
 
--- what `run` is asked for, apart from where its words lie in memory
-abbrev pub ask_told : Run → Ask
-ask_told request = record { bound = request.bound; names = map string_bytes request.files.now }
+-- the program that it is for, where it is for one
+abbrev pub ask_in : Task → Option Ask
+ask_in (run ask) = Some ask
+ask_in (talk key ask) = Some ask
+ask_in show = None
+
+-- a program that is asked for, apart from where its words lie in memory
+abbrev pub ask_told : Program → Ask
+ask_told program = record { bound = program.bound; names = map string_bytes program.files.now }
 
 -- a command of the code, apart from where its words lie in memory
 abbrev pub task_of : Command → Task
-task_of (told.Run request) = run (ask_told request)
-task_of (told.Talk request) = talk request.key.now request.file.now
+task_of (told.Run program) = run (ask_told program)
+task_of (told.Talk request) = talk request.key.now (ask_told request.program)
 task_of told.Show = show

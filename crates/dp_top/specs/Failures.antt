@@ -5,18 +5,17 @@ use Rattle.std.specs.Io.KnownBytes.{Appends}
 use Rattle.dp_outside.specs.Causes.{Rose}
 use Rattle.dp_outside.specs.Changes.{Change}
 use Rattle.dp_outside.specs.Streams.{AppendsFront}
+use Rattle.dp_run.specs.Runs.{file_limit}
 use Rattle.dp_state.specs.declared.moments.FatalKind.{FatalKind}
 use Rattle.dp_state.specs.declared.moments.FatalKind.TheVariants as kinds
 use Rattle.dp_top.specs.declared.failures.Failure.{Failure}
-use Rattle.dp_top.specs.declared.failures.Failure.TheVariants.{TooLong, NotThin, Source, ShelfFailed, NoFile, Fatal, Bound, Output, PeerEnd, Packet, Network, Memory}
-use Rattle.dp_top.specs.Files.{file_limit}
+use Rattle.dp_top.specs.declared.failures.Failure.TheVariants.{TooLong, Source, ShelfFailed, NoFile, Fatal, Bound, Output, PeerEnd, Packet, Network, Stopped, Memory}
 use Rattle.dp_top.specs.Sources.{reason_name, bad_source}
 
 -- the status that the call answers
 abbrev pub status_of : Failure → ℕ
 status_of TooLong = 201
 status_of (Source reason number) = 201
-status_of (NotThin line) = 201
 status_of ShelfFailed = 202
 status_of NoFile = 202
 status_of (Fatal kind line) = 255
@@ -25,6 +24,7 @@ status_of Output = 203
 status_of PeerEnd = 206
 status_of (Packet offset) = 207
 status_of Network = 208
+status_of Stopped = 210
 status_of Memory = 209
 
 -- the name of a fatal fault
@@ -51,7 +51,6 @@ fatal_line kind name line = codes "fatal " ++ kind ++ codes " in " ++ name ++ co
 abbrev pub line_of : Failure → List ℕ → List ℕ
 line_of TooLong name = bad_source name (codes "TooLong") file_limit
 line_of (Source reason number) name = bad_source name (reason_name reason) number
-line_of (NotThin line) name = bad_source name (codes "NotThin") line
 line_of ShelfFailed name = codes "shelf failed " ++ name ++ codes "\n"
 line_of NoFile name = codes "no file " ++ name ++ codes "\n"
 line_of (Fatal kind line) name = fatal_line (kind_name kind) name line
@@ -60,6 +59,7 @@ line_of Output name = codes "output failed\n"
 line_of PeerEnd name = codes "peer ended\n"
 line_of (Packet offset) name = codes "bad packet offset " ++ decimal offset ++ codes "\n"
 line_of Network name = codes "network failed\n"
+line_of Stopped name = codes "stopped by the IDE\n"
 line_of Memory name = codes "out of memory\n"
 
 -- the line was put, or the put failed and a front of it stands there

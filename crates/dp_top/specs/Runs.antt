@@ -6,13 +6,12 @@ use Rattle.dp_bundle.specs.declared.bundle.Bundle.{Bundle}
 use Rattle.dp_bundle.specs.declared.errors.BundleError.{BundleError}
 use Rattle.dp_run.specs.declared.error.RunError.{RunError}
 use Rattle.dp_run.specs.declared.error.RunError.TheVariants as run
-use Rattle.dp_run.specs.Runs.{RunCaused}
+use Rattle.dp_run.specs.Runs.{Files, RunCaused}
 use Rattle.dp_top.specs.declared.failures.Failure.{Failure}
 use Rattle.dp_top.specs.declared.failures.Failure.TheVariants.{TooLong, ShelfFailed, NoFile, Fatal, Bound, Output, Memory}
 use Rattle.dp_top.specs.declared.failures.Refused.{Refused}
 use Rattle.dp_top.specs.CommandLine.{Ask}
 use Rattle.dp_top.specs.Failures.{status_of}
-use Rattle.dp_top.specs.Files.{Files}
 use Rattle.dp_top.specs.Sources.{failure_of as failure_of_source}
 
 -- the name of the file of a number, from 0; nothing where there is none
@@ -55,6 +54,6 @@ abbrev pub IsBadSource : Failure → Type 0
 IsBadSource failure = (status_of failure ≡ 201) ⊎ (failure ≡ Memory)
 
 -- files that make a program are no bad source, and those that make none are one, unless the shelf failed
-abbrev pub IsRunHeld : {A : Type 0} → Result Bundle BundleError → Result A Refused → ℕ → ℕ → Type 0
-IsRunHeld (Ok program) result before after = IfErr result (λ why. (status_of why.failure ≢ 201) × (why.failure ≢ NoFile))
-IsRunHeld (Err e) result before after = MatchResult result (λ _. ⊥) (λ why. IsBadSource why.failure ⊎ Rose before after)
+abbrev pub IsHeld : {A : Type 0} → Result Bundle BundleError → Result A Refused → ℕ → ℕ → Type 0
+IsHeld (Ok program) result before after = IfErr result (λ why. (status_of why.failure ≢ 201) × (why.failure ≢ NoFile))
+IsHeld (Err e) result before after = MatchResult result (λ _. ⊥) (λ why. IsBadSource why.failure ⊎ Rose before after)

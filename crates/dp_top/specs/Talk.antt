@@ -1,56 +1,107 @@
--- The command `talk KEY FILE`: what it does, and why it fails.
-use Rattle.std.specs.Prelude.{◌≡◌, ◌⊎◌, ℕ, List, Result, Ok, Err, ⊤}
-use Rattle.dp_outside.specs.Causes.{Rose}
+-- The command `talk`: what it does, and why it fails.
+use Rattle.std.specs.Prelude.{◌≡◌, ◌⊎◌, ℕ, List, [], Option, None, Some, Result, Ok, Err}
 use Rattle.dp_outside.specs.Changes.{Change, IsUntouched}
-use Rattle.dp_outside.specs.Files.{Lacks}
+use Rattle.dp_bundle.specs.declared.bundle.Bundle.{Bundle}
+use Rattle.dp_engine.specs.declared.serving.ServeEnd.{ServeEnd}
+use Rattle.dp_engine.specs.declared.serving.ServeEnd.TheVariants.{Stopped, Detached, LinkEnd, ReadFault, WriteFault, OutFault, BadCommandFrame, ByteLimit, Memory}
+use Rattle.dp_engine.specs.declared.serving.Served.{Served}
+use Rattle.dp_engine.specs.Serving.{Serves}
+use Rattle.dp_run.specs.declared.error.RunError.{RunError}
+use Rattle.dp_run.specs.Runs.{Files, Make, NoProgram, judged as judged_end}
+use Rattle.dp_serving.specs.Serving.{byte_limit}
+use Rattle.dp_state.specs.declared.moments.Outcome.{Outcome}
 use Rattle.dp_top.specs.declared.failures.Failure.{Failure}
-use Rattle.dp_top.specs.declared.failures.Failure.TheVariants.{TooLong, NotThin, Source, ShelfFailed, NoFile, Fatal, Bound, Output, PeerEnd, Packet, Network, Memory}
-use Rattle.dp_top.specs.declared.serving.ServeEnd.{ServeEnd}
-use Rattle.dp_top.specs.declared.serving.ServeEnd.TheVariants.{Stopped, LinkEnd, ReadFault, WriteFault, BadCommandFrame, OutFault, ByteLimit}
-use Rattle.dp_top.specs.declared.serving.ServeEnd.TheVariants as ends
-use Rattle.dp_top.specs.Files.{Files, IsProgram, IsTooLong, IsBadSource, IsNotThin}
-use Rattle.dp_top.specs.Serving.{IsServed, byte_limit}
+use Rattle.dp_top.specs.declared.failures.Failure.TheVariants as failure
+use Rattle.dp_top.specs.declared.failures.Refused.{Refused}
+use Rattle.dp_top.specs.CommandLine.{Ask}
+use Rattle.dp_top.specs.Runs.{IsRunTold, failure_of, name_told}
 
--- the file is a program, and its session was served to this end
-pub record IsTalked (end : ServeEnd) (files : Files) (key name : List ℕ) (input out err : Change) : Type 0 where
-  pub program : List ℕ
-  pub is_program : IsProgram files name program
-  pub served : IsServed end program key name input out err
+-- ---- what is told of an end
 
--- nothing was read or written
-pub record IsNotBegun (input out err : Change) : Type 0 where
+-- a status, or a failure with the name of the file that it is of, where it is of one, else nothing
+abbrev pub Told : Type 0
+Told = Result ℕ (Failure × List ℕ)
+
+abbrev pub unnamed : Failure → Told
+unnamed why = Err (why, [])
+
+-- the end of a run
+abbrev pub end_told : Ask → Result ℕ RunError → Told
+end_told ask (Ok status) = Ok status
+end_told ask (Err why) = Err (failure_of ask.bound why, name_told ask.names why)
+
+-- how a program ended; one that did not was stopped
+abbrev pub ended : Ask → Option Outcome → Told
+ended ask None = unnamed failure.Stopped
+ended ask (Some outcome) = end_told ask (judged_end outcome)
+
+-- how serving a session ended
+abbrev pub judged_by : Ask → Option Outcome → ServeEnd → Told
+judged_by ask outcome Stopped = ended ask outcome
+judged_by ask outcome Detached = ended ask outcome
+judged_by ask outcome LinkEnd = ended ask outcome
+judged_by ask outcome ReadFault = unnamed failure.Network
+judged_by ask outcome WriteFault = unnamed failure.Output
+judged_by ask outcome OutFault = unnamed failure.Output
+judged_by ask outcome (BadCommandFrame offset) = unnamed (failure.Packet offset)
+judged_by ask outcome ByteLimit = unnamed (failure.Packet byte_limit)
+judged_by ask outcome Memory = unnamed failure.Memory
+
+abbrev pub judged : Ask → Served → Told
+judged ask served = judged_by ask served.outcome served.end
+
+-- ---- what it does
+
+-- the session of this key over the program was served so
+pub record IsServed (served : Served) (files : Files) (key : List ℕ) (ask : Ask) (input out err : Change) : Type 0 where
+  pub program : Bundle
+  pub made : Make files ask.names (Ok program)
+  pub serves : Serves served program ask.bound key input out err
+
+-- it went well, with this status; the program's own output goes to `err`
+pub record Talks (status : ℕ) (files : Files) (key : List ℕ) (ask : Ask) (input out err : Change) : Type 0 where
+  pub served : Served
+  pub is : IsServed served files key ask input out err
+  pub told : judged ask served ≡ Ok status
+
+-- there is no program, and nothing was read or written
+pub record IsUnserved (why : Failure) (name : List ℕ) (files : Files) (before after : ℕ) (ask : Ask) (input out err : Change) : Type 0 where
+  pub cause : RunError
+  pub caused : NoProgram cause files before after ask.names
+  pub told : IsRunTold why name ask cause
   pub input_stays : IsUntouched input
   pub out_stays : IsUntouched out
   pub err_stays : IsUntouched err
 
--- it went well: a command ended the session, or the input gave its end
-abbrev pub Talks : Files → List ℕ → List ℕ → Change → Change → Change → Type 0
-Talks files key name input out err = IsTalked Stopped files key name input out err ⊎ IsTalked LinkEnd files key name input out err
+-- the session was served, and its end is this failure
+pub record EndsSo (why : Failure) (name : List ℕ) (files : Files) (key : List ℕ) (ask : Ask) (input out err : Change) : Type 0 where
+  pub served : Served
+  pub is : IsServed served files key ask input out err
+  pub told : judged ask served ≡ Err (why, name)
 
--- why it failed; the program's own output goes to `err`
-abbrev pub TalkCaused : Failure → Files → ℕ → ℕ → List ℕ → List ℕ → Change → Change → Change → Type 0
-TalkCaused TooLong files before after key name input out err = IsTooLong files name × IsNotBegun input out err
-TalkCaused (Source reason number) files before after key name input out err = IsBadSource files name reason number × IsNotBegun input out err
-TalkCaused (NotThin line) files before after key name input out err = IsNotThin files name line × IsNotBegun input out err
-TalkCaused ShelfFailed files before after key name input out err = Rose before after × IsNotBegun input out err
-TalkCaused NoFile files before after key name input out err = Lacks files name × IsNotBegun input out err
-TalkCaused (Fatal kind line) files before after key name input out err = ⊥
-TalkCaused (Bound steps) files before after key name input out err = ⊥
-TalkCaused Output files before after key name input out err =
-    ((program : List ℕ) × IsProgram files name program) × (Rose out.faults_before out.faults ⊎ Rose err.faults_before err.faults)
-TalkCaused PeerEnd files before after key name input out err = ⊥
-TalkCaused (Packet offset) files before after key name input out err =
-    IsTalked (BadCommandFrame offset) files key name input out err ⊎ ((offset ≡ byte_limit) × IsTalked ByteLimit files key name input out err)
-TalkCaused Network files before after key name input out err = IsTalked ReadFault files key name input out err
-TalkCaused Memory files before after key name input out err = ⊤
+-- why it failed
+abbrev pub TalkFails : Failure → List ℕ → Files → ℕ → ℕ → List ℕ → Ask → Change → Change → Change → Type 0
+TalkFails why name files before after key ask input out err =
+    (why ≡ failure.Memory) ⊎ IsUnserved why name files before after ask input out err ⊎ EndsSo why name files key ask input out err
 
--- what a session comes to: a status, by how serving it ended
-abbrev pub judged : ServeEnd → Result (Unit {0}) Failure
-judged Stopped = Ok tt
-judged LinkEnd = Ok tt
-judged ReadFault = Err Network
-judged WriteFault = Err Output
-judged (BadCommandFrame offset) = Err (Packet offset)
-judged OutFault = Err Output
-judged ByteLimit = Err (Packet byte_limit)
-judged ends.Memory = Err Memory
+-- ---- inside the crate
+
+-- what the code tells
+abbrev pub told_in : Result ℕ Refused → Told
+told_in (Ok status) = Ok status
+told_in (Err why) = Err (why.failure, why.name.now)
+
+-- a session over this program went well, with this status
+pub record ServedSo (status : ℕ) (program : Bundle) (key : List ℕ) (ask : Ask) (input out err : Change) : Type 0 where
+  pub served : Served
+  pub serves : Serves served program ask.bound key input out err
+  pub told : judged ask served ≡ Ok status
+
+pub record EndedSo (why : Failure) (name : List ℕ) (program : Bundle) (key : List ℕ) (ask : Ask) (input out err : Change) : Type 0 where
+  pub served : Served
+  pub serves : Serves served program ask.bound key input out err
+  pub told : judged ask served ≡ Err (why, name)
+
+-- one failed so, or memory ran out
+abbrev pub UnservedSo : Failure → List ℕ → Bundle → List ℕ → Ask → Change → Change → Change → Type 0
+UnservedSo why name program key ask input out err = (why ≡ failure.Memory) ⊎ EndedSo why name program key ask input out err

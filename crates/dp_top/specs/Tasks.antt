@@ -1,18 +1,17 @@
 -- The answers of the top call: what each task does, and why it fails.
-use Rattle.std.specs.Prelude.{◌≡◌, ◌⊎◌, ℕ, List, [], Result, Ok, Err}
+use Rattle.std.specs.Prelude.{◌≡◌, ℕ, List, [], Ok, Err}
 use Rattle.dp_outside.specs.Causes.{Rose}
 use Rattle.dp_outside.specs.Changes.{Change, IsUntouched}
 use Rattle.dp_show.specs.declared.error.ShowError.{ShowError}
 use Rattle.dp_show.specs.declared.error.ShowError.TheVariants as ends
 use Rattle.dp_show.specs.Shows.{Shows, Ends}
 use Rattle.dp_top.specs.declared.failures.Failure.{Failure}
-use Rattle.dp_top.specs.declared.failures.Failure.TheVariants.{TooLong, NotThin, Source, ShelfFailed, NoFile, Fatal, Bound, Output, PeerEnd, Packet, Network, Memory}
+use Rattle.dp_top.specs.declared.failures.Failure.TheVariants.{TooLong, Source, ShelfFailed, NoFile, Fatal, Bound, Output, PeerEnd, Packet, Network, Stopped, Memory}
 use Rattle.dp_top.specs.CommandLine.{Task, run, talk, show, Asks}
 use Rattle.dp_top.specs.Failures.{status_of, line_of, ThenSays}
-use Rattle.dp_top.specs.Files.{Files}
-use Rattle.dp_run.specs.Runs.{Runs}
+use Rattle.dp_run.specs.Runs.{Files, Runs}
 use Rattle.dp_top.specs.Runs.{RunFails}
-use Rattle.dp_top.specs.Talk.{Talks, TalkCaused}
+use Rattle.dp_top.specs.Talk.{Talks, TalkFails}
 
 -- ---- `show`
 
@@ -33,7 +32,7 @@ ShowCaused Output input out = Ends (Err ends.OutFault) input out
 ShowCaused Memory input out = Ends (Err ends.Memory) input out
 ShowCaused TooLong input out = ⊥
 ShowCaused (Source reason number) input out = ⊥
-ShowCaused (NotThin line) input out = ⊥
+ShowCaused Stopped input out = ⊥
 ShowCaused ShelfFailed input out = ⊥
 ShowCaused (Fatal kind line) input out = ⊥
 ShowCaused (Bound steps) input out = ⊥
@@ -44,13 +43,13 @@ ShowCaused NoFile input out = ⊥
 -- it went well, with this status
 abbrev pub Does : ℕ → Task → Files → Change → Change → Change → Type 0
 Does status (run ask) files input out err = Runs status files ask.names ask.bound out × IsUntouched input × IsUntouched err
-Does status (talk key file) files input out err = (status ≡ 0) × Talks files key file input out err
+Does status (talk key ask) files input out err = Talks status files key ask input out err
 Does status show files input out err = (status ≡ 0) × Shows (Ok tt) input out × IsUntouched err
 
 -- why it failed; the name is that of the file that the failure is of, else nothing
 abbrev pub Caused : Failure → List ℕ → Task → Files → ℕ → ℕ → Change → Change → Change → Type 0
 Caused failure name (run ask) files before after input out err = RunFails failure name files before after ask out × IsUntouched input × IsUntouched err
-Caused failure name (talk key file) files before after input out err = (name ≡ file) × TalkCaused failure files before after key file input out err
+Caused failure name (talk key ask) files before after input out err = TalkFails failure name files before after key ask input out err
 Caused failure name show files before after input out err = (name ≡ []) × ShowCaused failure input out × IsUntouched err
 
 -- ---- the answers

@@ -1,33 +1,32 @@
 //! The words of a command line.
-ghost use Rattle.std.specs.Prelude.{◌≡◌, ◌↔◌, ◌∷◌, [], ℕ, List, Some, true, IsTrue, IfSome, IfNone, map, string_bytes};
+ghost use Rattle.std.specs.Prelude.{◌≡◌, ◌↔◌, ◌∷◌, [], ℕ, List, IsTrue, IfSome, IfNone, map, string_bytes};
 ghost use Rattle.std.specs.List.{list_all};
-ghost use Rattle.dp_top.specs.Orders.{between};
-ghost use Rattle.dp_top.specs.CommandLine.{AreFileWords, Ask, Asks, Follows, IsKey, IsTalk, Task, ask_told, bound_of, task_of, with_bound};
+ghost use Rattle.std.specs.Option.{option_map};
+ghost use Rattle.dp_top.specs.CommandLine.{AreFileWords, Ask, Asks, Follows, IsKey, IsSession, Speaks, Task, ask_of, ask_told, between, bound_of, task_of, with_bound};
 
-use crate::names::{are_files, is_file_name, is_option};
-use crate::orders::in_range;
+use crate::names::{are_files, is_option};
 use dp_value::decimal;
 
-/// What `talk` is asked for.
+/// A program that is asked for: how many moments it may have, and the names of its files.
+#[derive(Clone, Copy, Debug)]
+pub struct Program<'a> {
+    pub bound: u64,
+    pub files: &'a [String],
+}
+
+/// A session that is asked for: its key, and its program.
 #[derive(Clone, Copy, Debug)]
 pub struct Talk<'a> {
     pub key: &'a str,
-    pub file: &'a str,
-}
-
-/// What `run` is asked for: how many moments its program may have, and the names of its files.
-#[derive(Clone, Copy, Debug)]
-pub struct Run<'a> {
-    pub bound: u64,
-    pub files: &'a [String],
+    pub program: Program<'a>,
 }
 
 /// What the program is asked for.
 #[derive(Clone, Copy, Debug)]
 pub enum Command<'a> {
     /// The run of a program.
-    Run(Run<'a>),
-    /// One session over the program in a file.
+    Run(Program<'a>),
+    /// One session over a program.
     Talk(Talk<'a>),
     /// The elements of the packets that are read.
     Show,
@@ -49,30 +48,13 @@ fn is_key(key: &[u8]) -> bool
 fn are_graphic(key: &[u8]) -> bool
     ensures { result ≡ list_all (between 33 126) key.now }
 {
-    key.iter().all(|byte| in_range(33, 126, *byte))
+    key.iter().all(|byte| is_graphic(*byte))
 }
 
-/// What these three words ask for.
-fn read_three<'a>(command: &str, key: &'a str, file: &'a str) -> Option<Talk<'a>>
-    ensures found { IfSome result (λ talk. IsTalk (command.now ∷ key.now ∷ file.now ∷ []) talk.key.now talk.file.now) }
-    ensures none { IfNone result ((k f : List ℕ) → IsTalk (command.now ∷ key.now ∷ file.now ∷ []) k f → ⊥) }
+fn is_graphic(byte: u8) -> bool
+    ensures { result ≡ between 33 126 byte }
 {
-    if command != "talk" {
-        return None;
-    }
-    if !is_key(key.as_bytes()) {
-        return None;
-    }
-    if !is_file_name(file.as_bytes()) {
-        return None;
-    }
-    if is_option(key.as_bytes()) {
-        return None;
-    }
-    if is_option(file.as_bytes()) {
-        return None;
-    }
-    Some(Talk { key, file })
+    33 <= byte && byte <= 126
 }
 
 /// Whether this one word asks for `show`.
@@ -103,44 +85,90 @@ fn read_bound(word: &str) -> Option<u64>
     }
 }
 
-/// The run of these files.
-fn run_of(bound: u64, files: &[String]) -> Option<Run<'_>>
-    ensures found { IfSome result (λ r. (ask_told r ≡ record { bound = bound; names = map string_bytes files.now }) × AreFileWords (map string_bytes files.now)) }
-    ensures none { IfNone result (AreFileWords (map string_bytes files.now) → ⊥) }
+/// The program of these files, where they are names of files.
+fn program_of(program: Program<'_>) -> Option<Program<'_>>
+    ensures found { IfSome result (λ p. (ask_told p ≡ ask_told program.entry) × AreFileWords (ask_told p).names) }
+    ensures none { IfNone result (AreFileWords (ask_told program.entry).names → ⊥) }
 {
-    if !are_files(files) {
-        return None;
+    if are_files(program.files) {
+        return Some(program);
     }
-    Some(Run { bound, files })
+    None
 }
 
-/// What the words behind `--bound` ask for.
-fn read_bounded(words: &[String]) -> Option<Run<'_>>
-    ensures found { IfSome result (λ r. (with_bound (map string_bytes words.now) ≡ Some (ask_told r)) × AreFileWords (ask_told r).names) }
-    ensures none { IfNone result ((ask : Ask) → with_bound (map string_bytes words.now) ≡ Some ask → AreFileWords ask.names → ⊥) }
+/// What the words behind `--bound` are: the bound, and words.
+fn read_bounded(words: &[String]) -> Option<Program<'_>>
+    ensures { option_map ask_told result ≡ with_bound (map string_bytes words.now) }
 {
     match words.split_first() {
         None => None,
         Some((number, files)) => match read_bound(number.as_str()) {
             None => None,
-            Some(bound) => run_of(bound, files),
+            Some(bound) => Some(Program { bound, files }),
         },
     }
 }
 
-/// What the words behind `run` ask for.
-fn read_run(words: &[String]) -> Option<Run<'_>>
-    ensures found { IfSome result (λ r. Follows (map string_bytes words.now) (ask_told r)) }
-    ensures none { IfNone result ((ask : Ask) → Follows (map string_bytes words.now) ask → ⊥) }
+/// What the words behind a command are: the bound that they give, or that which stands where they give none, and words.
+fn read_behind(words: &[String]) -> Option<Program<'_>>
+    ensures { option_map ask_told result ≡ ask_of (map string_bytes words.now) }
 {
     match words.split_first() {
-        None => None,
+        None => Some(Program {
+            bound: DEFAULT_BOUND,
+            files: words,
+        }),
         Some((word, behind)) => {
             if word.as_str() == "--bound" {
                 return read_bounded(behind);
             }
-            run_of(DEFAULT_BOUND, words)
+            Some(Program {
+                bound: DEFAULT_BOUND,
+                files: words,
+            })
         }
+    }
+}
+
+/// What the words behind `run` ask for.
+fn read_run(words: &[String]) -> Option<Program<'_>>
+    ensures found { IfSome result (λ p. Follows (map string_bytes words.now) (ask_told p)) }
+    ensures none { IfNone result ((ask : Ask) → Follows (map string_bytes words.now) ask → ⊥) }
+{
+    match read_behind(words) {
+        None => None,
+        Some(program) => program_of(program),
+    }
+}
+
+/// The session of this key over the program of these files.
+fn talk_of<'a>(key: &'a str, program: Program<'a>) -> Option<Talk<'a>>
+    ensures found { IfSome result (λ t. (t.key.now ≡ key.now) × (ask_told t.program ≡ ask_told program.entry) × IsSession key.now (ask_told program.entry)) }
+    ensures none { IfNone result (IsSession key.now (ask_told program.entry) → ⊥) }
+{
+    if !is_key(key.as_bytes()) {
+        return None;
+    }
+    if is_option(key.as_bytes()) {
+        return None;
+    }
+    match program_of(program) {
+        None => None,
+        Some(program) => Some(Talk { key, program }),
+    }
+}
+
+/// What the words behind `talk` ask for.
+fn read_talk(words: &[String]) -> Option<Talk<'_>>
+    ensures found { IfSome result (λ t. Speaks (map string_bytes words.now) t.key.now (ask_told t.program)) }
+    ensures none { IfNone result ((key : List ℕ) (ask : Ask) → Speaks (map string_bytes words.now) key ask → ⊥) }
+{
+    match read_behind(words) {
+        None => None,
+        Some(Program { bound, files }) => match files.split_first() {
+            None => None,
+            Some((key, files)) => talk_of(key.as_str(), Program { bound, files }),
+        },
     }
 }
 
@@ -151,16 +179,18 @@ fn read_command<'a>(name: &'a str, behind: &'a [String]) -> Option<Command<'a>>
 {
     if name == "run" {
         return match read_run(behind) {
-            Some(request) => Some(Command::Run(request)),
+            Some(program) => Some(Command::Run(program)),
+            None => None,
+        };
+    }
+    if name == "talk" {
+        return match read_talk(behind) {
+            Some(talk) => Some(Command::Talk(talk)),
             None => None,
         };
     }
     match behind {
         [] if is_show(name) => Some(Command::Show),
-        [key, file] => match read_three(name, key.as_str(), file.as_str()) {
-            Some(request) => Some(Command::Talk(request)),
-            None => None,
-        },
         _ => None,
     }
 }

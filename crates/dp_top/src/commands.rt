@@ -1,13 +1,11 @@
 //! What each command does.
-ghost use Rattle.std.specs.Prelude.{◌≡◌, ◌≢◌, ◌≤◌, ℕ, List, Result, IfOk, IfErr, MatchResult};
+ghost use Rattle.std.specs.Prelude.{◌≡◌, ◌≤◌, ℕ, List, Some, Result, IfOk, MatchResult};
 ghost use Rattle.dp_bundle.specs.declared.bundle.Bundle.{Bundle};
 ghost use Rattle.dp_bundle.specs.declared.errors.BundleError.{BundleError};
 ghost use Rattle.dp_outside.specs.Changes.{change};
-ghost use Rattle.dp_top.specs.CommandLine.{Ask, Task, Asks, task_of};
-ghost use Rattle.dp_top.specs.Failures.{status_of};
-ghost use Rattle.dp_top.specs.Files.{Tells, IsAccepted};
+ghost use Rattle.dp_top.specs.CommandLine.{Ask, Task, Asks, ask_in, task_of};
 ghost use Rattle.dp_run.specs.Runs.{Holds};
-ghost use Rattle.dp_top.specs.Runs.{IsRunHeld};
+ghost use Rattle.dp_top.specs.Runs.{IsHeld};
 ghost use Rattle.dp_top.specs.Tasks.{failure_of, Does, Caused};
 
 use crate::command_line::Command;
@@ -50,13 +48,9 @@ pub fn carry_out<'a, H: Shelf, S: Source, K: Sink, E: Sink>(
         (change S.left S.faults input.old input.new) (change K.taken K.faults out.old out.new)
         (change E.taken E.faults err.old err.new)) }
     ensures status { IfOk result (λ status. status ≤ 199) }
-    // A program of numbers is no bad source.
-    ensures accepted { (key file content : List ℕ) → task_of command.entry ≡ Task.talk key file
-        → Tells (H.files shelf.old) file content → IsAccepted content
-        → IfErr result (λ why. status_of why.failure ≢ 201) }
     // Files that make a program are no bad source, and those that make none are one, unless the shelf failed.
-    ensures held { (ask : Ask) (asked : Result Bundle BundleError) → task_of command.entry ≡ Task.run ask
-        → Holds (H.files shelf.old) ask.names asked → IsRunHeld asked result (H.faults shelf.old) (H.faults shelf.new) }
+    ensures held { (ask : Ask) (asked : Result Bundle BundleError) → ask_in (task_of command.entry) ≡ Some ask
+        → Holds (H.files shelf.old) ask.names asked → IsHeld asked result (H.faults shelf.old) (H.faults shelf.new) }
     ensures show_shelf { task_of command.entry ≡ Task.show → H.faults shelf.new ≡ H.faults shelf.old }
     ensures files { H.files shelf.new ≡ H.files shelf.old }
 
@@ -66,14 +60,8 @@ pub fn carry_out<'a, H: Shelf, S: Source, K: Sink, E: Sink>(
     ensures err_later { E.faults err.old ≤ E.faults err.new }
 {
     match command {
-        Command::Run(request) => run(alloc, request, shelf, out),
-        Command::Talk(request) => match talk(alloc, request, shelf, input, out, err) {
-            Ok(()) => Ok(0),
-            Err(failure) => Err(Refused {
-                failure,
-                name: request.file.as_bytes(),
-            }),
-        },
+        Command::Run(program) => run(alloc, program, shelf, out),
+        Command::Talk(request) => talk(alloc, request, shelf, input, out, err),
         Command::Show => match show(alloc, input, out) {
             Ok(()) => Ok(0),
             Err(why) => Err(Refused::unnamed(failure_of(why))),

@@ -47,8 +47,6 @@ pub enum Failure {
     TooLong,
     /// The file is no program. The number is an offset or that of a token, from 0.
     Source { reason: Reason, number: u64 },
-    /// The file is a program, but none of numbers: on this line, counted from 1, stands what is first none.
-    NotThin { line: u32 },
     /// The shelf failed.
     ShelfFailed,
     /// The shelf has no file of that name.
@@ -65,6 +63,8 @@ pub enum Failure {
     Packet { offset: u64 },
     /// The link failed.
     Network,
+    /// A command stopped the program before its end.
+    Stopped,
     /// Want of memory.
     Memory,
 }
@@ -153,7 +153,6 @@ impl Failure {
                 reason: _,
                 number: _,
             } => 201,
-            Failure::NotThin { line: _ } => 201,
             Failure::ShelfFailed => 202,
             Failure::NoFile => 202,
             Failure::Fatal { kind: _, line: _ } => 255,
@@ -162,6 +161,7 @@ impl Failure {
             Failure::PeerEnd => 206,
             Failure::Packet { offset: _ } => 207,
             Failure::Network => 208,
+            Failure::Stopped => 210,
             Failure::Memory => 209,
         }
     }
@@ -173,7 +173,6 @@ impl Failure {
         match self {
             Failure::TooLong => bad_source(alloc, file, b"TooLong", 1_048_576),
             Failure::Source { reason, number } => bad_source(alloc, file, reason.name(), number),
-            Failure::NotThin { line } => bad_source(alloc, file, b"NotThin", u64::from(line)),
             Failure::ShelfFailed => named(alloc, b"shelf failed ", file, b"\n"),
             Failure::NoFile => named(alloc, b"no file ", file, b"\n"),
             Failure::Fatal { kind, line } => fatal(alloc, kind_name(kind), file, line),
@@ -182,6 +181,7 @@ impl Failure {
             Failure::PeerEnd => Bytes::from_slice(alloc, b"peer ended\n"),
             Failure::Packet { offset } => bad_packet(alloc, offset),
             Failure::Network => Bytes::from_slice(alloc, b"network failed\n"),
+            Failure::Stopped => Bytes::from_slice(alloc, b"stopped by the IDE\n"),
             Failure::Memory => Bytes::from_slice(alloc, b"out of memory\n"),
         }
     }

@@ -1,13 +1,13 @@
 //! The command `run`.
 ghost use Rattle.std.specs.Prelude.{◌≡◌, ◌≤◌, map, string_bytes, IfOk, Result, MatchResult};
 ghost use Rattle.dp_outside.specs.Changes.{change};
-ghost use Rattle.dp_bundle.specs.declared.bundle.Bundle.{Bundle as Program};
+ghost use Rattle.dp_bundle.specs.declared.bundle.Bundle.{Bundle};
 ghost use Rattle.dp_bundle.specs.declared.errors.BundleError.{BundleError as Unmade};
 ghost use Rattle.dp_run.specs.Runs.{Holds, Runs};
 ghost use Rattle.dp_top.specs.CommandLine.{AreFileWords, ask_told};
-ghost use Rattle.dp_top.specs.Runs.{IsRunHeld, IsRunTold, failure_of, name_at as name_in, name_told, RunFails};
+ghost use Rattle.dp_top.specs.Runs.{IsHeld, IsRunTold, failure_of, name_at as name_in, name_told, RunFails};
 
-use crate::command_line::Run;
+use crate::command_line::Program;
 use crate::failures::{Failure, Refused, refusal};
 use dp_outside::{Shelf, Sink};
 use dp_run::RunError;
@@ -67,36 +67,36 @@ fn name_told<'a>(names: &'a [String], why: &RunError) -> &'a [u8]
 }
 
 /// What is told of the end of a run.
-fn told<'a>(request: Run<'a>, why: &RunError) -> Refused<'a>
-    ensures { IsRunTold result.failure result.name.now (ask_told request.entry) why.now }
+pub fn told<'a>(program: Program<'a>, why: &RunError) -> Refused<'a>
+    ensures { IsRunTold result.failure result.name.now (ask_told program.entry) why.now }
 {
     Refused {
-        failure: failure_of(request.bound, why),
-        name: name_told(request.files, why),
+        failure: failure_of(program.bound, why),
+        name: name_told(program.files, why),
     }
 }
 
 /// Runs a program, puts what it wrote, and answers its status.
 pub fn run<'a, H: Shelf, K: Sink>(
     alloc: Global,
-    request: Run<'a>,
+    program: Program<'a>,
     shelf: &mut H,
     out: &mut K,
 ) -> Result<u8, Refused<'a>>
-    requires { AreFileWords (ask_told request).names }
+    requires { AreFileWords (ask_told program).names }
     ensures ends { MatchResult result
-        (λ status. Runs status (H.files shelf.old) (ask_told request.entry).names request.entry.bound (change K.taken K.faults out.old out.new))
+        (λ status. Runs status (H.files shelf.old) (ask_told program.entry).names program.entry.bound (change K.taken K.faults out.old out.new))
         (λ why. RunFails why.failure why.name.now (H.files shelf.old) (H.faults shelf.old) (H.faults shelf.new)
-        (ask_told request.entry) (change K.taken K.faults out.old out.new)) }
+        (ask_told program.entry) (change K.taken K.faults out.old out.new)) }
     ensures status { IfOk result (λ status. status ≤ 199) }
-    ensures held { (asked : Result Program Unmade) → Holds (H.files shelf.old) (ask_told request.entry).names asked
-        → IsRunHeld asked result (H.faults shelf.old) (H.faults shelf.new) }
+    ensures held { (asked : Result Bundle Unmade) → Holds (H.files shelf.old) (ask_told program.entry).names asked
+        → IsHeld asked result (H.faults shelf.old) (H.faults shelf.new) }
     ensures shelf_later { H.faults shelf.old ≤ H.faults shelf.new }
     ensures files { H.files shelf.new ≡ H.files shelf.old }
     ensures out_later { K.faults out.old ≤ K.faults out.new }
 {
-    match dp_run::run(alloc, request.files, request.bound, shelf, out) {
+    match dp_run::run(alloc, program.files, program.bound, shelf, out) {
         Ok(status) => Ok(status),
-        Err(why) => Err(told(request, &why)),
+        Err(why) => Err(told(program, &why)),
     }
 }

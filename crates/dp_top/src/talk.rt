@@ -1,78 +1,111 @@
 //! The command `talk`: one session over the program's own input and output.
-ghost use Rattle.std.specs.Prelude.{◌≡◌, ◌≢◌, ◌≤◌, ℕ, List, IfOk, IfErr, MatchResult};
-ghost use Rattle.dp_top.specs.CommandLine.{IsKey, IsFileName};
+ghost use Rattle.std.specs.Prelude.{◌≡◌, ◌≤◌, ℕ, Ok, map, IfOk, Result, MatchResult};
 ghost use Rattle.dp_outside.specs.Changes.{change};
-ghost use Rattle.dp_top.specs.Failures.{status_of};
-ghost use Rattle.dp_top.specs.Files.{IsProgram, FileCaused, Tells, IsAccepted};
-ghost use Rattle.dp_top.specs.Talk.{Talks, TalkCaused, judged};
+ghost use Rattle.dp_bundle.specs.declared.bundle.Bundle.{Bundle as Made};
+ghost use Rattle.dp_bundle.specs.declared.errors.BundleError.{BundleError as Unmade};
+ghost use Rattle.dp_run.specs.Runs.{Holds};
+ghost use Rattle.dp_top.specs.CommandLine.{IsSession, ask_told};
+ghost use Rattle.dp_top.specs.Runs.{IsHeld};
+ghost use Rattle.dp_top.specs.Talk.{ServedSo, Talks, TalkFails, UnservedSo, ended, judged, told_in};
 
-use crate::command_line::Talk;
-use crate::failures::Failure;
-use crate::programs::{FILE_LIMIT, read_program};
-use crate::serving::{ServeEnd, serve};
-use crate::sessions::Session;
-use dp_outside::{Shelf, ShelfError, Sink, Source};
+use crate::command_line::{Program, Talk};
+use crate::failures::{Failure, Refused};
+use crate::run::told;
+use dp_bundle::Bundle;
+use dp_engine::{ServeEnd, Served, Session, serve};
+use dp_outside::{Shelf, Sink, Source};
+use dp_run::fetch_program;
+use dp_state::Outcome;
 use std::alloc::Global;
 
-/// Fetches a file and reads the program that it is.
-fn fetch_program<H: Shelf>(alloc: Global, file: &str, shelf: &mut H) -> Result<Vec<u64>, Failure>
-    ensures ok { IfOk result (λ program. IsProgram (H.files shelf.old) file.now program.items) }
-    ensures err { IfErr result (λ failure. FileCaused failure (H.files shelf.old) (H.faults shelf.old) (H.faults shelf.new) file.now) }
-    ensures accepted { (content : List ℕ) → Tells (H.files shelf.old) file.now content → IsAccepted content
-        → IfErr result (λ failure. status_of failure ≢ 201) }
-    ensures later { H.faults shelf.old ≤ H.faults shelf.new }
-    ensures files { H.files shelf.new ≡ H.files shelf.old }
+/// What the end of a program says of the command; a program that has none was stopped.
+fn judge_end<'a>(program: Program<'a>, outcome: Option<Outcome>) -> Result<u8, Refused<'a>>
+    ensures { told_in result ≡ ended (ask_told program.entry) outcome }
 {
-    match shelf.fetch(alloc, file, FILE_LIMIT) {
-        Ok(content) => read_program(alloc, content.as_slice()),
-        Err(ShelfError::Failed) => Err(Failure::ShelfFailed),
-        Err(ShelfError::Missing) => Err(Failure::NoFile),
-        Err(ShelfError::Memory) => Err(Failure::Memory),
+    match outcome {
+        None => Err(Refused::unnamed(Failure::Stopped)),
+        Some(outcome) => match dp_run::judge(outcome) {
+            Ok(status) => Ok(status),
+            Err(why) => Err(told(program, &why)),
+        },
     }
 }
 
 /// What the end of a session says of the command.
-fn judge(end: ServeEnd) -> Result<(), Failure>
-    ensures judged { result ≡ judged end }
-    ensures accepted { IfErr result (λ failure. status_of failure ≢ 201) }
+fn judge<'a>(program: Program<'a>, served: Served) -> Result<u8, Refused<'a>>
+    ensures { told_in result ≡ judged (ask_told program.entry) served }
 {
-    match end {
-        ServeEnd::Stopped => Ok(()),
-        ServeEnd::LinkEnd => Ok(()),
-        ServeEnd::ReadFault => Err(Failure::Network),
-        ServeEnd::WriteFault => Err(Failure::Output),
-        ServeEnd::BadCommandFrame { offset } => Err(Failure::Packet { offset }),
-        ServeEnd::OutFault => Err(Failure::Output),
-        ServeEnd::ByteLimit => Err(Failure::Packet {
+    match served.end {
+        ServeEnd::Stopped => judge_end(program, served.outcome),
+        ServeEnd::Detached => judge_end(program, served.outcome),
+        ServeEnd::LinkEnd => judge_end(program, served.outcome),
+        ServeEnd::ReadFault => Err(Refused::unnamed(Failure::Network)),
+        ServeEnd::WriteFault => Err(Refused::unnamed(Failure::Output)),
+        ServeEnd::OutFault => Err(Refused::unnamed(Failure::Output)),
+        ServeEnd::BadCommandFrame { offset } => Err(Refused::unnamed(Failure::Packet { offset })),
+        ServeEnd::ByteLimit => Err(Refused::unnamed(Failure::Packet {
             offset: 4_294_967_295,
-        }),
-        ServeEnd::Memory => Err(Failure::Memory),
+        })),
+        ServeEnd::Memory => Err(Refused::unnamed(Failure::Memory)),
+    }
+}
+
+/// Serves one session over a program.
+#[tactic(auto, using(crate::proofs::TalkLaws::main_short, crate::proofs::TalkLaws::small_served))]
+fn serve_program<'a, S: Source, K: Sink, E: Sink>(
+    alloc: Global,
+    request: Talk<'a>,
+    bundle: &Bundle,
+    input: &mut S,
+    out: &mut K,
+    err: &mut E,
+) -> Result<u8, Refused<'a>>
+    requires session { IsSession request.key.now (ask_told request.program) }
+    requires named { map (λ file. file.name) bundle.now.files ≡ (ask_told request.program).names }
+    ensures ends { MatchResult result
+        (λ status. ServedSo status bundle.now request.entry.key.now (ask_told request.entry.program)
+        (change S.left S.faults input.old input.new) (change K.taken K.faults out.old out.new)
+        (change E.taken E.faults err.old err.new))
+        (λ why. UnservedSo why.failure why.name.now bundle.now request.entry.key.now (ask_told request.entry.program)
+        (change S.left S.faults input.old input.new) (change K.taken K.faults out.old out.new)
+        (change E.taken E.faults err.old err.new)) }
+    ensures status { IfOk result (λ status. status ≤ 199) }
+    ensures held { (made : Made) (before after : ℕ) → IsHeld (Ok made) result before after }
+    ensures input_later { S.faults input.old ≤ S.faults input.new }
+    ensures out_later { K.faults out.old ≤ K.faults out.new }
+    ensures err_later { E.faults err.old ≤ E.faults err.new }
+{
+    match Session::begin(alloc, bundle, request.key.as_bytes(), request.program.bound) {
+        Ok((session, init)) => judge(
+            request.program,
+            serve(alloc, session, init, input, out, err),
+        ),
+        Err(_) => Err(Refused::unnamed(Failure::Memory)),
     }
 }
 
 /// Serves one session with `input` and `out` as the link; the program's own output goes to `err`.
-pub fn talk<H: Shelf, S: Source, K: Sink, E: Sink>(
+pub fn talk<'a, H: Shelf, S: Source, K: Sink, E: Sink>(
     alloc: Global,
-    request: Talk<'_>,
+    request: Talk<'a>,
     shelf: &mut H,
     input: &mut S,
     out: &mut K,
     err: &mut E,
-) -> Result<(), Failure>
-    requires key { IsKey request.key.now }
-    requires file { IsFileName request.file.now }
-
+) -> Result<u8, Refused<'a>>
+    requires { IsSession request.key.now (ask_told request.program) }
     ensures ends { MatchResult result
-        (λ _. Talks (H.files shelf.old) request.entry.key.now request.entry.file.now
+        (λ status. Talks status (H.files shelf.old) request.entry.key.now (ask_told request.entry.program)
         (change S.left S.faults input.old input.new) (change K.taken K.faults out.old out.new)
         (change E.taken E.faults err.old err.new))
-        (λ failure. TalkCaused failure (H.files shelf.old) (H.faults shelf.old) (H.faults shelf.new)
-        request.entry.key.now request.entry.file.now
+        (λ why. TalkFails why.failure why.name.now (H.files shelf.old) (H.faults shelf.old) (H.faults shelf.new)
+        request.entry.key.now (ask_told request.entry.program)
         (change S.left S.faults input.old input.new) (change K.taken K.faults out.old out.new)
         (change E.taken E.faults err.old err.new)) }
-    // A program of numbers is no bad source.
-    ensures accepted { (content : List ℕ) → Tells (H.files shelf.old) request.entry.file.now content → IsAccepted content
-        → IfErr result (λ failure. status_of failure ≢ 201) }
+    ensures status { IfOk result (λ status. status ≤ 199) }
+    // Files that make a program are no bad source, and those that make none are one, unless the shelf failed.
+    ensures held { (asked : Result Made Unmade) → Holds (H.files shelf.old) (ask_told request.entry.program).names asked
+        → IsHeld asked result (H.faults shelf.old) (H.faults shelf.new) }
     ensures files { H.files shelf.new ≡ H.files shelf.old }
 
     ensures shelf_later { H.faults shelf.old ≤ H.faults shelf.new }
@@ -80,14 +113,8 @@ pub fn talk<H: Shelf, S: Source, K: Sink, E: Sink>(
     ensures out_later { K.faults out.old ≤ K.faults out.new }
     ensures err_later { E.faults err.old ≤ E.faults err.new }
 {
-    let program = match fetch_program(alloc, request.file, shelf) {
-        Ok(program) => program,
-        Err(failure) => return Err(failure),
-    };
-    let key = request.key.as_bytes();
-    let file = request.file.as_bytes();
-    match Session::begin(alloc, program.as_slice(), key, file) {
-        Ok((session, init)) => judge(serve(alloc, session, init, input, out, err).end),
-        Err(_) => Err(Failure::Memory),
+    match fetch_program(alloc, request.program.files, shelf) {
+        Ok(bundle) => serve_program(alloc, request, &bundle, input, out, err),
+        Err(why) => Err(told(request.program, &why)),
     }
 }

@@ -1,5 +1,4 @@
 use super::*;
-use crate::plain::alone;
 use dp_outside::{ByteSink, ByteSource, MapShelf, NoNet, NoSpawner};
 use dp_value::Memory;
 use std::alloc::Global;
@@ -35,8 +34,26 @@ const STOPPING: &str =
 const STOPPED: &str =
     "160 <response@ command=\"run\" transaction_id=\"3\" status=\"stopped\" reason=\"ok\"></response>";
 
-const UNKNOWN: &str = "191 <response@ command=\"\" transaction_id=\"\"><error code=\"4\">\
+const ABORTED: &str =
+    "166 <response@ command=\"run\" transaction_id=\"1\" status=\"stopping\" reason=\"aborted\"></response>";
+
+const DETACHED: &str =
+    "164 <response@ command=\"detach\" transaction_id=\"1\" status=\"stopping\" reason=\"ok\"></response>";
+
+const KILLED: &str =
+    "161 <response@ command=\"stop\" transaction_id=\"1\" status=\"stopped\" reason=\"ok\"></response>";
+
+const NO_LINE: &str = "181 <response@ command=\"\" transaction_id=\"\"><error code=\"1\">\
+<message>parse error</message></error></response>";
+
+const UNKNOWN: &str = "194 <response@ command=\"foo\" transaction_id=\"\"><error code=\"4\">\
 <message>unimplemented command</message></error></response>";
+
+const TWICE: &str = "193 <response@ command=\"run\" transaction_id=\"1\"><error code=\"2\">\
+<message>duplicate arguments</message></error></response>";
+
+const NO_ID: &str = "191 <response@ command=\"status\" transaction_id=\"\"><error code=\"3\">\
+<message>invalid options</message></error></response>";
 
 const SESSION: &[u8] = b"step_into -i 1\0run -i 2\0run -i 3\0";
 
@@ -44,9 +61,7 @@ const SESSION: &[u8] = b"step_into -i 1\0run -i 2\0run -i 3\0";
 #[derive(Clone, Copy)]
 struct Row<'a> {
     words: &'a [&'a str],
-    /// The name and the content of the only file.
-    name: &'a str,
-    file: &'a str,
+    files: &'a [(&'a str, &'a str)],
     input: &'a [u8],
     cut: usize,
     shelf_fails: u64,
@@ -63,8 +78,7 @@ struct Row<'a> {
 /// The session of one `echo`, served whole.
 const WHOLE: Row<'static> = Row {
     words: &["talk", "K", "a.php"],
-    name: "a.php",
-    file: PROGRAM,
+    files: &[("a.php", PROGRAM)],
     input: SESSION,
     cut: 0,
     shelf_fails: 0,
@@ -117,6 +131,16 @@ fn wire(alloc: Global, packets: &[&str]) -> Result<Vec<u8>, Memory> {
     Ok(bytes)
 }
 
+/// Files with these names and contents.
+fn files_of(alloc: Global, files: &[(&str, &str)]) -> Result<Vec<(String, Vec<u8>)>, Memory> {
+    let mut made = Vec::new(alloc);
+    for (name, text) in files {
+        let name = String::from_str(alloc, name)?;
+        made.push((name, Vec::from_slice(alloc, text.as_bytes())?))?;
+    }
+    Ok(made)
+}
+
 /// Makes the call of a row. Answers its status and both outputs.
 fn call<R: Wait + Sync + Threads + Send>(
     rt: &R,
@@ -127,10 +151,8 @@ fn call<R: Wait + Sync + Threads + Send>(
     for word in row.words {
         words.push(String::from_str(alloc, word)?)?;
     }
-    let name = String::from_str(alloc, row.name)?;
-    let content = Vec::from_slice(alloc, row.file.as_bytes())?;
     let mut shelf = MapShelf::new(
-        vec![in alloc; (name, content)]?,
+        files_of(alloc, row.files)?,
         numbers(alloc, row.shelf_fails)?,
     )?;
     let bytes = Vec::from_slice(alloc, row.input)?;
@@ -171,7 +193,7 @@ fn check<R: Wait + Sync + Threads + Send + Abort>(
 }
 
 /// Sessions that go well.
-const SESSIONS: [(&str, Row<'static>); 11] = [
+const SESSIONS: [(&str, Row<'static>); 10] = [
     ("a whole session", WHOLE),
     ("byte by byte", Row { cut: 1, ..WHOLE }),
     (
@@ -192,7 +214,7 @@ const SESSIONS: [(&str, Row<'static>); 11] = [
     (
         "no statement",
         Row {
-            file: "<?php",
+            files: &[("a.php", "<?php")],
             input: b"run -i 1\0",
             packets: &[INIT, STOPPING_1],
             err: "",
@@ -208,30 +230,33 @@ const SESSIONS: [(&str, Row<'static>); 11] = [
         },
     ),
     (
-        "a status and no commands",
+        "a status and what is refused",
         Row {
-            input: b"status -i 9\0foo\0run -i\0run -i 1 \0\0",
-            packets: &[INIT, STARTING, UNKNOWN, UNKNOWN, UNKNOWN, UNKNOWN],
+            input: b"status -i 9\0foo\0run -i 1 -i 2\0status\0\0",
+            packets: &[INIT, STARTING, UNKNOWN, TWICE, NO_ID, NO_LINE],
             ..WHOLE
         },
     ),
     (
-        "the greatest number",
+        "two files and an exit",
         Row {
-            file: "<?php\necho 0;\necho 9223372036854775807;\n",
+            words: &["talk", "--bound", "9", "K", "a.php", "b.php"],
+            files: &[
+                ("a.php", "<?php\necho 1;\ninclude 'b.php';\necho 3;\n"),
+                ("b.php", "<?php\necho 2; exit(7);"),
+            ],
             input: b"run -i 1\0",
+            status: 7,
             packets: &[INIT, STOPPING_1],
-            err: "09223372036854775807",
+            err: "12",
             ..WHOLE
         },
     ),
     (
-        "statements on one line",
+        "a program that goes on by itself",
         Row {
-            file: "<?php /* two */ echo 0x10; ECHO 9; # end",
-            input: b"run -i 1\0",
-            packets: &[INIT, STOPPING_1],
-            err: "169",
+            input: b"detach -i 1\0run -i 2\0",
+            packets: &[INIT, DETACHED],
             ..WHOLE
         },
     ),
@@ -239,16 +264,58 @@ const SESSIONS: [(&str, Row<'static>); 11] = [
         "a key and a name with other bytes",
         Row {
             words: &["talk", "&K", "/a b%.php"],
-            name: "/a b%.php",
+            files: &[("/a b%.php", PROGRAM)],
             input: b"",
             packets: &[ENCODED],
             ..WHOLE
         },
     ),
+];
+
+/// Sessions whose program does not end well.
+const HALTS: [(&str, Row<'static>); 4] = [
     (
-        "no line feed",
+        "a program that is stopped",
         Row {
-            file: "<?php\necho 7;",
+            input: b"stop -i 1\0run -i 2\0",
+            status: 210,
+            packets: &[INIT, KILLED],
+            err: "stopped by the IDE\n",
+            ..WHOLE
+        },
+    ),
+    (
+        "the bound",
+        Row {
+            words: &["talk", "--bound", "1000", "K", "a.php"],
+            files: &[("a.php", "<?php\nwhile (true) ;\n")],
+            input: b"run -i 1\0",
+            status: 255,
+            packets: &[INIT, ABORTED],
+            err: "bound reached after 1000 steps\n",
+            ..WHOLE
+        },
+    ),
+    (
+        "the bound, with nobody looking",
+        Row {
+            words: &["talk", "--bound", "1000", "K", "a.php"],
+            files: &[("a.php", "<?php\nwhile (true) ;\n")],
+            input: b"detach -i 1\0",
+            status: 255,
+            packets: &[INIT, DETACHED],
+            err: "bound reached after 1000 steps\n",
+            ..WHOLE
+        },
+    ),
+    (
+        "a fatal fault",
+        Row {
+            files: &[("a.php", "<?php\necho 1;\nf();")],
+            input: b"",
+            status: 255,
+            packets: &[INIT],
+            err: "1fatal NoFunction in a.php on line 3\n",
             ..WHOLE
         },
     ),
@@ -304,7 +371,7 @@ const SHOWS: [(&str, Row<'static>); 6] = [
 ];
 
 /// Words and names of files that are refused.
-const REFUSALS: [(&str, Row<'static>); 8] = [
+const REFUSALS: [(&str, Row<'static>); 9] = [
     (
         "no words",
         Row {
@@ -349,7 +416,6 @@ const REFUSALS: [(&str, Row<'static>); 8] = [
         "an option that is none",
         Row {
             words: &["talk", "K", "-a.php"],
-            name: "-a.php",
             status: 200,
             packets: &[],
             err: "usage\n",
@@ -360,7 +426,16 @@ const REFUSALS: [(&str, Row<'static>); 8] = [
         "an empty name",
         Row {
             words: &["talk", "K", ""],
-            name: "",
+            status: 200,
+            packets: &[],
+            err: "usage\n",
+            ..WHOLE
+        },
+    ),
+    (
+        "no file",
+        Row {
+            words: &["talk", "--bound", "9", "K"],
             status: 200,
             packets: &[],
             err: "usage\n",
@@ -390,7 +465,7 @@ const REFUSALS: [(&str, Row<'static>); 8] = [
 ];
 
 /// Files that are refused, and the line.
-const FILES: [(&str, &str); 18] = [
+const FILES: [(&str, &str); 10] = [
     ("", "bad source a.php BadByte 0\n"),
     ("<?php $a @", "bad source a.php BadByte 9\n"),
     ("<?php\necho 07;\n", "bad source a.php BadByte 12\n"),
@@ -410,35 +485,7 @@ const FILES: [(&str, &str); 18] = [
         "<?php function f() {} function F() {}",
         "bad source a.php DoubleFunction 0\n",
     ),
-    ("<?php\n$a = 1;", "bad source a.php NotThin 2\n"),
-    ("<?php\necho 7;\n;", "bad source a.php NotThin 3\n"),
-    ("<?php\necho 1, 2;", "bad source a.php NotThin 2\n"),
-    ("<?php\n\necho -1;", "bad source a.php NotThin 3\n"),
-    ("<?php echo 'a';", "bad source a.php NotThin 1\n"),
-    (
-        "<?php\necho 7;\nfunction f() {}",
-        "bad source a.php NotThin 3\n",
-    ),
-    (
-        "<?php\nfunction f() {\n}\n$a = 1;",
-        "bad source a.php NotThin 2\n",
-    ),
-    (
-        "<?php\n$a = 1;\nfunction f() {}",
-        "bad source a.php NotThin 2\n",
-    ),
 ];
-
-/// A call over a file that is refused.
-fn refused<'a>(file: &'a str, line: &'a str) -> Row<'a> {
-    Row {
-        file,
-        status: 201,
-        packets: &[],
-        err: line,
-        ..WHOLE
-    }
-}
 
 /// Calls of the outside that fail.
 const FAULTS: [(&str, Row<'static>); 4] = [
@@ -501,72 +548,41 @@ fn packets_are_shown(rt: HostRuntime) -> Result<(), Fail> {
 }
 
 #[test]
-fn refusals_and_faults(rt: HostRuntime) -> Result<(), Fail> {
+fn programs_halt_in_sessions(rt: HostRuntime) -> Result<(), Fail> {
+    for (name, row) in HALTS {
+        check(&rt, rt.alloc(), name, row)?;
+    }
+    Ok(())
+}
+
+#[test]
+fn words_and_files_are_refused(rt: HostRuntime) -> Result<(), Fail> {
     for (name, row) in REFUSALS {
         check(&rt, rt.alloc(), name, row)?;
     }
+    Ok(())
+}
+
+#[test]
+fn faults_are_told(rt: HostRuntime) -> Result<(), Fail> {
     for (name, row) in FAULTS {
         check(&rt, rt.alloc(), name, row)?;
     }
-    for (file, line) in FILES {
-        check(&rt, rt.alloc(), file, refused(file, line))?;
-    }
     Ok(())
 }
 
-/// Sessions that only the plain program tells, by their program and what the IDE sends.
-const MORE: [(&[u64], &str, &[u8]); 4] = [
-    (
-        &[1, 20, 300],
-        "<?php\necho 1;\necho 20;\necho 300;\n",
-        b"step_into -i a\0step_into -i b\0status -i c\0step_into -i d\0step_into -i e\0run -i f\0run -i g\0",
-    ),
-    (
-        &[1, 20, 300],
-        "<?php\necho 1;\necho 20;\necho 300;\n",
-        b"step_into -i a\0run -i b\0status -i c\0step_into -i d\0status -i e\0",
-    ),
-    (
-        &[],
-        "<?php\n",
-        b"status -i 0\0step_into -i 1\0bad\0step_into -i 2\0\0",
-    ),
-    (
-        &[0],
-        "<?php\necho 0;\n",
-        b"run  -i 1\0run -i \0step_into -i A9z\0run",
-    ),
-];
-
 #[test]
-fn sessions_are_those_of_the_plain_program(rt: HostRuntime) -> Result<(), Fail> {
-    for (program, file, input) in MORE {
-        let plain = alone(rt.alloc(), program, "K", "a.php", input)?;
+fn sources_are_refused(rt: HostRuntime) -> Result<(), Fail> {
+    for (text, err) in FILES {
         let row = Row {
-            file,
-            input,
-            cut: 3,
+            files: &[("a.php", text)],
+            status: 201,
+            packets: &[],
+            err,
             ..WHOLE
         };
-        let (status, out, err) = call(&rt, rt.alloc(), row)?;
-        assert_eq!(rt; status, 0);
-        assert_eq!(rt; out.taken(), plain.sent.as_slice());
-        assert_eq!(rt; err.taken(), plain.own.as_slice());
+        check(&rt, rt.alloc(), text, row)?;
     }
-    Ok(())
-}
-
-/// The plain program tells the rows.
-#[test]
-fn the_plain_program_tells_the_rows(rt: HostRuntime) -> Result<(), Fail> {
-    let alloc = rt.alloc();
-    let plain = alone(alloc, &[7], "K", "a.php", SESSION)?;
-    let wanted = wire(alloc, WHOLE.packets)?;
-    assert_eq!(rt; plain.sent.as_slice(), wanted.as_slice());
-    assert_eq!(rt; plain.own.as_slice(), b"7".as_slice());
-    let none = alone(alloc, &[], "K", "a.php", b"run -i 1\0")?;
-    let wanted = wire(alloc, &[INIT, STOPPING_1])?;
-    assert_eq!(rt; none.sent.as_slice(), wanted.as_slice());
     Ok(())
 }
 
@@ -575,25 +591,31 @@ fn limits(rt: HostRuntime) -> Result<(), Fail> {
     let alloc = rt.alloc();
     let mut longest = Vec::from_slice(alloc, b"run -i 1\0")?;
     longest.resize(1_048_586, b'x')?;
-    let command = Row {
+    let row = Row {
         input: longest.as_slice(),
         status: 207,
         packets: &[INIT, STOPPING_1],
         err: "7bad packet offset 9\n",
         ..WHOLE
     };
-    check(&rt, alloc, "too long a command", command)?;
+    check(&rt, alloc, "too long a command", row)?;
+    Ok(())
+}
+
+#[test]
+fn large_files_are_refused(rt: HostRuntime) -> Result<(), Fail> {
+    let alloc = rt.alloc();
     let mut large = String::from_str(alloc, PROGRAM)?;
     for _ in 0..104_857 {
         large.push_str("echo 999;\n")?;
     }
-    let file = Row {
-        file: large.as_str(),
+    let row = Row {
+        files: &[("a.php", large.as_str())],
         status: 201,
         packets: &[],
         err: "bad source a.php TooLong 1048576\n",
         ..WHOLE
     };
-    check(&rt, alloc, "too long a file", file)?;
+    check(&rt, alloc, "too long a file", row)?;
     Ok(())
 }

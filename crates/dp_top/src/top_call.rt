@@ -1,12 +1,11 @@
 //! The top call.
-ghost use Rattle.std.specs.Prelude.{◌≡◌, ◌↔◌, ◌⊎◌, ◌<◌, ◌≤◌, ℕ, List, Ok, Err, codes, map, string_bytes};
+ghost use Rattle.std.specs.Prelude.{◌≡◌, ◌↔◌, ◌⊎◌, ◌<◌, ◌≤◌, ℕ, List, Some, Ok, Err, codes, map, string_bytes};
 ghost use Rattle.dp_outside.specs.Causes.{Rose};
 ghost use Rattle.dp_outside.specs.Changes.{change, IsUntouched};
 ghost use Rattle.dp_bundle.specs.declared.bundle.Bundle.{Bundle};
 ghost use Rattle.dp_bundle.specs.declared.errors.BundleError.{BundleError};
-ghost use Rattle.dp_top.specs.CommandLine.{Ask, IsRun, IsTalk, Task, Asks};
+ghost use Rattle.dp_top.specs.CommandLine.{Ask, IsRun, IsTalk, Task, Asks, ask_in};
 ghost use Rattle.dp_top.specs.Failures.{Says};
-ghost use Rattle.dp_top.specs.Files.{Tells, IsAccepted, IsRefused};
 ghost use Rattle.dp_run.specs.Runs.{Holds};
 ghost use Rattle.dp_top.specs.Tasks.{IsDone, Fails, NoneRose};
 
@@ -20,21 +19,22 @@ use std::sync::Wait;
 /// Does what the words of a command line ask for, and answers the status with which the program ends.
 ///
 /// `words` are the command line without the program's name: `run [--bound N] FILE..` runs the program of the files, of
-/// which the first is the main one, and puts its output on `out`; `talk KEY FILE` serves a session of KEY over the program
-/// in FILE, with `input` and `out` as the link, and the program's own output on `err`; `show` reads framed packets from
-/// `input` and prints the element of each on `out`, in canonical text with a line feed.
+/// which the first is the main one, and puts its output on `out`; `talk [--bound N] KEY FILE..` serves a session of KEY
+/// over the program, with `input` and `out` as the link, and the program's own output on `err`; `show` reads framed packets
+/// from `input` and prints the element of each on `out`, in canonical text with a line feed.
 ///
 /// | status | comes | line on `err` |
 /// |---|---|---|
-/// | 0 to 199 | the program exited so, or came to its end; the session went well; all packets are shown (0) | none |
+/// | 0 to 199 | the program exited so, or came to its end (0); all packets are shown (0) | none |
 /// | 200 | the words ask for nothing | `usage` |
-/// | 201 | a file is too long or no program, or that of `talk` none of numbers | `bad source NAME REASON NUMBER` |
+/// | 201 | a file is too long or no program | `bad source NAME REASON NUMBER` |
 /// | 202 | the shelf failed, or lacks a file | `shelf failed NAME`, `no file NAME` |
 /// | 203 | an output failed | `output failed` |
 /// | 206 | the input of `show` ended inside a frame | `peer ended` |
 /// | 207 | bytes stand in no command's or packet's place, a packet's text is no markup, or too many came | `bad packet offset N` |
 /// | 208 | the input failed | `network failed` |
 /// | 209 | want of memory | `out of memory` |
+/// | 210 | a command stopped the program before its end | `stopped by the IDE` |
 /// | 255 | the program could not go on, or would have had more moments than N | `fatal KIND in NAME on line N`, `bound reached after N steps` |
 ///
 /// It waits in the calls of `input` alone. `show` does not use the shelf, nor `run` the input; `net` and `spawner` are not used.
@@ -69,25 +69,21 @@ pub fn top<R: Wait + Sync, H: Shelf, S: Source, K: Sink, E: Sink, N: Net, P: Spa
         → NoneRose (H.faults shelf.old) (H.faults shelf.new) (change S.left S.faults input.old input.new)
         (change K.taken K.faults out.old out.new) (change E.taken E.faults err.old err.new)
         → (result ≤ 199) ⊎ (result ≡ 255) ⊎ (result ≡ 209) }
-    // Where they make none, that is told, unless the shelf fails first.
-    ensures refused_run { (ask : Ask) (why : BundleError) → IsRun (map string_bytes words.now) ask
-        → Holds (H.files shelf.old) ask.names (Err why)
-        → (result ≡ 201) ⊎ (result ≡ 209) ⊎ Rose (H.faults shelf.old) (H.faults shelf.new) }
-    // Where the shelf tells the file, it is a program, and no count rose, the session is served whole.
-    ensures complete { (key file content : List ℕ) → IsTalk (map string_bytes words.now) key file
-        → Tells (H.files shelf.old) file content → IsAccepted content
+    // Likewise the session is served whole, or what is no command is told.
+    ensures complete_talk { (key : List ℕ) (ask : Ask) (program : Bundle) → IsTalk (map string_bytes words.now) key ask
+        → Holds (H.files shelf.old) ask.names (Ok program)
         → NoneRose (H.faults shelf.old) (H.faults shelf.new) (change S.left S.faults input.old input.new)
         (change K.taken K.faults out.old out.new) (change E.taken E.faults err.old err.new)
-        → (result ≡ 0) ⊎ (result ≡ 207) ⊎ (result ≡ 209) }
+        → (result ≤ 199) ⊎ (result ≡ 207) ⊎ (result ≡ 210) ⊎ (result ≡ 255) ⊎ (result ≡ 209) }
+    // Where they make none, that is told, unless the shelf fails first.
+    ensures refused { (task : Task) (ask : Ask) (why : BundleError) → Asks (map string_bytes words.now) task → ask_in task ≡ Some ask
+        → Holds (H.files shelf.old) ask.names (Err why)
+        → (result ≡ 201) ⊎ (result ≡ 209) ⊎ Rose (H.faults shelf.old) (H.faults shelf.new) }
     // Where no count rose, every packet is shown, or the input ended inside one, or what is no packet is told.
     ensures complete_show { Asks (map string_bytes words.now) Task.show
         → NoneRose (H.faults shelf.old) (H.faults shelf.new) (change S.left S.faults input.old input.new)
         (change K.taken K.faults out.old out.new) (change E.taken E.faults err.old err.new)
         → (result ≡ 0) ⊎ (result ≡ 206) ⊎ (result ≡ 207) ⊎ (result ≡ 209) }
-    // Where it is too long or no program, it is refused, unless the shelf fails first.
-    ensures refused { (key file content : List ℕ) → IsTalk (map string_bytes words.now) key file
-        → Tells (H.files shelf.old) file content → IsRefused content
-        → (result ≡ 201) ⊎ (result ≡ 209) ⊎ Rose (H.faults shelf.old) (H.faults shelf.new) }
 
     ensures show_shelf { Asks (map string_bytes words.now) Task.show → H.faults shelf.new ≡ H.faults shelf.old }
     ensures files { H.files shelf.new ≡ H.files shelf.old }

@@ -1,4 +1,4 @@
-use Rattle.std.proofs.Common.{◌≡◌, ◌<◌, ◌≤◌, ℕ, List, length, map, take, string_bytes, refl, sym, ap, ◌∙◌, subst, arith}
+use Rattle.std.proofs.Common.{ℕ, List, length, string_bytes, refl, sym, ◌∙◌, subst, arith}
 use Rattle.dp_run.specs.Runs.{AreFetched, FetchCaused, IsNext}
 use Rattle.dp_run.proofs.RunLaws.{fetched_none, so_many, one_more, none_more, all_fetched}
 use Rattle.dp_run.proofs.fetching.fetch_all.Goals as goal

@@ -1,16 +1,27 @@
-use Rattle.std.proofs.Common.{ℕ, List, map, string_bytes}
-use Rattle.dp_run.proofs.RunLaws.{for_bundle, held_fetched, held_unfetched}
+use Rattle.std.proofs.Common.{map, string_bytes, refl}
+use Rattle.dp_outside.specs.Changes.{change}
+use Rattle.dp_run.proofs.RunLaws.{ends_run, held_none, held_run, none_run, small_status}
 use Rattle.dp_run.proofs.running.run.Goals as goal
 
-pub run_fetched-requires : goal.run_fetched-requires
-run_fetched-requires g c = for_bundle (g.H.Shelf.files c.args.shelf.now) (map string_bytes c.args.names.now) c.in-Ok.fetched c.requires c.in-Ok.ensures.ok
+pub returns-in-Ok-clause-ends : goal.returns-in-Ok-clause-ends
+returns-in-Ok-clause-ends g c =
+    ends_run (g.H.Shelf.files c.args.shelf.now) (g.H.Shelf.faults c.args.shelf.now) (g.H.Shelf.faults c.fetch_program.new.shelf) (map string_bytes c.args.names.now) c.args.bound
+    (change g.K.Sink.taken g.K.Sink.faults c.args.out.now c.run_program.new.out) c.in-Ok.program c.in-Ok.ensures.made c.run_program.result c.run_program.ensures.ends
+
+pub returns-in-Ok-clause-status : goal.returns-in-Ok-clause-status
+returns-in-Ok-clause-status g c =
+    small_status c.in-Ok.program c.args.bound (change g.K.Sink.taken g.K.Sink.faults c.args.out.now c.run_program.new.out) c.run_program.result c.run_program.ensures.ends
 
 pub returns-in-Ok-clause-held : goal.returns-in-Ok-clause-held
 returns-in-Ok-clause-held g c asked held =
-    held_fetched (g.H.Shelf.files c.args.shelf.now) (map string_bytes c.args.names.now) c.in-Ok.fetched (g.H.Shelf.faults c.args.shelf.now) (g.H.Shelf.faults c.fetch_all.new.shelf)
-    asked c.run_fetched.result c.in-Ok.ensures.ok c.run_fetched.ensures.only held
+    held_run asked c.in-Ok.program c.args.bound (change g.K.Sink.taken g.K.Sink.faults c.args.out.now c.run_program.new.out)
+    (g.H.Shelf.faults c.args.shelf.now) (g.H.Shelf.faults c.fetch_program.new.shelf) c.run_program.result (c.in-Ok.ensures.held asked held) c.run_program.ensures.ends
+
+pub returns-in-Err-clause-ends : goal.returns-in-Err-clause-ends
+returns-in-Err-clause-ends g c =
+    none_run (g.H.Shelf.files c.args.shelf.now) (g.H.Shelf.faults c.args.shelf.now) (g.H.Shelf.faults c.fetch_program.new.shelf) (map string_bytes c.args.names.now) c.args.bound
+    (change g.K.Sink.taken g.K.Sink.faults c.args.out.now c.args.out.now) c.in-Err.why c.in-Err.ensures.cause (refl, refl)
 
 pub returns-in-Err-clause-held : goal.returns-in-Err-clause-held
 returns-in-Err-clause-held g c asked held =
-    held_unfetched ℕ (g.H.Shelf.files c.args.shelf.now) (map string_bytes c.args.names.now) (g.H.Shelf.faults c.args.shelf.now) (g.H.Shelf.faults c.fetch_all.new.shelf)
-    asked c.in-Err.why c.in-Err.ensures.err held
+    held_none asked c.in-Err.why (g.H.Shelf.faults c.args.shelf.now) (g.H.Shelf.faults c.fetch_program.new.shelf) (c.in-Err.ensures.held asked held)

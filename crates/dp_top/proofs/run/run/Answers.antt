@@ -1,9 +1,10 @@
+use Rattle.std.proofs.Common.{ℕ}
 use Rattle.dp_top.proofs.NameLaws.{names_of}
 use Rattle.dp_top.proofs.RunTold.{held_failure, held_status}
 use Rattle.dp_top.proofs.run.run.Goals as goal
 
 pub run-requires : goal.run-requires
-run-requires g c = names_of c.args.request.files.now c.requires
+run-requires g c = names_of c.args.program.files.now c.requires
 
 pub returns-in-Ok-clause-held : goal.returns-in-Ok-clause-held
 returns-in-Ok-clause-held g c asked held =
@@ -11,5 +12,5 @@ returns-in-Ok-clause-held g c asked held =
 
 pub returns-in-Err-clause-held : goal.returns-in-Err-clause-held
 returns-in-Err-clause-held g c asked held =
-    held_failure c.args.request.bound asked c.in-Err.why c.told.result (g.H.Shelf.faults c.args.shelf.now) (g.H.Shelf.faults c.run.new.shelf) c.told.ensures.0
+    held_failure ℕ c.args.program.bound asked c.in-Err.why c.told.result (g.H.Shelf.faults c.args.shelf.now) (g.H.Shelf.faults c.run.new.shelf) c.told.ensures.0
     (c.in-Err.ensures.held asked held)

@@ -1,15 +1,39 @@
-use Rattle.std.proofs.Common.{◌≡◌, ℕ, List, sym, ap, ◌∙◌, subst}
-use Rattle.dp_top.specs.Sessions.{State}
-use Rattle.dp_top.specs.Files.{IsProgram}
-use Rattle.dp_top.specs.Texts.{init_text}
-use Rattle.dp_top.proofs.TalkLaws.{judged_is}
+use Rattle.std.proofs.Common.{refl}
+use Rattle.dp_bundle.specs.declared.bundle.Bundle.{Bundle}
+use Rattle.dp_outside.specs.Changes.{change}
+use Rattle.dp_top.specs.CommandLine.{ask_told}
+use Rattle.dp_top.proofs.NameLaws.{names_of}
+use Rattle.dp_top.proofs.RunTold.{held_failure}
+use Rattle.dp_top.proofs.TalkLaws.{held_served, none_served, program_served}
 use Rattle.dp_top.proofs.talk.talk.Goals as goal
 
-pub returns-in-Ok-begin-clause-ends : goal.returns-in-Ok-begin-clause-ends
-returns-in-Ok-begin-clause-ends g c =
-    let begun : c.in-Ok-begin.init ≡ init_text c.args.request.key.now c.args.request.file.now =
-    c.in-Ok-begin.ensures.text ∙ (λ i. init_text (c.as_bytes-key.ensures.value i) (c.as_bytes-file.ensures.value i)) in
-    let same : c.in-Ok.program.items ≡ c.in-Ok-begin.session.program =
-    sym (ap (λ (s : State). s.program) c.in-Ok-begin.ensures.opening ∙ c.as_slice.ensures.value) in
-    let is = subst (λ (l : List ℕ). IsProgram (g.H.Shelf.files c.args.shelf.now) c.args.request.file.now l) same c.in-Ok.ensures.ok in
-    rw c.judge.ensures.judged (judged_is c.serve.result.end _ _ _ _ _ c.in-Ok-begin.session.program _ _ _ is (c.serve.ensures.ends c.args.request.key.now c.args.request.file.now begun))
+pub fetch_program-requires : goal.fetch_program-requires
+fetch_program-requires g c = names_of c.args.request.program.files.now c.requires.files
+
+pub returns-in-Ok-clause-ends : goal.returns-in-Ok-clause-ends
+returns-in-Ok-clause-ends g c =
+    program_served (g.H.Shelf.files c.args.shelf.now) (g.H.Shelf.faults c.args.shelf.now) (g.H.Shelf.faults c.fetch_program.new.shelf)
+    c.args.request.key.now (ask_told c.args.request.program)
+    (change g.S.Source.left g.S.Source.faults c.args.input.now c.serve_program.new.input)
+    (change g.K.Sink.taken g.K.Sink.faults c.args.out.now c.serve_program.new.out)
+    (change g.E.Sink.taken g.E.Sink.faults c.args.err.now c.serve_program.new.err)
+    c.in-Ok.bundle c.in-Ok.ensures.made c.serve_program.result c.serve_program.ensures.ends
+
+pub returns-in-Ok-clause-held : goal.returns-in-Ok-clause-held
+returns-in-Ok-clause-held g c asked held =
+    held_served asked c.in-Ok.bundle c.serve_program.result (g.H.Shelf.faults c.args.shelf.now) (g.H.Shelf.faults c.fetch_program.new.shelf)
+    (c.in-Ok.ensures.held asked held) c.serve_program.ensures.held
+
+pub returns-in-Err-clause-ends : goal.returns-in-Err-clause-ends
+returns-in-Err-clause-ends g c =
+    none_served (g.H.Shelf.files c.args.shelf.now) (g.H.Shelf.faults c.args.shelf.now) (g.H.Shelf.faults c.fetch_program.new.shelf)
+    c.args.request.key.now (ask_told c.args.request.program)
+    (change g.S.Source.left g.S.Source.faults c.args.input.now c.args.input.now)
+    (change g.K.Sink.taken g.K.Sink.faults c.args.out.now c.args.out.now)
+    (change g.E.Sink.taken g.E.Sink.faults c.args.err.now c.args.err.now)
+    c.told.result c.in-Err.why c.in-Err.ensures.cause c.told.ensures (refl, refl) (refl, refl) (refl, refl)
+
+pub returns-in-Err-clause-held : goal.returns-in-Err-clause-held
+returns-in-Err-clause-held g c asked held =
+    held_failure Bundle c.args.request.program.bound asked c.in-Err.why c.told.result (g.H.Shelf.faults c.args.shelf.now) (g.H.Shelf.faults c.fetch_program.new.shelf) c.told.ensures.0
+    (c.in-Err.ensures.held asked held)

@@ -1,10 +1,10 @@
-use Rattle.std.proofs.Common.{◌≡◌, ◌≤◌, ◌<◌, Err, inl, arith, sym, ◌∙◌}
-use Rattle.dp_top.proofs.TaskLaws.{fails_told, told_above, accepted_told, complete_fails, complete_show_fails, refused_fails_so, talks_refuses_none, talks_well, shows_well, asks_show, asks_run, refused_told, complete_run_told}
-use Rattle.dp_top.specs.CommandLine.{Task, run, talk, show, task_of}
+use Rattle.std.proofs.Common.{Err, inl, arith}
+use Rattle.dp_top.proofs.TaskLaws.{fails_told, told_above, complete_show_fails, shows_well, asks_show, asks_program, refused_told, complete_run_told, complete_talk_told}
+use Rattle.dp_top.specs.CommandLine.{run, talk, show, task_of}
 use Rattle.dp_top.proofs.top_call.top.Goals as goal
 
-pub returns-in-None-clause-complete : goal.returns-in-None-clause-complete
-returns-in-None-clause-complete g c = λ key file content is held a none. absurd (c.in-None.ensures.none (talk key file) is)
+pub returns-in-None-clause-complete_talk : goal.returns-in-None-clause-complete_talk
+returns-in-None-clause-complete_talk g c = λ key ask program is held none. absurd (c.in-None.ensures.none (talk key ask) is)
 
 pub returns-in-None-clause-complete_show : goal.returns-in-None-clause-complete_show
 returns-in-None-clause-complete_show g c = λ asks none. absurd (c.in-None.ensures.none show asks)
@@ -13,10 +13,7 @@ pub returns-in-None-clause-complete_run : goal.returns-in-None-clause-complete_r
 returns-in-None-clause-complete_run g c = λ ask program is held none. absurd (c.in-None.ensures.none (run ask) is)
 
 pub returns-in-None-clause-refused : goal.returns-in-None-clause-refused
-returns-in-None-clause-refused g c = λ key file content is held r. absurd (c.in-None.ensures.none (talk key file) is)
-
-pub returns-in-None-clause-refused_run : goal.returns-in-None-clause-refused_run
-returns-in-None-clause-refused_run g c = λ ask why is held. absurd (c.in-None.ensures.none (run ask) is)
+returns-in-None-clause-refused g c = λ task ask why asks is held. absurd (c.in-None.ensures.none task asks)
 
 pub returns-in-Err-clause-usage : goal.returns-in-Err-clause-usage
 returns-in-Err-clause-usage g c =
@@ -31,14 +28,10 @@ returns-in-Err-clause-fails g c = λ some.
     fails_told c.report.result _ _ _ _ (task_of c.in-Some.command) c.in-Err.refused.name.now _ _ _ _ _ _ _ _
     c.in-Err.refused.failure c.in-Some.ensures.found c.in-Err.ensures.ends c.report.ensures.later c.report.ensures.told
 
-pub returns-in-Err-clause-complete : goal.returns-in-Err-clause-complete
-returns-in-Err-clause-complete g c = λ key file content is held a none.
-    complete_fails c.report.result _ _ _ _ _ _ _
-    (fails_told c.report.result _ _ _ _ (task_of c.in-Some.command) c.in-Err.refused.name.now _ _ _ _ _ _ _ _
-    c.in-Err.refused.failure c.in-Some.ensures.found c.in-Err.ensures.ends c.report.ensures.later c.report.ensures.told)
-    (accepted_told c.report.result _ _ (task_of c.in-Some.command) c.in-Err.refused.failure _ _ c.in-Some.ensures.found c.in-Err.ensures.accepted c.report.ensures.told
-    key file content is held a)
-    key file content is held none
+pub returns-in-Err-clause-complete_talk : goal.returns-in-Err-clause-complete_talk
+returns-in-Err-clause-complete_talk g c = λ key ask program is held none.
+    complete_talk_told c.report.result _ _ _ _ (task_of c.in-Some.command) _ _ _ c.in-Err.refused _ _ c.in-Some.ensures.found c.in-Err.ensures.ends c.in-Err.ensures.held c.report.ensures.told
+    key ask program is held none.shelf none.input_not none.out_not (λ rose. none.err_not (omega (arith, rose, c.report.ensures.later)))
 
 pub returns-in-Err-clause-complete_show : goal.returns-in-Err-clause-complete_show
 returns-in-Err-clause-complete_show g c =
@@ -52,15 +45,9 @@ returns-in-Err-clause-complete_run g c = λ ask program is held none.
     ask program is held none.shelf none.out_not
 
 pub returns-in-Err-clause-refused : goal.returns-in-Err-clause-refused
-returns-in-Err-clause-refused g c =
-    refused_fails_so c.report.result _ _ _ _ _ _ _
-    (fails_told c.report.result _ _ _ _ (task_of c.in-Some.command) c.in-Err.refused.name.now _ _ _ _ _ _ _ _
-    c.in-Err.refused.failure c.in-Some.ensures.found c.in-Err.ensures.ends c.report.ensures.later c.report.ensures.told)
-
-pub returns-in-Err-clause-refused_run : goal.returns-in-Err-clause-refused_run
-returns-in-Err-clause-refused_run g c = λ ask why is held.
+returns-in-Err-clause-refused g c = λ task ask why asks is held.
     refused_told c.report.result _ _ c.in-Err.refused.failure _ _ c.report.ensures.told
-    (c.in-Err.ensures.held ask (Err why) (asks_run _ (task_of c.in-Some.command) ask c.in-Some.ensures.found is) held)
+    (c.in-Err.ensures.held ask (Err why) (asks_program _ (task_of c.in-Some.command) task ask c.in-Some.ensures.found asks is) held)
 
 pub returns-in-Err-clause-show_shelf : goal.returns-in-Err-clause-show_shelf
 returns-in-Err-clause-show_shelf g c = λ asks. c.in-Err.ensures.show_shelf (asks_show _ (task_of c.in-Some.command) c.in-Some.ensures.found asks)
@@ -72,20 +59,15 @@ returns-in-Ok-clause-usage g c =
 pub returns-in-Ok-clause-fails : goal.returns-in-Ok-clause-fails
 returns-in-Ok-clause-fails g c = λ high. absurd (omega (arith, c.in-Ok.ensures.status, high))
 
-pub returns-in-Ok-clause-complete : goal.returns-in-Ok-clause-complete
-returns-in-Ok-clause-complete g c = λ key file content is held a none.
-    inl (talks_well _ _ _ (task_of c.in-Some.command) _ _ _ c.in-Some.ensures.found c.in-Ok.ensures.ends key file is)
+pub returns-in-Ok-clause-complete_talk : goal.returns-in-Ok-clause-complete_talk
+returns-in-Ok-clause-complete_talk g c = λ key ask program is held none. inl c.in-Ok.ensures.status
 
 pub returns-in-Ok-clause-complete_show : goal.returns-in-Ok-clause-complete_show
 returns-in-Ok-clause-complete_show g c = λ asks none. inl (shows_well _ _ _ (task_of c.in-Some.command) _ _ _ c.in-Some.ensures.found c.in-Ok.ensures.ends asks)
 
 pub returns-in-Ok-clause-refused : goal.returns-in-Ok-clause-refused
-returns-in-Ok-clause-refused g c = λ key file content is held r.
-    absurd (talks_refuses_none _ _ _ (task_of c.in-Some.command) _ _ _ c.in-Some.ensures.found c.in-Ok.ensures.ends key file content is held r)
-
-pub returns-in-Ok-clause-refused_run : goal.returns-in-Ok-clause-refused_run
-returns-in-Ok-clause-refused_run g c = λ ask why is held.
-    absurd (c.in-Ok.ensures.held ask (Err why) (asks_run _ (task_of c.in-Some.command) ask c.in-Some.ensures.found is) held)
+returns-in-Ok-clause-refused g c = λ task ask why asks is held.
+    absurd (c.in-Ok.ensures.held ask (Err why) (asks_program _ (task_of c.in-Some.command) task ask c.in-Some.ensures.found asks is) held)
 
 pub returns-in-Ok-clause-show_shelf : goal.returns-in-Ok-clause-show_shelf
 returns-in-Ok-clause-show_shelf g c = λ asks. c.in-Ok.ensures.show_shelf (asks_show _ (task_of c.in-Some.command) c.in-Some.ensures.found asks)

@@ -1,0 +1,63 @@
+//! The program that the files of a shelf make.
+
+ghost use Rattle.std.specs.Prelude.{◌≡◌, ◌≤◌, map, string_bytes, IfOk, IfErr, Ok, Result};
+ghost use Rattle.dp_bundle.specs.Bundles.{AreForBundle, Makes};
+ghost use Rattle.dp_bundle.specs.declared.bundle.Bundle.{Bundle as Program};
+ghost use Rattle.dp_bundle.specs.declared.errors.BundleError.{BundleError as Unmade};
+ghost use Rattle.dp_run.specs.Runs.{AreNames, Holds, IsHeld, IsMade, IsRefused, Make, NoProgram, refusal as refusal_of};
+
+use crate::error::RunError;
+use crate::fetching::fetch_all;
+use dp_bundle::{Bundle, BundleError};
+use dp_outside::Shelf;
+use dp_value::{Bytes, Items};
+use std::alloc::Global;
+
+/// Why files make no program.
+fn refusal(why: BundleError) -> RunError
+    ensures { result ≡ refusal_of why }
+{
+    match why {
+        BundleError::Source { file, error } => RunError::Source { file, error },
+        BundleError::TooLong { file } => RunError::TooLong { file },
+        BundleError::Memory => RunError::Memory,
+    }
+}
+
+/// The program that fetched files make.
+fn make(alloc: Global, fetched: Items<(Bytes, Bytes)>) -> Result<Bundle, RunError>
+    requires { AreForBundle fetched }
+    ensures ok { IfOk result (λ program. Makes fetched (Ok program)) }
+    ensures err { IfErr result (λ why. IsMade fetched why) }
+    // Files make one thing alone.
+    ensures only { (asked : Result Program Unmade) → Makes fetched asked → IsRefused asked result }
+{
+    match Bundle::new(alloc, fetched) {
+        Ok(program) => Ok(program),
+        Err(why) => Err(refusal(why)),
+    }
+}
+
+/// Fetches the files of these names, of which the first is the main one, and makes their program.
+///
+/// The files are fetched first, in order, each once; then they are read.
+pub fn fetch_program<H: Shelf>(
+    alloc: Global,
+    names: &[String],
+    shelf: &mut H,
+) -> Result<Bundle, RunError>
+    requires { AreNames (map string_bytes names.now) }
+    ensures made { IfOk result (λ program. Make (H.files shelf.old) (map string_bytes names.now) (Ok program)) }
+    ensures named { IfOk result (λ program. map (λ file. file.name) program.files ≡ map string_bytes names.now) }
+    ensures cause { IfErr result (λ why. NoProgram why (H.files shelf.old) (H.faults shelf.old) (H.faults shelf.new) (map string_bytes names.now)) }
+    // What the files of a shelf that tells them make is answered, unless the shelf or memory fails.
+    ensures held { (asked : Result Program Unmade) → Holds (H.files shelf.old) (map string_bytes names.now) asked
+        → IsHeld asked result (H.faults shelf.old) (H.faults shelf.new) }
+    ensures later { H.faults shelf.old ≤ H.faults shelf.new }
+    ensures files { H.files shelf.new ≡ H.files shelf.old }
+{
+    match fetch_all(alloc, names, shelf) {
+        Ok(fetched) => make(alloc, fetched),
+        Err(why) => Err(why),
+    }
+}
