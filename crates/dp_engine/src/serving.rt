@@ -3,7 +3,7 @@ ghost use Rattle.std.specs.Prelude.{◌≡◌, ◌≤◌, ℕ, List, None, Some}
 ghost use Rattle.std.specs.Io.KnownBytes.{Appends};
 ghost use Rattle.dp_outside.specs.Changes.{change};
 ghost use Rattle.dp_wire.specs.Frames.{IsPacketText};
-ghost use Rattle.dp_engine.specs.Closing.{CanRunOn, Closes, RanOn};
+ghost use Rattle.dp_engine.specs.Closing.{CanRunOn, Closes, ClosesCut, RanOn};
 ghost use Rattle.dp_engine.specs.Responses.{init_text};
 ghost use Rattle.dp_engine.specs.Serving.{Serves};
 ghost use Rattle.dp_engine.specs.Session.{opening};
@@ -94,6 +94,24 @@ fn close<E: Sink>(
     }
 }
 
+/// What becomes of the program once a fault has cut the session short.
+fn close_cut<E: Sink>(
+    alloc: Global,
+    session: Session<'_>,
+    fault: Fault<SessionEnd>,
+    out: &mut E,
+) -> Served
+    ensures closes { ClosesCut fault result session.entry (change E.taken E.faults out.old out.new) }
+    ensures out_later { E.faults out.old ≤ E.faults out.new }
+{
+    match fault {
+        Fault::Write(Some(SessionEnd::Killed)) => cut_short(ServeEnd::WriteFault),
+        Fault::Write(_) => run_on(alloc, session, ServeEnd::WriteFault, out),
+        Fault::Out => cut_short(ServeEnd::OutFault),
+        Fault::Memory => cut_short(ServeEnd::Memory),
+    }
+}
+
 /// Serves a session over a link: sends its first packet and answers each command that comes, up to an end.
 ///
 /// The program's own output goes to `out`. Where the link ends or fails first, the program runs on to its end, unless a
@@ -120,9 +138,6 @@ pub fn serve<S: Source, K: Sink, E: Sink>(
 {
     match converse(alloc, &mut session, init.as_slice(), source, sink, out) {
         Ok(over) => close(alloc, session, over, out),
-        Err(Fault::Write(Some(SessionEnd::Killed))) => cut_short(ServeEnd::WriteFault),
-        Err(Fault::Write(_)) => run_on(alloc, session, ServeEnd::WriteFault, out),
-        Err(Fault::Out) => cut_short(ServeEnd::OutFault),
-        Err(Fault::Memory) => cut_short(ServeEnd::Memory),
+        Err(fault) => close_cut(alloc, session, fault, out),
     }
 }

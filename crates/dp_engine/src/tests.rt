@@ -380,7 +380,7 @@ const STEPS: [Row; 5] = [
 /// Sessions whose link or output fails. The program runs on where the link fails, unless a command has killed it.
 ///
 /// The numbers of the calls of the source, of the link's sink and of the output that fail are 0 for none.
-const FAULTS: [((u64, u64, u64), Row); 6] = [
+const FAULTS: [((u64, u64, u64), Row); 7] = [
     (
         (1, 0, 0),
         (
@@ -415,6 +415,20 @@ const FAULTS: [((u64, u64, u64), Row); 6] = [
                 "164 <response@ command='step_into' transaction_id='1' status='break' reason='ok'></response>",
             ],
             "7",
+            (ServeEnd::WriteFault, Some(Outcome::Done)),
+        ),
+    ),
+    (
+        (0, 4, 0),
+        (
+            "the link ends at a step in which the program writes",
+            (CALL, 99),
+            b"step_over -i 1\0step_over -i 2\0step_over -i 3\0stop -i 4\0",
+            &[
+                "164 <response@ command='step_over' transaction_id='1' status='break' reason='ok'></response>",
+                "164 <response@ command='step_over' transaction_id='2' status='break' reason='ok'></response>",
+            ],
+            "1234",
             (ServeEnd::WriteFault, Some(Outcome::Done)),
         ),
     ),

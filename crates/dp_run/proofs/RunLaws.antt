@@ -5,7 +5,7 @@ use Rattle.std.specs.Prelude.{IfOk, IfErr, MatchResult}
 use Rattle.std.specs.List.{IsDistinct}
 use Rattle.std.specs.Str.{bytes_eq}
 use Rattle.std.specs.Io.KnownBytes.{Appends}
-use Rattle.std.proofs.lemmas.List.{length-map, length-take, get_or-map, map-append, take_all, take_more}
+use Rattle.std.proofs.lemmas.List.{length-map, length-take, get_or-map, map-append, take-map, take_all, take_more}
 use Rattle.std.proofs.lemmas.List.Elements.{All-push}
 use Rattle.dp_outside.specs.Changes.{Change, IsUntouched}
 use Rattle.dp_outside.specs.Files.{Fetches, Lacks}
@@ -20,7 +20,7 @@ use Rattle.dp_meaning.specs.Trace.{outcome_of, plain}
 use Rattle.dp_meaning.proofs.Exits.{exit_small}
 use Rattle.dp_run.specs.declared.error.RunError.{RunError}
 use Rattle.dp_run.specs.declared.error.RunError.TheVariants as run
-use Rattle.dp_run.specs.Runs.{AreFetched, AreNames, Ends, FetchCaused, FetchingCaused, Files, Holds, IsHeld, IsMade, IsNext, IsPlainPut, IsPlainUnput, IsRefused, Make, NoProgram, RunCaused, Runs, file_limit, is_bad_file, judged, refusal}
+use Rattle.dp_run.specs.Runs.{AreFetched, AreNames, Comes, Ends, FetchCaused, FetchingCaused, Files, Holds, IsHeld, IsMade, IsNext, IsPlainPut, IsPlainUnput, IsRefused, Make, NoProgram, RunCaused, Runs, file_limit, is_bad_file, judged, refusal}
 
 -- ---- what is fetched, one file after another
 
@@ -44,16 +44,16 @@ fetched_count files names fetched are = sym (length-map fetched (λ (f : Given).
 
 -- why one file was not fetched is why the files were not
 pub not_fetched : (why : RunError) (number : ℕ) (name : List ℕ) (files : Files) (first before after : ℕ) (names : List (List ℕ)) → FetchCaused why number name files before after
-    → first ≤ before → number < length names → get_or names number [] ≡ name → FetchingCaused why names files first after
-not_fetched (run.ShelfFailed file) number name files first before after names h later below at = (omega (arith, h.0, below), omega (arith, h.1, later))
-not_fetched (run.NoFile file) number name files first before after names h later below at =
-    (omega (arith, h.0, below), subst (Lacks files) (sym (ap (λ n. get_or names n []) h.0 ∙ at)) h.1)
-not_fetched run.Memory number name files first before after names h later below at = tt
-not_fetched (run.TooLong file) number name files first before after names h later below at = absurd h
-not_fetched (run.Source file why) number name files first before after names h later below at = absurd h
-not_fetched (run.Fatal kind file line) number name files first before after names h later below at = absurd h
-not_fetched run.Bound number name files first before after names h later below at = absurd h
-not_fetched run.OutFault number name files first before after names h later below at = absurd h
+    → first ≤ before → Comes files names number → get_or names number [] ≡ name → FetchingCaused why names files first after
+not_fetched (run.ShelfFailed file) number name files first before after names h later comes at = (subst (Comes files names) (sym h.0) comes, omega (arith, h.1, later))
+not_fetched (run.NoFile file) number name files first before after names h later comes at =
+    (subst (Comes files names) (sym h.0) comes, subst (Lacks files) (sym (ap (λ n. get_or names n []) h.0 ∙ at)) h.1)
+not_fetched run.Memory number name files first before after names h later comes at = tt
+not_fetched (run.TooLong file) number name files first before after names h later comes at = absurd h
+not_fetched (run.Source file why) number name files first before after names h later comes at = absurd h
+not_fetched (run.Fatal kind file line) number name files first before after names h later comes at = absurd h
+not_fetched run.Bound number name files first before after names h later comes at = absurd h
+not_fetched run.OutFault number name files first before after names h later comes at = absurd h
 
 -- files that are fetched under a program's names are for a bundle
 pub for_bundle : (files : Files) (names : List (List ℕ)) (fetched : List Given) → AreNames names → AreFetched files names fetched → AreForBundle fetched
@@ -85,11 +85,18 @@ module _ (files : Files) (names : List (String Global)) (i : ℕ) (fetched : Lis
       ∙ ap (λ (s : String Global). map string_bytes (take i names) ++ string_bytes s ∷ []) (sym is) in
       subst (λ (l : List (List ℕ)). AreFetched files l after) (sym path) (fetched_next files (map string_bytes (take i names)) (string_bytes item) fetched after are next)
 
+  comes : Comes files (map string_bytes names) i
+  comes = record {
+    below = omega (arith, more, length-map names string_bytes);
+    before = fetched;
+    are = subst (λ (l : List (List ℕ)). AreFetched files l fetched) (sym (take-map string_bytes i names)) are;
+  }
+
   pub none_more : (why : RunError) (item : String Global) (first before after : ℕ) → item ≡ get_or names i item → first ≤ before
       → FetchCaused why (length fetched) (string_bytes item) files before after → FetchingCaused why (map string_bytes names) files first after
   none_more why item first before after is later h =
       not_fetched why i (string_bytes item) files first before after (map string_bytes names)
-      (subst (λ n. FetchCaused why n (string_bytes item) files before after) so_many h) later (omega (arith, more, length-map names string_bytes))
+      (subst (λ n. FetchCaused why n (string_bytes item) files before after) so_many h) later comes
       (get_or-map string_bytes names i item [] more ∙ ap string_bytes (sym is))
 
 pub all_fetched : (files : Files) (names : List (String Global)) (i : ℕ) (fetched : List Given) → AreFetched files (map string_bytes (take i names)) fetched → length names ≤ i
@@ -176,7 +183,7 @@ module _ (files : Files) (before after : ℕ) (names : List (List ℕ)) (bound :
   none_run (run.NoFile file) h stays = (h.0, h.1, stays)
   none_run (run.TooLong file) h stays = (h, stays)
   none_run (run.Source file why) h stays = (h, stays)
-  none_run run.Memory h stays = tt
+  none_run run.Memory h stays = stays
   none_run (run.Fatal kind file line) h stays = absurd h
   none_run run.Bound h stays = absurd h
   none_run run.OutFault h stays = absurd h
@@ -199,7 +206,7 @@ module _ (files : Files) (before after : ℕ) (names : List (List ℕ)) (bound :
 
     -- one whose end is a failure, or whose output failed
     unput_run : (why : RunError) → IsPlainUnput why program bound out → RunCaused why files before after names bound out
-    unput_run why (inl e) = subst (λ (w : RunError). RunCaused w files before after names bound out) (sym e) tt
+    unput_run why (inl e) = subst (λ (w : RunError). RunCaused w files before after names bound out) (sym e.0) e.1
     unput_run why (inr (inl h)) = by_end why _ (ended _ refl h.0) h.1
     unput_run why (inr (inr h)) =
         subst (λ (w : RunError). RunCaused w files before after names bound out) (sym h.0) (record { program = program; made = made; wrote = h.1 }, h.2)
@@ -225,7 +232,7 @@ small_status program bound out (Err why) h = tt
 
 -- what fails once there is a program tells of no bad file
 pub unput_good : (why : RunError) (program : Bundle) (bound : ℕ) (out : Change) → IsPlainUnput why program bound out → is_bad_file why ≡ false
-unput_good why program bound out (inl e) = ap is_bad_file e
+unput_good why program bound out (inl e) = ap is_bad_file e.0
 unput_good why program bound out (inr (inr h)) = ap is_bad_file h.0
 unput_good why program bound out (inr (inl h)) = by (outcome_of (plain program bound).end) h.1 where
   by : (outcome : Outcome) → judged outcome ≡ Err why → is_bad_file why ≡ false
@@ -309,7 +316,7 @@ held_fetched files names fetched before after asked result are only held =
 pub held_unfetched : (A : Type 0) (files : Files) (names : List (List ℕ)) (before after : ℕ) (asked : Result Bundle BundleError) (why : RunError)
     → FetchingCaused why names files before after → Holds files names asked → IsHeld {A = A} asked (Err why) before after
 held_unfetched A files names before after (Ok program) (run.ShelfFailed file) h held = refl
-held_unfetched A files names before after (Ok program) (run.NoFile file) h held = absurd (held_not_lacked files names _ file held h.0 h.1)
+held_unfetched A files names before after (Ok program) (run.NoFile file) h held = absurd (held_not_lacked files names _ file held h.0.below h.1)
 held_unfetched A files names before after (Ok program) run.Memory h held = refl
 held_unfetched A files names before after (Ok program) (run.TooLong file) h held = absurd h
 held_unfetched A files names before after (Ok program) (run.Source file why) h held = absurd h
@@ -317,7 +324,7 @@ held_unfetched A files names before after (Ok program) (run.Fatal kind file line
 held_unfetched A files names before after (Ok program) run.Bound h held = absurd h
 held_unfetched A files names before after (Ok program) run.OutFault h held = absurd h
 held_unfetched A files names before after (Err e) (run.ShelfFailed file) h held = inr (inr h.1)
-held_unfetched A files names before after (Err e) (run.NoFile file) h held = absurd (held_not_lacked files names _ file held h.0 h.1)
+held_unfetched A files names before after (Err e) (run.NoFile file) h held = absurd (held_not_lacked files names _ file held h.0.below h.1)
 held_unfetched A files names before after (Err e) run.Memory h held = inr (inl refl)
 held_unfetched A files names before after (Err e) (run.TooLong file) h held = absurd h
 held_unfetched A files names before after (Err e) (run.Source file why) h held = absurd h

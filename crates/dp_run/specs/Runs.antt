@@ -1,5 +1,5 @@
 -- The run of a program whose files lie on a shelf: what it does, and why it fails.
-use Rattle.std.specs.Prelude.{◌≡◌, ◌⊎◌, ℕ, ◌<◌, ◌≤◌, Bool, true, false, List, [], ◌∷◌, ◌++◌, length, map, All, get_or, Option, Result, Ok, Err, IsSome, IfErr, MatchResult, ⊤}
+use Rattle.std.specs.Prelude.{◌≡◌, ◌⊎◌, ℕ, ◌<◌, ◌≤◌, Bool, true, false, List, [], ◌∷◌, ◌++◌, length, map, take, All, get_or, Option, Result, Ok, Err, IsSome, IfErr, MatchResult, ⊤}
 use Rattle.std.specs.List.{IsDistinct}
 use Rattle.std.specs.Str.{bytes_eq}
 use Rattle.std.specs.Io.KnownBytes.{Appends}
@@ -50,10 +50,16 @@ pub record Holds (files : Files) (names : List (List ℕ)) (made : Result Bundle
   pub tells : IsSome files
   pub make : Make files names made
 
+-- the files before that of this number were fetched, and it came next
+pub record Comes (files : Files) (names : List (List ℕ)) (file : ℕ) : Type 0 where
+  pub below : file < length names
+  pub before : List Given
+  pub are : AreFetched files (take file names) before
+
 -- why the files of these names were not fetched, or make no program
 abbrev pub NoProgram : RunError → Files → ℕ → ℕ → List (List ℕ) → Type 0
-NoProgram (ShelfFailed file) files before after names = (file < length names) × Rose before after
-NoProgram (NoFile file) files before after names = (file < length names) × Lacks files (get_or names file [])
+NoProgram (ShelfFailed file) files before after names = Comes files names file × Rose before after
+NoProgram (NoFile file) files before after names = Comes files names file × Lacks files (get_or names file [])
 NoProgram (TooLong file) files before after names = Make files names (Err (unmade.TooLong file))
 NoProgram (Source file why) files before after names = Make files names (Err (unmade.Source file why))
 NoProgram Memory files before after names = ⊤
@@ -89,14 +95,14 @@ pub record Runs (status : ℕ) (files : Files) (names : List (List ℕ)) (bound 
 
 -- why the run failed
 abbrev pub RunCaused : RunError → Files → ℕ → ℕ → List (List ℕ) → ℕ → Change → Type 0
-RunCaused (ShelfFailed file) files before after names bound out = (file < length names) × Rose before after × IsUntouched out
-RunCaused (NoFile file) files before after names bound out = (file < length names) × Lacks files (get_or names file []) × IsUntouched out
+RunCaused (ShelfFailed file) files before after names bound out = Comes files names file × Rose before after × IsUntouched out
+RunCaused (NoFile file) files before after names bound out = Comes files names file × Lacks files (get_or names file []) × IsUntouched out
 RunCaused (TooLong file) files before after names bound out = Make files names (Err (unmade.TooLong file)) × IsUntouched out
 RunCaused (Source file why) files before after names bound out = Make files names (Err (unmade.Source file why)) × IsUntouched out
 RunCaused (Fatal kind file line) files before after names bound out = Ends (way.Fatal kind file line) files names bound out
 RunCaused Bound files before after names bound out = Ends way.Bound files names bound out
 RunCaused OutFault files before after names bound out = IsCut files names bound out × Rose out.faults_before out.faults
-RunCaused Memory files before after names bound out = ⊤
+RunCaused Memory files before after names bound out = IsUntouched out
 
 -- ---- completeness
 
@@ -139,8 +145,8 @@ FetchCaused why number name files before after = ⊥
 
 -- why files were not fetched: one of them was not
 abbrev pub FetchingCaused : RunError → List (List ℕ) → Files → ℕ → ℕ → Type 0
-FetchingCaused (ShelfFailed file) names files before after = (file < length names) × Rose before after
-FetchingCaused (NoFile file) names files before after = (file < length names) × Lacks files (get_or names file [])
+FetchingCaused (ShelfFailed file) names files before after = Comes files names file × Rose before after
+FetchingCaused (NoFile file) names files before after = Comes files names file × Lacks files (get_or names file [])
 FetchingCaused Memory names files before after = ⊤
 FetchingCaused why names files before after = ⊥
 
@@ -168,4 +174,4 @@ abbrev pub IsPlainPut : ℕ → Bundle → ℕ → Change → Type 0
 IsPlainPut status program bound out = IsPut status (outcome_of (plain program bound).end) (plain program bound).state.output out
 
 abbrev pub IsPlainUnput : RunError → Bundle → ℕ → Change → Type 0
-IsPlainUnput why program bound out = (why ≡ Memory) ⊎ IsUnput why (outcome_of (plain program bound).end) (plain program bound).state.output out
+IsPlainUnput why program bound out = ((why ≡ Memory) × IsUntouched out) ⊎ IsUnput why (outcome_of (plain program bound).end) (plain program bound).state.output out

@@ -8,9 +8,10 @@ use Rattle.dp_wire.proofs.SplitLaws.{no_frame_begins, one_split_lem, commands_sp
 use Rattle.dp_serving.specs.declared.conversing.Over.{Over}
 use Rattle.dp_serving.specs.declared.conversing.Over.TheVariants.{Ended, LinkEnd, ReadFault, BadCommandFrame, ByteLimit}
 use Rattle.dp_serving.specs.Exchanges.{Stands, Converses}
-use Rattle.dp_serving.specs.Folds.{Reply, quiet, unless_ended, followed, replies}
+use Rattle.dp_serving.specs.Folds.{Reply, replies}
 use Rattle.dp_serving.specs.Growth.{served}
 use Rattle.dp_serving.specs.Serving.{EndsBy, IsServed}
+use Rattle.dp_serving.proofs.ServingLaws.{followed_over, replies_append, stands_all}
 
 abbrev NoMore : List ℕ → Type 0
 NoMore held = (text more : List ℕ) → IsCommand text → held ≡ command_frame text ++ more → ⊥
@@ -39,42 +40,37 @@ no_more ReadFault ended held read source h = inr (h.0, no_more_partial held h.1)
 no_more (BadCommandFrame offset) ended held read source h = inr (h.0, no_more_refused held h.1)
 no_more ByteLimit ended held read source h = inr (h.0, no_more_partial held h.1)
 
-module _ {S E : Type 0} (step : S → List ℕ → Reply S E) (start : S) (read held : List ℕ) (so_far : Reply S E) (stands : Stands step start read held so_far) where
-  all_read : served step start read ≡ followed so_far (replies step so_far.state (commands_in held))
-  all_read =
-      ap (λ l. replies step start (commands_in l)) (sym (append-nil read)) ∙ stands.later []
-      ∙ ap (λ l. followed so_far (replies step so_far.state (commands_in l))) (append-nil held)
-
-  over_ended : (end : E) → so_far.ended ≡ Some end → served step start read ≡ so_far
-  over_ended end e = all_read ∙ ap (λ (o : Option E). unless_ended o so_far (replies step so_far.state (commands_in held))) e
+module _ {S E : Type 0} (step : S → List ℕ → Reply S E) (start : S) (read held : List ℕ) (taken : List (List ℕ)) (stands : Stands read held taken) where
+  over_ended : (end : E) → (replies step start taken).ended ≡ Some end → served step start read ≡ replies step start taken
+  over_ended end e =
+      ap (replies step start) (stands_all read held taken stands) ∙ replies_append step start taken (commands_in held)
+      ∙ followed_over (replies step start taken) (replies step (replies step start taken).state (commands_in held)) end e
 
   no_commands : NoMore held → commands_in held ≡ []
   no_commands none =
       (one_split_lem held (commands_in held) [] (rest_of held) held (commands_split held)
       (record { whole = refl; each = tt; no_more = none })).0
 
-  over_left : so_far.ended ≡ None → NoMore held → served step start read ≡ so_far
-  over_left e none =
-      all_read ∙ ap (λ l. followed so_far (replies step so_far.state l)) (no_commands none)
-      ∙ ap (λ (o : Option E). unless_ended o so_far (quiet so_far.state)) e
-      ∙ (λ i. record { packets = append-nil so_far.packets i; program = append-nil so_far.program i; state = so_far.state; ended = sym e i })
+  over_left : NoMore held → served step start read ≡ replies step start taken
+  over_left none =
+      ap (replies step start) (stands_all read held taken stands ∙ ap (λ l. taken ++ l) (no_commands none) ∙ append-nil taken)
 
-  over_cases : IsOver so_far.ended held → served step start read ≡ so_far
+  over_cases : IsOver (replies step start taken).ended held → served step start read ≡ replies step start taken
   over_cases (inl h) = over_ended h.0 h.1
-  over_cases (inr h) = over_left h.0 h.1
+  over_cases (inr h) = over_left h.1
 
   -- what is held is what follows the whole commands, where no command has ended the session
   rest_is : NoMore held → held ≡ rest_of read
   rest_is none =
-      (one_split_lem read stands.lines (commands_in read) held (rest_of read) (record { whole = stands.whole; each = stands.each; no_more = none }) (commands_split read)).1
+      (one_split_lem read taken (commands_in read) held (rest_of read) (record { whole = stands.whole; each = stands.each; no_more = none }) (commands_split read)).1
 
   abbrev LeftOver : Option E → Type 0
   LeftOver ended = (ended ≡ None) × IsPartialCommand (rest_of read)
 
-  left_over : (ended : Option E) → so_far.ended ≡ ended → so_far.ended ≡ None → IsPartialCommand held → LeftOver ended
+  left_over : (ended : Option E) → (replies step start taken).ended ≡ ended → (replies step start taken).ended ≡ None → IsPartialCommand held → LeftOver ended
   left_over ended same none partial = (sym same ∙ none, subst IsPartialCommand (rest_is (no_more_partial held partial)) partial)
 
-  ends_over_all : (over : Over E) (source : Change) (ended : Option E) → so_far.ended ≡ ended → EndsBy over so_far.ended held read source → EndsBy over ended (rest_of read) read source
+  ends_over_all : (over : Over E) (source : Change) (ended : Option E) → (replies step start taken).ended ≡ ended → EndsBy over (replies step start taken).ended held read source → EndsBy over ended (rest_of read) read source
   ends_over_all (Ended end) source ended same h = sym same ∙ h
   ends_over_all LinkEnd source ended same h = let left = left_over ended same h.0 h.1 in (left.0, left.1, h.2)
   ends_over_all ReadFault source ended same h = let left = left_over ended same h.0 h.1 in (left.0, left.1, h.2)
@@ -88,13 +84,13 @@ pub is_served : {S E : Type 0} (step : S → List ℕ → Reply S E) (start stat
     → Converses step start state init over source sink out → IsServed step start state init over source sink out
 is_served {S} {E} step start state init over source sink out c =
     let talk = c.talk in
-    let all : served step start c.read ≡ talk.so_far =
-    over_cases step start c.read c.held talk.so_far talk.stands (no_more over talk.so_far.ended c.held c.read source c.ends) in
+    let all : served step start c.read ≡ replies step start talk.taken =
+    over_cases step start c.read c.held talk.taken talk.stands (no_more over (replies step start talk.taken).ended c.held c.read source c.ends) in
     record {
       read = c.read;
       consumed = talk.consumed;
       sent = subst (λ (r : Reply S E). Appends sink.told_before sink.told (packet_frame init ++ flat_map packet_frame r.packets)) (sym all) talk.sent;
       printed = subst (λ (r : Reply S E). Appends out.told_before out.told r.program) (sym all) talk.printed;
       is_state = ap (λ (r : Reply S E). r.state) all ∙ talk.is_state;
-      ends = ends_over_all step start c.read c.held talk.so_far talk.stands over source (served step start c.read).ended (ap (λ (r : Reply S E). r.ended) (sym all)) c.ends;
+      ends = ends_over_all step start c.read c.held talk.taken talk.stands over source (served step start c.read).ended (ap (λ (r : Reply S E). r.ended) (sym all)) c.ends;
     }

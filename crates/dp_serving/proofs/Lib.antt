@@ -1,3 +1,5 @@
+pub mod FrontLaws
 pub mod ServingLaws
+pub mod CutLaws
 pub mod EndLaws
 pub mod GrowthLaws

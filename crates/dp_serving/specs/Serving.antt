@@ -4,12 +4,13 @@ use Rattle.std.specs.List.{flat_map}
 use Rattle.std.specs.Io.KnownBytes.{Appends, Consumes, IsAtEnd}
 use Rattle.dp_outside.specs.Causes.{Rose}
 use Rattle.dp_outside.specs.Changes.{Change}
-use Rattle.dp_wire.specs.Frames.{packet_frame, rest_of, IsPartialCommand, BeginsNoCommand}
+use Rattle.dp_outside.specs.Streams.{AppendsFront}
+use Rattle.dp_wire.specs.Frames.{commands_in, packet_frame, rest_of, IsPartialCommand, BeginsNoCommand}
 use Rattle.dp_serving.specs.declared.conversing.Fault.{Fault}
 use Rattle.dp_serving.specs.declared.conversing.Fault.TheVariants.{Write, Out, Memory}
 use Rattle.dp_serving.specs.declared.conversing.Over.{Over}
 use Rattle.dp_serving.specs.declared.conversing.Over.TheVariants.{Ended, LinkEnd, ReadFault, BadCommandFrame, ByteLimit}
-use Rattle.dp_serving.specs.Folds.{Reply}
+use Rattle.dp_serving.specs.Folds.{Reply, replies}
 use Rattle.dp_serving.specs.Growth.{served}
 
 -- the most bytes that one session reads
@@ -25,18 +26,6 @@ EndsBy ReadFault ended rest read source = (ended ≡ None) × IsPartialCommand r
 EndsBy (BadCommandFrame offset) ended rest read source = (ended ≡ None) × BeginsNoCommand rest × (offset + length rest ≡ length read)
 EndsBy ByteLimit ended rest read source = (ended ≡ None) × IsPartialCommand rest × (length read ≡ byte_limit)
 
--- why a fault cut a session short
-abbrev pub IsCause : {E : Type 0} → Fault E → Change → Change → Type 0
-IsCause (Write ended) sink out = Rose sink.faults_before sink.faults
-IsCause Out sink out = Rose out.faults_before out.faults
-IsCause Memory sink out = Unit {0}
-
--- why the first packet was not sent
-abbrev pub OpenFault : {E : Type 0} → Fault E → ℕ → ℕ → Type 0
-OpenFault (Write ended) before now = Rose before now
-OpenFault Out before now = ⊥
-OpenFault Memory before now = Unit {0}
-
 -- Read from the source, written on the link and to the program's own output is what the first packet and the commands
 -- among the bytes read lead to.
 pub record IsServed {S E : Type 0} (step : S → List ℕ → Reply S E) (start state : S) (init : List ℕ) (over : Over E) (source sink out : Change) : Type 0 where
@@ -46,3 +35,22 @@ pub record IsServed {S E : Type 0} (step : S → List ℕ → Reply S E) (start 
   pub printed : Appends out.told_before out.told (served step start read).program
   pub is_state : (served step start read).state ≡ state
   pub ends : EndsBy over (served step start read).ended (rest_of read) read source
+
+-- What a fault leaves of the reply to the commands taken. Where a put on the link failed, the program's own output has
+-- the whole of it, and it is known how the last of these commands ended the session; else that output has a front of it.
+abbrev pub CutBy : {S E : Type 0} → Fault E → Reply S E → Change → Change → Type 0
+CutBy (Write ended) reply sink out = Rose sink.faults_before sink.faults × (ended ≡ reply.ended) × Appends out.told_before out.told reply.program
+CutBy Out reply sink out = Rose out.faults_before out.faults × AppendsFront out.told_before out.told reply.program
+CutBy Memory reply sink out = AppendsFront out.told_before out.told reply.program
+
+-- A fault cut the session short. Of the commands among the bytes read it has taken the first ones. The link has taken a
+-- front of what these lead to, the first packet included.
+pub record IsCut {S E : Type 0} (step : S → List ℕ → Reply S E) (start state : S) (init : List ℕ) (fault : Fault E) (source sink out : Change) : Type 0 where
+  pub read : List ℕ
+  pub consumed : Consumes source.told_before source.told read
+  pub taken : List (List ℕ)
+  pub later : List (List ℕ)
+  pub first : commands_in read ≡ taken ++ later
+  pub sent : AppendsFront sink.told_before sink.told (packet_frame init ++ flat_map packet_frame (replies step start taken).packets)
+  pub is_state : (replies step start taken).state ≡ state
+  pub by : CutBy fault (replies step start taken) sink out

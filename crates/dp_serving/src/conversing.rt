@@ -1,10 +1,11 @@
 //! A session over a link, from its first packet to its end.
-ghost use Rattle.std.specs.Prelude.{◌≡◌, ◌<◌, ◌≤◌, length, OnOk, IfOk, IfErr, IsErrOf};
+ghost use Rattle.std.specs.Prelude.{◌≡◌, ◌<◌, ◌≤◌, [], ◌∷◌, ℕ, List, length, OnOk, OnErr, IfOk, IfErr, IsErrOf};
 ghost use Rattle.dp_outside.specs.Changes.{change};
-ghost use Rattle.std.specs.Io.KnownBytes.{Appends};
-ghost use Rattle.dp_wire.specs.Frames.{IsCommand, IsPacketText, packet_frame};
-ghost use Rattle.dp_serving.specs.Exchanges.{Delivers, AnswersHeld, ReadsPiece};
-ghost use Rattle.dp_serving.specs.Serving.{IsServed, IsCause, OpenFault};
+ghost use Rattle.dp_outside.specs.Streams.{PutAppends};
+ghost use Rattle.std.specs.Io.KnownBytes.{Consumes};
+ghost use Rattle.dp_wire.specs.Frames.{IsCommand, IsPacketText, commands_in, packet_frame};
+ghost use Rattle.dp_serving.specs.Exchanges.{Delivers, AnswersHeld, CutsShort, OpenFault, ReadsPiece};
+ghost use Rattle.dp_serving.specs.Serving.{IsServed, IsCut};
 
 use crate::responder::{Answer, Responder};
 use crate::sending::{Unsent, put_some, send, send_all};
@@ -78,7 +79,8 @@ enum Piece {
     Failed,
 }
 
-/// Answers one command: prints what the program wrote, then sends the packets.
+/// Answers one command: prints what the program wrote, then sends the packets. On want of memory it may have been answered
+/// or not.
 fn answer_one<A: Responder, K: Sink, E: Sink>(
     alloc: Global,
     session: &mut A,
@@ -91,7 +93,7 @@ fn answer_one<A: Responder, K: Sink, E: Sink>(
     ensures ended { IfOk result (λ ended. ended ≡ (A.step session.old line.now).ended) }
     ensures delivers { OnOk result (Delivers (A.step session.old line.now)
         (change K.taken K.faults sink.old sink.new) (change E.taken E.faults out.old out.new)) }
-    ensures cut { IfErr result (λ fault. IsCause fault
+    ensures cut { IfErr result (λ fault. CutsShort A.step session.old session.new (line.now ∷ []) fault
         (change K.taken K.faults sink.old sink.new) (change E.taken E.faults out.old out.new)) }
     ensures sink_later { K.faults sink.old ≤ K.faults sink.new }
     ensures out_later { E.faults out.old ≤ E.faults out.new }
@@ -121,7 +123,7 @@ fn answer_held<A: Responder, K: Sink, E: Sink>(
 ) -> Result<Held<A::End>, Fault<A::End>>
     ensures ok { IfOk result (λ held. AnswersHeld A.step session.old session.new commands.old commands.new held
         (change K.taken K.faults sink.old sink.new) (change E.taken E.faults out.old out.new)) }
-    ensures cut { IfErr result (λ fault. IsCause fault
+    ensures cut { IfErr result (λ fault. CutsShort A.step session.old session.new (commands_in commands.old) fault
         (change K.taken K.faults sink.old sink.new) (change E.taken E.faults out.old out.new)) }
     ensures sink_later { K.faults sink.old ≤ K.faults sink.new }
     ensures out_later { E.faults out.old ≤ E.faults out.new }
@@ -140,7 +142,7 @@ fn answer_held<A: Responder, K: Sink, E: Sink>(
     }
 }
 
-/// Reads one piece, which follows what is held.
+/// Reads one piece, which follows what is held. On want of memory it was read and is not held.
 fn read_piece<S: Source>(
     source: &mut S,
     commands: &mut Commands,
@@ -149,6 +151,7 @@ fn read_piece<S: Source>(
     requires { 0 < length buffer.old }
     ensures ok { IfOk result (λ piece. ReadsPiece piece (length buffer.old)
         (change S.left S.faults source.old source.new) commands.old commands.new) }
+    ensures err { OnErr result ((piece : List ℕ) × Consumes (S.left source.old) (S.left source.new) piece) }
     ensures later { S.faults source.old ≤ S.faults source.new }
 {
     match source.take(buffer) {
@@ -161,11 +164,11 @@ fn read_piece<S: Source>(
     }
 }
 
-/// Sends the first packet.
+/// Sends the first packet. Where that fails, a front of it was taken.
 fn open<T: Drop, K: Sink>(alloc: Global, init: &[u8], sink: &mut K) -> Result<(), Fault<T>>
     requires { IsPacketText init.now }
-    ensures ok { OnOk result (Appends (K.taken sink.old) (K.taken sink.new) (packet_frame init.now)) }
-    ensures write { IfErr result (λ fault. OpenFault fault (K.faults sink.old) (K.faults sink.new)) }
+    ensures taken { PutAppends (K.taken sink.old) (K.taken sink.new) result (packet_frame init.now) }
+    ensures cause { IfErr result (λ fault. OpenFault fault (change K.taken K.faults sink.old sink.new)) }
     ensures later { K.faults sink.old ≤ K.faults sink.new }
 {
     match send(alloc, init, sink) {
@@ -189,8 +192,9 @@ pub fn converse<A: Responder, S: Source, K: Sink, E: Sink>(
     ensures ok { IfOk result (λ over. IsServed A.step session.old session.new init.now over
         (change S.left S.faults source.old source.new) (change K.taken K.faults sink.old sink.new)
         (change E.taken E.faults out.old out.new)) }
-    ensures cut { IfErr result (λ fault. IsCause fault
-        (change K.taken K.faults sink.old sink.new) (change E.taken E.faults out.old out.new)) }
+    ensures cut { IfErr result (λ fault. IsCut A.step session.old session.new init.now fault
+        (change S.left S.faults source.old source.new) (change K.taken K.faults sink.old sink.new)
+        (change E.taken E.faults out.old out.new)) }
     ensures source_later { S.faults source.old ≤ S.faults source.new }
     ensures sink_later { K.faults sink.old ≤ K.faults sink.new }
     ensures out_later { E.faults out.old ≤ E.faults out.new }

@@ -1,8 +1,8 @@
 //! Putting bytes and packets.
-ghost use Rattle.std.specs.Prelude.{◌≡◌, ◌≤◌, OnOk, IsErrOf};
+ghost use Rattle.std.specs.Prelude.{◌≡◌, ◌≤◌, IsErrOf};
 ghost use Rattle.std.specs.List.{flat_map, AllByRecursion};
-ghost use Rattle.std.specs.Io.KnownBytes.{Appends};
 ghost use Rattle.dp_outside.specs.Causes.{HasCause, Rose};
+ghost use Rattle.dp_outside.specs.Streams.{PutAppends};
 ghost use Rattle.dp_wire.specs.Frames.{IsPacketText, packet_frame};
 
 use dp_outside::{Failed, Sink};
@@ -30,9 +30,9 @@ impl From<AllocError> for Unsent {
     }
 }
 
-/// Puts the bytes, if there are any.
+/// Puts the bytes, if there are any, or answers `Failed` after a front of them was taken.
 pub fn put_some<E: Sink>(out: &mut E, bytes: &[u8]) -> Result<(), Failed>
-    ensures ok { OnOk result (Appends (E.taken out.old) (E.taken out.new) bytes.now) }
+    ensures taken { PutAppends (E.taken out.old) (E.taken out.new) result bytes.now }
     ensures cause { HasCause (E.faults out.old) (E.faults out.new) result }
 {
     if bytes.is_empty() {
@@ -41,10 +41,10 @@ pub fn put_some<E: Sink>(out: &mut E, bytes: &[u8]) -> Result<(), Failed>
     out.put(bytes)
 }
 
-/// Sends the packets of these texts.
+/// Sends the packets of these texts. Where that fails, a front of them was taken.
 pub fn send_all<K: Sink>(alloc: Global, texts: &[Bytes], sink: &mut K) -> Result<(), Unsent>
     requires { AllByRecursion IsPacketText texts.now }
-    ensures ok { OnOk result (Appends (K.taken sink.old) (K.taken sink.new) (flat_map packet_frame texts.now)) }
+    ensures taken { PutAppends (K.taken sink.old) (K.taken sink.new) result (flat_map packet_frame texts.now) }
     ensures write { IsErrOf result Unsent.Failed → Rose (K.faults sink.old) (K.faults sink.new) }
     ensures later { K.faults sink.old ≤ K.faults sink.new }
 {
@@ -54,10 +54,10 @@ pub fn send_all<K: Sink>(alloc: Global, texts: &[Bytes], sink: &mut K) -> Result
     Ok(())
 }
 
-/// Sends the packet of this text.
+/// Sends the packet of this text. Where that fails, a front of it was taken.
 pub fn send<K: Sink>(alloc: Global, text: &[u8], sink: &mut K) -> Result<(), Unsent>
     requires { IsPacketText text.now }
-    ensures ok { OnOk result (Appends (K.taken sink.old) (K.taken sink.new) (packet_frame text.now)) }
+    ensures taken { PutAppends (K.taken sink.old) (K.taken sink.new) result (packet_frame text.now) }
     ensures write { IsErrOf result Unsent.Failed → Rose (K.faults sink.old) (K.faults sink.new) }
     ensures later { K.faults sink.old ≤ K.faults sink.new }
 {

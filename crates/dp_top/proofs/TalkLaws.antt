@@ -117,12 +117,12 @@ module _ (files : Files) (before after : ℕ) (key : List ℕ) (ask : Ask) (inpu
       → MatchResult result (λ status. ServedSo status program key ask input out err) (λ why. UnservedSo why.failure why.name.now program key ask input out err)
       → MatchResult result (λ status. Talks status files key ask input out err) (λ why. TalkFails why.failure why.name.now files before after key ask input out err)
   program_served program made (Ok status) h = record { served = h.served; is = record { program = program; made = made; serves = h.serves }; told = h.told }
-  program_served program made (Err why) (inl memory) = inl memory
+  program_served program made (Err why) (inl memory) = inl (memory.0, inl memory.1)
   program_served program made (Err why) (inr h) = inr (inr (record { served = h.served; is = record { program = program; made = made; serves = h.serves }; told = h.told }))
 
   pub none_served : (refused : Refused) (why : RunError) → NoProgram why files before after ask.names → IsRunTold refused.failure refused.name.now ask why
       → IsUntouched input → IsUntouched out → IsUntouched err → TalkFails refused.failure refused.name.now files before after key ask input out err
-  none_served refused why caused told i o e = inr (inl (record { cause = why; caused = caused; told = told; input_stays = i; out_stays = o; err_stays = e }))
+  none_served refused why caused told i o e = inr (inl (record { cause = why; caused = caused; told = told; idle = record { input_stays = i; out_stays = o; err_stays = e } }))
 
 pub held_served : (asked : Result Bundle BundleError) (program : Bundle) (result : Result ℕ Refused) (before after : ℕ) → IsRunHeld {A = Bundle} asked (Ok program) before after
     → ((made : Bundle) (b a : ℕ) → IsHeld (Ok made) result b a) → IsHeld asked result before after

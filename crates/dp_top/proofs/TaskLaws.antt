@@ -12,7 +12,7 @@ use Rattle.dp_bundle.specs.declared.bundle.Bundle.{Bundle}
 use Rattle.dp_bundle.specs.declared.errors.BundleError.{BundleError}
 use Rattle.dp_engine.specs.declared.serving.ServeEnd.{ServeEnd}
 use Rattle.dp_engine.specs.declared.serving.ServeEnd.TheVariants as serve
-use Rattle.dp_engine.specs.Serving.{EndsBy, ServesTo}
+use Rattle.dp_engine.specs.Serving.{CutBy, EndsBy, IsCut, ServesTo}
 use Rattle.dp_engine.specs.declared.session.SessionEnd.{SessionEnd}
 use Rattle.dp_run.specs.declared.error.RunError.{RunError}
 use Rattle.dp_run.specs.declared.error.RunError.TheVariants as end
@@ -96,11 +96,18 @@ memory_name (run ask) name = []
 memory_name (talk key ask) name = name
 memory_name show name = name
 
+-- want of memory once a session was served, or there was none
+talk_starved : (failed : Failure) (name : List ℕ) (files : Files) (before after : ℕ) (key : List ℕ) (ask : Ask) (input out err : Change) → TalkFails failed name files before after key ask input out err
+    → TalkFails failure.Memory name files before after key ask input out err
+talk_starved failed name files before after key ask input out err (inl memory) = inl (refl, memory.1)
+talk_starved failed name files before after key ask input out err (inr (inl u)) = inl (refl, inl u.idle)
+talk_starved failed name files before after key ask input out err (inr (inr h)) = inl (refl, inr (h.served, h.is))
+
 -- want of memory may come in place of any failure
 memory_instead : (failed : Failure) (name : List ℕ) (task : Task) (files : Files) (before after : ℕ) (input out err : Change) → Caused failed name task files before after input out err
     → Caused failure.Memory (memory_name task name) task files before after input out err
-memory_instead failed name (run ask) files before after input out err h = (record { why = end.Memory; caused = tt; told = (refl, refl) }, h.1, h.2)
-memory_instead failed name (talk key ask) files before after input out err h = inl refl
+memory_instead failed name (run ask) files before after input out err h = (record { why = h.0.why; caused = h.0.caused; told = inr (refl, refl) }, h.1, h.2)
+memory_instead failed name (talk key ask) files before after input out err h = talk_starved failed name files before after key ask input out err h
 memory_instead failed name show files before after input out err h = (h.0, show_cut failed input out h.1, h.2)
 
 -- the failure is told, or there is no memory for its line
@@ -191,19 +198,31 @@ module _ (failed : Failure) (name : List ℕ) (files : Files) (before after : �
     read_fault : (ended_by : Option SessionEnd) (rest read : List ℕ) → h.served.end ≡ serve.ReadFault → EndsBy h.served.end ended_by rest read input → Rose input.faults_before input.faults
     read_fault ended_by rest read is ends = (subst (λ (e : ServeEnd). EndsBy e ended_by rest read input) is ends).2
 
+    abbrev IsCutShort : Type 0
+    IsCutShort = IsCut h.served h.is.program ask.bound key input out err
+
+    cut_by : (e : ServeEnd) → h.served.end ≡ e → (cut : IsCutShort) → CutBy e h.served.outcome h.is.program ask.bound cut.taken out err
+    cut_by e is cut = subst (λ (e : ServeEnd). CutBy e h.served.outcome h.is.program ask.bound cut.taken out err) is cut.by
+
+    write_fault : h.served.end ≡ serve.WriteFault → IsCutShort → Rose out.faults_before out.faults
+    write_fault is cut = (cut_by serve.WriteFault is cut).0
+
+    out_fault : h.served.end ≡ serve.OutFault → IsCutShort → Rose err.faults_before err.faults
+    out_fault is cut = (cut_by serve.OutFault is cut).0
+
     by_end : (e : ServeEnd) → h.served.end ≡ e → ServesTo e h.served h.is.program ask.bound key input out err → judged_by ask h.served.outcome e ≡ Err (failed, name) → IsTalkEnd failed
     by_end serve.Stopped is s e = by_outcome h.served.outcome e
     by_end serve.Detached is s e = by_outcome h.served.outcome e
     by_end serve.LinkEnd is s e = by_outcome h.served.outcome e
     by_end serve.ReadFault is s e = absurd (taken (read_fault _ _ _ is s.ends))
-    by_end serve.WriteFault is s e = absurd (sent s)
-    by_end serve.OutFault is s e = absurd (put s.0)
+    by_end serve.WriteFault is s e = absurd (sent (write_fault is s))
+    by_end serve.OutFault is s e = absurd (put (out_fault is s))
     by_end (serve.BadCommandFrame offset) is s e = let same : failure.Packet offset ≡ failed = ap failure_in e in inl (sym (ap status_of same))
     by_end serve.ByteLimit is s e = let same : failure.Packet 4294967295 ≡ failed = ap failure_in e in inl (sym (ap status_of same))
     by_end serve.Memory is s e = let same : failure.Memory ≡ failed = ap failure_in e in inr (inr (inr (sym (ap status_of same))))
 
   talk_end : TalkFails failed name files before after key ask input out err → IsTalkEnd failed
-  talk_end (inl memory) = inr (inr (inr (ap status_of memory)))
+  talk_end (inl memory) = inr (inr (inr (ap status_of memory.0)))
   talk_end (inr (inl u)) = unserved u.cause u.caused u.told.0
   talk_end (inr (inr h)) = by_end h h.served.end refl h.is.serves h.told
 
@@ -246,6 +265,9 @@ module _ (failed : Failure) (files : Files) (before after : ℕ) (ask : Ask) (ou
   by_why end.OutFault caused told = absurd (put caused.1)
   by_why end.Memory caused told = inr (ap status_of told)
 
+  by_told : (name : List ℕ) → RunFails failed name files before after ask out → IsEnd failed
+  by_told name fails = ⊎_elim (λ t. by_why fails.why fails.caused t.0) (λ starved. inr (ap status_of starved.0)) fails.told
+
 pub complete_run_told : (status : ℕ) (words : List (List ℕ)) (files : Files) (before after : ℕ) (task : Task) (input out err : Change) (refused : Refused) (A B : Type 0) → Asks words task
     → Caused refused.failure refused.name.now task files before after input out err
     → ((ask : Ask) (asked : Result Bundle BundleError) → ask_in task ≡ Some ask → Holds files ask.names asked → IsHeld {A = ℕ} asked (Err refused) before after)
@@ -256,7 +278,7 @@ complete_run_told status words files before after task input out err refused A B
     let same = one_task words task (run ask) asks is in
     let fails : RunFails refused.failure refused.name.now files before after ask out =
     (subst (λ (t : Task). Caused refused.failure refused.name.now t files before after input out err) same caused).0 in
-    by told (by_why refused.failure files before after ask out (held ask (Ok program) (ap ask_in same) holds) shelf put fails.why fails.caused fails.told.0) where
+    by told (by_told refused.failure files before after ask out (held ask (Ok program) (ap ask_in same) holds) shelf put refused.name.now fails) where
       by : ((status ≡ status_of refused.failure) × A) ⊎ ((status ≡ 209) × B) → (status_of refused.failure ≡ 255) ⊎ (status_of refused.failure ≡ 209)
           → (status ≤ 199) ⊎ (status ≡ 255) ⊎ (status ≡ 209)
       by (inr t) end = inr (inr t.0)

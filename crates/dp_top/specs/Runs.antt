@@ -43,11 +43,15 @@ name_told names run.Memory = []
 abbrev pub IsRunTold : Failure → List ℕ → Ask → RunError → Type 0
 IsRunTold failure name ask why = (failure ≡ failure_of ask.bound why) × (name ≡ name_told ask.names why)
 
+-- it is told so, or memory ran out for its line
+abbrev pub IsToldOrStarved : Failure → List ℕ → Ask → RunError → Type 0
+IsToldOrStarved failure name ask why = IsRunTold failure name ask why ⊎ ((failure ≡ Memory) × (name ≡ []))
+
 -- why the run failed, as it is told
 pub record RunFails (failure : Failure) (name : List ℕ) (files : Files) (before after : ℕ) (ask : Ask) (out : Change) : Type 0 where
   pub why : RunError
   pub caused : RunCaused why files before after ask.names ask.bound out
-  pub told : IsRunTold failure name ask why
+  pub told : IsToldOrStarved failure name ask why
 
 -- it is told as a bad source, or memory ran out
 abbrev pub IsBadSource : Failure → Type 0

@@ -64,25 +64,33 @@ pub record Talks (status : ℕ) (files : Files) (key : List ℕ) (ask : Ask) (in
   pub is : IsServed served files key ask input out err
   pub told : judged ask served ≡ Ok status
 
--- there is no program, and nothing was read or written
-pub record IsUnserved (why : Failure) (name : List ℕ) (files : Files) (before after : ℕ) (ask : Ask) (input out err : Change) : Type 0 where
-  pub cause : RunError
-  pub caused : NoProgram cause files before after ask.names
-  pub told : IsRunTold why name ask cause
+-- nothing was read or written
+pub record IsIdle (input out err : Change) : Type 0 where
   pub input_stays : IsUntouched input
   pub out_stays : IsUntouched out
   pub err_stays : IsUntouched err
 
--- the session was served, and its end is this failure
+-- there is no program
+pub record IsUnserved (why : Failure) (name : List ℕ) (files : Files) (before after : ℕ) (ask : Ask) (input out err : Change) : Type 0 where
+  pub cause : RunError
+  pub caused : NoProgram cause files before after ask.names
+  pub told : IsRunTold why name ask cause
+  pub idle : IsIdle input out err
+
+-- The session was served, and its end is this failure. What `out` and `err` have taken then is said with each end of serving.
 pub record EndsSo (why : Failure) (name : List ℕ) (files : Files) (key : List ℕ) (ask : Ask) (input out err : Change) : Type 0 where
   pub served : Served
   pub is : IsServed served files key ask input out err
   pub told : judged ask served ≡ Err (why, name)
 
+-- memory ran out before the session began, or once it was served, to whatever end
+abbrev pub IsStarved : Files → List ℕ → Ask → Change → Change → Change → Type 0
+IsStarved files key ask input out err = IsIdle input out err ⊎ ((served : Served) × IsServed served files key ask input out err)
+
 -- why it failed
 abbrev pub TalkFails : Failure → List ℕ → Files → ℕ → ℕ → List ℕ → Ask → Change → Change → Change → Type 0
 TalkFails why name files before after key ask input out err =
-    (why ≡ failure.Memory) ⊎ IsUnserved why name files before after ask input out err ⊎ EndsSo why name files key ask input out err
+    ((why ≡ failure.Memory) × IsStarved files key ask input out err) ⊎ IsUnserved why name files before after ask input out err ⊎ EndsSo why name files key ask input out err
 
 -- ---- inside the crate
 
@@ -102,6 +110,6 @@ pub record EndedSo (why : Failure) (name : List ℕ) (program : Bundle) (key : L
   pub serves : Serves served program ask.bound key input out err
   pub told : judged ask served ≡ Err (why, name)
 
--- one failed so, or memory ran out
+-- one failed so, or memory ran out before it began
 abbrev pub UnservedSo : Failure → List ℕ → Bundle → List ℕ → Ask → Change → Change → Change → Type 0
-UnservedSo why name program key ask input out err = (why ≡ failure.Memory) ⊎ EndedSo why name program key ask input out err
+UnservedSo why name program key ask input out err = ((why ≡ failure.Memory) × IsIdle input out err) ⊎ EndedSo why name program key ask input out err

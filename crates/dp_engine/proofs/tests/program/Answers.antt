@@ -1,11 +1,7 @@
-use Rattle.std.proofs.Common.{◌≡◌, ◌≢◌, ◌⊎◌, ℕ, zero, suc, ◌≤◌, List, [], ◌∷◌, codes, length, Result, Ok, Err, refl, subst, sym, ap, inl, inr, arith}
+use Rattle.std.proofs.Common.{◌≢◌, ℕ, zero, suc, List, [], ◌∷◌, codes, refl, arith}
 use Rattle.std.specs.Prelude.{All}
 use Rattle.std.specs.List.{IsDistinct}
-use Rattle.dp_bundle.specs.Bundles.{Given, AreForBundle, IsFileName, Makes, MakesFrom}
-use Rattle.dp_bundle.specs.declared.bundle.Bundle.{Bundle}
-use Rattle.dp_bundle.specs.declared.bundle.BundleFile.{BundleFile}
-use Rattle.dp_bundle.specs.declared.errors.BundleError.TheVariants as unmade
-use Rattle.dp_engine.specs.Responses.{main_name}
+use Rattle.dp_bundle.specs.Bundles.{Given, AreForBundle, IsFileName}
 use Rattle.dp_engine.proofs.tests.program.Goals as goal
 
 none-all : {X : Type 0} (P : X → Type 0) → All P []
@@ -47,16 +43,6 @@ alone text = record {
   named = cons-all Named (codes "a.php", text) [] name (none-all Named);
   apart = (tt, tt);
 }
-
--- the main file has the name that was given
-named : (text : List ℕ) (files : List BundleFile) → MakesFrom 0 ((codes "a.php", text) ∷ []) (Ok files) → length (main_name (record { files = files })) ≤ 255
-named text [] makes = absurd makes
-named text (file ∷ []) makes = subst (λ n. length n ≤ 255) (sym makes.0.named) (omega arith)
-named text (file ∷ (other ∷ more)) makes = absurd makes.1
-
-short : (text : List ℕ) (bundle : Bundle) → (Ok bundle ≡ Err unmade.Memory) ⊎ Makes ((codes "a.php", text) ∷ []) (Ok bundle) → length (main_name bundle) ≤ 255
-short text bundle (inl e) = absurd (cc)
-short text bundle (inr makes) = named text bundle.files makes
 
 pub new-requires : goal.new-requires
 new-requires c = rw (c.of.ensures, c.in_ok-files.ensures.items, c.in_ok-name.ensures) (alone _)

@@ -1,9 +1,12 @@
 use Rattle.std.proofs.Common.{◌≡◌, ℕ, None, List, [], ◌++◌, length, refl, sym, ap, ◌∙◌, subst, arith, length-append, length-take}
+use Rattle.std.proofs.lemmas.Result.{err_from_is_err_and}
 use Rattle.std.specs.List.{flat_map}
 use Rattle.dp_wire.specs.Frames.{IsPartialCommand, command_frame}
 use Rattle.dp_wire.proofs.NextLaws.{none_partial}
-use Rattle.dp_serving.specs.Exchanges.{Conversation}
 use Rattle.dp_outside.specs.Changes.{change}
+use Rattle.dp_serving.specs.Exchanges.{Conversation}
+use Rattle.dp_serving.specs.Folds.{replies}
+use Rattle.dp_serving.proofs.CutLaws.{cut_answering, cut_at_start, cut_reading}
 use Rattle.dp_serving.proofs.EndLaws.{is_served}
 use Rattle.dp_serving.proofs.ServingLaws.{talk_first, talk_kept, talk_goes_on}
 use Rattle.dp_serving.proofs.conversing.converse.Goals as goal
@@ -11,7 +14,7 @@ use Rattle.dp_serving.proofs.conversing.converse.Goals as goal
 pub pieces-init : goal.pieces-init
 pieces-init g c =
     let first = talk_first g.A.Responder.step g.S.Source.left g.S.Source.faults g.K.Sink.taken g.K.Sink.faults g.E.Sink.taken g.E.Sink.faults
-    c.args.session.now c.args.init.now c.args.source.now c.args.sink.now c.open.new.sink c.args.out.now c.in_ok-open.ensures.ok in
+    c.args.session.now c.args.init.now c.args.source.now c.args.sink.now c.open.new.sink c.args.out.now c.in_ok-open.ensures.taken in
     let none : [] ≡ c.new-commands.result = sym c.new-commands.ensures in (
       omega arith,
       omega (arith, c.in_ok-open.ensures.later),
@@ -23,7 +26,7 @@ pieces-init g c =
         refl,
         subst (λ (l : List ℕ). (talk : Conversation g.A.Responder.step c.args.session.now c.args.session.now c.args.init.now [] l
             (change g.S.Source.left g.S.Source.faults c.args.source.now c.args.source.now) (change g.K.Sink.taken g.K.Sink.faults c.args.sink.now c.open.new.sink)
-            (change g.E.Sink.taken g.E.Sink.faults c.args.out.now c.args.out.now)) × (talk.so_far.ended ≡ None)) none first,
+            (change g.E.Sink.taken g.E.Sink.faults c.args.out.now c.args.out.now)) × ((replies g.A.Responder.step c.args.session.now talk.taken).ended ≡ None)) none first,
       ),
     )
 
@@ -37,7 +40,7 @@ returns-in-Failed-clause-ok g c =
       read = inv.5.0;
       held = c.read_piece.new.commands;
       talk = kept.0;
-      ends = (ap (λ r. r.ended) kept.1 ∙ inv.5.2.1, subst IsPartialCommand (sym piece.2) inv.4, omega (arith, piece.1, inv.0));
+      ends = (ap (λ l. (replies g.A.Responder.step c.args.session.now l).ended) kept.1 ∙ inv.5.2.1, subst IsPartialCommand (sym piece.2) inv.4, omega (arith, piece.1, inv.0));
     })
 
 pub returns-in-End-clause-ok : goal.returns-in-End-clause-ok
@@ -50,7 +53,7 @@ returns-in-End-clause-ok g c =
       read = inv.5.0;
       held = c.read_piece.new.commands;
       talk = kept.0;
-      ends = (ap (λ r. r.ended) kept.1 ∙ inv.5.2.1, subst IsPartialCommand (sym piece.2) inv.4, piece.1);
+      ends = (ap (λ l. (replies g.A.Responder.step c.args.session.now l).ended) kept.1 ∙ inv.5.2.1, subst IsPartialCommand (sym piece.2) inv.4, piece.1);
     })
 
 pub returns-in-Ended-clause-ok : goal.returns-in-Ended-clause-ok
@@ -85,9 +88,9 @@ overflow_sub-offset g c =
       ap length whole,
       piece.2.3,
       inv.5.1,
-      length-append (flat_map command_frame answers.reached.stands.lines) c.answer_held.new.commands,
+      length-append (flat_map command_frame answers.reached.taken) c.answer_held.new.commands,
       length-append c.pieces.commands piece.2.0,
-      length-append (flat_map command_frame inv.5.2.0.stands.lines) c.pieces.commands,
+      length-append (flat_map command_frame inv.5.2.0.taken) c.pieces.commands,
     )
 
 pub returns-in-TooLong-clause-ok : goal.returns-in-TooLong-clause-ok
@@ -114,7 +117,7 @@ returns-in-TooLong-clause-ok g c =
           piece.2.3,
           inv.5.1,
           length-append inv.5.0 piece.2.0,
-          length-append (flat_map command_frame after.0.stands.lines) c.answer_held.new.commands,
+          length-append (flat_map command_frame after.0.taken) c.answer_held.new.commands,
         ),
       );
     })
@@ -146,3 +149,31 @@ returns-clause-ok g c =
       talk = inv.5.2.0;
       ends = (inv.5.2.1, inv.4, omega (arith, inv.5.1));
     })
+
+pub returns-in_err-open-clause-cut : goal.returns-in_err-open-clause-cut
+returns-in_err-open-clause-cut g c =
+    let p = err_from_is_err_and c.from_residual.result c.from_residual.ensures.1 in
+    rw (p.1, p.2)
+    (cut_at_start g.A.Responder.step g.K.Sink.taken g.K.Sink.faults g.E.Sink.taken g.E.Sink.faults g.S.Source.left g.S.Source.faults
+    c.args.session.now c.args.init.now _ c.args.source.now c.args.sink.now c.open.new.sink c.args.out.now c.in_err-open.ensures.taken c.in_err-open.ensures.cause)
+
+pub returns-in_err-read_piece-clause-cut : goal.returns-in_err-read_piece-clause-cut
+returns-in_err-read_piece-clause-cut g c =
+    let p = err_from_is_err_and c.from_residual-in_err-read_piece.result c.from_residual-in_err-read_piece.ensures.1 in
+    let inv = c.pieces.invariant in
+    let read = c.in_err-read_piece.ensures.err in
+    rw (p.1, p.2)
+    (cut_reading g.A.Responder.step g.K.Sink.taken g.K.Sink.faults g.E.Sink.taken g.E.Sink.faults g.S.Source.left g.S.Source.faults
+    c.args.session.now c.pieces.session c.args.init.now inv.5.0 c.pieces.commands read.0 c.args.source.now c.pieces.source c.read_piece.new.source
+    c.args.sink.now c.pieces.sink c.args.out.now c.pieces.out inv.5.2.0 inv.5.2.1 read.1 inv.1 inv.2)
+
+pub returns-in_err-end-clause-cut : goal.returns-in_err-end-clause-cut
+returns-in_err-end-clause-cut g c =
+    let p = err_from_is_err_and c.from_residual-in_err-end.result c.from_residual-in_err-end.ensures.1 in
+    let piece = rw c.in-Came.is at c.in_ok-read_piece.ensures.ok in
+    let inv = c.pieces.invariant in
+    rw (p.1, p.2)
+    (cut_answering g.A.Responder.step g.K.Sink.taken g.K.Sink.faults g.E.Sink.taken g.E.Sink.faults g.S.Source.left g.S.Source.faults
+    c.args.session.now c.pieces.session c.answer_held.new.session c.args.init.now inv.5.0 c.pieces.commands c.read_piece.new.commands piece.2.0 _
+    c.args.source.now c.pieces.source c.read_piece.new.source c.args.sink.now c.pieces.sink c.answer_held.new.sink c.args.out.now c.pieces.out c.answer_held.new.out
+    inv.5.2.0 inv.5.2.1 piece.2.1 piece.2.2 inv.1 inv.2 c.in_err-end.ensures.cut)

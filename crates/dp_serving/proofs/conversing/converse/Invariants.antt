@@ -1,7 +1,8 @@
 use Rattle.std.proofs.Common.{◌≡◌, ◌≤◌, ◌-◌, ℕ, None, List, length}
 use Rattle.dp_wire.specs.Frames.{IsPartialCommand}
-use Rattle.dp_serving.specs.Exchanges.{Conversation}
 use Rattle.dp_outside.specs.Changes.{change}
+use Rattle.dp_serving.specs.Exchanges.{Conversation}
+use Rattle.dp_serving.specs.Folds.{replies}
 use Rattle.dp_serving.specs.Serving.{byte_limit}
 use Rattle.dp_serving.proofs.conversing.converse.Given as goal
 
@@ -11,7 +12,7 @@ invariant-pieces g l =
     × (l.count ≤ byte_limit) × IsPartialCommand l.commands
     × ((read : List ℕ) × (length read ≡ l.count)
     × ((talk : Conversation g.A.Responder.step l.fn.session l.session l.fn.init read l.commands (change g.S.Source.left g.S.Source.faults l.fn.source l.source)
-    (change g.K.Sink.taken g.K.Sink.faults l.fn.sink l.sink) (change g.E.Sink.taken g.E.Sink.faults l.fn.out l.out)) × (talk.so_far.ended ≡ None)))
+    (change g.K.Sink.taken g.K.Sink.faults l.fn.sink l.sink) (change g.E.Sink.taken g.E.Sink.faults l.fn.out l.out)) × ((replies g.A.Responder.step l.fn.session talk.taken).ended ≡ None)))
 
 abbrev pub decreases-pieces : goal.decreases-pieces
 decreases-pieces g l = byte_limit - l.count
