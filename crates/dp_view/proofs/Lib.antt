@@ -1,0 +1,10 @@
+pub mod Runs
+pub mod Sequences
+pub mod Loop
+pub mod Integers
+pub mod Found
+pub mod Again
+pub mod Written
+pub mod Steps
+pub mod Nesting
+pub mod Whole

@@ -1,0 +1,30 @@
+-- What a view answers: what a state shows, or the code of the error response. DBGp 1.0, "Error Codes": 300 is that there is
+-- no such property, 301 that there is no such level of the stack, 302 that there is no such context.
+use Rattle.std.specs.Prelude.{◌≡◌, ℕ, Result, Ok, Err, IsOk}
+use Rattle.dp_view.specs.declared.error.ViewError.{ViewError}
+use Rattle.dp_view.specs.declared.error.ViewError.TheVariants.{Code, Memory}
+
+-- what is shown, and then what is shown of it
+infixl 10 ◌>>=◌
+abbrev pub ◌>>=◌ : {A B : Type 0} → Result A ℕ → (A → Result B ℕ) → Result B ℕ
+(Ok a) >>= f = f a
+(Err code) >>= f = Err code
+
+-- A call is refused with the code that is asked for. Memory may run out only where something is shown.
+abbrev pub Refuses : {Y : Type 0} → ViewError → Result Y ℕ → Type 0
+Refuses (Code code) asked = asked ≡ Err code
+Refuses Memory asked = IsOk asked
+
+-- A call answers what is asked for, or memory runs out.
+abbrev pub Answers : {X Y : Type 0} → (X → Y) → Result X ViewError → Result Y ℕ → Type 0
+Answers view (Ok x) asked = asked ≡ Ok (view x)
+Answers view (Err e) asked = Refuses e asked
+
+-- The same of a call that takes no memory.
+abbrev pub RefusesSurely : {Y : Type 0} → ViewError → Result Y ℕ → Type 0
+RefusesSurely (Code code) asked = asked ≡ Err code
+RefusesSurely Memory asked = ⊥
+
+abbrev pub AnswersSurely : {X Y : Type 0} → (X → Y) → Result X ViewError → Result Y ℕ → Type 0
+AnswersSurely view (Ok x) asked = asked ≡ Ok (view x)
+AnswersSurely view (Err e) asked = RefusesSurely e asked

@@ -1,0 +1,206 @@
+//! Properties: what is shown of values.
+
+ghost use Rattle.std.specs.Prelude.{◌≡◌, ◌+◌, ◌*◌, ◌++◌, min, take, drop, length, IfOk, OnOk};
+ghost use Rattle.dp_value.specs.Value.{data_of};
+ghost use Rattle.dp_view.specs.Answers.{Answers};
+ghost use Rattle.dp_view.specs.Properties as spec;
+
+use crate::Memory;
+use crate::error::ViewError;
+use crate::naming::{entry_name, full_name, key_text, own_name};
+use crate::paging::Paging;
+use crate::places::value_at;
+use dp_packet::{Property, Shape};
+use dp_state::{Path, State};
+use dp_value::{Bytes, Items, Key, PhpArray, Value};
+use std::alloc::Global;
+
+// The first bytes of a text, at most so many.
+fn front(alloc: Global, bytes: &[u8], most: u64) -> Result<Bytes, Memory>
+    ensures { IfOk result (λ f. f ≡ take most bytes.now) }
+{
+    let end = bytes.len().min(most as usize);
+    Bytes::from_slice(alloc, &bytes[..end])
+}
+
+// Where a page of an array begins: at its end, if there are not so many entries.
+fn page_start(array: &PhpArray, page: u64, size: u64) -> usize
+    ensures { result ≡ min (page * size) (length array.now.pairs) }
+{
+    let len = array.len();
+    len.min(page.saturating_mul(size) as usize)
+}
+
+// Where a page of an array ends that begins here.
+fn page_end(array: &PhpArray, start: usize, size: u64) -> usize
+    ensures { result ≡ min (start + size) (length array.now.pairs) }
+{
+    let len = array.len();
+    len.min(start.saturating_add(size as usize))
+}
+
+// The property of an entry, of which so many levels of arrays are shown.
+#[cycle(nesting)]
+fn entry(
+    alloc: Global,
+    p: &Paging,
+    levels: u32,
+    full: &Option<Bytes>,
+    key: &Key,
+    value: &Value,
+) -> Result<Property, Memory>
+    ensures { IfOk result (λ made. made ≡ spec.entry_property p.now levels full.now (key.now, data_of value.now)) }
+{
+    let name = key_text(alloc, key)?;
+    let fullname = entry_name(alloc, full, key)?;
+    let shape = shape(alloc, p, 0, levels, &fullname, value)?;
+    Ok(Property {
+        name: Some(name),
+        fullname,
+        shape,
+    })
+}
+
+// Puts the property of the entry at a position behind others.
+#[cycle(nesting)]
+fn put_entry(
+    alloc: Global,
+    p: &Paging,
+    levels: u32,
+    full: &Option<Bytes>,
+    array: &PhpArray,
+    at: usize,
+    made: &mut Vec<Property>,
+) -> Result<(), Memory>
+    ensures { OnOk result (made.new.items ≡
+        made.old.items ++ spec.properties_at p.now levels full.now array.now.pairs at) }
+{
+    if let Some((key, value)) = array.pair(at) {
+        made.push(entry(alloc, p, levels, full, key, value)?)?;
+    }
+    Ok(())
+}
+
+// The properties of the entries of an array from a position up to another one.
+#[cycle(nesting)]
+fn entries(
+    alloc: Global,
+    p: &Paging,
+    levels: u32,
+    full: &Option<Bytes>,
+    array: &PhpArray,
+    start: usize,
+    end: usize,
+) -> Result<Vec<Property>, Memory>
+    ensures { IfOk result (λ made. made.items ≡
+        spec.properties p.now levels full.now (drop start (take end array.now.pairs))) }
+{
+    let mut made = Vec::new(alloc);
+    for at in start..end {
+        put_entry(alloc, p, levels, full, array, at, &mut made)?;
+    }
+    Ok(made)
+}
+
+// What is shown in an array where so many levels are left.
+#[cycle(nesting)]
+fn nested(
+    alloc: Global,
+    p: &Paging,
+    page: u64,
+    levels: u32,
+    full: &Option<Bytes>,
+    array: &PhpArray,
+) -> Result<Vec<Property>, Memory>
+    ensures { IfOk result (λ made. made.items ≡
+        spec.nested p.now levels full.now (spec.page_of page p.now.children array.now.pairs)) }
+{
+    if levels == 0 {
+        return Ok(Vec::new(alloc));
+    }
+    let start = page_start(array, page, p.children);
+    let end = page_end(array, start, p.children);
+    entries(alloc, p, levels - 1, full, array, start, end)
+}
+
+// What is shown of a value with this full name, of whose own entries this page is shown.
+#[cycle(nesting)]
+fn shape(
+    alloc: Global,
+    p: &Paging,
+    page: u64,
+    levels: u32,
+    full: &Option<Bytes>,
+    value: &Value,
+) -> Result<Shape, Memory>
+    ensures { IfOk result (λ s. s ≡
+        spec.shape_of p.now page (spec.nested p.now levels full.now) (data_of value.now)) }
+{
+    match value {
+        Value::Null => Ok(Shape::Null),
+        Value::Bool(b) => Ok(Shape::Bool(*b)),
+        Value::Int(n) => Ok(Shape::Int(*n)),
+        Value::Text(bytes) => Ok(Shape::Text {
+            size: bytes.len() as u64,
+            front: front(alloc, bytes.as_slice(), p.bytes)?,
+        }),
+        Value::Array(array) => Ok(Shape::Array {
+            count: array.len() as u64,
+            page,
+            pagesize: p.children,
+            nested: Items::of(nested(alloc, p, page, levels, full, array)?),
+        }),
+    }
+}
+
+/// The property of a value with these names.
+pub fn property_of(
+    alloc: Global,
+    p: &Paging,
+    name: Option<Bytes>,
+    fullname: Option<Bytes>,
+    value: &Value,
+) -> Result<Property, Memory>
+    ensures { IfOk result (λ made. made ≡ spec.property_of p.now name fullname (data_of value.now)) }
+{
+    let shape = shape(alloc, p, p.page, p.depth, &fullname, value)?;
+    Ok(Property {
+        name,
+        fullname,
+        shape,
+    })
+}
+
+/// The property that an evaluation shows of its value: it has no name, and its entries have no full name.
+pub fn shown(alloc: Global, value: &Value, p: &Paging) -> Result<Property, Memory>
+    ensures { IfOk result (λ made. made ≡ spec.shown p.now (data_of value.now)) }
+{
+    property_of(alloc, p, None, None, value)
+}
+
+// The property of the value at a path.
+fn property_at(alloc: Global, path: &Path, p: &Paging, value: &Value) -> Result<Property, Memory>
+    ensures { IfOk result (λ made. made ≡ spec.path_property path.now p.now (data_of value.now)) }
+{
+    let name = own_name(alloc, path)?;
+    let fullname = full_name(alloc, path)?;
+    property_of(alloc, p, Some(name), Some(fullname), value)
+}
+
+/// The property of what stands at a path in a context at a level; level 0 is the top frame.
+///
+/// The code is 301 exactly where the level is not below the number of frames, else 302 exactly where there is no context
+/// with this id, else 300 exactly where nothing stands at the path.
+pub fn property(
+    alloc: Global,
+    state: &State,
+    level: u32,
+    id: u32,
+    path: &Path,
+    p: &Paging,
+) -> Result<Property, ViewError>
+    ensures { Answers (λ made. made) result (spec.property_at state.now level id path.now p.now) }
+{
+    let value = value_at(state, level, id, path)?;
+    Ok(property_at(alloc, path, p, value)?)
+}

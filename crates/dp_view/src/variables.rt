@@ -1,0 +1,107 @@
+//! The contexts, and the variables that they show.
+
+ghost use Rattle.std.specs.Prelude.{◌≡◌, ◌++◌, IfOk, OnOk};
+ghost use Rattle.std.specs.List.{flat_map};
+ghost use Rattle.dp_value.specs.Value.{data_of};
+ghost use Rattle.dp_view.specs.Answers.{Answers};
+ghost use Rattle.dp_view.specs.Places as places;
+ghost use Rattle.dp_view.specs.Properties as spec;
+
+use crate::Memory;
+use crate::error::ViewError;
+use crate::naming::variable_name;
+use crate::paging::Paging;
+use crate::places::{shown_variables, slot_value};
+use crate::properties::property_of;
+use dp_bundle::Bundle;
+use dp_packet::Property;
+use dp_state::{State, Vars};
+use dp_value::{Bytes, Items, Value};
+use std::alloc::Global;
+
+// A context by its name and id.
+fn named(alloc: Global, name: &[u8], id: u32) -> Result<(Bytes, u32), Memory>
+    ensures { IfOk result (λ c. c ≡ (name.now, id)) }
+{
+    Ok((Bytes::from_slice(alloc, name)?, id))
+}
+
+fn all_contexts(alloc: Global) -> Result<Items<(Bytes, u32)>, Memory>
+    ensures { IfOk result (λ all. all ≡ places.contexts) }
+{
+    let mut all = Vec::new(alloc);
+    all.push(named(alloc, b"Locals", 0)?)?;
+    all.push(named(alloc, b"Globals", 1)?)?;
+    Ok(Items::of(all))
+}
+
+/// The contexts by their names and ids: the variables of a frame, and the global variables.
+pub fn contexts(alloc: Global) -> Result<Items<(Bytes, u32)>, ViewError>
+    ensures { Answers (λ all. all) result (Ok places.contexts) }
+{
+    Ok(all_contexts(alloc)?)
+}
+
+// The property of a variable with this value.
+fn variable(alloc: Global, p: &Paging, name: &[u8], value: &Value) -> Result<Property, Memory>
+    ensures { IfOk result (λ made. made ≡ spec.variable_property p.now name.now (data_of value.now)) }
+{
+    let own = variable_name(alloc, name)?;
+    let full = variable_name(alloc, name)?;
+    property_of(alloc, p, Some(own), Some(full), value)
+}
+
+// Puts the property of the variable at a position behind others, if it has a value.
+fn put_variable(
+    alloc: Global,
+    p: &Paging,
+    globals: &Vars,
+    variables: &Vars,
+    at: usize,
+    made: &mut Vec<Property>,
+) -> Result<(), Memory>
+    ensures { OnOk result (made.new.items ≡
+        made.old.items ++ spec.variables_at p.now globals.now variables.now at) }
+{
+    if let Some((name, slot)) = variables.pair(at) {
+        if let Some(value) = slot_value(globals, name, slot) {
+            made.push(variable(alloc, p, name.as_slice(), value)?)?;
+        }
+    }
+    Ok(())
+}
+
+fn all_variables(
+    alloc: Global,
+    p: &Paging,
+    globals: &Vars,
+    variables: &Vars,
+) -> Result<Items<Property>, Memory>
+    ensures { IfOk result (λ made. made ≡ flat_map (spec.variable_shown p.now globals.now) variables.now) }
+{
+    let mut made = Vec::new(alloc);
+    for at in 0..variables.len() {
+        put_variable(alloc, p, globals, variables, at, &mut made)?;
+    }
+    Ok(Items::of(made))
+}
+
+/// The properties of the variables of a context at a level, in the order of their first assignment; level 0 is the top
+/// frame. A variable that is bound shows the value of the global variable of its name. Each value is shown as `p` asks
+/// for it, so each array shows the same page.
+///
+/// The code is 301 exactly where the level is not below the number of frames, else 302 exactly where there is no context
+/// with this id.
+pub fn context(
+    alloc: Global,
+    _bundle: &Bundle,
+    state: &State,
+    level: u32,
+    id: u32,
+    p: &Paging,
+) -> Result<Items<Property>, ViewError>
+    ensures { Answers (λ made. made) result (spec.context_at state.now level id p.now) }
+{
+    let variables = shown_variables(state, level, id)?;
+    Ok(all_variables(alloc, p, &state.globals, variables)?)
+}
