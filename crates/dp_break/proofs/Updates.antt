@@ -1,0 +1,123 @@
+-- What is changed and removed, by the place of a breakpoint.
+use Rattle.std.proofs.Common.{◌≡◌, ℕ, suc, ◌≤◌, ◌==◌, Bool, true, false, cond, not, ◌&&◌, List, [], ◌∷◌, ◌++◌, length, get_or, set, take, drop, Option, Some, None, refl, sym, ap, subst, ◌∙◌, arith}
+use Rattle.std.specs.Prelude.{filter, position, is_some, Err}
+use Rattle.std.proofs.lemmas.Iterator.Adapters.{position_from-zero}
+use Rattle.std.proofs.lemmas.List.{length-set}
+use Rattle.std.proofs.lemmas.List.Elements.{All-get_or, All-set}
+use Rattle.std.proofs.lemmas.List.Sums.{count_by-le-length, length-filter}
+use Rattle.dp_bundle.specs.declared.bundle.Bundle.{Bundle}
+use Rattle.dp_packet.specs.declared.packet.BreakKind.{BreakKind}
+use Rattle.dp_packet.specs.declared.packet.BreakKind.TheVariants.{Line, Call, Return, Conditional}
+use Rattle.dp_break.specs.declared.breakpoint.BreakChange.{BreakChange}
+use Rattle.dp_break.specs.declared.breakpoint.Breakpoint.{Breakpoint}
+use Rattle.dp_break.specs.declared.errors.BreakError.TheVariants as error
+use Rattle.dp_break.specs.Changes.{changed, held_as, line_given_or, with_change, without}
+use Rattle.dp_break.specs.Hits.{is_of_function}
+use Rattle.dp_break.specs.Refusals.{answer_of, asked_line_refusal, change_refusal, update_refusal}
+use Rattle.dp_break.specs.Tables.{Ascend, IsSound, IsTable, has_parts}
+use Rattle.dp_break.proofs.Finding.{StandsAt, kept, missing_from, stands_from, with_changed}
+use Rattle.dp_break.proofs.Keeping.{Ascend-map, filtered_table, table}
+
+module _ (id : ℕ) (held : List Breakpoint) (next : ℕ) where
+  abbrev pub place : Option ℕ
+  place = position (λ b. b.id == id) held
+
+  stands_at : (at : ℕ) → Ascend 1 held next → place ≡ Some at → StandsAt id held at
+  stands_at at a e =
+      let there = stands_from id 0 1 held next at a (sym (position_from-zero (λ (b : Breakpoint). b.id == id) held) ∙ e) in
+      let same : there.0 ≡ at = omega (arith, there.1) in
+      subst (λ (k : ℕ). StandsAt id held k) same there.2
+
+  missing : place ≡ None → (held_as held id ≡ None) × (kept id held ≡ held)
+  missing e = missing_from id 0 held (sym (position_from-zero (λ (b : Breakpoint). b.id == id) held) ∙ e)
+
+  -- ---- removals
+
+  pub found_none : place ≡ None → false ≡ is_some (held_as held id)
+  found_none e = sym (ap is_some (missing e).0)
+
+  pub left_none : place ≡ None → table held next ≡ without id (table held next)
+  left_none e = ap (λ l. table l next) (sym (missing e).1)
+
+  module _ (at : ℕ) (t : IsTable (table held next)) (e : place ≡ Some at) where
+    abbrev stands : StandsAt id held at
+    stands = stands_at at t.ascend e
+
+    pub found_some : true ≡ is_some (held_as held id)
+    found_some = elim held as (λ (l : List Breakpoint). l ≡ held → true ≡ is_some (held_as held id)) [
+      | [] ↦ (λ same. let w = stands.within in let none : length held ≡ 0 = sym (ap length same) in absurd (omega arith))
+      | b ∷ more ↦ (λ same. sym (ap is_some (stands.found b)))
+    ] refl
+
+    pub left_some : (left : List Breakpoint) → left ≡ take at held ++ drop (suc at) held → table left next ≡ without id (table held next)
+    left_some left is = ap (λ l. table l next) (is ∙ stands.removed)
+
+    pub removed_table : (left : List Breakpoint) → left ≡ take at held ++ drop (suc at) held → IsTable (table left next)
+    removed_table left is =
+        let p : Breakpoint → Bool = λ b. not (b.id == id) in
+        let few = length-filter p held in
+        let most = count_by-le-length p held in
+        let short : length (filter p held) ≤ length held = omega arith in
+        subst (λ l. IsTable (table l next)) (sym (is ∙ stands.removed)) (filtered_table p held next t short)
+
+    pub removed_shorter : (left : List Breakpoint) (most : ℕ) → left ≡ take at held ++ drop (suc at) held → length held ≤ most → length left ≤ most
+    removed_shorter left most is le =
+        let p : Breakpoint → Bool = λ b. not (b.id == id) in
+        let few = length-filter p held in
+        let fewer = count_by-le-length p held in
+        let same = ap length (is ∙ stands.removed) in
+        omega arith
+
+    -- ---- changes
+
+    module _ (bundle : Bundle) (c : BreakChange) (b : Breakpoint) (read : b ≡ get_or held at b) where
+      found_here : held_as held id ≡ Some b
+      found_here = stands.found b ∙ ap (λ (x : Breakpoint). Some x) (sym read)
+
+      pub change_answer : answer_of (change_refusal bundle c b) ≡ answer_of (update_refusal bundle c (held_as held id))
+      change_answer = sym (ap (λ (o : Option Breakpoint). answer_of (update_refusal bundle c o)) found_here)
+
+      changes_here : set held at (changed c b) ≡ with_changed id c held
+      changes_here = ap (λ (x : Breakpoint). set held at (changed c x)) read ∙ stands.changes c b
+
+      pub change_left : table (set held at (changed c b)) next ≡ with_change id c (table held next)
+      change_left = ap (λ l. table l next) changes_here
+
+      pub change_table : IsSound (changed c b) → IsTable (table (set held at (changed c b)) next)
+      change_table sound = record {
+        few = let few = t.few in let same = length-set held at (changed c b) in omega arith;
+        ascend = subst (λ l. Ascend 1 l next) (sym changes_here) (Ascend-map (λ x. cond (x.id == id) (changed c x) x) same_id 1 held next t.ascend);
+        last = t.last;
+        sound = All-set IsSound held at (changed c b) sound t.sound;
+      } where
+        same_id : (x : Breakpoint) → (cond (x.id == id) (changed c x) x).id ≡ x.id
+        same_id x = elim (x.id == id) as (λ (v : Bool). (cond v (changed c x) x).id ≡ x.id) [ true ↦ refl | false ↦ refl ]
+
+      pub sound_here : IsSound b
+      sound_here = subst IsSound (sym read) (All-get_or IsSound held at b stands.within t.sound)
+
+  pub missing_answer : (bundle : Bundle) (c : BreakChange) → place ≡ None → Err (error.Code 205) ≡ answer_of (update_refusal bundle c (held_as held id))
+  missing_answer bundle c e = sym (ap (λ (o : Option Breakpoint). answer_of (update_refusal bundle c o)) (missing e).0)
+
+-- ---- soundness
+
+parts_kept : (kind : BreakKind) (given line : Option ℕ) (function expression : Option (List ℕ)) → (is_of_function kind && is_some given) ≡ false
+    → has_parts kind line function expression ≡ true → has_parts kind (line_given_or given line) function expression ≡ true
+parts_kept Line None line function expression free parts = parts
+parts_kept Line (Some given) line function expression free parts = refl
+parts_kept Call None line function expression free parts = parts
+parts_kept Call (Some given) line function expression free parts = absurd cc
+parts_kept Return None line function expression free parts = parts
+parts_kept Return (Some given) line function expression free parts = absurd cc
+parts_kept Conditional given line function expression free parts = parts
+
+pub changed_sound : (bundle : Bundle) (c : BreakChange) (b : Breakpoint) → change_refusal bundle c b ≡ None → IsSound b → IsSound (changed c b)
+changed_sound bundle c b accepted s = record {
+  parts = parts_kept b.kind c.line b.line b.function b.expression (cases (is_of_function b.kind && is_some c.line) accepted) s.parts;
+  placed = s.placed;
+  named = s.named;
+  tree = s.tree;
+} where
+  cases : (t : Bool) → cond t (Some 3) (asked_line_refusal bundle b.file c.line) ≡ None → t ≡ false
+  cases true f = absurd cc
+  cases false f = refl

@@ -1,0 +1,88 @@
+-- What the calls make of the breakpoints that are held.
+use Rattle.std.specs.Prelude.{◌≡◌, ℕ, ◌+◌, ◌<◌, ◌==◌, Bool, true, false, not, if◌then◌else◌, List, [], ◌∷◌, ◌++◌, length, filter, find, map, Option, Some, None, unwrap_or}
+use Rattle.std.specs.List.{list_all}
+use Rattle.std.specs.Option.{option_map_or}
+use Rattle.dp_bundle.specs.declared.bundle.Bundle.{Bundle}
+use Rattle.dp_tree.specs.declared.tree.Expression.{Expression}
+use Rattle.dp_break.specs.declared.breakpoint.BreakChange.{BreakChange}
+use Rattle.dp_break.specs.declared.breakpoint.Breakpoint.{Breakpoint}
+use Rattle.dp_break.specs.declared.breakpoint.BreakRequest.{BreakRequest}
+use Rattle.dp_break.specs.Hits.{is_of_function}
+use Rattle.dp_break.specs.Refusals.{request_refusal}
+use Rattle.dp_break.specs.Tables.{Table, IsTreeOf, has_parts}
+
+-- the breakpoint of this id
+abbrev pub held_as : List Breakpoint → ℕ → Option Breakpoint
+held_as held id = find (λ b. b.id == id) held
+
+-- ---- a new breakpoint
+
+-- what a request has that is none of this bundle's or of its kind is no request
+pub record IsRequest (bundle : Bundle) (r : BreakRequest) : Type 0 where
+  pub file : r.file < length bundle.files
+  pub parts : has_parts r.kind r.line r.function r.expression ≡ true
+  -- only one on a function may be of any file
+  pub anyfile : r.anyfile ≡ true → is_of_function r.kind ≡ true
+
+-- the breakpoint that is asked for, with this id and the tree of its expression; it has not hit yet
+abbrev pub asked : ℕ → Option Expression → BreakRequest → Breakpoint
+asked id tree r = record {
+  id = id;
+  kind = r.kind;
+  enabled = r.enabled;
+  file = if r.anyfile then None else Some r.file;
+  line = r.line;
+  function = r.function;
+  hits = 0;
+  hit_value = r.hit_value;
+  hit_rule = r.hit_rule;
+  temporary = r.temporary;
+  expression = r.expression;
+  parsed = tree;
+}
+
+-- it goes last, and its id is not used again
+abbrev pub with_new : Breakpoint → Table → Table
+with_new b t = record { held = t.held ++ b ∷ []; next = t.next + 1 }
+
+-- a request is accepted, and gets this id
+pub record Adds (bundle : Bundle) (before : Table) (r : BreakRequest) (id : ℕ) (after : Table) : Type 0 where
+  pub accepted : request_refusal bundle before r ≡ None
+  pub tree : Option Expression
+  pub is_tree : IsTreeOf r.expression tree
+  pub only : (other : Option Expression) → IsTreeOf r.expression other → other ≡ tree
+  pub numbered : id ≡ before.next
+  pub held : after ≡ with_new (asked before.next tree r) before
+
+-- ---- a change
+
+-- a value that was given, or the one of before
+abbrev pub given_or : {A : Type 0} → Option A → A → A
+given_or given before = unwrap_or given before
+
+abbrev pub line_given_or : Option ℕ → Option ℕ → Option ℕ
+line_given_or None before = before
+line_given_or (Some line) before = Some line
+
+-- what was given is changed, and nothing else: the count stays
+abbrev pub changed : BreakChange → Breakpoint → Breakpoint
+changed c b = record b {
+  enabled = given_or c.enabled b.enabled;
+  line = line_given_or c.line b.line;
+  hit_value = given_or c.hit_value b.hit_value;
+  hit_rule = given_or c.hit_rule b.hit_rule;
+}
+
+abbrev pub with_change : ℕ → BreakChange → Table → Table
+with_change id c t = record t { held = map (λ b. if b.id == id then changed c b else b) t.held }
+
+-- ---- a removal
+
+abbrev pub without : ℕ → Table → Table
+without id t = record t { held = filter (λ b. not (b.id == id)) t.held }
+
+-- ---- expressions
+
+-- no breakpoint has an expression
+abbrev pub has_no_expression : List Breakpoint → Bool
+has_no_expression held = list_all (λ b. option_map_or (λ text. false) b.expression true) held

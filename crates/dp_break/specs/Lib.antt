@@ -1,0 +1,6 @@
+pub mod Hits
+pub mod Passing
+pub mod Tables
+pub mod Refusals
+pub mod Changes
+pub mod Settling

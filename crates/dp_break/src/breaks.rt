@@ -1,0 +1,229 @@
+//! The breakpoints that a session holds.
+
+ghost use Rattle.std.specs.Prelude.{◌≡◌, ◌==◌, ◌<◌, ◌≤◌, ◌⊎◌, ℕ, true, [], ◌∷◌, length, option_map, is_some, position, IfOk, IsOk, OnOk, OnErr};
+ghost use Rattle.dp_break.specs.Changes.{Adds, IsRequest, has_no_expression, held_as, with_change, with_new, without};
+ghost use Rattle.dp_break.specs.Passing.{held_after, one_stops};
+ghost use Rattle.dp_break.specs.Refusals.{IsRefused, answer_of, change_refusal, request_refusal, update_refusal};
+ghost use Rattle.dp_break.specs.Tables.{IsSound, IsTable, breakpoint_limit, empty, last_id};
+
+use crate::breakpoint::{BreakChange, BreakRequest, Breakpoint};
+use crate::conditions::tree_of;
+use crate::errors::BreakError;
+use crate::hits::is_of_function;
+use crate::lines::asked_line_refusal;
+use crate::making::asked;
+use crate::passing::{discard, mark, settle};
+use dp_bundle::Bundle;
+use dp_state::{Moment, State};
+use dp_value::Memory;
+use std::alloc::Global;
+use std::marker::Model;
+
+/// The most breakpoints.
+pub const BREAKPOINT_LIMIT: usize = 1000;
+
+/// The most bytes of a function's name.
+pub const NAME_LIMIT: usize = 255;
+
+/// Breakpoints, in ascending order of their ids. Contracts see them and the id that the next one has.
+#[derive(Debug, Drop)]
+pub struct Breaks {
+    held: Vec<Breakpoint>,
+    // At least as many as there are breakpoints, so that marking one takes no memory.
+    marks: Vec<bool>,
+    next: u32,
+    alloc: Global,
+}
+
+impl Model for Breaks {
+    ghost use Rattle.std.specs.Prelude.{◌≤◌, length};
+    ghost use Rattle.dp_break.specs.Tables.{Table, IsTable, table_code};
+
+    ghost Value = { Table };
+
+    ghost coded = { table_code };
+
+    ghost view = { λ b. record { held = b.held.items; next = b.next } };
+
+    ghost invariant = { λ b. (IsTable (record { held = b.held.items; next = b.next })) × (length b.held.items ≤ length b.marks.items) };
+}
+
+// The place of the breakpoint with this id.
+fn place_of(held: &[Breakpoint], id: u32) -> Option<usize>
+    ensures { result ≡ position (λ b. b.id == id) held.now }
+{
+    held.iter().position(|breakpoint| breakpoint.id == id)
+}
+
+// Makes room for one mark more than so many.
+fn make_room(marks: &mut Vec<bool>, count: usize) -> Result<(), Memory>
+    requires { count ≤ length marks.old.items }
+    ensures room { OnOk result (count < length marks.new.items) }
+    ensures kept { count ≤ length marks.new.items }
+{
+    if marks.len() == count {
+        marks.push(false)?;
+    }
+    Ok(())
+}
+
+// The code with which a change is refused, if it is.
+fn refused_change(bundle: &Bundle, change: BreakChange, breakpoint: &Breakpoint) -> Option<u16>
+    ensures { result ≡ change_refusal bundle.now change breakpoint.now }
+{
+    if is_of_function(breakpoint.kind) && change.line.is_some() {
+        return Some(3);
+    }
+    asked_line_refusal(bundle, breakpoint.file, change.line)
+}
+
+impl Breaks {
+    /// No breakpoints. Takes no memory.
+    pub fn new(alloc: Global) -> Breaks
+        ensures { result ≡ empty }
+    {
+        Breaks {
+            held: Vec::new(alloc),
+            marks: Vec::new(alloc),
+            next: 1,
+            alloc,
+        }
+    }
+
+    /// The breakpoints, in ascending order of their ids. Takes no memory.
+    pub fn list(&self) -> &[Breakpoint]
+        ensures held { result.now ≡ self.now.held }
+        ensures table { IsTable self.now }
+    {
+        self.held.as_slice()
+    }
+
+    /// The breakpoint with this id. Takes no memory.
+    pub fn get(&self, id: u32) -> Option<&Breakpoint>
+        ensures found { option_map (λ b. b.now) result ≡ held_as self.now.held id }
+        ensures table { IsTable self.now }
+    {
+        self.held
+            .as_slice()
+            .iter()
+            .find(|breakpoint| breakpoint.id == id)
+    }
+
+    /// Holds a new breakpoint and answers its id. Ids count from 1, and none is used again. The file of a request stands
+    /// in the bundle, and the request has the parts that are of its kind.
+    ///
+    /// It is refused with the first of these codes whose test holds: 200 where 1,000 breakpoints are held, no id below
+    /// 4,294,967,295 is left, or the name of a function has more than 255 bytes; 202 where the file does not have the
+    /// line; 203 where no code is on it; 207 where the expression has more than 4,096 bytes, is none, or may change
+    /// something. Then, and where memory runs out, nothing has changed.
+    pub fn add(&mut self, bundle: &Bundle, request: BreakRequest) -> Result<u32, BreakError>
+        requires { IsRequest bundle.now request }
+        ensures added { IfOk result (λ id. Adds bundle.now self.old request id self.new) }
+        ensures refused { (code : ℕ) → result ≡ Err (BreakError.Code code) → IsRefused bundle.now self.old request code }
+        ensures refuses { (code : ℕ) → IsRefused bundle.now self.old request code →
+            (result ≡ Err (BreakError.Code code)) ⊎ (result ≡ Err BreakError.Memory) }
+        ensures unchanged { OnErr result (self.new ≡ self.old) }
+    {
+        match self.refused_request(bundle, &request) {
+            Some(code) => return Err(BreakError::Code(code)),
+            None => {}
+        }
+        let tree = tree_of(self.alloc, &request.expression)?;
+        let id = self.next;
+        self.hold(asked(id, tree, request))?;
+        Ok(id)
+    }
+
+    // The first of the codes 200, 202 and 203 with which a request is refused, if it is.
+    fn refused_request(&self, bundle: &Bundle, request: &BreakRequest) -> Option<u16>
+        ensures { result ≡ request_refusal bundle.now self.now request.now }
+    {
+        if self.held.len() >= BREAKPOINT_LIMIT || self.next == u32::MAX {
+            return Some(200);
+        }
+        if let Some(name) = &request.function {
+            if name.len() > NAME_LIMIT {
+                return Some(200);
+            }
+        }
+        asked_line_refusal(bundle, Some(request.file), request.line)
+    }
+
+    // Holds a breakpoint that has the next id.
+    fn hold(&mut self, breakpoint: Breakpoint) -> Result<(), Memory>
+        requires numbered { breakpoint.id ≡ self.old.next }
+        requires room { length self.old.held < breakpoint_limit }
+        requires id { self.old.next < last_id }
+        requires sound { IsSound breakpoint }
+        ensures held { OnOk result (self.new ≡ with_new breakpoint self.old) }
+        ensures unchanged { OnErr result (self.new ≡ self.old) }
+    {
+        make_room(&mut self.marks, self.held.len())?;
+        self.held.push(breakpoint)?;
+        self.next += 1;
+        Ok(())
+    }
+
+    /// Changes a breakpoint. Its count stays. It is refused with the first of these codes whose test holds: 205 where no
+    /// breakpoint has the id; 3 where a line is given to one on a function; 202 where the file does not have the line,
+    /// and 203 where no code is on it. Then nothing has changed. Takes no memory.
+    pub fn update(
+        &mut self,
+        bundle: &Bundle,
+        id: u32,
+        change: BreakChange,
+    ) -> Result<(), BreakError>
+        ensures answer { result ≡ answer_of (update_refusal bundle.now change (held_as self.old.held id)) }
+        ensures changed { OnOk result (self.new ≡ with_change id change self.old) }
+        ensures unchanged { OnErr result (self.new ≡ self.old) }
+    {
+        let at = match place_of(self.held.as_slice(), id) {
+            Some(at) => at,
+            None => return Err(BreakError::Code(205)),
+        };
+        let breakpoint = &mut self.held[at];
+        match refused_change(bundle, change, breakpoint) {
+            Some(code) => return Err(BreakError::Code(code)),
+            None => {}
+        }
+        breakpoint.change(change);
+        Ok(())
+    }
+
+    /// Takes out the breakpoint with this id, and says whether there was one. Takes no memory.
+    pub fn remove(&mut self, id: u32) -> bool
+        ensures found { result ≡ is_some (held_as self.old.held id) }
+        ensures left { self.new ≡ without id self.old }
+    {
+        match place_of(self.held.as_slice(), id) {
+            Some(at) => {
+                discard(self.held.remove(at));
+                true
+            }
+            None => false,
+        }
+    }
+
+    /// Counts the hits of a moment in this state, takes out the temporary breakpoints that stop, and says whether one
+    /// stops. Takes no memory where no breakpoint has an expression; where memory runs out, nothing has changed.
+    pub fn pass(&mut self, bundle: &Bundle, moment: &Moment, state: &State) -> Result<bool, Memory>
+        ensures held { OnOk result (self.new ≡ record self.old {
+          held = held_after bundle.now ((moment.now, state.now) ∷ []) self.old.held;
+        }) }
+        ensures stop { IfOk result (λ stop.
+            stop ≡ one_stops bundle.now self.old.held [] (moment.now, state.now)) }
+        ensures unchanged { OnErr result (self.new ≡ self.old) }
+        ensures memory { has_no_expression self.old.held ≡ true → IsOk result }
+    {
+        let alloc = self.alloc;
+        mark(
+            alloc,
+            bundle,
+            moment,
+            state,
+            self.held.as_slice(),
+            self.marks.as_mut_slice(),
+        )?;
+        Ok(settle(&mut self.held, self.marks.as_slice()))
+    }
+}

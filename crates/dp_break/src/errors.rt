@@ -1,0 +1,32 @@
+ghost use Rattle.std.specs.Prelude.{◌≡◌};
+ghost use Rattle.dp_break.specs.declared.errors.BreakError.TheVariants.{Memory};
+
+use std::alloc::{AllocError, AllocFailed};
+use thiserror::Error;
+
+/// Why a breakpoint was not set or not changed.
+#[derive(Clone, Copy, Debug, Error, PartialEq, Eq)]
+pub enum BreakError {
+    /// The code of the error response. DBGp 1.0, "Error Codes": 3, 200, 202, 203, 205 or 207.
+    #[error("error {0}")]
+    Code(u16),
+    /// Want of memory.
+    #[error("out of memory")]
+    Memory,
+}
+
+impl From<AllocError> for BreakError {
+    ghost from_gives = { λ _ e. e ≡ Memory };
+
+    fn from(_refused: AllocError) -> BreakError {
+        BreakError::Memory
+    }
+}
+
+impl<T: Drop> From<AllocFailed<T>> for BreakError {
+    ghost from_gives = { λ _ e. e ≡ Memory };
+
+    fn from(_refused: AllocFailed<T>) -> BreakError {
+        BreakError::Memory
+    }
+}

@@ -1,0 +1,22 @@
+//! The breakpoints of a session: which are held, when they hit, and where they stop the program.
+#![tactic(auto)]
+
+mod breakpoint;
+mod breaks;
+mod conditions;
+mod errors;
+mod hits;
+mod laws;
+mod lines;
+mod making;
+mod passing;
+
+pub use breakpoint::{BreakChange, BreakRequest, Breakpoint};
+pub use breaks::Breaks;
+pub use dp_packet::{BreakKind, HitRule};
+pub use dp_value::Memory;
+pub use errors::BreakError;
+pub use laws::{counting_by_moments, stops_without_breakpoints, true_by_value};
+
+#[cfg(test)]
+mod tests;
