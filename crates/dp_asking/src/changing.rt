@@ -1,0 +1,30 @@
+//! The change that a breakpoint_update command asks for.
+
+ghost use Rattle.std.specs.Prelude.{◌≡◌};
+ghost use Rattle.dp_asking.specs.Changing as spec;
+ghost use Rattle.dp_asking.specs.Tests.{answer_of, first_code};
+
+use crate::errors::AskError;
+use crate::words::{is_of_function, rule_given, state_given};
+use dp_break::{BreakChange, BreakKind};
+use dp_command::BreakpointUpdate;
+
+/// The change that a breakpoint_update command asks for, of a breakpoint of this kind. DBGp 1.0, "breakpoint_update".
+///
+/// It is refused with code 3 for a line of a call or return breakpoint or a hit rule that is none, and else with 204 for a state
+/// that is none. The codes 205, 202 and 203 are not tested here. Takes no memory, and never answers want of it.
+pub fn change_asked(kind: BreakKind, update: &BreakpointUpdate) -> Result<BreakChange, AskError>
+    ensures { result ≡ answer_of (first_code (spec.change_tests kind update.now)) (spec.change update.now) }
+{
+    if is_of_function(kind) && update.line.is_some() {
+        return Err(AskError::Code(3));
+    }
+    let hit_rule = rule_given(&update.hit_rule)?;
+    let enabled = state_given(&update.state)?;
+    Ok(BreakChange {
+        enabled,
+        line: update.line,
+        hit_value: update.hit_value,
+        hit_rule,
+    })
+}
