@@ -1,3 +1,3 @@
-mod Crews
-mod Fronts
+mod Growing
 mod Places
+mod Settling

@@ -1,5 +1,5 @@
 -- A place in the bytes and one in the sizes, moved over a piece.
-use Rattle.std.proofs.Common.{◌≡◌, ℕ, ◌+◌, ◌≤◌, List, [], length, take, drop, refl, sym, ◌∙◌, ap}
+use Rattle.std.proofs.Common.{◌≡◌, ℕ, ◌+◌, ◌≤◌, List, length, take, drop, refl}
 use Rattle.std.proofs.lemmas.List.{drop-drop, drop_all}
 use Rattle.std.proofs.Math.Seq.{take-add}
 use Rattle.dp_outside.specs.Fakes.{Tape, after_piece}

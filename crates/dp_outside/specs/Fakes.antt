@@ -66,7 +66,13 @@ pub record SinkState : Type 0 where
   pub room : ℕ
   pub plan : Plan
 
--- a shelf in memory: the names and contents of its files
+-- a shelf in memory: the names and contents of its files, and the names that it was asked for
 pub record ShelfState : Type 0 where
   pub files : List (List ℕ × List ℕ)
+  pub fetched : List (List ℕ)
   pub plan : Plan
+
+-- a shelf in memory that never fails
+pub record SureShelfState : Type 0 where
+  pub files : List (List ℕ × List ℕ)
+  pub fetched : List (List ℕ)

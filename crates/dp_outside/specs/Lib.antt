@@ -5,4 +5,5 @@ pub mod Files
 pub mod Hosts
 pub mod Jobs
 pub mod Streams
-pub mod Transfers
+pub mod Telling
+pub mod inner

@@ -1,7 +1,9 @@
-ghost use Rattle.std.specs.Prelude.{◌≡◌, ◌≤◌, IsErr, OnOk};
+//! What is not there: no network and no threads.
+ghost use Rattle.std.specs.Prelude.{◌≡◌, ◌≤◌, [], ◌∷◌, None, IsErr, OnOk};
 ghost use Rattle.dp_outside.specs.Causes.{HasCause, Rose};
 ghost use Rattle.dp_outside.specs.Fakes.{one_more};
 
+use crate::jobs::Hook;
 use crate::{Dialer, Failed, Faults, Gate, Host, Net, Spawner, SureByteSink, SureByteSource};
 use std::marker::{Model, PhantomData};
 use std::sync::Wait;
@@ -167,13 +169,15 @@ impl<R: Threads + Wait + Sync + Send> Spawner for NoSpawner<R> {
 
     ghost faults = { λ spawner. spawner };
 
+    ghost starts = { λ _. None };
+
     fn twin(&self) -> Self
         ensures fresh { result ≡ 0 }
     {
         NoSpawner::new()
     }
 
-    fn start(&mut self) -> Result<(), Failed>
+    fn start(&mut self, _hook: Hook) -> Result<(), Failed>
         ensures granted { OnOk result (self.new ≡ self.old) }
         ensures cause { HasCause self.old self.new result }
         ensures absent { IsErr result }
@@ -183,7 +187,7 @@ impl<R: Threads + Wait + Sync + Send> Spawner for NoSpawner<R> {
         Err(Failed)
     }
 
-    fn note(&mut self)
+    fn note(&mut self, _hook: Hook)
         ensures rose { Rose self.old self.new }
         ensures later { self.old ≤ self.new }
         ensures counted { self.new ≡ one_more self.old }
@@ -191,7 +195,7 @@ impl<R: Threads + Wait + Sync + Send> Spawner for NoSpawner<R> {
         self.faults.raise();
     }
 
-    fn runtime(&self) -> Option<&R> {
+    fn runtime(&self, _hook: Hook) -> Option<&R> {
         None
     }
 }

@@ -1,3 +1,4 @@
+//! A byte string.
 ghost use Rattle.std.specs.Prelude.{◌≡◌};
 
 use std::marker::Model;

@@ -1,3 +1,4 @@
+//! Files in memory, looked up by name.
 ghost use Rattle.std.specs.Prelude.{◌≡◌, ◌+◌, ◌≤◌, length, MatchOption, IfOk, IsErrOf, Some};
 ghost use Rattle.dp_outside.specs.Files.{Fetches, Lacks, content_of, told};
 

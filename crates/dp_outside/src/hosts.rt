@@ -1,3 +1,4 @@
+//! Names of machines.
 ghost use Rattle.std.specs.Prelude.{◌≡◌, ◌↔◌, All, IfSome, IsSome, IsTrue};
 ghost use Rattle.dp_outside.specs.Hosts.{IsGraphic, IsHost};
 

@@ -3,29 +3,29 @@
 #![tactic(auto)]
 
 mod absent;
-mod adapters;
+mod beside;
 mod bytes;
 mod counts;
+mod crews;
 mod files;
 mod hosts;
 mod jobs;
 mod links;
 mod map_shelf;
 mod memory;
+mod names;
 mod plans;
 mod shelves;
 mod sinks;
 mod sources;
 mod sure;
 mod tapes;
-mod transfers;
 
 pub use absent::{NoGate, NoNet, NoSpawner};
-pub use adapters::{FileShelf, Reading, Writing};
 pub use bytes::Bytes1;
 pub use counts::Faults;
 pub use hosts::Host;
-pub use jobs::{Job, Spawner};
+pub use jobs::{Hook, Job, Spawner};
 pub use links::{Dialer, Gate, Net};
 pub use map_shelf::MapShelf;
 pub use memory::{ByteSink, ByteSource};
@@ -42,6 +42,3 @@ pub use std::alloc::AllocError as Memory;
 #[derive(Clone, Copy, Debug, PartialEq, Eq, Error)]
 #[error("the outside failed")]
 pub struct Failed;
-
-#[cfg(test)]
-mod tests;

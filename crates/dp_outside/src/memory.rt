@@ -1,3 +1,4 @@
+//! A source and a sink in memory, which fail where they are told to.
 ghost use Rattle.std.specs.Prelude.{◌≡◌, ◌↔◌, ◌⊎◌, ◌+◌, ◌<◌, ◌≤◌, [], length, Some, IfOk, OnErr, IsErr, IsErrOf, IsTrue, is_err};
 ghost use Rattle.std.specs.Io.KnownBytes.{ReadConsumes};
 ghost use Rattle.dp_outside.specs.Causes.{HasCause, Rose};
@@ -144,8 +145,7 @@ impl Sink for ByteSink {
             return Err(Failed);
         }
         if self.bytes.extend_from_slice(bytes).is_err() {
-            self.plan.fault();
-            return Err(Failed);
+            unreachable!()
         }
         Ok(())
     }

@@ -1,7 +1,9 @@
-ghost use Rattle.std.specs.Prelude.{◌≡◌, ℕ, ◌+◌, ◌≤◌, List, length, IfOk, IsErrOf};
+//! What files are fetched from.
+ghost use Rattle.std.specs.Prelude.{◌≡◌, ℕ, ◌+◌, ◌≤◌, List, [], ◌∷◌, length, IfOk, IsErrOf};
 ghost use Rattle.std.specs.declared.option.Option.{Option};
 ghost use Rattle.dp_outside.specs.Causes.{Rose};
 ghost use Rattle.dp_outside.specs.Files.{Fetches, Lacks};
+ghost use Rattle.dp_outside.specs.Telling.{grown};
 
 use crate::Bytes1;
 use std::alloc::{AllocError, AllocFailed, Global};
@@ -45,6 +47,9 @@ pub trait Shelf {
     /// The names and contents of its files, where it tells them. Of two of one name the first counts.
     ghost files: { Self → Option (List (List ℕ × List ℕ)) };
 
+    /// The names that it was asked for so far, in order, where it tells them.
+    ghost fetched: { Self → Option (List (List ℕ)) };
+
     /// How often it has failed.
     ghost faults: { Self → ℕ };
 
@@ -58,5 +63,6 @@ pub trait Shelf {
         ensures missing { IsErrOf result ShelfError.Missing → Lacks (files self.old) name.now }
         ensures failed { IsErrOf result ShelfError.Failed → Rose (faults self.old) (faults self.new) }
         ensures later { faults self.old ≤ faults self.new }
-        ensures files { files self.new ≡ files self.old };
+        ensures files { files self.new ≡ files self.old }
+        ensures fetched { fetched self.new ≡ grown (fetched self.old) (name.now ∷ []) };
 }

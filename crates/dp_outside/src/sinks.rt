@@ -1,7 +1,9 @@
+//! What bytes are written to.
 ghost use Rattle.std.specs.Prelude.{◌≡◌, ℕ, List};
 ghost use Rattle.std.specs.declared.option.Option.{Option};
 ghost use Rattle.dp_outside.specs.Causes.{HasCause};
 ghost use Rattle.dp_outside.specs.Streams.{PutAppends};
+ghost use Rattle.dp_outside.specs.Telling.{StaysSilent};
 
 use crate::Failed;
 
@@ -16,6 +18,7 @@ pub trait Sink {
     /// Takes all of `bytes`, or answers `Failed` after taking a front of them.
     fn put(&mut self, bytes: &[u8]) -> Result<(), Failed>
         ensures taken { PutAppends (taken self.old) (taken self.new) result bytes.now }
+        ensures untold { StaysSilent (taken self.old) (taken self.new) }
         ensures cause { HasCause (faults self.old) (faults self.new) result };
 
     /// Ends the link in both directions. It cannot fail.

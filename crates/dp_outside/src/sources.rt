@@ -1,8 +1,10 @@
+//! What bytes are read from.
 ghost use Rattle.std.specs.Prelude.{ℕ, ◌≤◌, List, length, IfOk, IsSome};
 ghost use Rattle.std.specs.Io.KnownBytes.{ReadConsumes};
 ghost use Rattle.std.specs.declared.option.Option.{Option};
 ghost use Rattle.dp_outside.specs.Causes.{HasCause};
 ghost use Rattle.dp_outside.specs.Streams.{TakeGives};
+ghost use Rattle.dp_outside.specs.Telling.{StaysSilent};
 
 use crate::Failed;
 
@@ -24,6 +26,8 @@ pub trait Source {
         ensures bound { IfOk result (λ count. count ≤ length buf.new) }
         ensures left { ReadConsumes (left self.old) (left self.new) result buf.new }
         ensures given { TakeGives (given self.old) (given self.new) result buf.new }
+        ensures untold_left { StaysSilent (left self.old) (left self.new) }
+        ensures untold_given { StaysSilent (given self.old) (given self.new) }
         ensures cause { HasCause (faults self.old) (faults self.new) result };
 
     /// Where it tells what it still gives, it tells what it has given too.

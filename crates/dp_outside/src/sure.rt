@@ -1,4 +1,5 @@
-ghost use Rattle.std.specs.Prelude.{◌≡◌, ◌+◌, ◌≤◌, None, length, IfOk, IsErrOf, IsOk, Some};
+//! The objects in memory that never fail.
+ghost use Rattle.std.specs.Prelude.{◌≡◌, ◌+◌, ◌≤◌, [], ◌∷◌, ◌++◌, None, length, IfOk, IsErrOf, IsOk, Some};
 ghost use Rattle.std.specs.Io.KnownBytes.{ReadConsumes};
 ghost use Rattle.dp_outside.specs.Causes.{HasCause};
 ghost use Rattle.dp_outside.specs.Fakes.{after_piece, piece_length, whole_tape};
@@ -6,6 +7,7 @@ ghost use Rattle.dp_outside.specs.Files.{Fetches, Lacks, told};
 ghost use Rattle.dp_outside.specs.Streams.{TakeGives};
 
 use crate::files::fetch_from;
+use crate::names::Names;
 use crate::tapes::Pieces;
 use crate::{Bytes1, Failed, Memory, Shelf, ShelfError, Sink, Source};
 use std::alloc::Global;
@@ -97,42 +99,51 @@ impl Sink for SureByteSink {
 
 /// A shelf of files in memory that never fails: a `MapShelf` without faults. Its count is always 0.
 ///
-/// Contracts see the names and contents of its files.
-#[derive(Debug, Drop)]
+/// Contracts see the names and contents of its files, and the names that it was asked for.
+#[derive(Drop)]
 pub struct SureMapShelf {
     files: Vec<(String, Vec<u8>)>,
+    fetched: Names,
 }
 
 impl Model for SureMapShelf {
-    ghost use Rattle.std.specs.Prelude.{List, ℕ};
+    ghost use Rattle.dp_outside.specs.Fakes.{SureShelfState};
     ghost use Rattle.dp_outside.specs.Files.{told};
 
-    ghost Value = { List (List ℕ × List ℕ) };
+    ghost Value = { SureShelfState };
 
-    ghost view = { λ s. told s.files.items };
+    ghost view = { λ s. record { files = told s.files.items; fetched = s.fetched.names } };
 }
 
 impl SureMapShelf {
     /// A shelf of these files. Of two of one name the first counts.
     pub fn new(files: Vec<(String, Vec<u8>)>) -> Result<Self, Memory>
-        ensures { IfOk result (λ shelf. shelf ≡ told files.items) }
+        ensures files { IfOk result (λ shelf. shelf.files ≡ told files.items) }
+        ensures fetched { IfOk result (λ shelf. shelf.fetched ≡ []) }
     {
-        Ok(SureMapShelf { files })
+        Ok(SureMapShelf {
+            files,
+            fetched: Names::new(),
+        })
     }
 }
 
 impl Shelf for SureMapShelf {
-    ghost files = { λ s. Some s };
+    ghost files = { λ s. Some s.files };
+
+    ghost fetched = { λ s. Some s.fetched };
 
     ghost faults = { λ _. 0 };
 
     fn fetch(&mut self, alloc: Global, name: &str, limit: usize) -> Result<Bytes1, ShelfError>
         ensures length { IfOk result (λ bytes. length bytes ≤ limit + 1) }
-        ensures bytes { IfOk result (Fetches (Some self.old) name.now limit) }
-        ensures missing { IsErrOf result ShelfError.Missing → Lacks (Some self.old) name.now }
+        ensures bytes { IfOk result (Fetches (Some self.old.files) name.now limit) }
+        ensures missing { IsErrOf result ShelfError.Missing → Lacks (Some self.old.files) name.now }
         ensures sure { IsErrOf result ShelfError.Failed → ⊥ }
-        ensures files { self.new ≡ self.old }
+        ensures files { self.new.files ≡ self.old.files }
+        ensures fetched { self.new.fetched ≡ self.old.fetched ++ name.now ∷ [] }
     {
+        self.fetched.note(name.as_bytes());
         fetch_from(alloc, &self.files, name, limit)
     }
 }

@@ -1,3 +1,4 @@
+//! Bytes that come in pieces of given sizes.
 ghost use Rattle.std.specs.Prelude.{◌≡◌, ◌<◌, ◌≤◌, [], ◌++◌, length, take};
 ghost use Rattle.dp_outside.specs.Fakes.{after_piece, next_cut, piece_length, whole_tape};
 

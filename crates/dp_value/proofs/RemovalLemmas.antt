@@ -3,7 +3,7 @@ use Rattle.std.proofs.Common.{◌≡◌, ℤ, ◌≤◌, ◌==◌, Bool, true, f
 use Rattle.std.proofs.lemmas.Option.{same_Some}
 use Rattle.dp_value.specs.declared.error.WriteError.{WriteError}
 use Rattle.dp_value.specs.declared.key.Key.{Key}
-use Rattle.dp_value.specs.Codes.{table_from-data_of_table}
+use Rattle.dp_value.specs.inner.Codes.{table_from-data_of_table}
 use Rattle.dp_value.specs.Key.{key_eq}
 use Rattle.dp_value.specs.Data.{Data, Entries, Table, null, boolean, integer, text, array, no_entries, entry, pairs_of, weight_of, entries_weight, pairs_weight, data_of_table}
 use Rattle.dp_value.specs.Table.{find_value, swapped, table_exchange, table_remove, take_away, value_at, weight_limit, IsTable}

@@ -12,7 +12,7 @@ use Rattle.dp_value.specs.declared.key.Key.{Key}
 use Rattle.dp_value.specs.declared.key.Key.TheVariants.{Int, Text}
 use Rattle.dp_value.specs.declared.value.Value.{Value}
 use Rattle.dp_value.specs.Value.{data_of}
-use Rattle.dp_value.specs.Codes.{table_from-data_of_table}
+use Rattle.dp_value.specs.inner.Codes.{table_from-data_of_table}
 use Rattle.dp_value.specs.Key.{key_eq}
 use Rattle.dp_value.specs.Data.{Data, Table, null, weight_of, pairs_weight, data_of_table}
 use Rattle.dp_value.specs.Table.{find_value, keys_of, put, raised, swapped, table_set, table_exchange, value_at, weight_limit, IsTable, IsUpTo}

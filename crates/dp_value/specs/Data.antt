@@ -1,6 +1,7 @@
 -- Values as data: what a value stands for, with no layout.
 use Rattle.std.specs.Prelude.{ℕ, ℤ, ◌+◌, suc, max, Bool, List, [], ◌∷◌, Option, length}
 use Rattle.dp_value.specs.declared.key.Key.{Key}
+use Rattle.dp_value.specs.declared.key.Key.TheVariants.{Int, Text}
 use Rattle.dp_value.specs.Key.{key_weight}
 
 mutual
@@ -15,6 +16,11 @@ mutual
   pub data Entries : Type 0 where
     no_entries : Entries
     entry : Key → Data → Entries → Entries
+
+-- a key as a value
+abbrev pub data_of_key : Key → Data
+data_of_key (Int n) = integer n
+data_of_key (Text bytes) = text bytes
 
 -- an array: its pairs in order, and the largest integer key ever used in it, if any
 pub record Table : Type 0 where

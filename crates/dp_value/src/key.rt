@@ -1,6 +1,6 @@
 ghost use Rattle.std.specs.Prelude.{◌≡◌, IfOk};
 
-use crate::{Bytes, Memory};
+use crate::{Bytes, Memory, Value};
 
 /// A key of an array: a 64-bit integer, or a byte string that does not spell one.
 /// Source: the PHP manual, "Arrays".
@@ -11,7 +11,9 @@ pub enum Key {
 }
 
 impl Key {
+    ghost use Rattle.dp_value.specs.Data.{data_of_key};
     ghost use Rattle.dp_value.specs.Key.{key_eq, key_weight};
+    ghost use Rattle.dp_value.specs.Value.{data_of};
 
     /// An equal key.
     pub fn try_clone(&self) -> Result<Key, Memory>
@@ -20,6 +22,16 @@ impl Key {
         match self {
             Key::Int(n) => Ok(Key::Int(*n)),
             Key::Text(bytes) => Ok(Key::Text(bytes.try_clone()?)),
+        }
+    }
+
+    /// The value that a program sees of this key: an integer or a text.
+    pub fn to_value(&self) -> Result<Value, Memory>
+        ensures { IfOk result (λ v. data_of v ≡ data_of_key self.now) }
+    {
+        match self {
+            Key::Int(n) => Ok(Value::Int(*n)),
+            Key::Text(bytes) => Ok(Value::Text(bytes.try_clone()?)),
         }
     }
 

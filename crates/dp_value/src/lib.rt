@@ -11,7 +11,9 @@ mod identity;
 mod items;
 mod key;
 mod keys_of;
+mod names;
 mod operators;
+mod quoting;
 mod removals;
 mod value;
 mod weights;
@@ -25,7 +27,9 @@ pub use identity::same;
 pub use items::Items;
 pub use key::Key;
 pub use keys_of::{int_of_text, key_of};
+pub use names::{are_alike, without_slash};
 pub use operators::{BinaryOp, Builtin, UnaryOp};
+pub use quoting::put_in_quotes;
 pub use removals::remove_at;
 pub use value::{PhpArray, Value, WEIGHT_LIMIT};
 pub use weights::weight;
@@ -33,6 +37,3 @@ pub use writes::write_at;
 
 /// Want of memory: an allocation was refused.
 pub use std::alloc::AllocError as Memory;
-
-#[cfg(test)]
-mod tests;

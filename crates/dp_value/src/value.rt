@@ -36,13 +36,13 @@ pub struct PhpArray {
 
 impl Model for PhpArray {
     ghost use Rattle.dp_value.specs.Data.{Table, table_depth};
-    ghost use Rattle.dp_value.specs.Codes.{table_code};
+    ghost use Rattle.dp_value.specs.inner.Codes.{table_code};
 
     ghost Value = { Table };
 
     ghost coded = { table_code };
 
-    ghost use Rattle.dp_value.specs.Inside.{table_of, IsArray};
+    ghost use Rattle.dp_value.specs.inner.Inside.{table_of, IsArray};
 
     ghost view = { table_of };
 
@@ -50,7 +50,7 @@ impl Model for PhpArray {
 
     ghost size = { table_depth };
 
-    ghost use Rattle.dp_value.specs.Falls.{most_le_depth};
+    ghost use Rattle.dp_value.specs.inner.Falls.{most_le_depth};
 
     ghost size_decreases = { λ a h. most_le_depth a.keys.keys a.values.items h.same_length };
 }

@@ -5,7 +5,7 @@ use Rattle.std.proofs.lemmas.List.Folds.{list_all-append}
 use Rattle.std.proofs.lemmas.List.{take-append-le, drop-append-le}
 use Rattle.std.proofs.Math.Seq.{drop-append-add, take-append-add}
 use Rattle.dp_wire.specs.Frames.{has_no_nul, IsCommand, command_frame, command_limit, commands_in, BeginsCommand, IsPartialCommand, BeginsNoCommand}
-use Rattle.dp_wire.specs.Held.{FirstNul}
+use Rattle.dp_wire.specs.inner.Held.{FirstNul}
 use Rattle.dp_wire.proofs.FrameLaws.{no_nul-at, same_text, no_shorter, partial_front, commands-text, commands-long}
 use Rattle.dp_wire.proofs.SplitLaws.{framed}
 
@@ -34,6 +34,15 @@ module _ (now : List ℕ) (n : ℕ) (found : FirstNul now (Some n)) where
 
   pub some_rest : (text rest : List ℕ) → BeginsCommand now text rest → drop (n + 1) now ≡ rest
   some_rest text rest b = (same_text (take n now) text _ rest found.0 b.is_text.no_nul (sym found.1 ∙ b.whole ∙ framed text rest)).1
+
+  pub some_length : (text rest : List ℕ) → BeginsCommand now text rest → n + 1 ≡ length (command_frame text)
+  some_length text rest b =
+      let same = (same_text (take n now) text _ rest found.0 b.is_text.no_nul (sym found.1 ∙ b.whole ∙ framed text rest)).0 in
+      omega (arith, front_length, ap length same, length-append text (0 ∷ []))
+
+-- no command begins what has no NUL
+pub none_begins : (now : List ℕ) → has_no_nul now ≡ true → (text rest : List ℕ) → BeginsCommand now text rest → ⊥
+none_begins now none text rest b = no_nul-at text rest (subst (λ l. has_no_nul l ≡ true) (b.whole ∙ framed text rest) none)
 
 nul_comes : (b : ℕ) → b ∷ [] ≢ []
 nul_comes b e = cc

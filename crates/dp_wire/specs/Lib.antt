@@ -1,3 +1,3 @@
 pub mod Frames
-pub mod Held
+pub mod inner
 pub mod Received

@@ -1,6 +1,7 @@
-ghost use Rattle.std.specs.Prelude.{◌≡◌, ◌↔◌, ◌+◌, ◌≤◌, [], ◌∷◌, ◌++◌, List, ℕ, length, vec_len, take, drop, IsErr, IfOk, IfErr, IfSome, OnOk, OnErr};
-ghost use Rattle.dp_wire.specs.Frames.{command_limit, BeginsCommand, IsPartialCommand, BeginsNoCommand, commands_in};
-ghost use Rattle.dp_wire.specs.Held.{FirstNul};
+ghost use Rattle.std.specs.Prelude.{◌≡◌, ◌↔◌, ◌+◌, ◌≤◌, [], ◌∷◌, ◌++◌, List, ℕ, min, length, vec_len, take, drop, IsErr, IfOk, IfErr, IfSome, OnOk, OnErr};
+ghost use Rattle.dp_wire.specs.Frames.{command_frame, command_limit, BeginsCommand, IsPartialCommand, BeginsNoCommand, commands_in};
+ghost use Rattle.dp_wire.specs.inner.Held.{FirstNul};
+ghost use Rattle.dp_wire.specs.Received.{last_place};
 
 use crate::WireError;
 use dp_value::Memory;
@@ -14,7 +15,8 @@ const LIMIT: usize = 1_048_576;
 /// One byte more than a command may have.
 const TOO_LONG: WireError = WireError::TooLong { length: 1_048_577 };
 
-/// Splits a stream into commands, each ended by a NUL. Contracts see the bytes that are held.
+/// Splits a stream into commands, each ended by a NUL. Contracts see the bytes that are held, and how many were dropped
+/// before them.
 ///
 /// DBGp 1.0, "Message Packets". A byte is looked at once, however the stream is cut.
 #[derive(Debug, Drop)]
@@ -24,15 +26,18 @@ pub struct Commands {
     from: usize,
     /// The length of the first text that is held with its NUL.
     first: Option<usize>,
+    /// How many bytes of the stream were dropped, or the largest number where they are more.
+    dropped: u64,
 }
 
 impl Model for Commands {
-    ghost use Rattle.std.specs.Prelude.{List, ℕ, ◌≤◌, length, drop};
-    ghost use Rattle.dp_wire.specs.Held.{FirstNul};
+    ghost use Rattle.std.specs.Prelude.{◌≤◌, length, drop};
+    ghost use Rattle.dp_wire.specs.inner.Held.{FirstNul};
+    ghost use Rattle.dp_wire.specs.Received.{Received};
 
-    ghost Value = { List ℕ };
+    ghost Value = { Received };
 
-    ghost view = { λ c. drop c.from c.bytes.items };
+    ghost view = { λ c. record { held = drop c.from c.bytes.items; dropped = c.dropped } };
 
     ghost invariant = { λ c. (c.from ≤ length c.bytes.items) × FirstNul (drop c.from c.bytes.items) c.first };
 }
@@ -40,25 +45,35 @@ impl Model for Commands {
 impl Commands {
     /// A splitter that holds no byte. Takes no memory.
     pub fn new(alloc: Global) -> Self
-        ensures { result ≡ [] }
+        ensures held { result.held ≡ [] }
+        ensures dropped { result.dropped ≡ 0 }
     {
         Commands {
             bytes: Vec::new(alloc),
             from: 0,
             first: None,
+            dropped: 0,
         }
     }
 
     /// The bytes held.
     pub fn bytes(&self) -> &[u8]
-        ensures { result.now ≡ self.now }
+        ensures { result.now ≡ self.now.held }
     {
         &self.bytes[self.from..]
     }
 
+    /// How many bytes of the stream were dropped: the place of the first byte held. Stays at 2^64 - 1. Takes no memory.
+    pub fn dropped(&self) -> u64
+        ensures { result ≡ self.now.dropped }
+    {
+        self.dropped
+    }
+
     /// Appends a piece of the stream. On want of memory all stays as before.
     pub fn feed(&mut self, piece: &[u8]) -> Result<(), Memory>
-        ensures ok { OnOk result (self.new ≡ self.old ++ piece.now) }
+        ensures ok { OnOk result (self.new.held ≡ self.old.held ++ piece.now) }
+        ensures dropped { self.new.dropped ≡ self.old.dropped }
         ensures err { OnErr result (self.new ≡ self.old) }
     {
         self.forget_dropped();
@@ -84,19 +99,19 @@ impl Commands {
     pub fn next(&self) -> Result<Option<Range<usize>>, WireError>
         ensures start { IfOk result (λ found. IfSome found (λ range. range.start ≡ 0)) }
         ensures whole { IfOk result (λ found. IfSome found (λ range.
-            BeginsCommand self.now (take range.end self.now) (drop (range.end + 1) self.now))) }
-        ensures partial { (result ≡ Ok None) ↔ IsPartialCommand self.now }
-        ensures refused { IsErr result ↔ BeginsNoCommand self.now }
+            BeginsCommand self.now.held (take range.end self.now.held) (drop (range.end + 1) self.now.held))) }
+        ensures partial { (result ≡ Ok None) ↔ IsPartialCommand self.now.held }
+        ensures refused { IsErr result ↔ BeginsNoCommand self.now.held }
         ensures length { IfErr result (λ e. e ≡ WireError.TooLong 1048577) }
 
         // What stands there stays, whatever comes after it.
         ensures first { IfOk result (λ found. IfSome found (λ range. (more : List ℕ)
-            → commands_in (self.now ++ more) ≡ take range.end self.now ∷ commands_in (drop (range.end + 1) self.now ++ more))) }
-        ensures none { result ≡ Ok None → commands_in self.now ≡ [] }
-        ensures never { IsErr result → (more : List ℕ) → commands_in (self.now ++ more) ≡ [] }
+            → commands_in (self.now.held ++ more) ≡ take range.end self.now.held ∷ commands_in (drop (range.end + 1) self.now.held ++ more))) }
+        ensures none { result ≡ Ok None → commands_in self.now.held ≡ [] }
+        ensures never { IsErr result → (more : List ℕ) → commands_in (self.now.held ++ more) ≡ [] }
 
         // Where more has to come, no more than the limit is held.
-        ensures held { result ≡ Ok None → length self.now ≤ command_limit }
+        ensures held { result ≡ Ok None → length self.now.held ≤ command_limit }
     {
         match self.first {
             Some(length) if length <= LIMIT => Ok(Some(0..length)),
@@ -108,12 +123,18 @@ impl Commands {
 
     /// Drops the first command with its NUL. Takes no memory.
     pub fn drop_front(&mut self)
-        requires { (line rest : List ℕ) × BeginsCommand self.old line rest }
-        ensures { (line rest : List ℕ) → BeginsCommand self.old line rest → self.new ≡ rest }
+        requires { (line rest : List ℕ) × BeginsCommand self.old.held line rest }
+        ensures held { (line rest : List ℕ) → BeginsCommand self.old.held line rest → self.new.held ≡ rest }
+        ensures dropped { (line rest : List ℕ) → BeginsCommand self.old.held line rest
+            → self.new.dropped ≡ min (self.old.dropped + length (command_frame line)) last_place }
     {
-        if let Some(length) = self.first {
-            self.from += length + 1;
-            self.first = first_nul(&self.bytes[self.from..]);
+        match self.first {
+            Some(length) => {
+                self.from += length + 1;
+                self.first = first_nul(&self.bytes[self.from..]);
+                self.dropped = self.dropped.saturating_add(length as u64 + 1);
+            }
+            None => unreachable!(),
         }
     }
 }

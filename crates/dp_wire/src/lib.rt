@@ -18,6 +18,3 @@ pub use laws::{
 pub use packet::packet_bytes;
 pub use packets::Packets;
 pub use wire_error::WireError;
-
-#[cfg(test)]
-mod tests;

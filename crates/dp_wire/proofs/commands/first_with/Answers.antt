@@ -1,5 +1,5 @@
 use Rattle.std.proofs.Common.{subst}
-use Rattle.dp_wire.specs.Held.{FirstNul}
+use Rattle.dp_wire.specs.inner.Held.{FirstNul}
 use Rattle.dp_wire.proofs.NextLaws.{first_comes}
 use Rattle.dp_wire.proofs.commands.first_with.Goals as goal
 

@@ -6,7 +6,7 @@ use Rattle.dp_value.specs.declared.value.Value.{Value}
 use Rattle.dp_value.specs.Place.{IsFirst}
 use Rattle.dp_value.specs.Data.{Table, pairs_weight}
 use Rattle.dp_value.specs.Key.{key_eq}
-use Rattle.dp_value.specs.Inside.{table_of}
+use Rattle.dp_value.specs.inner.Inside.{table_of}
 use Rattle.dp_value.specs.Table.{value_at, swapped, table_exchange, weight_limit, IsTable}
 use Rattle.dp_value.specs.Value.{data_of, pairs_in}
 use Rattle.dp_value.proofs.PairLemmas.{absent-find_value, first-find_value, swapped-absent, swapped-first, weight-swapped-first, weight-at}

@@ -7,7 +7,7 @@ use Rattle.dp_value.specs.declared.key.Key.{Key}
 use Rattle.dp_value.specs.declared.value.Value.{Value}
 use Rattle.dp_value.specs.Data.{Table, null}
 use Rattle.dp_value.specs.Key.{key_eq}
-use Rattle.dp_value.specs.Inside.{table_of}
+use Rattle.dp_value.specs.inner.Inside.{table_of}
 use Rattle.dp_value.specs.Table.{value_at, take_away, table_remove, IsTable}
 use Rattle.dp_value.specs.Value.{data_of, pairs_in}
 use Rattle.dp_value.proofs.PairLemmas.{absent-find_value, first-find_value, take_away-absent, take_away-first, map-remove}

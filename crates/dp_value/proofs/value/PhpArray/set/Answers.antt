@@ -1,6 +1,6 @@
 use Rattle.std.proofs.Common.{◌≡◌, ◌≤◌, sym, ap, subst, arith}
 use Rattle.dp_value.specs.Data.{Table, pairs_weight}
-use Rattle.dp_value.specs.Inside.{table_of}
+use Rattle.dp_value.specs.inner.Inside.{table_of}
 use Rattle.dp_value.specs.Table.{put, weight_limit, table_set, IsTable}
 use Rattle.dp_value.specs.Value.{data_of, pairs_in}
 use Rattle.dp_value.proofs.TableLemmas.{IsTable-set}

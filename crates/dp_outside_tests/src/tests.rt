@@ -1,0 +1,461 @@
+use dp_adapters::{FileShelf, Reading, Writing};
+use dp_outside::{
+    ByteSink, ByteSource, Dialer, Failed, Faults, Gate, Hook, Host, Job, MapShelf, Memory, Net,
+    NoGate, NoNet, NoSpawner, Shelf, ShelfError, Sink, Source, Spawner, SureByteSink,
+    SureByteSource, SureMapShelf,
+};
+use std::alloc::Global;
+use std::fs::Files;
+use std::io::{ErrorKind, Read, Write};
+use std::sync::Wait;
+use std::test::Fail;
+use std::thread::Threads;
+use std::{fs, io};
+
+// The pieces of so many takes, each ended by '|', and '!' for a take that failed.
+fn takes<S: Source>(
+    alloc: Global,
+    source: &mut S,
+    size: usize,
+    count: usize,
+) -> Result<Vec<u8>, Memory> {
+    let mut buf = [0; 8];
+    let mut seen = Vec::new(alloc);
+    for _ in 0..count {
+        let Ok(taken) = source.take(&mut buf[..size.min(8)]) else {
+            seen.push(b'!')?;
+            continue;
+        };
+        seen.extend_from_slice(&buf[..taken])?;
+        seen.push(b'|')?;
+    }
+    Ok(seen)
+}
+
+// '+' for each put that went, '!' for each that failed.
+fn puts<K: Sink>(alloc: Global, sink: &mut K, texts: &[&str]) -> Result<Vec<u8>, Memory> {
+    let mut seen = Vec::new(alloc);
+    for text in texts {
+        let answer = if sink.put(text.as_bytes()).is_ok() {
+            b'+'
+        } else {
+            b'!'
+        };
+        seen.push(answer)?;
+    }
+    sink.finish();
+    Ok(seen)
+}
+
+// The bytes of the file, or a word for the refusal.
+fn fetched<H: Shelf>(
+    alloc: Global,
+    shelf: &mut H,
+    name: &str,
+    limit: usize,
+) -> Result<Vec<u8>, Memory> {
+    match shelf.fetch(alloc, name, limit) {
+        Ok(bytes) => Ok(bytes.into_vec()),
+        Err(ShelfError::Missing) => Vec::from_slice(alloc, b"missing"),
+        Err(ShelfError::Failed) => Vec::from_slice(alloc, b"failed"),
+        Err(ShelfError::Memory) => Err(Memory),
+    }
+}
+
+fn two_files(alloc: Global) -> Result<Vec<(String, Vec<u8>)>, Memory> {
+    let mut files = Vec::new(alloc);
+    files.push((String::from_str(alloc, "a.php")?, b"hello".to_vec(alloc)?))?;
+    files.push((String::from_str(alloc, "b.php")?, Vec::new(alloc)))?;
+    files.push((String::from_str(alloc, "a.php")?, b"second".to_vec(alloc)?))?;
+    Ok(files)
+}
+
+// What a source gives in so many takes, and what it has left.
+fn source_gives(
+    alloc: Global,
+    bytes: &str,
+    cuts: &[usize],
+    fails: &[u64],
+    size: usize,
+    count: usize,
+) -> Result<(Vec<u8>, Vec<u8>), Memory> {
+    let bytes = bytes.as_bytes().to_vec(alloc)?;
+    let mut source = ByteSource::new(bytes, cuts.to_vec(alloc)?, fails.to_vec(alloc)?)?;
+    let seen = takes(alloc, &mut source, size, count)?;
+    let left = source.left().to_vec(alloc)?;
+    Ok((seen, left))
+}
+
+#[test]
+fn sources_give_pieces(rt: HostRuntime) -> Result<(), Fail> {
+    let rows = [
+        ("hello", [].as_slice(), [].as_slice(), 8, 2, "hello||", ""),
+        (
+            "hello",
+            [2, 0].as_slice(),
+            [].as_slice(),
+            8,
+            4,
+            "he|l|lo||",
+            "",
+        ),
+        ("hello", [9].as_slice(), [].as_slice(), 4, 3, "hell|o||", ""),
+        (
+            "hello",
+            [2, 2].as_slice(),
+            [2, 3].as_slice(),
+            8,
+            4,
+            "he|!!ll|",
+            "o",
+        ),
+        ("", [].as_slice(), [1].as_slice(), 8, 3, "!||", ""),
+        ("hi", [].as_slice(), [2].as_slice(), 0, 3, "|!|", "hi"),
+    ];
+    for (bytes, cuts, fails, size, count, wanted, left) in rows {
+        let seen = source_gives(rt.alloc(), bytes, cuts, fails, size, count)?;
+        assert_eq!(rt; seen.0.as_slice(), wanted.as_bytes());
+        assert_eq!(rt; seen.1.as_slice(), left.as_bytes(), "after {wanted}");
+    }
+    Ok(())
+}
+
+// What puts a sink takes, and the bytes that it has then.
+fn sink_takes(
+    alloc: Global,
+    room: usize,
+    fails: &[u64],
+    texts: &[&str],
+) -> Result<(Vec<u8>, Vec<u8>), Memory> {
+    let mut sink = ByteSink::new(alloc, room, fails.to_vec(alloc)?)?;
+    let seen = puts(alloc, &mut sink, texts)?;
+    let taken = sink.taken().to_vec(alloc)?;
+    Ok((seen, taken))
+}
+
+#[test]
+fn sinks_take_what_fits(rt: HostRuntime) -> Result<(), Fail> {
+    let rows = [
+        (8, [].as_slice(), ["ab", "", "cd"].as_slice(), "+++", "abcd"),
+        (
+            3,
+            [].as_slice(),
+            ["ab", "cd", "e", "f", ""].as_slice(),
+            "+!+!+",
+            "abe",
+        ),
+        (
+            8,
+            [1, 3].as_slice(),
+            ["ab", "cd", "ef", "gh"].as_slice(),
+            "!+!+",
+            "cdgh",
+        ),
+        (0, [].as_slice(), ["", "a"].as_slice(), "+!", ""),
+    ];
+    for (room, fails, texts, wanted, taken) in rows {
+        let seen = sink_takes(rt.alloc(), room, fails, texts)?;
+        assert_eq!(rt; seen.0.as_slice(), wanted.as_bytes());
+        assert_eq!(rt; seen.1.as_slice(), taken.as_bytes(), "after {wanted}");
+    }
+    Ok(())
+}
+
+#[test]
+fn shelves_fetch_by_name(rt: HostRuntime) -> Result<(), Fail> {
+    let alloc = rt.alloc();
+    let rows = [
+        ("a.php", 5, "hello"),
+        ("a.php", 4, "hello"),
+        ("a.php", 1, "he"),
+        ("b.php", 0, ""),
+        ("a", 9, "failed"),
+        ("a", 9, "missing"),
+        ("a.php", usize::MAX, "hello"),
+    ];
+    let mut shelf = MapShelf::new(two_files(alloc)?, Vec::from_slice(alloc, &[5, 9])?)?;
+    for (name, limit, wanted) in rows {
+        let seen = fetched(alloc, &mut shelf, name, limit)?;
+        assert_eq!(rt; seen.as_slice(), wanted.as_bytes());
+    }
+    Ok(())
+}
+
+fn sure_source_gives(alloc: Global) -> Result<Vec<u8>, Memory> {
+    let mut source = SureByteSource::new(b"hello".to_vec(alloc)?, Vec::new(alloc))?;
+    takes(alloc, &mut source, 4, 3)
+}
+
+fn sure_sink_takes(alloc: Global) -> Result<Vec<u8>, Memory> {
+    puts(alloc, &mut SureByteSink::new()?, &["ab", "cd"])
+}
+
+fn sure_shelf_fetches(alloc: Global, name: &str) -> Result<Vec<u8>, Memory> {
+    let mut shelf = SureMapShelf::new(two_files(alloc)?)?;
+    fetched(alloc, &mut shelf, name, 1)
+}
+
+fn sure_answers(alloc: Global) -> Result<Vec<u8>, Memory> {
+    let mut seen = sure_source_gives(alloc)?;
+    seen.extend_from_slice(&sure_sink_takes(alloc)?)?;
+    seen.extend_from_slice(&sure_shelf_fetches(alloc, "a.php")?)?;
+    seen.extend_from_slice(&sure_shelf_fetches(alloc, "c.php")?)?;
+    Ok(seen)
+}
+
+#[test]
+fn the_sure_never_fail(rt: HostRuntime) -> Result<(), Fail> {
+    let seen = sure_answers(rt.alloc())?;
+    assert_eq!(rt; seen.as_slice(), b"hell|o||++hemissing".as_slice());
+    Ok(())
+}
+
+#[test]
+fn hosts_are_read_and_the_absent_refuse(rt: HostRuntime) -> Result<(), Fail> {
+    let long = [b'a'; 65];
+    let hosts = [
+        (b"!".as_slice(), true),
+        (b"a.example~".as_slice(), true),
+        (&long[..64], true),
+        (b"".as_slice(), false),
+        (&long[..], false),
+        (b"a b".as_slice(), false),
+        (b"a\x7f".as_slice(), false),
+    ];
+    for (bytes, is_host) in hosts {
+        let read = Host::of(bytes);
+        assert_eq!(rt; read.is_some(), is_host);
+        if let Some(host) = &read {
+            assert_eq!(rt; host.text(), bytes);
+        }
+    }
+    let host = Host::of(b"127.0.0.1").ok_or("a host")?;
+    let mut net = NoNet::new();
+    assert!(rt; net.dial(&host, 9003).is_err());
+    assert!(rt; net.gate(9003).is_err());
+    assert!(rt; net.twin().is_err());
+    let mut gate = NoGate::new();
+    assert!(rt; gate.accept().is_err());
+    assert!(rt; gate.twin().is_err());
+    gate.retire(
+        SureByteSource::new(Vec::new(rt.alloc()), Vec::new(rt.alloc()))?,
+        SureByteSink::new()?,
+    );
+    net.retire(
+        SureByteSource::new(Vec::new(rt.alloc()), Vec::new(rt.alloc()))?,
+        SureByteSink::new()?,
+    );
+    net.shut(gate);
+    Ok(())
+}
+
+// A reader or writer that is interrupted, works, and fails at its third call. Its first flush fails.
+#[derive(Drop)]
+struct Shaky {
+    calls: u8,
+    flushes: u8,
+    taken: Vec<u8>,
+}
+
+impl Shaky {
+    fn turn(&mut self) -> io::Result<()> {
+        self.calls = self.calls.saturating_add(1);
+        match self.calls {
+            1 => Err(io::Error::from(ErrorKind::Interrupted)),
+            3 => Err(io::Error::from(ErrorKind::Other)),
+            _ => Ok(()),
+        }
+    }
+}
+
+impl Read for Shaky {
+    fn read(&mut self, buf: &mut [u8]) -> io::Result<usize> {
+        self.turn()?;
+        match buf {
+            [] => Ok(0),
+            [first, ..] => {
+                *first = b'x';
+                Ok(1)
+            }
+        }
+    }
+}
+
+impl Write for Shaky {
+    fn write(&mut self, buf: &[u8]) -> io::Result<usize> {
+        self.turn()?;
+        let count = buf.len().min(2);
+        self.taken.extend_from_slice(&buf[..count])?;
+        Ok(count)
+    }
+
+    fn flush(&mut self) -> io::Result<()> {
+        self.flushes = self.flushes.saturating_add(1);
+        match self.flushes {
+            1 => Err(io::Error::from(ErrorKind::Other)),
+            _ => Ok(()),
+        }
+    }
+}
+
+fn write_files<F: Files>(files: &F) -> io::Result<()> {
+    fs::write(files, "a.php", b"hello")?;
+    fs::create_dir(files, "folder")
+}
+
+#[test]
+fn file_shelves_fetch_files(rt: HostRuntime) -> Result<(), Fail> {
+    write_files(&rt)?;
+    let rows = [
+        ("a.php", 9, "hello", 0),
+        ("a.php", 1, "he", 0),
+        ("b.php", 9, "missing", 0),
+        ("folder", 9, "failed", 1),
+        ("a.php/x", 9, "failed", 2),
+        ("a.php", 4, "hello", 2),
+    ];
+    let mut shelf = FileShelf::new(&rt);
+    for (name, limit, wanted, faults) in rows {
+        let seen = fetched(rt.alloc(), &mut shelf, name, limit)?;
+        assert_eq!(rt; seen.as_slice(), wanted.as_bytes());
+        assert_eq!(rt; shelf.faults.count(), faults);
+    }
+    Ok(())
+}
+
+fn untried(alloc: Global) -> Shaky {
+    Shaky {
+        calls: 0,
+        flushes: 0,
+        taken: Vec::new(alloc),
+    }
+}
+
+#[test]
+fn readers_are_sources(rt: HostRuntime) -> Result<(), Fail> {
+    let mut steady = Reading::new(b"hello".as_slice());
+    assert_eq!(rt;
+        takes(rt.alloc(), &mut steady, 4, 3)?.as_slice(),
+        b"hell|o||".as_slice()
+    );
+    let mut source = Reading::new(untried(rt.alloc()));
+    assert_eq!(rt;
+        takes(rt.alloc(), &mut source, 4, 3)?.as_slice(),
+        b"x|!x|".as_slice()
+    );
+    assert_eq!(rt; source.faults.count(), 1);
+    let taken = Reading::new(rt.stdin()).take(&mut [0; 8]);
+    assert!(rt; matches!(taken, Ok(0) | Err(Failed)));
+    Ok(())
+}
+
+#[test]
+fn writers_are_sinks(rt: HostRuntime) -> Result<(), Fail> {
+    let mut sink = Writing::new(untried(rt.alloc()));
+    assert_eq!(rt;
+        puts(rt.alloc(), &mut sink, &["hello", "ab", "cd"])?.as_slice(),
+        b"!!+".as_slice()
+    );
+    assert_eq!(rt; sink.inner.taken.as_slice(), b"heabcd".as_slice());
+    assert_eq!(rt; sink.faults.count(), 2);
+    assert!(rt; Writing::new(rt.stdout()).put(b"written\n").is_ok());
+    Ok(())
+}
+
+#[derive(Drop)]
+struct Doubles(u32);
+
+impl Job for Doubles {
+    ghost use Rattle.std.specs.Prelude.{◌≡◌, ◌*◌};
+
+    type Done = u64;
+
+    ghost may_give = { λ job done. done ≡ job.0 * 2 };
+
+    fn run(self) -> u64 {
+        self.0 as u64 * 2
+    }
+}
+
+// Threads, or none, and each second start is refused.
+#[derive(Drop)]
+struct Halves<'a, R> {
+    rt: Option<&'a R>,
+    starts: u64,
+    faults: Faults,
+}
+
+impl<'a, R: Threads + Wait + Sync> Spawner for Halves<'a, R> {
+    ghost use Rattle.std.specs.Prelude.{None};
+
+    type Runtime = R;
+
+    ghost faults = { λ spawner. spawner.faults };
+
+    ghost starts = { λ _. None };
+
+    fn twin(&self) -> Self {
+        Halves {
+            rt: self.rt,
+            starts: 0,
+            faults: Faults::new(),
+        }
+    }
+
+    fn start(&mut self, _hook: Hook) -> Result<(), Failed> {
+        self.starts = self.starts.saturating_add(1);
+        if self.starts % 2 == 0 {
+            self.faults.raise();
+            return Err(Failed);
+        }
+        Ok(())
+    }
+
+    fn note(&mut self, _hook: Hook) {
+        self.faults.raise();
+    }
+
+    fn runtime(&self, _hook: Hook) -> Option<&R> {
+        self.rt
+    }
+}
+
+// Each result of the jobs, and 0 for each that came back.
+fn results<P: Spawner>(alloc: Global, spawner: &mut P, count: u32) -> Result<Vec<u64>, Memory> {
+    let mut jobs = Vec::new(alloc);
+    for number in 0..count {
+        jobs.push(Doubles(number + 1))?;
+    }
+    let mut results = Vec::new(alloc);
+    for answer in spawner.crew(alloc, jobs)? {
+        results.push(answer.unwrap_or(0))?;
+    }
+    Ok(results)
+}
+
+#[test]
+fn jobs_run_or_come_back(rt: HostRuntime) -> Result<(), Fail> {
+    let alloc = rt.alloc();
+    for threads in [None, Some(&rt)] {
+        let mut spawner = Halves {
+            rt: threads,
+            starts: 0,
+            faults: Faults::new(),
+        };
+        assert_eq!(rt; spawner.beside(Doubles(3), Doubles(4)).ok(), Some((6, 8)));
+        assert!(rt; spawner.beside(Doubles(3), Doubles(4)).is_err());
+        assert_eq!(rt; spawner.faults.count(), 1);
+        assert_eq!(rt;
+            results(alloc, &mut spawner, 3)?.as_slice(),
+            [2, 0, 6].as_slice()
+        );
+        assert_eq!(rt; spawner.faults.count(), 2);
+        assert_eq!(rt; results(alloc, &mut spawner, 0)?.as_slice(), [].as_slice());
+        assert_eq!(rt; spawner.twin().faults.count(), 0);
+    }
+    let mut none: NoSpawner<HostRuntime> = NoSpawner::new();
+    assert!(rt; none.beside(Doubles(3), Doubles(4)).is_err());
+    assert_eq!(rt; results(alloc, &mut none, 2)?.as_slice(), [0, 0].as_slice());
+    assert!(rt; none.twin().beside(Doubles(3), Doubles(4)).is_err());
+    Ok(())
+}

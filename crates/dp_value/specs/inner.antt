@@ -1,0 +1,4 @@
+-- How values are kept and told to the logic. No public clause cites these.
+pub mod Codes
+pub mod Inside
+pub mod Falls

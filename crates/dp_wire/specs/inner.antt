@@ -1,0 +1,2 @@
+-- How a splitter keeps what it holds. No public clause cites these.
+pub mod Held
