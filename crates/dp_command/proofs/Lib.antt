@@ -3,9 +3,11 @@ pub mod Runs
 pub mod Sequences
 pub mod Found
 pub mod Again
-pub mod Whole
+pub mod Decoded
+pub mod LineLaws
 pub mod Written
 pub mod Formed
 pub mod Spellings
 pub mod Ids
 pub mod Short
+pub mod Codes

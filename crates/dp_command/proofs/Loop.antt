@@ -3,7 +3,8 @@ use Rattle.std.proofs.Common.{◌≡◌, ℕ, suc, ◌-◌, ◌+◌, ◌≤◌, 
 use Rattle.std.proofs.lemmas.List.{append-nil}
 use Rattle.dp_command.specs.declared.errors.LineError.{LineError}
 use Rattle.dp_command.specs.declared.errors.LineError.TheVariants as errors
-use Rattle.dp_command.specs.Reading.{◌>>=◌, Fails, items_at}
+use Rattle.dp_command.specs.inner.Reading.{◌>>=◌, items_at}
+use Rattle.dp_command.specs.Lines.{Fails}
 
 -- what was taken before, and what is still taken
 abbrev pub with_front : {A : Type 0} → List A → Option (List A × List ℕ) → Option (List A × List ℕ)

@@ -4,7 +4,7 @@ use Rattle.std.specs.List.{prefix_len}
 use Rattle.std.proofs.lemmas.Bool.{eqb-true}
 use Rattle.std.proofs.Math.Seq.{drop-append_seam, take-append_seam}
 use Rattle.dp_command.specs.Sorts.{Each, begins}
-use Rattle.dp_command.specs.Reading.{◌>>=◌, run_at}
+use Rattle.dp_command.specs.inner.Reading.{◌>>=◌, run_at}
 
 -- ---- steps
 

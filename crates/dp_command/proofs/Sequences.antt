@@ -1,7 +1,7 @@
 -- Parts one behind the other: what was taken from the front, and what is taken again.
 use Rattle.std.proofs.Common.{◌≡◌, ℕ, zero, suc, ◌≤◌, List, [], ◌∷◌, ◌++◌, length, Option, Some, None, refl, sym, ap, subst, ◌∙◌, append_assoc, length-append, arith}
 use Rattle.dp_command.specs.Grammar.{Joined, Repeated}
-use Rattle.dp_command.specs.Reading.{◌>>=◌, onward, items_at}
+use Rattle.dp_command.specs.inner.Reading.{◌>>=◌, onward, items_at}
 use Rattle.dp_command.proofs.Runs.{some_is, bind_some}
 
 -- a part stands at the front, and this behind it

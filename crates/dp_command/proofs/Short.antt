@@ -1,10 +1,11 @@
 -- No value of a line is longer than the bytes that spell it.
-use Rattle.std.proofs.Common.{◌≡◌, ℕ, ◌+◌, ◌≤◌, Bool, true, false, cond, eqb, List, [], ◌∷◌, ◌++◌, length, ap, arith, length-append, ⊎_elim}
+use Rattle.std.proofs.Common.{ℕ, ◌≤◌, Bool, true, false, cond, eqb, List, [], ◌∷◌, length, ap, arith, length-append, ⊎_elim}
 use Rattle.std.specs.Prelude.{IfOk, Result, Ok, Err}
 use Rattle.std.specs.List.{AllByRecursion}
+use Rattle.dp_value.specs.Quoting.{in_quotes}
 use Rattle.dp_command.specs.declared.errors.LineError.{LineError}
 use Rattle.dp_command.specs.declared.line.Line.{Line}
-use Rattle.dp_command.specs.Grammar.{◌>>◌, Mark, SomeSpaces, Bare, Quoted, InQuotes, in_quotes, Repeated, Value, Argument, Given, spelt}
+use Rattle.dp_command.specs.Grammar.{Bare, Quoted, InQuotes, Repeated, Value, Argument, Given, spelt}
 
 abbrev pub IsShort : ℕ → ℕ × List ℕ → Type 0
 IsShort most o = length o.1 ≤ most

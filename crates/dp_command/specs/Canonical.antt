@@ -3,9 +3,10 @@ use Rattle.std.specs.Prelude.{◌≡◌, ℕ, true, Bool, if◌then◌else◌, n
 use Rattle.std.specs.List.{flat_map, AllByRecursion}
 use Rattle.base64.specs.Engines.{standard}
 use Rattle.base64.specs.GeneralPurpose.{encode_of, IsBytes}
+use Rattle.dp_value.specs.Quoting.{in_quotes}
 use Rattle.dp_command.specs.declared.line.Line.{Line}
 use Rattle.dp_command.specs.Sorts.{is_letter, is_bare}
-use Rattle.dp_command.specs.Grammar.{IsName, in_quotes}
+use Rattle.dp_command.specs.Grammar.{IsName}
 
 -- each byte may stand without quotes
 abbrev pub all_bare : List ℕ → Bool
@@ -31,7 +32,8 @@ canonical_payload None = []
 canonical_payload (Some payload) = 32 ∷ 45 ∷ 45 ∷ 32 ∷ encode_of standard payload
 
 abbrev pub canonical : Line → List ℕ
-canonical line = line.name ++ flat_map canonical_option line.options ++ canonical_payload line.payload
+canonical line =
+    line.name ++ flat_map canonical_option line.options ++ canonical_payload line.payload
 
 -- the line has a spelling
 pub record IsWellFormed (line : Line) : Type 0 where

@@ -1,5 +1,6 @@
--- The command that a line is, by the table of commands. Of a line that fits its row, each part that is required is
--- there and each number is one; what stands for a part that is missing is said here for the others.
+-- The command that a line is, by the table of commands. Of a line that fits its row, each part that
+-- is required is there and each number is one; what stands for a part that is missing is said here
+-- for the others.
 use Rattle.std.specs.Prelude.{[], Option, unwrap_or}
 use Rattle.std.specs.Option.{option_map}
 use Rattle.dp_command.specs.declared.line.Line.{Line}
@@ -68,7 +69,8 @@ source options = request.Source (record {
 unfoldable pub request_of : CommandName → Line → Request
 request_of Status line = request.Status
 request_of FeatureGet line = request.FeatureGet (text_given letter.n line.options)
-request_of FeatureSet line = request.FeatureSet (text_given letter.n line.options) (text_given letter.v line.options)
+request_of FeatureSet line =
+    request.FeatureSet (text_given letter.n line.options) (text_given letter.v line.options)
 request_of Run line = request.Continue continuation.Run
 request_of StepInto line = request.Continue continuation.StepInto
 request_of StepOver line = request.Continue continuation.StepOver
@@ -76,17 +78,22 @@ request_of StepOut line = request.Continue continuation.StepOut
 request_of Stop line = request.Finish finish.Stop
 request_of Detach line = request.Finish finish.Detach
 request_of BreakpointSet line = breakpoint_set line
-request_of BreakpointGet line = request.Breakpoint action.Get (number_or_zero letter.d line.options)
-request_of BreakpointRemove line = request.Breakpoint action.Remove (number_or_zero letter.d line.options)
+request_of BreakpointGet line =
+    request.Breakpoint action.Get (number_or_zero letter.d line.options)
+request_of BreakpointRemove line =
+    request.Breakpoint action.Remove (number_or_zero letter.d line.options)
 request_of BreakpointUpdate line = breakpoint_update line.options
 request_of BreakpointList line = request.BreakpointList
 request_of StackDepth line = request.StackDepth
 request_of StackGet line = request.StackGet (number_given letter.d line.options)
 request_of ContextNames line = request.ContextNames
-request_of ContextGet line = request.ContextGet (number_or_zero letter.d line.options) (number_or_zero letter.c line.options)
+request_of ContextGet line =
+    request.ContextGet (number_or_zero letter.d line.options) (number_or_zero letter.c line.options)
 request_of PropertyGet line =
-    request.PropertyGet (place_of line.options) (number_or_zero letter.p line.options) (number_given letter.m line.options)
-request_of PropertyValue line = request.PropertyValue (place_of line.options) (number_given letter.m line.options)
+    request.PropertyGet (place_of line.options) (number_or_zero letter.p line.options)
+    (number_given letter.m line.options)
+request_of PropertyValue line =
+    request.PropertyValue (place_of line.options) (number_given letter.m line.options)
 request_of PropertySet line = property_set line
 request_of Source line = source line.options
 request_of Stdout line = request.Redirect stream.Stdout (mode_given letter.c line.options)

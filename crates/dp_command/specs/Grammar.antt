@@ -1,8 +1,9 @@
 -- The grammar of command lines: DBGp 1.0, "Command Line Format" under "IDE to debugger engine
 -- communications"; the pairs of quoted values and repeated spaces are this engine's own.
-use Rattle.std.specs.Prelude.{◌≡◌, ℕ, ◌≤◌, true, if◌then◌else◌, ◌⊎◌, ◌==◌, List, [], ◌∷◌, ◌++◌, length, Option, Some, None}
+use Rattle.std.specs.Prelude.{◌≡◌, ℕ, ◌≤◌, true, ◌⊎◌, List, [], ◌∷◌, ◌++◌, length, Option, Some, None}
 use Rattle.base64.specs.Engines.{standard}
 use Rattle.base64.specs.GeneralPurpose.{encode_of, IsBytes}
+use Rattle.dp_value.specs.Quoting.{in_quotes}
 use Rattle.dp_command.specs.declared.line.Line.{Line}
 use Rattle.dp_command.specs.Sorts.{is_space, is_name_byte, is_letter, is_bare, Each}
 
@@ -11,7 +12,7 @@ abbrev pub Rule : Type 1
 Rule = List ℕ → Type 0
 
 -- the one part and then the other
-pub record Joined (first_rule : List ℕ → Type 0) (second_rule : List ℕ → Type 0) (bytes : List ℕ) : Type 0 where
+pub record Joined (first_rule second_rule : List ℕ → Type 0) (bytes : List ℕ) : Type 0 where
   pub front : List ℕ
   pub back : List ℕ
   pub whole : bytes ≡ front ++ back
@@ -44,11 +45,6 @@ Name name bytes = IsName name × (bytes ≡ name)
 -- 1*( byte but SP, NUL, quote )
 abbrev pub Bare : List ℕ → Rule
 Bare value bytes = Each is_bare value × (1 ≤ length value) × (bytes ≡ value)
-
--- how a byte stands between quotes: a quote, a backslash and NUL as a pair, each other as itself
-abbrev pub in_quotes : ℕ → List ℕ
-in_quotes b = if b == 34 then 92 ∷ 34 ∷ []
-    else (if b == 92 then 92 ∷ 92 ∷ [] else (if b == 0 then 92 ∷ 48 ∷ [] else b ∷ []))
 
 -- so many parts, one behind the other
 abbrev pub Repeated : {A : Type 0} → (A → List ℕ → Type 0) → List A → Rule

@@ -1,12 +1,13 @@
 pub mod Sorts
 pub mod Grammar
 pub mod Canonical
-pub mod Reading
+pub mod inner
 pub mod Lines
 pub mod Names
 pub mod Numbers
 pub mod Letters
 pub mod Table
 pub mod Options
+pub mod Tests
 pub mod Refusals
 pub mod Commands

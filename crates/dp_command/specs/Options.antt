@@ -39,7 +39,8 @@ number_or_zero letter options = unwrap_or (number_given letter options) 0
 abbrev pub mode_of : List ℕ → Option StreamMode
 mode_of value =
     if bytes_eq value (codes "0") then Some Disable
-    else (if bytes_eq value (codes "1") then Some Copy else (if bytes_eq value (codes "2") then Some Redirect else None))
+    else (if bytes_eq value (codes "1") then Some Copy
+    else (if bytes_eq value (codes "2") then Some Redirect else None))
 
 abbrev pub mode_given : ℕ → Options → StreamMode
 mode_given letter options = unwrap_or (option_and_then mode_of (given letter options)) Disable

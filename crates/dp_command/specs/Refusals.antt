@@ -1,4 +1,5 @@
--- Which lines are commands, whatever the state of the session; where a line is none, its first refusal.
+-- Which lines are commands, whatever the state of the session; where a line is none, its first
+-- refusal.
 use Rattle.std.specs.Prelude.{ℕ, Bool, true, false, not, ◌&&◌, ◌||◌, ◌==◌, List, [], ◌∷◌, length, Option, Some, None, if◌then◌else◌, is_some, is_none, nat_le}
 use Rattle.std.specs.List.{find, list_all, list_any}
 use Rattle.dp_command.specs.declared.line.Line.{Line}
@@ -17,6 +18,7 @@ use Rattle.dp_value.specs.Decimals.{decimal_in}
 use Rattle.dp_command.specs.Numbers.{greatest}
 use Rattle.dp_command.specs.Options.{Options, given, is_given, has_duplicate, mode_of}
 use Rattle.dp_command.specs.Table.{slots_of, payload_of}
+use Rattle.dp_command.specs.Tests.{Test}
 
 -- ---- the transaction id
 
@@ -65,7 +67,8 @@ takes_payload presence.Required payload = is_some payload
 -- nothing is missing, nothing stands there that is not in the row, and nothing is malformed
 unfoldable pub fits_row : CommandName → Line → Bool
 fits_row name line =
-    list_all (is_accepted (slots_of name)) line.options && list_all (is_met line.options) (slots_of name)
+    list_all (is_accepted (slots_of name)) line.options
+    && list_all (is_met line.options) (slots_of name)
     && takes_payload (payload_of name) line.payload
 
 -- ---- the first refusal
@@ -82,7 +85,12 @@ holds_of line Unimplemented = is_none (name_of line.name)
 holds_of line NoId = length (id_of line) == 0
 holds_of line InvalidOptions = not (fits (name_of line.name) line)
 
--- the first of these, in this order, whose test holds of the line
+-- the first of these, in this order, whose test holds of the line: the tests in which the row has
+-- no part
+abbrev pub admission_refusal : Line → Option Refusal
+admission_refusal line = find (holds_of line) (Duplicate ∷ Unimplemented ∷ NoId ∷ [])
+
+-- the first of all
 abbrev pub first_refusal : Line → Option Refusal
 first_refusal line = find (holds_of line) (Duplicate ∷ Unimplemented ∷ NoId ∷ InvalidOptions ∷ [])
 
@@ -92,3 +100,7 @@ code_of Duplicate = 2
 code_of Unimplemented = 4
 code_of NoId = 3
 code_of InvalidOptions = 3
+
+-- the test of a refusal, with its code
+abbrev pub coded : Line → Refusal → Test
+coded line refusal = (holds_of line refusal, code_of refusal)

@@ -1,3 +1,5 @@
+//! A command line.
+
 use dp_value::{Bytes, Items};
 
 /// A command line: the command's name, its options in the order given, and the bytes that its

@@ -1,27 +1,43 @@
 //! The typed command that a line is.
 
-ghost use Rattle.std.specs.Prelude.{◌≡◌, Err, Some, IfNone, IfOk, IfSome, IsTrue, MatchResult, [], unwrap_or};
+ghost use Rattle.std.specs.Prelude.{◌≡◌, Err, Some, IfNone, IfOk, IfSome, IsFalse, IsTrue, MatchResult, [], unwrap_or};
 ghost use Rattle.dp_command.specs.Commands as spec;
 ghost use Rattle.dp_command.specs.Letters as letter;
 ghost use Rattle.dp_command.specs.Options.{mode_given, number_or_zero};
-ghost use Rattle.dp_command.specs.Refusals.{code_of, first_refusal, is_id, id_of as line_id};
+ghost use Rattle.dp_command.specs.Refusals.{code_of, first_refusal, fits_row, is_id};
 
 use crate::command::{
     BreakpointAction, BreakpointSet, BreakpointUpdate, Command, Continuation, Finish,
     PropertyPlace, PropertySet, Request, SourceRange, Stream,
 };
-use crate::errors::CommandError;
+use crate::errors::{CommandError, Refusal};
 use crate::line::Line;
 use crate::names::CommandName;
 use crate::options::{copy_of, mode_given, number_given, number_or_zero, text_given};
-use crate::refusals::{check_line, id_of};
+use crate::refusals::{fits_row, id_of};
 use dp_value::{Bytes, Memory};
 use std::alloc::Global;
 
 impl Command {
-    /// The typed command that a line is, or the code of its first refusal: 2, 4 or 3, which
-    /// `check_line` tells apart. A refusal takes no memory. DBGp 1.0, "Core Commands", "Extended
-    /// Commands".
+    /// The typed command of this name that a line is, or code 3 where its options or its payload
+    /// are not those of the name's row. A refusal takes no memory. DBGp 1.0, "Core Commands",
+    /// "Extended Commands".
+    pub fn read(alloc: Global, line: &Line, name: CommandName) -> Result<Command, CommandError>
+        // A line that does not fit the row is always answered with the code.
+        ensures refused { IsFalse (fits_row name line.now)
+            → result ≡ Err (CommandError.Code (code_of Refusal.InvalidOptions)) }
+        // A line that fits it is always answered with its command, unless memory runs out.
+        ensures accepted { IsTrue (fits_row name line.now) → MatchResult result
+            (λ command. command ≡ spec.command_as line.now name) (λ e. e ≡ CommandError.Memory) }
+    {
+        if !fits_row(name, line) {
+            return Err(CommandError::Code(Refusal::InvalidOptions.code()));
+        }
+        command_as(alloc, line, name)
+    }
+
+    /// The typed command that a line is, or the code of its first refusal: 2, 4 or 3. It is
+    /// `CommandName::admit` and then `Command::read`. A refusal takes no memory.
     pub fn of(alloc: Global, line: &Line) -> Result<Command, CommandError>
         // A line that has a refusal is always answered with the code of the first.
         ensures refused { IfSome (first_refusal line.now)
@@ -33,18 +49,16 @@ impl Command {
         // The id of a command is one.
         ensures id { IfOk result (λ command. IsTrue (is_id command.id)) }
     {
-        match check_line(line) {
+        match CommandName::admit(line) {
             Err(refusal) => Err(CommandError::Code(refusal.code())),
-            Ok(name) => command_as(alloc, line, name),
+            Ok(name) => Command::read(alloc, line, name),
         }
     }
 }
 
 fn command_as(alloc: Global, line: &Line, name: CommandName) -> Result<Command, CommandError>
-    requires { IsTrue (is_id (line_id line.now)) }
-    ensures made { MatchResult result
+    ensures { MatchResult result
         (λ command. command ≡ spec.command_as line.now name) (λ e. e ≡ CommandError.Memory) }
-    ensures id { IfOk result (λ command. IsTrue (is_id command.id)) }
 {
     let id = Bytes::from_slice(alloc, id_of(line))?;
     let request = request_of(alloc, name, line)?;

@@ -3,7 +3,8 @@
 ghost use Rattle.std.specs.Prelude.{◌≡◌, ◌≤◌, length, Err, IfOk, MatchResult};
 ghost use Rattle.std.specs.List.{AllByRecursion};
 ghost use Rattle.dp_command.specs.Grammar.{spelt};
-ghost use Rattle.dp_command.specs.Reading.{Gives, parts_at, seen_text};
+ghost use Rattle.dp_command.specs.inner.Reading.{parts_at, seen_text};
+ghost use Rattle.dp_command.specs.Lines.{Gives};
 ghost use Rattle.dp_command.specs.Canonical.{IsWellFormed};
 ghost use Rattle.dp_command.specs.Lines.{line_of};
 
@@ -16,7 +17,7 @@ use dp_value::{Bytes, Items};
 use std::alloc::Global;
 
 // The name, the options, and the text of the payload where there is one.
-#[tactic(auto, unfolding(crate::specs::Reading::parts_at))]
+#[tactic(auto, unfolding(crate::specs::inner::Reading::parts_at))]
 fn parts(
     alloc: Global,
     bytes: &[u8],
@@ -31,10 +32,7 @@ fn parts(
 
 #[tactic(auto, unfolding(crate::specs::Lines::line_of))]
 fn line(alloc: Global, bytes: &[u8]) -> Result<Line, LineError>
-    ensures read { Gives (λ line. line) result (line_of bytes.now) }
-    ensures found { IfOk result (λ line. spelt bytes.now line) }
-    ensures only { (line : Line) → spelt bytes.now line →
-        MatchResult result (λ read. read ≡ line) (λ e. e ≡ LineError.Memory) }
+    ensures { Gives (λ line. line) result (line_of bytes.now) }
 {
     let (name, options, text) = parts(alloc, bytes)?;
     match text {
@@ -56,7 +54,7 @@ fn line(alloc: Global, bytes: &[u8]) -> Result<Line, LineError>
 
 /// The line that the bytes spell, all of the bytes. DBGp 1.0, "Command Line Format".
 pub fn read_line(alloc: Global, bytes: &[u8]) -> Result<Line, LineError>
-    // What is read is what reading from left to right gives.
+    // What is read is the line that the bytes spell, as a function.
     ensures read { Gives (λ line. line) result (line_of bytes.now) }
     // What is read is spelt so.
     ensures found { IfOk result (λ line. spelt bytes.now line) }

@@ -40,33 +40,48 @@ fn all_visible(value: &[u8]) -> bool
     value.iter().all(|b| 0x21 <= *b && *b <= 0x7e)
 }
 
+impl CommandName {
+    /// The name of the command that a line is, or the first refusal in which the command's row has
+    /// no part: a letter that stands twice, an unknown name, and last no transaction id. A session
+    /// tests its state next, and then `Command::read` the row. Takes no memory.
+    #[tactic(auto, using(crate::proofs::Ids::has_id))]
+    pub fn admit(line: &Line) -> Result<CommandName, Refusal>
+        ensures refused { IfErr result (λ refusal. spec.admission_refusal line.now ≡ Some refusal) }
+        ensures admitted { IfOk result (λ _. spec.admission_refusal line.now ≡ None) }
+        ensures named { IfOk result (λ name. name_of line.now.name ≡ Some name) }
+        ensures id { IfOk result (λ _. IsTrue (spec.is_id (spec.id_of line.now))) }
+    {
+        if has_duplicate(line.options.as_slice()) {
+            return Err(Refusal::Duplicate);
+        }
+        let Some(name) = CommandName::of(line.name.as_slice()) else {
+            return Err(Refusal::Unimplemented);
+        };
+        if id_of(line).is_empty() {
+            return Err(Refusal::NoId);
+        }
+        Ok(name)
+    }
+}
+
 /// The name of a command that has no refusal, or the first refusal: a letter that stands twice, an
 /// unknown name, no transaction id, and last the options and the payload. A test of the session's
 /// state has its place before `InvalidOptions`. Takes no memory.
-#[tactic(auto, using(crate::proofs::Ids::has_id))]
 pub fn check_line(line: &Line) -> Result<CommandName, Refusal>
     ensures refused { IfErr result (λ refusal. spec.first_refusal line.now ≡ Some refusal) }
     ensures accepted { IfOk result (λ _. spec.first_refusal line.now ≡ None) }
     ensures named { IfOk result (λ name. name_of line.now.name ≡ Some name) }
     ensures id { IfOk result (λ _. IsTrue (spec.is_id (spec.id_of line.now))) }
 {
-    if has_duplicate(line.options.as_slice()) {
-        return Err(Refusal::Duplicate);
-    }
-    let Some(name) = CommandName::of(line.name.as_slice()) else {
-        return Err(Refusal::Unimplemented);
-    };
-    if id_of(line).is_empty() {
-        return Err(Refusal::NoId);
-    }
+    let name = CommandName::admit(line)?;
     if !fits_row(name, line) {
         return Err(Refusal::InvalidOptions);
     }
     Ok(name)
 }
 
-/// Whether the options and the payload are those of the command's row: nothing is missing, nothing stands there that is
-/// not in the row, and nothing is malformed. Takes no memory.
+/// Whether the options and the payload are those of the command's row: nothing is missing, nothing
+/// stands there that is not in the row, and nothing is malformed. Takes no memory.
 #[tactic(auto, unfolding(crate::specs::Refusals::fits_row))]
 pub fn fits_row(name: CommandName, line: &Line) -> bool
     ensures { result ≡ spec.fits_row name line.now }

@@ -1,9 +1,10 @@
 //! Values, options and payloads.
 
-ghost use Rattle.std.specs.Prelude.{◌≡◌, List, ℕ, length, IfOk, MatchResult};
+ghost use Rattle.std.specs.Prelude.{length};
 ghost use Rattle.base64.specs.Engines.{standard};
-ghost use Rattle.base64.specs.GeneralPurpose.{decoded_of, encode_of, IsBytes};
-ghost use Rattle.dp_command.specs.Reading.{Gives, byte_at, items_at, quoted_at, bare_at, value_at, option_at, options_at};
+ghost use Rattle.base64.specs.GeneralPurpose.{decoded_of};
+ghost use Rattle.dp_command.specs.inner.Reading.{byte_at, items_at, quoted_at, bare_at, value_at, option_at, options_at};
+ghost use Rattle.dp_command.specs.Lines.{Gives};
 
 use crate::errors::LineError;
 use crate::parts::{letter, spaces};
@@ -14,7 +15,7 @@ use dp_value::{Bytes, Items};
 use std::alloc::Global;
 
 // The byte between quotes that stands here; none at the closing quote.
-#[tactic(auto, unfolding(crate::specs::Reading::byte_at))]
+#[tactic(auto, unfolding(crate::specs::inner::Reading::byte_at))]
 fn byte(bytes: &[u8]) -> Result<(Option<u8>, &[u8]), LineError>
     ensures { Gives (λ found. (found.0, found.1.now)) result (byte_at bytes.now) }
 {
@@ -45,7 +46,7 @@ fn inner(alloc: Global, bytes: &[u8]) -> Result<(Vec<u8>, &[u8]), LineError>
 }
 
 // The value whose opening quote stands before these bytes.
-#[tactic(auto, unfolding(crate::specs::Reading::quoted_at))]
+#[tactic(auto, unfolding(crate::specs::inner::Reading::quoted_at))]
 fn quoted(alloc: Global, bytes: &[u8]) -> Result<(Bytes, &[u8]), LineError>
     ensures { Gives (λ found. (found.0, found.1.now)) result (quoted_at bytes.now) }
 {
@@ -56,7 +57,7 @@ fn quoted(alloc: Global, bytes: &[u8]) -> Result<(Bytes, &[u8]), LineError>
     }
 }
 
-#[tactic(auto, unfolding(crate::specs::Reading::bare_at))]
+#[tactic(auto, unfolding(crate::specs::inner::Reading::bare_at))]
 fn bare(alloc: Global, bytes: &[u8]) -> Result<(Bytes, &[u8]), LineError>
     ensures { Gives (λ found. (found.0, found.1.now)) result (bare_at bytes.now) }
 {
@@ -69,7 +70,7 @@ fn bare(alloc: Global, bytes: &[u8]) -> Result<(Bytes, &[u8]), LineError>
     }
 }
 
-#[tactic(auto, unfolding(crate::specs::Reading::value_at))]
+#[tactic(auto, unfolding(crate::specs::inner::Reading::value_at))]
 fn value(alloc: Global, bytes: &[u8]) -> Result<(Bytes, &[u8]), LineError>
     ensures { Gives (λ found. (found.0, found.1.now)) result (value_at bytes.now) }
 {
@@ -80,7 +81,7 @@ fn value(alloc: Global, bytes: &[u8]) -> Result<(Bytes, &[u8]), LineError>
 }
 
 // The option that stands here; none where no space, dash and letter stand here.
-#[tactic(auto, unfolding(crate::specs::Reading::option_at))]
+#[tactic(auto, unfolding(crate::specs::inner::Reading::option_at))]
 fn option(alloc: Global, bytes: &[u8]) -> Result<(Option<(u8, Bytes)>, &[u8]), LineError>
     ensures { Gives (λ found. (found.0, found.1.now)) result (option_at bytes.now) }
 {
@@ -107,7 +108,7 @@ fn given(alloc: Global, bytes: &[u8]) -> Result<(Vec<(u8, Bytes)>, &[u8]), LineE
     Ok((options, rest))
 }
 
-#[tactic(auto, unfolding(crate::specs::Reading::options_at))]
+#[tactic(auto, unfolding(crate::specs::inner::Reading::options_at))]
 pub fn options(alloc: Global, bytes: &[u8]) -> Result<(Items<(u8, Bytes)>, &[u8]), LineError>
     ensures { Gives (λ found. (found.0, found.1.now)) result (options_at bytes.now) }
 {
@@ -118,10 +119,7 @@ pub fn options(alloc: Global, bytes: &[u8]) -> Result<(Items<(u8, Bytes)>, &[u8]
 // What a text decodes to: strict base64, of which each list of bytes has one.
 #[tactic(auto, unfolding(base64::specs::GeneralPurpose::decoded_of))]
 pub fn payload(alloc: Global, text: &[u8]) -> Result<Bytes, LineError>
-    ensures read { Gives (λ p. p) result (decoded_of standard text.now) }
-    ensures found { IfOk result (λ p. IsBytes p × (text.now ≡ encode_of standard p)) }
-    ensures only { (p : List ℕ) → IsBytes p → text.now ≡ encode_of standard p →
-        MatchResult result (λ q. q ≡ p) (λ e. e ≡ LineError.Memory) }
+    ensures { Gives (λ p. p) result (decoded_of standard text.now) }
 {
     match STANDARD.decode(alloc, text) {
         Ok(bytes) => Ok(Bytes::of(bytes)),

@@ -2,7 +2,6 @@
 
 ghost use Rattle.std.specs.Prelude.{◌≡◌, ◌++◌, IfOk, OnOk, length};
 ghost use Rattle.std.specs.List.{flat_map};
-ghost use Rattle.dp_command.specs.Grammar.{in_quotes};
 ghost use Rattle.dp_command.specs.Canonical as spec;
 ghost use Rattle.dp_command.specs.Canonical.{canonical, quoted, canonical_value, canonical_option, canonical_payload, all_bare};
 
@@ -10,7 +9,7 @@ use crate::Memory;
 use crate::line::Line;
 use crate::sort::Sort;
 use base64::engine::general_purpose::STANDARD;
-use dp_value::Bytes;
+use dp_value::{Bytes, put_in_quotes};
 use std::alloc::Global;
 
 /// The canonical form of a line: one space between parts, none at the end, and quotes round a value
@@ -74,29 +73,9 @@ fn write_quoted(out: &mut Vec<u8>, value: &[u8]) -> Result<(), Memory>
     ensures { OnOk result (out.new.items ≡ out.old.items ++ quoted value.now) }
 {
     out.push(b'"')?;
-    write_inner(out, value)?;
+    put_in_quotes(out, value)?;
     out.push(b'"')?;
     Ok(())
-}
-
-fn write_inner(out: &mut Vec<u8>, value: &[u8]) -> Result<(), Memory>
-    ensures { OnOk result (out.new.items ≡ out.old.items ++ flat_map in_quotes value.now) }
-{
-    for b in value {
-        write_byte(out, *b)?;
-    }
-    Ok(())
-}
-
-fn write_byte(out: &mut Vec<u8>, b: u8) -> Result<(), Memory>
-    ensures { OnOk result (out.new.items ≡ out.old.items ++ in_quotes b) }
-{
-    match b {
-        b'"' => out.extend_from_slice(b"\\\""),
-        b'\\' => out.extend_from_slice(b"\\\\"),
-        0 => out.extend_from_slice(b"\\0"),
-        _ => out.extend_from_slice(&[b]),
-    }
 }
 
 fn write_payload(alloc: Global, out: &mut Vec<u8>, payload: &[u8]) -> Result<(), Memory>

@@ -1,13 +1,11 @@
--- The features of an engine: DBGp 1.0, "feature_get", "feature_set". Which of them can be set, and to what, is this
--- engine's own where the standard leaves it open.
-use Rattle.std.specs.Prelude.{ℕ, nat_le, Bool, false, not, ◌&&◌, List, [], ◌∷◌, Option, unwrap_or, codes, decimal}
+-- The features of an engine: DBGp 1.0, "feature_get", "feature_set". Which of them can be set, and to
+-- what, is this engine's own where the standard leaves it open.
+use Rattle.std.specs.Prelude.{◌≤◌, ℕ, nat_le, Bool, not, ◌&&◌, List, [], ◌∷◌, Option, Some, None, IfSome, if◌then◌else◌, option_map, option_and_then, codes, decimal}
 use Rattle.std.specs.List.{find}
-use Rattle.std.specs.Option.{option_map_or}
 use Rattle.std.specs.Str.{bytes_eq}
 use Rattle.dp_value.specs.Decimals.{decimal_in}
 use Rattle.dp_features.specs.declared.feature.Feature.{Feature}
 use Rattle.dp_features.specs.declared.feature.Feature.TheVariants.{LanguageSupportsThreads, LanguageName, LanguageVersion, Encoding, ProtocolVersion, SupportsAsync, DataEncoding, BreakpointLanguages, BreakpointTypes, MultipleSessions, MaxChildren, MaxData, MaxDepth, ShowHidden, NotifyOk, SupportsPostmortem}
-use Rattle.dp_features.specs.declared.features.Features.{Features}
 
 -- ---- names
 
@@ -31,9 +29,9 @@ name_of SupportsPostmortem = codes "supports_postmortem"
 
 abbrev pub every_feature : List Feature
 every_feature =
-    LanguageSupportsThreads ∷ LanguageName ∷ LanguageVersion ∷ Encoding ∷ ProtocolVersion ∷ SupportsAsync ∷ DataEncoding
-    ∷ BreakpointLanguages ∷ BreakpointTypes ∷ MultipleSessions ∷ MaxChildren ∷ MaxData ∷ MaxDepth ∷ ShowHidden ∷ NotifyOk
-    ∷ SupportsPostmortem ∷ []
+    LanguageSupportsThreads ∷ LanguageName ∷ LanguageVersion ∷ Encoding ∷ ProtocolVersion
+    ∷ SupportsAsync ∷ DataEncoding ∷ BreakpointLanguages ∷ BreakpointTypes ∷ MultipleSessions
+    ∷ MaxChildren ∷ MaxData ∷ MaxDepth ∷ ShowHidden ∷ NotifyOk ∷ SupportsPostmortem ∷ []
 
 -- the feature of this name, with regard to case
 unfoldable pub feature_named : List ℕ → Option Feature
@@ -41,9 +39,25 @@ feature_named name = find (λ feature. bytes_eq (name_of feature) name) every_fe
 
 -- ---- values
 
+-- the values of the features that are set to numbers
+pub record Features : Type 0 where
+  pub multiple_sessions : ℕ
+  pub max_children : ℕ
+  pub max_data : ℕ
+  pub max_depth : ℕ
+  pub show_hidden : ℕ
+  pub notify_ok : ℕ
+
 -- what a session begins with
 abbrev pub defaults : Features
-defaults = record { multiple_sessions = 0; max_children = 32; max_data = 1024; max_depth = 1; show_hidden = 0; notify_ok = 0 }
+defaults = record {
+  multiple_sessions = 0;
+  max_children = 32;
+  max_data = 1024;
+  max_depth = 1;
+  show_hidden = 0;
+  notify_ok = 0;
+}
 
 -- the value that is told
 abbrev pub value_of : Features → Feature → List ℕ
@@ -66,43 +80,61 @@ value_of features SupportsPostmortem = codes "0"
 
 -- ---- what may be set
 
--- the decimal of a number in this range
-abbrev pub is_within : ℕ → ℕ → List ℕ → Bool
-is_within least most value = option_map_or (nat_le least) (decimal_in most value) false
+-- the lowest and the greatest number that a feature can be set to
+abbrev pub range_of : Feature → Option (ℕ × ℕ)
+range_of MultipleSessions = Some (0, 1)
+range_of MaxChildren = Some (1, 1048576)
+range_of MaxData = Some (0, 1048576)
+range_of MaxDepth = Some (0, 32)
+range_of ShowHidden = Some (0, 1)
+range_of NotifyOk = Some (0, 1)
+range_of feature = None
 
--- the feature can be set to this value
-abbrev pub may_be : Feature → List ℕ → Bool
-may_be Encoding value = bytes_eq value (codes "iso-8859-1")
-may_be MultipleSessions value = is_within 0 1 value
-may_be MaxChildren value = is_within 1 1048576 value
-may_be MaxData value = is_within 0 1048576 value
-may_be MaxDepth value = is_within 0 32 value
-may_be ShowHidden value = is_within 0 1 value
-may_be NotifyOk value = is_within 0 1 value
-may_be feature value = false
+-- the number is in the feature's range, where it has one
+abbrev pub IsInRange : Feature → ℕ → Type 0
+IsInRange feature number = IfSome (range_of feature) (λ range. (range.0 ≤ number) × (number ≤ range.1))
 
--- the feature of this name can be set to this value
-abbrev pub is_settable : List ℕ → List ℕ → Bool
-is_settable name value = option_map_or (λ feature. may_be feature value) (feature_named name) false
+-- the number of a decimal in this range
+abbrev pub number_in : List ℕ → ℕ × ℕ → Option ℕ
+number_in value range =
+    option_and_then (λ n. if nat_le range.0 n then Some n else None) (decimal_in range.1 value)
+
+-- the number of a value that the feature can be set to; the one encoding there is has 0
+abbrev pub number_of : Feature → List ℕ → Option ℕ
+number_of Encoding value = if bytes_eq value (codes "iso-8859-1") then Some 0 else None
+number_of feature value = option_and_then (number_in value) (range_of feature)
+
+-- a feature, and the number of a value that it can be set to
+abbrev pub setting_of : Feature → List ℕ → Option (Feature × ℕ)
+setting_of feature value = option_map (λ number. (feature, number)) (number_of feature value)
+
+-- the same, of the feature of this name
+abbrev pub setting_named : List ℕ → List ℕ → Option (Feature × ℕ)
+setting_named name value = option_and_then (λ feature. setting_of feature value) (feature_named name)
 
 -- another encoding than the one that there is
 abbrev pub is_other_encoding : List ℕ → List ℕ → Bool
-is_other_encoding name value = bytes_eq name (codes "encoding") && not (bytes_eq value (codes "iso-8859-1"))
+is_other_encoding name value =
+    bytes_eq name (codes "encoding") && not (bytes_eq value (codes "iso-8859-1"))
 
--- the number of a decimal up to this
-abbrev pub number : ℕ → List ℕ → ℕ
-number most value = unwrap_or (decimal_in most value) 0
+-- with a feature set to this number
+abbrev pub with_number : Feature → ℕ → Features → Features
+with_number MultipleSessions number features = record features { multiple_sessions = number }
+with_number MaxChildren number features = record features { max_children = number }
+with_number MaxData number features = record features { max_data = number }
+with_number MaxDepth number features = record features { max_depth = number }
+with_number ShowHidden number features = record features { show_hidden = number }
+with_number NotifyOk number features = record features { notify_ok = number }
+with_number feature number features = features
 
--- with a feature set to a value that it can have
-abbrev pub with_value : Feature → List ℕ → Features → Features
-with_value MultipleSessions value features = record features { multiple_sessions = number 1 value }
-with_value MaxChildren value features = record features { max_children = number 1048576 value }
-with_value MaxData value features = record features { max_data = number 1048576 value }
-with_value MaxDepth value features = record features { max_depth = number 32 value }
-with_value ShowHidden value features = record features { show_hidden = number 1 value }
-with_value NotifyOk value features = record features { notify_ok = number 1 value }
-with_value feature value features = features
+abbrev pub with_setting : Feature × ℕ → Features → Features
+with_setting setting features = with_number setting.0 setting.1 features
 
--- with the feature of this name set to a value that it can have
-abbrev pub with_setting : List ℕ → List ℕ → Features → Features
-with_setting name value features = option_map_or (λ feature. with_value feature value features) (feature_named name) features
+-- each number is in its feature's range
+pub record AreInRange (features : Features) : Type 0 where
+  pub multiple_sessions : IsInRange MultipleSessions features.multiple_sessions
+  pub max_children : IsInRange MaxChildren features.max_children
+  pub max_data : IsInRange MaxData features.max_data
+  pub max_depth : IsInRange MaxDepth features.max_depth
+  pub show_hidden : IsInRange ShowHidden features.show_hidden
+  pub notify_ok : IsInRange NotifyOk features.notify_ok

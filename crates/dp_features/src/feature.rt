@@ -1,10 +1,8 @@
 //! The names of features, and what values they can have.
-ghost use Rattle.std.specs.Prelude.{◌≡◌};
+ghost use Rattle.std.specs.Prelude.{◌≡◌, ◌≤◌, IfSome};
 ghost use Rattle.std.specs.List.{find};
 ghost use Rattle.std.specs.Str.{bytes_eq};
 ghost use Rattle.dp_features.specs.Features as spec;
-
-use dp_value::decimal;
 
 /// A feature of the engine: DBGp 1.0, "feature_get".
 #[derive(Clone, Copy, Debug, PartialEq, Eq)]
@@ -57,16 +55,6 @@ fn first_of(features: &[Feature], name: &[u8]) -> Option<Feature>
     None
 }
 
-/// Whether the text is a decimal from `least` to `most`.
-fn is_within(least: u64, most: u64, text: &[u8]) -> bool
-    ensures { result ≡ spec.is_within least most text.now }
-{
-    match decimal(text, most) {
-        Some(number) => least <= number,
-        None => false,
-    }
-}
-
 impl Feature {
     /// The feature of this name. Takes no memory.
     #[tactic(auto, unfolding(crate::specs::Features::feature_named))]
@@ -100,19 +88,17 @@ impl Feature {
         }
     }
 
-    /// Whether it can be set to this value. Takes no memory.
-    pub fn may_be(self, value: &[u8]) -> bool
-        ensures { result ≡ spec.may_be self value.now }
+    /// The lowest and the greatest number that it can be set to.
+    pub(crate) fn range(self) -> Option<(u64, u64)>
+        ensures value { result ≡ spec.range_of self }
+        ensures bound { IfSome result (λ range. range.1 ≤ 1048576) }
     {
         match self {
-            Feature::Encoding => value == b"iso-8859-1".as_slice(),
-            Feature::MultipleSessions => is_within(0, 1, value),
-            Feature::MaxChildren => is_within(1, 1_048_576, value),
-            Feature::MaxData => is_within(0, 1_048_576, value),
-            Feature::MaxDepth => is_within(0, 32, value),
-            Feature::ShowHidden => is_within(0, 1, value),
-            Feature::NotifyOk => is_within(0, 1, value),
-            _ => false,
+            Feature::MultipleSessions | Feature::ShowHidden | Feature::NotifyOk => Some((0, 1)),
+            Feature::MaxChildren => Some((1, 1_048_576)),
+            Feature::MaxData => Some((0, 1_048_576)),
+            Feature::MaxDepth => Some((0, 32)),
+            _ => None,
         }
     }
 }

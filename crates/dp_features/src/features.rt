@@ -3,35 +3,60 @@ ghost use Rattle.std.specs.Prelude.{◌≡◌, ◌≤◌, decimal, length, IfOk}
 ghost use Rattle.dp_features.specs.Features as spec;
 
 use crate::feature::Feature;
-use dp_value::{Bytes, Memory, decimal};
+use crate::setting::Setting;
+use dp_value::{Bytes, Memory};
 use std::alloc::Global;
+use std::marker::Model;
 
-/// The features that can be set, with their values. `multiple_sessions`, `show_hidden` and `notify_ok` are kept and
-/// change nothing else.
-#[derive(Clone, Copy, Debug, PartialEq, Eq)]
+/// The features that are set to numbers, each within its range. `multiple_sessions`, `show_hidden`
+/// and `notify_ok` are kept and change nothing else.
+#[derive(Clone, Copy, Debug)]
 pub struct Features {
     /// 0 or 1.
-    pub multiple_sessions: u32,
+    multiple_sessions: u32,
     /// The most entries of an array on one page, from 1 to 1,048,576.
-    pub max_children: u32,
+    max_children: u32,
     /// The most bytes of a text that are shown, up to 1,048,576.
-    pub max_data: u32,
+    max_data: u32,
     /// How deep arrays are shown in one another, up to 32.
-    pub max_depth: u32,
+    max_depth: u32,
     /// 0 or 1.
-    pub show_hidden: u32,
+    show_hidden: u32,
     /// 0 or 1.
-    pub notify_ok: u32,
+    notify_ok: u32,
 }
 
-/// The number of a decimal up to `most`, and 0 for another text.
-fn number(most: u32, text: &[u8]) -> u32
-    ensures { result ≡ spec.number most text.now }
-{
-    match decimal(text, u64::from(most)) {
-        Some(number) => number as u32,
-        None => 0,
-    }
+impl Model for Features {
+    ghost use Rattle.dp_features.specs.Features.{AreInRange, Features};
+
+    ghost Value = { Features };
+
+    ghost view = { λ f. record {
+      multiple_sessions = f.multiple_sessions;
+      max_children = f.max_children;
+      max_data = f.max_data;
+      max_depth = f.max_depth;
+      show_hidden = f.show_hidden;
+      notify_ok = f.notify_ok;
+    } };
+
+    ghost inverse = { λ v. record {
+      multiple_sessions = v.multiple_sessions;
+      max_children = v.max_children;
+      max_data = v.max_data;
+      max_depth = v.max_depth;
+      show_hidden = v.show_hidden;
+      notify_ok = v.notify_ok;
+    } };
+
+    ghost invariant = { λ f. AreInRange (record {
+      multiple_sessions = f.multiple_sessions;
+      max_children = f.max_children;
+      max_data = f.max_data;
+      max_depth = f.max_depth;
+      show_hidden = f.show_hidden;
+      notify_ok = f.notify_ok;
+    }) };
 }
 
 /// The decimal of a number.
@@ -84,37 +109,46 @@ impl Features {
         }
     }
 
-    /// The features with one set to a value that it can have. The features that cannot be set, and the encoding, of
-    /// which there is one, stay. Takes no memory.
-    pub fn with_value(self, feature: Feature, value: &[u8]) -> Self
-        ensures { result ≡ spec.with_value feature value.now self }
+    /// The most entries of an array on one page. Takes no memory.
+    pub fn max_children(&self) -> u32
+        ensures value { result ≡ self.now.max_children }
+        ensures some { 1 ≤ result }
+        ensures bound { result ≤ 1048576 }
     {
-        match feature {
-            Feature::MultipleSessions => Features {
-                multiple_sessions: number(1, value),
-                ..self
-            },
-            Feature::MaxChildren => Features {
-                max_children: number(1_048_576, value),
-                ..self
-            },
-            Feature::MaxData => Features {
-                max_data: number(1_048_576, value),
-                ..self
-            },
-            Feature::MaxDepth => Features {
-                max_depth: number(32, value),
-                ..self
-            },
-            Feature::ShowHidden => Features {
-                show_hidden: number(1, value),
-                ..self
-            },
-            Feature::NotifyOk => Features {
-                notify_ok: number(1, value),
-                ..self
-            },
-            _ => self,
+        self.max_children
+    }
+
+    /// The most bytes of a text that are shown. Takes no memory.
+    pub fn max_data(&self) -> u32
+        ensures value { result ≡ self.now.max_data }
+        ensures bound { result ≤ 1048576 }
+    {
+        self.max_data
+    }
+
+    /// How deep arrays are shown in one another. Takes no memory.
+    pub fn max_depth(&self) -> u32
+        ensures value { result ≡ self.now.max_depth }
+        ensures bound { result ≤ 32 }
+    {
+        self.max_depth
+    }
+
+    /// The features with one set. The encoding, of which there is one, stays. Takes no memory.
+    pub fn with(self, setting: Setting) -> Self
+        ensures { result ≡ spec.with_setting setting self }
+    {
+        let mut features = self;
+        let number = setting.number;
+        match setting.feature {
+            Feature::MultipleSessions => features.multiple_sessions = number,
+            Feature::MaxChildren => features.max_children = number,
+            Feature::MaxData => features.max_data = number,
+            Feature::MaxDepth => features.max_depth = number,
+            Feature::ShowHidden => features.show_hidden = number,
+            Feature::NotifyOk => features.notify_ok = number,
+            _ => {}
         }
+        features
     }
 }

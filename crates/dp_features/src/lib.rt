@@ -3,10 +3,9 @@
 
 mod feature;
 mod features;
+mod setting;
 
 pub use dp_value::Memory;
 pub use feature::Feature;
 pub use features::Features;
-
-#[cfg(test)]
-mod tests;
+pub use setting::Setting;

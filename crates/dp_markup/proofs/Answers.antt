@@ -5,7 +5,7 @@
 use Rattle.std.specs.declared.ops.ControlFlow.{ControlFlow}
 use Rattle.std.proofs.Common.{◌≡◌, ◌⊎◌, inl, inr, ℕ, ◌≤◌, Bool, true, false, List, [], ◌∷◌, ◌++◌, length, Option, Some, None, Ok, Err, sym, refl, ap, ◌∙◌, subst, append_assoc, append-nil, cond, arith}
 use Rattle.dp_markup.specs.declared.refusal.Refusal.TheVariants.{Unexpected, TooDeep, Memory}
-use Rattle.dp_markup.specs.Input.{head, next, Outcome, Reader, and_then, met, one, tested}
+use Rattle.dp_markup.specs.inner.Input.{head, next, Outcome, Reader, and_then, met, one, tested}
 use Rattle.dp_markup.specs.Rules.{Rule, Joined, ◌or◌, Gives, One, Tested, When, Closed, Step}
 
 -- a rule at each level of nesting

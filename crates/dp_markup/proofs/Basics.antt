@@ -3,11 +3,11 @@ use Rattle.std.specs.declared.ops.ControlFlow.{ControlFlow}
 use Rattle.std.specs.declared.ops.ControlFlow.TheVariants.{Continue, Break}
 use Rattle.std.proofs.Common.{◌≡◌, ◌⊎◌, inl, inr, ℕ, ◌≤◌, Bool, true, false, ◌||◌, List, [], ◌∷◌, ◌++◌, Option, Some, None, sym, refl, ap, ◌∙◌, cond}
 use Rattle.std.proofs.lemmas.Bool.{eqb-true, eq-eqb}
-use Rattle.dp_markup.specs.Input.{head, next, Reader, gives, made, ◌>>=◌, ◌>>◌, one, mark, word, closed}
+use Rattle.dp_markup.specs.inner.Input.{head, next, Reader, gives, made, ◌>>=◌, ◌>>◌, one, mark, word, closed}
 use Rattle.dp_markup.specs.Rules.{Rule, Joined, Gives, Made, One, passing, Mark, Word, Closed}
 use Rattle.dp_markup.specs.Classes.{is_white}
 use Rattle.dp_markup.specs.Grammar.{Named, White}
-use Rattle.dp_markup.specs.Reading.{same}
+use Rattle.dp_markup.specs.inner.Reading.{same}
 use Rattle.dp_markup.proofs.Answers.{Rules, Stop, Anything, JoinedAt, EitherAt, StepAt, Answers, StartsIn, GoesOn, one_answers, gives_answers, joined_answers, either_answers, joined_starts, wider_starts}
 use Rattle.dp_markup.proofs.Loops.{give, given, step_stop, closed_answers}
 

@@ -1,3 +1,5 @@
+pub mod Lookups
+pub mod TagTurns
 pub mod Answers
 pub mod Basics
 pub mod Levels

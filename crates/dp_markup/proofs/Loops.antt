@@ -2,7 +2,7 @@
 use Rattle.std.specs.declared.ops.ControlFlow.{ControlFlow}
 use Rattle.std.specs.declared.ops.ControlFlow.TheVariants.{Continue, Break}
 use Rattle.std.proofs.Common.{◌≡◌, inl, inr, ℕ, zero, suc, ◌<◌, ◌≤◌, Bool, true, List, [], ◌++◌, length, Option, sym, refl, ap, ◌∙◌, subst, append-nil, length-append, arith}
-use Rattle.dp_markup.specs.Input.{head, Reader, and_then, until, next_of}
+use Rattle.dp_markup.specs.inner.Input.{head, Reader, and_then, until, next_of}
 use Rattle.dp_markup.specs.Rules.{Rule, Gives, Made, Chain, Step}
 use Rattle.dp_markup.proofs.Answers.{Rules, Stop, JoinedAt, ClosedAt, StepAt, IsRead, Answers, StartsIn, joined_answers, gives_answers, equal_answers}
 

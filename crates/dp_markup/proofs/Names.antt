@@ -1,11 +1,11 @@
 -- Names: they end before the first byte that is no byte of a name, and can be made longer.
 use Rattle.std.proofs.Common.{◌≡◌, ℕ, zero, suc, ◌+◌, ◌<◌, Bool, true, false, not, ◌||◌, ◌&&◌, List, [], ◌∷◌, ◌++◌, length, take, drop, Option, Ok, sym, refl, ap, ◌∙◌, subst, length-append, cond, arith, nat_eq}
 use Rattle.std.specs.List.{prefix_len, list_all, list_any}
-use Rattle.dp_markup.specs.Input.{head, next, refuse, ◌>>=◌, tested}
+use Rattle.dp_markup.specs.inner.Input.{head, next, refuse, ◌>>=◌, tested}
 use Rattle.dp_markup.specs.Rules.{Tested}
 use Rattle.dp_markup.specs.Classes.{is_name, is_name_start, is_name_byte, is_digit}
 use Rattle.dp_markup.specs.Grammar.{Name, Text, Attributes, same_text, is_new}
-use Rattle.dp_markup.specs.Reading.{name}
+use Rattle.dp_markup.specs.inner.Reading.{name}
 use Rattle.dp_markup.proofs.Answers.{Rules, Stop, StartsIn, Follows, guarded_answers, tested_answers}
 use Rattle.dp_markup.proofs.Basics.{IsReader}
 

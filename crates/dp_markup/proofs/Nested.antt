@@ -7,11 +7,11 @@ use Rattle.dp_markup.specs.declared.tree.Element.{Element}
 use Rattle.dp_markup.specs.declared.tree.Node.{Node}
 use Rattle.dp_markup.specs.declared.states.StartTag.{StartTag}
 use Rattle.dp_markup.specs.declared.states.Content.{Content}
-use Rattle.dp_markup.specs.Input.{head, next, Outcome, Reader, made, refuse, ◌>>◌, one, mark, word}
+use Rattle.dp_markup.specs.inner.Input.{head, next, Outcome, Reader, made, refuse, ◌>>◌, one, mark, word}
 use Rattle.dp_markup.specs.Rules.{Rule, Joined, ◌or◌, Made, One, passing, Mark, Word, Closed}
 use Rattle.dp_markup.specs.Classes.{is_name_start, is_plain_in_text}
 use Rattle.dp_markup.specs.Grammar.{Text, Reference, Start, UpTo, CData, ContentPiece, EndTag, BehindStart, Opened, IsOpened, with_bytes, with_child, nodes_of, no_content, no_attribute, start_tag, element}
-use Rattle.dp_markup.specs.Reading.{same, reference, start, end_tag, spaced_mark, cdata, bracket, content_byte, content_step, inside, behind_start, element_in, no_level, opened}
+use Rattle.dp_markup.specs.inner.Reading.{same, reference, start, end_tag, spaced_mark, cdata, bracket, content_byte, content_step, inside, behind_start, element_in, no_level, opened}
 use Rattle.dp_markup.proofs.Answers.{Rules, Anything, JoinedAt, EitherAt, ClosedAt, StepAt, Begins, IsRefused, Answers, StartsIn, one_answers, gives_answers, equal_answers, joined_starts, begun, refused_here}
 use Rattle.dp_markup.proofs.Loops.{give, given, step_stop, closed_answers}
 use Rattle.dp_markup.proofs.Basics.{IsReader, Can, mark_apart, passing_starts, before, behind_word, marked, behind_mark, word_starts, made_starts, joined_reads, made_reads, choose_reads, mark_then, takes_byte}

@@ -2,11 +2,11 @@
 use Rattle.std.specs.declared.ops.ControlFlow.TheVariants.{Continue, Break}
 use Rattle.std.proofs.Common.{◌≡◌, inl, inr, ℕ, zero, suc, ◌+◌, ◌-◌, ◌*◌, Bool, true, false, not, ◌||◌, ◌&&◌, List, [], ◌∷◌, ◌++◌, Option, Some, None, sym, refl, ap, ◌∙◌, subst, cond, nat_eq, nat_le, codes}
 use Rattle.std.proofs.lemmas.Bool.{eq-eqb}
-use Rattle.dp_markup.specs.Input.{head, next, Reader, made, ◌>>◌, one, mark, word, closed}
+use Rattle.dp_markup.specs.inner.Input.{head, next, Reader, made, ◌>>◌, one, mark, word, closed}
 use Rattle.dp_markup.specs.Rules.{Rule, Joined, ◌or◌, Made, One, passing, Mark, Word, Chain, Closed}
 use Rattle.dp_markup.specs.Classes.{is_white, is_digit, is_plain_in_value, is_quote, within_byte, decimal_behind, hexadecimal_behind}
 use Rattle.dp_markup.specs.Grammar.{Text, White, Spaced, Number, Named, Reference, Value}
-use Rattle.dp_markup.specs.Reading.{same, spaced_mark_step, spaced_mark, number_step, number, named, by_number, by_a, entity, reference, value_byte, value_step, quoted, value, spaced_value_step, spaced_value}
+use Rattle.dp_markup.specs.inner.Reading.{same, spaced_mark_step, spaced_mark, number_step, number, named, by_number, by_a, entity, reference, value_byte, value_step, quoted, value, spaced_value_step, spaced_value}
 use Rattle.dp_markup.proofs.Answers.{Rules, Anything, JoinedAt, EitherAt, ClosedAt, StepAt, Answers, StartsIn, one_answers, joined_answers, equal_answers, joined_starts, either_starts, wider_starts, same_level}
 use Rattle.dp_markup.proofs.Loops.{give, step_stop, closed_answers}
 use Rattle.dp_markup.proofs.Basics.{IsReader, apart_mark, mark_apart, apart_or, apart_white, or_left, or_right, passing_is, passing_starts, mark_of, before, behind_word, marked, behind_mark, named_of, named_is, word_starts, made_starts, joined_reads, made_reads, choose_reads, mark_then, named_reads, step_reads, takes_byte, white_piece, spaced_reads}

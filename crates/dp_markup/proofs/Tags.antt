@@ -3,11 +3,11 @@ use Rattle.std.proofs.Common.{◌≡◌, inl, inr, ℕ, zero, suc, Bool, true, f
 use Rattle.dp_markup.specs.declared.refusal.Refusal.TheVariants.{Unexpected}
 use Rattle.dp_markup.specs.declared.states.Tag.{Tag}
 use Rattle.dp_markup.specs.declared.states.StartTag.{StartTag}
-use Rattle.dp_markup.specs.Input.{made, refuse, ◌>>=◌, ◌>>◌, one, mark, word, tested, closed}
+use Rattle.dp_markup.specs.inner.Input.{made, refuse, ◌>>=◌, ◌>>◌, one, mark, word, tested, closed}
 use Rattle.dp_markup.specs.Rules.{Rule, Joined, Made, passing, Mark, Word, Tested, When, Chain, Closed}
 use Rattle.dp_markup.specs.Classes.{is_white, is_name_start, is_name_byte}
 use Rattle.dp_markup.specs.Grammar.{Text, Attributes, White, Spaced, Name, Value, is_new, Attribute, TagPiece, TagEnd, Start, UpTo, white_in_tag, attribute_in_tag, start_tag, no_attribute}
-use Rattle.dp_markup.specs.Reading.{same, name, spaced_mark, spaced_value, attribute, tag_piece, tag_end, tag_step, start, up_to, cdata, comment, declaration}
+use Rattle.dp_markup.specs.inner.Reading.{same, name, spaced_mark, spaced_value, attribute, tag_piece, tag_end, tag_step, start, up_to, cdata, comment, declaration}
 use Rattle.dp_markup.proofs.Answers.{Rules, Anything, StepAt, StartsIn, one_answers, joined_answers, when_answers, joined_starts}
 use Rattle.dp_markup.proofs.Loops.{give, step_stop, closed_answers}
 use Rattle.dp_markup.proofs.Basics.{IsReader, apart_mark, mark_apart, apart_or, apart_white, flip, or_left, or_right, passing_starts, one_byte, mark_of, word_of, before, word_starts, made_starts, joined_reads, made_reads, choose_reads, word_then, word_reads, step_reads, takes_byte, spaced}

@@ -1,6 +1,6 @@
 -- A recursion on a count of turns, beside a loop that counts up.
 use Rattle.std.proofs.Common.{◌≡◌, ℕ, suc, ◌+◌, ◌-◌, ◌<◌, ◌≤◌, List, ◌∷◌, length, get_or, drop, drop-cons, Ok, ap, ◌∙◌, arith}
-use Rattle.dp_markup.specs.Input.{and_then, mark, word}
+use Rattle.dp_markup.specs.inner.Input.{and_then, mark, word}
 
 -- one turn is taken
 pub one_turn : {X : Type 0} {whole : X} (by : ℕ → X) (end turn : ℕ) → turn < end → whole ≡ by (end - turn) → whole ≡ by (suc (end - (turn + 1)))

@@ -4,9 +4,9 @@ use Rattle.dp_markup.specs.declared.refusal.Refusal.{Refusal}
 use Rattle.dp_markup.specs.declared.refusal.Refusal.TheVariants.{Unexpected, TooDeep, Memory}
 use Rattle.dp_markup.specs.declared.tree.Element.{Element}
 use Rattle.dp_markup.specs.declared.states.StartTag.{StartTag}
-use Rattle.dp_markup.specs.Input.{head}
+use Rattle.dp_markup.specs.inner.Input.{head}
 use Rattle.dp_markup.specs.Grammar.{Text, Document, limit, IsMarkup, Head, BeginsWithHead}
-use Rattle.dp_markup.specs.Reading.{document, head_of}
+use Rattle.dp_markup.specs.inner.Reading.{document, head_of}
 use Rattle.dp_markup.specs.Refused.{IsFirstBad, IsFirstTooDeep}
 use Rattle.dp_markup.proofs.Answers.{Anything, Begins, IsRead, Answers, same_level}
 use Rattle.dp_markup.proofs.WholeTexts.{at_end, document_reads, document_ends, some_document, head_reads, some_head}

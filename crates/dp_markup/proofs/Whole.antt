@@ -1,7 +1,7 @@
 -- What the outcome of a reader says of the texts that it reads.
 use Rattle.std.proofs.Common.{◌≡◌, ◌⊎◌, inl, inr, ℕ, zero, suc, ◌+◌, ◌-◌, ◌<◌, ◌≤◌, Bool, true, false, List, [], ◌∷◌, ◌++◌, length, take, Err, sym, refl, ap, ◌∙◌, subst, append_assoc, append-nil, length-append, arith}
 use Rattle.dp_markup.specs.declared.refusal.Refusal.TheVariants.{Unexpected, TooDeep}
-use Rattle.dp_markup.specs.Input.{Reader}
+use Rattle.dp_markup.specs.inner.Input.{Reader}
 use Rattle.dp_markup.specs.Refused.{IsViable, IsDeadAt, IsFirstBad, IsFirstTooDeep}
 use Rattle.dp_markup.proofs.Answers.{Rules, Stop, Begins, IsRefused, Agrees, Answers}
 use Rattle.dp_markup.proofs.Basics.{IsReader}

@@ -5,11 +5,11 @@ use Rattle.std.proofs.Common.{◌≡◌, ◌⊎◌, inl, inr, ℕ, zero, suc, �
 use Rattle.dp_markup.specs.declared.refusal.Refusal.TheVariants.{Unexpected}
 use Rattle.dp_markup.specs.declared.tree.Element.{Element}
 use Rattle.dp_markup.specs.declared.states.StartTag.{StartTag}
-use Rattle.dp_markup.specs.Input.{head, next, Outcome, Reader, and_then, gives, made, refuse, ◌>>=◌, ◌>>◌, one, mark, word, until, next_of}
+use Rattle.dp_markup.specs.inner.Input.{head, next, Outcome, Reader, and_then, gives, made, refuse, ◌>>=◌, ◌>>◌, one, mark, word, until, next_of}
 use Rattle.dp_markup.specs.Rules.{Rule, Joined, Gives, Made, passing, Mark, Word, When, Closed}
 use Rattle.dp_markup.specs.Classes.{is_white, is_name_start}
 use Rattle.dp_markup.specs.Grammar.{Text, White, UpTo, Comment, Misc, Declaration, PrologPiece, Prolog, IsOpened, Document, Start, Head, no_attribute, start_tag}
-use Rattle.dp_markup.specs.Reading.{same, comment, declaration, prolog_bracket, prolog_step, prolog, misc, trail_step, trail, opened, document, start, head_of}
+use Rattle.dp_markup.specs.inner.Reading.{same, comment, declaration, prolog_bracket, prolog_step, prolog, misc, trail_step, trail, opened, document, start, head_of}
 use Rattle.dp_markup.proofs.Answers.{Rules, Anything, JoinedAt, EitherAt, StepAt, StartsIn, Follows, one_answers, gives_answers, joined_answers, equal_answers, either_answers, when_answers, joined_starts}
 use Rattle.dp_markup.proofs.Loops.{give, given, step_stop, closed_answers}
 use Rattle.dp_markup.proofs.Basics.{IsReader, Can, apart_mark, mark_apart, apart_or, apart_white, flip, passing_starts, mark_of, mark_is, before, behind_word, marked, behind_mark, word_starts, made_starts, joined_reads, made_reads, choose_reads, mark_then, word_then, takes_byte}

@@ -11,7 +11,8 @@ decimal b =
 
 -- a byte that has no name: itself from 0x20 to 0x7e, else by its number
 abbrev pub plain_or_number : ℕ → List ℕ
-plain_or_number b = if nat_lt 31 b && nat_lt b 127 then b ∷ [] else codes "&#" ++ decimal b ++ codes ";"
+plain_or_number b =
+    if nat_lt 31 b && nat_lt b 127 then b ∷ [] else codes "&#" ++ decimal b ++ codes ";"
 
 -- a byte of a value or a text
 abbrev pub escaped : ℕ → List ℕ

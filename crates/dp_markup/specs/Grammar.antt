@@ -31,7 +31,8 @@ pub record Name (text name : Text) : Type 0 where
 
 -- digits, each within 255 with those before, and `;`
 abbrev pub Number : (ℕ → ℕ → Option ℕ) → Rule ℕ
-Number behind = One (behind 0) >>= (λ first. Closed (λ n. One (behind n)) (λ n. Made (Mark 59) (λ _. n)) first)
+Number behind =
+    One (behind 0) >>= (λ first. Closed (λ n. One (behind n)) (λ n. Made (Mark 59) (λ _. n)) first)
 
 abbrev pub Named : Text → ℕ → Rule ℕ
 Named text byte = Made (Word text) (λ _. byte)
@@ -52,7 +53,8 @@ Reference =
 abbrev pub Value : Rule Text
 Value = do
   quote ← One (passing is_quote)
-  Closed (λ v. Made (Reference or One (passing (is_plain_in_value quote))) (λ b. v ++ b ∷ [])) (λ v. Made (Mark quote) (λ _. v)) []
+  let byte : Rule ℕ = Reference or One (passing (is_plain_in_value quote)) in
+      Closed (λ v. Made byte (λ b. v ++ b ∷ [])) (λ v. Made (Mark quote) (λ _. v)) []
 
 abbrev pub same_text : Text → Text → Bool
 same_text [] [] = true
@@ -80,14 +82,16 @@ attribute_in_tag found = record { found = found; apart = false }
 
 -- white space, or, directly behind white space, an attribute
 abbrev pub TagPiece : Tag → Rule Tag
-TagPiece t = Made White (λ _. white_in_tag t) or When t.apart (Made (Attribute t.found) attribute_in_tag)
+TagPiece t =
+    Made White (λ _. white_in_tag t) or When t.apart (Made (Attribute t.found) attribute_in_tag)
 
 abbrev pub start_tag : Text → Bool → Tag → StartTag
 start_tag name is_empty t = record { name = name; attributes = t.found; is_empty = is_empty }
 
 -- `>`, or `/>` of an empty element
 abbrev pub TagEnd : Text → Tag → Rule StartTag
-TagEnd name t = Made (Mark 62) (λ _. start_tag name false t) or Made (Word (codes "/>")) (λ _. start_tag name true t)
+TagEnd name t =
+    Made (Mark 62) (λ _. start_tag name false t) or Made (Word (codes "/>")) (λ _. start_tag name true t)
 
 abbrev pub no_attribute : Tag
 no_attribute = record { found = []; apart = false }
@@ -155,7 +159,8 @@ element tag nodes = record { name = tag.name; attributes = tag.attributes; child
 
 abbrev pub BehindStart : Rule Element → Bool → StartTag → Rule Element
 BehindStart inner true tag = Gives (element tag [])
-BehindStart inner false tag = Made (Closed (ContentPiece inner) (EndTag tag.name) no_content) (element tag)
+BehindStart inner false tag =
+    Made (Closed (ContentPiece inner) (EndTag tag.name) no_content) (element tag)
 
 -- an element behind its `<`, where `inner` is such an element one level deeper
 abbrev pub Opened : Rule Element → Rule Element

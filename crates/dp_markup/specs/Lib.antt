@@ -1,10 +1,11 @@
+-- What is read: Classes, Rules, Grammar, Readable; where it is refused: Refused, Verdict; what is
+-- written: Escaping, Writing. How the code goes, of which no public clause speaks: inner.
 pub mod Classes
 pub mod Escaping
 pub mod Grammar
-pub mod Input
 pub mod Readable
-pub mod Reading
 pub mod Refused
 pub mod Rules
 pub mod Verdict
 pub mod Writing
+pub mod inner

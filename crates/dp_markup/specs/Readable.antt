@@ -15,7 +15,8 @@ AreBytes (b ∷ bytes) = (b < 256) × AreBytes bytes
 -- names, none of which stands twice, neither there nor among those found before
 abbrev pub AreAttributes : Attributes → Attributes → Type 0
 AreAttributes found [] = Unit {0}
-AreAttributes found (a ∷ rest) = (is_name a.0 ≡ true) × (is_new found a.0 ≡ true) × AreBytes a.1 × AreAttributes (found ++ a ∷ []) rest
+AreAttributes found (a ∷ rest) =
+    (is_name a.0 ≡ true) × (is_new found a.0 ≡ true) × AreBytes a.1 × AreAttributes (found ++ a ∷ []) rest
 
 -- a text that is not empty
 abbrev pub IsText : Text → Type 0
@@ -33,9 +34,12 @@ FitsBehind inner behind_text (Node-F.Child child) = inner child
 
 abbrev pub AreNodes : (Element → Type 0) → Bool → List Node → Type 0
 AreNodes inner behind_text [] = Unit {0}
-AreNodes inner behind_text (n ∷ nodes) = FitsBehind inner behind_text (out-Node n) × AreNodes inner (is_text (out-Node n)) nodes
+AreNodes inner behind_text (n ∷ nodes) =
+    FitsBehind inner behind_text (out-Node n) × AreNodes inner (is_text (out-Node n)) nodes
 
--- an element with at most so many levels, with names, no attribute twice, no empty text and no two texts side by side
+-- an element with at most so many levels, with names, no attribute twice, no empty text and no two
+-- texts side by side
 abbrev pub IsReadable : ℕ → Element → Type 0
 IsReadable zero e = ⊥
-IsReadable (suc level) e = (is_name e.name ≡ true) × AreAttributes [] e.attributes × AreNodes (IsReadable level) false e.children
+IsReadable (suc level) e =
+    (is_name e.name ≡ true) × AreAttributes [] e.attributes × AreNodes (IsReadable level) false e.children

@@ -11,7 +11,8 @@ module _ {A : Type 0} (rule : ℕ → Rule A) where
   abbrev pub IsSpelled : ℕ → List ℕ → Type 0
   IsSpelled level bytes = (a : A) × rule level bytes a
 
-  -- The bytes up to and with the one at this offset begin no text; at the length, the bytes are none.
+  -- The bytes up to and with the one at this offset begin no text; at the length, the bytes are
+  -- none.
   pub record IsDeadAt (level : ℕ) (bytes : List ℕ) (offset : ℕ) : Type 0 where
     pub here : offset < length bytes → IsViable level (take (offset + 1) bytes) → ⊥
     pub end : offset ≡ length bytes → IsSpelled level bytes → ⊥

@@ -7,7 +7,8 @@ abbrev pub Rule : Type 0 → Type 1
 Rule A = List ℕ → A → Type 0
 
 -- one after the other, where the second may depend on the value of the first
-pub record Joined {A B : Type 0} (first : Rule A) (second : A → Rule B) (text : List ℕ) (b : B) : Type 0 where
+pub record Joined {A B : Type 0} (first : Rule A) (second : A → Rule B) (text : List ℕ) (b : B)
+    : Type 0 where
   pub front : List ℕ
   pub back : List ℕ
   pub value : A

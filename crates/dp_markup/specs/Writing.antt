@@ -16,7 +16,8 @@ attribute_text a = codes " " ++ a.0 ++ codes "=\"" ++ escaped_all a.1 ++ codes "
 -- `<name ..>content</name>`, also where the content is empty
 abbrev pub element_text : Text → List (Text × Text) → Text → Text
 element_text name attributes content =
-    codes "<" ++ name ++ flat_map attribute_text attributes ++ codes ">" ++ content ++ codes "</" ++ name ++ codes ">"
+    codes "<" ++ name ++ flat_map attribute_text attributes ++ codes ">" ++ content
+    ++ codes "</" ++ name ++ codes ">"
 
 -- a node, where what stands in it is written already
 abbrev pub node_layer : Node-F Text Text → Text

@@ -1,9 +1,12 @@
-ghost use Rattle.std.specs.Prelude.{◌≡◌, ◌==◌, [], ◌∷◌, ◌++◌};
+//! Values, attributes and start tags.
+
+ghost use Rattle.std.specs.Prelude.{◌≡◌, ◌==◌, ◌||◌};
 ghost use Rattle.dp_markup.specs.Grammar as grammar;
-ghost use Rattle.dp_markup.specs.Input.{Reads, closed};
-ghost use Rattle.dp_markup.specs.Reading as spec;
+ghost use Rattle.dp_markup.specs.inner.Input.{Reads, closed, head, next};
+ghost use Rattle.dp_markup.specs.inner.Reading as spec;
 
 use crate::Memory;
+use crate::found::Found;
 use crate::growing::Growing;
 use crate::input::Input;
 use crate::refusal::Refusal;
@@ -12,25 +15,14 @@ use dp_value::Bytes;
 use std::alloc::Global;
 use std::ops::ControlFlow;
 
-/// Whether no attribute has this name yet.
-fn is_new(found: &[(Bytes, Bytes)], name: &[u8]) -> bool
-    ensures { result ≡ grammar.is_new found.now name.now }
-{
-    for attribute in found {
-        if same_text(attribute.0.as_slice(), name) {
-            return false;
-        }
-    }
-    true
-}
-
+/// Whether two names or texts are the same bytes.
 pub fn same_text(a: &[u8], b: &[u8]) -> bool
     ensures { result ≡ grammar.same_text a.now b.now }
 {
     a == b
 }
 
-#[tactic(auto, unfolding(crate::specs::Reading::value_step))]
+#[tactic(auto, unfolding(crate::specs::inner::Reading::value_step))]
 fn value_step(
     input: &mut Input<'_>,
     quote: u8,
@@ -48,7 +40,7 @@ fn value_step(
     }
 }
 
-#[tactic(auto, unfolding(crate::specs::Reading::quoted))]
+#[tactic(auto, unfolding(crate::specs::inner::Reading::quoted))]
 fn quoted(alloc: Global, input: &mut Input<'_>, quote: u8) -> Result<Growing<u8>, Refusal>
     ensures { Reads (spec.quoted quote input.old) result input.new }
 {
@@ -68,7 +60,7 @@ fn quoted_from(input: &mut Input<'_>, quote: u8, first: Growing<u8>) -> Result<G
     Err(input.refuse())
 }
 
-#[tactic(auto, unfolding(crate::specs::Reading::value))]
+#[tactic(auto, unfolding(crate::specs::inner::Reading::value))]
 fn value(alloc: Global, input: &mut Input<'_>) -> Result<Growing<u8>, Refusal>
     ensures { Reads (spec.value input.old) result input.new }
 {
@@ -76,7 +68,7 @@ fn value(alloc: Global, input: &mut Input<'_>) -> Result<Growing<u8>, Refusal>
     quoted(alloc, input, quote)
 }
 
-#[tactic(auto, unfolding(crate::specs::Reading::spaced_mark_step))]
+#[tactic(auto, unfolding(crate::specs::inner::Reading::spaced_mark_step))]
 fn spaced_mark_step(input: &mut Input<'_>, byte: u8) -> Result<ControlFlow<u8, ()>, Refusal>
     ensures { Reads (spec.spaced_mark_step byte tt input.old) result input.new }
 {
@@ -89,7 +81,7 @@ fn spaced_mark_step(input: &mut Input<'_>, byte: u8) -> Result<ControlFlow<u8, (
 }
 
 /// White space, and then this byte.
-#[tactic(auto, unfolding(crate::specs::Reading::spaced_mark))]
+#[tactic(auto, unfolding(crate::specs::inner::Reading::spaced_mark))]
 pub fn spaced_mark(input: &mut Input<'_>, byte: u8) -> Result<u8, Refusal>
     ensures { Reads (spec.spaced_mark byte input.old) result input.new }
 {
@@ -102,7 +94,7 @@ pub fn spaced_mark(input: &mut Input<'_>, byte: u8) -> Result<u8, Refusal>
     Err(input.refuse())
 }
 
-#[tactic(auto, unfolding(crate::specs::Reading::spaced_value_step))]
+#[tactic(auto, unfolding(crate::specs::inner::Reading::spaced_value_step))]
 fn spaced_value_step(
     alloc: Global,
     input: &mut Input<'_>,
@@ -118,7 +110,7 @@ fn spaced_value_step(
 }
 
 /// White space, and then a value.
-#[tactic(auto, unfolding(crate::specs::Reading::spaced_value))]
+#[tactic(auto, unfolding(crate::specs::inner::Reading::spaced_value))]
 fn spaced_value(alloc: Global, input: &mut Input<'_>) -> Result<Growing<u8>, Refusal>
     ensures { Reads (spec.spaced_value input.old) result input.new }
 {
@@ -132,25 +124,21 @@ fn spaced_value(alloc: Global, input: &mut Input<'_>) -> Result<Growing<u8>, Ref
 }
 
 /// An attribute, behind those that were found.
-#[tactic(auto, unfolding(crate::specs::Reading::attribute))]
-fn attribute(
-    alloc: Global,
-    input: &mut Input<'_>,
-    mut found: Growing<(Bytes, Bytes)>,
-) -> Result<Growing<(Bytes, Bytes)>, Refusal>
+#[tactic(auto, unfolding(crate::specs::inner::Reading::attribute))]
+fn attribute(alloc: Global, input: &mut Input<'_>, mut found: Found) -> Result<Found, Refusal>
     ensures { Reads (spec.attribute found input.old) result input.new }
 {
-    let name = input.name()?;
-    if !is_new(found.as_slice(), name) {
+    let name = Bytes::from_slice(alloc, input.name()?)?;
+    if !found.lacks(&name) {
         return Err(input.refuse());
     }
     spaced_mark(input, b'=')?;
     let value = spaced_value(alloc, input)?;
-    found.push((Bytes::from_slice(alloc, name)?, value.into_bytes()))?;
+    found.add(name, value.into_bytes())?;
     Ok(found)
 }
 
-#[tactic(auto, unfolding(crate::specs::Reading::tag_piece, crate::specs::Input::refuse))]
+#[tactic(auto, unfolding(crate::specs::inner::Reading::tag_piece, crate::specs::inner::Input::refuse))]
 fn tag_piece(alloc: Global, input: &mut Input<'_>, tag: Tag) -> Result<Tag, Refusal>
     ensures { Reads (spec.tag_piece tag input.old) result input.new }
 {
@@ -170,8 +158,8 @@ fn tag_piece(alloc: Global, input: &mut Input<'_>, tag: Tag) -> Result<Tag, Refu
 }
 
 /// Whether the start tag that ends here is the whole element.
-#[tactic(auto, unfolding(crate::specs::Reading::tag_end))]
-fn tag_end(input: &mut Input<'_>, name: Bytes, tag: Tag) -> Result<StartTag, Refusal>
+#[tactic(auto, unfolding(crate::specs::inner::Reading::tag_end))]
+fn tag_end(alloc: Global, input: &mut Input<'_>, name: Bytes, tag: Tag) -> Result<StartTag, Refusal>
     ensures { Reads (spec.tag_end name tag input.old) result input.new }
 {
     let Tag { found, apart: _ } = tag;
@@ -183,57 +171,47 @@ fn tag_end(input: &mut Input<'_>, name: Bytes, tag: Tag) -> Result<StartTag, Ref
     }
     Ok(StartTag {
         name,
-        attributes: found.into_items(),
+        attributes: found.into_items(alloc)?,
         is_empty,
     })
 }
 
-#[tactic(auto, unfolding(crate::specs::Reading::tag_step))]
-fn tag_step(
-    alloc: Global,
-    input: &mut Input<'_>,
-    name: &Bytes,
-    tag: Tag,
-) -> Result<ControlFlow<StartTag, Tag>, Refusal>
-    ensures { Reads (spec.tag_step name.now tag input.old) result input.new }
+/// Whether what comes next ends a start tag.
+fn sees_end(input: &Input<'_>) -> bool
+    ensures { result ≡ next (λ b. b == 62 || b == 47) (head input.now) }
 {
-    if input.sees(b'>') || input.sees(b'/') {
-        let name = name.try_clone()?;
-        Ok(ControlFlow::Break(tag_end(input, name, tag)?))
-    } else {
-        Ok(ControlFlow::Continue(tag_piece(alloc, input, tag)?))
-    }
+    input.sees(b'>') || input.sees(b'/')
 }
 
 fn tag_from(
     alloc: Global,
     input: &mut Input<'_>,
-    name: &Bytes,
+    name: Bytes,
     first: Tag,
 ) -> Result<StartTag, Refusal>
-    ensures { Reads (closed (spec.tag_step name.now) first input.old) result input.new }
+    ensures { Reads (closed (spec.tag_step name) first input.old) result input.new }
 {
     let mut state = first;
     for _turn in 0..input.left() + 1 {
-        match tag_step(alloc, input, name, state)? {
-            ControlFlow::Continue(more) => state = more,
-            ControlFlow::Break(all) => return Ok(all),
+        if sees_end(input) {
+            return tag_end(alloc, input, name, state);
         }
+        state = tag_piece(alloc, input, state)?;
     }
     Err(input.refuse())
 }
 
 /// A start tag behind its `<`.
-#[tactic(auto, unfolding(crate::specs::Reading::start))]
+#[tactic(auto, unfolding(crate::specs::inner::Reading::start))]
 pub fn start(alloc: Global, input: &mut Input<'_>) -> Result<StartTag, Refusal>
     ensures { Reads (spec.start input.old) result input.new }
 {
     let name = Bytes::from_slice(alloc, input.name()?)?;
-    let found = Growing::new(alloc);
+    let found = Found::new(alloc);
     tag_from(
         alloc,
         input,
-        &name,
+        name,
         Tag {
             found,
             apart: false,

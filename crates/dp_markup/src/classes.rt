@@ -1,3 +1,5 @@
+//! Classes of bytes.
+
 ghost use Rattle.std.specs.Prelude.{◌≡◌};
 ghost use Rattle.dp_markup.specs.Classes as class;
 

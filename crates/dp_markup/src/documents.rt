@@ -1,6 +1,8 @@
+//! Whole texts.
+
 ghost use Rattle.std.specs.Prelude.{◌≡◌, true};
-ghost use Rattle.dp_markup.specs.Input.{Reads, ReadsSlice, closed};
-ghost use Rattle.dp_markup.specs.Reading as spec;
+ghost use Rattle.dp_markup.specs.inner.Input.{Reads, ReadsSlice, closed};
+ghost use Rattle.dp_markup.specs.inner.Reading as spec;
 
 use crate::attributes::start;
 use crate::elements::opened;
@@ -12,7 +14,7 @@ use std::alloc::Global;
 use std::ops::ControlFlow;
 
 /// A comment behind its `<!`.
-#[tactic(auto, unfolding(crate::specs::Reading::comment))]
+#[tactic(auto, unfolding(crate::specs::inner::Reading::comment))]
 fn comment<'a>(input: &mut Input<'a>) -> Result<&'a [u8], Refusal>
     ensures { ReadsSlice (spec.comment input.old) result input.new }
 {
@@ -21,7 +23,7 @@ fn comment<'a>(input: &mut Input<'a>) -> Result<&'a [u8], Refusal>
 }
 
 /// A declaration behind its `<?`.
-#[tactic(auto, unfolding(crate::specs::Reading::declaration))]
+#[tactic(auto, unfolding(crate::specs::inner::Reading::declaration))]
 fn declaration<'a>(input: &mut Input<'a>) -> Result<&'a [u8], Refusal>
     ensures { ReadsSlice (spec.declaration input.old) result input.new }
 {
@@ -30,7 +32,7 @@ fn declaration<'a>(input: &mut Input<'a>) -> Result<&'a [u8], Refusal>
     input.up_to(b"?>")
 }
 
-#[tactic(auto, unfolding(crate::specs::Reading::prolog_bracket, crate::specs::Input::refuse))]
+#[tactic(auto, unfolding(crate::specs::inner::Reading::prolog_bracket, crate::specs::inner::Input::refuse))]
 fn prolog_bracket(input: &mut Input<'_>, at_first: bool) -> Result<ControlFlow<u8, bool>, Refusal>
     ensures { Reads (spec.prolog_bracket at_first input.old) result input.new }
 {
@@ -50,7 +52,7 @@ fn prolog_bracket(input: &mut Input<'_>, at_first: bool) -> Result<ControlFlow<u
     Ok(ControlFlow::Continue(false))
 }
 
-#[tactic(auto, unfolding(crate::specs::Reading::prolog_step))]
+#[tactic(auto, unfolding(crate::specs::inner::Reading::prolog_step))]
 fn prolog_step(input: &mut Input<'_>, at_first: bool) -> Result<ControlFlow<u8, bool>, Refusal>
     ensures { Reads (spec.prolog_step at_first input.old) result input.new }
 {
@@ -78,7 +80,7 @@ fn prolog(input: &mut Input<'_>) -> Result<u8, Refusal>
 }
 
 /// White space or a comment.
-#[tactic(auto, unfolding(crate::specs::Reading::misc))]
+#[tactic(auto, unfolding(crate::specs::inner::Reading::misc))]
 fn misc(input: &mut Input<'_>) -> Result<(), Refusal>
     ensures { Reads (spec.misc input.old) result input.new }
 {
@@ -91,7 +93,7 @@ fn misc(input: &mut Input<'_>) -> Result<(), Refusal>
     Ok(())
 }
 
-#[tactic(auto, unfolding(crate::specs::Reading::trail_step))]
+#[tactic(auto, unfolding(crate::specs::inner::Reading::trail_step))]
 fn trail_step(
     input: &mut Input<'_>,
     root: Element,
@@ -121,7 +123,7 @@ fn trail(input: &mut Input<'_>, root: Element) -> Result<Element, Refusal>
 }
 
 /// A whole text, with so many levels.
-#[tactic(auto, unfolding(crate::specs::Reading::document))]
+#[tactic(auto, unfolding(crate::specs::inner::Reading::document))]
 pub fn document(alloc: Global, input: &mut Input<'_>, level: usize) -> Result<Element, Refusal>
     ensures { Reads (spec.document level input.old) result input.new }
 {
@@ -131,7 +133,7 @@ pub fn document(alloc: Global, input: &mut Input<'_>, level: usize) -> Result<El
 }
 
 /// A text as far as the end of the root's start tag.
-#[tactic(auto, unfolding(crate::specs::Reading::head_of))]
+#[tactic(auto, unfolding(crate::specs::inner::Reading::head_of))]
 pub fn head_of(alloc: Global, input: &mut Input<'_>) -> Result<StartTag, Refusal>
     ensures { Reads (spec.head_of input.old) result input.new }
 {

@@ -1,3 +1,5 @@
+//! Why bytes were not read as markup.
+
 use std::alloc::{AllocError, AllocFailed};
 use thiserror::Error;
 

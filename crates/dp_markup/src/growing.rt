@@ -1,3 +1,5 @@
+//! Lists that grow at their end.
+
 ghost use Rattle.std.specs.Prelude.{◌≡◌, ◌++◌, ◌∷◌, [], ◌==◌, length, OnOk};
 
 use crate::Memory;

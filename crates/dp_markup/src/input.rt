@@ -1,10 +1,12 @@
+//! The bytes that are still to be read.
+
 ghost use Rattle.std.specs.Prelude.{◌≡◌, ◌+◌, ◌<◌, ◌≤◌, ◌^◌, length, drop, true, IfSome};
 ghost use Rattle.dp_markup.specs.Classes as class;
 ghost use Rattle.std.specs.List.{prefix_len};
 ghost use Rattle.dp_markup.specs.Rules.{passing};
-ghost use Rattle.dp_markup.specs.Input as read;
-ghost use Rattle.dp_markup.specs.Input.{Reads, ReadsSlice, head, next};
-ghost use Rattle.dp_markup.specs.Reading as spec;
+ghost use Rattle.dp_markup.specs.inner.Input as read;
+ghost use Rattle.dp_markup.specs.inner.Input.{Reads, ReadsSlice, head, next};
+ghost use Rattle.dp_markup.specs.inner.Reading as spec;
 
 use crate::classes::{is_name_byte, is_name_start, is_quote, is_white};
 use crate::refusal::Refusal;
@@ -158,7 +160,7 @@ impl<'a> Input<'a> {
     }
 
     /// These bytes.
-    #[tactic(auto, unfolding(crate::specs::Input::word))]
+    #[tactic(auto, unfolding(crate::specs::inner::Input::word))]
     pub fn word(&mut self, bytes: &[u8]) -> Result<(), Refusal>
         ensures { Reads (read.word bytes.now self.old) result self.new }
     {
@@ -169,7 +171,7 @@ impl<'a> Input<'a> {
     }
 
     /// A name, without a copy.
-    #[tactic(auto, unfolding(crate::specs::Reading::name, crate::specs::Input::refuse))]
+    #[tactic(auto, unfolding(crate::specs::inner::Reading::name, crate::specs::inner::Input::refuse))]
     pub fn name(&mut self) -> Result<&'a [u8], Refusal>
         ensures { ReadsSlice (spec.name self.old) result self.new }
     {
@@ -182,7 +184,7 @@ impl<'a> Input<'a> {
     }
 
     /// The bytes up to the first place where the mark stands, and the mark.
-    #[tactic(auto, unfolding(crate::specs::Reading::up_to, crate::specs::Reading::cut))]
+    #[tactic(auto, unfolding(crate::specs::inner::Reading::up_to, crate::specs::inner::Reading::cut))]
     pub fn up_to(&mut self, mark: &[u8]) -> Result<&'a [u8], Refusal>
         ensures { ReadsSlice (spec.up_to mark.now self.old) result self.new }
     {

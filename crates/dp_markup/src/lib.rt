@@ -6,6 +6,7 @@ mod classes;
 mod documents;
 mod elements;
 mod error;
+mod found;
 mod growing;
 mod input;
 mod reading;
@@ -15,11 +16,9 @@ mod states;
 mod tree;
 mod writing;
 
+pub use attributes::same_text;
 pub use dp_value::Memory;
 pub use error::MarkupError;
-pub use reading::{head_attribute, read, reread};
+pub use reading::{head_attribute, level_limit, read, reread};
 pub use tree::{Element, Node};
 pub use writing::write;
-
-#[cfg(test)]
-mod tests;

@@ -1,6 +1,8 @@
+//! Reading bytes as markup.
+
 ghost use Rattle.std.specs.Prelude.{◌≡◌, ◌≢◌, ◌⊎◌, ◌≤◌, ◌-◌, ℕ, length, IfOk, MatchResult};
-ghost use Rattle.dp_markup.specs.Input.{Reads};
-ghost use Rattle.dp_markup.specs.Reading as spec;
+ghost use Rattle.dp_markup.specs.inner.Input.{Reads};
+ghost use Rattle.dp_markup.specs.inner.Reading as spec;
 ghost use Rattle.dp_markup.specs.Grammar.{IsMarkup, Document, limit};
 ghost use Rattle.dp_markup.specs.Grammar.{BeginsWithHead, heads, root_value, value_of};
 ghost use Rattle.dp_markup.specs.Readable.{IsReadable};
@@ -21,9 +23,9 @@ use crate::writing::write;
 use dp_value::Bytes;
 use std::alloc::Global;
 
-/// At most so many elements are open at a place.
+/// At most so many elements are open at a place of what is read: 64.
 #[tactic(auto, unfolding(crate::specs::Grammar::limit))]
-fn levels() -> usize
+pub fn level_limit() -> usize
     ensures { result ≡ limit }
 {
     64
@@ -47,7 +49,7 @@ pub fn read(alloc: Global, bytes: &[u8]) -> Result<Element, MarkupError>
         Refuses result MarkupError.TooDeep }
 {
     let mut input = Input::new(bytes);
-    match document(alloc, &mut input, levels()) {
+    match document(alloc, &mut input, level_limit()) {
         Ok(e) => Ok(e),
         Err(Refusal::Unexpected(left)) => Err(MarkupError::BadMarkup {
             offset: bytes.len() - left,

@@ -1,3 +1,5 @@
+//! Why a part of a text was not read.
+
 use std::alloc::{AllocError, AllocFailed};
 
 /// Why a part of a text was not read. The number is how many bytes there are from the bad one on.

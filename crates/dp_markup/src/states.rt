@@ -1,3 +1,6 @@
+//! How far the parts of a text have been read.
+
+use crate::found::Found;
 use crate::growing::Growing;
 use crate::tree::Node;
 use dp_value::{Bytes, Items};
@@ -5,7 +8,7 @@ use dp_value::{Bytes, Items};
 /// How far a start tag has been read: its attributes so far, and whether white space came last.
 #[derive(Debug, Drop)]
 pub struct Tag {
-    pub found: Growing<(Bytes, Bytes)>,
+    pub found: Found,
     pub apart: bool,
 }
 

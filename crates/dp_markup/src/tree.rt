@@ -1,3 +1,5 @@
+//! Trees of elements.
+
 use dp_value::{Bytes, Items};
 
 /// An element: its name, its attributes as pairs of a name and a value, and what stands between

@@ -1,3 +1,5 @@
+//! Writing elements in one form.
+
 ghost use Rattle.std.specs.Prelude.{◌≡◌, ◌++◌, ◌<◌, ◌^◌, ◌∷◌, [], IfOk, OnOk, codes, length};
 ghost use Rattle.std.specs.List.{flat_map};
 ghost use Rattle.dp_markup.specs.Escaping.{decimal, escaped, escaped_all, plain_or_number};

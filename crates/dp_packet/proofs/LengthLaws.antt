@@ -1,5 +1,5 @@
 -- How long what is written is at most.
-use Rattle.std.proofs.Common.{◌≡◌, ℕ, ◌+◌, ◌*◌, ◌/◌, ◌%◌, ◌≤◌, ltb, ◌&&◌, Bool, true, false, cond, eqb, List, [], ◌∷◌, ◌++◌, length, codes, refl, sym, ap, ◌∙◌, subst, arith, append-nil, length-append}
+use Rattle.std.proofs.Common.{◌≡◌, ℕ, ◌+◌, ◌*◌, ◌/◌, ◌%◌, ◌≤◌, ltb, ◌&&◌, Bool, true, false, cond, eqb, List, [], ◌∷◌, ◌++◌, length, codes, sym, ◌∙◌, subst, arith, append-nil, length-append}
 use Rattle.std.specs.List.{flat_map}
 use Rattle.std.specs.Fmt as fmt
 use Rattle.dp_markup.proofs.RoundTrip.{text_node, child_node}
@@ -15,7 +15,8 @@ use Rattle.dp_packet.specs.Messages.{message_of}
 use Rattle.dp_packet.specs.Packets.{element_of, message_node}
 use Rattle.dp_packet.specs.Parts.{Attributes, element, text_nodes, namespace}
 use Rattle.dp_packet.specs.Text.{declaration, text}
-use Rattle.dp_packet.specs.Uris.{stands_for_itself, hexadecimal, encoded, without_slash, file_uri}
+use Rattle.dp_packet.specs.Uris.{stands_for_itself, hexadecimal, encoded, file_uri}
+use Rattle.dp_value.specs.Names.{without_slash}
 
 append_short : (a b : List ℕ) (m n : ℕ) → length a ≤ m → length b ≤ n → length (a ++ b) ≤ m + n
 append_short a b m n p q = omega (arith, p, q, length-append a b)
@@ -65,7 +66,6 @@ encoded_short b = go (stands_for_itself b) where
   go false = omega arith
 
 rest_short : (name : List ℕ) → length (without_slash name) ≤ length name
-unfolding without_slash
 rest_short [] = omega arith
 rest_short (b ∷ name) = go (eqb b 47) where
   go : (t : Bool) → length (cond t name (b ∷ name)) ≤ length (b ∷ name)

@@ -2,3 +2,7 @@
 pub mod Chains
 pub mod LengthLaws
 pub mod UriLaws
+pub mod SizeLaws
+pub mod Base64Size
+pub mod PropertyLaws
+pub mod Integers

@@ -1,5 +1,5 @@
 -- The kit's percent-encoding writes the URIs of files, byte by byte.
-use Rattle.std.proofs.Common.{◌≡◌, ℕ, zero, suc, ◌<◌, Bool, true, false, ◌&&◌, cond, eqb, List, [], ◌∷◌, ◌++◌, All, refl, ap, ◌∙◌}
+use Rattle.std.proofs.Common.{◌≡◌, ℕ, zero, suc, ◌<◌, Bool, true, false, ◌&&◌, cond, eqb, List, [], ◌∷◌, ◌++◌, All, refl}
 use Rattle.std.specs.List.{flat_map}
 use Rattle.std.specs.Str.{bytes_eq}
 use Rattle.std.proofs.lemmas.Bool.Decides.{Decides-below_and}
@@ -8,7 +8,8 @@ use Rattle.std.proofs.lemmas.Slice.Eq.{bytes_eq-Decides}
 use Rattle.percent_encoding.specs.AsciiSet.{should_percent_encode}
 use Rattle.percent_encoding.specs.Percent.{encode_byte, percent_encode, percent_encode_byte}
 use Rattle.dp_packet.specs.declared.uris.TheConstants.{ESCAPED}
-use Rattle.dp_packet.specs.Uris.{encoded, without_slash}
+use Rattle.dp_packet.specs.Uris.{encoded}
+use Rattle.dp_value.specs.Names.{without_slash}
 
 -- each byte, by computing
 abbrev alike : ℕ → Bool
@@ -34,7 +35,6 @@ same_bytes [] small = refl
 same_bytes (b ∷ bytes) small = (λ i. same_byte b (All-head IsByte b bytes small) i ++ same_bytes bytes (All-tail IsByte b bytes small) i)
 
 pub small_rest : (name : List ℕ) → All IsByte name → All IsByte (without_slash name)
-unfolding without_slash
 small_rest [] small = small
 small_rest (b ∷ name) small = go (eqb b 47) where
   go : (t : Bool) → All IsByte (cond t name (b ∷ name))

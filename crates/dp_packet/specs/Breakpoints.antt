@@ -30,14 +30,17 @@ given_number name (Some n) = (name, decimal n) ∷ []
 -- what it is, where it is, and its hits
 abbrev pub kind_attributes : BreakLine → Attributes
 kind_attributes b =
-    (codes "id", decimal b.id) ∷ (codes "type", kind_name b.kind) ∷ (codes "state", state_name b.enabled) ∷ []
+    (codes "id", decimal b.id) ∷ (codes "type", kind_name b.kind)
+    ∷ (codes "state", state_name b.enabled) ∷ []
 
 abbrev pub place_attributes : BreakLine → Attributes
 place_attributes b =
-    given (codes "filename") b.uri ++ given_number (codes "lineno") b.line ++ given (codes "function") b.function
+    given (codes "filename") b.uri ++ given_number (codes "lineno") b.line
+    ++ given (codes "function") b.function
 
 abbrev pub count_attributes : BreakLine → Attributes
-count_attributes b = (codes "hit_count", decimal b.hits) ∷ (codes "hit_value", decimal b.hit_value) ∷ []
+count_attributes b =
+    (codes "hit_count", decimal b.hits) ∷ (codes "hit_value", decimal b.hit_value) ∷ []
 
 abbrev pub rule_attribute : HitRule → Text × Text
 rule_attribute rule = (codes "hit_condition", rule_name rule)
@@ -52,4 +55,5 @@ expression_nodes (Some text) = child (codes "expression") [] (text_nodes text) �
 
 abbrev pub breakpoint_node : BreakLine → Node
 breakpoint_node b =
-    child (codes "breakpoint") (kind_attributes b ++ place_attributes b ++ hit_attributes b) (expression_nodes b.expression)
+    child (codes "breakpoint") (kind_attributes b ++ place_attributes b ++ hit_attributes b)
+    (expression_nodes b.expression)

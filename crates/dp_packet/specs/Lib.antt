@@ -6,3 +6,5 @@ pub mod Messages
 pub mod Packets
 pub mod Text
 pub mod Uris
+pub mod Sizes
+pub mod inner

@@ -21,15 +21,17 @@ use Rattle.dp_packet.specs.Messages.{message_of, reason_of, is_some_text}
 abbrev pub init_element : Init → Element
 init_element i =
     element (codes "init")
-    (namespace ∷ (codes "appid", codes "dbgp") ∷ (codes "idekey", i.idekey) ∷ (codes "session", []) ∷ (codes "thread", codes "1")
-    ∷ (codes "parent", []) ∷ (codes "language", codes "PHP") ∷ (codes "protocol_version", codes "1.0") ∷ (codes "fileuri", i.fileuri) ∷ [])
+    (namespace ∷ (codes "appid", codes "dbgp") ∷ (codes "idekey", i.idekey) ∷ (codes "session", [])
+    ∷ (codes "thread", codes "1") ∷ (codes "parent", []) ∷ (codes "language", codes "PHP")
+    ∷ (codes "protocol_version", codes "1.0") ∷ (codes "fileuri", i.fileuri) ∷ [])
     []
 
 abbrev pub message_node : Text → Node
 message_node text = child (codes "message") [] (text_nodes text)
 
 abbrev pub error_node : ℕ → Node
-error_node code = child (codes "error") ((codes "code", decimal code) ∷ []) (message_node (message_of code) ∷ [])
+error_node code =
+    child (codes "error") ((codes "code", decimal code) ∷ []) (message_node (message_of code) ∷ [])
 
 abbrev pub stack_node : StackLine → Node
 stack_node s =
@@ -52,33 +54,42 @@ body_nodes (body.Breakpoints lines) = map breakpoint_node lines
 
 abbrev pub response_element : Response → Element
 response_element r =
-    element (codes "response") (namespace ∷ (codes "command", r.command) ∷ (codes "transaction_id", r.id) ∷ r.attributes) (body_nodes r.body)
+    element (codes "response")
+    (namespace ∷ (codes "command", r.command) ∷ (codes "transaction_id", r.id) ∷ r.attributes)
+    (body_nodes r.body)
 
 abbrev pub stream_element : Text → Element
 stream_element bytes =
-    element (codes "stream") (namespace ∷ (codes "type", codes "stdout") ∷ (codes "encoding", codes "base64") ∷ []) (text_nodes (base64 bytes))
+    element (codes "stream")
+    (namespace ∷ (codes "type", codes "stdout") ∷ (codes "encoding", codes "base64") ∷ [])
+    (text_nodes (base64 bytes))
 
 abbrev pub told_nodes : Option BreakLine → List Node
 told_nodes None = []
 told_nodes (Some line) = breakpoint_node line ∷ []
 
 abbrev pub notify_element : Notify → Element
-notify_element n = element (codes "notify") (namespace ∷ (codes "name", n.name) ∷ []) (told_nodes n.breakpoint)
+notify_element n =
+    element (codes "notify") (namespace ∷ (codes "name", n.name) ∷ []) (told_nodes n.breakpoint)
 
 abbrev pub refusal_name : Bool → Text
 refusal_name true = codes "proxystop"
 refusal_name false = codes "proxyinit"
 
 abbrev pub refusal_node : ℕ → Node
-refusal_node id = child (codes "error") ((codes "id", decimal id) ∷ []) (message_node (reason_of id) ∷ [])
+refusal_node id =
+    child (codes "error") ((codes "id", decimal id) ∷ []) (message_node (reason_of id) ∷ [])
 
 abbrev pub proxy_element : ProxyReply → Element
 proxy_element (Started key host port) =
     element (codes "proxyinit")
-    ((codes "success", codes "1") ∷ (codes "idekey", key) ∷ (codes "address", host) ∷ (codes "port", decimal port) ∷ [])
+    ((codes "success", codes "1") ∷ (codes "idekey", key) ∷ (codes "address", host)
+    ∷ (codes "port", decimal port) ∷ [])
     []
-proxy_element (Stopped key) = element (codes "proxystop") ((codes "success", codes "1") ∷ (codes "idekey", key) ∷ []) []
-proxy_element (Refused stopping id) = element (refusal_name stopping) ((codes "success", codes "0") ∷ []) (refusal_node id ∷ [])
+proxy_element (Stopped key) =
+    element (codes "proxystop") ((codes "success", codes "1") ∷ (codes "idekey", key) ∷ []) []
+proxy_element (Refused stopping id) =
+    element (refusal_name stopping) ((codes "success", codes "0") ∷ []) (refusal_node id ∷ [])
 
 -- the element that a packet is
 abbrev pub element_of : Packet → Element

@@ -13,7 +13,8 @@ abbrev pub Attributes : Type 0
 Attributes = List (Text × Text)
 
 abbrev pub element : Text → Attributes → List Node → Element
-element name attributes children = record { name = name; attributes = attributes; children = children }
+element name attributes children =
+    record { name = name; attributes = attributes; children = children }
 
 abbrev pub child : Text → Attributes → List Node → Node
 child name attributes children = node.Child (element name attributes children)

@@ -15,16 +15,20 @@ abbrev pub type_of : Text → Attributes
 type_of name = (codes "type", name) ∷ []
 
 abbrev pub text_attributes : ℕ → Attributes
-text_attributes size = (codes "type", codes "string") ∷ (codes "size", decimal size) ∷ (codes "encoding", codes "base64") ∷ []
+text_attributes size =
+    (codes "type", codes "string") ∷ (codes "size", decimal size)
+    ∷ (codes "encoding", codes "base64") ∷ []
 
 -- `numchildren` is the number of all entries, whatever the page
 abbrev pub paging_attributes : ℕ → ℕ → ℕ → Attributes
 paging_attributes count page pagesize =
-    (codes "numchildren", decimal count) ∷ (codes "page", decimal page) ∷ (codes "pagesize", decimal pagesize) ∷ []
+    (codes "numchildren", decimal count) ∷ (codes "page", decimal page)
+    ∷ (codes "pagesize", decimal pagesize) ∷ []
 
 abbrev pub array_attributes : ℕ → ℕ → ℕ → Attributes
 array_attributes count page pagesize =
-    (codes "type", codes "array") ∷ (codes "children", flag (not (count == 0))) ∷ paging_attributes count page pagesize
+    (codes "type", codes "array") ∷ (codes "children", flag (not (count == 0)))
+    ∷ paging_attributes count page pagesize
 
 -- a value, where its entries are nodes already
 abbrev pub value_attributes : Shape-F Part Node → Attributes
@@ -46,7 +50,9 @@ value_part s = (value_attributes s, value_nodes s)
 
 abbrev pub property_layer : Property-F Part Node → Node
 property_layer p =
-    child (codes "property") (given (codes "name") p.name ++ given (codes "fullname") p.fullname ++ p.shape.0) p.shape.1
+    child (codes "property")
+    (given (codes "name") p.name ++ given (codes "fullname") p.fullname ++ p.shape.0)
+    p.shape.1
 
 -- the element of a property, from its innermost entries up
 abbrev pub property_node : Property → Node

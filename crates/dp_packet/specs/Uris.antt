@@ -1,5 +1,6 @@
 -- The URIs of files (RFC 8089), percent-encoded (RFC 3986, 2.1 to 2.3).
-use Rattle.std.specs.Prelude.{ℕ, ◌+◌, ◌/◌, ◌%◌, Bool, ◌&&◌, ◌||◌, ◌==◌, nat_le, nat_lt, if◌then◌else◌, List, [], ◌∷◌, ◌++◌, codes, flat_map}
+use Rattle.std.specs.Prelude.{ℕ, ◌+◌, ◌/◌, ◌%◌, Bool, ◌&&◌, ◌||◌, ◌==◌, nat_le, nat_lt, if◌then◌else◌, [], ◌∷◌, ◌++◌, codes, flat_map}
+use Rattle.dp_value.specs.Names.{without_slash}
 use Rattle.dp_packet.specs.Parts.{Text}
 
 -- what stands for itself: letters, digits, `-`, `.`, `_`, `~`, and `/` between the parts of a path
@@ -14,12 +15,9 @@ hexadecimal digit = if nat_lt digit 10 then 48 + digit else 55 + digit
 
 -- itself, or `%` and two digits
 abbrev pub encoded : ℕ → Text
-encoded b = if stands_for_itself b then b ∷ [] else 37 ∷ hexadecimal (b / 16) ∷ hexadecimal (b % 16) ∷ []
-
--- a name without one `/` in front
-unfoldable pub without_slash : Text → Text
-without_slash [] = []
-without_slash (b ∷ name) = if b == 47 then name else b ∷ name
+encoded b =
+    if stands_for_itself b then b ∷ []
+    else 37 ∷ hexadecimal (b / 16) ∷ hexadecimal (b % 16) ∷ []
 
 -- the URI of the file with this name
 unfoldable pub file_uri : Text → Text

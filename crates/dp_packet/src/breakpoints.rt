@@ -1,3 +1,4 @@
+//! The elements of breakpoints.
 ghost use Rattle.std.specs.Prelude.{◌≡◌, ◌++◌, ◌∷◌, [], map, IfOk, OnOk};
 ghost use Rattle.dp_packet.specs.Breakpoints as spec;
 
@@ -10,7 +11,7 @@ use dp_markup::Node;
 use dp_value::Bytes;
 use std::alloc::Global;
 
-fn kind_name(kind: BreakKind) -> &'static [u8]
+pub(crate) fn kind_name(kind: BreakKind) -> &'static [u8]
     ensures { result.now ≡ spec.kind_name kind }
 {
     match kind {
@@ -21,7 +22,7 @@ fn kind_name(kind: BreakKind) -> &'static [u8]
     }
 }
 
-fn rule_name(rule: HitRule) -> &'static [u8]
+pub(crate) fn rule_name(rule: HitRule) -> &'static [u8]
     ensures { result.now ≡ spec.rule_name rule }
 {
     match rule {
@@ -31,7 +32,7 @@ fn rule_name(rule: HitRule) -> &'static [u8]
     }
 }
 
-fn state_name(enabled: bool) -> &'static [u8]
+pub(crate) fn state_name(enabled: bool) -> &'static [u8]
     ensures { result.now ≡ spec.state_name enabled }
 {
     if enabled { b"enabled" } else { b"disabled" }

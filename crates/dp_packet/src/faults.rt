@@ -1,3 +1,4 @@
+//! Errors, their messages and their elements.
 ghost use Rattle.std.specs.Prelude.{◌≡◌, IfOk};
 ghost use Rattle.dp_packet.specs.Messages as spec;
 ghost use Rattle.dp_packet.specs.Packets as packets;

@@ -1,3 +1,4 @@
+//! Packets as typed values.
 use crate::property::Property;
 use dp_value::{Bytes, Items};
 

@@ -1,3 +1,4 @@
+//! What elements are made of.
 ghost use Rattle.std.specs.Prelude.{◌≡◌, ◌++◌, ◌∷◌, [], decimal, IfOk, OnOk};
 ghost use Rattle.dp_markup.specs.declared.tree.Node.TheVariants as node;
 ghost use Rattle.dp_packet.specs.Breakpoints.{given_number};

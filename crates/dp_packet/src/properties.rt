@@ -1,3 +1,4 @@
+//! The elements of properties.
 ghost use Rattle.std.specs.Prelude.{◌≡◌, ◌++◌, map, IfOk, OnOk};
 ghost use Rattle.dp_packet.specs.Parts as spec;
 ghost use Rattle.dp_packet.specs.Properties.{array_attributes, paging_attributes};

@@ -1,3 +1,4 @@
+//! Properties as typed values.
 use dp_value::{Bytes, Items};
 
 /// A property as a packet shows it: the value of a variable or of an array's entry, or of an

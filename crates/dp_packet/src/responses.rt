@@ -1,3 +1,4 @@
+//! The elements of responses.
 ghost use Rattle.std.specs.Prelude.{◌≡◌, map, IfOk};
 ghost use Rattle.dp_packet.specs.Packets as spec;
 

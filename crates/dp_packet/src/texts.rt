@@ -1,3 +1,4 @@
+//! The texts of packets.
 ghost use Rattle.std.specs.Prelude.{◌≡◌, ◌↔◌, true, IfOk};
 ghost use Rattle.dp_packet.specs.Packets as spec;
 ghost use Rattle.dp_packet.specs.Text.{text};
@@ -74,7 +75,7 @@ fn notify_element(alloc: Global, notify: &Notify) -> Result<Element, Memory>
     element(alloc, b"notify", attributes, nodes)
 }
 
-fn refusal_name(stopping: bool) -> &'static [u8]
+pub(crate) fn refusal_name(stopping: bool) -> &'static [u8]
     ensures { result.now ≡ spec.refusal_name stopping }
 {
     if stopping { b"proxystop" } else { b"proxyinit" }

@@ -1,8 +1,9 @@
+//! The URIs of files.
 ghost use Rattle.std.specs.Prelude.{◌≡◌, IfOk};
 ghost use Rattle.dp_packet.specs.Uris as spec;
 
 use crate::Memory;
-use dp_value::Bytes;
+use dp_value::{Bytes, without_slash};
 use percent_encoding::{AsciiSet, NON_ALPHANUMERIC, ascii_set, percent_encode};
 use std::alloc::Global;
 
@@ -15,17 +16,6 @@ const ESCAPED: AsciiSet = ascii_set!(
         .remove(b'~')
         .remove(b'/')
 );
-
-/// A name without one `/` in front.
-#[tactic(auto, unfolding(crate::specs::Uris::without_slash))]
-fn without_slash(name: &[u8]) -> &[u8]
-    ensures { result.now ≡ spec.without_slash name.now }
-{
-    match name {
-        [b'/', rest @ ..] => rest,
-        _ => name,
-    }
-}
 
 /// The URI of the file with this name: `file:///` and the name without one `/` in front, in which every byte but
 /// letters, digits, `-`, `.`, `_`, `~` and `/` is `%` and two upper-case hexadecimal digits.

@@ -23,7 +23,9 @@ use Rattle.dp_value.specs.Decimals.{decimal_in}
 use Rattle.dp_reply.specs.Contents.{◌>>=◌, each, flag_in, bytes_in, attribute, alone, words, elements, most_64, text_in}
 use Rattle.dp_reply.specs.Readings.{shape_in, property_within, property_around, property_of, shown}
 use Rattle.dp_reply.specs.Norm.{are_bytes, is_shape, has_shape, is_property}
-use Rattle.dp_reply.proofs.Leaves.{number_is, int_is, flag_is, bytes_are}
+use Rattle.dp_packet.proofs.Integers.{int_is}
+use Rattle.dp_packet.proofs.PropertyLaws.{null_part, bool_part, int_part, text_part, array_part}
+use Rattle.dp_reply.proofs.Leaves.{number_is, flag_is, bytes_are}
 use Rattle.dp_reply.proofs.Nodes.{out_child, words_text, elements_text, words_none, elements_all, each_is}
 
 -- ---- names
@@ -76,22 +78,6 @@ unfolding shape_sound
 sound_is p = fold_out-Property Bool Bool is_shape has_shape p
 
 -- ---- what a value puts into its property
-
-null_part : shape_part shape.Null ≡ value_part Shape-F.Null
-null_part = ap shape_part (sym shape.rolls-Null) ∙ fold-roll-Shape Part Node value_part property_layer Shape-F.Null
-
-bool_part : (b : Bool) → shape_part (shape.Bool b) ≡ value_part (Shape-F.Bool b)
-bool_part b = ap shape_part (sym (shape.rolls-Bool b)) ∙ fold-roll-Shape Part Node value_part property_layer (Shape-F.Bool b)
-
-int_part : (i : ℤ) → shape_part (shape.Int i) ≡ value_part (Shape-F.Int i)
-int_part i = ap shape_part (sym (shape.rolls-Int i)) ∙ fold-roll-Shape Part Node value_part property_layer (Shape-F.Int i)
-
-text_part : (size : ℕ) (front : Text) → shape_part (shape.Text size front) ≡ value_part (Shape-F.Text size front)
-text_part size front = ap shape_part (sym (shape.rolls-Text size front)) ∙ fold-roll-Shape Part Node value_part property_layer (Shape-F.Text size front)
-
-array_part : (count page pagesize : ℕ) (nested : List Property) → shape_part (shape.Array count page pagesize nested) ≡ value_part (Shape-F.Array count page pagesize (map property_node nested))
-array_part count page pagesize nested =
-    ap shape_part (sym (shape.rolls-Array count page pagesize nested)) ∙ fold-roll-Shape Part Node value_part property_layer (Shape-F.Array count page pagesize nested)
 
 int_sound : (i : ℤ) → shape_sound (shape.Int i) ≡ is_in_64_bits i
 unfolding shape_sound

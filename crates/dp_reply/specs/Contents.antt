@@ -48,7 +48,10 @@ abbrev pub most_64 : ℕ
 most_64 = 18446744073709551615
 
 abbrev pub flag_in : Text → Option Bool
-flag_in text = if same_text text (codes "0") then Some false else if same_text text (codes "1") then Some true else None
+flag_in text =
+    if same_text text (codes "0") then Some false
+    else if same_text text (codes "1") then Some true
+    else None
 
 -- what the text is in base64 of RFC 4648, section 4, with padding and no bit to spare
 abbrev pub bytes_in : Text → Option Text

@@ -32,7 +32,8 @@ norm_body (body.Breakpoints []) = body.Nothing
 norm_body other = other
 
 abbrev pub norm_response : Response → Response
-norm_response r = record { command = r.command; id = r.id; attributes = r.attributes; body = norm_body r.body }
+norm_response r =
+    record { command = r.command; id = r.id; attributes = r.attributes; body = norm_body r.body }
 
 -- the packet, with nothing in place of an empty body
 abbrev pub norm : Packet → Packet
@@ -53,8 +54,11 @@ abbrev pub is_shape : Shape-F Bool Bool → Bool
 is_shape Shape-F.Null = true
 is_shape (Shape-F.Bool b) = true
 is_shape (Shape-F.Int i) = is_in_64_bits i
-is_shape (Shape-F.Text size front) = nat_le size most_64 && nat_le (length front) size && are_bytes front
-is_shape (Shape-F.Array count page pagesize nested) = nat_le count most_64 && nat_le page most_64 && nat_le pagesize most_64 && list_all (λ b. b) nested
+is_shape (Shape-F.Text size front) =
+    nat_le size most_64 && nat_le (length front) size && are_bytes front
+is_shape (Shape-F.Array count page pagesize nested) =
+    nat_le count most_64 && nat_le page most_64 && nat_le pagesize most_64
+    && list_all (λ b. b) nested
 
 abbrev pub has_shape : Property-F Bool Bool → Bool
 has_shape p = p.shape
@@ -70,7 +74,9 @@ abbrev pub is_context : Text × ℕ → Bool
 is_context c = nat_le c.1 most_32
 
 abbrev pub is_break_line : BreakLine → Bool
-is_break_line b = nat_le b.id most_32 && is_within most_32 b.line && nat_le b.hits most_64 && nat_le b.hit_value most_32
+is_break_line b =
+    nat_le b.id most_32 && is_within most_32 b.line && nat_le b.hits most_64
+    && nat_le b.hit_value most_32
 
 abbrev pub is_body : Body → Bool
 is_body body.Nothing = true
@@ -90,7 +96,8 @@ is_reply (Started key host port) = nat_le port most_16
 is_reply (Stopped key) = true
 is_reply (Refused stopping id) = nat_le id most_8
 
--- each number is one of its type, no more of a text is shown than there is, and the attributes of a response are its own
+-- each number is one of its type, no more of a text is shown than there is, and the attributes of a
+-- response are its own
 abbrev pub is_packet : Packet → Bool
 is_packet (packet.Init i) = true
 is_packet (packet.Response r) = list_all is_own r.attributes && is_body r.body

@@ -1,5 +1,5 @@
--- Which element is which packet (DBGp 1.0). Each part of a packet is found in its place; what a packet does not keep is
--- not looked at.
+-- Which element is which packet (DBGp 1.0). Each part of a packet is found in its place; what a
+-- packet does not keep is not looked at.
 use Rattle.std.specs.Prelude.{◌≡◌, ℕ, zero, suc, nat_le, Bool, true, false, not, ◌||◌, if◌then◌else◌, List, [], ◌∷◌, length, Option, Some, None, option_map, codes, filter}
 use Rattle.dp_value.specs.IntText.{int_of_text}
 use Rattle.dp_markup.specs.declared.tree.Element.{Element}
@@ -71,11 +71,13 @@ shape_in inner type e =
     else None
 
 abbrev pub property_of : Element → Shape → Property
-property_of e s = record { name = attribute (codes "name") e; fullname = attribute (codes "fullname") e; shape = s }
+property_of e s =
+    record { name = attribute (codes "name") e; fullname = attribute (codes "fullname") e; shape = s }
 
 abbrev pub property_around : (Element → Option Property) → Element → Option Property
 property_around inner e = if is_named (codes "property") e
-    then attribute (codes "type") e >>= (λ type. shape_in inner type e) >>= (λ s. Some (property_of e s))
+    then attribute (codes "type") e >>= (λ type. shape_in inner type e)
+    >>= (λ s. Some (property_of e s))
     else None
 
 -- a property of at most so many levels of properties
@@ -112,7 +114,8 @@ rule_in text =
 
 abbrev pub expression_of : Option Element → Option (Option Text)
 expression_of None = Some None
-expression_of (Some e) = if is_named (codes "expression") e then (text_in e >>= λ text. Some (Some text)) else None
+expression_of (Some e) =
+    if is_named (codes "expression") e then (text_in e >>= λ text. Some (Some text)) else None
 
 -- the text of the only element, or nothing at all
 abbrev pub expression_in : Element → Option (Option Text)
@@ -224,7 +227,9 @@ body_of (e ∷ all) (b ∷ text) = None
 
 -- the attributes of a response's own
 abbrev pub is_own_name : Text → Bool
-is_own_name name = not (is_namespace name || same_text name (codes "command") || same_text name (codes "transaction_id"))
+is_own_name name =
+    not (is_namespace name || same_text name (codes "command")
+    || same_text name (codes "transaction_id"))
 
 abbrev pub is_own : Text × Text → Bool
 is_own a = is_own_name a.0
@@ -273,7 +278,8 @@ unfoldable pub stopped_in : Element → Option ProxyReply
 stopped_in e = attribute (codes "idekey") e >>= λ key. Some (Stopped key)
 
 unfoldable pub refused_in : Bool → Element → Option ProxyReply
-refused_in stopping e = only_in e >>= error_of (codes "id") most_8 >>= λ id. Some (Refused stopping id)
+refused_in stopping e =
+    only_in e >>= error_of (codes "id") most_8 >>= λ id. Some (Refused stopping id)
 
 abbrev pub done_in : Bool → Element → Option ProxyReply
 done_in true e = stopped_in e

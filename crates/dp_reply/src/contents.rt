@@ -2,7 +2,6 @@
 
 ghost use Rattle.std.specs.Prelude.{◌≡◌, ◌≤◌, ◌++◌, ◌∷◌, not, IfOk, OnOk, IfSome, option_copied, option_to_list};
 ghost use Rattle.dp_value.specs.Decimals.{decimal_in};
-ghost use Rattle.dp_markup.specs.Grammar as grammar;
 ghost use Rattle.dp_markup.specs.declared.tree.Node.TheViews.{out-Node};
 ghost use Rattle.dp_reply.specs.Contents as spec;
 ghost use Rattle.dp_reply.specs.Verdict.{Finds};
@@ -10,15 +9,9 @@ ghost use Rattle.dp_reply.specs.Verdict.{Finds};
 use crate::error::ReplyError;
 use base64::DecodeAllocError;
 use base64::engine::general_purpose::STANDARD;
-use dp_markup::{Element, Node};
+use dp_markup::{Element, Node, same_text};
 use dp_value::{Bytes, Memory, decimal};
 use std::alloc::Global;
-
-pub fn same_text(a: &[u8], b: &[u8]) -> bool
-    ensures { result ≡ grammar.same_text a.now b.now }
-{
-    a == b
-}
 
 pub fn flag(text: &[u8]) -> Result<bool, ReplyError>
     ensures { Finds (λ b. b) result (spec.flag_in text.now) }

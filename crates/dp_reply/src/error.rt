@@ -1,3 +1,5 @@
+//! Why a text is no packet.
+
 use dp_markup::MarkupError;
 use std::alloc::{AllocError, AllocFailed};
 use thiserror::Error;

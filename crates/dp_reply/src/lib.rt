@@ -1,5 +1,5 @@
-//! Packets that are read, and what is read of a packet that was written. The packets themselves are those of
-//! `dp_packet`.
+//! Packets that are read, and what is read of a packet that was written. The packets themselves are
+//! those of `dp_packet`.
 #![tactic(auto)]
 
 mod contents;
@@ -16,6 +16,3 @@ pub use dp_packet::{
 };
 pub use error::ReplyError;
 pub use reading::{packet_of, reread};
-
-#[cfg(test)]
-mod reading_tests;

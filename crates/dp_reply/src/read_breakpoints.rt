@@ -7,10 +7,10 @@ ghost use Rattle.dp_reply.specs.Verdict.{Finds};
 
 use crate::contents::{
     attribute, flag, is_named, number_at, number_of_32_bits_at, only_element, optional_number,
-    optional_text, same_text, text_in,
+    optional_text, text_in,
 };
 use crate::error::ReplyError;
-use dp_markup::Element;
+use dp_markup::{Element, same_text};
 use dp_packet::{BreakKind, BreakLine, HitRule};
 use dp_value::Bytes;
 use std::alloc::Global;

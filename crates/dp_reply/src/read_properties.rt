@@ -2,29 +2,19 @@
 
 ghost use Rattle.std.specs.Prelude.{◌≡◌};
 ghost use Rattle.dp_markup.specs.declared.tree.Node.TheViews.{out-Node};
-ghost use Rattle.dp_markup.specs.Grammar.{limit};
 ghost use Rattle.dp_value.specs.IntText as int_text;
 ghost use Rattle.dp_reply.specs.Contents.{each, elements, elements_of, elements_in};
 ghost use Rattle.dp_reply.specs.Readings as spec;
 ghost use Rattle.dp_reply.specs.Verdict.{Finds, behind};
 
 use crate::contents::{
-    attribute, bytes, element_in, flag, has_no_words, is_named, number_at, optional_text,
-    same_text, text_in,
+    attribute, bytes, element_in, flag, has_no_words, is_named, number_at, optional_text, text_in,
 };
 use crate::error::ReplyError;
-use dp_markup::{Element, Node};
+use dp_markup::{Element, Node, level_limit, same_text};
 use dp_packet::{Property, Shape};
 use dp_value::{Items, int_of_text};
 use std::alloc::Global;
-
-/// Nothing that is read nests deeper.
-#[tactic(auto, unfolding(dp_markup::specs::Grammar::limit))]
-fn levels() -> usize
-    ensures { result ≡ limit }
-{
-    64
-}
 
 fn bool_in(alloc: Global, e: &Element) -> Result<Shape, ReplyError>
     ensures { Finds (λ s. s) result (spec.bool_in e.now) }
@@ -155,5 +145,5 @@ fn property(alloc: Global, e: &Element, level: usize) -> Result<Property, ReplyE
 pub fn property_in(alloc: Global, e: &Element) -> Result<Property, ReplyError>
     ensures { Finds (λ p. p) result (spec.property_in e.now) }
 {
-    property(alloc, e, levels())
+    property(alloc, e, level_limit())
 }

@@ -7,13 +7,13 @@ ghost use Rattle.dp_reply.specs.Verdict.{Finds};
 
 use crate::contents::{
     attribute, has_no_elements, has_no_words, is_named, is_namespace, number_at,
-    number_of_32_bits_at, only, same_text, text, words,
+    number_of_32_bits_at, only, text, words,
 };
 use crate::error::ReplyError;
 use crate::lists::{Entry, entries};
 use crate::read_breakpoints::breakpoint_in;
 use crate::read_properties::property_in;
-use dp_markup::{Element, Node};
+use dp_markup::{Element, Node, same_text};
 use dp_packet::{Body, BreakLine, Property, Response, StackLine};
 use dp_value::{Bytes, Items, Memory};
 use std::alloc::Global;

@@ -2,7 +2,7 @@ use Rattle.std.proofs.Common.{◌≡◌, ◌-◌, ◌∙◌, length, inl, ap, su
 use Rattle.dp_markup.specs.declared.error.MarkupError.TheVariants.{BadMarkup}
 use Rattle.dp_markup.specs.declared.refusal.Refusal.TheVariants.{Unexpected, TooDeep}
 use Rattle.dp_markup.specs.Grammar.{BeginsWithHead, root_value}
-use Rattle.dp_markup.specs.Reading.{head_of}
+use Rattle.dp_markup.specs.inner.Reading.{head_of}
 use Rattle.dp_markup.specs.Refused.{IsFirstBad}
 use Rattle.dp_markup.proofs.Verdicts.{head_left_in, head_is_bad, head_not_deep, is_head, one_head, not_head, same_head_offset, head_refused_at}
 use Rattle.dp_markup.proofs.reading.head_attribute.Goals as goal

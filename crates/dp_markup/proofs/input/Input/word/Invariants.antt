@@ -1,5 +1,5 @@
 use Rattle.std.proofs.Common.{◌≡◌, drop}
-use Rattle.dp_markup.specs.Input.{word}
+use Rattle.dp_markup.specs.inner.Input.{word}
 use Rattle.dp_markup.proofs.input.Input.word.Given as goal
 
 abbrev pub invariant-loop-byte : goal.invariant-loop-byte
