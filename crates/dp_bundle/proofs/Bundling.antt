@@ -5,11 +5,12 @@ use Rattle.dp_parse.specs.declared.errors.ParseError.{ParseError}
 use Rattle.dp_parse.specs.declared.errors.ParseError.TheVariants as parse_error
 use Rattle.dp_tree.specs.declared.tree.File.{File}
 use Rattle.dp_parse.specs.Programs.{IsFile, IsNoFile}
-use Rattle.dp_bundle.specs.declared.bundle.Bundle.{Bundle}
+use Rattle.dp_tree.specs.declared.bundle.Bundle.{Bundle}
 use Rattle.dp_bundle.specs.declared.errors.BundleError.{BundleError}
 use Rattle.dp_bundle.specs.declared.errors.BundleError.TheVariants.{Source, TooLong, Memory}
-use Rattle.dp_bundle.specs.declared.bundle.BundleFile.{BundleFile}
-use Rattle.dp_bundle.specs.Bundles.{Given, file_limit, IsBundleFile, IsRefused, IsAnswer, MakesFrom, Makes, files_in, source_of}
+use Rattle.dp_tree.specs.declared.bundle.BundleFile.{BundleFile}
+use Rattle.dp_tree.specs.FileNames.{file_limit}
+use Rattle.dp_bundle.specs.Bundles.{Given, IsBundleFile, IsRefused, IsAnswer, MakesFrom, Makes, files_in, source_of}
 
 -- ---- one file
 

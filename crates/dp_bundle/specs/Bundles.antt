@@ -1,41 +1,21 @@
 -- The files of a program: which bundle they make, and why they make none.
 use Rattle.std.specs.Prelude.{◌≡◌, ◌≢◌, ◌⊎◌, ℕ, suc, ◌<◌, ◌≤◌, ◌==◌, if◌then◌else◌, List, [], ◌∷◌, length, map, All, IsUtf8, Result, Ok, Err, ⊤}
-use Rattle.std.specs.List.{IsDistinct}
-use Rattle.std.specs.Str.{bytes_eq}
 use Rattle.dp_parse.specs.declared.errors.ParseError.{ParseError}
 use Rattle.dp_parse.specs.declared.errors.ParseError.TheVariants as parse_error
 use Rattle.dp_parse.specs.Programs.{IsFile, IsNoFile}
-use Rattle.dp_bundle.specs.declared.bundle.Bundle.{Bundle}
+use Rattle.dp_tree.specs.declared.bundle.Bundle.{Bundle}
+use Rattle.dp_tree.specs.FileNames.{file_limit, AreFileNames}
 use Rattle.dp_bundle.specs.declared.errors.BundleError.{BundleError}
 use Rattle.dp_bundle.specs.declared.errors.BundleError.TheVariants.{Source, TooLong, Memory}
-use Rattle.dp_bundle.specs.declared.bundle.BundleFile.{BundleFile}
+use Rattle.dp_tree.specs.declared.bundle.BundleFile.{BundleFile}
 
 -- a name and a text
 abbrev pub Given : Type 0
 Given = List ℕ × List ℕ
 
--- the most bytes that a file may have
-abbrev pub file_limit : ℕ
-file_limit = 1048576
-
--- 1 to 255 bytes of text without a NUL
-pub record IsFileName (name : List ℕ) : Type 0 where
-  pub some : 0 < length name
-  pub short : length name ≤ 255
-  pub text : IsUtf8 name
-  pub bare : All (λ byte. byte ≢ 0) name
-
--- a name without one leading `/`
-abbrev pub without_slash : List ℕ → List ℕ
-without_slash [] = []
-without_slash (byte ∷ bytes) = if byte == 47 then bytes else byte ∷ bytes
-
 -- what files have of which a bundle can be made
-pub record AreForBundle (files : List Given) : Type 0 where
-  pub some : 0 < length files
-  pub few : length files ≤ 64
-  pub named : All (λ file. IsFileName file.0) files
-  pub apart : IsDistinct bytes_eq (map (λ file. without_slash file.0) files)
+abbrev pub AreForBundle : List Given → Type 0
+AreForBundle files = AreFileNames (map (λ file. file.0) files)
 
 -- a file of a bundle has the name and the text that were given, and the tree of the text
 pub record IsBundleFile (given : Given) (file : BundleFile) : Type 0 where
@@ -46,19 +26,23 @@ pub record IsBundleFile (given : Given) (file : BundleFile) : Type 0 where
 
 -- why the file of this number is refused
 abbrev pub IsRefused : ℕ → List ℕ → BundleError → Type 0
-IsRefused number text (Source file why) = (file ≡ number) × (length text ≤ file_limit) × (why ≢ parse_error.Memory) × IsNoFile text why
+IsRefused number text (Source file why) =
+    (file ≡ number) × (length text ≤ file_limit) × (why ≢ parse_error.Memory) × IsNoFile text why
 IsRefused number text (TooLong file) = (file ≡ number) × (file_limit < length text)
 IsRefused number text Memory = ⊥
 
--- What files make, of which the first has this number: all their files of a bundle in order, or the refusal of the first that is refused.
+-- What files make, of which the first has this number: all their files of a bundle in order, or the
+-- refusal of the first that is refused.
 abbrev pub MakesFrom : ℕ → List Given → Result (List BundleFile) BundleError → Type 0
 MakesFrom number [] (Ok []) = ⊤
 MakesFrom number [] (Ok (made ∷ rest)) = ⊥
 MakesFrom number [] (Err why) = ⊥
 MakesFrom number (given ∷ more) (Ok []) = ⊥
-MakesFrom number (given ∷ more) (Ok (made ∷ rest)) = IsBundleFile given made × MakesFrom (suc number) more (Ok rest)
+MakesFrom number (given ∷ more) (Ok (made ∷ rest)) =
+    IsBundleFile given made × MakesFrom (suc number) more (Ok rest)
 MakesFrom number (given ∷ more) (Err why) =
-    IsRefused number given.1 why ⊎ (((made : BundleFile) × IsBundleFile given made) × MakesFrom (suc number) more (Err why))
+    IsRefused number given.1 why
+    ⊎ (((made : BundleFile) × IsBundleFile given made) × MakesFrom (suc number) more (Err why))
 
 -- the files of a bundle, or the refusal
 abbrev pub files_in : Result Bundle BundleError → Result (List BundleFile) BundleError

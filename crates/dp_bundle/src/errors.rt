@@ -11,7 +11,7 @@ pub enum BundleError {
     /// The file is not in the grammar.
     #[error("{error}")]
     Source { file: u32, error: ParseError },
-    /// The file is longer than [`FILE_LIMIT`](crate::FILE_LIMIT).
+    /// The file is longer than [`FILE_LIMIT`](dp_tree::FILE_LIMIT).
     #[error("file {file} is too long")]
     TooLong { file: u32 },
     /// Want of memory.

@@ -1,13 +1,8 @@
-//! The files of a program that runs, and their functions.
+//! Programs that are made of the names and texts of their files, or the first file that is none.
 #![tactic(auto)]
 
-mod bundle;
 mod errors;
-mod files;
 mod making;
 
-pub use bundle::{Bundle, BundleFile, FILE_LIMIT, FunctionRef};
 pub use errors::BundleError;
-
-#[cfg(test)]
-mod tests;
+pub use making::FromTexts;

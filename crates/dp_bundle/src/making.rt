@@ -2,14 +2,15 @@
 
 ghost use Rattle.std.specs.Prelude.{◌≡◌, ◌⊎◌, ◌≤◌, length, Result, Err, IfOk, IfErr, MatchResult};
 ghost use Rattle.std.specs.Prelude.{List};
-ghost use Rattle.dp_bundle.specs.Bundles.{file_limit, AreForBundle, IsAnswer, IsBundleFile, IsRefused, Makes, source_of as named_source};
-ghost use Rattle.dp_bundle.specs.declared.bundle.Bundle.{Bundle as Made};
+ghost use Rattle.dp_tree.specs.FileNames.{file_limit};
+ghost use Rattle.dp_bundle.specs.Bundles.{AreForBundle, IsAnswer, IsBundleFile, IsRefused, Makes, source_of as named_source};
+ghost use Rattle.dp_tree.specs.declared.bundle.Bundle.{Bundle as Made};
 ghost use Rattle.dp_bundle.specs.declared.errors.BundleError.{BundleError as Refusal};
-ghost use Rattle.dp_bundle.specs.declared.bundle.BundleFile.{BundleFile as MadeFile};
+ghost use Rattle.dp_tree.specs.declared.bundle.BundleFile.{BundleFile as MadeFile};
 
-use crate::bundle::{Bundle, BundleFile, FILE_LIMIT};
 use crate::errors::BundleError;
 use dp_parse::{ParseError, parse_file};
+use dp_tree::{Bundle, BundleFile, FILE_LIMIT};
 use dp_value::{Bytes, Items};
 use std::alloc::Global;
 
@@ -44,28 +45,44 @@ fn file_of(alloc: Global, number: u32, name: Bytes, text: Bytes) -> Result<Bundl
     }
 }
 
-impl Bundle {
+/// Programs that are made of the names and texts of their files.
+pub trait FromTexts: Sized {
+    /// The program of these files; the first is the main file.
+    fn new(alloc: Global, files: Items<(Bytes, Bytes)>) -> Result<Self, BundleError>
+        requires { AreForBundle files };
+}
+
+impl FromTexts for Bundle {
     /// The program of these files, by their names and texts; the first is the main file.
     ///
     /// The first file that is refused is named: `TooLong` where it is longer than [`FILE_LIMIT`], else `Source` where
     /// it is not in the grammar. Takes time linear in the bytes.
-    pub fn new(alloc: Global, files: Items<(Bytes, Bytes)>) -> Result<Bundle, BundleError>
+    fn new(alloc: Global, files: Items<(Bytes, Bytes)>) -> Result<Bundle, BundleError>
         requires { AreForBundle files }
         // What is answered is what the files make, unless memory runs out.
         ensures made { (result ≡ Err BundleError.Memory) ⊎ Makes files result }
         // Files make one thing alone, and that is answered, unless memory runs out.
         ensures only { (asked : Result Made Refusal) → Makes files asked → IsAnswer asked result }
     {
-        let mut made = Vec::new(alloc);
-        for (name, text) in files.into_vec() {
-            let file = match file_of(alloc, made.len() as u32, name, text) {
-                Ok(file) => file,
-                Err(why) => return Err(why),
-            };
-            made.push(file)?;
-        }
-        Ok(Bundle {
-            files: Items::of(made),
-        })
+        bundle_of(alloc, files)
     }
+}
+
+// The program of these files.
+fn bundle_of(alloc: Global, files: Items<(Bytes, Bytes)>) -> Result<Bundle, BundleError>
+    requires { AreForBundle files }
+    ensures made { (result ≡ Err BundleError.Memory) ⊎ Makes files result }
+    ensures only { (asked : Result Made Refusal) → Makes files asked → IsAnswer asked result }
+{
+    let mut made = Vec::new(alloc);
+    for (name, text) in files.into_vec() {
+        let file = match file_of(alloc, made.len() as u32, name, text) {
+            Ok(file) => file,
+            Err(why) => return Err(why),
+        };
+        made.push(file)?;
+    }
+    Ok(Bundle {
+        files: Items::of(made),
+    })
 }

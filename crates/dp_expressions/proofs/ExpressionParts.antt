@@ -12,7 +12,7 @@ use Rattle.dp_tree.specs.declared.tree.Place.{Place}
 use Rattle.dp_tree.specs.declared.tree.Item.{Item}
 use Rattle.dp_tree.specs.declared.tree.Order.TheVariants.{StepFirst}
 use Rattle.dp_rules.specs.Signs.{is, head}
-use Rattle.dp_rules.specs.Input.{Reader}
+use Rattle.dp_rules.specs.inner.Input.{Reader}
 use Rattle.dp_rules.specs.Rules.{Joined, Made, Mark}
 use Rattle.dp_rules.specs.Lists.{SomeItems, AnyItems}
 use Rattle.dp_expressions.specs.Grammar.{prefix_in, step_in, inclusion_in, constant_in, place, indexed, PlaceOf, Index, PlaceRule, Group, ItemRule, Literal, ArrayCall, Call, Isset, Primary, Prefixed, SteppedFirst, OperandRule, CoalesceRule, ConditionalRule, IncludeRule, ExpressionRule, inner}

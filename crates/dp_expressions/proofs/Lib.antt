@@ -7,3 +7,4 @@ pub mod LadderAnswers
 pub mod OperandAnswers
 pub mod OpeningAnswers
 pub mod ExpressionAnswers
+pub mod LongestReads

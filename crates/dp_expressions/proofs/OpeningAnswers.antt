@@ -16,10 +16,10 @@ use Rattle.dp_tree.specs.declared.tree.Expression.TheVariants as tree
 use Rattle.dp_tree.specs.declared.tree.Place.{Place}
 use Rattle.dp_tree.specs.declared.tree.Order.TheVariants.{ValueFirst}
 use Rattle.dp_rules.specs.Signs.{is, head}
-use Rattle.dp_rules.specs.Input.{Reader, ◌>>=◌, ◌>>◌, gives, made, mark, closed, variable}
+use Rattle.dp_rules.specs.inner.Input.{Reader, ◌>>=◌, ◌>>◌, gives, made, mark, closed, variable}
 use Rattle.dp_rules.specs.Rules.{Mark}
 use Rattle.dp_expressions.specs.Grammar.{step_in, place, inner}
-use Rattle.dp_expressions.specs.Reading.{begins_expression, other, step_last, index_or_push, opening_step, opening_place, opening}
+use Rattle.dp_expressions.specs.inner.Reading.{begins_expression, other, step_last, index_or_push, opening_step, opening_place, opening}
 use Rattle.dp_rules.proofs.Signs.{placed, mark_of, excluded}
 use Rattle.dp_rules.proofs.Answers.{Rules, Anything, JoinedAt, EitherAt, GivesAt, OneAt, MarkAt, MadeAt, ClosedAt, StepAt, Answers, Apart, StartsIn, give, given, mark_starts, joined_starts, made_starts, nests_starts, or_starts, starts_in_more, starts_apart, gives_apart, either_apart, made_apart, anything_follows, mark_answers, made_answers, equal_answers, either_answers}
 use Rattle.dp_rules.proofs.Loops.{step_stop, closed_answers, closed_now}

@@ -1,4 +1,5 @@
--- The grammar of expressions (PHP manual, "Expressions" and "Operator Precedence"; what is left out is our own).
+-- The grammar of expressions (PHP manual, "Expressions" and "Operator Precedence"; what is left out
+-- is our own).
 use Rattle.std.specs.Prelude.{ℕ, zero, suc, Bool, true, false, not, ◌||◌, List, [], ◌∷◌, Option, Some, None, ◌++◌}
 use Rattle.dp_value.specs.declared.operators.BinaryOp.TheVariants as binary
 use Rattle.dp_value.specs.declared.operators.UnaryOp.{UnaryOp}
@@ -79,7 +80,9 @@ operator_in _ _ = None
 
 -- the ranks, those that bind more tightly later
 abbrev pub ranks : List Rank
-ranks = rank.Or ∷ rank.And ∷ rank.Equality ∷ rank.Comparison ∷ rank.Concatenation ∷ rank.Sum ∷ rank.Product ∷ []
+ranks =
+    rank.Or ∷ rank.And ∷ rank.Equality ∷ rank.Comparison
+    ∷ rank.Concatenation ∷ rank.Sum ∷ rank.Product ∷ []
 
 -- ranks of which at most one operator joins operands
 abbrev pub is_single : Rank → Bool
@@ -188,7 +191,9 @@ module _ (level : ℕ) (inner : Inner) where
 
   -- item = expr [ "=>" expr ]
   abbrev pub ItemRest : Expression → Rule Item
-  ItemRest first = Made (Mark sign.Arrow >> inner.expression) (λ value. item (Some first) value) or Gives (item None first)
+  ItemRest first =
+      Made (Mark sign.Arrow >> inner.expression) (λ value. item (Some first) value)
+      or Gives (item None first)
 
   abbrev pub ItemRule : Rule Item
   ItemRule = inner.expression >>= ItemRest
@@ -224,9 +229,11 @@ module _ (level : ℕ) (inner : Inner) where
     places ← SomeItems (λ _. PlaceOf inner.index) sign.CloseParenthesis
     Gives (tree.Isset places))
 
-  -- prim but var = string | "true" | "false" | "null" | "(" expr ")" | "[" items "]" | "array" "(" items ")" | name "(" args ")"
+  -- prim but var = string | "true" | "false" | "null" | "(" expr ")" | "[" items "]"
+  --     | "array" "(" items ")" | name "(" args ")"
   abbrev pub Primary : Rule Expression
-  Primary = Made (Kind text_in) tree.Text or Sort constant_in or Group or Literal or ArrayCall or Call
+  Primary =
+      Made (Kind text_in) tree.Text or Sort constant_in or Group or Literal or ArrayCall or Call
 
   -- post = number | "isset" "(" places ")" | prim *( "[" expr "]" )
   abbrev pub Postfix : Rule Expression
@@ -263,7 +270,9 @@ module _ (level : ℕ) (inner : Inner) where
 
   -- coal = or [ "??" coal ]
   abbrev pub CoalesceRest : Expression → Rule Expression
-  CoalesceRest left = Made (Nests level (Mark sign.Coalesce >> inner.coalesce)) (λ right. tree.Coalesce left right) or Gives left
+  CoalesceRest left =
+      Made (Nests level (Mark sign.Coalesce >> inner.coalesce)) (λ right. tree.Coalesce left right)
+      or Gives left
 
   abbrev pub CoalesceRule : Rule Expression
   CoalesceRule = Ladder ranks OperandRule >>= CoalesceRest
@@ -313,7 +322,12 @@ module _ (level : ℕ) (inner : Inner) where
 
 -- the rules one level down, where so many levels are left
 abbrev pub inner : ℕ → Inner
-inner zero = record { expression = λ ts a. ⊥; coalesce = λ ts a. ⊥; operand = λ ts a. ⊥; index = λ ts a. ⊥ }
+inner zero = record {
+  expression = λ ts a. ⊥;
+  coalesce = λ ts a. ⊥;
+  operand = λ ts a. ⊥;
+  index = λ ts a. ⊥;
+}
 inner (suc level) = record {
   expression = ExpressionRule level (inner level);
   coalesce = CoalesceRule level (inner level);

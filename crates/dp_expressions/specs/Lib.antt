@@ -1,3 +1,3 @@
 pub mod Grammar
-pub mod Reading
-pub mod NestedReader
+pub mod Longest
+pub mod inner

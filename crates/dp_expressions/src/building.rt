@@ -2,7 +2,7 @@
 
 ghost use Rattle.std.specs.Prelude.{◌≡◌, ◌++◌, ◌∷◌, [], IfOk};
 ghost use Rattle.dp_expressions.specs.Grammar as grammar;
-ghost use Rattle.dp_expressions.specs.Reading as spec;
+ghost use Rattle.dp_expressions.specs.inner.Reading as spec;
 
 use crate::operand::{Assignment, Operand};
 use dp_tree::{Boxed, Expression, Inclusion, Link, Place};
@@ -10,7 +10,7 @@ use dp_value::{Bytes, Items, Memory, UnaryOp};
 use std::alloc::Global;
 
 /// A place of its parts.
-pub fn named(alloc: Global, name: &[u8], indices: Items<Expression>) -> Result<Place, Memory>
+pub(crate) fn named(alloc: Global, name: &[u8], indices: Items<Expression>) -> Result<Place, Memory>
     ensures { IfOk result (λ p. p ≡ grammar.place name.now indices) }
 {
     let name = Bytes::from_slice(alloc, name)?;
@@ -18,7 +18,7 @@ pub fn named(alloc: Global, name: &[u8], indices: Items<Expression>) -> Result<P
 }
 
 /// An operand under indices, if there are any.
-pub fn indexed(
+pub(crate) fn indexed(
     alloc: Global,
     base: Expression,
     indices: Items<Expression>,
@@ -33,14 +33,14 @@ pub fn indexed(
 }
 
 /// The value of a place.
-pub fn value_of(alloc: Global, place: Place) -> Result<Expression, Memory>
+pub(crate) fn value_of(alloc: Global, place: Place) -> Result<Expression, Memory>
     ensures { IfOk result (λ e. e ≡ grammar.value_of place) }
 {
     indexed(alloc, Expression::Variable(place.name), place.indices)
 }
 
 /// An operand as an expression.
-pub fn tree_of(alloc: Global, operand: Operand) -> Result<Expression, Memory>
+pub(crate) fn tree_of(alloc: Global, operand: Operand) -> Result<Expression, Memory>
     ensures { IfOk result (λ e. e ≡ spec.tree_of operand) }
 {
     match operand {
@@ -50,7 +50,11 @@ pub fn tree_of(alloc: Global, operand: Operand) -> Result<Expression, Memory>
 }
 
 /// Operands of one rank, joined if there are any operators.
-pub fn chained(alloc: Global, first: Expression, links: Items<Link>) -> Result<Expression, Memory>
+pub(crate) fn chained(
+    alloc: Global,
+    first: Expression,
+    links: Items<Link>,
+) -> Result<Expression, Memory>
     ensures { IfOk result (λ e. e ≡ grammar.chained first links) }
 {
     if links.is_empty() {
@@ -60,56 +64,26 @@ pub fn chained(alloc: Global, first: Expression, links: Items<Link>) -> Result<E
     }
 }
 
-pub fn unary(alloc: Global, by: UnaryOp, of: Expression) -> Result<Expression, Memory>
+pub(crate) fn unary(alloc: Global, by: UnaryOp, of: Expression) -> Result<Expression, Memory>
     ensures { IfOk result (λ e. e ≡ Expression.Unary by of) }
 {
     Ok(Expression::Unary(by, Boxed::new(alloc, of)?))
 }
 
-pub fn coalesce(alloc: Global, left: Expression, right: Expression) -> Result<Expression, Memory>
-    ensures { IfOk result (λ e. e ≡ Expression.Coalesce left right) }
-{
-    let left = Boxed::new(alloc, left)?;
-    Ok(Expression::Coalesce(left, Boxed::new(alloc, right)?))
-}
-
-fn boxed(alloc: Global, tree: Option<Expression>) -> Result<Option<Boxed<Expression>>, Memory>
-    ensures { IfOk result (λ held. held ≡ tree) }
-{
-    match tree {
-        Some(tree) => Ok(Some(Boxed::new(alloc, tree)?)),
-        None => Ok(None),
-    }
-}
-
-pub fn conditional(
-    alloc: Global,
-    test: Expression,
-    middle: Option<Expression>,
-    otherwise: Expression,
-) -> Result<Expression, Memory>
-    ensures { IfOk result (λ e. e ≡ Expression.Conditional test middle otherwise) }
-{
-    let test = Boxed::new(alloc, test)?;
-    let middle = boxed(alloc, middle)?;
-    let otherwise = Boxed::new(alloc, otherwise)?;
-    Ok(Expression::Conditional(test, middle, otherwise))
-}
-
-pub fn included(alloc: Global, how: Inclusion, of: Expression) -> Result<Expression, Memory>
+pub(crate) fn included(alloc: Global, how: Inclusion, of: Expression) -> Result<Expression, Memory>
     ensures { IfOk result (λ e. e ≡ Expression.Include how of) }
 {
     Ok(Expression::Include(how, Boxed::new(alloc, of)?))
 }
 
-pub fn pushed(alloc: Global, to: Place, from: Expression) -> Result<Expression, Memory>
+pub(crate) fn pushed(alloc: Global, to: Place, from: Expression) -> Result<Expression, Memory>
     ensures { IfOk result (λ e. e ≡ Expression.Push to from) }
 {
     Ok(Expression::Push(to, Boxed::new(alloc, from)?))
 }
 
 /// An assignment.
-pub fn assigned(
+pub(crate) fn assigned(
     alloc: Global,
     to: Place,
     how: Assignment,

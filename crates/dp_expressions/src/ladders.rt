@@ -1,14 +1,16 @@
 //! Operands and the operators between them.
 
 ghost use Rattle.std.specs.Prelude.{◌≡◌, ◌<◌};
-ghost use Rattle.dp_rules.specs.Input.{Reads};
-ghost use Rattle.dp_expressions.specs.NestedReader.{Nests};
-ghost use Rattle.dp_expressions.specs.Reading as spec;
+ghost use Rattle.dp_rules.specs.inner.Input.{Reads};
+ghost use Rattle.dp_expressions.specs.inner.Reading as spec;
+ghost use Rattle.dp_expressions.specs.inner.Reading.{within};
 ghost use Rattle.dp_expressions.specs.Grammar as grammar;
 
 use crate::building::chained;
+use crate::grammar::Grammar;
+use crate::inside::Inside;
+use crate::kept::both;
 use crate::operand::Part;
-use crate::places::Grammar;
 use crate::rank::Rank;
 use crate::worths::{is_single, operator, operator_in};
 use dp_rules::{Refusal, Tokens, none, with};
@@ -18,7 +20,7 @@ use std::alloc::Global;
 use std::ops::ControlFlow;
 
 /// The ranks, those that bind more tightly later.
-pub const RANKS: [Rank; 7] = [
+pub(crate) const RANKS: [Rank; 7] = [
     Rank::Or,
     Rank::And,
     Rank::Equality,
@@ -38,12 +40,11 @@ fn may_go_on(rank: Rank, links: &[Link]) -> bool
     }
 }
 
-impl<F: Fn(Global, &mut Tokens<'_>, usize, Part) -> Result<Expression, Refusal>> Grammar<F> {
+impl<R: Inside> Grammar<R> {
     #[cycle(ladder)]
-    #[tactic(auto, unfolding(crate::specs::Reading::link_of))]
+    #[tactic(auto, unfolding(crate::specs::inner::Reading::link_of))]
     fn link_of(&self, tokens: &mut Tokens<'_>, more: &[Rank], rank: Rank) -> Result<Link, Refusal>
-        requires { Nests self.now.level (F.pre self.now.inner) (F.post self.now.inner) }
-        ensures { Reads (spec.link_of (spec.ladder more.now (spec.alone self.now.level (spec.below self.now.level))) rank tokens.old) result tokens.new }
+        ensures { Reads (spec.link_of (spec.ladder more.now (within spec.alone self.now)) rank tokens.old) result tokens.new }
     {
         let operator = operator(tokens, rank)?;
         let operand = self.ladder(tokens, more)?;
@@ -58,8 +59,7 @@ impl<F: Fn(Global, &mut Tokens<'_>, usize, Part) -> Result<Expression, Refusal>>
         rank: Rank,
         all: Items<Link>,
     ) -> Result<ControlFlow<Items<Link>, Items<Link>>, Refusal>
-        requires { Nests self.now.level (F.pre self.now.inner) (F.post self.now.inner) }
-        ensures { Reads (spec.links_step (spec.ladder more.now (spec.alone self.now.level (spec.below self.now.level))) rank all tokens.old) result tokens.new }
+        ensures { Reads (spec.links_step (spec.ladder more.now (within spec.alone self.now)) rank all tokens.old) result tokens.new }
     {
         if may_go_on(rank, all.as_slice()) && operator_in(rank, tokens.peek()).is_some() {
             let link = self.link_of(tokens, more, rank)?;
@@ -69,17 +69,16 @@ impl<F: Fn(Global, &mut Tokens<'_>, usize, Part) -> Result<Expression, Refusal>>
     }
 
     #[cycle(ladder)]
-    #[tactic(auto, unfolding(crate::specs::Reading::links_of))]
+    #[tactic(auto, unfolding(crate::specs::inner::Reading::links_of))]
     fn links_of(
         &self,
         tokens: &mut Tokens<'_>,
         more: &[Rank],
         rank: Rank,
     ) -> Result<Items<Link>, Refusal>
-        requires { Nests self.now.level (F.pre self.now.inner) (F.post self.now.inner) }
-        ensures { Reads (spec.links_of (spec.ladder more.now (spec.alone self.now.level (spec.below self.now.level))) rank tokens.old) result tokens.new }
+        ensures { Reads (spec.links_of (spec.ladder more.now (within spec.alone self.now)) rank tokens.old) result tokens.new }
     {
-        let mut state = none(self.alloc);
+        let mut state = none(self.alloc());
         for _turn in 0..tokens.left() + 1 {
             match self.links_step(tokens, more, rank, state)? {
                 ControlFlow::Continue(next) => state = next,
@@ -91,35 +90,37 @@ impl<F: Fn(Global, &mut Tokens<'_>, usize, Part) -> Result<Expression, Refusal>>
 
     /// Operands joined by operators of these ranks, the loosest first.
     #[cycle(ladder)]
-    #[tactic(auto, unfolding(crate::specs::Reading::ladder))]
-    pub fn ladder(&self, tokens: &mut Tokens<'_>, ranks: &[Rank]) -> Result<Expression, Refusal>
-        requires { Nests self.now.level (F.pre self.now.inner) (F.post self.now.inner) }
-        ensures { Reads (spec.ladder ranks.now (spec.alone self.now.level (spec.below self.now.level)) tokens.old) result tokens.new }
+    #[tactic(auto, unfolding(crate::specs::inner::Reading::ladder))]
+    pub(crate) fn ladder(
+        &self,
+        tokens: &mut Tokens<'_>,
+        ranks: &[Rank],
+    ) -> Result<Expression, Refusal>
+        ensures { Reads (spec.ladder ranks.now (within spec.alone self.now) tokens.old) result tokens.new }
     {
         let [rank, more @ ..] = ranks else {
             return self.alone(tokens);
         };
         let first = self.ladder(tokens, more)?;
-        let links = self.links_of(tokens, more, *rank)?;
-        Ok(chained(self.alloc, first, links)?)
+        let (first, links) = both(first, self.links_of(tokens, more, *rank))?;
+        Ok(chained(self.alloc(), first, links)?)
     }
 
     /// The same, where the first operand was read before.
-    #[tactic(auto, unfolding(crate::specs::Reading::ladder_from))]
-    pub fn ladder_from(
+    #[tactic(auto, unfolding(crate::specs::inner::Reading::ladder_from))]
+    pub(crate) fn ladder_from(
         &self,
         tokens: &mut Tokens<'_>,
         ranks: &[Rank],
         first: Expression,
     ) -> Result<Expression, Refusal>
-        requires { Nests self.now.level (F.pre self.now.inner) (F.post self.now.inner) }
-        ensures { Reads (spec.ladder_from ranks.now (spec.alone self.now.level (spec.below self.now.level)) first tokens.old) result tokens.new }
+        ensures { Reads (spec.ladder_from ranks.now (within spec.alone self.now) first tokens.old) result tokens.new }
     {
         let [rank, more @ ..] = ranks else {
             return Ok(first);
         };
         let left = self.ladder_from(tokens, more, first)?;
-        let links = self.links_of(tokens, more, *rank)?;
-        Ok(chained(self.alloc, left, links)?)
+        let (left, links) = both(left, self.links_of(tokens, more, *rank))?;
+        Ok(chained(self.alloc(), left, links)?)
     }
 }

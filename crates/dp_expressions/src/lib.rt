@@ -4,7 +4,11 @@
 
 mod building;
 mod expressions;
+mod grammar;
+mod inside;
+mod kept;
 mod ladders;
+mod laws;
 mod openings;
 mod operand;
 mod operands;
@@ -14,5 +18,7 @@ mod rank;
 mod worths;
 
 pub use expressions::{expression, place};
+pub use kept::both;
+pub use laws::reads_the_grammar;
 pub use operand::{Assignment, Operand, Part};
 pub use rank::Rank;

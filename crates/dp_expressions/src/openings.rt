@@ -1,40 +1,41 @@
 //! What expressions begin with.
 
 ghost use Rattle.std.specs.Prelude.{◌≡◌, ◌<◌, []};
-ghost use Rattle.dp_rules.specs.Input.{Reads, closed};
-ghost use Rattle.dp_expressions.specs.NestedReader.{Nests};
-ghost use Rattle.dp_expressions.specs.Reading as spec;
+ghost use Rattle.dp_rules.specs.inner.Input.{Reads, closed};
+ghost use Rattle.dp_expressions.specs.inner.Reading as spec;
+ghost use Rattle.dp_expressions.specs.inner.Reading.{within};
 
 use crate::building::named;
+use crate::grammar::Grammar;
+use crate::inside::Inside;
+use crate::kept::both;
 use crate::operand::{Operand, Part};
-use crate::places::Grammar;
-use dp_rules::{Refusal, Sign, Tokens, enter, none, with};
+use dp_rules::{Refusal, Sign, Tokens, none, with};
 use dp_tree::Expression;
 use dp_value::Items;
 use std::alloc::Global;
 use std::ops::ControlFlow;
 
-impl<F: Fn(Global, &mut Tokens<'_>, usize, Part) -> Result<Expression, Refusal>> Grammar<F> {
+impl<R: Inside> Grammar<R> {
     /// An index or, where an assignment may follow, `[]`.
-    #[tactic(auto, unfolding(crate::specs::Reading::index_or_push))]
+    #[tactic(auto, unfolding(crate::specs::inner::Reading::index_or_push))]
     fn index_or_push(
         &self,
         tokens: &mut Tokens<'_>,
         name: &[u8],
         found: Items<Expression>,
     ) -> Result<ControlFlow<Operand, Items<Expression>>, Refusal>
-        requires { Nests self.now.level (F.pre self.now.inner) (F.post self.now.inner) }
-        ensures { Reads (spec.index_or_push self.now.level (spec.below self.now.level) name.now found tokens.old) result tokens.new }
+        ensures { Reads (within spec.index_or_push self.now name.now found tokens.old) result tokens.new }
     {
-        enter(self.level, tokens)?;
+        self.enter(tokens)?;
         tokens.mark(Sign::OpenBracket)?;
         if tokens.sees(Sign::CloseBracket) {
             tokens.mark(Sign::CloseBracket)?;
-            let place = named(self.alloc, name, found)?;
+            let place = named(self.alloc(), name, found)?;
             return Ok(ControlFlow::Break(Operand::Push(place)));
         }
         let at = self.inner(tokens, Part::Whole)?;
-        tokens.mark(Sign::CloseBracket)?;
+        let (at, _) = both(at, tokens.mark(Sign::CloseBracket))?;
         Ok(ControlFlow::Continue(with(found, at)?))
     }
 
@@ -44,21 +45,19 @@ impl<F: Fn(Global, &mut Tokens<'_>, usize, Part) -> Result<Expression, Refusal>>
         name: &[u8],
         found: Items<Expression>,
     ) -> Result<ControlFlow<Operand, Items<Expression>>, Refusal>
-        requires { Nests self.now.level (F.pre self.now.inner) (F.post self.now.inner) }
-        ensures { Reads (spec.opening_step self.now.level (spec.below self.now.level) name.now found tokens.old) result tokens.new }
+        ensures { Reads (within spec.opening_step self.now name.now found tokens.old) result tokens.new }
     {
         if tokens.sees(Sign::OpenBracket) {
             return self.index_or_push(tokens, name, found);
         }
-        let place = named(self.alloc, name, found)?;
+        let place = named(self.alloc(), name, found)?;
         Ok(ControlFlow::Break(self.step_last(tokens, place)?))
     }
 
     fn opening_from(&self, tokens: &mut Tokens<'_>, name: &[u8]) -> Result<Operand, Refusal>
-        requires { Nests self.now.level (F.pre self.now.inner) (F.post self.now.inner) }
-        ensures { Reads (closed (spec.opening_step self.now.level (spec.below self.now.level) name.now) [] tokens.old) result tokens.new }
+        ensures { Reads (closed (within spec.opening_step self.now name.now) [] tokens.old) result tokens.new }
     {
-        let mut state = none(self.alloc);
+        let mut state = none(self.alloc());
         for _turn in 0..tokens.left() + 1 {
             match self.opening_step(tokens, name, state)? {
                 ControlFlow::Continue(more) => state = more,
@@ -69,20 +68,18 @@ impl<F: Fn(Global, &mut Tokens<'_>, usize, Part) -> Result<Expression, Refusal>>
     }
 
     /// What an expression begins with, where it is a variable.
-    #[tactic(auto, unfolding(crate::specs::Reading::opening_place))]
+    #[tactic(auto, unfolding(crate::specs::inner::Reading::opening_place))]
     fn opening_place(&self, tokens: &mut Tokens<'_>) -> Result<Operand, Refusal>
-        requires { Nests self.now.level (F.pre self.now.inner) (F.post self.now.inner) }
-        ensures { Reads (spec.opening_place self.now.level (spec.below self.now.level) tokens.old) result tokens.new }
+        ensures { Reads (within spec.opening_place self.now tokens.old) result tokens.new }
     {
         let name = tokens.variable_name()?;
         self.opening_from(tokens, name)
     }
 
     /// What an expression begins with.
-    #[tactic(auto, unfolding(crate::specs::Reading::opening))]
-    pub fn opening(&self, tokens: &mut Tokens<'_>) -> Result<Operand, Refusal>
-        requires { Nests self.now.level (F.pre self.now.inner) (F.post self.now.inner) }
-        ensures { Reads (spec.opening self.now.level (spec.below self.now.level) tokens.old) result tokens.new }
+    #[tactic(auto, unfolding(crate::specs::inner::Reading::opening))]
+    pub(crate) fn opening(&self, tokens: &mut Tokens<'_>) -> Result<Operand, Refusal>
+        ensures { Reads (within spec.opening self.now tokens.old) result tokens.new }
     {
         if tokens.sees(Sign::Variable) {
             return self.opening_place(tokens);

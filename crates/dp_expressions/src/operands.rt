@@ -1,38 +1,38 @@
 //! Operands.
 
 ghost use Rattle.std.specs.Prelude.{◌≡◌, ◌<◌};
-ghost use Rattle.dp_rules.specs.Input.{Reads};
-ghost use Rattle.dp_expressions.specs.NestedReader.{Nests};
-ghost use Rattle.dp_expressions.specs.Reading as spec;
+ghost use Rattle.dp_rules.specs.inner.Input.{Reads};
+ghost use Rattle.dp_expressions.specs.inner.Reading as spec;
+ghost use Rattle.dp_expressions.specs.inner.Reading.{within};
 
 use crate::building::{indexed, tree_of, unary};
+use crate::grammar::Grammar;
+use crate::inside::Inside;
+use crate::kept::both;
 use crate::operand::{Operand, Part};
 use crate::pieces::{Below, Entry, PlaceBelow};
-use crate::places::Grammar;
-use crate::worths::{constant, constant_in, prefix, prefix_in, step, step_in};
-use dp_rules::{Refusal, Sign, Tokens, any_items, enter, some_items};
+use crate::worths::{constant, names_constant, prefix, prefix_in, step, step_in};
+use dp_rules::{Refusal, Sign, Tokens, any_items, some_items};
 use dp_tree::{Expression, Item, Order, Place};
 use std::alloc::Global;
 
-impl<F: Fn(Global, &mut Tokens<'_>, usize, Part) -> Result<Expression, Refusal>> Grammar<F> {
+impl<R: Inside> Grammar<R> {
     /// An expression in parentheses.
-    #[tactic(auto, unfolding(crate::specs::Reading::group))]
+    #[tactic(auto, unfolding(crate::specs::inner::Reading::group))]
     fn group(&self, tokens: &mut Tokens<'_>) -> Result<Expression, Refusal>
-        requires { Nests self.now.level (F.pre self.now.inner) (F.post self.now.inner) }
-        ensures { Reads (spec.group self.now.level (spec.below self.now.level) tokens.old) result tokens.new }
+        ensures { Reads (within spec.group self.now tokens.old) result tokens.new }
     {
-        enter(self.level, tokens)?;
+        self.enter(tokens)?;
         tokens.mark(Sign::OpenParenthesis)?;
         let within = self.inner(tokens, Part::Whole)?;
-        tokens.mark(Sign::CloseParenthesis)?;
+        let (within, _) = both(within, tokens.mark(Sign::CloseParenthesis))?;
         Ok(within)
     }
 
-    #[tactic(auto, unfolding(crate::specs::Reading::item_rest))]
+    #[tactic(auto, unfolding(crate::specs::inner::Reading::item_rest))]
     fn item_rest(&self, tokens: &mut Tokens<'_>, first: Expression) -> Result<Item, Refusal>
-        requires nests { Nests self.now.level (F.pre self.now.inner) (F.post self.now.inner) }
-        requires some { 0 < self.now.level }
-        ensures { Reads (spec.item_rest self.now.level (spec.below self.now.level) first tokens.old) result tokens.new }
+        requires { 0 < self.now }
+        ensures { Reads (within spec.item_rest self.now first tokens.old) result tokens.new }
     {
         if !tokens.sees(Sign::Arrow) {
             return Ok(Item {
@@ -40,8 +40,8 @@ impl<F: Fn(Global, &mut Tokens<'_>, usize, Part) -> Result<Expression, Refusal>>
                 value: first,
             });
         }
-        tokens.mark(Sign::Arrow)?;
-        let value = self.inner(tokens, Part::Whole)?;
+        let (first, _) = both(first, tokens.mark(Sign::Arrow))?;
+        let (first, value) = both(first, self.inner(tokens, Part::Whole))?;
         Ok(Item {
             key: Some(first),
             value,
@@ -49,79 +49,73 @@ impl<F: Fn(Global, &mut Tokens<'_>, usize, Part) -> Result<Expression, Refusal>>
     }
 
     /// An item of an array literal.
-    #[tactic(auto, unfolding(crate::specs::Reading::item_rule))]
-    pub fn item_rule(&self, tokens: &mut Tokens<'_>) -> Result<Item, Refusal>
-        requires nests { Nests self.now.level (F.pre self.now.inner) (F.post self.now.inner) }
-        requires some { 0 < self.now.level }
-        ensures { Reads (spec.item_rule self.now.level (spec.below self.now.level) tokens.old) result tokens.new }
+    #[tactic(auto, unfolding(crate::specs::inner::Reading::item_rule))]
+    pub(crate) fn item_rule(&self, tokens: &mut Tokens<'_>) -> Result<Item, Refusal>
+        requires { 0 < self.now }
+        ensures { Reads (within spec.item_rule self.now tokens.old) result tokens.new }
     {
         let first = self.inner(tokens, Part::Whole)?;
         self.item_rest(tokens, first)
     }
 
-    #[tactic(auto, unfolding(crate::specs::Reading::literal))]
+    #[tactic(auto, unfolding(crate::specs::inner::Reading::literal))]
     fn literal(&self, tokens: &mut Tokens<'_>) -> Result<Expression, Refusal>
-        requires { Nests self.now.level (F.pre self.now.inner) (F.post self.now.inner) }
-        ensures { Reads (spec.literal self.now.level (spec.below self.now.level) tokens.old) result tokens.new }
+        ensures { Reads (within spec.literal self.now tokens.old) result tokens.new }
     {
-        enter(self.level, tokens)?;
+        self.enter(tokens)?;
         tokens.mark(Sign::OpenBracket)?;
         let entry = Entry { grammar: self };
-        let items = any_items(self.alloc, tokens, Sign::CloseBracket, &entry)?;
+        let items = any_items(self.alloc(), tokens, Sign::CloseBracket, &entry)?;
         Ok(Expression::Array(items))
     }
 
-    #[tactic(auto, unfolding(crate::specs::Reading::array_call))]
+    #[tactic(auto, unfolding(crate::specs::inner::Reading::array_call))]
     fn array_call(&self, tokens: &mut Tokens<'_>) -> Result<Expression, Refusal>
-        requires { Nests self.now.level (F.pre self.now.inner) (F.post self.now.inner) }
-        ensures { Reads (spec.array_call self.now.level (spec.below self.now.level) tokens.old) result tokens.new }
+        ensures { Reads (within spec.array_call self.now tokens.old) result tokens.new }
     {
-        enter(self.level, tokens)?;
+        self.enter(tokens)?;
         tokens.mark(Sign::Array)?;
         tokens.mark(Sign::OpenParenthesis)?;
         let entry = Entry { grammar: self };
-        let items = any_items(self.alloc, tokens, Sign::CloseParenthesis, &entry)?;
+        let items = any_items(self.alloc(), tokens, Sign::CloseParenthesis, &entry)?;
         Ok(Expression::Array(items))
     }
 
-    #[tactic(auto, unfolding(crate::specs::Reading::call))]
+    #[tactic(auto, unfolding(crate::specs::inner::Reading::call))]
     fn call(&self, tokens: &mut Tokens<'_>) -> Result<Expression, Refusal>
-        requires { Nests self.now.level (F.pre self.now.inner) (F.post self.now.inner) }
-        ensures { Reads (spec.call self.now.level (spec.below self.now.level) tokens.old) result tokens.new }
+        ensures { Reads (within spec.call self.now tokens.old) result tokens.new }
     {
-        enter(self.level, tokens)?;
-        let name = tokens.name(self.alloc)?;
+        self.enter(tokens)?;
+        let name = tokens.name(self.alloc())?;
         tokens.mark(Sign::OpenParenthesis)?;
         let argument = Below {
             grammar: self,
             part: Part::Whole,
         };
-        let arguments = any_items(self.alloc, tokens, Sign::CloseParenthesis, &argument)?;
+        let arguments = any_items(self.alloc(), tokens, Sign::CloseParenthesis, &argument)?;
         Ok(Expression::Call(name, arguments))
     }
 
-    #[tactic(auto, unfolding(crate::specs::Reading::isset))]
+    #[tactic(auto, unfolding(crate::specs::inner::Reading::isset))]
     fn isset(&self, tokens: &mut Tokens<'_>) -> Result<Expression, Refusal>
-        requires { Nests self.now.level (F.pre self.now.inner) (F.post self.now.inner) }
-        ensures { Reads (spec.isset self.now.level (spec.below self.now.level) tokens.old) result tokens.new }
+        ensures { Reads (within spec.isset self.now tokens.old) result tokens.new }
     {
-        enter(self.level, tokens)?;
+        self.enter(tokens)?;
         tokens.mark(Sign::Isset)?;
         tokens.mark(Sign::OpenParenthesis)?;
         let place = PlaceBelow { grammar: self };
-        let places = some_items(self.alloc, tokens, Sign::CloseParenthesis, &place)?;
+        let places = some_items(self.alloc(), tokens, Sign::CloseParenthesis, &place)?;
         Ok(Expression::Isset(places))
     }
 
-    #[tactic(auto, unfolding(crate::specs::Reading::primary, dp_rules::specs::Input::refuse))]
+    #[tactic(auto, unfolding(crate::specs::inner::Reading::primary, dp_rules::specs::inner::Input::refuse))]
     fn primary(&self, tokens: &mut Tokens<'_>) -> Result<Expression, Refusal>
-        requires { Nests self.now.level (F.pre self.now.inner) (F.post self.now.inner) }
-        ensures { Reads (spec.primary self.now.level (spec.below self.now.level) tokens.old) result tokens.new }
+        ensures { Reads (within spec.primary self.now tokens.old) result tokens.new }
     {
         if tokens.sees(Sign::Text) {
-            return Ok(Expression::Text(tokens.text(self.alloc)?));
+            return Ok(Expression::Text(tokens.text(self.alloc())?));
         }
-        if constant_in(tokens.peek()).is_some() {
+        if names_constant(tokens.peek()) {
             return constant(tokens);
         }
         if tokens.sees(Sign::OpenParenthesis) {
@@ -139,33 +133,30 @@ impl<F: Fn(Global, &mut Tokens<'_>, usize, Part) -> Result<Expression, Refusal>>
         Err(tokens.refuse())
     }
 
-    #[tactic(auto, unfolding(crate::specs::Reading::prefixed))]
+    #[tactic(auto, unfolding(crate::specs::inner::Reading::prefixed))]
     fn prefixed(&self, tokens: &mut Tokens<'_>) -> Result<Expression, Refusal>
-        requires { Nests self.now.level (F.pre self.now.inner) (F.post self.now.inner) }
-        ensures { Reads (spec.prefixed self.now.level (spec.below self.now.level) tokens.old) result tokens.new }
+        ensures { Reads (within spec.prefixed self.now tokens.old) result tokens.new }
     {
-        enter(self.level, tokens)?;
+        self.enter(tokens)?;
         let by = prefix(tokens)?;
         let of = self.inner(tokens, Part::Alone)?;
-        Ok(unary(self.alloc, by, of)?)
+        Ok(unary(self.alloc(), by, of)?)
     }
 
-    #[tactic(auto, unfolding(crate::specs::Reading::stepped_first))]
+    #[tactic(auto, unfolding(crate::specs::inner::Reading::stepped_first))]
     fn stepped_first(&self, tokens: &mut Tokens<'_>) -> Result<Expression, Refusal>
-        requires { Nests self.now.level (F.pre self.now.inner) (F.post self.now.inner) }
-        ensures { Reads (spec.stepped_first self.now.level (spec.below self.now.level) tokens.old) result tokens.new }
+        ensures { Reads (within spec.stepped_first self.now tokens.old) result tokens.new }
     {
-        enter(self.level, tokens)?;
+        self.enter(tokens)?;
         let by = step(tokens)?;
         let of = self.place_below(tokens)?;
         Ok(Expression::Step(by, Order::StepFirst, of))
     }
 
     /// An operand that begins with no variable.
-    #[tactic(auto, unfolding(crate::specs::Reading::other))]
-    pub fn other(&self, tokens: &mut Tokens<'_>) -> Result<Expression, Refusal>
-        requires { Nests self.now.level (F.pre self.now.inner) (F.post self.now.inner) }
-        ensures { Reads (spec.other self.now.level (spec.below self.now.level) tokens.old) result tokens.new }
+    #[tactic(auto, unfolding(crate::specs::inner::Reading::other))]
+    pub(crate) fn other(&self, tokens: &mut Tokens<'_>) -> Result<Expression, Refusal>
+        ensures { Reads (within spec.other self.now tokens.old) result tokens.new }
     {
         if prefix_in(tokens.peek()).is_some() {
             return self.prefixed(tokens);
@@ -180,15 +171,18 @@ impl<F: Fn(Global, &mut Tokens<'_>, usize, Part) -> Result<Expression, Refusal>>
             return self.isset(tokens);
         }
         let base = self.primary(tokens)?;
-        let indices = self.indices(tokens)?;
-        Ok(indexed(self.alloc, base, indices)?)
+        let (base, indices) = both(base, self.indices(tokens))?;
+        Ok(indexed(self.alloc(), base, indices)?)
     }
 
     /// What may stand behind a place.
-    #[tactic(auto, unfolding(crate::specs::Reading::step_last))]
-    pub fn step_last(&self, tokens: &mut Tokens<'_>, place: Place) -> Result<Operand, Refusal>
-        requires { Nests self.now.level (F.pre self.now.inner) (F.post self.now.inner) }
-        ensures { Reads (spec.step_last self.now.level (spec.below self.now.level) place tokens.old) result tokens.new }
+    #[tactic(auto, unfolding(crate::specs::inner::Reading::step_last))]
+    pub(crate) fn step_last(
+        &self,
+        tokens: &mut Tokens<'_>,
+        place: Place,
+    ) -> Result<Operand, Refusal>
+        ensures { Reads (within spec.step_last self.now place tokens.old) result tokens.new }
     {
         if step_in(tokens.peek()).is_none() {
             return Ok(Operand::Place(place));
@@ -198,16 +192,15 @@ impl<F: Fn(Global, &mut Tokens<'_>, usize, Part) -> Result<Expression, Refusal>>
     }
 
     /// One operand, with what stands before it.
-    #[tactic(auto, unfolding(crate::specs::Reading::alone))]
-    pub fn alone(&self, tokens: &mut Tokens<'_>) -> Result<Expression, Refusal>
-        requires { Nests self.now.level (F.pre self.now.inner) (F.post self.now.inner) }
-        ensures { Reads (spec.alone self.now.level (spec.below self.now.level) tokens.old) result tokens.new }
+    #[tactic(auto, unfolding(crate::specs::inner::Reading::alone))]
+    pub(crate) fn alone(&self, tokens: &mut Tokens<'_>) -> Result<Expression, Refusal>
+        ensures { Reads (within spec.alone self.now tokens.old) result tokens.new }
     {
         if !tokens.sees(Sign::Variable) {
             return self.other(tokens);
         }
         let place = self.place_rule(tokens)?;
         let operand = self.step_last(tokens, place)?;
-        Ok(tree_of(self.alloc, operand)?)
+        Ok(tree_of(self.alloc(), operand)?)
     }
 }

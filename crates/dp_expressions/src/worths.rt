@@ -1,10 +1,10 @@
 //! What a token is worth to a rule of expressions, by its sort, and such tokens read.
 
-ghost use Rattle.std.specs.Prelude.{◌≡◌};
+ghost use Rattle.std.specs.Prelude.{◌≡◌, is_some};
 ghost use Rattle.dp_expressions.specs.Grammar as grammar;
-ghost use Rattle.dp_expressions.specs.Reading as spec;
-ghost use Rattle.dp_rules.specs.Input as input;
-ghost use Rattle.dp_rules.specs.Input.{Reads};
+ghost use Rattle.dp_expressions.specs.inner.Reading as spec;
+ghost use Rattle.dp_rules.specs.inner.Input as input;
+ghost use Rattle.dp_rules.specs.inner.Input.{Reads};
 
 use crate::operand::Assignment;
 use crate::rank::Rank;
@@ -13,7 +13,7 @@ use dp_tree::{Expression, Inclusion, Operator};
 use dp_value::{BinaryOp, UnaryOp};
 
 /// The operator that stands before its operand.
-pub fn prefix_in(sign: Sign) -> Option<UnaryOp>
+pub(crate) fn prefix_in(sign: Sign) -> Option<UnaryOp>
     ensures { result ≡ grammar.prefix_in sign }
 {
     match sign {
@@ -25,7 +25,7 @@ pub fn prefix_in(sign: Sign) -> Option<UnaryOp>
 }
 
 /// The operator that steps a place by one.
-pub fn step_in(sign: Sign) -> Option<UnaryOp>
+pub(crate) fn step_in(sign: Sign) -> Option<UnaryOp>
     ensures { result ≡ grammar.step_in sign }
 {
     match sign {
@@ -36,7 +36,7 @@ pub fn step_in(sign: Sign) -> Option<UnaryOp>
 }
 
 /// How a file is included.
-pub fn inclusion_in(sign: Sign) -> Option<Inclusion>
+pub(crate) fn inclusion_in(sign: Sign) -> Option<Inclusion>
     ensures { result ≡ grammar.inclusion_in sign }
 {
     match sign {
@@ -47,7 +47,7 @@ pub fn inclusion_in(sign: Sign) -> Option<Inclusion>
 }
 
 /// How an assignment makes its value.
-pub fn assignment_in(sign: Sign) -> Option<Assignment>
+pub(crate) fn assignment_in(sign: Sign) -> Option<Assignment>
     ensures { result ≡ grammar.assignment_in sign }
 {
     match sign {
@@ -63,7 +63,7 @@ pub fn assignment_in(sign: Sign) -> Option<Assignment>
 }
 
 /// The constant that a keyword names.
-pub fn constant_in(sign: Sign) -> Option<Expression>
+pub(crate) fn constant_in(sign: Sign) -> Option<Expression>
     ensures { result ≡ grammar.constant_in sign }
 {
     match sign {
@@ -74,8 +74,15 @@ pub fn constant_in(sign: Sign) -> Option<Expression>
     }
 }
 
+/// Whether a keyword names a constant.
+pub(crate) fn names_constant(sign: Sign) -> bool
+    ensures { result ≡ is_some (grammar.constant_in sign) }
+{
+    matches!(sign, Sign::Null | Sign::True | Sign::False)
+}
+
 /// The operator of this rank.
-pub fn operator_in(rank: Rank, sign: Sign) -> Option<Operator>
+pub(crate) fn operator_in(rank: Rank, sign: Sign) -> Option<Operator>
     ensures { result ≡ grammar.operator_in rank sign }
 {
     match (rank, sign) {
@@ -100,14 +107,14 @@ pub fn operator_in(rank: Rank, sign: Sign) -> Option<Operator>
 }
 
 /// Whether at most one operator of this rank joins operands.
-pub fn is_single(rank: Rank) -> bool
+pub(crate) fn is_single(rank: Rank) -> bool
     ensures { result ≡ grammar.is_single rank }
 {
     matches!(rank, Rank::Equality | Rank::Comparison)
 }
 
 /// Whether an expression may begin with this.
-pub fn begins_expression(sign: Sign) -> bool
+pub(crate) fn begins_expression(sign: Sign) -> bool
     ensures { result ≡ spec.begins_expression sign }
 {
     matches!(
@@ -135,7 +142,7 @@ pub fn begins_expression(sign: Sign) -> bool
 
 /// An operator that stands before its operand.
 #[tactic(auto, using(dp_rules::proofs::Taking::sort_taken))]
-pub fn prefix(tokens: &mut Tokens<'_>) -> Result<UnaryOp, Refusal>
+pub(crate) fn prefix(tokens: &mut Tokens<'_>) -> Result<UnaryOp, Refusal>
     ensures { Reads (input.sort grammar.prefix_in tokens.old) result tokens.new }
 {
     let found = prefix_in(tokens.peek());
@@ -144,7 +151,7 @@ pub fn prefix(tokens: &mut Tokens<'_>) -> Result<UnaryOp, Refusal>
 
 /// An operator that steps a place by one.
 #[tactic(auto, using(dp_rules::proofs::Taking::sort_taken))]
-pub fn step(tokens: &mut Tokens<'_>) -> Result<UnaryOp, Refusal>
+pub(crate) fn step(tokens: &mut Tokens<'_>) -> Result<UnaryOp, Refusal>
     ensures { Reads (input.sort grammar.step_in tokens.old) result tokens.new }
 {
     let found = step_in(tokens.peek());
@@ -153,7 +160,7 @@ pub fn step(tokens: &mut Tokens<'_>) -> Result<UnaryOp, Refusal>
 
 /// The word that includes a file.
 #[tactic(auto, using(dp_rules::proofs::Taking::sort_taken))]
-pub fn inclusion(tokens: &mut Tokens<'_>) -> Result<Inclusion, Refusal>
+pub(crate) fn inclusion(tokens: &mut Tokens<'_>) -> Result<Inclusion, Refusal>
     ensures { Reads (input.sort grammar.inclusion_in tokens.old) result tokens.new }
 {
     let found = inclusion_in(tokens.peek());
@@ -162,7 +169,7 @@ pub fn inclusion(tokens: &mut Tokens<'_>) -> Result<Inclusion, Refusal>
 
 /// An operator that assigns.
 #[tactic(auto, using(dp_rules::proofs::Taking::sort_taken))]
-pub fn assignment(tokens: &mut Tokens<'_>) -> Result<Assignment, Refusal>
+pub(crate) fn assignment(tokens: &mut Tokens<'_>) -> Result<Assignment, Refusal>
     ensures { Reads (input.sort grammar.assignment_in tokens.old) result tokens.new }
 {
     let found = assignment_in(tokens.peek());
@@ -171,7 +178,7 @@ pub fn assignment(tokens: &mut Tokens<'_>) -> Result<Assignment, Refusal>
 
 /// A keyword that names a constant.
 #[tactic(auto, using(dp_rules::proofs::Taking::sort_taken))]
-pub fn constant(tokens: &mut Tokens<'_>) -> Result<Expression, Refusal>
+pub(crate) fn constant(tokens: &mut Tokens<'_>) -> Result<Expression, Refusal>
     ensures { Reads (input.sort grammar.constant_in tokens.old) result tokens.new }
 {
     let found = constant_in(tokens.peek());
@@ -180,7 +187,7 @@ pub fn constant(tokens: &mut Tokens<'_>) -> Result<Expression, Refusal>
 
 /// An operator of this rank.
 #[tactic(auto, using(dp_rules::proofs::Taking::sort_taken))]
-pub fn operator(tokens: &mut Tokens<'_>, rank: Rank) -> Result<Operator, Refusal>
+pub(crate) fn operator(tokens: &mut Tokens<'_>, rank: Rank) -> Result<Operator, Refusal>
     ensures { Reads (input.sort (grammar.operator_in rank) tokens.old) result tokens.new }
 {
     let found = operator_in(rank, tokens.peek());

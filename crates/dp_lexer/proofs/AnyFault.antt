@@ -11,10 +11,11 @@ use Rattle.dp_lexer.specs.declared.fault.Fault.TheVariants as fault
 use Rattle.dp_lexer.specs.Bytes.{is_digit, is_start, is_part, runs_on, begins}
 use Rattle.dp_lexer.specs.Quotes.{IsBody, enclosed}
 use Rattle.dp_lexer.specs.Operators.{one_byte, two_bytes, three_bytes}
-use Rattle.dp_lexer.specs.Pieces.{Piece, space, line_comment, name, variable, number, operator, IsName, IsNumber, Closes, IsPiece, widest, longest_name}
-use Rattle.dp_lexer.specs.Tokens.{IsLongestNumber, IsBadByte, stray, attribute, closing_tag, point, behind_number, long_name, long_variable, inside_text, IsFault}
-use Rattle.dp_lexer.specs.Lexing.{class_of, found, wrong, bad, name_len, dollar_at, ended, line_len, close_len, comment_of, slash_at, body_len, doubled_of, single_of, double_of, single_operator, double_operator, triple_operator, operator_at, piece_by, piece_at}
+use Rattle.dp_lexer.specs.Pieces.{Piece, space, line_comment, name, variable, number, operator, IsName, IsNumber, Closes, OpensLine, StaysInLine, IsPiece, widest, longest_name}
+use Rattle.dp_lexer.specs.Tokens.{IsLongestNumber, IsBadByte, stray, attribute, closing_tag, point, behind_number, long_name, long_variable, comment_tag, inside_text, IsFault}
+use Rattle.dp_lexer.specs.inner.Lexing.{class_of, found, wrong, bad, name_len, dollar_at, ended, line_of, close_len, comment_of, slash_at, body_len, doubled_of, single_of, double_of, single_operator, double_operator, triple_operator, operator_at, piece_by, piece_at}
 use Rattle.dp_lexer.proofs.Runs.{or_left, run_at_least}
+use Rattle.dp_lexer.proofs.LineComments.{line_tagged}
 use Rattle.dp_lexer.proofs.FoundNumbers.{number_len, number_value, number_most}
 use Rattle.dp_lexer.proofs.FoundTexts.{body_there}
 use Rattle.dp_lexer.proofs.FoundParts.{doubled_refused}
@@ -33,7 +34,7 @@ stray_slash : (b : ℕ) (t : List ℕ) → b ≡ 47 → ((q : List ℕ) → b �
 stray_slash b [] is comment none = refl
 stray_slash b (c ∷ q) is comment none = go (c == 47) refl (c == 42) refl
   where
-    go : (k : Bool) → (c == 47) ≡ k → (l : Bool) → (c == 42) ≡ l → cond k (found line_comment (2 + line_len q)) (cond l (comment_of (close_len q)) bad) ≡ bad
+    go : (k : Bool) → (c == 47) ≡ k → (l : Bool) → (c == 42) ≡ l → cond k (line_of 2 q) (cond l (comment_of (close_len q)) bad) ≡ bad
     go true e l f = absurd (none line_comment (47 ∷ 47 ∷ []) q ([], inr refl, tt) (λ i. sym is i ∷ sym (eqb-true c 47 e) i ∷ q))
     go false e true f = absurd (comment q (λ i. is i ∷ eqb-true c 42 f i ∷ q))
     go false e false f = refl
@@ -130,6 +131,19 @@ long_variable_answered (b ∷ bs) more h size =
     ∙ ap (λ k. cond k (cond (nat_lt longest_name (name_len ((b ∷ bs) ++ more))) (wrong fault.BadByte 256) (found (variable (take (name_len ((b ∷ bs) ++ more)) ((b ∷ bs) ++ more))) (1 + name_len ((b ∷ bs) ++ more)))) bad) h.0
     ∙ ap (λ k. cond k (wrong fault.BadByte 256) (found (variable (take (name_len ((b ∷ bs) ++ more)) ((b ∷ bs) ++ more))) (1 + name_len ((b ∷ bs) ++ more)))) (long_run (b ∷ bs) more h size)
 
+no_bracket : (c more : List ℕ) → begins (λ b. b == 91) c ≡ false → begins (λ b. b == 91) (c ++ 63 ∷ 62 ∷ more) ≡ false
+no_bracket [] more e = refl
+no_bracket (x ∷ c) more e = e
+
+comment_tag_answered : (t c more : List ℕ) → OpensLine t c → StaysInLine c → piece_at (t ++ 63 ∷ 62 ∷ more) ≡ wrong fault.BadByte (length t)
+comment_tag_answered t c more (inl h) all =
+    ap (λ l. piece_at (l ++ 63 ∷ 62 ∷ more)) h.0 ∙ at_class 35 (c ++ 63 ∷ 62 ∷ more) class.Hash refl
+    ∙ ap (λ k. cond k bad (line_of 1 (c ++ 63 ∷ 62 ∷ more))) (no_bracket c more h.1)
+    ∙ line_tagged 1 c more all ∙ (let size : 1 + length c ≡ length t = omega (arith, ap length h.0) in ap (λ n. wrong fault.BadByte n) size)
+comment_tag_answered t c more (inr h) all =
+    ap (λ l. piece_at (l ++ 63 ∷ 62 ∷ more)) h ∙ at_class 47 (47 ∷ (c ++ 63 ∷ 62 ∷ more)) class.Slash refl
+    ∙ line_tagged 2 c more all ∙ (let size : 2 + length c ≡ length t = omega (arith, ap length h) in ap (λ n. wrong fault.BadByte n) size)
+
 same_place : (z : List ℕ) (f : Fault) (m n : ℕ) → n ≡ m → piece_at z ≡ wrong f m → IsAnswered z f n
 same_place z f m n e h = inl (h ∙ ap (λ k. wrong f k) (sym e))
 
@@ -142,6 +156,7 @@ bad_byte_answered z at (point d t here is digit) = same_place z fault.BadByte 0 
 bad_byte_answered z at (behind_number n b t more here is longest runs) = subst (λ k. IsAnswered z fault.BadByte k) (sym here) (behind_answered n b t more z is longest runs)
 bad_byte_answered z at (long_name n more here is named size) = same_place z fault.BadByte 255 at here (ap piece_at is ∙ long_name_answered n more named size)
 bad_byte_answered z at (long_variable n more here is named size) = same_place z fault.BadByte 256 at here (ap piece_at is ∙ long_variable_answered n more named size)
+bad_byte_answered z at (comment_tag t more here is h) = same_place z fault.BadByte (length t) at here (ap piece_at is ∙ comment_tag_answered t h.0 more h.1 h.2)
 bad_byte_answered z at (inside_text body more inner here is h inside) = same_place z fault.BadByte (1 + inner) at here (ap piece_at is ∙ double_is body more h ∙ ap (λ d. doubled_of d (length body)) (doubled_refused body inner inside))
 
 -- ---- open texts and comments, wide numbers
@@ -208,6 +223,7 @@ no_bad_byte n (point d t here is digit) = cc
 no_bad_byte n (behind_number m b t more here is longest runs) = nothing_before t more b is
 no_bad_byte n (long_name m more here is named size) = no_name m more named is
 no_bad_byte n (long_variable m more here is named size) = cc
+no_bad_byte n (comment_tag t more here is h) = nothing_before t (62 ∷ more) 63 is
 no_bad_byte n (inside_text body more inner here is h inside) = cc
 
 no_text : (q : ℕ) (r : List ℕ) → [] ≡ q ∷ r → ⊥

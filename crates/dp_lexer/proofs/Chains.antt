@@ -9,9 +9,9 @@ use Rattle.dp_lexer.specs.declared.fault.Fault.TheVariants as fault
 use Rattle.dp_lexer.specs.Chain.{texts, Come}
 use Rattle.dp_lexer.specs.Quotes.{enclosed}
 use Rattle.dp_lexer.specs.Pieces.{Piece, IsNext, Pieces}
-use Rattle.dp_lexer.specs.Tokens.{kind_of, feeds, token_at, tokens_of, AreTokensFrom, IsFault, IsBadByte, stray, attribute, closing_tag, point, behind_number, long_name, long_variable, inside_text, IsRefusedFrom}
-use Rattle.dp_lexer.specs.Lexed.{IsLexed}
-use Rattle.dp_lexer.specs.Lexing.{Found, found, wrong, bad, shown, piece_at}
+use Rattle.dp_lexer.specs.Tokens.{kind_of, feeds, token_at, tokens_of, AreTokensFrom, IsFault, IsBadByte, stray, attribute, closing_tag, point, behind_number, long_name, long_variable, comment_tag, inside_text, IsRefusedFrom}
+use Rattle.dp_lexer.specs.inner.Lexed.{IsLexed}
+use Rattle.dp_lexer.specs.inner.Lexing.{Found, found, wrong, bad, shown, piece_at}
 use Rattle.dp_lexer.proofs.FoundPieces.{enclosed_len}
 use Rattle.dp_lexer.proofs.NextPiece.{piece_there, found_next, next_found}
 use Rattle.dp_lexer.proofs.FirstFault.{wrong_is}
@@ -251,6 +251,7 @@ bad_byte_within z n (point d t here is digit) = omega arith
 bad_byte_within z n (behind_number m b t more here is longest runs) = omega (arith, here, ap length is, length-append t (b ∷ more))
 bad_byte_within z n (long_name m more here is named size) = omega (arith, here, size, ap length is, length-append m more)
 bad_byte_within z n (long_variable m more here is named size) = omega (arith, here, size, ap length is, length-append m more)
+bad_byte_within z n (comment_tag t more here is h) = omega (arith, here, ap length is, length-append t (63 ∷ 62 ∷ more))
 bad_byte_within z n (inside_text body more inner here is h inside) =
     omega (arith, here, inside.is, ap length inside.whole, length-append (texts inside.parts) inside.rest, ap length is, length-append (enclosed 34 body) more, enclosed_len 34 body)
 

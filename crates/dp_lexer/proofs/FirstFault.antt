@@ -5,13 +5,14 @@ use Rattle.dp_lexer.specs.declared.class.Class.TheVariants as class
 use Rattle.dp_lexer.specs.declared.token.TokenKind.{TokenKind}
 use Rattle.dp_lexer.specs.declared.fault.Fault.{Fault}
 use Rattle.dp_lexer.specs.declared.fault.Fault.TheVariants as fault
-use Rattle.dp_lexer.specs.Bytes.{is_space, is_digit, is_start, is_part, runs_on, begins}
+use Rattle.dp_lexer.specs.Bytes.{is_space, is_digit, is_start, is_part, begins_tag, runs_on, begins}
 use Rattle.dp_lexer.specs.Quotes.{IsBody, enclosed}
 use Rattle.dp_lexer.specs.Operators.{one_byte, two_bytes, three_bytes, operator_of}
 use Rattle.dp_lexer.specs.Pieces.{Piece, space, line_comment, block_comment, name, variable, number, text, operator, IsName, IsPiece, widest, longest_name}
-use Rattle.dp_lexer.specs.Tokens.{stray, attribute, closing_tag, point, behind_number, long_name, long_variable, inside_text, IsFault}
-use Rattle.dp_lexer.specs.Lexing.{class_of, Found, found, wrong, bad, name_len, name_at, dollar_at, ended, number_at, line_len, close_len, comment_of, hash_at, slash_at, body_len, Doubled, doubled, doubled_of, single_of, double_of, quote_at, is_split, single_operator, double_operator, triple_operator, operator_at, piece_by, piece_at}
+use Rattle.dp_lexer.specs.Tokens.{stray, attribute, closing_tag, point, behind_number, long_name, long_variable, comment_tag, inside_text, IsFault}
+use Rattle.dp_lexer.specs.inner.Lexing.{class_of, Found, found, wrong, bad, name_len, name_at, dollar_at, ended, number_at, line_len, line_of, close_len, comment_of, hash_at, slash_at, body_len, Doubled, doubled, doubled_of, single_of, double_of, quote_at, is_split, single_operator, double_operator, triple_operator, operator_at, piece_by, piece_at}
 use Rattle.dp_lexer.proofs.Runs.{and_parts, or_parts, equal_test, other_test, false_test, not_both, not_false, first_is, rest_is, run_within}
+use Rattle.dp_lexer.proofs.LineComments.{tag_there, line_len-front, line_len-within, OpensAt, hash_opens, slashes_open}
 use Rattle.dp_lexer.proofs.FoundNumbers.{number_len, number_value, number_ended, number_most}
 use Rattle.dp_lexer.proofs.FoundTexts.{body_there, body_found}
 use Rattle.dp_lexer.proofs.FoundParts.{DoubledThere, doubled_there}
@@ -160,11 +161,22 @@ wrong_ended z f d is e = go (nat_lt widest (number_value z)) refl (begins runs_o
 wrong_number : (b : ℕ) (r : List ℕ) (f : Fault) (d : ℕ) → is_digit b ≡ true → number_at (b ∷ r) ≡ wrong f d → IsFault (b ∷ r) f d
 wrong_number b r f d is e = wrong_ended (b ∷ r) f d is (sym (number_ended b r) ∙ e)
 
+wrong_line : (mark : ℕ) (z q : List ℕ) (f : Fault) (d : ℕ) → OpensAt mark z q → line_of mark q ≡ wrong f d → IsFault z f d
+wrong_line mark z q f d h e = go (begins_tag (drop (line_len q) q)) refl e
+  where
+    go : (k : Bool) → begins_tag (drop (line_len q) q) ≡ k → cond k (wrong fault.BadByte (mark + line_len q)) (found line_comment (mark + line_len q)) ≡ wrong f d → IsFault z f d
+    go false t e = absurd (not_found _ _ f d e)
+    go true t e =
+        let tag = tag_there (drop (line_len q) q) t in
+        let size = length-take-le (mark + line_len q) z (omega (arith, h.size, line_len-within q)) in
+        let whole = sym (take-append-drop (mark + line_len q) z) ∙ ap (λ l. take (mark + line_len q) z ++ l) (h.behind (line_len q) ∙ tag.1) in
+        as_wrong z f fault.BadByte d (mark + line_len q) e (comment_tag (take (mark + line_len q) z) tag.0 (sym size) whole (take (line_len q) q, h.opens (line_len q), line_len-front q))
+
 wrong_hash : (b : ℕ) (r : List ℕ) (f : Fault) (d : ℕ) → b ≡ 35 → hash_at r ≡ wrong f d → IsFault (b ∷ r) f d
 wrong_hash b r f d is e = go (begins (λ c. c == 91) r) refl e
   where
-    go : (k : Bool) → begins (λ c. c == 91) r ≡ k → cond k bad (found line_comment (1 + line_len r)) ≡ wrong f d → IsFault (b ∷ r) f d
-    go false t e = absurd (not_found _ _ f d e)
+    go : (k : Bool) → begins (λ c. c == 91) r ≡ k → cond k bad (line_of 1 r) ≡ wrong f d → IsFault (b ∷ r) f d
+    go false t e = wrong_line 1 (b ∷ r) r f d (hash_opens b r is t) e
     go true t e = let h = first_of (λ c. c == 91) r t in as_wrong (b ∷ r) f fault.BadByte d 0 e (attribute h.1 refl (λ i. is i ∷ (h.2 ∙ ap (λ y. y ∷ h.1) (eqb-true h.0 91 h.3)) i))
 
 clash_len : (o : Option ℕ) (n : ℕ) → o ≡ Some n → o ≡ None → ⊥
@@ -178,8 +190,8 @@ wrong_slash b (c ∷ q) f d is e = go (c == 47) refl (c == 42) refl e
     closed t (Some n) g e = absurd (not_found _ _ f d e)
     closed t None g e = as_wrong (b ∷ c ∷ q) f fault.OpenComment d 0 e (refl, (q, (λ i. is i ∷ t i ∷ q), λ u more h same. clash_len (close_len (u ++ more)) (length u) (closes_found u more h) (ap close_len same ∙ g)))
 
-    go : (k : Bool) → (c == 47) ≡ k → (l : Bool) → (c == 42) ≡ l → cond k (found line_comment (2 + line_len q)) (cond l (comment_of (close_len q)) bad) ≡ wrong f d → IsFault (b ∷ c ∷ q) f d
-    go true t l s e = absurd (not_found _ _ f d e)
+    go : (k : Bool) → (c == 47) ≡ k → (l : Bool) → (c == 42) ≡ l → cond k (line_of 2 q) (cond l (comment_of (close_len q)) bad) ≡ wrong f d → IsFault (b ∷ c ∷ q) f d
+    go true t l s e = wrong_line 2 (b ∷ c ∷ q) q f d (slashes_open b c q is (eqb-true c 47 t)) e
     go false t true s e = closed (eqb-true c 42 s) (close_len q) refl e
     go false t false s e = as_wrong (b ∷ c ∷ q) f fault.BadByte d 0 e (is_stray b (c ∷ q) (idle_slash b (c ∷ q) is t s))
 

@@ -5,12 +5,13 @@ use Rattle.dp_lexer.specs.declared.class.Class.{Class}
 use Rattle.dp_lexer.specs.declared.class.Class.TheVariants as class
 use Rattle.dp_lexer.specs.declared.token.TokenKind.{TokenKind}
 use Rattle.dp_lexer.specs.declared.fault.Fault.TheVariants as fault
-use Rattle.dp_lexer.specs.Bytes.{is_digit, is_start, is_part, is_in_line, runs_on, begins, Each}
+use Rattle.dp_lexer.specs.Bytes.{is_digit, is_start, is_part, is_in_line, begins_tag, runs_on, begins, Each}
 use Rattle.dp_lexer.specs.Quotes.{IsBody, enclosed, single_value, IsDoubled}
 use Rattle.dp_lexer.specs.Operators.{one_byte, two_bytes, three_bytes, operator_of}
-use Rattle.dp_lexer.specs.Pieces.{Piece, space, line_comment, block_comment, name, variable, number, text, operator, IsName, IsNumber, Closes, OpensLine, IsPiece, widest, longest_name, IsNext}
-use Rattle.dp_lexer.specs.Lexing.{class_of, Found, found, wrong, bad, longer, name_len, ended, line_len, close_len, comment_of, doubled, doubled_of, single_of, double_of, is_split, single_operator, double_operator, triple_operator, operator_at, piece_by, piece_at}
+use Rattle.dp_lexer.specs.Pieces.{Piece, space, line_comment, block_comment, name, variable, number, text, operator, IsName, IsNumber, Closes, OpensLine, StaysInLine, IsPiece, widest, longest_name, IsNext}
+use Rattle.dp_lexer.specs.inner.Lexing.{class_of, Found, found, wrong, bad, longer, name_len, ended, line_len, line_of, close_len, comment_of, doubled, doubled_of, single_of, double_of, is_split, single_operator, double_operator, triple_operator, operator_at, piece_by, piece_at}
 use Rattle.dp_lexer.proofs.Runs.{and_parts, or_parts, equal_test, false_test, not_false, one_more, run_at_least, run_within, run_front, run_passes, run_some}
+use Rattle.dp_lexer.proofs.LineComments.{tag_in_line, line_len-none, no_angle, line_len-exact, line_len-least}
 use Rattle.dp_lexer.proofs.FoundNumbers.{number_len, number_value, number_ended, number_there, number_most}
 use Rattle.dp_lexer.proofs.FoundTexts.{body_found}
 use Rattle.dp_lexer.proofs.FoundParts.{doubled_found}
@@ -125,16 +126,26 @@ line_after : (more : List ℕ) → begins (λ b. b == 91) more ≡ true → begi
 line_after [] e f = cc
 line_after (b ∷ t) e f = let is = eqb-true b 91 e in let g : is_in_line b ≡ true = ap is_in_line is in not_false (is_in_line b) g f
 
-at_hash : (c more : List ℕ) → begins (λ b. b == 91) c ≡ false → Each is_in_line c → AtPiece line_comment (35 ∷ c) more (piece_at (35 ∷ (c ++ more)))
-at_hash c more first all = subst (AtPiece line_comment (35 ∷ c) more) (sym (at_class 35 (c ++ more) class.Hash refl)) (go c more first (begins (λ b. b == 91) (c ++ more)) refl (run_at_least is_in_line c more all))
+at_line_of : (mark : ℕ) (u c more : List ℕ) → length u ≡ mark + length c → StaysInLine c → AtPiece line_comment u more (line_of mark (c ++ more))
+at_line_of mark u c more size all = go (begins_tag (drop (line_len (c ++ more)) (c ++ more))) refl
   where
-    go : (c more : List ℕ) → begins (λ b. b == 91) c ≡ false → (k : Bool) → begins (λ b. b == 91) (c ++ more) ≡ k → length c ≤ line_len (c ++ more) → AtPiece line_comment (35 ∷ c) more (cond k bad (found line_comment (1 + line_len (c ++ more))))
-    go c more first false e least = (omega (arith, least), λ same. refl)
-    go [] more first true e least = λ next. line_after more e next.allowed
-    go (x ∷ c) more first true e least = absurd (not_false (x == 91) e first)
+    go : (k : Bool) → begins_tag (drop (line_len (c ++ more)) (c ++ more)) ≡ k → AtPiece line_comment u more (cond k (wrong fault.BadByte (mark + line_len (c ++ more))) (found line_comment (mark + line_len (c ++ more))))
+    go true e = λ next.
+        let ends : line_len (c ++ more) ≡ length c = line_len-exact c more all (line_len-none more next.allowed) (no_angle more next.allowed) in
+        let tag : begins_tag more ≡ true = ap begins_tag (sym (drop-append_seam c more)) ∙ ap (λ n. begins_tag (drop n (c ++ more))) (sym ends) ∙ e in
+        tag_in_line more tag next.allowed
+    go false e = (omega (arith, size, line_len-least c more all e), λ same. refl)
 
-at_slashes : (c more : List ℕ) → Each is_in_line c → AtPiece line_comment (47 ∷ 47 ∷ c) more (piece_at (47 ∷ 47 ∷ (c ++ more)))
-at_slashes c more all = subst (AtPiece line_comment (47 ∷ 47 ∷ c) more) (sym (at_class 47 (47 ∷ (c ++ more)) class.Slash refl)) (omega (arith, run_at_least is_in_line c more all), λ same. refl)
+at_hash : (c more : List ℕ) → begins (λ b. b == 91) c ≡ false → StaysInLine c → AtPiece line_comment (35 ∷ c) more (piece_at (35 ∷ (c ++ more)))
+at_hash c more first all = subst (AtPiece line_comment (35 ∷ c) more) (sym (at_class 35 (c ++ more) class.Hash refl)) (go c first all (begins (λ b. b == 91) (c ++ more)) refl)
+  where
+    go : (c : List ℕ) → begins (λ b. b == 91) c ≡ false → StaysInLine c → (k : Bool) → begins (λ b. b == 91) (c ++ more) ≡ k → AtPiece line_comment (35 ∷ c) more (cond k bad (line_of 1 (c ++ more)))
+    go c first all false e = at_line_of 1 (35 ∷ c) c more (omega arith) all
+    go [] first all true e = λ next. line_after more e next.allowed
+    go (x ∷ c) first all true e = absurd (not_false (x == 91) e first)
+
+at_slashes : (c more : List ℕ) → StaysInLine c → AtPiece line_comment (47 ∷ 47 ∷ c) more (piece_at (47 ∷ 47 ∷ (c ++ more)))
+at_slashes c more all = subst (AtPiece line_comment (47 ∷ 47 ∷ c) more) (sym (at_class 47 (47 ∷ (c ++ more)) class.Slash refl)) (at_line_of 2 (47 ∷ 47 ∷ c) c more (omega arith) all)
 
 both : (b c m n : ℕ) → (b == m && c == n) ≡ true → (b ≡ m) × (c ≡ n)
 both b c m n e = let p = and_parts (b == m) (c == n) e in (eqb-true b m p.0, eqb-true c n p.1)
@@ -255,7 +266,7 @@ at_operator k (b ∷ c ∷ d ∷ x ∷ t) more e = absurd (cc)
 
 -- ---- any piece
 
-at_line : (u c more : List ℕ) → OpensLine u c → Each is_in_line c → AtPiece line_comment u more (piece_at (u ++ more))
+at_line : (u c more : List ℕ) → OpensLine u c → StaysInLine c → AtPiece line_comment u more (piece_at (u ++ more))
 at_line u c more (inl h) all = subst (λ l. AtPiece line_comment l more (piece_at (l ++ more))) (sym h.0) (at_hash c more h.1 all)
 at_line u c more (inr h) all = subst (λ l. AtPiece line_comment l more (piece_at (l ++ more))) (sym h) (at_slashes c more all)
 

@@ -1,4 +1,5 @@
 pub mod Runs
+pub mod LineComments
 pub mod FoundNumbers
 pub mod FoundTexts
 pub mod FoundParts
@@ -10,3 +11,4 @@ pub mod AnyFault
 pub mod Chains
 pub mod LexErrors
 pub mod Tags
+pub mod TokenLaws

@@ -1,17 +1,18 @@
 -- What is found at the front is the piece that comes next.
-use Rattle.std.proofs.Common.{◌≡◌, ◌⊎◌, inl, inr, ℕ, zero, suc, ◌+◌, ◌<◌, ◌≤◌, Bool, true, false, ◌&&◌, ◌==◌, List, [], ◌∷◌, ◌++◌, length, take, drop, Option, Some, None, Ok, Err, sym, refl, ap, ◌∙◌, subst, append_assoc, cond, arith, eqb-true, take-append-drop, nat_lt, ltb-false, length-take-le, length-append}
+use Rattle.std.proofs.Common.{◌≡◌, ◌⊎◌, inl, inr, ℕ, suc, ◌+◌, ◌<◌, ◌≤◌, Bool, true, false, ◌&&◌, ◌==◌, List, [], ◌∷◌, ◌++◌, length, take, drop, Option, Some, None, Ok, Err, sym, refl, ap, ◌∙◌, subst, append_assoc, cond, arith, eqb-true, take-append-drop, nat_lt, ltb-false, length-take-le, length-append}
 use Rattle.std.proofs.Math.Seq.{take-append_seam}
 use Rattle.dp_lexer.specs.declared.class.Class.{Class}
 use Rattle.dp_lexer.specs.declared.class.Class.TheVariants as class
 use Rattle.dp_lexer.specs.declared.token.TokenKind.{TokenKind}
 use Rattle.dp_lexer.specs.declared.fault.Fault.{Fault}
 use Rattle.dp_lexer.specs.declared.fault.Fault.TheVariants as fault
-use Rattle.dp_lexer.specs.Bytes.{is_digit, is_start, is_part, is_in_line, runs_on, begins}
+use Rattle.dp_lexer.specs.Bytes.{is_digit, is_start, is_part, is_in_line, begins_tag, runs_on, begins}
 use Rattle.dp_lexer.specs.Quotes.{enclosed, single_value}
 use Rattle.dp_lexer.specs.Operators.{one_byte, two_bytes, three_bytes}
 use Rattle.dp_lexer.specs.Pieces.{Piece, space, line_comment, block_comment, name, variable, number, text, operator, IsName, IsNumber, IsPiece, IsAllowed, widest, longest_name, IsNext}
-use Rattle.dp_lexer.specs.Lexing.{class_of, Found, found, wrong, bad, name_len, name_at, dollar_at, ended, number_at, line_len, close_len, comment_of, hash_at, slash_at, body_len, Doubled, doubled, doubled_of, single_of, double_of, quote_at, is_split, single_operator, double_operator, triple_operator, operator_at, piece_by, piece_at}
-use Rattle.dp_lexer.proofs.Runs.{or_none, or_left, equal_test, other_test, not_both, first_is, one_more, two_more, run_within, run_passes, run_stops, run_some}
+use Rattle.dp_lexer.specs.inner.Lexing.{class_of, Found, found, wrong, bad, name_len, name_at, dollar_at, ended, number_at, line_len, line_of, close_len, comment_of, hash_at, slash_at, body_len, Doubled, doubled, doubled_of, single_of, double_of, quote_at, is_split, single_operator, double_operator, triple_operator, operator_at, piece_by, piece_at}
+use Rattle.dp_lexer.proofs.Runs.{or_none, or_left, equal_test, other_test, not_both, first_is, one_more, two_more, run_within, run_some}
+use Rattle.dp_lexer.proofs.LineComments.{line_len-front, line_len-stops, line_len-within, take_two, OpensAt, hash_opens, slashes_open}
 use Rattle.dp_lexer.proofs.FoundNumbers.{number_len, number_value, number_ended, number_there}
 use Rattle.dp_lexer.proofs.FoundTexts.{body_there}
 use Rattle.dp_lexer.proofs.FoundParts.{DoubledThere, doubled_there}
@@ -38,18 +39,6 @@ same_found z p n x e h = subst (λ k. PieceThere z k x.1) (ap (λ o. piece_in o 
 
 not_wrong : (f : Fault) (n : ℕ) (x : Piece × ℕ) → wrong f n ≡ Ok x → ⊥
 not_wrong f n x e = cc
-
-take_one : (b n : ℕ) (r : List ℕ) → take (1 + n) (b ∷ r) ≡ b ∷ take n r
-take_one b n r = ap (λ k. take k (b ∷ r)) (one_more n)
-
-drop_one : (b n : ℕ) (r : List ℕ) → drop (1 + n) (b ∷ r) ≡ drop n r
-drop_one b n r = ap (λ k. drop k (b ∷ r)) (one_more n)
-
-take_two : (b c n : ℕ) (r : List ℕ) → take (2 + n) (b ∷ c ∷ r) ≡ b ∷ c ∷ take n r
-take_two b c n r = ap (λ k. take k (b ∷ c ∷ r)) (two_more n)
-
-drop_two : (b c n : ℕ) (r : List ℕ) → drop (2 + n) (b ∷ c ∷ r) ≡ drop n r
-drop_two b c n r = ap (λ k. drop k (b ∷ c ∷ r)) (two_more n)
 
 -- ---- each class
 
@@ -81,22 +70,24 @@ there_number b r x is e =
     let h = number_there b r is in
     there_ended (b ∷ r) (number_value (b ∷ r)) (number_len (b ∷ r)) x h.spelled h.some h.within (sym (number_ended b r) ∙ e)
 
-begins_front : (p : ℕ → Bool) (k : ℕ) (r : List ℕ) → begins p r ≡ false → begins p (take k r) ≡ false
-begins_front p zero r e = refl
-begins_front p (suc k) [] e = refl
-begins_front p (suc k) (b ∷ r) e = e
+there_line : (mark : ℕ) (z q : List ℕ) (x : Piece × ℕ) → OpensAt mark z q → line_of mark q ≡ Ok x → PieceThere z x.0 x.1
+there_line mark z q x h e = go (begins_tag (drop (line_len q) q)) refl e
+  where
+    go : (k : Bool) → begins_tag (drop (line_len q) q) ≡ k → cond k (wrong fault.BadByte (mark + line_len q)) (found line_comment (mark + line_len q)) ≡ Ok x → PieceThere z x.0 x.1
+    go true t e = absurd (not_wrong fault.BadByte (mark + line_len q) x e)
+    go false t e = same_found z line_comment (mark + line_len q) x e (record {
+      spelled = (take (line_len q) q, h.opens (line_len q), line_len-front q);
+      allowed = ap (begins is_in_line) (h.behind (line_len q)) ∙ line_len-stops q t;
+      some = omega (arith, h.some);
+      within = omega (arith, h.size, line_len-within q);
+    })
 
 there_hash : (b : ℕ) (r : List ℕ) (x : Piece × ℕ) → b ≡ 35 → hash_at r ≡ Ok x → PieceThere (b ∷ r) x.0 x.1
 there_hash b r x is e = go (begins (λ c. c == 91) r) refl e
   where
-    go : (k : Bool) → begins (λ c. c == 91) r ≡ k → cond k bad (found line_comment (1 + line_len r)) ≡ Ok x → PieceThere (b ∷ r) x.0 x.1
+    go : (k : Bool) → begins (λ c. c == 91) r ≡ k → cond k bad (line_of 1 r) ≡ Ok x → PieceThere (b ∷ r) x.0 x.1
     go true t e = absurd (not_wrong fault.BadByte 0 x e)
-    go false t e = same_found (b ∷ r) line_comment (1 + line_len r) x e (record {
-      spelled = (take (line_len r) r, inl (take_one b (line_len r) r ∙ ap (λ y. y ∷ take (line_len r) r) is, begins_front (λ c. c == 91) (line_len r) r t), run_passes is_in_line r);
-      allowed = ap (begins is_in_line) (drop_one b (line_len r) r) ∙ run_stops is_in_line r;
-      some = omega arith;
-      within = omega (arith, run_within is_in_line r);
-    })
+    go false t e = there_line 1 (b ∷ r) r x (hash_opens b r is t) e
 
 there_slash : (b : ℕ) (r : List ℕ) (x : Piece × ℕ) → b ≡ 47 → slash_at r ≡ Ok x → PieceThere (b ∷ r) x.0 x.1
 there_slash b [] x is e = absurd (not_wrong fault.BadByte 0 x e)
@@ -111,13 +102,8 @@ there_slash b (c ∷ q) x is e = go (c == 47) refl (c == 42) refl e
       within = omega (arith, h.0);
     })
 
-    go : (k : Bool) → (c == 47) ≡ k → (l : Bool) → (c == 42) ≡ l → cond k (found line_comment (2 + line_len q)) (cond l (comment_of (close_len q)) bad) ≡ Ok x → PieceThere (b ∷ c ∷ q) x.0 x.1
-    go true t l s e = same_found (b ∷ c ∷ q) line_comment (2 + line_len q) x e (record {
-      spelled = (take (line_len q) q, inr (take_two b c (line_len q) q ∙ (λ i. is i ∷ eqb-true c 47 t i ∷ take (line_len q) q)), run_passes is_in_line q);
-      allowed = ap (begins is_in_line) (drop_two b c (line_len q) q) ∙ run_stops is_in_line q;
-      some = omega arith;
-      within = omega (arith, run_within is_in_line q);
-    })
+    go : (k : Bool) → (c == 47) ≡ k → (l : Bool) → (c == 42) ≡ l → cond k (line_of 2 q) (cond l (comment_of (close_len q)) bad) ≡ Ok x → PieceThere (b ∷ c ∷ q) x.0 x.1
+    go true t l s e = there_line 2 (b ∷ c ∷ q) q x (slashes_open b c q is (eqb-true c 47 t)) e
     go false t true s e = closed (eqb-true c 42 s) (close_len q) refl e
     go false t false s e = absurd (not_wrong fault.BadByte 0 x e)
 
@@ -137,7 +123,7 @@ there_dollar b r x is e = go (begins is_start r) refl (nat_lt longest_name (name
     go true t false s e =
         let within = run_within is_part r in
         same_found (b ∷ r) (variable (take (name_len r) r)) (1 + name_len r) x e (record {
-          spelled = (take_one b (name_len r) r ∙ ap (λ y. y ∷ take (name_len r) r) is, name_of_run r t);
+          spelled = (ap (λ k. take k (b ∷ r)) (one_more (name_len r)) ∙ ap (λ y. y ∷ take (name_len r) r) is, name_of_run r t);
           allowed = omega (arith, length-take-le (name_len r) r within, ltb-false _ _ s);
           some = omega arith;
           within = omega (arith, within);

@@ -29,9 +29,15 @@ is_part b = is_start b || is_digit b
 abbrev pub runs_on : ℕ → Bool
 runs_on b = is_digit b || is_letter b || b == 95 || b == 46
 
--- what a comment up to the end of its line goes on with: anything but a line feed
+-- anything but a line feed
 abbrev pub is_in_line : ℕ → Bool
 is_in_line b = not (b == 10)
+
+-- whether `?>` stands at the front
+abbrev pub begins_tag : List ℕ → Bool
+begins_tag [] = false
+begins_tag (b ∷ []) = false
+begins_tag (b ∷ c ∷ t) = b == 63 && c == 62
 
 -- whether there is a first byte, of this sort
 abbrev pub begins : (ℕ → Bool) → List ℕ → Bool

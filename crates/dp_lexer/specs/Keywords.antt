@@ -7,16 +7,18 @@ use Rattle.dp_lexer.specs.declared.token.TokenKind.TheVariants as kind
 
 abbrev pub look_up_word : List ℕ → List (List ℕ × TokenKind) → Option TokenKind
 look_up_word name [] = None
-look_up_word name (row ∷ rows) = if str_eq_ignore_ascii_case name row.0 then Some row.1 else look_up_word name rows
+look_up_word name (row ∷ rows) =
+    if str_eq_ignore_ascii_case name row.0 then Some row.1 else look_up_word name rows
 
 -- the keywords that begin or join statements
 abbrev pub statement_words : List (List ℕ × TokenKind)
 statement_words =
-    (codes "as", kind.As) ∷ (codes "break", kind.Break) ∷ (codes "continue", kind.Continue) ∷ (codes "die", kind.Die)
-    ∷ (codes "do", kind.Do) ∷ (codes "echo", kind.Echo) ∷ (codes "else", kind.Else) ∷ (codes "elseif", kind.ElseIf)
-    ∷ (codes "exit", kind.Exit) ∷ (codes "for", kind.For) ∷ (codes "foreach", kind.Foreach)
-    ∷ (codes "function", kind.Function) ∷ (codes "global", kind.Global) ∷ (codes "if", kind.If)
-    ∷ (codes "return", kind.Return) ∷ (codes "unset", kind.Unset) ∷ (codes "while", kind.While) ∷ []
+    (codes "as", kind.As) ∷ (codes "break", kind.Break) ∷ (codes "continue", kind.Continue)
+    ∷ (codes "die", kind.Die) ∷ (codes "do", kind.Do) ∷ (codes "echo", kind.Echo)
+    ∷ (codes "else", kind.Else) ∷ (codes "elseif", kind.ElseIf) ∷ (codes "exit", kind.Exit)
+    ∷ (codes "for", kind.For) ∷ (codes "foreach", kind.Foreach) ∷ (codes "function", kind.Function)
+    ∷ (codes "global", kind.Global) ∷ (codes "if", kind.If) ∷ (codes "return", kind.Return)
+    ∷ (codes "unset", kind.Unset) ∷ (codes "while", kind.While) ∷ []
 
 -- the keywords of expressions
 abbrev pub expression_words : List (List ℕ × TokenKind)
@@ -45,19 +47,21 @@ word_of name = name_or (keyword_of name) name
 abbrev pub other_words : List (List ℕ)
 other_words =
     codes "abstract" ∷ codes "and" ∷ codes "as" ∷ codes "callable" ∷ codes "case" ∷ codes "catch"
-    ∷ codes "class" ∷ codes "clone" ∷ codes "const" ∷ codes "declare" ∷ codes "default" ∷ codes "empty"
-    ∷ codes "enddeclare" ∷ codes "endfor" ∷ codes "endforeach" ∷ codes "endif" ∷ codes "endswitch"
-    ∷ codes "endwhile" ∷ codes "eval" ∷ codes "extends" ∷ codes "final" ∷ codes "finally" ∷ codes "fn"
-    ∷ codes "goto" ∷ codes "implements" ∷ codes "instanceof" ∷ codes "insteadof" ∷ codes "interface"
-    ∷ codes "list" ∷ codes "match" ∷ codes "namespace" ∷ codes "new" ∷ codes "or" ∷ codes "print"
-    ∷ codes "private" ∷ codes "protected" ∷ codes "public" ∷ codes "readonly" ∷ codes "static"
-    ∷ codes "switch" ∷ codes "throw" ∷ codes "trait" ∷ codes "try" ∷ codes "use" ∷ codes "var" ∷ codes "xor"
-    ∷ codes "yield" ∷ codes "int" ∷ codes "integer" ∷ codes "bool" ∷ codes "boolean" ∷ codes "float"
-    ∷ codes "double" ∷ codes "real" ∷ codes "string" ∷ codes "object" ∷ codes "binary" ∷ codes "include_once"
-    ∷ codes "require_once" ∷ codes "__halt_compiler" ∷ codes "__class__" ∷ codes "__dir__" ∷ codes "__file__"
-    ∷ codes "__function__" ∷ codes "__line__" ∷ codes "__method__" ∷ codes "__namespace__"
-    ∷ codes "__trait__" ∷ []
+    ∷ codes "class" ∷ codes "clone" ∷ codes "const" ∷ codes "declare" ∷ codes "default"
+    ∷ codes "empty" ∷ codes "enddeclare" ∷ codes "endfor" ∷ codes "endforeach" ∷ codes "endif"
+    ∷ codes "endswitch" ∷ codes "endwhile" ∷ codes "eval" ∷ codes "extends" ∷ codes "final"
+    ∷ codes "finally" ∷ codes "fn" ∷ codes "goto" ∷ codes "implements" ∷ codes "instanceof"
+    ∷ codes "insteadof" ∷ codes "interface" ∷ codes "list" ∷ codes "match" ∷ codes "namespace"
+    ∷ codes "new" ∷ codes "or" ∷ codes "print" ∷ codes "private" ∷ codes "protected"
+    ∷ codes "public" ∷ codes "readonly" ∷ codes "static" ∷ codes "switch" ∷ codes "throw"
+    ∷ codes "trait" ∷ codes "try" ∷ codes "use" ∷ codes "var" ∷ codes "xor" ∷ codes "yield"
+    ∷ codes "int" ∷ codes "integer" ∷ codes "bool" ∷ codes "boolean" ∷ codes "float"
+    ∷ codes "double" ∷ codes "real" ∷ codes "string" ∷ codes "object" ∷ codes "binary"
+    ∷ codes "include_once" ∷ codes "require_once" ∷ codes "__halt_compiler" ∷ codes "__class__"
+    ∷ codes "__dir__" ∷ codes "__file__" ∷ codes "__function__" ∷ codes "__line__"
+    ∷ codes "__method__" ∷ codes "__namespace__" ∷ codes "__trait__" ∷ []
 
 -- a word that names no function and no constant, in any case of letters
 abbrev pub is_reserved : List ℕ → Bool
-is_reserved name = is_some (keyword_of name) || list_any (λ word. str_eq_ignore_ascii_case name word) other_words
+is_reserved name =
+    is_some (keyword_of name) || list_any (λ word. str_eq_ignore_ascii_case name word) other_words

@@ -5,5 +5,5 @@ pub mod Keywords
 pub mod Chain
 pub mod Pieces
 pub mod Tokens
-pub mod Lexing
-pub mod Lexed
+pub mod inner
+pub mod ExpressionTokens

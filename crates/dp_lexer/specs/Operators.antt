@@ -13,22 +13,25 @@ look_up_two b c (row ∷ rows) = if b == row.0 && c == row.1 then Some row.2 els
 
 abbrev pub look_up_three : ℕ → ℕ → ℕ → List (ℕ × ℕ × ℕ × TokenKind) → Option TokenKind
 look_up_three b c d [] = None
-look_up_three b c d (row ∷ rows) = if b == row.0 && c == row.1 && d == row.2 then Some row.3 else look_up_three b c d rows
+look_up_three b c d (row ∷ rows) =
+    if b == row.0 && c == row.1 && d == row.2 then Some row.3 else look_up_three b c d rows
 
 -- = < > + - * % . ! ? : , ; ( ) [ ] { }
 abbrev pub one_byte_operators : List (ℕ × TokenKind)
 one_byte_operators =
-    (61, kind.Assign) ∷ (60, kind.Less) ∷ (62, kind.Greater) ∷ (43, kind.Plus) ∷ (45, kind.Minus) ∷ (42, kind.Star)
-    ∷ (37, kind.Percent) ∷ (46, kind.Dot) ∷ (33, kind.Bang) ∷ (63, kind.Question) ∷ (58, kind.Colon) ∷ (44, kind.Comma)
-    ∷ (59, kind.Semicolon) ∷ (40, kind.OpenParenthesis) ∷ (41, kind.CloseParenthesis) ∷ (91, kind.OpenBracket)
-    ∷ (93, kind.CloseBracket) ∷ (123, kind.OpenBrace) ∷ (125, kind.CloseBrace) ∷ []
+    (61, kind.Assign) ∷ (60, kind.Less) ∷ (62, kind.Greater) ∷ (43, kind.Plus) ∷ (45, kind.Minus)
+    ∷ (42, kind.Star) ∷ (37, kind.Percent) ∷ (46, kind.Dot) ∷ (33, kind.Bang) ∷ (63, kind.Question)
+    ∷ (58, kind.Colon) ∷ (44, kind.Comma) ∷ (59, kind.Semicolon) ∷ (40, kind.OpenParenthesis)
+    ∷ (41, kind.CloseParenthesis) ∷ (91, kind.OpenBracket) ∷ (93, kind.CloseBracket)
+    ∷ (123, kind.OpenBrace) ∷ (125, kind.CloseBrace) ∷ []
 
 -- == != <= >= && || ?? ++ -- += -= *= .= %= =>
 abbrev pub two_byte_operators : List (ℕ × ℕ × TokenKind)
 two_byte_operators =
-    (61, 61, kind.Equal) ∷ (33, 61, kind.NotEqual) ∷ (60, 61, kind.LessOrEqual) ∷ (62, 61, kind.GreaterOrEqual)
-    ∷ (38, 38, kind.BothOf) ∷ (124, 124, kind.EitherOf) ∷ (63, 63, kind.Coalesce) ∷ (43, 43, kind.Increment)
-    ∷ (45, 45, kind.Decrement) ∷ (43, 61, kind.AddAssign) ∷ (45, 61, kind.SubtractAssign) ∷ (42, 61, kind.MultiplyAssign)
+    (61, 61, kind.Equal) ∷ (33, 61, kind.NotEqual) ∷ (60, 61, kind.LessOrEqual)
+    ∷ (62, 61, kind.GreaterOrEqual) ∷ (38, 38, kind.BothOf) ∷ (124, 124, kind.EitherOf)
+    ∷ (63, 63, kind.Coalesce) ∷ (43, 43, kind.Increment) ∷ (45, 45, kind.Decrement)
+    ∷ (43, 61, kind.AddAssign) ∷ (45, 61, kind.SubtractAssign) ∷ (42, 61, kind.MultiplyAssign)
     ∷ (46, 61, kind.ConcatAssign) ∷ (37, 61, kind.RemainderAssign) ∷ (61, 62, kind.Arrow) ∷ []
 
 -- === !== <=> ??=

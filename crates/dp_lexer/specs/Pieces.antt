@@ -1,7 +1,8 @@
--- The pieces of a program text: tokens, and what stands between tokens. How each is spelled, and which comes next.
+-- The pieces of a program text: tokens, and what stands between tokens. How each is spelled, and
+-- which comes next.
 use Rattle.std.specs.Prelude.{◌≡◌, ◌⊎◌, ℕ, ◌<◌, ◌≤◌, true, false, ◌==◌, List, [], ◌∷◌, ◌++◌, length, Some}
 use Rattle.dp_lexer.specs.declared.token.TokenKind.{TokenKind}
-use Rattle.dp_lexer.specs.Bytes.{is_space, is_digit, is_hexadecimal, is_start, is_part, is_in_line, runs_on, begins, Each, value_in}
+use Rattle.dp_lexer.specs.Bytes.{is_space, is_digit, is_hexadecimal, is_start, is_part, is_in_line, begins_tag, runs_on, begins, Each, value_in}
 use Rattle.dp_lexer.specs.Quotes.{IsBody, enclosed, single_value, IsDoubled}
 use Rattle.dp_lexer.specs.Operators.{operator_of}
 
@@ -28,22 +29,29 @@ IsDecimal (b ∷ bs) = (is_digit b ≡ true) × Each is_digit bs × (b ≡ 48 �
 abbrev pub IsNumber : ℕ → List ℕ → Type 0
 IsNumber n t =
     (IsDecimal t × (n ≡ value_in 10 t))
-    ⊎ ((ds : List ℕ) × (t ≡ 48 ∷ 120 ∷ ds) × (0 < length ds) × Each is_hexadecimal ds × (n ≡ value_in 16 ds))
+    ⊎ ((ds : List ℕ) × (t ≡ 48 ∷ 120 ∷ ds) × (0 < length ds) × Each is_hexadecimal ds
+    × (n ≡ value_in 16 ds))
 
 -- behind the opening mark of a block comment: up to the first closing mark
 abbrev pub Closes : List ℕ → Type 0
 Closes [] = ⊥
 Closes (b ∷ []) = ⊥
-Closes (b ∷ c ∷ t) = (((b ≡ 42) × (c ≡ 47)) × (t ≡ [])) ⊎ (((b ≡ 42) × (c ≡ 47) → ⊥) × Closes (c ∷ t))
+Closes (b ∷ c ∷ t) =
+    (((b ≡ 42) × (c ≡ 47)) × (t ≡ [])) ⊎ (((b ≡ 42) × (c ≡ 47) → ⊥) × Closes (c ∷ t))
 
--- a comment in one line: # and what does not begin with [, or // and anything
+-- the mark of a comment in one line: # before what does not begin with [, or //
 abbrev pub OpensLine : List ℕ → List ℕ → Type 0
 OpensLine t c = ((t ≡ 35 ∷ c) × (begins (λ b. b == 91) c ≡ false)) ⊎ (t ≡ 47 ∷ 47 ∷ c)
+
+-- behind that mark: no line feed, and no `?>`
+abbrev pub StaysInLine : List ℕ → Type 0
+StaysInLine [] = Unit {0}
+StaysInLine (b ∷ t) = (is_in_line b ≡ true) × (begins_tag (b ∷ t) ≡ false) × StaysInLine t
 
 -- how each piece is spelled
 abbrev pub IsPiece : Piece → List ℕ → Type 0
 IsPiece space t = (b : ℕ) × (t ≡ b ∷ []) × (is_space b ≡ true)
-IsPiece line_comment t = (c : List ℕ) × OpensLine t c × Each is_in_line c
+IsPiece line_comment t = (c : List ℕ) × OpensLine t c × StaysInLine c
 IsPiece block_comment t = (c : List ℕ) × (t ≡ 47 ∷ 42 ∷ c) × Closes c
 IsPiece (name n) t = (t ≡ n) × IsName n
 IsPiece (variable n) t = (t ≡ 36 ∷ n) × IsName n
@@ -59,9 +67,9 @@ widest = 9223372036854775807
 abbrev pub longest_name : ℕ
 longest_name = 255
 
--- The limits of a piece, and what may stand directly behind it: a comment in one line goes to the end of its line, a
--- name has at most 255 bytes, a number is at most 2^63 - 1 and has no digit, letter, underscore or point behind it, a
--- point has no digit behind it, and a question mark no >.
+-- The limits of a piece, and what may stand directly behind it: behind a comment in one line a line
+-- feed or the end, a name has at most 255 bytes, a number is at most 2^63 - 1 and has no digit,
+-- letter, underscore or point behind it, a point has no digit behind it, and a question mark no >.
 abbrev pub IsAllowed : Piece → List ℕ → List ℕ → Type 0
 IsAllowed space t rest = Unit {0}
 IsAllowed line_comment t rest = begins is_in_line rest ≡ false
@@ -71,12 +79,14 @@ IsAllowed (variable n) t rest = length n ≤ longest_name
 IsAllowed (number n) t rest = (n ≤ widest) × (begins runs_on rest ≡ false)
 IsAllowed (text v) t rest = Unit {0}
 IsAllowed (operator k) t rest =
-    (t ≡ 46 ∷ [] → begins is_digit rest ≡ false) × (t ≡ 63 ∷ [] → begins (λ b. b == 62) rest ≡ false)
+    (t ≡ 46 ∷ [] → begins is_digit rest ≡ false)
+    × (t ≡ 63 ∷ [] → begins (λ b. b == 62) rest ≡ false)
 
 -- The piece that comes next: of all that are spelled here the longest, within its limits.
 pub record IsNext (piece : Piece) (t rest : List ℕ) : Type 0 where
   pub spelled : IsPiece piece t
-  pub longest : (other : Piece) (u more : List ℕ) → IsPiece other u → u ++ more ≡ t ++ rest → length u ≤ length t
+  pub longest : (other : Piece) (u more : List ℕ) → IsPiece other u → u ++ more ≡ t ++ rest
+      → length u ≤ length t
   pub allowed : IsAllowed piece t rest
 
 abbrev pub Pieces : Type 0

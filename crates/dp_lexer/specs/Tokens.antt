@@ -34,12 +34,14 @@ feeds (b ∷ t) = (if b == 10 then 1 else 0) + feeds t
 
 abbrev pub token_at : ℕ → ℕ → Option TokenKind → ℕ → List Token
 token_at start line None len = []
-token_at start line (Some k) len = (record { kind = k; start = start; end = start + len; line = line }) ∷ []
+token_at start line (Some k) len =
+    (record { kind = k; start = start; end = start + len; line = line }) ∷ []
 
 -- the tokens of pieces of which the first is at this offset and on this line
 abbrev pub tokens_of : ℕ → ℕ → Pieces → List Token
 tokens_of at line [] = []
-tokens_of at line (p ∷ ps) = token_at at line (kind_of p.0) (length p.1) ++ tokens_of (at + length p.1) (line + feeds p.1) ps
+tokens_of at line (p ∷ ps) =
+    token_at at line (kind_of p.0) (length p.1) ++ tokens_of (at + length p.1) (line + feeds p.1) ps
 
 -- the tokens of bytes that stand at this offset, on line 1
 pub record AreTokensFrom (at : ℕ) (bytes : List ℕ) (ts : List Token) : Type 0 where
@@ -53,13 +55,16 @@ pub record AreTokensFrom (at : ℕ) (bytes : List ℕ) (ts : List Token) : Type 
 -- the longest number that is spelled at the front
 pub record IsLongestNumber (n : ℕ) (t rest : List ℕ) : Type 0 where
   pub spelled : IsNumber n t
-  pub longest : (m : ℕ) (u more : List ℕ) → IsNumber m u → u ++ more ≡ t ++ rest → length u ≤ length t
+  pub longest : (m : ℕ) (u more : List ℕ) → IsNumber m u → u ++ more ≡ t ++ rest
+      → length u ≤ length t
 
 -- at which byte of the rest there is one that no token may have there
 pub data IsBadByte (rest : List ℕ) (at : ℕ) : Type 0 where
   -- no piece begins here, and neither an open text nor an open comment
-  stray : (b : ℕ) (t : List ℕ) → at ≡ 0 → rest ≡ b ∷ t → b ≢ 39 → b ≢ 34 → ((q : List ℕ) → rest ≡ 47 ∷ 42 ∷ q → ⊥)
-      → ((piece : Piece) (u more : List ℕ) → IsPiece piece u → u ++ more ≡ rest → ⊥) → IsBadByte rest at
+  stray : (b : ℕ) (t : List ℕ) → at ≡ 0 → rest ≡ b ∷ t → b ≢ 39 → b ≢ 34
+      → ((q : List ℕ) → rest ≡ 47 ∷ 42 ∷ q → ⊥)
+      → ((piece : Piece) (u more : List ℕ) → IsPiece piece u → u ++ more ≡ rest → ⊥)
+      → IsBadByte rest at
   -- # before [
   attribute : (t : List ℕ) → at ≡ 0 → rest ≡ 35 ∷ 91 ∷ t → IsBadByte rest at
   -- ? before >
@@ -67,14 +72,20 @@ pub data IsBadByte (rest : List ℕ) (at : ℕ) : Type 0 where
   -- a point before a digit
   point : (d : ℕ) (t : List ℕ) → at ≡ 0 → rest ≡ 46 ∷ d ∷ t → is_digit d ≡ true → IsBadByte rest at
   -- a digit, a letter, an underscore or a point directly behind a number
-  behind_number : (n b : ℕ) (t more : List ℕ) → at ≡ length t → rest ≡ t ++ b ∷ more → IsLongestNumber n t (b ∷ more)
-      → runs_on b ≡ true → IsBadByte rest at
+  behind_number : (n b : ℕ) (t more : List ℕ) → at ≡ length t → rest ≡ t ++ b ∷ more
+      → IsLongestNumber n t (b ∷ more) → runs_on b ≡ true → IsBadByte rest at
   -- the 256th byte of a name
-  long_name : (n more : List ℕ) → at ≡ 255 → rest ≡ n ++ more → IsName n → length n ≡ 256 → IsBadByte rest at
-  long_variable : (n more : List ℕ) → at ≡ 256 → rest ≡ 36 ∷ (n ++ more) → IsName n → length n ≡ 256 → IsBadByte rest at
+  long_name : (n more : List ℕ) → at ≡ 255 → rest ≡ n ++ more → IsName n → length n ≡ 256
+      → IsBadByte rest at
+  long_variable : (n more : List ℕ) → at ≡ 256 → rest ≡ 36 ∷ (n ++ more) → IsName n
+      → length n ≡ 256 → IsBadByte rest at
+  -- the first ?> in a comment in one line, at its question mark
+  comment_tag : (t more : List ℕ) → at ≡ length t → rest ≡ t ++ 63 ∷ 62 ∷ more
+      → IsPiece line_comment t → IsBadByte rest at
   -- in a text in double quotes that has an end
-  inside_text : (body more : List ℕ) (inner : ℕ) → at ≡ 1 + inner → rest ≡ enclosed 34 body ++ more → IsBody 34 body
-      → IsBadInside body inner → IsBadByte rest at
+  inside_text : (body more : List ℕ) (inner : ℕ) → at ≡ 1 + inner
+      → rest ≡ enclosed 34 body ++ more → IsBody 34 body → IsBadInside body inner
+      → IsBadByte rest at
 
 -- what is wrong with the rest, and at which of its bytes
 abbrev pub IsFault : List ℕ → Fault → ℕ → Type 0
@@ -83,9 +94,11 @@ IsFault rest fault.OpenString at =
     (at ≡ 0) × ((quote : ℕ) × (q : List ℕ) × ((quote ≡ 39) ⊎ (quote ≡ 34)) × (rest ≡ quote ∷ q)
     × ((body more : List ℕ) → IsBody quote body → enclosed quote body ++ more ≡ rest → ⊥))
 IsFault rest fault.OpenComment at =
-    (at ≡ 0) × ((q : List ℕ) × (rest ≡ 47 ∷ 42 ∷ q) × ((c more : List ℕ) → Closes c → c ++ more ≡ q → ⊥))
+    (at ≡ 0) × ((q : List ℕ) × (rest ≡ 47 ∷ 42 ∷ q)
+    × ((c more : List ℕ) → Closes c → c ++ more ≡ q → ⊥))
 IsFault rest fault.WideNumber at =
-    (at ≡ 0) × ((n : ℕ) × (t : List ℕ) × (more : List ℕ) × (rest ≡ t ++ more) × IsNumber n t × (widest < n))
+    (at ≡ 0) × ((n : ℕ) × (t : List ℕ) × (more : List ℕ) × (rest ≡ t ++ more) × IsNumber n t
+    × (widest < n))
 
 -- Of the faults of what is left behind the pieces, the one at the least place.
 pub record IsRefusedFrom (start : ℕ) (bytes : List ℕ) (why : Fault) (offset : ℕ) : Type 0 where
@@ -124,8 +137,10 @@ AreTokens bytes ts = AreTokensFrom 0 bytes ts
 
 -- why a file has no tokens, and at which offset: its tag is wrong, or what stands behind it
 pub data IsFileRefused (bytes : List ℕ) (why : Fault) (offset : ℕ) : Type 0 where
-  no_tag : why ≡ fault.BadByte → offset ≡ 0 → ((rest : List ℕ) → HasTag bytes rest → ⊥) → IsFileRefused bytes why offset
-  behind_tag : (rest : List ℕ) → HasTag bytes rest → IsRefusedFrom 5 rest why offset → IsFileRefused bytes why offset
+  no_tag : why ≡ fault.BadByte → offset ≡ 0 → ((rest : List ℕ) → HasTag bytes rest → ⊥)
+      → IsFileRefused bytes why offset
+  behind_tag : (rest : List ℕ) → HasTag bytes rest → IsRefusedFrom 5 rest why offset
+      → IsFileRefused bytes why offset
 
 abbrev pub IsRefused : List ℕ → Fault → ℕ → Type 0
 IsRefused bytes why offset = IsRefusedFrom 0 bytes why offset

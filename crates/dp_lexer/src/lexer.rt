@@ -4,7 +4,7 @@ ghost use Rattle.std.specs.Prelude.{◌≡◌, ◌⊎◌, ◌<◌, ◌≤◌, �
 ghost use Rattle.dp_lexer.specs.declared.fault.Fault.{Fault};
 ghost use Rattle.dp_lexer.specs.declared.token.Token.{Token};
 ghost use Rattle.dp_lexer.specs.Tokens.{feeds, token_at, error_of, AreTokensFrom, IsRefusedFrom, HasTag, AreFileTokens, AreTokens, IsFileRefused, IsRefused};
-ghost use Rattle.dp_lexer.specs.Lexed.{IsPlacedWithin, placed_at};
+ghost use Rattle.dp_lexer.specs.inner.Lexed.{IsPlacedWithin, placed_at};
 
 use crate::class::is_space;
 use crate::errors::LexError;

@@ -6,6 +6,7 @@ mod comments;
 mod errors;
 mod fault;
 mod keywords;
+mod laws;
 mod lexer;
 mod names;
 mod numbers;
@@ -17,10 +18,8 @@ mod spelling;
 mod token;
 
 pub use errors::LexError;
+pub use laws::tokens_are_told;
 pub use lexer::{lex, lex_expression, line_feeds};
 pub use reserved::is_reserved;
 pub use spelling::Spelling;
 pub use token::{Token, TokenKind};
-
-#[cfg(test)]
-mod tests;

@@ -5,7 +5,7 @@ use Rattle.dp_parse.specs.declared.errors.ParseError.{ParseError}
 use Rattle.dp_parse.specs.declared.errors.ParseError.TheVariants as error
 use Rattle.dp_rules.specs.declared.refusal.Refusal.{Refusal}
 use Rattle.dp_rules.specs.declared.refusal.Refusal.TheVariants as refusal
-use Rattle.dp_rules.specs.Input.{Reader}
+use Rattle.dp_rules.specs.inner.Input.{Reader}
 use Rattle.dp_parse.specs.Programs.{AreWrong, told}
 use Rattle.dp_rules.proofs.Answers.{Rules, Stop}
 use Rattle.dp_rules.proofs.Verdicts.{ReadsAll, found, only, unexpected, too_deep, unexpected_spelled, too_deep_spelled, one_unexpected, one_too_deep, not_both}

@@ -12,3 +12,4 @@ pub mod Judged
 pub mod Reasons
 pub mod Feeds
 pub mod FileLaws
+pub mod ExpressionLaws

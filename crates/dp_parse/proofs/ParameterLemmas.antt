@@ -4,9 +4,9 @@ use Rattle.dp_lexer.specs.declared.token.Token.{Token}
 use Rattle.dp_lexer.specs.declared.token.TokenKind.{TokenKind}
 use Rattle.dp_lexer.specs.declared.token.TokenKind.TheVariants as kind
 use Rattle.dp_rules.specs.Worths.{Text, unless, variable_in}
-use Rattle.dp_rules.specs.Input.{Reader, and_then, met, variable}
-use Rattle.dp_parse.specs.Parameters.{parameter, chosen, stands, checked}
-use Rattle.dp_rules.specs.ReadingLists.{any_items}
+use Rattle.dp_rules.specs.inner.Input.{Reader, and_then, met, variable}
+use Rattle.dp_parse.specs.inner.Parameters.{parameter, chosen, stands, checked}
+use Rattle.dp_rules.specs.inner.ReadingLists.{any_items}
 use Rattle.dp_rules.specs.declared.sign.Sign.{Sign}
 use Rattle.dp_rules.specs.Signs.{is_superglobal}
 use Rattle.dp_parse.specs.Statements.{parameter_in}

@@ -17,12 +17,12 @@ use Rattle.dp_tree.specs.declared.tree.StatementKind.{StatementKind}
 use Rattle.dp_tree.specs.declared.tree.StatementKind.TheVariants as tree
 use Rattle.dp_rules.specs.Signs.{sign_of, is, head}
 use Rattle.dp_rules.specs.Lines.{line_of}
-use Rattle.dp_rules.specs.Input.{Reader, gives, made, mark, closed, ◌>>=◌, ◌>>◌}
+use Rattle.dp_rules.specs.inner.Input.{Reader, gives, made, mark, closed, ◌>>=◌, ◌>>◌}
 use Rattle.dp_rules.specs.Rules.{Joined, Mark, Without}
-use Rattle.dp_rules.specs.ReadingLists.{any_plain_items}
-use Rattle.dp_expressions.specs.Reading.{reading}
+use Rattle.dp_rules.specs.inner.ReadingLists.{any_plain_items}
+use Rattle.dp_expressions.specs.inner.Reading.{reading}
 use Rattle.dp_parse.specs.Statements.{Depth, Arms, ended, whole, with_arm, stated, Bodies, ElseIf, Bound, Block, Test, ArmRule, NextArm, Otherwise, If, LoopBody, While, DoWhile, For, Foreach}
-use Rattle.dp_parse.specs.ReadingStatements.{bodies_step, bodies, bound, block, test, next_arm, otherwise, behind_else, arms_step, arms, if_rule, loop_body, while_rule, do_while, for_rule, foreach, by_keyword, any_statement, on_its_line, braced, head_body}
+use Rattle.dp_parse.specs.inner.ReadingStatements.{bodies_step, bodies, bound, block, head_test, next_arm, otherwise, behind_else, arms_step, arms, if_rule, loop_body, while_rule, do_while, for_rule, foreach, by_keyword, any_statement, on_its_line, braced, head_body}
 use Rattle.dp_rules.proofs.Signs.{not_true, or_left, or_right, contrary, placed, mark_alone, mark_passes, mark_fails, mark_apart}
 use Rattle.dp_rules.proofs.Answers.{Rules, Anything, JoinedAt, EitherAt, GivesAt, MarkAt, MadeAt, WithoutAt, ClosedAt, StepAt, Answers, Follows, StartsIn, Apart, give, given, mark_starts, joined_starts, either_starts, made_starts, starts_in_more, starts_apart, gives_apart, either_apart, starts_follow, gives_answers, made_answers, carried, equal_answers, either_answers, without_answers, online_answers}
 use Rattle.dp_rules.proofs.Loops.{step_stop, closed_now, closed_follows, closed_answers, end_first}
@@ -142,7 +142,7 @@ module _ (ends place_ends : Sign → Bool) (known : AreRead ends place_ends) (le
 
   arm_reader : (before : List Arm) (line : ℕ) → IsPartReader 1 (ArmAt before line) arms_stop level (reader_at next_arm loops level body before line)
   unfolding next_arm
-  arm_reader before line = then_reader 1 level (StatementAt Test loops) (λ found. MadeAt (HeadBodyAt loops) (λ b. with_arm before line found b)) arms_stop (reader_at test loops level body) (λ found. made (head_body (body loops)) (λ b. with_arm before line found b))
+  arm_reader before line = then_reader 1 level (StatementAt Test loops) (λ found. MadeAt (HeadBodyAt loops) (λ b. with_arm before line found b)) arms_stop (reader_at head_test loops level body) (λ found. made (head_body (body loops)) (λ b. with_arm before line found b))
       (test_reader 1 level loops body ends place_ends known)
       (λ found. made_reader 1 level (HeadBodyAt loops) (λ b. with_arm before line found b) body_stop arms_stop (head_body (body loops)) (λ b s e. e) (heads loops))
 
@@ -353,19 +353,19 @@ module _ (ends place_ends : Sign → Bool) (known : AreRead ends place_ends) (le
   pub while_answers : (ts : List Token) → is sign.While (head ts) ≡ true → Answers Deeper (StatementAt While loops) ended_stop level ts (reader_at while_rule loops level body ts)
   unfolding while_rule
   while_answers ts here = keyword_nests sign.While kind.While refl (λ _. JoinedAt (StatementAt Test loops) (λ found. LoopBodyAt (λ b. tree.While found b))) ended_stop level
-      (λ _. reader_at test loops level body >>= (λ found. reader_at loop_body loops level body (λ b. tree.While found b))) ts refl here
-      (λ _. then_reader 1 level (StatementAt Test loops) (λ found. LoopBodyAt (λ b. tree.While found b)) ended_stop (reader_at test loops level body) (λ found. reader_at loop_body loops level body (λ b. tree.While found b))
+      (λ _. reader_at head_test loops level body >>= (λ found. reader_at loop_body loops level body (λ b. tree.While found b))) ts refl here
+      (λ _. then_reader 1 level (StatementAt Test loops) (λ found. LoopBodyAt (λ b. tree.While found b)) ended_stop (reader_at head_test loops level body) (λ found. reader_at loop_body loops level body (λ b. tree.While found b))
       (test_reader 1 level loops body ends place_ends known) (λ found. loop_body_reader (λ b. tree.While found b)))
 
   abbrev AfterBodyAt : Body → ℕ → Rules Depth Ended
   AfterBodyAt b line = JoinedAt (StatementAt Test loops) (λ found. JoinedAt (MarkAt sign.Semicolon) (λ _. GivesAt (whole (tree.DoWhile b.statement line found))))
 
   after_body : Body → ℕ → Reader Ended
-  after_body b line = reader_at test loops level body >>= (λ found. mark sign.Semicolon >> gives (whole (tree.DoWhile b.statement line found)))
+  after_body b line = reader_at head_test loops level body >>= (λ found. mark sign.Semicolon >> gives (whole (tree.DoWhile b.statement line found)))
 
   after_body_reader : (b : Body) (line : ℕ) → IsPartReader 1 (AfterBodyAt b line) ended_stop level (after_body b line)
   unfolding after_body
-  after_body_reader b line = before_mark 1 level (StatementAt Test loops) Anything sign.Semicolon kind.Semicolon refl (λ a. refl) (λ found _. GivesAt (whole (tree.DoWhile b.statement line found))) ended_stop (reader_at test loops level body)
+  after_body_reader b line = before_mark 1 level (StatementAt Test loops) Anything sign.Semicolon kind.Semicolon refl (λ a. refl) (λ found _. GivesAt (whole (tree.DoWhile b.statement line found))) ended_stop (reader_at head_test loops level body)
       (λ found _. gives (whole (tree.DoWhile b.statement line found))) (test_reader 1 level loops body ends place_ends known) (λ found _. gives_reader 1 level (whole (tree.DoWhile b.statement line found)) ended_stop)
 
   pub do_while_answers : (ts : List Token) → is sign.Do (head ts) ≡ true → Answers Deeper (StatementAt DoWhile loops) ended_stop level ts (reader_at do_while loops level body ts)

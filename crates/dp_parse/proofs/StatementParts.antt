@@ -13,15 +13,15 @@ use Rattle.dp_tree.specs.declared.tree.Expression.{Expression}
 use Rattle.dp_tree.specs.declared.tree.Place.{Place}
 use Rattle.dp_tree.specs.declared.tree.StatementKind.TheVariants as tree
 use Rattle.dp_rules.specs.Signs.{sign_of, same_sign, is}
-use Rattle.dp_rules.specs.Input.{Reader, gives, made, mark, refuse, ◌>>=◌, ◌>>◌, kind, variable}
+use Rattle.dp_rules.specs.inner.Input.{Reader, gives, made, mark, refuse, ◌>>=◌, ◌>>◌, kind, variable}
 use Rattle.dp_rules.specs.Rules.{Rule, Joined, Made, Mark, Perhaps, Closed}
 use Rattle.dp_rules.specs.Lists.{NextItem}
-use Rattle.dp_rules.specs.ReadingLists.{plain_items, some_items, any_plain_items}
+use Rattle.dp_rules.specs.inner.ReadingLists.{plain_items, some_items, any_plain_items}
 use Rattle.dp_expressions.specs.Grammar.{IsExpression, IsPlace}
-use Rattle.dp_expressions.specs.Reading.{begins_expression, reading, reading_place}
+use Rattle.dp_expressions.specs.inner.Reading.{begins_expression, reading, reading_place}
 use Rattle.dp_parse.specs.Statements.{Depth, whole, binding, Bound, GlobalRule, Empty, Perform, Echo, Test, Loops, MaybeUpTo, Return, Unset, ExitValue, Exit, body_at}
 use Rattle.dp_parse.specs.Statements as grammar_of
-use Rattle.dp_parse.specs.ReadingStatements.{empty, bound_rest, bound, global_rule, exit_word, perform, echo, test, levels, loops_rule, break_rule, continue_rule, maybe_up_to, return_rule, unset, exit_value, exit}
+use Rattle.dp_parse.specs.inner.ReadingStatements.{empty, bound_rest, bound, global_rule, exit_word, perform, echo, head_test, levels, loops_rule, break_rule, continue_rule, maybe_up_to, return_rule, unset, exit_value, exit}
 use Rattle.dp_rules.proofs.Signs.{not_true, placed, mark_alone, mark_fails, mark_apart}
 use Rattle.dp_rules.proofs.Answers.{Rules, Stop, Anything, JoinedAt, EitherAt, GivesAt, OneAt, MarkAt, MadeAt, Answers, StartsIn, give, behind, mark_starts, joined_starts, made_starts, starts_apart, gives_apart, one_starts, one_answers, gives_answers, either_answers, within_answers, when_answers}
 use Rattle.dp_rules.proofs.More.{variable_starts}
@@ -282,8 +282,8 @@ module _ (base : ℕ) (level : Depth) where
           (λ _. then_reader base level (PlainItemsAt (λ _. ExpressionAt) sign.Semicolon) (λ values. GivesAt (whole (tree.Echo values))) ended_stop (plain_items (λ _. expression) sign.Semicolon) (λ values. gives (whole (tree.Echo values)))
           plain_expressions (λ values. gives_reader base level (whole (tree.Echo values)) ended_stop))
 
-      pub test_reader : IsPartReader base (StatementAt Test loops) Anything level (reader_at test loops level body)
-      unfolding test
+      pub test_reader : IsPartReader base (StatementAt Test loops) Anything level (reader_at head_test loops level body)
+      unfolding head_test
       test_reader = mark_then base level sign.OpenParenthesis kind.OpenParenthesis refl (λ _. JoinedAt ExpressionAt (λ found. JoinedAt (MarkAt sign.CloseParenthesis) (λ _. GivesAt found))) Anything
           (λ _. expression >>= (λ found. mark sign.CloseParenthesis >> gives found))
           (λ _. expression_then sign.CloseParenthesis kind.CloseParenthesis refl refl (λ found _. GivesAt found) Anything (λ found _. gives found) (λ found _. gives_reader base level found Anything))

@@ -5,7 +5,7 @@ use Rattle.dp_lexer.specs.declared.token.TokenKind.{TokenKind}
 use Rattle.dp_rules.specs.declared.sign.Sign.{Sign}
 use Rattle.dp_rules.specs.declared.sign.Sign.TheVariants as sign
 use Rattle.dp_rules.specs.Signs.{sign_of, same_sign, is, head}
-use Rattle.dp_rules.specs.Input.{Reader, gives, made, mark, enter, one, ◌>>=◌, ◌>>◌}
+use Rattle.dp_rules.specs.inner.Input.{Reader, gives, made, mark, enter, one, ◌>>=◌, ◌>>◌}
 use Rattle.dp_parse.specs.Statements.{Depth}
 use Rattle.dp_rules.proofs.Signs.{placed, mark_of, mark_alone, mark_passes, first_of_sort}
 use Rattle.dp_rules.proofs.Answers.{Rules, Stop, Anything, JoinedAt, EitherAt, GivesAt, MarkAt, MadeAt, NestsAt, Opens, Answers, Follows, StartsIn, Apart, mark_starts, joined_starts, starts_follow, anything_follows, gives_follow, mark_answers, gives_answers, joined_answers, stricter_answers, either_answers, nests_answers}

@@ -1,6 +1,5 @@
 pub mod Statements
-pub mod ReadingStatements
-pub mod Programs
 pub mod Limits
-pub mod NestedBody
-pub mod Parameters
+pub mod Programs
+pub mod ExpressionIn
+pub mod inner

@@ -1,12 +1,5 @@
--- How deep programs nest, and what is read of statements within that.
+-- How deep programs nest.
 use Rattle.std.specs.Prelude.{ℕ}
-use Rattle.dp_parse.specs.declared.ended.Body.{Body}
-use Rattle.dp_expressions.specs.declared.operand.Part.TheVariants as part
-use Rattle.dp_tree.specs.declared.tree.Expression.{Expression}
-use Rattle.dp_tree.specs.declared.tree.Place.{Place}
-use Rattle.dp_rules.specs.Input.{Reader}
-use Rattle.dp_expressions.specs.Reading.{reading, reading_place}
-use Rattle.dp_parse.specs.ReadingStatements.{body_below}
 use Rattle.dp_parse.specs.Statements.{Depth}
 
 abbrev pub expression_levels : ℕ
@@ -17,17 +10,3 @@ body_levels = 32
 
 abbrev pub limits : Depth
 limits = record { expressions = expression_levels; bodies = body_levels }
-
-abbrev pub expression : Reader Expression
-expression = reading expression_levels part.Whole
-
-abbrev pub place : Reader Place
-place = reading_place expression_levels
-
--- bodies one level down, where so many levels of bodies are left, in so many loops
-abbrev pub body : ℕ → ℕ → Reader Body
-body = body_below expression_levels
-
--- a reader of statements, where so many levels of bodies are left, in so many loops
-abbrev pub within : {R : Type 0} → (ℕ → ℕ → Reader Expression → Reader Place → (ℕ → Reader Body) → R) → ℕ → ℕ → R
-within reader level loops = reader level loops expression place (body level)

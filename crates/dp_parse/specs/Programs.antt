@@ -55,7 +55,8 @@ abbrev pub without_tokens : LexError → ParseError
 without_tokens lex_error.Memory = error.Memory
 without_tokens why = error.Lex why
 
--- Tokens are refused at a token, by a rule at its limits of nesting. No other reason is one of tokens.
+-- Tokens are refused at a token, by a rule at its limits of nesting. No other reason is one of
+-- tokens.
 abbrev pub AreWrong : {L A : Type 0} → (L → Rule A) → L → List Token → ParseError → Type 0
 AreWrong rule depth ts (error.Unexpected token) = IsUnexpected rule depth ts token
 AreWrong rule depth ts (error.TooDeep token) = IsTooDeep rule depth ts token
@@ -71,8 +72,10 @@ told count refusal.Memory = error.Memory
 -- why bytes are no program
 abbrev pub IsNoFile : List ℕ → ParseError → Type 0
 IsNoFile bytes (error.Lex why) = HasNoTokens (IsFileRefused bytes) why
-IsNoFile bytes (error.Unexpected token) = IsWrongToken bytes (λ ts. AreWrong Spells limits ts (error.Unexpected token))
-IsNoFile bytes (error.TooDeep token) = IsWrongToken bytes (λ ts. AreWrong Spells limits ts (error.TooDeep token))
+IsNoFile bytes (error.Unexpected token) =
+    IsWrongToken bytes (λ ts. AreWrong Spells limits ts (error.Unexpected token))
+IsNoFile bytes (error.TooDeep token) =
+    IsWrongToken bytes (λ ts. AreWrong Spells limits ts (error.TooDeep token))
 IsNoFile bytes (error.DoubleFunction name) = HasDouble bytes name
 IsNoFile bytes error.Memory = ⊤
 
@@ -91,7 +94,11 @@ pub record IsWrongInText (bytes : List ℕ) (Wrong : List Token → Type 0) : Ty
 -- why bytes are no expression
 abbrev pub IsNoExpression : List ℕ → ParseError → Type 0
 IsNoExpression bytes (error.Lex why) = HasNoTokens (IsRefused bytes) why
-IsNoExpression bytes (error.Unexpected token) = IsWrongInText bytes (λ ts. AreWrong SpellsExpression limits.expressions ts (error.Unexpected token))
-IsNoExpression bytes (error.TooDeep token) = IsWrongInText bytes (λ ts. AreWrong SpellsExpression limits.expressions ts (error.TooDeep token))
+IsNoExpression bytes (error.Unexpected token) =
+    IsWrongInText bytes (λ ts.
+    AreWrong SpellsExpression limits.expressions ts (error.Unexpected token))
+IsNoExpression bytes (error.TooDeep token) =
+    IsWrongInText bytes (λ ts.
+    AreWrong SpellsExpression limits.expressions ts (error.TooDeep token))
 IsNoExpression bytes (error.DoubleFunction name) = ⊥
 IsNoExpression bytes error.Memory = ⊤

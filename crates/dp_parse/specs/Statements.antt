@@ -1,4 +1,5 @@
--- The grammar of statements (PHP manual, "Control Structures" and "Functions"; what is left out is our own).
+-- The grammar of statements (PHP manual, "Control Structures" and "Functions"; what is left out is
+-- our own).
 use Rattle.std.specs.Prelude.{ℕ, zero, suc, Bool, true, false, not, nat_lt, if◌then◌else◌, List, [], ◌∷◌, ◌++◌, Option, Some, None}
 use Rattle.std.specs.List.{list_any}
 use Rattle.std.specs.Str.{bytes_eq}
@@ -36,7 +37,8 @@ binding key value = record { key = key; value = value }
 
 -- a name that is none of these
 abbrev pub parameter_in : List Text → TokenKind → Option Text
-parameter_in found (kind.Variable name) = if list_any (λ other. bytes_eq other name) found then None else variable_in (kind.Variable name)
+parameter_in found (kind.Variable name) =
+    if list_any (λ other. bytes_eq other name) found then None else variable_in (kind.Variable name)
 parameter_in found _ = None
 
 abbrev pub stated : ℕ → Ended → Body
@@ -48,7 +50,9 @@ OnItsLine rule = OnLine (λ line. Made rule (stated line))
 
 -- *stmt "}"
 abbrev pub Bodies : Rule Body → Rule (List Statement)
-Bodies body = Closed (λ all. Made body (λ b. all ++ b.statement ∷ [])) (λ all. Made (Mark sign.CloseBrace) (λ _. all)) []
+Bodies body =
+    Closed (λ all. Made body (λ b. all ++ b.statement ∷ []))
+    (λ all. Made (Mark sign.CloseBrace) (λ _. all)) []
 
 -- "{" *stmt "}"
 abbrev pub Braced : Rule Body → Rule Ended
@@ -57,7 +61,8 @@ Braced body = do
   all ← Bodies body
   Gives (whole (tree.Block all))
 
--- The body of a head is a statement. Where it is one in braces, it is no block that counts for itself.
+-- The body of a head is a statement. Where it is one in braces, it is no block that counts for
+-- itself.
 abbrev pub HeadBody : Rule Body → Rule Body
 HeadBody body = OnItsLine (Braced body) or Without sign.OpenBrace body
 
@@ -78,15 +83,20 @@ with_arm arms line test b = (arms ++ arm line test b.statement ∷ [], b.is_open
 
 -- var [ "=>" var ]
 abbrev pub Bound : Rule Binding
-Bound = Variable >>= (λ first. Made (Mark sign.Arrow >> Variable) (λ value. binding (Some first) value) or Gives (binding None first))
+Bound = Variable >>= (λ first.
+    Made (Mark sign.Arrow >> Variable) (λ value. binding (Some first) value)
+    or Gives (binding None first))
 
 -- "global" var *( "," var ) ";"
 abbrev pub GlobalRule : Rule Ended
-GlobalRule = Made (Mark sign.Global >> PlainItems (λ _. Variable) sign.Semicolon) (λ names. whole (tree.Global names))
+GlobalRule =
+    Made (Mark sign.Global >> PlainItems (λ _. Variable) sign.Semicolon)
+    (λ names. whole (tree.Global names))
 
--- The number is how many levels of bodies are left, and the next in how many loops the statement stands. `body` is a
--- statement in a body one level down, in so many loops.
-module _ (level : ℕ) (loops : ℕ) (expression : Rule Expression) (place : Rule Place) (body : ℕ → Rule Body) where
+-- The number is how many levels of bodies are left, and the next in how many loops the statement
+-- stands. `body` is a statement in a body one level down, in so many loops.
+module _ (level : ℕ) (loops : ℕ) (expression : Rule Expression) (place : Rule Place)
+    (body : ℕ → Rule Body) where
   -- expr ";"
   abbrev pub Perform : Rule Ended
   Perform = do
@@ -189,7 +199,8 @@ module _ (level : ℕ) (loops : ℕ) (expression : Rule Expression) (place : Rul
   Break = When (nat_lt 0 loops) (Made (Mark sign.Break >> Loops) (λ n. whole (tree.Break n)))
 
   abbrev pub Continue : Rule Ended
-  Continue = When (nat_lt 0 loops) (Made (Mark sign.Continue >> Loops) (λ n. whole (tree.Continue n)))
+  Continue =
+      When (nat_lt 0 loops) (Made (Mark sign.Continue >> Loops) (λ n. whole (tree.Continue n)))
 
   -- [ expr ] and what ends it
   abbrev pub MaybeUpTo : Rule ℕ → Rule (Option Expression)
@@ -197,7 +208,9 @@ module _ (level : ℕ) (loops : ℕ) (expression : Rule Expression) (place : Rul
 
   -- "return" [ expr ] ";"
   abbrev pub Return : Rule Ended
-  Return = Made (Mark sign.Return >> MaybeUpTo (Mark sign.Semicolon)) (λ value. whole (tree.Return value))
+  Return =
+      Made (Mark sign.Return >> MaybeUpTo (Mark sign.Semicolon))
+      (λ value. whole (tree.Return value))
 
   -- "unset" "(" places ")" ";"
   abbrev pub Unset : Rule Ended
@@ -227,7 +240,9 @@ module _ (level : ℕ) (loops : ℕ) (expression : Rule Expression) (place : Rul
 -- a statement in a body one level down, where so many levels are left, in so many loops
 abbrev pub body_at : (expressions : ℕ) → ℕ → ℕ → Rule Body
 body_at expressions zero loops = λ ts a. ⊥
-body_at expressions (suc level) loops = OnItsLine (AnyStatement level loops (IsExpression expressions) (IsPlace expressions) (body_at expressions level))
+body_at expressions (suc level) loops =
+    OnItsLine (AnyStatement level loops (IsExpression expressions) (IsPlace expressions)
+    (body_at expressions level))
 
 -- how many levels of nesting there are, of expressions and of bodies
 pub record Depth : Type 0 where
@@ -236,12 +251,15 @@ pub record Depth : Type 0 where
 
 -- a statement outside of loops
 abbrev pub IsStatement : Depth → Rule Body
-IsStatement depth = OnItsLine (AnyStatement depth.bodies 0 (IsExpression depth.expressions) (IsPlace depth.expressions) (body_at depth.expressions depth.bodies))
+IsStatement depth =
+    OnItsLine (AnyStatement depth.bodies 0
+    (IsExpression depth.expressions) (IsPlace depth.expressions) (body_at depth.expressions depth.bodies))
 
 -- ---- files
 
 abbrev pub function_of : ℕ → Text → List Text → List Statement → Function
-function_of line name parameters body = record { line = line; name = name; parameters = parameters; body = body }
+function_of line name parameters body =
+    record { line = line; name = name; parameters = parameters; body = body }
 
 -- "function" name "(" [ var *( "," var ) [ "," ] ] ")" "{" *stmt "}"
 abbrev pub FunctionRule : Depth → Rule Function
@@ -258,7 +276,8 @@ abbrev pub no_parts : Parts
 no_parts = record { body = []; functions = [] }
 
 abbrev pub with_statement : Parts → Body → Parts
-with_statement parts b = record { body = parts.body ++ b.statement ∷ []; functions = parts.functions }
+with_statement parts b =
+    record { body = parts.body ++ b.statement ∷ []; functions = parts.functions }
 
 abbrev pub with_function : Parts → Function → Parts
 with_function parts f = record { body = parts.body; functions = parts.functions ++ f ∷ [] }
@@ -266,7 +285,10 @@ with_function parts f = record { body = parts.body; functions = parts.functions 
 -- file = *( function | stmt )
 abbrev pub Spells : Depth → Rule Parts
 Spells depth =
-    Closed (λ parts. Made (FunctionRule depth) (with_function parts) or Made (IsStatement depth) (with_statement parts)) (λ parts. Gives parts) no_parts
+    Closed (λ parts.
+    Made (FunctionRule depth) (with_function parts)
+    or Made (IsStatement depth) (with_statement parts))
+    (λ parts. Gives parts) no_parts
 
 -- an expression by itself: expr [ ";" ]
 abbrev pub SpellsExpression : ℕ → Rule Expression

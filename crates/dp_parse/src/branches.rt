@@ -1,46 +1,47 @@
 //! `if` with its arms.
 
 ghost use Rattle.std.specs.Prelude.{◌≡◌, ◌+◌, ◌<◌, ◌≤◌, ◌^◌};
-ghost use Rattle.dp_rules.specs.Input.{Reads};
-ghost use Rattle.dp_parse.specs.Limits.{within};
-ghost use Rattle.dp_parse.specs.NestedBody.{NestsBody};
-ghost use Rattle.dp_parse.specs.ReadingStatements as spec;
+ghost use Rattle.dp_rules.specs.inner.Input.{Reads};
+ghost use Rattle.dp_parse.specs.inner.Within.{within};
+ghost use Rattle.dp_parse.specs.inner.ReadingStatements as spec;
 
 use crate::ended::{Body, Ended};
+use crate::grammar::Statements;
+use crate::inside::Inside;
 use crate::levels::expression;
-use crate::statements::Statements;
-use dp_rules::{Refusal, Sign, Tokens, enter, none, with};
+use dp_expressions::both;
+use dp_rules::{Refusal, Sign, Tokens, none, with};
 use dp_tree::{Arm, Boxed, Expression, StatementKind};
 use dp_value::Items;
 use std::alloc::Global;
 use std::ops::ControlFlow;
 
-impl<F: Fn(Global, &mut Tokens<'_>, usize, u32) -> Result<Body, Refusal>> Statements<F> {
+impl<R: Inside> Statements<R> {
     /// An expression in parentheses.
-    #[tactic(auto, unfolding(crate::specs::ReadingStatements::test))]
-    pub fn test(&self, tokens: &mut Tokens<'_>) -> Result<Expression, Refusal>
-        ensures { Reads (within spec.test self.now.level self.now.loops tokens.old) result tokens.new }
+    #[tactic(auto, unfolding(crate::specs::inner::ReadingStatements::head_test))]
+    pub(crate) fn test(&self, tokens: &mut Tokens<'_>) -> Result<Expression, Refusal>
+        ensures { Reads (within spec.head_test self.now tokens.old) result tokens.new }
     {
         tokens.mark(Sign::OpenParenthesis)?;
-        let test = expression(self.alloc, tokens)?;
-        tokens.mark(Sign::CloseParenthesis)?;
+        let test = expression(self.alloc(), tokens)?;
+        let (test, _) = both(test, tokens.mark(Sign::CloseParenthesis))?;
         Ok(test)
     }
 
     /// The arms so far, and the next one behind the word on this line.
-    #[tactic(auto, unfolding(crate::specs::ReadingStatements::next_arm))]
+    #[tactic(auto, unfolding(crate::specs::inner::ReadingStatements::next_arm))]
     fn next_arm(
         &self,
         tokens: &mut Tokens<'_>,
         arms: Items<Arm>,
         line: u32,
     ) -> Result<(Items<Arm>, bool), Refusal>
-        requires nests { NestsBody self.now.level self.now.loops (F.pre self.now.inner) (F.post self.now.inner) }
-        requires some { 0 < self.now.level }
-        ensures { Reads (within spec.next_arm self.now.level self.now.loops arms line tokens.old) result tokens.new }
+        requires some { 0 < self.now.0 }
+        ensures { Reads (within spec.next_arm self.now arms line tokens.old) result tokens.new }
     {
         let test = self.test(tokens)?;
-        let Body { statement, is_open } = self.head_body(tokens, self.loops)?;
+        let (test, found) = both(test, self.head_body(tokens, self.loops()))?;
+        let Body { statement, is_open } = found;
         let arm = Arm {
             line,
             test,
@@ -50,14 +51,13 @@ impl<F: Fn(Global, &mut Tokens<'_>, usize, u32) -> Result<Body, Refusal>> Statem
     }
 
     /// The body behind an `else`.
-    #[tactic(auto, unfolding(crate::specs::ReadingStatements::otherwise))]
+    #[tactic(auto, unfolding(crate::specs::inner::ReadingStatements::otherwise))]
     fn otherwise(&self, tokens: &mut Tokens<'_>, arms: Items<Arm>) -> Result<Ended, Refusal>
-        requires nests { NestsBody self.now.level self.now.loops (F.pre self.now.inner) (F.post self.now.inner) }
-        requires some { 0 < self.now.level }
-        ensures { Reads (within spec.otherwise self.now.level self.now.loops arms tokens.old) result tokens.new }
+        requires some { 0 < self.now.0 }
+        ensures { Reads (within spec.otherwise self.now arms tokens.old) result tokens.new }
     {
-        let Body { statement, is_open } = self.head_body(tokens, self.loops)?;
-        let otherwise = Some(Boxed::new(self.alloc, statement)?);
+        let Body { statement, is_open } = self.head_body(tokens, self.loops())?;
+        let otherwise = Some(Boxed::new(self.alloc(), statement)?);
         Ok(Ended {
             kind: StatementKind::If { arms, otherwise },
             is_open,
@@ -65,16 +65,15 @@ impl<F: Fn(Global, &mut Tokens<'_>, usize, u32) -> Result<Body, Refusal>> Statem
     }
 
     /// What stands behind an `else` on this line: a further arm, or the last body.
-    #[tactic(auto, unfolding(crate::specs::ReadingStatements::behind_else))]
+    #[tactic(auto, unfolding(crate::specs::inner::ReadingStatements::behind_else))]
     fn behind_else(
         &self,
         tokens: &mut Tokens<'_>,
         arms: Items<Arm>,
         line: u32,
     ) -> Result<ControlFlow<Ended, (Items<Arm>, bool)>, Refusal>
-        requires nests { NestsBody self.now.level self.now.loops (F.pre self.now.inner) (F.post self.now.inner) }
-        requires some { 0 < self.now.level }
-        ensures { Reads (within spec.behind_else self.now.level self.now.loops arms line tokens.old) result tokens.new }
+        requires some { 0 < self.now.0 }
+        ensures { Reads (within spec.behind_else self.now arms line tokens.old) result tokens.new }
     {
         if tokens.sees(Sign::If) {
             tokens.mark(Sign::If)?;
@@ -89,9 +88,8 @@ impl<F: Fn(Global, &mut Tokens<'_>, usize, u32) -> Result<Body, Refusal>> Statem
         arms: Items<Arm>,
         is_open: bool,
     ) -> Result<ControlFlow<Ended, (Items<Arm>, bool)>, Refusal>
-        requires nests { NestsBody self.now.level self.now.loops (F.pre self.now.inner) (F.post self.now.inner) }
-        requires some { 0 < self.now.level }
-        ensures { Reads (within spec.arms_step self.now.level self.now.loops (arms, is_open) tokens.old) result tokens.new }
+        requires some { 0 < self.now.0 }
+        ensures { Reads (within spec.arms_step self.now (arms, is_open) tokens.old) result tokens.new }
     {
         if !is_open && tokens.sees(Sign::ElseIf) {
             let line = tokens.mark(Sign::ElseIf)?;
@@ -111,11 +109,10 @@ impl<F: Fn(Global, &mut Tokens<'_>, usize, u32) -> Result<Body, Refusal>> Statem
     }
 
     /// What stands behind the first arm.
-    #[tactic(auto, unfolding(crate::specs::ReadingStatements::arms))]
+    #[tactic(auto, unfolding(crate::specs::inner::ReadingStatements::arms))]
     fn arms(&self, tokens: &mut Tokens<'_>, first: (Items<Arm>, bool)) -> Result<Ended, Refusal>
-        requires nests { NestsBody self.now.level self.now.loops (F.pre self.now.inner) (F.post self.now.inner) }
-        requires some { 0 < self.now.level }
-        ensures { Reads (within spec.arms self.now.level self.now.loops first tokens.old) result tokens.new }
+        requires some { 0 < self.now.0 }
+        ensures { Reads (within spec.arms self.now first tokens.old) result tokens.new }
     {
         let mut state = first;
         for _turn in 0..tokens.left() + 1 {
@@ -127,14 +124,13 @@ impl<F: Fn(Global, &mut Tokens<'_>, usize, u32) -> Result<Body, Refusal>> Statem
         Err(tokens.refuse())
     }
 
-    #[tactic(auto, unfolding(crate::specs::ReadingStatements::if_rule))]
-    pub fn if_rule(&self, tokens: &mut Tokens<'_>) -> Result<Ended, Refusal>
-        requires nests { NestsBody self.now.level self.now.loops (F.pre self.now.inner) (F.post self.now.inner) }
-        ensures { Reads (within spec.if_rule self.now.level self.now.loops tokens.old) result tokens.new }
+    #[tactic(auto, unfolding(crate::specs::inner::ReadingStatements::if_rule))]
+    pub(crate) fn if_rule(&self, tokens: &mut Tokens<'_>) -> Result<Ended, Refusal>
+        ensures { Reads (within spec.if_rule self.now tokens.old) result tokens.new }
     {
-        enter(self.level, tokens)?;
+        self.enter(tokens)?;
         let line = tokens.mark(Sign::If)?;
-        let first = self.next_arm(tokens, none(self.alloc), line)?;
+        let first = self.next_arm(tokens, none(self.alloc()), line)?;
         self.arms(tokens, first)
     }
 }

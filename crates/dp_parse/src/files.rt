@@ -1,15 +1,18 @@
 //! Functions, files, and expressions by themselves.
 
 ghost use Rattle.std.specs.Prelude.{◌≡◌, IfOk};
-ghost use Rattle.dp_rules.specs.Input.{Reads};
+ghost use Rattle.dp_rules.specs.inner.Input.{Reads};
 ghost use Rattle.dp_parse.specs.Limits as limits;
-ghost use Rattle.dp_parse.specs.ReadingStatements as spec;
+ghost use Rattle.dp_parse.specs.inner.Within as limited;
+ghost use Rattle.dp_parse.specs.inner.ReadingStatements as spec;
 ghost use Rattle.dp_parse.specs.Statements as grammar;
 
 use crate::ended::{Body, Parts};
+use crate::inside::Called;
 use crate::levels::{BODY_LEVELS, expression};
 use crate::parameters::parameters;
-use crate::statements::{Statements, statement};
+use crate::statements::{bodies_over, statement};
+use dp_expressions::both;
 use dp_rules::{Refusal, Sign, Tokens, enter, none, with};
 use dp_tree::{Expression, Function, Statement};
 use dp_value::{Items, Memory};
@@ -25,20 +28,21 @@ fn outermost(alloc: Global, tokens: &mut Tokens<'_>) -> Result<Body, Refusal>
 
 /// The statements of a function up to its closing brace.
 fn function_body(alloc: Global, tokens: &mut Tokens<'_>) -> Result<Items<Statement>, Refusal>
-    ensures { Reads (spec.bodies (limits.body limits.body_levels 0) tokens.old) result tokens.new }
+    ensures { Reads (spec.bodies (limited.body limits.body_levels 0) tokens.old) result tokens.new }
 {
-    Statements {
+    bodies_over(
         alloc,
-        level: BODY_LEVELS,
-        loops: 0,
-        inner: statement,
-    }
-    .bodies(tokens, 0)
+        tokens,
+        BODY_LEVELS,
+        Called {
+            function: statement,
+        },
+    )
 }
 
 /// A function.
-#[tactic(auto, unfolding(crate::specs::ReadingStatements::function_rule))]
-pub fn function(alloc: Global, tokens: &mut Tokens<'_>) -> Result<Function, Refusal>
+#[tactic(auto, unfolding(crate::specs::inner::ReadingStatements::function_rule))]
+pub(crate) fn function(alloc: Global, tokens: &mut Tokens<'_>) -> Result<Function, Refusal>
     ensures { Reads (spec.function_rule limits.limits tokens.old) result tokens.new }
 {
     enter(BODY_LEVELS, tokens)?;
@@ -98,8 +102,8 @@ fn file_step(
 }
 
 /// The statements and the functions of a file, up to the end.
-#[tactic(auto, unfolding(crate::specs::ReadingStatements::file))]
-pub fn file(alloc: Global, tokens: &mut Tokens<'_>) -> Result<Parts, Refusal>
+#[tactic(auto, unfolding(crate::specs::inner::ReadingStatements::file))]
+pub(crate) fn file(alloc: Global, tokens: &mut Tokens<'_>) -> Result<Parts, Refusal>
     ensures { Reads (spec.file limits.limits tokens.old) result tokens.new }
 {
     let mut state = Parts {
@@ -115,31 +119,34 @@ pub fn file(alloc: Global, tokens: &mut Tokens<'_>) -> Result<Parts, Refusal>
     Err(tokens.refuse())
 }
 
-#[tactic(auto, unfolding(crate::specs::ReadingStatements::at_end, dp_rules::specs::Input::refuse))]
+#[tactic(auto, unfolding(crate::specs::inner::ReadingStatements::at_end, dp_rules::specs::inner::Input::refuse))]
 fn at_end(tokens: &mut Tokens<'_>, found: Expression) -> Result<Expression, Refusal>
     ensures { Reads (spec.at_end found tokens.old) result tokens.new }
 {
-    if tokens.sees(Sign::End) {
-        Ok(found)
+    let end = if tokens.sees(Sign::End) {
+        Ok(())
     } else {
         Err(tokens.refuse())
-    }
+    };
+    let (found, _) = both(found, end)?;
+    Ok(found)
 }
 
 /// A `;` or nothing, and the end.
-#[tactic(auto, unfolding(crate::specs::ReadingStatements::semicolon))]
+#[tactic(auto, unfolding(crate::specs::inner::ReadingStatements::semicolon))]
 fn semicolon(tokens: &mut Tokens<'_>, found: Expression) -> Result<Expression, Refusal>
     ensures { Reads (spec.semicolon found tokens.old) result tokens.new }
 {
-    if tokens.sees(Sign::Semicolon) {
-        tokens.mark(Sign::Semicolon)?;
+    if !tokens.sees(Sign::Semicolon) {
+        return at_end(tokens, found);
     }
+    let (found, _) = both(found, tokens.mark(Sign::Semicolon))?;
     at_end(tokens, found)
 }
 
 /// An expression by itself, possibly with a `;` behind it, up to the end.
-#[tactic(auto, unfolding(crate::specs::ReadingStatements::expression_text))]
-pub fn expression_text(alloc: Global, tokens: &mut Tokens<'_>) -> Result<Expression, Refusal>
+#[tactic(auto, unfolding(crate::specs::inner::ReadingStatements::expression_text))]
+pub(crate) fn expression_text(alloc: Global, tokens: &mut Tokens<'_>) -> Result<Expression, Refusal>
     ensures { Reads (spec.expression_text limits.expression_levels tokens.old) result tokens.new }
 {
     let found = expression(alloc, tokens)?;

@@ -32,7 +32,7 @@ fn refused(count: usize, refusal: Refusal) -> ParseError
 }
 
 /// The statements and the functions that the tokens spell.
-pub fn parts_of(alloc: Global, tokens: &[Token]) -> Result<Parts, ParseError>
+pub(crate) fn parts_of(alloc: Global, tokens: &[Token]) -> Result<Parts, ParseError>
     ensures found { IfOk result (λ parts. Spells limits tokens.now parts) }
     ensures only { (parts : Parts) → Spells limits tokens.now parts →
         MatchResult result (λ found. found ≡ parts) (λ e. e ≡ ParseError.Memory) }
@@ -47,7 +47,7 @@ pub fn parts_of(alloc: Global, tokens: &[Token]) -> Result<Parts, ParseError>
 }
 
 /// The expression that the tokens spell.
-pub fn expression_of(alloc: Global, tokens: &[Token]) -> Result<Expression, ParseError>
+pub(crate) fn expression_of(alloc: Global, tokens: &[Token]) -> Result<Expression, ParseError>
     ensures found { IfOk result (λ e. SpellsExpression limits.expressions tokens.now e) }
     ensures only { (e : Expression) → SpellsExpression limits.expressions tokens.now e →
         MatchResult result (λ found. found ≡ e) (λ e. e ≡ ParseError.Memory) }

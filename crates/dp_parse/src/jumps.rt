@@ -1,16 +1,19 @@
 //! Statements without a body: jumps out of loops, functions and programs, and what is declared or removed.
 
 ghost use Rattle.std.specs.Prelude.{⊤, ◌≡◌, ◌<◌, ◌≤◌, ◌^◌};
-ghost use Rattle.dp_rules.specs.Input.{Reads};
-ghost use Rattle.dp_parse.specs.Limits.{within};
-ghost use Rattle.dp_rules.specs.Input as input;
-ghost use Rattle.dp_rules.specs.ReadingLists as lists;
-ghost use Rattle.dp_parse.specs.ReadingStatements as spec;
+ghost use Rattle.dp_rules.specs.inner.Input.{Reads};
+ghost use Rattle.dp_parse.specs.inner.Within.{within};
+ghost use Rattle.dp_rules.specs.inner.Input as input;
+ghost use Rattle.dp_rules.specs.inner.ReadingLists as lists;
+ghost use Rattle.dp_parse.specs.inner.ReadingStatements as spec;
 ghost use Rattle.dp_parse.specs.Statements as grammar;
 
-use crate::ended::{Body, Ended};
+use crate::ended::Ended;
+use crate::grammar::Statements;
+use crate::inside::Inside;
 use crate::levels::{expression, some_places};
-use crate::statements::{Statements, whole};
+use crate::statements::whole;
+use dp_expressions::both;
 use dp_rules::{Piece, Refusal, Sign, Tokens, plain_items};
 use dp_tree::{Expression, StatementKind};
 use dp_value::{Bytes, Items};
@@ -39,8 +42,8 @@ fn variables(alloc: Global, tokens: &mut Tokens<'_>) -> Result<Items<Bytes>, Ref
     plain_items(alloc, tokens, Sign::Semicolon, &ListedVariable { alloc })
 }
 
-#[tactic(auto, unfolding(crate::specs::ReadingStatements::global_rule))]
-pub fn global_rule(alloc: Global, tokens: &mut Tokens<'_>) -> Result<Ended, Refusal>
+#[tactic(auto, unfolding(crate::specs::inner::ReadingStatements::global_rule))]
+pub(crate) fn global_rule(alloc: Global, tokens: &mut Tokens<'_>) -> Result<Ended, Refusal>
     ensures { Reads (spec.global_rule tokens.old) result tokens.new }
 {
     tokens.mark(Sign::Global)?;
@@ -48,7 +51,7 @@ pub fn global_rule(alloc: Global, tokens: &mut Tokens<'_>) -> Result<Ended, Refu
     Ok(whole(StatementKind::Global(names)))
 }
 
-#[tactic(auto, unfolding(crate::specs::ReadingStatements::exit_word))]
+#[tactic(auto, unfolding(crate::specs::inner::ReadingStatements::exit_word))]
 fn exit_word(tokens: &mut Tokens<'_>) -> Result<u32, Refusal>
     ensures { Reads (spec.exit_word tokens.old) result tokens.new }
 {
@@ -59,33 +62,33 @@ fn exit_word(tokens: &mut Tokens<'_>) -> Result<u32, Refusal>
     }
 }
 
-impl<F: Fn(Global, &mut Tokens<'_>, usize, u32) -> Result<Body, Refusal>> Statements<F> {
+impl<R: Inside> Statements<R> {
     /// How many loops a jump is about: 1, or a number up to that of the loops around it.
-    #[tactic(auto, unfolding(crate::specs::ReadingStatements::levels))]
+    #[tactic(auto, unfolding(crate::specs::inner::ReadingStatements::levels))]
     fn levels(&self, tokens: &mut Tokens<'_>) -> Result<u32, Refusal>
-        ensures { Reads (within spec.levels self.now.level self.now.loops tokens.old) result tokens.new }
+        ensures { Reads (within spec.levels self.now tokens.old) result tokens.new }
     {
         if tokens.sees(Sign::Number) {
-            tokens.number_up_to(self.loops)
+            tokens.number_up_to(self.loops())
         } else {
             Ok(1)
         }
     }
 
-    #[tactic(auto, unfolding(crate::specs::ReadingStatements::loops_rule))]
+    #[tactic(auto, unfolding(crate::specs::inner::ReadingStatements::loops_rule))]
     fn loops_rule(&self, tokens: &mut Tokens<'_>) -> Result<u32, Refusal>
-        ensures { Reads (within spec.loops_rule self.now.level self.now.loops tokens.old) result tokens.new }
+        ensures { Reads (within spec.loops_rule self.now tokens.old) result tokens.new }
     {
         let count = self.levels(tokens)?;
         tokens.mark(Sign::Semicolon)?;
         Ok(count)
     }
 
-    #[tactic(auto, unfolding(crate::specs::ReadingStatements::break_rule, dp_rules::specs::Input::refuse))]
-    pub fn break_rule(&self, tokens: &mut Tokens<'_>) -> Result<Ended, Refusal>
-        ensures { Reads (within spec.break_rule self.now.level self.now.loops tokens.old) result tokens.new }
+    #[tactic(auto, unfolding(crate::specs::inner::ReadingStatements::break_rule, dp_rules::specs::inner::Input::refuse))]
+    pub(crate) fn break_rule(&self, tokens: &mut Tokens<'_>) -> Result<Ended, Refusal>
+        ensures { Reads (within spec.break_rule self.now tokens.old) result tokens.new }
     {
-        if self.loops == 0 {
+        if self.loops() == 0 {
             return Err(tokens.refuse());
         }
         tokens.mark(Sign::Break)?;
@@ -93,11 +96,11 @@ impl<F: Fn(Global, &mut Tokens<'_>, usize, u32) -> Result<Body, Refusal>> Statem
         Ok(whole(StatementKind::Break(count)))
     }
 
-    #[tactic(auto, unfolding(crate::specs::ReadingStatements::continue_rule, dp_rules::specs::Input::refuse))]
-    pub fn continue_rule(&self, tokens: &mut Tokens<'_>) -> Result<Ended, Refusal>
-        ensures { Reads (within spec.continue_rule self.now.level self.now.loops tokens.old) result tokens.new }
+    #[tactic(auto, unfolding(crate::specs::inner::ReadingStatements::continue_rule, dp_rules::specs::inner::Input::refuse))]
+    pub(crate) fn continue_rule(&self, tokens: &mut Tokens<'_>) -> Result<Ended, Refusal>
+        ensures { Reads (within spec.continue_rule self.now tokens.old) result tokens.new }
     {
-        if self.loops == 0 {
+        if self.loops() == 0 {
             return Err(tokens.refuse());
         }
         tokens.mark(Sign::Continue)?;
@@ -106,46 +109,46 @@ impl<F: Fn(Global, &mut Tokens<'_>, usize, u32) -> Result<Body, Refusal>> Statem
     }
 
     /// An expression, or none, and what closes it.
-    #[tactic(auto, unfolding(crate::specs::ReadingStatements::maybe_up_to))]
+    #[tactic(auto, unfolding(crate::specs::inner::ReadingStatements::maybe_up_to))]
     fn maybe_up_to(
         &self,
         tokens: &mut Tokens<'_>,
         close: Sign,
     ) -> Result<Option<Expression>, Refusal>
-        ensures { Reads (within spec.maybe_up_to self.now.level self.now.loops close tokens.old) result tokens.new }
+        ensures { Reads (within spec.maybe_up_to self.now close tokens.old) result tokens.new }
     {
         if tokens.sees(close) {
             tokens.mark(close)?;
             return Ok(None);
         }
-        let value = expression(self.alloc, tokens)?;
-        tokens.mark(close)?;
+        let value = expression(self.alloc(), tokens)?;
+        let (value, _) = both(value, tokens.mark(close))?;
         Ok(Some(value))
     }
 
-    #[tactic(auto, unfolding(crate::specs::ReadingStatements::return_rule))]
-    pub fn return_rule(&self, tokens: &mut Tokens<'_>) -> Result<Ended, Refusal>
-        ensures { Reads (within spec.return_rule self.now.level self.now.loops tokens.old) result tokens.new }
+    #[tactic(auto, unfolding(crate::specs::inner::ReadingStatements::return_rule))]
+    pub(crate) fn return_rule(&self, tokens: &mut Tokens<'_>) -> Result<Ended, Refusal>
+        ensures { Reads (within spec.return_rule self.now tokens.old) result tokens.new }
     {
         tokens.mark(Sign::Return)?;
         let value = self.maybe_up_to(tokens, Sign::Semicolon)?;
         Ok(whole(StatementKind::Return(value)))
     }
 
-    #[tactic(auto, unfolding(crate::specs::ReadingStatements::unset))]
-    pub fn unset(&self, tokens: &mut Tokens<'_>) -> Result<Ended, Refusal>
-        ensures { Reads (within spec.unset self.now.level self.now.loops tokens.old) result tokens.new }
+    #[tactic(auto, unfolding(crate::specs::inner::ReadingStatements::unset))]
+    pub(crate) fn unset(&self, tokens: &mut Tokens<'_>) -> Result<Ended, Refusal>
+        ensures { Reads (within spec.unset self.now tokens.old) result tokens.new }
     {
         tokens.mark(Sign::Unset)?;
         tokens.mark(Sign::OpenParenthesis)?;
-        let places = some_places(self.alloc, tokens, Sign::CloseParenthesis)?;
+        let places = some_places(self.alloc(), tokens, Sign::CloseParenthesis)?;
         tokens.mark(Sign::Semicolon)?;
         Ok(whole(StatementKind::Unset(places)))
     }
 
-    #[tactic(auto, unfolding(crate::specs::ReadingStatements::exit_value))]
+    #[tactic(auto, unfolding(crate::specs::inner::ReadingStatements::exit_value))]
     fn exit_value(&self, tokens: &mut Tokens<'_>) -> Result<Option<Expression>, Refusal>
-        ensures { Reads (within spec.exit_value self.now.level self.now.loops tokens.old) result tokens.new }
+        ensures { Reads (within spec.exit_value self.now tokens.old) result tokens.new }
     {
         if tokens.sees(Sign::OpenParenthesis) {
             tokens.mark(Sign::OpenParenthesis)?;
@@ -155,13 +158,13 @@ impl<F: Fn(Global, &mut Tokens<'_>, usize, u32) -> Result<Body, Refusal>> Statem
         }
     }
 
-    #[tactic(auto, unfolding(crate::specs::ReadingStatements::exit))]
-    pub fn exit(&self, tokens: &mut Tokens<'_>) -> Result<Ended, Refusal>
-        ensures { Reads (within spec.exit self.now.level self.now.loops tokens.old) result tokens.new }
+    #[tactic(auto, unfolding(crate::specs::inner::ReadingStatements::exit))]
+    pub(crate) fn exit(&self, tokens: &mut Tokens<'_>) -> Result<Ended, Refusal>
+        ensures { Reads (within spec.exit self.now tokens.old) result tokens.new }
     {
         exit_word(tokens)?;
         let value = self.exit_value(tokens)?;
-        tokens.mark(Sign::Semicolon)?;
+        let (value, _) = both(value, tokens.mark(Sign::Semicolon))?;
         Ok(whole(StatementKind::Exit(value)))
     }
 }

@@ -1,9 +1,9 @@
 //! Expressions and places with as many levels of nesting as programs have.
 
 ghost use Rattle.std.specs.Prelude.{◌≡◌, ⊤};
-ghost use Rattle.dp_rules.specs.Input.{Reads};
-ghost use Rattle.dp_parse.specs.Limits as limits;
-ghost use Rattle.dp_rules.specs.ReadingLists as lists;
+ghost use Rattle.dp_rules.specs.inner.Input.{Reads};
+ghost use Rattle.dp_parse.specs.inner.Within as limited;
+ghost use Rattle.dp_rules.specs.inner.ReadingLists as lists;
 
 use dp_expressions::Part;
 use dp_rules::{Piece, Refusal, Sign, Tokens, any_plain_items, plain_items, some_items};
@@ -12,19 +12,19 @@ use dp_value::Items;
 use std::alloc::Global;
 
 /// How many levels of nesting an expression has at most.
-pub const EXPRESSION_LEVELS: usize = 32;
+pub(crate) const EXPRESSION_LEVELS: usize = 32;
 
 /// How many levels of nesting a body has at most.
-pub const BODY_LEVELS: usize = 32;
+pub(crate) const BODY_LEVELS: usize = 32;
 
-pub fn expression(alloc: Global, tokens: &mut Tokens<'_>) -> Result<Expression, Refusal>
-    ensures { Reads (limits.expression tokens.old) result tokens.new }
+pub(crate) fn expression(alloc: Global, tokens: &mut Tokens<'_>) -> Result<Expression, Refusal>
+    ensures { Reads (limited.expression tokens.old) result tokens.new }
 {
     dp_expressions::expression(alloc, tokens, EXPRESSION_LEVELS, Part::Whole)
 }
 
-pub fn place(alloc: Global, tokens: &mut Tokens<'_>) -> Result<Place, Refusal>
-    ensures { Reads (limits.place tokens.old) result tokens.new }
+pub(crate) fn place(alloc: Global, tokens: &mut Tokens<'_>) -> Result<Place, Refusal>
+    ensures { Reads (limited.place tokens.old) result tokens.new }
 {
     dp_expressions::place(alloc, tokens, EXPRESSION_LEVELS)
 }
@@ -36,7 +36,7 @@ struct ListedExpression {
 }
 
 impl Piece<Expression> for ListedExpression {
-    ghost reads = { λ _. limits.expression };
+    ghost reads = { λ _. limited.expression };
 
     ghost ready = { λ _. ⊤ };
 
@@ -52,7 +52,7 @@ struct ListedPlace {
 }
 
 impl Piece<Place> for ListedPlace {
-    ghost reads = { λ _. limits.place };
+    ghost reads = { λ _. limited.place };
 
     ghost ready = { λ _. ⊤ };
 
@@ -62,34 +62,34 @@ impl Piece<Place> for ListedPlace {
 }
 
 /// One expression or more, and what closes them.
-pub fn some_expressions(
+pub(crate) fn some_expressions(
     alloc: Global,
     tokens: &mut Tokens<'_>,
     close: Sign,
 ) -> Result<Items<Expression>, Refusal>
-    ensures { Reads (lists.plain_items (λ _. limits.expression) close tokens.old) result tokens.new }
+    ensures { Reads (lists.plain_items (λ _. limited.expression) close tokens.old) result tokens.new }
 {
     plain_items(alloc, tokens, close, &ListedExpression { alloc })
 }
 
 /// Any number of expressions, and what closes them.
-pub fn any_expressions(
+pub(crate) fn any_expressions(
     alloc: Global,
     tokens: &mut Tokens<'_>,
     close: Sign,
 ) -> Result<Items<Expression>, Refusal>
-    ensures { Reads (lists.any_plain_items (λ _. limits.expression) close tokens.old) result tokens.new }
+    ensures { Reads (lists.any_plain_items (λ _. limited.expression) close tokens.old) result tokens.new }
 {
     any_plain_items(alloc, tokens, close, &ListedExpression { alloc })
 }
 
 /// One place or more, possibly with a comma behind the last, and what closes them.
-pub fn some_places(
+pub(crate) fn some_places(
     alloc: Global,
     tokens: &mut Tokens<'_>,
     close: Sign,
 ) -> Result<Items<Place>, Refusal>
-    ensures { Reads (lists.some_items (λ _. limits.place) close tokens.old) result tokens.new }
+    ensures { Reads (lists.some_items (λ _. limited.place) close tokens.old) result tokens.new }
 {
     some_items(alloc, tokens, close, &ListedPlace { alloc })
 }

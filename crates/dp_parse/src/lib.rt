@@ -7,6 +7,8 @@ mod branches;
 mod ended;
 mod errors;
 mod files;
+mod grammar;
+mod inside;
 mod judging;
 mod jumps;
 mod levels;
@@ -22,7 +24,4 @@ pub use dp_tree::{
 };
 pub use ended::{Body, Ended, Parts};
 pub use errors::ParseError;
-pub use whole::{one_tree, parse_expression, parse_file};
-
-#[cfg(test)]
-mod tests;
+pub use whole::{expressions_are_told, one_tree, parse_expression, parse_file};

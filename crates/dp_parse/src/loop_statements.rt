@@ -1,21 +1,23 @@
 //! Loops of programs.
 
 ghost use Rattle.std.specs.Prelude.{◌≡◌, suc, ◌<◌, ◌≤◌, ◌^◌};
-ghost use Rattle.dp_rules.specs.Input.{Reads};
-ghost use Rattle.dp_parse.specs.Limits as limits;
-ghost use Rattle.dp_parse.specs.Limits.{within};
-ghost use Rattle.dp_parse.specs.NestedBody.{NestsBody};
-ghost use Rattle.dp_parse.specs.ReadingStatements as spec;
+ghost use Rattle.dp_rules.specs.inner.Input.{Reads};
+ghost use Rattle.dp_parse.specs.inner.Within as limited;
+ghost use Rattle.dp_parse.specs.inner.Within.{within};
+ghost use Rattle.dp_parse.specs.inner.ReadingStatements as spec;
 
 use crate::ended::{Body, Ended};
+use crate::grammar::Statements;
+use crate::inside::Inside;
 use crate::levels::{any_expressions, expression};
-use crate::statements::{Statements, whole};
-use dp_rules::{Refusal, Sign, Tokens, enter};
-use dp_tree::{Binding, Boxed, StatementKind};
+use crate::statements::whole;
+use dp_expressions::both;
+use dp_rules::{Refusal, Sign, Tokens};
+use dp_tree::{Binding, Boxed, Expression, StatementKind};
 use dp_value::Bytes;
 use std::alloc::Global;
 
-#[tactic(auto, unfolding(crate::specs::ReadingStatements::bound_rest))]
+#[tactic(auto, unfolding(crate::specs::inner::ReadingStatements::bound_rest))]
 fn bound_rest(alloc: Global, tokens: &mut Tokens<'_>, first: Bytes) -> Result<Binding, Refusal>
     ensures { Reads (spec.bound_rest first tokens.old) result tokens.new }
 {
@@ -34,7 +36,7 @@ fn bound_rest(alloc: Global, tokens: &mut Tokens<'_>, first: Bytes) -> Result<Bi
 }
 
 /// The variables that a `foreach` binds.
-#[tactic(auto, unfolding(crate::specs::ReadingStatements::bound))]
+#[tactic(auto, unfolding(crate::specs::inner::ReadingStatements::bound))]
 fn bound(alloc: Global, tokens: &mut Tokens<'_>) -> Result<Binding, Refusal>
     ensures { Reads (spec.bound tokens.old) result tokens.new }
 {
@@ -42,61 +44,57 @@ fn bound(alloc: Global, tokens: &mut Tokens<'_>) -> Result<Binding, Refusal>
     bound_rest(alloc, tokens, first)
 }
 
-impl<F: Fn(Global, &mut Tokens<'_>, usize, u32) -> Result<Body, Refusal>> Statements<F> {
+impl<R: Inside> Statements<R> {
     /// The body of a loop.
-    #[tactic(auto, using(crate::proofs::NestedBodies::one_loop_more))]
     fn looped(&self, tokens: &mut Tokens<'_>) -> Result<Body, Refusal>
-        requires nests { NestsBody self.now.level self.now.loops (F.pre self.now.inner) (F.post self.now.inner) }
-        requires some { 0 < self.now.level }
-        ensures { Reads (spec.head_body (limits.body self.now.level (suc self.now.loops)) tokens.old) result tokens.new }
+        requires some { 0 < self.now.0 }
+        ensures { Reads (spec.head_body (limited.body self.now.0 (suc self.now.1)) tokens.old) result tokens.new }
     {
-        self.head_body(tokens, self.loops + 1)
+        self.head_body(tokens, self.one_loop_more())
     }
 
-    #[tactic(auto, unfolding(crate::specs::ReadingStatements::while_rule, crate::specs::ReadingStatements::loop_body))]
-    pub fn while_rule(&self, tokens: &mut Tokens<'_>) -> Result<Ended, Refusal>
-        requires nests { NestsBody self.now.level self.now.loops (F.pre self.now.inner) (F.post self.now.inner) }
-        ensures { Reads (within spec.while_rule self.now.level self.now.loops tokens.old) result tokens.new }
+    #[tactic(auto, unfolding(crate::specs::inner::ReadingStatements::while_rule, crate::specs::inner::ReadingStatements::loop_body))]
+    pub(crate) fn while_rule(&self, tokens: &mut Tokens<'_>) -> Result<Ended, Refusal>
+        ensures { Reads (within spec.while_rule self.now tokens.old) result tokens.new }
     {
-        enter(self.level, tokens)?;
+        self.enter(tokens)?;
         tokens.mark(Sign::While)?;
         let test = self.test(tokens)?;
-        let Body { statement, is_open } = self.looped(tokens)?;
-        let body = Boxed::new(self.alloc, statement)?;
+        let (test, found) = both(test, self.looped(tokens))?;
+        let Body { statement, is_open } = found;
+        let (test, body) = both(test, Boxed::new(self.alloc(), statement))?;
         Ok(Ended {
             kind: StatementKind::While { test, body },
             is_open,
         })
     }
 
-    #[tactic(auto, unfolding(crate::specs::ReadingStatements::do_while))]
-    pub fn do_while(&self, tokens: &mut Tokens<'_>) -> Result<Ended, Refusal>
-        requires nests { NestsBody self.now.level self.now.loops (F.pre self.now.inner) (F.post self.now.inner) }
-        ensures { Reads (within spec.do_while self.now.level self.now.loops tokens.old) result tokens.new }
+    #[tactic(auto, unfolding(crate::specs::inner::ReadingStatements::do_while))]
+    pub(crate) fn do_while(&self, tokens: &mut Tokens<'_>) -> Result<Ended, Refusal>
+        ensures { Reads (within spec.do_while self.now tokens.old) result tokens.new }
     {
-        enter(self.level, tokens)?;
+        self.enter(tokens)?;
         tokens.mark(Sign::Do)?;
         let found = self.looped(tokens)?;
+        let body = Boxed::new(self.alloc(), found.statement)?;
         let line = tokens.mark(Sign::While)?;
         let test = self.test(tokens)?;
-        tokens.mark(Sign::Semicolon)?;
-        let body = Boxed::new(self.alloc, found.statement)?;
+        let (test, _) = both(test, tokens.mark(Sign::Semicolon))?;
         Ok(whole(StatementKind::DoWhile { body, line, test }))
     }
 
-    #[tactic(auto, unfolding(crate::specs::ReadingStatements::for_rule, crate::specs::ReadingStatements::loop_body))]
-    pub fn for_rule(&self, tokens: &mut Tokens<'_>) -> Result<Ended, Refusal>
-        requires nests { NestsBody self.now.level self.now.loops (F.pre self.now.inner) (F.post self.now.inner) }
-        ensures { Reads (within spec.for_rule self.now.level self.now.loops tokens.old) result tokens.new }
+    #[tactic(auto, unfolding(crate::specs::inner::ReadingStatements::for_rule, crate::specs::inner::ReadingStatements::loop_body))]
+    pub(crate) fn for_rule(&self, tokens: &mut Tokens<'_>) -> Result<Ended, Refusal>
+        ensures { Reads (within spec.for_rule self.now tokens.old) result tokens.new }
     {
-        enter(self.level, tokens)?;
+        self.enter(tokens)?;
         tokens.mark(Sign::For)?;
         tokens.mark(Sign::OpenParenthesis)?;
-        let before = any_expressions(self.alloc, tokens, Sign::Semicolon)?;
-        let tests = any_expressions(self.alloc, tokens, Sign::Semicolon)?;
-        let after = any_expressions(self.alloc, tokens, Sign::CloseParenthesis)?;
+        let before = any_expressions(self.alloc(), tokens, Sign::Semicolon)?;
+        let tests = any_expressions(self.alloc(), tokens, Sign::Semicolon)?;
+        let after = any_expressions(self.alloc(), tokens, Sign::CloseParenthesis)?;
         let Body { statement, is_open } = self.looped(tokens)?;
-        let body = Boxed::new(self.alloc, statement)?;
+        let body = Boxed::new(self.alloc(), statement)?;
         Ok(Ended {
             kind: StatementKind::For {
                 before,
@@ -108,20 +106,42 @@ impl<F: Fn(Global, &mut Tokens<'_>, usize, u32) -> Result<Body, Refusal>> Statem
         })
     }
 
-    #[tactic(auto, unfolding(crate::specs::ReadingStatements::foreach, crate::specs::ReadingStatements::loop_body))]
-    pub fn foreach(&self, tokens: &mut Tokens<'_>) -> Result<Ended, Refusal>
-        requires nests { NestsBody self.now.level self.now.loops (F.pre self.now.inner) (F.post self.now.inner) }
-        ensures { Reads (within spec.foreach self.now.level self.now.loops tokens.old) result tokens.new }
+    #[tactic(auto, unfolding(crate::specs::inner::ReadingStatements::foreach))]
+    pub(crate) fn foreach(&self, tokens: &mut Tokens<'_>) -> Result<Ended, Refusal>
+        ensures { Reads (within spec.foreach self.now tokens.old) result tokens.new }
     {
-        enter(self.level, tokens)?;
+        self.enter(tokens)?;
         tokens.mark(Sign::Foreach)?;
         tokens.mark(Sign::OpenParenthesis)?;
-        let subject = expression(self.alloc, tokens)?;
-        tokens.mark(Sign::As)?;
-        let binding = bound(self.alloc, tokens)?;
-        tokens.mark(Sign::CloseParenthesis)?;
-        let Body { statement, is_open } = self.looped(tokens)?;
-        let body = Boxed::new(self.alloc, statement)?;
+        let subject = expression(self.alloc(), tokens)?;
+        self.foreach_bound(tokens, subject)
+    }
+
+    /// A `foreach` behind its subject.
+    fn foreach_bound(&self, tokens: &mut Tokens<'_>, subject: Expression) -> Result<Ended, Refusal>
+        requires { 0 < self.now.0 }
+        ensures { Reads (within spec.foreach_bound self.now subject tokens.old) result tokens.new }
+    {
+        let (subject, _) = both(subject, tokens.mark(Sign::As))?;
+        let (subject, binding) = both(subject, bound(self.alloc(), tokens))?;
+        let (subject, _) = both(subject, tokens.mark(Sign::CloseParenthesis))?;
+        self.foreach_body(tokens, subject, binding)
+    }
+
+    /// A `foreach` behind its head.
+    #[tactic(auto, unfolding(crate::specs::inner::ReadingStatements::loop_body))]
+    fn foreach_body(
+        &self,
+        tokens: &mut Tokens<'_>,
+        subject: Expression,
+        binding: Binding,
+    ) -> Result<Ended, Refusal>
+        requires { 0 < self.now.0 }
+        ensures { Reads (within spec.foreach_body self.now subject binding tokens.old) result tokens.new }
+    {
+        let (subject, found) = both(subject, self.looped(tokens))?;
+        let Body { statement, is_open } = found;
+        let (subject, body) = both(subject, Boxed::new(self.alloc(), statement))?;
         Ok(Ended {
             kind: StatementKind::Foreach {
                 subject,

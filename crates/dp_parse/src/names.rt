@@ -9,7 +9,7 @@ use std::marker::Model;
 
 /// Names that differ, in the order in which they came. A name is looked up by its hash.
 #[derive(Debug, Drop)]
-pub struct Names {
+pub(crate) struct Names {
     names: IndexSet<Bytes>,
 }
 
@@ -22,7 +22,7 @@ impl Model for Names {
 }
 
 impl Names {
-    pub fn new(alloc: Global) -> Names
+    pub(crate) fn new(alloc: Global) -> Names
         ensures { result ≡ [] }
     {
         Names {
@@ -32,7 +32,7 @@ impl Names {
 
     /// Puts a name behind the others, where it is none of them. Says whether it did.
     #[tactic(auto, using(crate::proofs::NameLemmas::named, crate::proofs::NameLemmas::added_names))]
-    pub fn add(&mut self, name: Bytes) -> Result<bool, Memory>
+    pub(crate) fn add(&mut self, name: Bytes) -> Result<bool, Memory>
         ensures new { IfOk result (λ added. added ≡ not (list_any (λ other. bytes_eq other name) self.old)) }
         ensures names { IfOk result (λ added. self.new ≡ (if added then self.old ++ name ∷ [] else self.old)) }
     {
@@ -40,7 +40,7 @@ impl Names {
     }
 
     /// The names.
-    pub fn into_items(self, alloc: Global) -> Result<Items<Bytes>, Memory>
+    pub(crate) fn into_items(self, alloc: Global) -> Result<Items<Bytes>, Memory>
         ensures { IfOk result (λ items. items ≡ self) }
     {
         let names: Vec<Bytes> = self.names.into_iter().collect(alloc)?;

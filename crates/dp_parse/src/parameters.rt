@@ -1,9 +1,9 @@
 //! The parameters of functions.
 
 ghost use Rattle.std.specs.Prelude.{◌≡◌, ◌++◌, ◌∷◌, []};
-ghost use Rattle.dp_rules.specs.Input.{Reads, closed, made};
-ghost use Rattle.dp_parse.specs.Parameters as spec;
-ghost use Rattle.dp_rules.specs.ReadingLists as lists;
+ghost use Rattle.dp_rules.specs.inner.Input.{Reads, closed, made};
+ghost use Rattle.dp_parse.specs.inner.Parameters as spec;
+ghost use Rattle.dp_rules.specs.inner.ReadingLists as lists;
 
 use crate::names::Names;
 use dp_rules::{Refusal, Sign, Tokens};
@@ -68,7 +68,7 @@ fn comma_turns(alloc: Global, tokens: &mut Tokens<'_>, first: Names) -> Result<N
     Err(tokens.refuse())
 }
 
-#[tactic(auto, unfolding(dp_rules::specs::ReadingLists::some_items))]
+#[tactic(auto, unfolding(dp_rules::specs::inner::ReadingLists::some_items))]
 fn some_parameters(alloc: Global, tokens: &mut Tokens<'_>) -> Result<Names, Refusal>
     ensures { Reads (lists.some_items spec.checked Sign.CloseParenthesis tokens.old) result tokens.new }
 {
@@ -76,7 +76,7 @@ fn some_parameters(alloc: Global, tokens: &mut Tokens<'_>) -> Result<Names, Refu
     comma_turns(alloc, tokens, first)
 }
 
-#[tactic(auto, unfolding(dp_rules::specs::ReadingLists::any_items))]
+#[tactic(auto, unfolding(dp_rules::specs::inner::ReadingLists::any_items))]
 fn checked_parameters(alloc: Global, tokens: &mut Tokens<'_>) -> Result<Items<Bytes>, Refusal>
     ensures { Reads (lists.any_items spec.checked Sign.CloseParenthesis tokens.old) result tokens.new }
 {
@@ -90,7 +90,7 @@ fn checked_parameters(alloc: Global, tokens: &mut Tokens<'_>) -> Result<Items<By
 
 /// The parameters of a function behind its `(`, and the `)`.
 #[tactic(auto, using(crate::proofs::ParameterLemmas::parameters_are))]
-pub fn parameters(alloc: Global, tokens: &mut Tokens<'_>) -> Result<Items<Bytes>, Refusal>
+pub(crate) fn parameters(alloc: Global, tokens: &mut Tokens<'_>) -> Result<Items<Bytes>, Refusal>
     ensures { Reads (lists.any_items spec.parameter Sign.CloseParenthesis tokens.old) result tokens.new }
 {
     checked_parameters(alloc, tokens)

@@ -1,36 +1,27 @@
-//! Statements. Each rule is told what reads the body of a statement one level down, so that it is proved by itself.
+//! Statements.
 
 ghost use Rattle.std.specs.Prelude.{◌≡◌, ◌+◌, ◌<◌, ◌≤◌, ◌^◌};
-ghost use Rattle.dp_rules.specs.Input.{Reads};
+ghost use Rattle.dp_rules.specs.inner.Input.{Reads};
 ghost use Rattle.dp_parse.specs.Limits as limits;
-ghost use Rattle.dp_parse.specs.Limits.{within};
-ghost use Rattle.dp_parse.specs.NestedBody.{NestsBody};
-ghost use Rattle.dp_parse.specs.ReadingStatements as spec;
+ghost use Rattle.dp_parse.specs.inner.Within as limited;
+ghost use Rattle.dp_parse.specs.inner.Within.{within};
+ghost use Rattle.dp_parse.specs.inner.ReadingStatements as spec;
 ghost use Rattle.dp_parse.specs.Statements as grammar;
 
 use crate::ended::{Body, Ended};
+use crate::grammar::Statements;
+use crate::inside::{Called, Inside};
 use crate::jumps::global_rule;
 use crate::levels::{expression, some_expressions};
-use dp_rules::{Refusal, Sign, Tokens, enter, none, with};
+use dp_expressions::both;
+use dp_rules::{Refusal, Sign, Tokens, none, with};
 use dp_tree::{Statement, StatementKind};
 use dp_value::Items;
 use std::alloc::Global;
 use std::ops::ControlFlow;
 
-/// What reads statements.
-#[derive(Clone, Copy)]
-pub struct Statements<F> {
-    pub alloc: Global,
-    /// How many levels of bodies are left.
-    pub level: usize,
-    /// In how many loops the statements stand.
-    pub loops: u32,
-    /// Reads a body with so many levels left, in so many loops.
-    pub inner: F,
-}
-
 /// A statement with its end: no `else` belongs to it.
-pub fn whole(kind: StatementKind) -> Ended
+pub(crate) fn whole(kind: StatementKind) -> Ended
     ensures { result ≡ grammar.whole kind }
 {
     Ended {
@@ -50,7 +41,7 @@ fn stated(line: u32, ended: Ended) -> Body
     }
 }
 
-#[tactic(auto, unfolding(crate::specs::ReadingStatements::empty))]
+#[tactic(auto, unfolding(crate::specs::inner::ReadingStatements::empty))]
 fn empty(tokens: &mut Tokens<'_>) -> Result<Ended, Refusal>
     ensures { Reads (spec.empty tokens.old) result tokens.new }
 {
@@ -58,27 +49,16 @@ fn empty(tokens: &mut Tokens<'_>) -> Result<Ended, Refusal>
     Ok(whole(StatementKind::Empty))
 }
 
-impl<F: Fn(Global, &mut Tokens<'_>, usize, u32) -> Result<Body, Refusal>> Statements<F> {
-    /// A body one level down, in so many loops.
-    pub fn body(&self, tokens: &mut Tokens<'_>, loops: u32) -> Result<Body, Refusal>
-        requires nests { NestsBody self.now.level self.now.loops (F.pre self.now.inner) (F.post self.now.inner) }
-        requires some { 0 < self.now.level }
-        requires near { loops ≤ self.now.loops + 1 }
-        ensures { Reads (limits.body self.now.level loops tokens.old) result tokens.new }
-    {
-        (self.inner)(self.alloc, tokens, self.level - 1, loops)
-    }
-
+impl<R: Inside> Statements<R> {
     fn bodies_step(
         &self,
         tokens: &mut Tokens<'_>,
         loops: u32,
         all: Items<Statement>,
     ) -> Result<ControlFlow<Items<Statement>, Items<Statement>>, Refusal>
-        requires nests { NestsBody self.now.level self.now.loops (F.pre self.now.inner) (F.post self.now.inner) }
-        requires some { 0 < self.now.level }
-        requires near { loops ≤ self.now.loops + 1 }
-        ensures { Reads (spec.bodies_step (limits.body self.now.level loops) all tokens.old) result tokens.new }
+        requires some { 0 < self.now.0 }
+        requires near { loops ≤ self.now.1 + 1 }
+        ensures { Reads (spec.bodies_step (limited.body self.now.0 loops) all tokens.old) result tokens.new }
     {
         if tokens.sees(Sign::CloseBrace) {
             tokens.mark(Sign::CloseBrace)?;
@@ -89,14 +69,17 @@ impl<F: Fn(Global, &mut Tokens<'_>, usize, u32) -> Result<Body, Refusal>> Statem
     }
 
     /// Statements in so many loops, up to the closing brace.
-    #[tactic(auto, unfolding(crate::specs::ReadingStatements::bodies))]
-    pub fn bodies(&self, tokens: &mut Tokens<'_>, loops: u32) -> Result<Items<Statement>, Refusal>
-        requires nests { NestsBody self.now.level self.now.loops (F.pre self.now.inner) (F.post self.now.inner) }
-        requires some { 0 < self.now.level }
-        requires near { loops ≤ self.now.loops + 1 }
-        ensures { Reads (spec.bodies (limits.body self.now.level loops) tokens.old) result tokens.new }
+    #[tactic(auto, unfolding(crate::specs::inner::ReadingStatements::bodies))]
+    pub(crate) fn bodies(
+        &self,
+        tokens: &mut Tokens<'_>,
+        loops: u32,
+    ) -> Result<Items<Statement>, Refusal>
+        requires some { 0 < self.now.0 }
+        requires near { loops ≤ self.now.1 + 1 }
+        ensures { Reads (spec.bodies (limited.body self.now.0 loops) tokens.old) result tokens.new }
     {
-        let mut state = none(self.alloc);
+        let mut state = none(self.alloc());
         for _turn in 0..tokens.left() + 1 {
             match self.bodies_step(tokens, loops, state)? {
                 ControlFlow::Continue(more) => state = more,
@@ -107,12 +90,11 @@ impl<F: Fn(Global, &mut Tokens<'_>, usize, u32) -> Result<Body, Refusal>> Statem
     }
 
     /// Statements in braces, in so many loops.
-    #[tactic(auto, unfolding(crate::specs::ReadingStatements::braced))]
+    #[tactic(auto, unfolding(crate::specs::inner::ReadingStatements::braced))]
     fn braced(&self, tokens: &mut Tokens<'_>, loops: u32) -> Result<Ended, Refusal>
-        requires nests { NestsBody self.now.level self.now.loops (F.pre self.now.inner) (F.post self.now.inner) }
-        requires some { 0 < self.now.level }
-        requires near { loops ≤ self.now.loops + 1 }
-        ensures { Reads (spec.braced (limits.body self.now.level loops) tokens.old) result tokens.new }
+        requires some { 0 < self.now.0 }
+        requires near { loops ≤ self.now.1 + 1 }
+        ensures { Reads (spec.braced (limited.body self.now.0 loops) tokens.old) result tokens.new }
     {
         tokens.mark(Sign::OpenBrace)?;
         let all = self.bodies(tokens, loops)?;
@@ -120,12 +102,11 @@ impl<F: Fn(Global, &mut Tokens<'_>, usize, u32) -> Result<Body, Refusal>> Statem
     }
 
     /// The body of a head, in so many loops. Its braces are no block of their own.
-    #[tactic(auto, unfolding(crate::specs::ReadingStatements::head_body, crate::specs::ReadingStatements::on_its_line))]
-    pub fn head_body(&self, tokens: &mut Tokens<'_>, loops: u32) -> Result<Body, Refusal>
-        requires nests { NestsBody self.now.level self.now.loops (F.pre self.now.inner) (F.post self.now.inner) }
-        requires some { 0 < self.now.level }
-        requires near { loops ≤ self.now.loops + 1 }
-        ensures { Reads (spec.head_body (limits.body self.now.level loops) tokens.old) result tokens.new }
+    #[tactic(auto, unfolding(crate::specs::inner::ReadingStatements::head_body, crate::specs::inner::ReadingStatements::on_its_line))]
+    pub(crate) fn head_body(&self, tokens: &mut Tokens<'_>, loops: u32) -> Result<Body, Refusal>
+        requires some { 0 < self.now.0 }
+        requires near { loops ≤ self.now.1 + 1 }
+        ensures { Reads (spec.head_body (limited.body self.now.0 loops) tokens.old) result tokens.new }
     {
         if tokens.sees(Sign::OpenBrace) {
             let line = tokens.line();
@@ -134,37 +115,35 @@ impl<F: Fn(Global, &mut Tokens<'_>, usize, u32) -> Result<Body, Refusal>> Statem
         self.body(tokens, loops)
     }
 
-    #[tactic(auto, unfolding(crate::specs::ReadingStatements::perform))]
+    #[tactic(auto, unfolding(crate::specs::inner::ReadingStatements::perform))]
     fn perform(&self, tokens: &mut Tokens<'_>) -> Result<Ended, Refusal>
-        ensures { Reads (within spec.perform self.now.level self.now.loops tokens.old) result tokens.new }
+        ensures { Reads (within spec.perform self.now tokens.old) result tokens.new }
     {
-        let value = expression(self.alloc, tokens)?;
-        tokens.mark(Sign::Semicolon)?;
+        let value = expression(self.alloc(), tokens)?;
+        let (value, _) = both(value, tokens.mark(Sign::Semicolon))?;
         Ok(whole(StatementKind::Expression(value)))
     }
 
-    #[tactic(auto, unfolding(crate::specs::ReadingStatements::echo))]
+    #[tactic(auto, unfolding(crate::specs::inner::ReadingStatements::echo))]
     fn echo(&self, tokens: &mut Tokens<'_>) -> Result<Ended, Refusal>
-        ensures { Reads (within spec.echo self.now.level self.now.loops tokens.old) result tokens.new }
+        ensures { Reads (within spec.echo self.now tokens.old) result tokens.new }
     {
         tokens.mark(Sign::Echo)?;
-        let values = some_expressions(self.alloc, tokens, Sign::Semicolon)?;
+        let values = some_expressions(self.alloc(), tokens, Sign::Semicolon)?;
         Ok(whole(StatementKind::Echo(values)))
     }
 
-    #[tactic(auto, unfolding(crate::specs::ReadingStatements::block))]
+    #[tactic(auto, unfolding(crate::specs::inner::ReadingStatements::block))]
     fn block(&self, tokens: &mut Tokens<'_>) -> Result<Ended, Refusal>
-        requires nests { NestsBody self.now.level self.now.loops (F.pre self.now.inner) (F.post self.now.inner) }
-        ensures { Reads (within spec.block self.now.level self.now.loops tokens.old) result tokens.new }
+        ensures { Reads (within spec.block self.now tokens.old) result tokens.new }
     {
-        enter(self.level, tokens)?;
-        self.braced(tokens, self.loops)
+        self.enter(tokens)?;
+        self.braced(tokens, self.loops())
     }
 
-    #[tactic(auto, unfolding(crate::specs::ReadingStatements::any_statement, crate::specs::ReadingStatements::by_keyword))]
+    #[tactic(auto, unfolding(crate::specs::inner::ReadingStatements::any_statement, crate::specs::inner::ReadingStatements::by_keyword))]
     fn any_statement(&self, tokens: &mut Tokens<'_>) -> Result<Ended, Refusal>
-        requires nests { NestsBody self.now.level self.now.loops (F.pre self.now.inner) (F.post self.now.inner) }
-        ensures { Reads (within spec.any_statement self.now.level self.now.loops tokens.old) result tokens.new }
+        ensures { Reads (within spec.any_statement self.now tokens.old) result tokens.new }
     {
         match tokens.peek() {
             Sign::Echo => self.echo(tokens),
@@ -178,7 +157,7 @@ impl<F: Fn(Global, &mut Tokens<'_>, usize, u32) -> Result<Body, Refusal>> Statem
             Sign::Break => self.break_rule(tokens),
             Sign::Continue => self.continue_rule(tokens),
             Sign::Return => self.return_rule(tokens),
-            Sign::Global => global_rule(self.alloc, tokens),
+            Sign::Global => global_rule(self.alloc(), tokens),
             Sign::Unset => self.unset(tokens),
             Sign::Exit | Sign::Die => self.exit(tokens),
             _ => self.perform(tokens),
@@ -186,19 +165,48 @@ impl<F: Fn(Global, &mut Tokens<'_>, usize, u32) -> Result<Body, Refusal>> Statem
     }
 
     /// A statement with the line of its first token.
-    #[tactic(auto, unfolding(crate::specs::ReadingStatements::on_its_line))]
+    #[tactic(auto, unfolding(crate::specs::inner::ReadingStatements::on_its_line))]
     fn on_its_line(&self, tokens: &mut Tokens<'_>) -> Result<Body, Refusal>
-        requires nests { NestsBody self.now.level self.now.loops (F.pre self.now.inner) (F.post self.now.inner) }
-        ensures { Reads (spec.on_its_line (within spec.any_statement self.now.level self.now.loops) tokens.old) result tokens.new }
+        ensures { Reads (spec.on_its_line (within spec.any_statement self.now) tokens.old) result tokens.new }
     {
         let line = tokens.line();
         Ok(stated(line, self.any_statement(tokens)?))
     }
 }
 
+/// A statement, where this reads one level down.
+#[tactic(auto, unfolding(crate::specs::inner::ReadingStatements::statement))]
+pub(crate) fn statement_over<R: Inside + Drop>(
+    alloc: Global,
+    tokens: &mut Tokens<'_>,
+    level: usize,
+    loops: u32,
+    inner: R,
+) -> Result<Body, Refusal>
+    requires few { loops + level < 2 ^ 32 }
+    requires ready { R.ready inner level loops }
+    ensures { Reads (spec.statement limits.expression_levels level loops tokens.old) result tokens.new }
+{
+    Statements::new(alloc, level, loops, inner).on_its_line(tokens)
+}
+
+/// Statements up to the closing brace, outside of loops, where this reads them.
+pub(crate) fn bodies_over<R: Inside + Drop>(
+    alloc: Global,
+    tokens: &mut Tokens<'_>,
+    level: usize,
+    inner: R,
+) -> Result<Items<Statement>, Refusal>
+    requires some { 0 < level }
+    requires few { level < 2 ^ 32 }
+    requires ready { R.ready inner level 0 }
+    ensures { Reads (spec.bodies (limited.body level 0) tokens.old) result tokens.new }
+{
+    Statements::new(alloc, level, 0, inner).bodies(tokens, 0)
+}
+
 /// A statement with so many levels of bodies left, in so many loops.
-#[tactic(auto, unfolding(crate::specs::ReadingStatements::statement))]
-pub fn statement(
+pub(crate) fn statement(
     alloc: Global,
     tokens: &mut Tokens<'_>,
     level: usize,
@@ -207,11 +215,13 @@ pub fn statement(
     requires few { loops + level < 2 ^ 32 }
     ensures { Reads (spec.statement limits.expression_levels level loops tokens.old) result tokens.new }
 {
-    Statements {
+    statement_over(
         alloc,
+        tokens,
         level,
         loops,
-        inner: statement,
-    }
-    .on_its_line(tokens)
+        Called {
+            function: statement,
+        },
+    )
 }

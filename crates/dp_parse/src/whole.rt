@@ -6,6 +6,7 @@ ghost use Rattle.dp_parse.specs.declared.ended.Parts.{Parts};
 ghost use Rattle.dp_parse.specs.declared.errors.ParseError.{ParseError};
 ghost use Rattle.dp_tree.specs.declared.tree.Expression.{Expression};
 ghost use Rattle.dp_tree.specs.declared.tree.File.{File};
+ghost use Rattle.dp_parse.specs.ExpressionIn.{expression_in, Told, Tells};
 ghost use Rattle.dp_parse.specs.Statements.{Depth, Spells, SpellsExpression};
 ghost use Rattle.dp_parse.specs.Programs.{without_tokens, IsFile, IsNoFile, IsExpressionText, IsNoExpression};
 
@@ -72,6 +73,8 @@ pub fn parse_expression(alloc: Global, bytes: &[u8]) -> Result<Expression, Parse
     ensures cause { IfErr result (λ e. IsNoExpression bytes.now e) }
     ensures refuses { (why : ParseError) → why ≢ ParseError.Memory → IsNoExpression bytes.now why →
         MatchResult result (λ _. ⊥) (λ e. (e ≡ why) ⊎ (e ≡ ParseError.Memory)) }
+    // The same, where the tree is told as a function of the bytes.
+    ensures told { Told (expression_in bytes.now) result }
 {
     let tokens = match lex_expression(alloc, bytes) {
         Ok(tokens) => tokens,
@@ -85,4 +88,9 @@ pub fn one_tree()
     ensures files { (l m : Depth) (ts : List Token) (a b : Parts) → Spells l ts a → Spells m ts b → a ≡ b }
     ensures expressions { (l m : ℕ) (ts : List Token) (a b : Expression) →
         SpellsExpression l ts a → SpellsExpression m ts b → a ≡ b }
+{}
+
+/// The tree of an expression is a function of its bytes.
+pub fn expressions_are_told()
+    ensures { Tells expression_in }
 {}

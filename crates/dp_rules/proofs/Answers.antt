@@ -11,7 +11,7 @@ use Rattle.dp_rules.specs.declared.sign.Sign.TheVariants as sign
 use Rattle.dp_rules.specs.declared.refusal.Refusal.TheVariants.{Unexpected, TooDeep, Memory}
 use Rattle.dp_rules.specs.Signs.{sign_of, same_sign, is, head}
 use Rattle.dp_rules.specs.Lines.{line_of}
-use Rattle.dp_rules.specs.Input.{Outcome, Reader, and_then, gives, met, one, enter}
+use Rattle.dp_rules.specs.inner.Input.{Outcome, Reader, and_then, gives, met, one, enter}
 use Rattle.dp_rules.specs.Rules.{Rule, Joined, ◌or◌, Gives, Made, One, line_at, Mark, When, Nests, Without, OnLine, Closed, Many, Perhaps, Step}
 use Rattle.dp_rules.proofs.Signs.{or_left, or_right, line_back}
 

@@ -7,3 +7,4 @@ pub mod More
 pub mod Taking
 pub mod Turns
 pub mod Verdicts
+pub mod OneToken

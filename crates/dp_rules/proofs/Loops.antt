@@ -5,9 +5,9 @@ use Rattle.std.proofs.Common.{◌≡◌, inl, inr, ℕ, zero, suc, ◌<◌, Bool
 use Rattle.dp_lexer.specs.declared.token.Token.{Token}
 use Rattle.dp_rules.specs.declared.sign.Sign.{Sign}
 use Rattle.dp_rules.specs.Signs.{sign_of, head}
-use Rattle.dp_rules.specs.Input.{Outcome, Reader, and_then, gives, made, until, next_of}
+use Rattle.dp_rules.specs.inner.Input.{Outcome, Reader, and_then, gives, made, until, next_of}
 use Rattle.dp_rules.specs.Rules.{Gives, Chain, Step}
-use Rattle.dp_rules.specs.ReadingLists.{many_step, many}
+use Rattle.dp_rules.specs.inner.ReadingLists.{many_step, many}
 use Rattle.dp_rules.proofs.Signs.{or_left, or_right}
 use Rattle.dp_rules.proofs.Answers.{Rules, Stop, JoinedAt, GivesAt, MadeAt, ClosedAt, StepAt, ManyAt, IsRead, Answers, Follows, Can, GoesOn, StartsIn, Apart, give, given, begun, made_starts, gives_follow, gives_apart, made_apart, starts_in_more, joined_answers, made_answers, gives_answers, equal_answers, either_answers, either_answers_back}
 

@@ -8,7 +8,7 @@ use Rattle.dp_lexer.specs.Keywords.{is_reserved}
 use Rattle.dp_rules.specs.declared.sign.Sign.{Sign}
 use Rattle.dp_rules.specs.declared.sign.Sign.TheVariants as sign
 use Rattle.dp_rules.specs.Signs.{sign_of, is, is_superglobal, head}
-use Rattle.dp_rules.specs.Input.{Outcome, Reader, ◌>>=◌, ◌>>◌, one, enter}
+use Rattle.dp_rules.specs.inner.Input.{Outcome, Reader, ◌>>=◌, ◌>>◌, one, enter}
 use Rattle.dp_rules.specs.Rules.{One, Nests}
 use Rattle.dp_rules.specs.Worths.{Text, unless, variable_in, name_in, number_in, text_in, by_sign, by_kind}
 use Rattle.dp_rules.proofs.Signs.{all_signs, first_of, excluded}

@@ -7,7 +7,7 @@ use Rattle.dp_rules.specs.declared.sign.Sign.{Sign}
 use Rattle.dp_rules.specs.declared.sign.Sign.TheVariants as sign
 use Rattle.dp_rules.specs.Signs.{sign_of, same_sign, is, head}
 use Rattle.dp_rules.specs.Lines.{line_of}
-use Rattle.dp_rules.specs.Input.{Reader, made, one, mark, closed, ◌>>=◌}
+use Rattle.dp_rules.specs.inner.Input.{Reader, made, one, mark, closed, ◌>>=◌}
 use Rattle.dp_rules.specs.Rules.{Rule, Joined, Mark}
 use Rattle.dp_rules.proofs.Signs.{mark_passes, mark_of, mark_token, first_of}
 use Rattle.dp_rules.proofs.Answers.{Rules, Stop, Anything, JoinedAt, EitherAt, MarkAt, MadeAt, PerhapsAt, OnLineAt, ClosedAt, StepAt, Opens, Answers, Follows, GoesOn, StartsIn, Apart, give, mark_starts, made_starts, starts_follow, anything_follows, mark_answers, joined_answers, made_answers, equal_answers, stricter_answers, either_answers, either_answers_back, perhaps_answers, online_answers}

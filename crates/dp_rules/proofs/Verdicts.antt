@@ -3,7 +3,7 @@ use Rattle.std.proofs.Common.{◌≡◌, inl, inr, ℕ, zero, suc, ◌+◌, ◌-
 use Rattle.dp_lexer.specs.declared.token.Token.{Token}
 use Rattle.dp_rules.specs.declared.refusal.Refusal.TheVariants.{Unexpected, TooDeep, Memory}
 use Rattle.dp_rules.specs.declared.sign.Sign.TheVariants as sign
-use Rattle.dp_rules.specs.Input.{Outcome, Reader}
+use Rattle.dp_rules.specs.inner.Input.{Outcome, Reader}
 use Rattle.dp_rules.specs.Refused.{IsViable, IsDeadAt, IsUnexpected, IsTooDeep}
 use Rattle.dp_rules.proofs.Answers.{Rules, Stop, Begins, IsRead, IsRefused, Agrees, Answers}
 

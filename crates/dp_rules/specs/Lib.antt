@@ -2,7 +2,7 @@ pub mod Signs
 pub mod Lines
 pub mod Rules
 pub mod Worths
-pub mod Input
 pub mod Lists
-pub mod ReadingLists
 pub mod Refused
+pub mod Exact
+pub mod inner

@@ -12,7 +12,8 @@ module _ {L A : Type 0} (rule : L → Rule A) where
   abbrev pub IsSpelled : L → List Token → Type 0
   IsSpelled depth ts = (a : A) × rule depth ts a
 
-  -- The tokens up to and with this one begin nothing that is spelled; at their number, they are not spelled themselves.
+  -- The tokens up to and with this one begin nothing that is spelled; at their number, they are not
+  -- spelled themselves.
   pub record IsDeadAt (depth : L) (ts : List Token) (token : ℕ) : Type 0 where
     pub here : token < length ts → IsViable depth (take (token + 1) ts) → ⊥
     pub end : token ≡ length ts → IsSpelled depth ts → ⊥
@@ -23,7 +24,8 @@ module _ {L A : Type 0} (rule : L → Rule A) where
     pub before : IsViable limits (take token ts)
     pub dead : (depth : L) → IsDeadAt depth ts token
 
-  -- the first token with which nothing is spelled within the limits of nesting, but something beyond them
+  -- the first token with which nothing is spelled within the limits of nesting, but something is
+  -- beyond them
   pub record IsTooDeep (limits : L) (ts : List Token) (token : ℕ) : Type 0 where
     pub within : token < length ts
     pub before : IsViable limits (take token ts)

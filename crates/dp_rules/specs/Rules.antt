@@ -10,7 +10,8 @@ abbrev pub Rule : Type 0 → Type 1
 Rule A = List Token → A → Type 0
 
 -- one after the other, where the second may depend on the value of the first
-pub record Joined {A B : Type 0} (first : Rule A) (second : A → Rule B) (text : List Token) (b : B) : Type 0 where
+pub record Joined {A B : Type 0} (first : Rule A) (second : A → Rule B) (text : List Token) (b : B)
+    : Type 0 where
   pub front : List Token
   pub back : List Token
   pub value : A
@@ -55,7 +56,8 @@ abbrev pub Mark : Sign → Rule ℕ
 Mark s = One (line_at s)
 
 -- the rule where the condition holds, else nothing
-pub record When {A : Type 0} (condition : Bool) (rule : Rule A) (text : List Token) (a : A) : Type 0 where
+pub record When {A : Type 0} (condition : Bool) (rule : Rule A) (text : List Token) (a : A)
+    : Type 0 where
   pub holds : condition ≡ true
   pub spelled : rule text a
 
@@ -65,7 +67,8 @@ pub record Nests {A : Type 0} (level : ℕ) (rule : Rule A) (text : List Token) 
   pub spelled : rule text a
 
 -- the rule, where its first token is of another sort
-pub record Without {A : Type 0} (s : Sign) (rule : Rule A) (text : List Token) (a : A) : Type 0 where
+pub record Without {A : Type 0} (s : Sign) (rule : Rule A) (text : List Token) (a : A)
+    : Type 0 where
   pub apart : same_sign (head text) s ≡ false
   pub spelled : rule text a
 
@@ -82,7 +85,8 @@ Chain piece end zero a = end a
 Chain piece end (suc count) a = Joined (piece a) (Chain piece end count)
 
 -- any number of pieces, each from the value of the last, and then an end
-pub record Closed {A B : Type 0} (piece : A → Rule A) (end : A → Rule B) (a : A) (text : List Token) (b : B) : Type 0 where
+pub record Closed {A B : Type 0} (piece : A → Rule A) (end : A → Rule B) (a : A) (text : List Token)
+    (b : B) : Type 0 where
   pub count : ℕ
   pub chain : Chain piece end count a text b
 

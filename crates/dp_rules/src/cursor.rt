@@ -1,8 +1,8 @@
 //! A cursor over tokens.
 
 ghost use Rattle.std.specs.Prelude.{◌≡◌, ◌^◌, ◌<◌, length, OnOk};
-ghost use Rattle.dp_rules.specs.Input as input;
-ghost use Rattle.dp_rules.specs.Input.{Reads, ReadsSlice};
+ghost use Rattle.dp_rules.specs.inner.Input as input;
+ghost use Rattle.dp_rules.specs.inner.Input.{Reads, ReadsSlice, Surely};
 ghost use Rattle.dp_rules.specs.Lines.{line_of};
 ghost use Rattle.dp_rules.specs.Signs as signs;
 ghost use Rattle.dp_rules.specs.Signs.{head};
@@ -88,7 +88,8 @@ impl<'a> Tokens<'a> {
 
     /// A number from 1 to this one.
     pub fn number_up_to(&mut self, most: u32) -> Result<u32, Refusal>
-        ensures { Reads (input.kind (worths.number_up_to most) self.old) result self.new }
+        ensures reads { Reads (input.kind (worths.number_up_to most) self.old) result self.new }
+        ensures surely { Surely (input.kind (worths.number_up_to most) self.old) result }
     {
         match self.rest {
             [first, rest @ ..] => match &first.kind {
@@ -111,7 +112,8 @@ impl<'a> Tokens<'a> {
 
     /// A token of this sort, for its line.
     pub fn mark(&mut self, sign: Sign) -> Result<u32, Refusal>
-        ensures { Reads (input.mark sign self.old) result self.new }
+        ensures reads { Reads (input.mark sign self.old) result self.new }
+        ensures surely { Surely (input.mark sign self.old) result }
     {
         match self.rest {
             [first, rest @ ..] if same_sign(self.next, sign) => {
@@ -123,9 +125,10 @@ impl<'a> Tokens<'a> {
     }
 
     /// A variable that a program may name, by its name, without a copy.
-    #[tactic(auto, unfolding(crate::specs::Input::variable))]
+    #[tactic(auto, unfolding(crate::specs::inner::Input::variable))]
     pub fn variable_name(&mut self) -> Result<&'a [u8], Refusal>
-        ensures { ReadsSlice (input.variable self.old) result self.new }
+        ensures reads { ReadsSlice (input.variable self.old) result self.new }
+        ensures surely { Surely (input.variable self.old) result }
     {
         match self.rest {
             [first, rest @ ..] => match &first.kind {
@@ -165,7 +168,8 @@ impl<'a> Tokens<'a> {
 
     /// A number.
     pub fn number(&mut self) -> Result<i64, Refusal>
-        ensures { Reads (input.kind worths.number_in self.old) result self.new }
+        ensures reads { Reads (input.kind worths.number_in self.old) result self.new }
+        ensures surely { Surely (input.kind worths.number_in self.old) result }
     {
         match self.rest {
             [first, rest @ ..] => match &first.kind {
@@ -197,7 +201,8 @@ impl<'a> Tokens<'a> {
 
     /// The next token, where it was found to be worth this.
     pub fn take<T: Drop>(&mut self, found: Option<T>) -> Result<T, Refusal>
-        ensures { Reads (input.taken found self.old) result self.new }
+        ensures reads { Reads (input.taken found self.old) result self.new }
+        ensures surely { Surely (input.taken found self.old) result }
     {
         match self.rest {
             [_, rest @ ..] => match found {
@@ -215,6 +220,7 @@ impl<'a> Tokens<'a> {
 /// Ensures that a level of nesting is left: else the refusal that names the next token.
 pub fn enter(level: usize, tokens: &Tokens<'_>) -> Result<(), Refusal>
     ensures reads { Reads (input.enter level tokens.now) result tokens.now }
+    ensures surely { Surely (input.enter level tokens.now) result }
     ensures some { OnOk result (0 < level) }
 {
     if level == 0 {

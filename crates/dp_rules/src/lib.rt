@@ -4,11 +4,13 @@
 #![tactic(auto)]
 
 mod cursor;
+mod laws;
 mod lists;
 mod refusal;
 mod sign;
 
 pub use cursor::{Tokens, enter};
+pub use laws::one_token_is_read;
 pub use lists::{Piece, any_items, any_plain_items, many, none, plain_items, some_items, with};
 pub use refusal::Refusal;
 pub use sign::Sign;

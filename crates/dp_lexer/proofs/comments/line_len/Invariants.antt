@@ -1,10 +1,9 @@
-use Rattle.std.proofs.Common.{◌≡◌, ◌+◌, ◌-◌, ◌≤◌, length, drop}
-use Rattle.std.specs.List.{prefix_len}
-use Rattle.dp_lexer.specs.Bytes.{is_in_line}
+use Rattle.std.proofs.Common.{◌≡◌, ◌+◌, length}
+use Rattle.dp_lexer.specs.inner.Lexing.{line_len}
 use Rattle.dp_lexer.proofs.comments.line_len.Given as goal
 
-abbrev pub invariant-loop-n : goal.invariant-loop-n
-invariant-loop-n l = (l.n + prefix_len is_in_line (drop l.n l.z) ≡ prefix_len is_in_line l.z) × (l.n ≤ length l.z)
+abbrev pub invariant-loop-rest : goal.invariant-loop-rest
+invariant-loop-rest l = (l.n + line_len l.rest ≡ line_len l.z) × (l.n + length l.rest ≡ length l.z)
 
-abbrev pub decreases-loop-n : goal.decreases-loop-n
-decreases-loop-n l = length l.z - l.n
+abbrev pub decreases-loop-rest : goal.decreases-loop-rest
+decreases-loop-rest l = length l.rest

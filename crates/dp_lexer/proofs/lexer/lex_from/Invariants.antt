@@ -1,5 +1,5 @@
 use Rattle.std.proofs.Common.{length}
-use Rattle.dp_lexer.specs.Lexed.{IsLexed}
+use Rattle.dp_lexer.specs.inner.Lexed.{IsLexed}
 use Rattle.dp_lexer.proofs.lexer.lex_from.Given as goal
 
 abbrev pub invariant-loop-rest : goal.invariant-loop-rest

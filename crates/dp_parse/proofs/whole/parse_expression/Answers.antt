@@ -6,6 +6,7 @@ use Rattle.dp_parse.specs.declared.errors.ParseError.TheVariants as error
 use Rattle.dp_parse.specs.Programs.{without_tokens, AreWrong, IsNoExpression}
 use Rattle.dp_parse.specs.Limits.{limits}
 use Rattle.dp_parse.specs.Statements.{SpellsExpression}
+use Rattle.dp_parse.proofs.ExpressionLaws.{none_told, told_by}
 use Rattle.dp_parse.proofs.Reasons.{lexical_refuses}
 use Rattle.dp_parse.proofs.whole.parse_expression.Goals as goal
 
@@ -41,3 +42,10 @@ returns-clause-refuses c = go
     go (error.TooDeep token) other h = c.expression_of.ensures.refuses (error.TooDeep token) other (subst (λ ts. AreWrong SpellsExpression limits.expressions ts (error.TooDeep token)) (same h.tokens h.are_tokens) h.wrong)
     go (error.DoubleFunction name) other h = absurd h
     go error.Memory other h = absurd (other refl)
+
+pub returns-in-Err-clause-told : goal.returns-in-Err-clause-told
+returns-in-Err-clause-told c = none_told c.args.bytes.now c.no_tokens.result (λ e h. c.no_tokens.ensures ∙ ap without_tokens (c.in-Err.ensures.only h.tokens h.are_tokens))
+
+pub returns-clause-told : goal.returns-clause-told
+returns-clause-told c = told_by c.args.bytes.now c.as_slice.result.now (subst (λ ts. AreTokens c.args.bytes.now ts) (sym c.as_slice.ensures.value) c.in-Ok.ensures.found) c.expression_of.result c.expression_of.ensures.found
+    (λ e h. c.expression_of.ensures.only e (subst (λ ts. SpellsExpression limits.expressions ts e) (sym (c.as_slice.ensures.value ∙ c.in-Ok.ensures.only h.tokens h.are_tokens)) h.spelled))

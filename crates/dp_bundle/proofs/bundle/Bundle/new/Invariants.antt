@@ -1,8 +1,0 @@
-use Rattle.dp_bundle.proofs.Bundling.{Stands}
-use Rattle.dp_bundle.proofs.bundle.Bundle.new.Given as goal
-
-abbrev pub invariant-loop-name : goal.invariant-loop-name
-invariant-loop-name l =
-    (goal.iterator-loop-name).can_next l.name-iterator ×
-    (goal.iterator-loop-name).is_finite l.name-iterator ×
-    Stands l.fn.files l.made.items l.name-iterator.rest.items

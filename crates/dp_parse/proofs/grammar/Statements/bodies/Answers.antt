@@ -1,0 +1,31 @@
+use Rattle.std.proofs.Common.{rules, arith}
+use Rattle.std.proofs.lemmas.Grind.{common_steps}
+use Rattle.dp_rules.specs.inner.Input.{until}
+use Rattle.dp_parse.specs.inner.Within.{body}
+use Rattle.dp_parse.specs.inner.ReadingStatements.{bodies, bodies_step}
+use Rattle.dp_rules.proofs.Turns.{one_turn, no_turn}
+use Rattle.dp_parse.proofs.grammar.Statements.bodies.Goals as goal
+
+pub returns-in_err-more : goal.returns-in_err-more
+unfolding until bodies
+returns-in_err-more g c =
+    let e = one_turn (λ n. until (bodies_step (body c.args.self.now.0 c.args.loops)) n c.loop-turn.state c.loop-turn.tokens) _ c.loop-turn._turn c.loop-turn-test.true c.loop-turn.invariant in
+    first_of (search rules, grind (arith, common_steps))
+
+pub returns-in-Break : goal.returns-in-Break
+unfolding until bodies
+returns-in-Break g c =
+    let e = one_turn (λ n. until (bodies_step (body c.args.self.now.0 c.args.loops)) n c.loop-turn.state c.loop-turn.tokens) _ c.loop-turn._turn c.loop-turn-test.true c.loop-turn.invariant in
+    first_of (search rules, grind (arith, common_steps))
+
+pub loop-turn-preserved : goal.loop-turn-preserved
+unfolding until bodies
+loop-turn-preserved g c =
+    let e = one_turn (λ n. until (bodies_step (body c.args.self.now.0 c.args.loops)) n c.loop-turn.state c.loop-turn.tokens) _ c.loop-turn._turn c.loop-turn-test.true c.loop-turn.invariant in
+    first_of (search rules, grind (arith, common_steps))
+
+pub returns : goal.returns
+unfolding until bodies
+returns g c =
+    let e = no_turn (λ n. until (bodies_step (body c.args.self.now.0 c.args.loops)) n c.loop-turn.state c.loop-turn.tokens) _ c.loop-turn._turn c.loop-turn-test.false c.loop-turn.invariant in
+    first_of (search rules, grind (arith, common_steps))

@@ -1,8 +1,0 @@
-use Rattle.std.proofs.Common.{◌≡◌, ◌-◌, []}
-use Rattle.dp_rules.specs.Input.{closed, until}
-use Rattle.dp_parse.specs.Limits.{body}
-use Rattle.dp_parse.specs.ReadingStatements.{bodies_step}
-use Rattle.dp_parse.proofs.statements.Statements.bodies.Given as goal
-
-abbrev pub invariant-loop-turn : goal.invariant-loop-turn
-invariant-loop-turn g l = closed (bodies_step (body l.self.level l.loops)) [] l.fn.tokens ≡ until (bodies_step (body l.self.level l.loops)) (l._turn-end - l._turn) l.state l.tokens
