@@ -1,7 +1,7 @@
 -- A run by itself is one that is driven with no writes and no stop.
 use Rattle.std.proofs.Common.{◌≡◌, ℕ, ◌+◌, Bool, true, false, List, [], Option, Some, None, Result, Ok, Err, refl, sym, ap, ◌∙◌, subst, arith}
-use Rattle.std.proofs.lemmas.Bool.{ne_eqb}
-use Rattle.std.specs.Prelude.{if◌then◌else◌, nat_eq, nat_lt}
+use Rattle.std.specs.Prelude.{if◌then◌else◌, nat_lt}
+use Rattle.dp_state.specs.declared.moments.Moment.{Moment}
 use Rattle.dp_state.specs.declared.moments.MomentKind.{MomentKind}
 use Rattle.dp_state.specs.declared.moments.Outcome.TheVariants.{Bound}
 use Rattle.dp_state.specs.declared.state.State.{State}
@@ -9,7 +9,7 @@ use Rattle.dp_tree.specs.declared.tree.Expression.{Expression}
 use Rattle.dp_value.specs.declared.value.Value.{Value}
 use Rattle.dp_meaning.specs.declared.halt.Halt.{Halt}
 use Rattle.dp_meaning.specs.declared.halt.Halt.TheVariants.{Memory, Finished, Stopped}
-use Rattle.dp_meaning.specs.Drive.{Rules, Reached, Gives, Ends, Stops, drive, Evaluates}
+use Rattle.dp_meaning.specs.Drive.{Rules, Reached, Gives, Ends, Stops, drive, nowhere, Evaluates}
 use Rattle.dp_meaning.specs.Expressions.{evaluation}
 use Rattle.dp_meaning.specs.Run.{Run, Done, Over, At}
 use Rattle.dp_meaning.specs.Setting.{Setting}
@@ -21,7 +21,7 @@ given (Gives a s) = Some (a, s)
 given (Ends o s) = None
 given (Stops m s) = None
 
-pub alone-drive : {A : Type 0} (rules : Rules) (r : Run A) → rules.stop ≡ 0 → rules.writes.list ≡ [] → alone rules.bound r ≡ given (drive rules r)
+pub alone-drive : {A : Type 0} (rules : Rules) (r : Run A) → rules.halts ≡ nowhere → rules.writes.list ≡ [] → alone rules.bound r ≡ given (drive rules r)
 alone-drive rules (Done a s) h e = refl
 alone-drive rules (Over o s) h e = refl
 alone-drive {A} rules (At kind line s go) h e = cases (nat_lt s.moments rules.bound) (alone-drive rules (go (arrived line s)) h e)
@@ -29,13 +29,13 @@ alone-drive {A} rules (At kind line s go) h e = cases (nat_lt s.moments rules.bo
     none : written rules.writes (s.moments + 1) (arrived line s) ≡ arrived line s
     none = rw e refl
 
-    other : nat_eq (s.moments + 1) rules.stop ≡ false
-    other = ne_eqb _ _ (λ f. omega arith)
+    other : rules.halts (moment_of kind (arrived line s)) (written rules.writes (s.moments + 1) (arrived line s)) ≡ false
+    other = ap (λ (halts : Moment → State → Bool). halts (moment_of kind (arrived line s)) (written rules.writes (s.moments + 1) (arrived line s))) h
 
     cases : (b : Bool) → alone rules.bound (go (arrived line s)) ≡ given (drive rules (go (arrived line s)))
         → (if b then alone rules.bound (go (arrived line s)) else None)
         ≡ given (if b then (
-        if nat_eq (s.moments + 1) rules.stop
+        if rules.halts (moment_of kind (arrived line s)) (written rules.writes (s.moments + 1) (arrived line s))
         then Stops (moment_of kind (arrived line s)) (written rules.writes (s.moments + 1) (arrived line s))
         else drive rules (go (written rules.writes (s.moments + 1) (arrived line s)))
         ) else Ends Bound s)
@@ -43,7 +43,7 @@ alone-drive {A} rules (At kind line s go) h e = cases (nat_lt s.moments rules.bo
     cases false ih = refl
 
 -- ---- evaluations
-module _ (quiet : Rules) (bound : quiet.bound ≡ evaluation_limit) (unstopped : quiet.stop ≡ 0) (unwritten : quiet.writes.list ≡ [])
+module _ (quiet : Rules) (bound : quiet.bound ≡ evaluation_limit) (unstopped : quiet.halts ≡ nowhere) (unwritten : quiet.writes.list ≡ [])
     (setting : Setting) (e : Expression) (s copy t : State) (same : copy ≡ s) where
   reached : (r : Reached Value) → drive quiet (evaluation e setting (record copy { moments = 0 })) ≡ r
       → evaluated setting e s ≡ recounted s.moments (given r)

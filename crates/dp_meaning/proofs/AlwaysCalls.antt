@@ -4,10 +4,10 @@ use Rattle.std.specs.Prelude.{nat_lt, cond, position}
 use Rattle.std.specs.List.{position_or_len}
 use Rattle.std.proofs.lemmas.Bool.{ltb-true}
 use Rattle.std.specs.Option.{option_map_or}
-use Rattle.dp_bundle.specs.declared.bundle.Bundle.{Bundle}
-use Rattle.dp_bundle.specs.declared.bundle.BundleFile.{BundleFile}
-use Rattle.dp_bundle.specs.declared.bundle.FunctionRef.{FunctionRef}
-use Rattle.dp_bundle.specs.Files.{file_named, function_at}
+use Rattle.dp_tree.specs.declared.bundle.Bundle.{Bundle}
+use Rattle.dp_tree.specs.declared.bundle.BundleFile.{BundleFile}
+use Rattle.dp_tree.specs.declared.bundle.FunctionRef.{FunctionRef}
+use Rattle.dp_tree.specs.Files.{file_named, function_at}
 use Rattle.dp_value.specs.declared.operators.Builtin.{Builtin}
 use Rattle.dp_value.specs.declared.value.Value.{Value}
 use Rattle.dp_value.specs.Value.{data_of}

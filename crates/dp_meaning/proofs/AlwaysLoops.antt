@@ -1,12 +1,11 @@
 -- What is kept by each step of a program is kept by loops.
 use Rattle.std.proofs.Common.{◌≡◌, ℕ, zero, suc, ◌+◌, ◌-◌, Bool, true, false, List, [], ◌∷◌, Option, Some, None}
 use Rattle.std.specs.Prelude.{nat_le, if◌then◌else◌}
-use Rattle.dp_bundle.specs.declared.bundle.Bundle.{Bundle}
+use Rattle.dp_tree.specs.declared.bundle.Bundle.{Bundle}
 use Rattle.dp_value.specs.declared.key.Key.{Key}
 use Rattle.dp_value.specs.declared.value.Value.{Value}
-use Rattle.dp_value.specs.Data.{Data}
+use Rattle.dp_value.specs.Data.{Data, data_of_key}
 use Rattle.dp_value.specs.Value.{value_of}
-use Rattle.dp_operations.specs.Lists.{data_of_key}
 use Rattle.dp_state.specs.declared.state.State.{State}
 use Rattle.dp_tree.specs.declared.tree.Binding.{Binding}
 use Rattle.dp_meaning.specs.declared.signal.Signal.{Signal}

@@ -1,8 +1,7 @@
 -- What is kept by each step of a program is kept by what is done with places.
 use Rattle.std.proofs.Common.{◌≡◌, ℕ, suc, ◌+◌, Bool, true, false, List, [], ◌∷◌, map, Option, Some, None, Result, Ok, Err, refl}
 use Rattle.std.specs.Prelude.{is_some}
-use Rattle.std.specs.List.{list_all}
-use Rattle.dp_bundle.specs.declared.bundle.Bundle.{Bundle}
+use Rattle.dp_tree.specs.declared.bundle.Bundle.{Bundle}
 use Rattle.dp_value.specs.declared.operators.BinaryOp.{BinaryOp}
 use Rattle.dp_value.specs.declared.operators.UnaryOp.{UnaryOp}
 use Rattle.dp_value.specs.declared.value.Value.{Value}
@@ -15,7 +14,7 @@ use Rattle.dp_state.specs.declared.moments.FatalKind.TheVariants.{BadKey}
 use Rattle.dp_state.specs.declared.state.State.{State}
 use Rattle.dp_state.specs.Places.{keys_of_indices}
 use Rattle.dp_tree.specs.declared.tree.Order.{Order}
-use Rattle.dp_meaning.specs.Places.{PlaceRun, variable, read_run, found_run, assign_run, old_run, assignment, compound, coalescing, step, stepped, isset_run, unset_run}
+use Rattle.dp_meaning.specs.Places.{PlaceRun, variable, read_run, found_run, assign_run, assignment, compound, coalescing, step, stepped, isset_run, unset_run}
 use Rattle.dp_meaning.specs.Run.{Run, Done, fatal, and_then}
 use Rattle.dp_meaning.specs.Setting.{Setting, Part}
 use Rattle.dp_meaning.specs.Values.{is_missing}
@@ -32,11 +31,6 @@ module _ {D : Type 0} (P : D → ℕ → State → Type 0) (bundle : Bundle) (ke
   pub Keeps-found : (name : List ℕ) (indices : List Value) → Keeps P (found_run name indices)
   Keeps-found name indices d n s p = Keeps-value P (found_by (map data_of indices) (data_of (variable name s))) d n s p
 
-  pub Keeps-old : (name : List ℕ) (indices : List Value) → Keeps P (old_run name indices)
-  Keeps-old name indices d n s p =
-      Always-if P (list_all is_some (keys_of_indices indices)) d n (read_run name indices s) (fatal BadKey s) (Keeps-read name indices d n s p)
-      (d, p, tt)
-
   -- its indices do
   abbrev pub KeepsPlace : PlaceRun → Type 0
   KeepsPlace place = KeepsPart P bundle place.indices
@@ -50,7 +44,7 @@ module _ {D : Type 0} (P : D → ℕ → State → Type 0) (bundle : Bundle) (ke
     pub Keeps-compound : (op : BinaryOp) → KeepsPart P bundle (compound op place right)
     Keeps-compound op setting good d n s p =
         Keeps-and_then P d n _ _ (indices_keep setting good d n s p) (λ indices d n t p.
-        Keeps-and_then P d n _ _ (Keeps-old place.name indices d n t p) (λ old d n u p.
+        Keeps-and_then P d n _ _ (Keeps-read place.name indices d n t p) (λ old d n u p.
         Keeps-and_then P d n _ _ (right_keeps setting good d n u p) (λ v d n w p.
         Keeps-and_then P d n _ _ (Keeps-value P (binary_of op (data_of old) (data_of v)) d n w p)
         (λ new. Keeps-assign place.name indices false new))))
@@ -66,7 +60,7 @@ module _ {D : Type 0} (P : D → ℕ → State → Type 0) (bundle : Bundle) (ke
     pub Keeps-step : (op : UnaryOp) (order : Order) → KeepsPart P bundle (step op order place)
     Keeps-step op order setting good d n s p =
         Keeps-and_then P d n _ _ (indices_keep setting good d n s p) (λ indices d n t p.
-        Keeps-and_then P d n _ _ (Keeps-old place.name indices d n t p) (λ old d n u p.
+        Keeps-and_then P d n _ _ (Keeps-read place.name indices d n t p) (λ old d n u p.
         Keeps-and_then P d n _ _ (Keeps-value P (unary_of op (data_of old)) d n u p) (λ new d n w p.
         Keeps-and_then P d n _ _ (Keeps-assign place.name indices false new d n w p) (λ v d n x p. p))))
 

@@ -1,23 +1,24 @@
 -- Calls and included files by how many frames more can be on the stack, and names that are bound.
-use Rattle.std.proofs.Common.{◌≡◌, ℕ, zero, suc, ◌-◌, pos, List, [], Result, Ok, Err, refl, sym, ap, ◌∙◌, arith}
-use Rattle.dp_bundle.specs.declared.bundle.Bundle.{Bundle}
+use Rattle.std.proofs.Common.{◌≡◌, ℕ, zero, suc, ◌-◌, Bool, true, false, if◌then◌else◌, List, [], Result, Ok, Err, refl, sym, ap, ◌∙◌, subst, arith}
+use Rattle.dp_tree.specs.declared.bundle.Bundle.{Bundle}
 use Rattle.dp_state.specs.declared.moments.FatalKind.TheVariants.{TooDeep}
 use Rattle.dp_state.specs.declared.state.State.{State}
+use Rattle.dp_tree.specs.declared.tree.Expression.{Expression}
 use Rattle.dp_tree.specs.declared.tree.Function.{Function}
 use Rattle.dp_value.specs.declared.value.Value.{Value}
-use Rattle.dp_value.specs.declared.value.Value.TheVariants.{Int}
 use Rattle.dp_state.specs.Functions.{included}
-use Rattle.dp_state.specs.States.{left}
 use Rattle.dp_meaning.specs.declared.halt.Halt.{Halt}
 use Rattle.dp_meaning.specs.declared.signal.Signal.{Signal}
 use Rattle.dp_meaning.specs.declared.signal.Signal.TheVariants.{Next}
 use Rattle.dp_meaning.specs.Drive.{Rules, Reached, Gives, Ends, Stops, Evaluates}
 use Rattle.dp_meaning.specs.Calls.{call_run, callee}
+use Rattle.dp_meaning.specs.Expressions.{evaluations}
 use Rattle.dp_meaning.specs.Loops.{do_turns, turns}
-use Rattle.dp_meaning.specs.Programs.{file_run, function_run, returned, setting_of, statements_of}
+use Rattle.dp_meaning.specs.Programs.{file_run, function_run, left_file, setting_of, statements_of}
 use Rattle.dp_meaning.specs.Run.{Run, Done, and_then, fatal, taken}
-use Rattle.dp_meaning.specs.Setting.{Part}
-use Rattle.dp_meaning.specs.Statements.{body_run}
+use Rattle.dp_meaning.specs.Setting.{Setting, Part}
+use Rattle.dp_meaning.specs.Statements.{body_run, branch, for_turns}
+use Rattle.dp_meaning.specs.Values.{holds}
 use Rattle.dp_meaning.proofs.Drives.{breaks_off}
 
 module _ (bundle : Bundle) (bound depth : ℕ) where
@@ -52,13 +53,21 @@ module _ (bundle : Bundle) (bound depth : ℕ) where
     pub bounded-do : (test : State → Run Value) → do_turns (setting_of bundle bound depth).bound line test body s ≡ do_turns bound line test body s
     bounded-do test = ap (λ (n : ℕ). do_turns n line test body s) setting-bound
 
+    -- the turns of a `for`
+    pub runs-for : {rules : Rules} {x : Result Signal Halt} {t : State} (tests after : List Expression) (part : Part Signal) (before : List Value)
+        → Evaluates rules (turns bound line (evaluations tests (setting_of bundle bound depth)) (evaluations after (setting_of bundle bound depth))
+        (part (setting_of bundle bound depth)) s) x t → Evaluates rules (for_turns line tests after part (setting_of bundle bound depth) before s) x t
+    runs-for {rules} {x} {t} tests after part before e =
+        subst (λ (n : ℕ). Evaluates rules (turns n line (evaluations tests (setting_of bundle bound depth)) (evaluations after
+        (setting_of bundle bound depth)) (part (setting_of bundle bound depth)) s) x t) (sym setting-bound) e
+
   -- the run of a file of the bundle
   pub file-is : (file : ℕ) (s : State) → file_run file (setting_of bundle bound depth) s
       ≡ and_then (taken (included bundle file s) s) (λ _ t.
-      and_then (body_run (statements_of bundle file) (setting_of bundle bound depth) t) (λ g u. Done (returned (Int (pos 1)) g) (left u)))
+      and_then (body_run (statements_of bundle file) (setting_of bundle bound depth) t) left_file)
   file-is file s =
       ap (λ (b : Bundle). and_then (taken (included b file s) s) (λ _ t.
-      and_then (body_run (statements_of b file) (setting_of bundle bound depth) t) (λ g u. Done (returned (Int (pos 1)) g) (left u))))
+      and_then (body_run (statements_of b file) (setting_of bundle bound depth) t) left_file))
       setting-bundle
 
   pub zero-call : depth ≡ 0 → (file : ℕ) (f : Function) (values : List Value) (s : State)
@@ -88,6 +97,14 @@ module _ (bundle : Bundle) (bound depth : ℕ) where
       go : (depth : ℕ) → (depth ≡ 0 → ⊥) → (setting_of bundle bound depth).include file s ≡ file_run file (setting_of bundle bound (depth - 1)) s
       go zero differs = absurd (differs refl)
       go (suc depth) differs = let e : suc depth - 1 ≡ depth = omega arith in rw e refl
+
+-- an arm whose test holds, or does not
+module _ {rules : Rules} {x : Result Signal Halt} {t : State} (body otherwise : Part Signal) (setting : Setting) (v : Value) (s : State) where
+  pub branch-on : holds v ≡ true → Evaluates rules (body setting s) x t → Evaluates rules (branch body otherwise setting v s) x t
+  branch-on h e = subst (λ (b : Bool). Evaluates rules (if b then body setting s else otherwise setting s) x t) (sym h) e
+
+  pub branch-off : holds v ≡ false → Evaluates rules (otherwise setting s) x t → Evaluates rules (branch body otherwise setting v s) x t
+  branch-off h e = subst (λ (b : Bool). Evaluates rules (if b then body setting s else otherwise setting s) x t) (sym h) e
 
 -- a step that gives nothing, as a statement
 abbrev as_next : Reached Unit → Reached Signal

@@ -1,8 +1,8 @@
 -- A run in parts, driven.
-use Rattle.std.proofs.Common.{◌≡◌, ℕ, ◌+◌, ◌<◌, ◌≤◌, Bool, true, false, Result, Ok, Err, refl, sym, ap, ◌∙◌, subst, eq-eqb, arith}
-use Rattle.std.specs.Prelude.{nat_lt, nat_eq, if◌then◌else◌}
+use Rattle.std.proofs.Common.{◌≡◌, ℕ, ◌+◌, ◌<◌, ◌≤◌, Bool, true, false, Result, Ok, Err, refl, sym, ap, ◌∙◌, subst, arith}
+use Rattle.std.specs.Prelude.{nat_lt, if◌then◌else◌}
 use Rattle.std.specs.Result.{IsErrAnd}
-use Rattle.std.proofs.lemmas.Bool.{le-ltb, lt-ltb, ne_eqb}
+use Rattle.std.proofs.lemmas.Bool.{le-ltb, lt-ltb}
 use Rattle.std.proofs.lemmas.Result.{err_from_is_err_and}
 use Rattle.dp_state.specs.declared.moments.Moment.{Moment}
 use Rattle.dp_state.specs.declared.moments.MomentKind.{MomentKind}
@@ -36,10 +36,10 @@ drive-and_then rules (Over o s) next = refl
 drive-and_then rules (At kind line s go) next =
     let t : State = written rules.writes (s.moments + 1) (arrived line s) in
     let m : Moment = moment_of kind (arrived line s) in
-    ap (λ z. if nat_lt s.moments rules.bound then (if nat_eq (s.moments + 1) rules.stop then Stops m t else z) else Ends Bound s)
+    ap (λ z. if nat_lt s.moments rules.bound then (if rules.halts m t then Stops m t else z) else Ends Bound s)
     (drive-and_then rules (go t) next)
     ∙ sym (carry-if rules (nat_lt s.moments rules.bound) _ _ next
-    ∙ ap (λ z. if nat_lt s.moments rules.bound then z else Ends Bound s) (carry-if rules (nat_eq (s.moments + 1) rules.stop) _ _ next))
+    ∙ ap (λ z. if nat_lt s.moments rules.bound then z else Ends Bound s) (carry-if rules (rules.halts m t) _ _ next))
 
 module _ {A : Type 0} {rules : Rules} where
   pub gives : {a : A} {s : State} → Evaluates rules (Done a s) (Ok a) s
@@ -103,10 +103,11 @@ module _ (rules : Rules) (kind : MomentKind) (line : ℕ) (s u : State) where
   moment_passes_bound h k = record { meets = rw (le-ltb _ _ h, k) refl }
 
   module _ (h : s.moments < rules.bound) (k : u ≡ written rules.writes (s.moments + 1) (arrived line s)) where
-    pub moment_stops : s.moments + 1 ≡ rules.stop → Evaluates rules (moment_run kind line s) (Err (Stopped (moment_of kind (arrived line s)))) u
-    moment_stops e = record { meets = rw (lt-ltb _ _ h, eq-eqb _ _ e, k) refl }
+    pub moment_stops : rules.halts (moment_of kind (arrived line s)) u ≡ true
+        → Evaluates rules (moment_run kind line s) (Err (Stopped (moment_of kind (arrived line s)))) u
+    moment_stops e = record { meets = rw (lt-ltb _ _ h, ap (rules.halts (moment_of kind (arrived line s))) (sym k) ∙ e, k) refl }
 
-    pub moment_passes : (s.moments + 1 ≡ rules.stop → ⊥) → Evaluates rules (moment_run kind line s) (Ok tt) u
-    moment_passes e = record { meets = rw (lt-ltb _ _ h, ne_eqb _ _ e, k) refl }
+    pub moment_passes : rules.halts (moment_of kind (arrived line s)) u ≡ false → Evaluates rules (moment_run kind line s) (Ok tt) u
+    moment_passes e = record { meets = rw (lt-ltb _ _ h, ap (rules.halts (moment_of kind (arrived line s))) (sym k) ∙ e, k) refl }
 
 pub ruleset evaluating = (gives, ends, wants_memory, breaks_off, goes_on, stops_at, passes)

@@ -1,7 +1,7 @@
 -- A program exits with one of 200 statuses, whatever is written at its moments.
 use Rattle.std.proofs.Common.{◌≡◌, ℕ, ◌+◌, ◌≤◌, Bool, true, false, if◌then◌else◌, List, [], subst}
 use Rattle.std.specs.Prelude.{nat_lt}
-use Rattle.dp_bundle.specs.declared.bundle.Bundle.{Bundle}
+use Rattle.dp_tree.specs.declared.bundle.Bundle.{Bundle}
 use Rattle.dp_state.specs.declared.moments.Outcome.TheVariants as way
 use Rattle.dp_state.specs.declared.state.State.{State}
 use Rattle.dp_state.specs.States.{opening}

@@ -9,7 +9,8 @@ pub mod AlwaysStatements
 pub mod AlwaysPrograms
 pub mod Steady
 pub mod WrittenMoments
-pub mod Stops
+pub mod StopLaws
+pub mod FirstStops
 pub mod Alone
 pub mod PastLaws
 pub mod Layers

@@ -3,8 +3,8 @@ use Rattle.std.proofs.Common.{◌≡◌, ℕ, zero, suc, ◌+◌, ◌-◌, ◌<�
 use Rattle.std.proofs.lemmas.List.{length_push}
 use Rattle.std.specs.Prelude.{◌==◌, nat_eq, nat_le, nat_lt, slice_get, unwrap_or}
 use Rattle.std.specs.Option.{option_map_or}
-use Rattle.dp_bundle.specs.declared.bundle.Bundle.{Bundle}
-use Rattle.dp_bundle.specs.Files.{functions_of}
+use Rattle.dp_tree.specs.declared.bundle.Bundle.{Bundle}
+use Rattle.dp_tree.specs.Files.{functions_of}
 use Rattle.dp_value.specs.declared.error.WriteError.{WriteError}
 use Rattle.dp_value.specs.declared.key.Key.{Key}
 use Rattle.dp_value.specs.declared.value.Value.{Value}
@@ -29,6 +29,10 @@ use Rattle.dp_state.proofs.Kept.{of-assigned, of-called, of-counted, of-included
 use Rattle.dp_tree.specs.declared.tree.Expression.{Expression}
 use Rattle.dp_tree.specs.declared.tree.Function.{Function}
 use Rattle.dp_meaning.specs.declared.signal.Signal.{Signal}
+use Rattle.dp_meaning.specs.declared.stop.Stop.{Stop}
+use Rattle.dp_meaning.specs.declared.stop.Stop.TheVariants as stop
+use Rattle.dp_meaning.specs.declared.writing.WriteFault.{WriteFault}
+use Rattle.dp_meaning.specs.declared.writing.WriteFault.TheVariants.{NoFrame}
 use Rattle.dp_meaning.specs.declared.writing.NumberedWrite.{NumberedWrite}
 use Rattle.dp_meaning.specs.declared.writing.Write.{Write}
 use Rattle.dp_meaning.specs.declared.writing.Write.TheVariants.{Place, Evaluate}
@@ -36,8 +40,9 @@ use Rattle.dp_meaning.specs.Expressions.{evaluation, expression_run}
 use Rattle.dp_meaning.specs.Programs.{program_run, setting_of}
 use Rattle.dp_meaning.specs.Run.{Run, Done, Over, At}
 use Rattle.dp_meaning.specs.Setting.{Setting}
-use Rattle.dp_meaning.specs.Trace.{End, Ended, Gave, Trace, moment_of, program_trace, trace, with_moment}
-use Rattle.dp_meaning.specs.Writes.{NoFrame, WriteFault, Writes, alone, arrived, evaluated, evaluation_limit, evaluation_setting, in_context, left_by, one_write, or_unchanged, place_or_fault, recounted, with_place, written, written_by, writes_of}
+use Rattle.dp_meaning.specs.Stopping.{above, first_at, first_stop, state_of, stop_of}
+use Rattle.dp_meaning.specs.Trace.{End, Ended, Gave, IsStop, Trace, moment_of, program_trace, trace, with_moment}
+use Rattle.dp_meaning.specs.Writes.{Writes, alone, arrived, evaluated, evaluation_limit, evaluation_setting, in_context, left_by, one_write, or_unchanged, place_or_fault, recounted, with_place, written, written_by, writes_of}
 use Rattle.dp_meaning.proofs.Always.{Always, Each, IsKept, IsKeptBy}
 use Rattle.dp_meaning.proofs.AlwaysExpressions.{Keeps-expression}
 use Rattle.dp_meaning.proofs.AlwaysPrograms.{Always-program, Keeps-setting}
@@ -292,3 +297,32 @@ module _ (bundle : Bundle) where
     where
       deep : length s.frames ≡ suc (length s.frames - 1)
       deep = let e : length s.frames ≡ suc (length is.above) = ap length is.frames in omega arith
+
+  -- ---- stops
+
+  -- where a run stops at the moment of a number
+  pub stop-of : (bound : ℕ) (ws : List NumberedWrite) (number : ℕ) (stop : Stop) → IsStop (program_trace bundle bound ws) (writes_of bundle ws) number stop
+      → 0 < length bundle.files → IsOf bundle (state_of stop)
+  stop-of bound ws zero (stop.At m s) is some = absurd (cc)
+  stop-of bound ws (suc k) (stop.At m s) is some =
+      subst (IsOf bundle) (sym is.2) (written-of ws (suc k) is.0 (each-of _ k (m, is.0) (program-of bound ws some).moments is.1))
+  stop-of bound ws number (stop.Ended o s) is some = subst (IsOf bundle) (sym is.2) (program-of bound ws some).state
+
+  first-of : {A : Type 0} (test : Moment → State → Bool) (ws : List NumberedWrite) (t : Trace A) → IsOf bundle t.state → (ps : List (Moment × State))
+      → Each (λ p. IsOf bundle p.1) ps → IsOf bundle (state_of (stop_of t (first_at test (writes_of bundle ws) ps)))
+  first-of test ws t end [] all = end
+  first-of test ws t end (p ∷ ps) all = by (test p.0 after) (first-of test ws t end ps all.1)
+    where
+      after : State
+      after = written (writes_of bundle ws) p.0.number p.1
+
+      by : (b : Bool) → IsOf bundle (state_of (stop_of t (first_at test (writes_of bundle ws) ps)))
+          → IsOf bundle (state_of (stop_of t (if b then Some (p.0, after) else first_at test (writes_of bundle ws) ps)))
+      by true more = written-of ws p.0.number p.1 all.0
+      by false more = more
+
+  -- where it stops at the first moment at which a test holds
+  pub first_stop-of : (bound : ℕ) (ws : List NumberedWrite) (number : ℕ) (test : Moment → State → Bool) → 0 < length bundle.files
+      → IsOf bundle (state_of (first_stop (program_trace bundle bound ws) (writes_of bundle ws) number test))
+  first_stop-of bound ws number test some =
+      let all = program-of bound ws some in first-of (above number test) ws (program_trace bundle bound ws) all.state _ all.moments

@@ -2,8 +2,8 @@
 use Rattle.std.proofs.Common.{◌≡◌, ℕ, zero, suc, ◌+◌, ◌<◌, Bool, true, false, if◌then◌else◌, List, [], ◌∷◌, ◌++◌, length, Option, Some, None, Result, Ok, Err, refl, sym, ap, ◌∙◌}
 use Rattle.std.specs.Prelude.{◌==◌, is_some, nat_le, unwrap_or}
 use Rattle.std.specs.Option.{option_map_or}
-use Rattle.dp_bundle.specs.declared.bundle.Bundle.{Bundle}
-use Rattle.dp_bundle.specs.Files.{functions_of}
+use Rattle.dp_tree.specs.declared.bundle.Bundle.{Bundle}
+use Rattle.dp_tree.specs.Files.{functions_of}
 use Rattle.dp_value.specs.declared.error.WriteError.{WriteError}
 use Rattle.dp_value.specs.declared.key.Key.{Key}
 use Rattle.dp_value.specs.declared.value.Value.{Value}

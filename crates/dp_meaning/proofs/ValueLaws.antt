@@ -1,6 +1,8 @@
 -- The value of an expression that changes nothing, by what its evaluation comes to.
 use Rattle.std.proofs.Common.{◌≡◌, ◌≢◌, refl, true, Some, None, Ok, Err, sym, ap, ◌∙◌}
-use Rattle.dp_bundle.specs.declared.bundle.Bundle.{Bundle}
+use Rattle.dp_tree.specs.declared.bundle.Bundle.{Bundle}
+use Rattle.dp_state.specs.declared.moments.Moment.{Moment}
+use Rattle.dp_state.specs.declared.moments.Outcome.{Outcome}
 use Rattle.dp_state.specs.declared.moments.Outcome.TheVariants.{Fatal}
 use Rattle.dp_state.specs.declared.state.State.{State}
 use Rattle.dp_state.specs.States.{file_of, line_of}
@@ -41,3 +43,31 @@ module _ (bundle : Bundle) (rules : Rules) (e : Expression) (s t : State) where
   value_refused Memory differs pure ev = absurd (differs refl)
   value_refused (Finished o) differs pure ev = refused (Ends o t) (λ a h. cc) (plain-pure e pure (evaluation_setting bundle) s) ev.meets
   value_refused (Stopped m) differs pure ev = refused (Stops m t) (λ a h. cc) (plain-pure e pure (evaluation_setting bundle) s) ev.meets
+
+  -- it leaves the state as it is
+  kept-ends : (d : Outcome) → IsPlain s run → drive rules run ≡ Ends d t → t ≡ s
+  kept-ends d (Given a is) m = let no : Ends d t ≡ Gives a s = sym m ∙ ap (drive rules) is in absurd (cc)
+  kept-ends d (Faulty kind is) m = ended (Fatal kind (file_of s) (line_of s)) (sym m ∙ ap (drive rules) is)
+    where
+      ended : (c : Outcome) → ◌≡◌ {A = Reached Value} (Ends d t) (Ends c s) → t ≡ s
+      ended c h = cc
+
+  never-stops : (m : Moment) → IsPlain s run → drive rules run ≢ Stops m t
+  never-stops m (Given a is) h = let no : Stops m t ≡ Gives a s = sym h ∙ ap (drive rules) is in cc
+  never-stops m (Faulty kind is) h = let no : Stops m t ≡ Ends (Fatal kind (file_of s) (line_of s)) s = sym h ∙ ap (drive rules) is in cc
+
+  kept-gives : (v : Value) → IsPlain s run → drive rules run ≡ Gives v t → t ≡ s
+  kept-gives v (Given a is) m = let end : Gives v t ≡ Gives a s = sym m ∙ ap (drive rules) is in given-state v a end
+    where
+      given-state : (v a : Value) → Gives v t ≡ Gives a s → t ≡ s
+      given-state v a h = cc
+  kept-gives v (Faulty kind is) m =
+      let no : Gives v t ≡ Ends (Fatal kind (file_of s) (line_of s)) s = sym m ∙ ap (drive rules) is in absurd (cc)
+
+  pub kept_given : (v : Value) → is_pure e ≡ true → Evaluates rules run (Ok v) t → t ≡ s
+  kept_given v pure ev = kept-gives v (plain-pure e pure (evaluation_setting bundle) s) ev.meets
+
+  pub kept_refused : (h : Halt) → h ≢ Memory → is_pure e ≡ true → Evaluates rules run (Err h) t → t ≡ s
+  kept_refused Memory differs pure ev = absurd (differs refl)
+  kept_refused (Finished o) differs pure ev = kept-ends o (plain-pure e pure (evaluation_setting bundle) s) ev.meets
+  kept_refused (Stopped m) differs pure ev = absurd (never-stops m (plain-pure e pure (evaluation_setting bundle) s) ev.meets)

@@ -11,7 +11,9 @@ use Rattle.dp_meaning.specs.declared.writing.Write.{Write}
 use Rattle.dp_meaning.specs.declared.writing.Write.TheVariants.{Place, Evaluate}
 use Rattle.dp_meaning.specs.Expressions.{evaluation}
 use Rattle.dp_meaning.specs.Setting.{Setting}
-use Rattle.dp_meaning.specs.Writes.{WriteFault, NoFrame, NoPlace, Writes, alone, evaluated, evaluation_limit, in_context, left_by, one_write, or_unchanged, place_or_fault, recounted, with_place, written, written_by}
+use Rattle.dp_meaning.specs.declared.writing.WriteFault.{WriteFault}
+use Rattle.dp_meaning.specs.declared.writing.WriteFault.TheVariants.{NoFrame, NoPlace}
+use Rattle.dp_meaning.specs.Writes.{Writes, alone, evaluated, evaluation_limit, in_context, left_by, one_write, or_unchanged, place_or_fault, recounted, with_place, written, written_by}
 use Rattle.dp_meaning.proofs.Steady.{moments-assigned}
 
 -- what a place write gives has as many moments

@@ -11,11 +11,11 @@ use Rattle.dp_tree.specs.declared.tree.Function.{Function}
 use Rattle.dp_tree.specs.declared.tree.Inclusion.{Inclusion}
 use Rattle.dp_tree.specs.declared.tree.Inclusion.TheVariants.{Include, Require}
 use Rattle.dp_tree.specs.Builtins.{builtin_of as builtin_named}
-use Rattle.dp_bundle.specs.declared.bundle.Bundle.{Bundle}
+use Rattle.dp_tree.specs.declared.bundle.Bundle.{Bundle}
 use Rattle.dp_state.specs.declared.moments.FatalKind.TheVariants.{NoFile, NoFunction}
-use Rattle.dp_bundle.specs.declared.bundle.FunctionRef.{FunctionRef}
+use Rattle.dp_tree.specs.declared.bundle.FunctionRef.{FunctionRef}
 use Rattle.dp_state.specs.declared.state.State.{State}
-use Rattle.dp_bundle.specs.Files.{file_named, function_at}
+use Rattle.dp_tree.specs.Files.{file_named, function_at}
 use Rattle.dp_state.specs.Functions.{declared_function}
 use Rattle.dp_meaning.specs.Run.{Run, Done, fatal, ◌>>=◌}
 use Rattle.dp_meaning.specs.Setting.{Setting, Part}

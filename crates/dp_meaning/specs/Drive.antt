@@ -1,28 +1,38 @@
 -- A run up to a moment at which it stops. Private to the evaluator: `trace` says the same without a stop.
-use Rattle.std.specs.Prelude.{◌≡◌, ℕ, ◌+◌, nat_lt, nat_eq, if◌then◌else◌, [], Result, Ok, Err}
+use Rattle.std.specs.Prelude.{◌≡◌, ℕ, ◌+◌, nat_lt, nat_eq, Bool, false, if◌then◌else◌, [], Result, Ok, Err}
 use Rattle.dp_state.specs.declared.moments.Moment.{Moment}
 use Rattle.dp_state.specs.declared.moments.MomentKind.{MomentKind}
 use Rattle.dp_state.specs.declared.moments.Outcome.{Outcome}
-use Rattle.dp_state.specs.declared.moments.Outcome.TheVariants.{Bound, Fatal}
+use Rattle.dp_state.specs.declared.moments.Outcome.TheVariants.{Bound, Fatal, Done as Completed}
 use Rattle.dp_state.specs.declared.state.Fault.{Fault}
 use Rattle.dp_state.specs.declared.state.Fault.TheVariants as fault
 use Rattle.dp_state.specs.declared.state.State.{State}
 use Rattle.dp_state.specs.States.{file_of, line_of}
 use Rattle.dp_meaning.specs.declared.halt.Halt.{Halt}
 use Rattle.dp_meaning.specs.declared.halt.Halt.TheVariants.{Memory, Finished, Stopped}
+use Rattle.dp_meaning.specs.declared.stop.Stop.{Stop}
+use Rattle.dp_meaning.specs.declared.stop.Stop.TheVariants as stop
 use Rattle.dp_meaning.specs.Run.{Run, Done, Over, At}
 use Rattle.dp_meaning.specs.Trace.{moment_of}
 use Rattle.dp_meaning.specs.Writes.{Writes, arrived, written, writes_of}
 
--- the bound, the number of the moment at which the run stops, and the writes
+-- the bound, whether the run stops at a moment, by the state after its writes, and the writes
 pub record Rules : Type 0 where
   pub bound : ℕ
-  pub stop : ℕ
+  pub halts : Moment → State → Bool
   pub writes : Writes
+
+-- at no moment
+abbrev pub nowhere : Moment → State → Bool
+nowhere moment s = false
+
+-- at the moment of a number
+abbrev pub at_number : ℕ → Moment → State → Bool
+at_number number moment s = nat_eq moment.number number
 
 -- no writes, and no stop
 abbrev pub quiet : ℕ → Rules
-quiet bound = record { bound = bound; stop = 0; writes = writes_of (record { files = [] }) [] }
+quiet bound = record { bound = bound; halts = nowhere; writes = writes_of (record { files = [] }) [] }
 
 -- how far a run came: it gave something, the program was over, or it came to the stop
 pub data Reached (A : Type 0) : Type 0 where
@@ -30,18 +40,24 @@ pub data Reached (A : Type 0) : Type 0 where
   Ends : Outcome → State → Reached A
   Stops : Moment → State → Reached A
 
--- a run until the moment of the stop and its writes
+-- a run until the first moment at which it stops, and the writes of that moment
 abbrev pub drive : {A : Type 0} → Rules → Run A → Reached A
 drive rules (Done a s) = Gives a s
 drive rules (Over o s) = Ends o s
 drive rules (At kind line s go) =
     if nat_lt s.moments rules.bound
     then (
-    if nat_eq (s.moments + 1) rules.stop
+    if rules.halts (moment_of kind (arrived line s)) (written rules.writes (s.moments + 1) (arrived line s))
     then Stops (moment_of kind (arrived line s)) (written rules.writes (s.moments + 1) (arrived line s))
     else drive rules (go (written rules.writes (s.moments + 1) (arrived line s)))
     )
     else Ends Bound s
+
+-- where a program that came so far has stopped
+abbrev pub stopped : {A : Type 0} → Reached A → Stop
+stopped (Gives a s) = stop.Ended Completed s
+stopped (Ends o s) = stop.Ended o s
+stopped (Stops moment s) = stop.At moment s
 
 -- what the evaluator answers and the state that it leaves are what a run reached
 abbrev pub Meets : {A : Type 0} → Result A Halt → State → Reached A → Type 0

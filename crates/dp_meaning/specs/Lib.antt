@@ -9,6 +9,7 @@ pub mod Statements
 pub mod Programs
 pub mod Writes
 pub mod Trace
+pub mod Stopping
 pub mod Past
 pub mod Drive
 pub mod Evaluation

@@ -5,9 +5,8 @@ use Rattle.std.specs.Option.{option_map_or}
 use Rattle.dp_value.specs.declared.key.Key.{Key}
 use Rattle.dp_value.specs.declared.value.Value.{Value}
 use Rattle.dp_value.specs.declared.value.Value.TheVariants.{Null, Bool as Truth, Int, Text, Array}
-use Rattle.dp_value.specs.Data.{Data}
+use Rattle.dp_value.specs.Data.{Data, data_of_key}
 use Rattle.dp_value.specs.Value.{value_of}
-use Rattle.dp_operations.specs.Lists.{data_of_key}
 use Rattle.dp_tree.specs.declared.tree.Binding.{Binding}
 use Rattle.dp_state.specs.declared.moments.MomentKind.TheVariants.{Place}
 use Rattle.dp_state.specs.declared.moments.Outcome.TheVariants.{Bound}

@@ -1,6 +1,5 @@
 -- What is done with places: variables, and entries of them under indices.
-use Rattle.std.specs.Prelude.{ℕ, Bool, true, false, if◌then◌else◌, List, [], ◌∷◌, Option, Some, None, map, unwrap_or, is_some}
-use Rattle.std.specs.List.{list_all}
+use Rattle.std.specs.Prelude.{ℕ, Bool, true, false, if◌then◌else◌, List, [], ◌∷◌, map, unwrap_or}
 use Rattle.dp_value.specs.declared.operators.BinaryOp.{BinaryOp}
 use Rattle.dp_value.specs.declared.operators.UnaryOp.{UnaryOp}
 use Rattle.dp_value.specs.declared.value.Value.{Value}
@@ -11,11 +10,10 @@ use Rattle.dp_operations.specs.Indexing.{found_by, indexed_by}
 use Rattle.dp_operations.specs.Unary.{unary_of}
 use Rattle.dp_tree.specs.declared.tree.Order.{Order}
 use Rattle.dp_tree.specs.declared.tree.Order.TheVariants.{StepFirst, ValueFirst}
-use Rattle.dp_state.specs.declared.moments.FatalKind.TheVariants.{BadKey}
 use Rattle.dp_state.specs.declared.state.State.{State}
 use Rattle.dp_state.specs.Places.{assigned, keys_of_indices, unset}
 use Rattle.dp_state.specs.States.{read}
-use Rattle.dp_meaning.specs.Run.{Run, Done, fatal, taken, ◌>>=◌}
+use Rattle.dp_meaning.specs.Run.{Run, Done, taken, ◌>>=◌}
 use Rattle.dp_meaning.specs.Setting.{Part}
 use Rattle.dp_meaning.specs.Values.{value_run, is_missing}
 
@@ -40,10 +38,6 @@ found_run name indices s = value_run (found_by (map data_of indices) (data_of (v
 abbrev pub assign_run : List ℕ → List Value → Bool → Value → State → Run Value
 assign_run name indices push value s = taken (assigned 0 name (keys_of_indices indices) push value s) s >>= λ _ t. Done value t
 
--- The old value of a place that is changed. Its indices become keys here, before what is to the right of the operator.
-abbrev pub old_run : List ℕ → List Value → State → Run Value
-old_run name indices s = if list_all is_some (keys_of_indices indices) then read_run name indices s else fatal BadKey s
-
 -- an assignment under indices that are evaluated
 abbrev pub assigned_under : Bool → List ℕ → Part Value → List Value → Part Value
 assigned_under push name right indices setting s = right setting s >>= λ v t. assign_run name indices push v t
@@ -60,9 +54,10 @@ combined op name indices old v s = value_run (binary_of op (data_of old) (data_o
 abbrev pub compound_from : BinaryOp → List ℕ → Part Value → List Value → Value → Part Value
 compound_from op name right indices old setting s = right setting s >>= λ v t. combined op name indices old v t
 
--- a compound assignment under indices that are evaluated
+-- A compound assignment under indices that are evaluated: the old value is read as any value of a place is, and the write comes after the right
+-- side, into what the variable holds by then.
 abbrev pub compound_under : BinaryOp → List ℕ → Part Value → List Value → Part Value
-compound_under op name right indices setting s = old_run name indices s >>= λ old t. compound_from op name right indices old setting t
+compound_under op name right indices setting s = read_run name indices s >>= λ old t. compound_from op name right indices old setting t
 
 -- `+=` and its like
 abbrev pub compound : BinaryOp → PlaceRun → Part Value → Part Value
@@ -90,9 +85,9 @@ step_written order name indices old new s = assign_run name indices false new s 
 abbrev pub step_from : UnaryOp → Order → List ℕ → List Value → Value → State → Run Value
 step_from op order name indices old s = value_run (unary_of op (data_of old)) s >>= λ new t. step_written order name indices old new t
 
--- `++` and `--` under indices that are evaluated
+-- `++` and `--` under indices that are evaluated: the old value is read as any value of a place is
 abbrev pub step_under : UnaryOp → Order → List ℕ → List Value → State → Run Value
-step_under op order name indices s = old_run name indices s >>= λ old t. step_from op order name indices old t
+step_under op order name indices s = read_run name indices s >>= λ old t. step_from op order name indices old t
 
 -- `++` and `--`
 abbrev pub step : UnaryOp → Order → PlaceRun → Part Value

@@ -3,7 +3,7 @@ use Rattle.std.specs.Prelude.{ℕ, zero, suc, pos, List, [], slice_get}
 use Rattle.std.specs.Option.{option_map_or}
 use Rattle.dp_tree.specs.declared.tree.Function.{Function}
 use Rattle.dp_tree.specs.declared.tree.Statement.{Statement}
-use Rattle.dp_bundle.specs.declared.bundle.Bundle.{Bundle}
+use Rattle.dp_tree.specs.declared.bundle.Bundle.{Bundle}
 use Rattle.dp_state.specs.declared.moments.FatalKind.TheVariants.{TooDeep}
 use Rattle.dp_state.specs.declared.moments.MomentKind.TheVariants.{Enter, Leave}
 use Rattle.dp_state.specs.declared.state.State.{State}
@@ -24,22 +24,31 @@ returned none (Break loops) = none
 returned none (Continue loop) = none
 returned none (Return v) = v
 
--- A call: its parameters are set, then it enters, on the line of `function`; it leaves on the line of its last moment, before its frame goes. Without
--- a return it gives null.
+-- what is left of a call that has left: its frame goes, and it gives what its body gave, or null
+abbrev pub left_call : Signal → State → Run Value
+left_call g s = Done (returned Null g) (left s)
+
+-- a call whose body is done leaves, on the line of its last moment, before its frame goes
+abbrev pub leaving : Signal → State → Run Value
+leaving g s = At Leave (line_of s) s (left_call g)
+
+-- A call: its parameters are set, then it enters, on the line of `function`.
 abbrev pub function_run : ℕ → Function → List Value → Part Value
 function_run file f values setting s =
-    taken (called file f values s) s >>= λ _ t. At Enter f.line t (λ u.
-    body_run f.body setting u >>= λ g v. At Leave (line_of v) v (λ w. Done (returned Null g) (left w)))
+    taken (called file f values s) s >>= λ _ t. At Enter f.line t (λ u. body_run f.body setting u >>= leaving)
 
 -- the statements of the file of this number
 abbrev pub statements_of : Bundle → ℕ → List Statement
 statements_of bundle file = option_map_or (λ f. f.tree.body) (slice_get bundle.files file) []
 
--- an included file: its functions are declared, then it runs; without a return it gives 1
+-- what is left of an included file that is done: its frame goes, and it gives what its body gave, or 1
+abbrev pub left_file : Signal → State → Run Value
+left_file g s = Done (returned (Int (pos 1)) g) (left s)
+
+-- an included file: its functions are declared, then it runs
 abbrev pub file_run : ℕ → Part Value
 file_run file setting s =
-    taken (included setting.bundle file s) s >>= λ _ t.
-    body_run (statements_of setting.bundle file) setting t >>= λ g u. Done (returned (Int (pos 1)) g) (left u)
+    taken (included setting.bundle file s) s >>= λ _ t. body_run (statements_of setting.bundle file) setting t >>= left_file
 
 -- what parts go by, where so many frames more can be on the stack
 unfoldable pub setting_of : Bundle → ℕ → ℕ → Setting

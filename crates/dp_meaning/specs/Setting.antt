@@ -1,7 +1,7 @@
 -- What the run of a part of a program goes by.
 use Rattle.std.specs.Prelude.{ℕ, List}
 use Rattle.dp_tree.specs.declared.tree.Function.{Function}
-use Rattle.dp_bundle.specs.declared.bundle.Bundle.{Bundle}
+use Rattle.dp_tree.specs.declared.bundle.Bundle.{Bundle}
 use Rattle.dp_state.specs.declared.state.State.{State}
 use Rattle.dp_value.specs.declared.value.Value.{Value}
 use Rattle.dp_meaning.specs.Run.{Run}

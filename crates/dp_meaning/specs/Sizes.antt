@@ -3,8 +3,8 @@
 use Rattle.std.specs.Prelude.{ℕ, ◌+◌, ◌*◌, List, [], ◌∷◌, Option, Some, None, map}
 use Rattle.std.specs.Option.{option_map_or}
 use denote.Param.Weighed.{most}
-use Rattle.dp_bundle.specs.declared.bundle.Bundle.{Bundle}
-use Rattle.dp_bundle.specs.declared.bundle.BundleFile.{BundleFile}
+use Rattle.dp_tree.specs.declared.bundle.Bundle.{Bundle}
+use Rattle.dp_tree.specs.declared.bundle.BundleFile.{BundleFile}
 use Rattle.dp_tree.specs.declared.tree.Arm.{Arm, fold-Arm}
 use Rattle.dp_tree.specs.declared.tree.Expression.{Expression, size-Expression}
 use Rattle.dp_tree.specs.declared.tree.Function.{Function}

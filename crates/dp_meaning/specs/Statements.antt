@@ -5,6 +5,7 @@ use Rattle.dp_value.specs.declared.value.Value.TheVariants.{Null, Bool, Int, Tex
 use Rattle.dp_value.specs.Value.{data_of}
 use Rattle.dp_operations.specs.Text.{text_of}
 use Rattle.dp_tree.specs.declared.tree.Arm.{Arm, fold-Arm}
+use Rattle.dp_tree.specs.declared.tree.Binding.{Binding}
 use Rattle.dp_tree.specs.declared.tree.Expression.{Expression}
 use Rattle.dp_tree.specs.declared.tree.Place.{Place}
 use Rattle.dp_tree.specs.declared.tree.Statement.{Statement, fold-Statement}
@@ -53,11 +54,14 @@ sequence (first ∷ rest) setting s = first setting s >>= λ g t. go_on g (seque
 abbrev pub print_run : Value → State → Run Unit
 print_run v s = taken (printed (text_of (data_of v)) s) s
 
+-- an operand of `echo` is written, and then come the others
+abbrev pub echoed : (State → Run Signal) → Value → State → Run Signal
+echoed rest v s = print_run v s >>= λ _ t. rest t
+
 -- `echo`: each operand is evaluated and written before the next
 abbrev pub echoes : List ExpressionRun → Part Signal
 echoes [] setting s = Done Next s
-echoes (first ∷ rest) setting s =
-    first.value setting s >>= λ v t. print_run v t >>= λ _ u. echoes rest setting u
+echoes (first ∷ rest) setting s = first.value setting s >>= echoed (echoes rest setting)
 
 -- the arms of an `if`, and what is done where no test holds
 abbrev pub arms_run : List ArmRun → Option (Part Signal) → Part Signal
@@ -86,15 +90,37 @@ exit_run (Int n) s = exit_with (status_of n) s
 exit_run (Text bytes) s = taken (printed bytes s) s >>= λ _ t. Over (Exit 0) t
 exit_run (Array t) s = fatal Unsupported s
 
+-- out of the function or the file, with a value
+abbrev pub returning : Value → State → Run Signal
+returning v s = Done (Return v) s
+
 -- `return`
 abbrev pub return_run : Option Expression → Part Signal
 return_run None setting s = Done (Return Null) s
-return_run (Some e) setting s = evaluation e setting s >>= λ v t. Done (Return v) t
+return_run (Some e) setting s = evaluation e setting s >>= returning
 
 -- `exit`
 abbrev pub end_run : Option Expression → Part Signal
 end_run None setting s = Over (Exit 0) s
-end_run (Some e) setting s = evaluation e setting s >>= λ v t. exit_run v t
+end_run (Some e) setting s = evaluation e setting s >>= exit_run
+
+-- ---- what is left of a statement whose first part is done
+
+-- on with the next statement
+abbrev pub then_next : {A : Type 0} → A → State → Run Signal
+then_next a s = Done Next s
+
+-- of an arm, by the value of its test: its body, or what is done where the test does not hold
+abbrev pub branch : Part Signal → Part Signal → Setting → Value → State → Run Signal
+branch body otherwise setting v s = if holds v then body setting s else otherwise setting s
+
+-- of a `for`: its turns
+abbrev pub for_turns : ℕ → List Expression → List Expression → Part Signal → Setting → List Value → State → Run Signal
+for_turns line tests after body setting before s = turns setting.bound line (evaluations tests setting) (evaluations after setting) (body setting) s
+
+-- of a `foreach`, by its subject: its turns
+abbrev pub each_turns : ℕ → Binding → Part Signal → Setting → Value → State → Run Signal
+each_turns line binding body setting v s = each_run line binding (entries v) (body setting) s
 
 -- ---- each layer of a tree, where the runs of its parts are known
 
@@ -104,10 +130,10 @@ statement_layer statement = statement.kind statement.line
 -- a test stands on the line of its `if`, `elseif` or `else if`
 abbrev pub arm_layer : Arm-F KindRun ArmRun (Part Signal) → ArmRun
 arm_layer arm otherwise setting s =
-    placed arm.line s (λ t. evaluation arm.test setting t >>= λ v u. if holds v then arm.body setting u else otherwise setting u)
+    placed arm.line s (λ t. evaluation arm.test setting t >>= branch arm.body otherwise setting)
 
 abbrev pub kind_layer : StatementKind-F KindRun ArmRun (Part Signal) → KindRun
-kind_layer (StatementKind-F.Expression e) line setting s = placed line s (λ t. evaluation e setting t >>= λ _ u. Done Next u)
+kind_layer (StatementKind-F.Expression e) line setting s = placed line s (λ t. evaluation e setting t >>= then_next)
 kind_layer (StatementKind-F.Echo operands) line setting s = placed line s (λ t. echoes (map expression_run operands) setting t)
 kind_layer (StatementKind-F.Block statements) line setting s = sequence statements setting s
 kind_layer StatementKind-F.Empty line setting s = Done Next s
@@ -116,16 +142,15 @@ kind_layer (StatementKind-F.While test body) line setting s =
     turns setting.bound line (evaluations (test ∷ []) setting) (evaluations [] setting) (body setting) s
 kind_layer (StatementKind-F.DoWhile body end test) line setting s = do_turns setting.bound end (evaluation test setting) (body setting) s
 kind_layer (StatementKind-F.For before tests after body) line setting s =
-    placed line s (λ t. evaluations before setting t >>= λ _ u.
-    turns setting.bound line (evaluations tests setting) (evaluations after setting) (body setting) u)
+    placed line s (λ t. evaluations before setting t >>= for_turns line tests after body setting)
 kind_layer (StatementKind-F.Foreach subject binding body) line setting s =
-    placed line s (λ t. evaluation subject setting t >>= λ v u. each_run line binding (entries v) (body setting) u)
+    placed line s (λ t. evaluation subject setting t >>= each_turns line binding body setting)
 kind_layer (StatementKind-F.Break loops) line setting s = placed line s (λ t. Done (Break loops) t)
 kind_layer (StatementKind-F.Continue loop) line setting s = placed line s (λ t. Done (Continue loop) t)
 kind_layer (StatementKind-F.Return value) line setting s = placed line s (λ t. return_run value setting t)
 kind_layer (StatementKind-F.Global names) line setting s = placed line s (λ t. Done Next (with_globals names t))
 kind_layer (StatementKind-F.Unset places) line setting s =
-    placed line s (λ t. unset_run (map place_run places) setting t >>= λ _ u. Done Next u)
+    placed line s (λ t. unset_run (map place_run places) setting t >>= then_next)
 kind_layer (StatementKind-F.Exit value) line setting s = placed line s (λ t. end_run value setting t)
 
 -- ---- whole trees

@@ -1,7 +1,7 @@
 -- What writes from outside do with a state at a moment. One that fails changes nothing.
 use Rattle.std.specs.Prelude.{ℕ, zero, suc, ◌-◌, false, nat_lt, nat_eq, if◌then◌else◌, List, [], ◌∷◌, length, Option, Some, None, Result, Ok, Err}
 use Rattle.dp_tree.specs.declared.tree.Expression.{Expression}
-use Rattle.dp_bundle.specs.declared.bundle.Bundle.{Bundle}
+use Rattle.dp_tree.specs.declared.bundle.Bundle.{Bundle}
 use Rattle.dp_state.specs.declared.moments.FatalKind.{FatalKind}
 use Rattle.dp_state.specs.declared.moments.Path.{Path}
 use Rattle.dp_state.specs.declared.state.State.{State}
@@ -11,17 +11,14 @@ use Rattle.dp_value.specs.declared.value.Value.{Value}
 use Rattle.dp_meaning.specs.declared.writing.NumberedWrite.{NumberedWrite}
 use Rattle.dp_meaning.specs.declared.writing.Write.{Write}
 use Rattle.dp_meaning.specs.declared.writing.Write.TheVariants.{Place, Evaluate}
+use Rattle.dp_meaning.specs.declared.writing.WriteFault.{WriteFault}
+use Rattle.dp_meaning.specs.declared.writing.WriteFault.TheVariants.{NoFrame, NoPlace}
 use Rattle.dp_meaning.specs.Expressions.{evaluation}
 use Rattle.dp_meaning.specs.Programs.{setting_of}
 use Rattle.dp_meaning.specs.Run.{Run, Done, Over, At}
 use Rattle.dp_meaning.specs.Setting.{Setting}
 
 -- ---- places
-
--- why a place is not written: the level has no frame, or there is no such place, or it cannot hold the value
-pub data WriteFault : Type 0 where
-  NoFrame : WriteFault
-  NoPlace : WriteFault
 
 abbrev pub place_or_fault : Result State FatalKind → Result State WriteFault
 place_or_fault (Ok s) = Ok s
@@ -36,6 +33,11 @@ in_context (suc (suc context)) level path value s = Err NoPlace
 -- what a write of a place leaves
 abbrev pub with_place : ℕ → ℕ → Path → Value → State → Result State WriteFault
 with_place level context path value s = if nat_lt level (length s.frames) then in_context context level path value s else Err NoFrame
+
+-- what a write of a place answers
+abbrev pub answer_of : Result State WriteFault → Result Unit WriteFault
+answer_of (Ok s) = Ok tt
+answer_of (Err fault) = Err fault
 
 -- ---- evaluations
 

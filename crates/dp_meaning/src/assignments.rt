@@ -8,7 +8,7 @@ use crate::evaluator::Evaluator;
 use crate::halt::Halt;
 use crate::operands::present;
 use crate::outside::Outside;
-use crate::places::{assign_place, found_place, old_place};
+use crate::places::{assign_place, found_place, read_place};
 use dp_state::State;
 use dp_tree::{Expression, Order, Place};
 use dp_value::{BinaryOp, Bytes, UnaryOp, Value};
@@ -78,7 +78,7 @@ impl<O: Outside> Evaluator<'_, O> {
     ) -> Result<Value, Halt>
         ensures { Evaluates (O.rules self.now.outside.now) (compound_under op name.now (evaluation right.now) indices.now (goes_by self.now) state.old) result state.new }
     {
-        let old = old_place(self.alloc, name, indices, state)?;
+        let old = read_place(self.alloc, name, indices, state)?;
         self.compound_from(op, name, indices, &old, right, state)
     }
 

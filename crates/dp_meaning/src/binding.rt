@@ -3,8 +3,7 @@
 ghost use Rattle.std.specs.Prelude.{◌≡◌, Some, slice_get, IfOk};
 ghost use Rattle.dp_value.specs.declared.key.Key.{Key as EntryKey};
 ghost use Rattle.dp_value.specs.Data.{Data};
-ghost use Rattle.dp_value.specs.Value.{data_of, value_of};
-ghost use Rattle.dp_operations.specs.Lists.{data_of_key};
+ghost use Rattle.dp_value.specs.Value.{value_of};
 ghost use Rattle.dp_meaning.specs.Drive.{Evaluates, Rules};
 ghost use Rattle.dp_meaning.specs.Loops.{bind, bind_key as bind_run};
 ghost use Rattle.dp_meaning.specs.Run.{Done};
@@ -14,7 +13,7 @@ use crate::halt::Halt;
 use crate::places::assign_variable;
 use dp_state::State;
 use dp_tree::Binding;
-use dp_value::{Bytes, Key, Memory, PhpArray, Value};
+use dp_value::{Bytes, Key, PhpArray};
 
 /// Binds the entry at a position: its value, then its key.
 pub(crate) fn bind_entry(
@@ -40,17 +39,7 @@ fn bind_key(name: &Option<Bytes>, key: &Key, state: &mut State) -> Result<(), Ha
 {
     match name {
         None => Ok(()),
-        Some(name) => assign_variable(name, value_of_key(key)?, state),
-    }
-}
-
-/// A key as a value.
-fn value_of_key(key: &Key) -> Result<Value, Memory>
-    ensures { IfOk result (λ value. data_of value ≡ data_of_key key.now) }
-{
-    match key {
-        Key::Int(n) => Ok(Value::Int(*n)),
-        Key::Text(bytes) => Ok(Value::Text(bytes.try_clone()?)),
+        Some(name) => assign_variable(name, key.to_value()?, state),
     }
 }
 

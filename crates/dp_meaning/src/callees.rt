@@ -4,9 +4,8 @@ ghost use Rattle.std.specs.Prelude.{option_map, ◌≡◌};
 ghost use Rattle.dp_meaning.specs.Calls.{callee as callee_named};
 ghost use Rattle.dp_meaning.specs.Evaluation.{callee_of};
 
-use dp_bundle::Bundle;
 use dp_state::State;
-use dp_tree::{Function, builtin_of};
+use dp_tree::{Bundle, Function, builtin_of};
 use dp_value::{Builtin, Bytes};
 
 /// What a name calls: a built-in function, or one of the file of this number.

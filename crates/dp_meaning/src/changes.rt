@@ -8,7 +8,7 @@ ghost use Rattle.dp_meaning.specs.Places.{combined, step_from as from_old, step_
 
 use crate::answers::value_of;
 use crate::halt::Halt;
-use crate::places::{assign_place, old_place};
+use crate::places::{assign_place, read_place};
 use dp_operations::{binary, unary};
 use dp_state::State;
 use dp_tree::Order;
@@ -42,7 +42,7 @@ pub(crate) fn step_place(
 ) -> Result<Value, Halt>
     ensures { (rules : Rules) → Evaluates rules (step_under op order name.now indices.now state.old) result state.new }
 {
-    let old = old_place(alloc, name, indices, state)?;
+    let old = read_place(alloc, name, indices, state)?;
     step_from(alloc, op, order, name, indices, old, state)
 }
 

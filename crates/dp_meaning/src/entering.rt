@@ -3,7 +3,7 @@
 ghost use Rattle.std.specs.Prelude.{◌≡◌, IfOk, None};
 ghost use Rattle.dp_value.specs.Value.{data_of};
 ghost use Rattle.dp_operations.specs.Text.{text_of};
-ghost use Rattle.dp_bundle.specs.Files.{file_named};
+ghost use Rattle.dp_tree.specs.Files.{file_named};
 ghost use Rattle.dp_state.specs.Functions.{called, included};
 ghost use Rattle.dp_meaning.specs.Calls.{inclusion_run};
 ghost use Rattle.dp_meaning.specs.Drive.{Evaluates, Rules};
@@ -14,10 +14,9 @@ ghost use Rattle.dp_meaning.specs.Setting.{Setting};
 use crate::faults::{fatal, fault};
 use crate::halt::Halt;
 use crate::signal::Signal;
-use dp_bundle::Bundle;
 use dp_operations::text;
 use dp_state::{FatalKind, State};
-use dp_tree::{Function, Inclusion, Statement};
+use dp_tree::{Bundle, Function, Inclusion, Statement};
 use dp_value::{Items, Memory, Value};
 use std::alloc::Global;
 

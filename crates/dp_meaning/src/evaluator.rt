@@ -2,8 +2,8 @@
 
 use crate::halt::Halt;
 use crate::outside::Outside;
-use dp_bundle::Bundle;
 use dp_state::{MomentKind, State};
+use dp_tree::Bundle;
 use std::alloc::Global;
 
 /// What an evaluation goes by.

@@ -28,17 +28,17 @@ mod running;
 mod signal;
 mod statements;
 mod stop;
+mod stops;
 mod turning;
 mod values;
+mod watched;
 mod writing;
 mod written;
 
 pub use halt::Halt;
-pub use running::run_to;
+pub use running::{run_to, run_until};
 pub use signal::Signal;
 pub use stop::Stop;
-pub use values::value_in;
-pub use writing::{NumberedWrite, Write};
-
-#[cfg(test)]
-mod tests;
+pub use stops::Stops;
+pub use values::{value_in, value_in_place};
+pub use writing::{NumberedWrite, Write, WriteFault};

@@ -3,15 +3,14 @@
 ghost use Rattle.std.specs.Prelude.{◌≡◌, false, Ok, Err, IfOk, OnOk, OnErr};
 ghost use Rattle.dp_meaning.specs.declared.halt.Halt.TheVariants as halt;
 ghost use Rattle.dp_state.specs.Places.{assigned, given_keys as all_given};
-ghost use Rattle.dp_meaning.specs.Writes.{evaluated, evaluation_setting, left_by, one_write, or_unchanged, place_or_fault, with_place, written_by};
+ghost use Rattle.dp_meaning.specs.Writes.{answer_of, evaluated, evaluation_setting, left_by, one_write, or_unchanged, place_or_fault, with_place, written_by};
 
 use crate::evaluator::Evaluator;
 use crate::halt::Halt;
 use crate::quiet::Quiet;
-use crate::writing::{NumberedWrite, Write};
-use dp_bundle::Bundle;
+use crate::writing::{NumberedWrite, Write, WriteFault};
 use dp_state::{FRAME_LIMIT, Fault, Path, State};
-use dp_tree::Expression;
+use dp_tree::{Bundle, Expression};
 use dp_value::{Key, Memory, Value};
 use std::alloc::Global;
 
@@ -48,26 +47,30 @@ fn make_write(alloc: Global, bundle: &Bundle, write: &Write, state: &mut State) 
             context,
             path,
             value,
-        } => write_place(alloc, *level, *context, path, value, state),
+        } => {
+            let _answer = write_place(alloc, *level, *context, path, value, state)?;
+            Ok(())
+        }
         Write::Evaluate(e) => evaluate(alloc, bundle, e, state),
     }
 }
 
-/// Gives a place a value, where it can hold it.
-fn write_place(
+/// Gives a place a value, where it can hold it, and answers whether it was given.
+pub(crate) fn write_place(
     alloc: Global,
     level: u32,
     context: u32,
     path: &Path,
     value: &Value,
     state: &mut State,
-) -> Result<(), Halt>
+) -> Result<Result<(), WriteFault>, Memory>
+    ensures answer { IfOk result (λ answer. answer ≡ answer_of (with_place level context path.now value.now state.old)) }
     ensures ok { OnOk result (state.new ≡ or_unchanged state.old (with_place level context path.now value.now state.old)) }
-    ensures err { OnErr result (result ≡ Err halt.Memory) }
+    ensures err { OnErr result (state.new ≡ state.old) }
 {
     let depth = state.frames.len();
     if level as usize >= depth {
-        return Ok(());
+        return Ok(Err(WriteFault::NoFrame));
     }
     if context == 0 {
         return write_variable(alloc, level as usize, path, value, state);
@@ -75,26 +78,27 @@ fn write_place(
     if context == 1 {
         return write_variable(alloc, depth - 1, path, value, state);
     }
-    Ok(())
+    Ok(Err(WriteFault::NoPlace))
 }
 
-/// Gives a place that begins at a variable of the frame at a level a value, where it can hold it.
+/// The same of a place that begins at a variable of the frame at a level.
 fn write_variable(
     alloc: Global,
     level: usize,
     path: &Path,
     value: &Value,
     state: &mut State,
-) -> Result<(), Halt>
+) -> Result<Result<(), WriteFault>, Memory>
+    ensures answer { IfOk result (λ answer. answer ≡ answer_of (place_or_fault (assigned level path.now.name (all_given path.now.keys) false value.now state.old))) }
     ensures ok { OnOk result (state.new ≡ or_unchanged state.old (place_or_fault (assigned level path.now.name (all_given path.now.keys) false value.now state.old))) }
-    ensures err { OnErr result (result ≡ Err halt.Memory) }
+    ensures err { OnErr result (state.new ≡ state.old) }
 {
     let keys = given_keys(alloc, path.keys.as_slice())?;
     let value = value.try_clone()?;
     match state.assign(level, &path.name, keys.as_slice(), false, value) {
-        Ok(()) => Ok(()),
-        Err(Fault::Fatal(_)) => Ok(()),
-        Err(Fault::Memory) => Err(Halt::Memory),
+        Ok(()) => Ok(Ok(())),
+        Err(Fault::Fatal(_)) => Ok(Err(WriteFault::NoPlace)),
+        Err(Fault::Memory) => Err(Memory),
     }
 }
 

@@ -1,20 +1,19 @@
 //! What is done with places whose indices are evaluated.
 
-ghost use Rattle.std.specs.Prelude.{◌≡◌, IfOk, is_some};
-ghost use Rattle.std.specs.List.{list_all};
+ghost use Rattle.std.specs.Prelude.{◌≡◌, IfOk};
 ghost use Rattle.dp_value.specs.KeyOf.{key_of_data};
 ghost use Rattle.dp_value.specs.Value.{data_of};
 ghost use Rattle.dp_state.specs.Places.{keys_of_indices, unset, with_global};
 ghost use Rattle.dp_meaning.specs.Drive.{Evaluates, Rules};
 ghost use Rattle.dp_meaning.specs.Loops.{bind_name};
-ghost use Rattle.dp_meaning.specs.Places.{assign_run, found_run, old_run, read_run, variable as value_named};
+ghost use Rattle.dp_meaning.specs.Places.{assign_run, found_run, read_run, variable as value_named};
 ghost use Rattle.dp_meaning.specs.Run.{Done, taken};
 
 use crate::answers::value_of;
-use crate::faults::{fatal, fault};
+use crate::faults::fault;
 use crate::halt::Halt;
 use dp_operations::{find_by, index_by};
-use dp_state::{FatalKind, State};
+use dp_state::State;
 use dp_value::{Bytes, Key, Memory, Value, ValueError, key_of};
 use std::alloc::Global;
 
@@ -56,21 +55,6 @@ pub(crate) fn found_place(
         Some(value) => value_of(find_by(alloc, value, indices), state),
         None => value_of(find_by(alloc, &Value::Null, indices), state),
     }
-}
-
-/// The old value of a place that is changed.
-pub(crate) fn old_place(
-    alloc: Global,
-    name: &Bytes,
-    indices: &[Value],
-    state: &State,
-) -> Result<Value, Halt>
-    ensures { (rules : Rules) → Evaluates rules (old_run name.now indices.now state.now) result state.now }
-{
-    if !are_keys(alloc, indices)? {
-        return Err(fatal(FatalKind::BadKey, state));
-    }
-    read_place(alloc, name, indices, state)
 }
 
 /// Writes a value, or one more entry, and gives the value.
@@ -127,18 +111,6 @@ fn keys_of(alloc: Global, indices: &[Value]) -> Result<Vec<Option<Key>>, Memory>
         keys.push(key_at(alloc, index)?)?;
     }
     Ok(keys)
-}
-
-/// Whether each index becomes a key.
-fn are_keys(alloc: Global, indices: &[Value]) -> Result<bool, Memory>
-    ensures { IfOk result (λ are. are ≡ list_all is_some (keys_of_indices indices.now)) }
-{
-    for index in indices {
-        if key_at(alloc, index)?.is_none() {
-            return Ok(false);
-        }
-    }
-    Ok(true)
 }
 
 /// The key that an index becomes.

@@ -1,17 +1,24 @@
 //! Runs of programs up to a moment.
 
-ghost use Rattle.std.specs.Prelude.{IfOk};
+ghost use Rattle.std.specs.Prelude.{◌≡◌, ◌<◌, length, IfOk};
+ghost use Rattle.dp_state.specs.States.{IsOf};
+ghost use Rattle.dp_meaning.specs.Drive.{drive, stopped};
+ghost use Rattle.dp_meaning.specs.Programs.{program_run};
+ghost use Rattle.dp_meaning.specs.Stopping.{first_stop, state_of};
 ghost use Rattle.dp_meaning.specs.Trace.{IsStop, program_trace};
 ghost use Rattle.dp_meaning.specs.Writes.{writes_of};
 
 use crate::entering::statements_of;
 use crate::evaluator::Evaluator;
 use crate::halt::Halt;
+use crate::outside::Outside;
 use crate::stop::Stop;
+use crate::stops::Stops;
+use crate::watched::Watched;
 use crate::writing::NumberedWrite;
 use crate::written::Written;
-use dp_bundle::Bundle;
 use dp_state::{FRAME_LIMIT, Outcome, State};
+use dp_tree::Bundle;
 use dp_value::Memory;
 use std::alloc::Global;
 
@@ -24,9 +31,9 @@ pub fn run_to(
     number: u64,
     bound: u64,
 ) -> Result<Stop, Memory>
-    ensures { IfOk result (λ stop. IsStop (program_trace bundle.now bound writes.now) (writes_of bundle.now writes.now) number stop) }
+    ensures stop { IfOk result (λ stop. IsStop (program_trace bundle.now bound writes.now) (writes_of bundle.now writes.now) number stop) }
+    ensures of { 0 < length bundle.now.files → IfOk result (λ stop. IsOf bundle.now (state_of stop)) }
 {
-    let mut state = State::opening(alloc, bundle)?;
     let outside = Written {
         bundle,
         writes,
@@ -34,9 +41,41 @@ pub fn run_to(
         bound,
         alloc,
     };
+    run(alloc, bundle, &outside, bound)
+}
+
+/// Runs a program, at whose moments these writes are made, up to the first moment above a number at which a test holds
+/// and its writes, or to its end where there is none. A run has at most `bound` moments.
+pub fn run_until<S: Stops>(
+    alloc: Global,
+    bundle: &Bundle,
+    writes: &[NumberedWrite],
+    after: u64,
+    stops: &S,
+    bound: u64,
+) -> Result<Stop, Memory>
+    ensures first { IfOk result (λ stop. stop ≡ first_stop (program_trace bundle.now bound writes.now) (writes_of bundle.now writes.now) after (S.test stops.now)) }
+    ensures of { 0 < length bundle.now.files → IfOk result (λ stop. IsOf bundle.now (state_of stop)) }
+{
+    let outside = Watched {
+        bundle,
+        writes,
+        after,
+        stops,
+        bound,
+        alloc,
+    };
+    run(alloc, bundle, &outside, bound)
+}
+
+/// Runs a program up to where the outside stops it, or to its end.
+fn run<O: Outside>(alloc: Global, bundle: &Bundle, outside: &O, bound: u64) -> Result<Stop, Memory>
+    ensures { IfOk result (λ stop. stop ≡ stopped (drive (O.rules outside.now) (program_run bundle.now bound))) }
+{
+    let mut state = State::opening(alloc, bundle)?;
     let evaluator = Evaluator {
         bundle,
-        outside: &outside,
+        outside,
         alloc,
         bound,
         depth: FRAME_LIMIT as u64,

@@ -1,6 +1,6 @@
 //! The values of expressions that change nothing.
 
-ghost use Rattle.std.specs.Prelude.{◌≡◌, true, IfOk};
+ghost use Rattle.std.specs.Prelude.{◌≡◌, true, IfOk, OnOk};
 ghost use Rattle.dp_tree.specs.Purity.{is_pure};
 ghost use Rattle.dp_meaning.specs.Pure.{IsValueIn};
 
@@ -8,14 +8,13 @@ use crate::evaluator::Evaluator;
 use crate::halt::Halt;
 use crate::making::EVALUATION_LIMIT;
 use crate::quiet::Quiet;
-use dp_bundle::Bundle;
 use dp_state::{FRAME_LIMIT, State};
-use dp_tree::Expression;
+use dp_tree::{Bundle, Expression};
 use dp_value::{Memory, Value};
 use std::alloc::Global;
 
 /// The value of an expression without calls, assignments, `++`, `--` and includes in the top frame of a state, and `None`
-/// exactly where its evaluation is fatal.
+/// exactly where its evaluation is fatal. Copies the state: see [`value_in_place`].
 pub fn value_in(
     alloc: Global,
     state: &State,
@@ -26,6 +25,20 @@ pub fn value_in(
     ensures { IfOk result (λ value. IsValueIn bundle.now e.now state.now value) }
 {
     let mut copy = state.try_clone()?;
+    value_in_place(alloc, &mut copy, bundle, e)
+}
+
+/// The same without a copy: it is evaluated in the state itself, which is left as it was.
+pub fn value_in_place(
+    alloc: Global,
+    state: &mut State,
+    bundle: &Bundle,
+    e: &Expression,
+) -> Result<Option<Value>, Memory>
+    requires { is_pure e.now ≡ true }
+    ensures value { IfOk result (λ value. IsValueIn bundle.now e.now state.old value) }
+    ensures same { OnOk result (state.new ≡ state.old) }
+{
     let quiet = Quiet {
         bound: EVALUATION_LIMIT,
     };
@@ -36,7 +49,7 @@ pub fn value_in(
         bound: EVALUATION_LIMIT,
         depth: FRAME_LIMIT as u64,
     };
-    match evaluator.expression(e, &mut copy) {
+    match evaluator.expression(e, state) {
         Ok(value) => Ok(Some(value)),
         Err(Halt::Memory) => Err(Memory),
         Err(Halt::Finished(_)) => Ok(None),

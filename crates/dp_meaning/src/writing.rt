@@ -17,6 +17,15 @@ pub enum Write {
     Evaluate(Expression),
 }
 
+/// Why a place is not written.
+#[derive(Clone, Copy, Debug, PartialEq, Eq)]
+pub enum WriteFault {
+    /// The level has no frame.
+    NoFrame,
+    /// There is no such place, or it cannot hold the value.
+    NoPlace,
+}
+
 /// A write and the number of the moment at which it is made.
 #[derive(Debug, Drop)]
 pub struct NumberedWrite {

@@ -5,8 +5,8 @@ use crate::making::write_all;
 use crate::moments::moment_of;
 use crate::outside::Outside;
 use crate::writing::NumberedWrite;
-use dp_bundle::Bundle;
 use dp_state::{MomentKind, Outcome, State};
+use dp_tree::Bundle;
 use std::alloc::Global;
 
 /// Writes, a bound, and the number of the moment at which the run stops.
@@ -20,9 +20,10 @@ pub(crate) struct Written<'a> {
 }
 
 impl Outside for Written<'_> {
+    ghost use Rattle.dp_meaning.specs.Drive.{at_number};
     ghost use Rattle.dp_meaning.specs.Writes.{writes_of};
 
-    ghost rules = { λ w. record { bound = w.bound; stop = w.stop; writes = writes_of w.bundle.now w.writes.now } };
+    ghost rules = { λ w. record { bound = w.bound; halts = at_number w.stop; writes = writes_of w.bundle.now w.writes.now } };
 
     fn at_moment(&self, kind: MomentKind, line: u32, state: &mut State) -> Result<(), Halt> {
         if state.moments >= self.bound {

@@ -4,7 +4,7 @@ use Rattle.std.specs.Option.{option_map_or}
 use Rattle.dp_value.specs.declared.error.ValueError.{ValueError}
 use Rattle.dp_value.specs.declared.error.ValueError.TheVariants.{BadKey}
 use Rattle.dp_value.specs.declared.key.Key.{Key}
-use Rattle.dp_value.specs.Codes.{table_from, table_from-data_of_table}
+use Rattle.dp_value.specs.inner.Codes.{table_from, table_from-data_of_table}
 use Rattle.dp_value.specs.Data.{Data, Table, data_of_table, null}
 use Rattle.dp_value.specs.KeyOf.{key_of_data}
 use Rattle.dp_value.specs.Table.{value_at}

@@ -3,8 +3,8 @@ use Rattle.std.specs.Prelude.{ℕ, ℤ, pos, zero, suc, ◌-◌, cond, nat_le, L
 use Rattle.dp_value.specs.declared.error.CallError.{CallError}
 use Rattle.dp_value.specs.declared.error.CallError.TheVariants.{TooHeavy}
 use Rattle.dp_value.specs.declared.key.Key.{Key}
-use Rattle.dp_value.specs.declared.key.Key.TheVariants.{Int, Text}
-use Rattle.dp_value.specs.Data.{Data, Table, integer, text, pairs_weight, data_of_table}
+use Rattle.dp_value.specs.declared.key.Key.TheVariants.{Int}
+use Rattle.dp_value.specs.Data.{Data, Table, pairs_weight, data_of_table}
 use Rattle.dp_value.specs.Table.{weight_limit}
 
 -- the values under the integer keys from n on
@@ -23,8 +23,3 @@ list_of ds = record { pairs = numbered 0 ds; largest = last_of (length ds) }
 -- an array, where it is not too heavy
 abbrev pub light_array : Table → Result Data CallError
 light_array t = cond (nat_le (pairs_weight t.pairs) weight_limit) (Ok (data_of_table t)) (Err TooHeavy)
-
--- a key as a value
-abbrev pub data_of_key : Key → Data
-data_of_key (Int n) = integer n
-data_of_key (Text bytes) = text bytes

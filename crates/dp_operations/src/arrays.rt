@@ -1,13 +1,13 @@
 ghost use Rattle.std.specs.Prelude.{◌≡◌, ◌<◌, ◌≤◌, ◌⊎◌, pos, length, map, Some, IfOk, IfErr, OnOk};
-ghost use Rattle.dp_value.specs.Data.{pairs_weight};
+ghost use Rattle.dp_value.specs.Data.{data_of_key, pairs_weight};
 ghost use Rattle.dp_value.specs.Table.{table_push, largest_int, weight_limit};
 ghost use Rattle.dp_value.specs.Value.{data_of};
 ghost use Rattle.dp_operations.specs.Builtins as table;
 ghost use Rattle.dp_operations.specs.Builtins.{count_of, on_one, single as one_of, CallAnswers, CallGives};
-ghost use Rattle.dp_operations.specs.Lists.{data_of_key, light_array, list_of};
+ghost use Rattle.dp_operations.specs.Lists.{light_array, list_of};
 
 use crate::arguments::single;
-use dp_value::{CallError, Key, Memory, PhpArray, Value, ValueError};
+use dp_value::{CallError, Key, PhpArray, Value, ValueError};
 use std::alloc::Global;
 
 /// The number of entries of an array.
@@ -68,7 +68,7 @@ fn list_of_keys(alloc: Global, keys: &[Key]) -> Result<Value, CallError>
 {
     let mut list = PhpArray::new(alloc);
     for key in keys {
-        append(&mut list, value_of_key(key)?)?;
+        append(&mut list, key.to_value()?)?;
     }
     Ok(Value::Array(list))
 }
@@ -82,16 +82,6 @@ fn list_of_values(alloc: Global, values: &[Value]) -> Result<Value, CallError>
         append(&mut list, value.try_clone()?)?;
     }
     Ok(Value::Array(list))
-}
-
-/// A key as a value.
-fn value_of_key(key: &Key) -> Result<Value, Memory>
-    ensures { IfOk result (λ v. data_of v ≡ data_of_key key.now) }
-{
-    match key {
-        Key::Int(n) => Ok(Value::Int(*n)),
-        Key::Text(bytes) => Ok(Value::Text(bytes.try_clone()?)),
-    }
 }
 
 /// Adds a value at the end of a list.

@@ -17,6 +17,3 @@ pub use builtins::builtin;
 pub use indexing::{find, find_by, index, index_by};
 pub use operators::{binary, unary};
 pub use texts::text;
-
-#[cfg(test)]
-mod tests;

@@ -4,10 +4,10 @@ use Rattle.std.specs.List.{AllByRecursion}
 use Rattle.std.specs.Option.{option_map_or}
 use Rattle.std.specs.Str.{bytes_eq}
 use Rattle.std.proofs.lemmas.List.Elements.{All-from_recursion, recursion_from_All, All-append, All-push, All-nil}
-use Rattle.dp_bundle.specs.declared.bundle.Bundle.{Bundle}
-use Rattle.dp_bundle.specs.declared.bundle.BundleFile.{BundleFile}
-use Rattle.dp_bundle.specs.declared.bundle.FunctionRef.{FunctionRef}
-use Rattle.dp_bundle.specs.Files.{first_functions, function_count, functions_of}
+use Rattle.dp_tree.specs.declared.bundle.Bundle.{Bundle}
+use Rattle.dp_tree.specs.declared.bundle.BundleFile.{BundleFile}
+use Rattle.dp_tree.specs.declared.bundle.FunctionRef.{FunctionRef}
+use Rattle.dp_tree.specs.Files.{first_functions, function_count, functions_of}
 use Rattle.dp_tree.specs.declared.tree.Function.{Function}
 use Rattle.dp_value.specs.declared.error.WriteError.{WriteError}
 use Rattle.dp_value.specs.declared.key.Key.{Key}

@@ -2,7 +2,7 @@
 use Rattle.std.proofs.Common.{◌≡◌, refl, sym, ap, ◌∙◌}
 use Rattle.dp_value.specs.declared.value.Value.{Value}
 use Rattle.dp_value.specs.declared.value.Value.TheVariants.{Null, Bool, Int, Text, Array}
-use Rattle.dp_value.specs.Codes.{table_from-data_of_table}
+use Rattle.dp_value.specs.inner.Codes.{table_from-data_of_table}
 use Rattle.dp_value.specs.Data.{Data}
 use Rattle.dp_value.specs.Value.{data_of, value_of}
 

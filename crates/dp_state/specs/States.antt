@@ -1,8 +1,8 @@
 -- States of a program: of which bundle they are, where a program begins, whose variables a frame uses, and what a step leaves.
 use Rattle.std.specs.Prelude.{◌≡◌, ℕ, zero, suc, ◌+◌, ◌-◌, ◌<◌, ◌==◌, nat_le, Bool, false, if◌then◌else◌, List, [], ◌∷◌, ◌++◌, length, take, All, Option, slice_get, Result, Ok, Err, ⊤}
 use Rattle.std.specs.Option.{option_map_or}
-use Rattle.dp_bundle.specs.declared.bundle.Bundle.{Bundle}
-use Rattle.dp_bundle.specs.Files.{function_count, functions_of}
+use Rattle.dp_tree.specs.declared.bundle.Bundle.{Bundle}
+use Rattle.dp_tree.specs.Files.{function_count, functions_of}
 use Rattle.dp_state.specs.declared.moments.FatalKind.{FatalKind}
 use Rattle.dp_state.specs.declared.moments.FatalKind.TheVariants.{TooDeep, OutputFull}
 use Rattle.dp_state.specs.declared.state.Fault.{Fault}
@@ -132,3 +132,7 @@ left s = record s { frames = take (length s.frames - 1) s.frames }
 abbrev pub IsCause : Result State FatalKind → Fault → Type 0
 IsCause asked fault.Memory = ⊤
 IsCause asked (fault.Fatal kind) = asked ≡ Err kind
+
+-- a step that is refused by what is asked is refused so, whatever memory there is
+abbrev pub IsSure : {A : Type 0} → Result State FatalKind → Result A Fault → Type 0
+IsSure asked result = (kind : FatalKind) → asked ≡ Err kind → result ≡ Err (fault.Fatal kind)

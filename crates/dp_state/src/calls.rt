@@ -1,15 +1,17 @@
 //! The frames of calls and of included files.
 
-ghost use Rattle.std.specs.Prelude.{◌≡◌, ◌++◌, [], Ok, IfOk, IfErr, OnOk, OnErr};
-ghost use Rattle.dp_state.specs.States.{IsCause};
-ghost use Rattle.dp_state.specs.Functions.{any_declared as has_declared, called, included, included_frame as frame_of_file, is_declared as has_one, with_parameters};
+ghost use Rattle.std.specs.Prelude.{◌≡◌, ◌++◌, [], is_some, slice_get, Ok, IfOk, IfErr, OnOk, OnErr};
+ghost use Rattle.std.specs.List.{list_any};
+ghost use Rattle.std.specs.Option.{option_map_or};
+ghost use Rattle.dp_state.specs.States.{IsCause, IsSure};
+ghost use Rattle.dp_tree.specs.Files.{functions_of};
+ghost use Rattle.dp_state.specs.Functions.{any_declared as has_declared, called, declared_function, included, included_frame as frame_of_file, with_parameters};
 
 use crate::moments::FatalKind;
 use crate::state::{Fault, Frame, FrameKind, State};
 use crate::steps::FRAME_LIMIT;
 use crate::vars::{Slot, Vars};
-use dp_bundle::{Bundle, FunctionRef};
-use dp_tree::Function;
+use dp_tree::{Bundle, Function, FunctionRef};
 use dp_value::{Bytes, Items, Memory, Value};
 use std::alloc::Global;
 use std::mem;
@@ -19,7 +21,7 @@ impl State {
     /// beyond the parameters are left out.
     ///
     /// `Arguments` comes exactly where there are fewer values than parameters, else `TooDeep` exactly where there would be
-    /// more than [`FRAME_LIMIT`] frames. After a refusal the state is as before.
+    /// more than [`FRAME_LIMIT`] frames, both also where there is no memory. After a refusal the state is as before.
     pub fn call(
         &mut self,
         file: u32,
@@ -28,10 +30,14 @@ impl State {
     ) -> Result<(), Fault>
         ensures ok { OnOk result (called file function.now values self.old ≡ Ok self.new) }
         ensures refused { IfErr result (IsCause (called file function.now values self.old)) }
+        ensures sure { IsSure (called file function.now values self.old) result }
         ensures err { OnErr result (self.new ≡ self.old) }
     {
         if values.len() < function.parameters.len() {
             return Err(Fault::Fatal(FatalKind::Arguments));
+        }
+        if self.frames.len() >= FRAME_LIMIT {
+            return Err(Fault::Fatal(FatalKind::TooDeep));
         }
         let alloc = self.allocator();
         let frame = Frame {
@@ -48,21 +54,22 @@ impl State {
     /// declares the functions of the file in order.
     ///
     /// `TooDeep` comes exactly where there would be more than [`FRAME_LIMIT`] frames, else `Redeclared` exactly where a
-    /// function of the file has the name of one that is declared, in any case of letters. After a refusal the state is as
-    /// before.
+    /// function of the file has the name of one that is declared, in any case of letters, both also where there is no
+    /// memory. After a refusal the state is as before.
     pub fn include(&mut self, bundle: &Bundle, file: u32) -> Result<(), Fault>
         ensures ok { OnOk result (included bundle.now file self.old ≡ Ok self.new) }
         ensures refused { IfErr result (IsCause (included bundle.now file self.old)) }
+        ensures sure { IsSure (included bundle.now file self.old) result }
         ensures err { OnErr result (self.new ≡ self.old) }
     {
         if self.frames.len() >= FRAME_LIMIT {
             return Err(Fault::Fatal(FatalKind::TooDeep));
         }
-        let alloc = self.allocator();
-        let functions = bundle.functions(alloc, file)?;
-        if self.any_declared(bundle, functions.as_slice()) {
+        if self.any_declared(bundle, file) {
             return Err(Fault::Fatal(FatalKind::Redeclared));
         }
+        let alloc = self.allocator();
+        let functions = bundle.functions(alloc, file)?;
         self.enter(included_frame(alloc, file))?;
         match declare(alloc, &mut self.declared, functions.as_slice()) {
             Ok(()) => Ok(()),
@@ -73,21 +80,28 @@ impl State {
         }
     }
 
-    // Whether one of these functions has the name of one that is declared.
-    fn any_declared(&self, bundle: &Bundle, functions: &[FunctionRef]) -> bool
-        ensures { result ≡ has_declared bundle.now self.now.declared functions.now }
+    // Whether a function of this file has the name of one that is declared.
+    fn any_declared(&self, bundle: &Bundle, file: u32) -> bool
+        ensures { result ≡ has_declared bundle.now self.now.declared (functions_of bundle.now file) }
     {
-        functions.iter().any(|f| self.is_declared(bundle, *f))
+        self.any_named(bundle, functions_in(bundle, file))
     }
 
-    // Whether this function has the name of one that is declared.
-    fn is_declared(&self, bundle: &Bundle, reference: FunctionRef) -> bool
-        ensures { result ≡ has_one bundle.now self.now.declared reference }
+    // Whether one of these functions has the name of one that is declared.
+    fn any_named(&self, bundle: &Bundle, functions: &[Function]) -> bool
+        ensures { result ≡ list_any (λ f. is_some (declared_function bundle.now f.name self.now.declared)) functions.now }
     {
-        match bundle.function(reference) {
-            Some(function) => self.function(bundle, function.name.as_slice()).is_some(),
-            None => false,
-        }
+        functions.iter().any(|function| self.function(bundle, function.name.as_slice()).is_some())
+    }
+}
+
+// The functions of the file of this number.
+fn functions_in(bundle: &Bundle, file: u32) -> &[Function]
+    ensures { result.now ≡ option_map_or (λ f. f.tree.functions) (slice_get bundle.now.files file) [] }
+{
+    match bundle.files.as_slice().get(file as usize) {
+        Some(file) => file.tree.functions.as_slice(),
+        None => &[],
     }
 }
 

@@ -1,8 +1,9 @@
 //! Writes and removals among variables.
 
-ghost use Rattle.std.specs.Prelude.{◌≡◌, not, is_some, None, Ok, IfOk, IfErr, OnOk, OnErr};
+ghost use Rattle.std.specs.Prelude.{◌≡◌, ◌≢◌, not, is_some, None, Ok, Err, IfOk, IfErr, OnOk, OnErr};
 ghost use Rattle.dp_state.specs.Variables.{slot_of, value_held, with_slot};
 ghost use Rattle.dp_state.specs.Places.{assigned_in, removed_in, with_null, IsCauseIn};
+ghost use Rattle.dp_state.specs.declared.state.Fault.TheVariants as fault;
 ghost use Rattle.dp_state.specs.declared.vars.Slot.TheVariants as variable;
 
 use crate::state::Fault;
@@ -62,6 +63,7 @@ fn assign_new(
 pub(crate) fn remove_in(vars: &mut Vars, name: &Bytes, keys: &[Option<Key>]) -> Result<(), Fault>
     ensures ok { OnOk result (removed_in name.now keys.now vars.old ≡ Ok vars.new) }
     ensures refused { IfErr result (IsCauseIn (removed_in name.now keys.now vars.old)) }
+    ensures memory { result ≢ Err fault.Memory }
     ensures err { OnErr result (vars.new ≡ vars.old) }
 {
     let Some(mut held) = vars.exchange(name, Value::Null) else {

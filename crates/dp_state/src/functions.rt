@@ -4,7 +4,7 @@ ghost use Rattle.std.specs.Prelude.{◌≡◌};
 ghost use Rattle.dp_state.specs.Functions.{declared_function, is_named as has_name};
 
 use crate::state::State;
-use dp_bundle::{Bundle, FunctionRef};
+use dp_tree::{Bundle, FunctionRef};
 
 // Whether the function that a reference names has this name, in any case of letters.
 fn is_named(bundle: &Bundle, name: &[u8], reference: FunctionRef) -> bool

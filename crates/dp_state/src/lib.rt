@@ -18,6 +18,3 @@ pub use moments::{FatalKind, Moment, MomentKind, Outcome, Path};
 pub use state::{Fault, Frame, FrameKind, State};
 pub use steps::{FRAME_LIMIT, OUTPUT_LIMIT};
 pub use vars::{Slot, Vars};
-
-#[cfg(test)]
-mod tests;

@@ -5,7 +5,7 @@ ghost use Rattle.dp_state.specs.States.{first_frame, opening};
 
 use crate::state::{Frame, FrameKind, State};
 use crate::vars::Vars;
-use dp_bundle::Bundle;
+use dp_tree::Bundle;
 use dp_value::{Bytes, Items, Memory};
 use std::alloc::Global;
 

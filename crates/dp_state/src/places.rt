@@ -1,7 +1,8 @@
 //! Writes of variables and of their entries, and `unset` and `global`.
 
-ghost use Rattle.std.specs.Prelude.{◌≡◌, ◌≤◌, ◌<◌, ◌-◌, [], Ok, Some, length, option_map, slice_get, IfErr, OnOk, OnErr};
-ghost use Rattle.dp_state.specs.States.{own_variables, IsCause};
+ghost use Rattle.std.specs.Prelude.{◌≡◌, ◌≢◌, ◌≤◌, ◌<◌, ◌-◌, [], Ok, Err, Some, length, option_map, slice_get, IfErr, OnOk, OnErr};
+ghost use Rattle.dp_state.specs.States.{own_variables, IsCause, IsSure};
+ghost use Rattle.dp_state.specs.declared.state.Fault.TheVariants as fault;
 ghost use Rattle.dp_state.specs.Variables.{slot_of};
 ghost use Rattle.dp_state.specs.Places.{assigned, home as home_of, is_bound as is_mark, unset, with_global, with_own, with_vars, without_variable};
 
@@ -40,13 +41,16 @@ impl State {
 
     /// Takes a variable of the top frame away, or its entry under `keys` where there are any. A key that is `None` stands
     /// for an index that is no key. A name that is bound is bound no more, and the global variable stays; an entry of it
-    /// is an entry of the global variable. Where the variable or an entry on the way is missing, nothing changes.
+    /// is an entry of the global variable. Where the variable or an entry on the way is missing, nothing changes. Takes no
+    /// memory.
     ///
     /// The causes are tried key by key: `Scalar` and `Unsupported` by what holds the entry, then `BadKey`. After a refusal
     /// the state is as before.
     pub fn unset(&mut self, name: &Bytes, keys: &[Option<Key>]) -> Result<(), Fault>
         ensures ok { OnOk result (unset name.now keys.now self.old ≡ Ok self.new) }
         ensures refused { IfErr result (IsCause (unset name.now keys.now self.old)) }
+        ensures sure { IsSure (unset name.now keys.now self.old) result }
+        ensures memory { result ≢ Err fault.Memory }
         ensures err { OnErr result (self.new ≡ self.old) }
     {
         if keys.is_empty() {

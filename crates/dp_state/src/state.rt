@@ -1,6 +1,6 @@
 use crate::moments::FatalKind;
 use crate::vars::Vars;
-use dp_bundle::FunctionRef;
+use dp_tree::FunctionRef;
 use dp_value::{Bytes, Items};
 
 /// What a frame is of.

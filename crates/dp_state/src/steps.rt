@@ -1,7 +1,7 @@
 //! The steps on a state.
 
 ghost use Rattle.std.specs.Prelude.{◌≡◌, ◌++◌, ◌∷◌, ◌<◌, [], Ok, IfErr, OnOk, OnErr};
-ghost use Rattle.dp_state.specs.States.{counted, entered, left, on_line, printed, with_line, IsCause};
+ghost use Rattle.dp_state.specs.States.{counted, entered, left, on_line, printed, with_line, IsCause, IsSure};
 
 use crate::moments::FatalKind;
 use crate::state::{Fault, Frame, State};
@@ -41,10 +41,11 @@ impl State {
 
     /// Writes a piece of output.
     ///
-    /// `OutputFull` comes exactly where more than [`OUTPUT_LIMIT`] bytes would be written. After a refusal the state
-    /// is as before.
+    /// `OutputFull` comes exactly where more than [`OUTPUT_LIMIT`] bytes would be written, also where there is no memory.
+    /// After a refusal the state is as before.
     pub fn print(&mut self, piece: &[u8]) -> Result<(), Fault>
         ensures ok { OnOk result (printed piece.now self.old ≡ Ok self.new) }
+        ensures sure { IsSure (printed piece.now self.old) result }
         ensures refused { IfErr result (IsCause (printed piece.now self.old)) }
         ensures err { OnErr result (self.new ≡ self.old) }
     {
@@ -58,9 +59,11 @@ impl State {
 
     /// Puts a frame on top.
     ///
-    /// `TooDeep` comes exactly where there would be more than [`FRAME_LIMIT`]. After a refusal the state is as before.
+    /// `TooDeep` comes exactly where there would be more than [`FRAME_LIMIT`], also where there is no memory. After a
+    /// refusal the state is as before.
     pub fn enter(&mut self, frame: Frame) -> Result<(), Fault>
         ensures ok { OnOk result (entered frame self.old ≡ Ok self.new) }
+        ensures sure { IsSure (entered frame self.old) result }
         ensures refused { IfErr result (IsCause (entered frame self.old)) }
         ensures err { OnErr result (self.new ≡ self.old) }
     {

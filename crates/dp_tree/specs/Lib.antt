@@ -3,3 +3,5 @@ pub mod Builtins
 pub mod Doubles
 pub mod Purity
 pub mod CodeLines
+pub mod Files
+pub mod FileNames

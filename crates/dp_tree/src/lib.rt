@@ -1,16 +1,19 @@
-//! The trees of programs, and what can be said of trees alone: the lowest layer of the parser. Nothing here knows of
-//! tokens or of how a tree is spelled.
+//! The trees of programs, their files and functions by name and number, and what can be said of trees alone. Nothing
+//! here knows of tokens or of how a tree is spelled.
 #![tactic(auto)]
 
 mod boxed;
 mod builtins;
+mod bundle;
 mod doubles;
+mod files;
 mod lines;
 mod purity;
 mod tree;
 
 pub use boxed::Boxed;
 pub use builtins::builtin_of;
+pub use bundle::{Bundle, BundleFile, FILE_COUNT_LIMIT, FILE_LIMIT, FILE_NAME_LIMIT, FunctionRef};
 pub use doubles::first_double;
 pub use lines::has_code;
 pub use purity::is_pure;
@@ -18,6 +21,3 @@ pub use tree::{
     Arm, Binding, Expression, File, Function, Inclusion, Item, Link, Operator, Order, Place,
     Statement, StatementKind,
 };
-
-#[cfg(test)]
-mod tests;

@@ -1,17 +1,17 @@
-use Rattle.dp_meaning.specs.Programs.{program_run}
-use Rattle.dp_meaning.proofs.Stops.{completes, finishes, stops}
+use Rattle.std.proofs.Common.{sym, subst}
+use Rattle.std.proofs.lemmas.Result.{IfOk-weaker}
+use Rattle.dp_meaning.specs.Trace.{IsStop, program_trace}
+use Rattle.dp_meaning.specs.Writes.{writes_of}
+use Rattle.dp_meaning.proofs.OfBundle.{stop-of}
+use Rattle.dp_meaning.proofs.StopLaws.{program_stops}
 use Rattle.dp_meaning.proofs.running.run_to.Goals as goal
 
-pub returns-in-Ok : goal.returns-in-Ok
-unfolding program_run
-returns-in-Ok c = completes _ _ _ _ _ _ (rw (c.statements_of.ensures, c.in_ok-state.ensures) at c.in-Ok.ensures)
+pub returns-clause-stop : goal.returns-clause-stop
+returns-clause-stop c =
+    IfOk-weaker c.run.result _ _ (λ stop e. subst (IsStop (program_trace c.args.bundle.now c.args.bound c.args.writes.now)
+    (writes_of c.args.bundle.now c.args.writes.now) c.args.number) (sym e)
+    (program_stops c.args.bundle.now c.args.writes.now c.args.bound c.args.number)) c.run.ensures
 
-pub returns-in-Err-Finished : goal.returns-in-Err-Finished
-unfolding program_run
-returns-in-Err-Finished c =
-    finishes _ _ _ _ _ _ (rw (c.statements_of.ensures, c.in_ok-state.ensures, c.in-Err-Finished.field-0-is) at c.in-Err-Finished.ensures)
-
-pub returns-in-Err-Stopped : goal.returns-in-Err-Stopped
-unfolding program_run
-returns-in-Err-Stopped c =
-    stops _ _ _ _ _ _ (rw (c.statements_of.ensures, c.in_ok-state.ensures, c.in-Err-Stopped.field-0-is) at c.in-Err-Stopped.ensures)
+pub returns-clause-of : goal.returns-clause-of
+returns-clause-of c = λ some.
+    IfOk-weaker c.run.result _ _ (λ stop is. stop-of c.args.bundle.now c.args.bound c.args.writes.now c.args.number stop is some) (returns-clause-stop c)

@@ -1,7 +1,7 @@
 use Rattle.std.proofs.Common.{◌≡◌, ℤ, length, Ok, pos, w64, sym, ap, rules, ◌∙◌}
 use Rattle.std.proofs.lemmas.Int.{to_z-of_z}
 use Rattle.std.specs.Int.RustNames.{FitsSigned}
-use Rattle.dp_value.specs.Codes.{pairs_of-entries_of}
+use Rattle.dp_value.specs.inner.Codes.{pairs_of-entries_of}
 use Rattle.dp_value.specs.Data.{integer}
 use Rattle.dp_operations.proofs.arrays.count.Goals as goal
 

@@ -1,4 +1,4 @@
-use Rattle.dp_value.specs.Codes.{pairs_of-entries_of}
+use Rattle.dp_value.specs.inner.Codes.{pairs_of-entries_of}
 use Rattle.dp_operations.proofs.arrays.key_list.Goals as goal
 
 pub returns-in-Array : goal.returns-in-Array

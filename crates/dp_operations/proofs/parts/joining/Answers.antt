@@ -1,4 +1,4 @@
-use Rattle.dp_value.specs.Codes.{pairs_of-entries_of}
+use Rattle.dp_value.specs.inner.Codes.{pairs_of-entries_of}
 use Rattle.dp_operations.proofs.parts.joining.Goals as goal
 
 pub returns-in-Text-Array : goal.returns-in-Text-Array

@@ -6,6 +6,7 @@ use Rattle.dp_value.specs.Data.{Data}
 use Rattle.dp_value.specs.Entry.{removed}
 use Rattle.dp_value.specs.Value.{data_of}
 use Rattle.dp_state.specs.Places.{then_variables}
+use Rattle.dp_state.proofs.Removals.{removal_free}
 use Rattle.dp_state.proofs.Slots.{then_put_back, put_same}
 use Rattle.dp_state.proofs.entries.remove_in.Goals as goal
 
@@ -14,6 +15,10 @@ returns-in-Ok-clause-ok c =
     ap (λ (o : Option Value). option_map_or (λ value. then_variables c.args.name.now c.args.vars.now (removed c.args.keys.now (data_of value))) o (Ok c.args.vars.now)) (sym c.in-Some.ensures.value)
     ∙ then_put_back c.args.name.now c.args.vars.now c.in-Some.held c.in-Some.ensures.value Null c.remove_at-done.new.value c.exchange.new.self c.exchange-2.new.self (removed c.args.keys.now (data_of c.in-Some.held))
     c.in-Some.ensures.exchanged c.exchange-2.ensures.exchanged c.in-Ok.ensures.ok
+
+pub returns-in-Err-clause-memory : goal.returns-in-Err-clause-memory
+returns-in-Err-clause-memory c =
+    rw c.from.ensures (removal_free c.args.keys.now (data_of c.in-Some.held) c.in-Err.why c.in-Err.ensures.refused)
 
 pub returns-in-Err-clause-err : goal.returns-in-Err-clause-err
 returns-in-Err-clause-err c =

@@ -1,5 +1,5 @@
 -- What the evaluator answers is what its parts give, one after another.
-use Rattle.std.proofs.Common.{◌≡◌, ◌+◌, ◌-◌, ◌<◌, ◌≤◌, List, [], ◌∷◌, map, length, rules, sym, ap, ◌∙◌, add-one, arith}
+use Rattle.std.proofs.Common.{◌≡◌, ◌+◌, ◌-◌, ◌<◌, ◌≤◌, List, [], ◌∷◌, map, drop, length, rules, sym, ap, ◌∙◌, add-one, arith}
 use Rattle.std.specs.Prelude.{option_map}
 use Rattle.std.proofs.Math.ListN.{drop_of_length-le}
 use Rattle.std.proofs.lemmas.Int.{to_z-of_z}
@@ -13,8 +13,8 @@ use Rattle.dp_tree.specs.declared.tree.Place.{Place, size-Place}
 use Rattle.dp_meaning.specs.Evaluation.{callee_of, goes_by}
 use Rattle.dp_meaning.specs.Expressions.{evaluation, evaluations}
 use Rattle.dp_meaning.specs.Sizes.{arm_size, body_size, expressions_size, kind_size, sizes_sum, statement_size}
-use Rattle.dp_meaning.specs.Statements.{statement_run}
-use Rattle.dp_meaning.proofs.CallLaws.{bounded-do, bounded-turns, call-is, file-is, next-off, setting-bundle, suc-call, suc-include, then-next, zero-call, zero-include}
+use Rattle.dp_meaning.specs.Statements.{arm_run, arms_run, statement_run}
+use Rattle.dp_meaning.proofs.CallLaws.{bounded-do, bounded-turns, branch-off, branch-on, call-is, file-is, next-off, runs-for, setting-bundle, suc-call, suc-include, then-next, zero-call, zero-include}
 use Rattle.dp_meaning.proofs.Drives.{breaks_off, ends, exits, gives, goes_on, joined_off, joined_on, passes, stops_at}
 use Rattle.dp_meaning.proofs.InPlace.{one-variable, reads-in-place}
 use Rattle.dp_meaning.proofs.Layers.{found-plain, kind-Block, kind-Break, kind-Continue, kind-DoWhile, kind-Echo, kind-Empty, kind-Exit, kind-Expression, kind-For, kind-Foreach, kind-Global, kind-If, kind-Return, kind-Unset, kind-While, run-arm, run-Array, run-Assign, run-Bool, run-Call, run-Chain, run-Coalesce, run-CoalesceAssign, run-Compound, run-Conditional, run-Include, run-Index, run-Isset, run-item-None, run-item-Some, run-link, run-Null, run-Number, run-place, run-Push, run-statement, run-Step, run-Text, run-Unary, run-Variable}
@@ -671,10 +671,9 @@ kind-returns-in_err-_values-in-For g t c =
 pub kind-returns-in_ok-_values-in-For : goal.kind-returns-in_ok-_values-in-For
 kind-returns-in_ok-_values-in-For g t c =
     rw (c.in-For.is, kind-For) (passes c.in_ok-place-in-For.ensures (goes_on _ (rw c.as_slice-in-For.ensures at c.in_ok-_values-in-For.ensures)
-    (rw (bounded-turns c.args.self.now.bundle.now c.args.self.now.bound c.args.self.now.depth c.args.line (statement_run c.in-For.body
-    (goes_by c.args.self.now)) c.values.new.state (evaluations c.in-For.tests (goes_by c.args.self.now)) (evaluations c.in-For.after
-    (goes_by c.args.self.now))) (rw (c.as_slice-in-For-2.ensures, c.as_slice-in-For-3.ensures, c.as_ref-in-For.ensures) at
-    c.turns-in-For.ensures))))
+    (runs-for c.args.self.now.bundle.now c.args.self.now.bound c.args.self.now.depth c.args.line (statement_run c.in-For.body
+    (goes_by c.args.self.now)) c.values.new.state c.in-For.tests c.in-For.after (statement_run c.in-For.body) []
+    (rw (c.as_slice-in-For-2.ensures, c.as_slice-in-For-3.ensures, c.as_ref-in-For.ensures) at c.turns-in-For.ensures))))
 
 pub kind-returns-in_err-place-in-Foreach : goal.kind-returns-in_err-place-in-Foreach
 kind-returns-in_err-place-in-Foreach g t c =
@@ -781,12 +780,16 @@ arms-returns-in_err-value g t c =
 pub arms-returns-then-truthy : goal.arms-returns-then-truthy
 arms-returns-then-truthy g t c =
     c.loop-arm.invariant _ _ (rw (front _ c.loop-arm.arm-index c.arm-item.result c.loop-arm-test.true c.arm-item.is, run-arm)
-    (passes c.in_ok-place.ensures (goes_on _ c.in_ok-value.ensures (rw (sym c.truthy.ensures ∙ c.if-truthy.true) c.statement.ensures))))
+    (passes c.in_ok-place.ensures (goes_on _ c.in_ok-value.ensures (branch-on (statement_run c.arm-item.result.body) (arms_run
+    (map arm_run (drop (c.loop-arm.arm-index + 1) c.args.arms.now)) (option_map statement_run c.args.otherwise.now)) (goes_by c.args.self.now) c.in_ok-value.value _
+    (sym c.truthy.ensures ∙ c.if-truthy.true) c.statement.ensures))))
 
 pub arms-loop-arm-preserved : goal.arms-loop-arm-preserved
 arms-loop-arm-preserved g t c =
     λ x u e. c.loop-arm.invariant x u (rw (front _ c.loop-arm.arm-index c.arm-item.result c.loop-arm-test.true c.arm-item.is, run-arm)
-    (passes c.in_ok-place.ensures (goes_on _ c.in_ok-value.ensures (rw (sym c.truthy.ensures ∙ c.if-truthy.false) e))))
+    (passes c.in_ok-place.ensures (goes_on _ c.in_ok-value.ensures (branch-off (statement_run c.arm-item.result.body) (arms_run
+    (map arm_run (drop (c.loop-arm.arm-index + 1) c.args.arms.now)) (option_map statement_run c.args.otherwise.now)) (goes_by c.args.self.now) c.in_ok-value.value _
+    (sym c.truthy.ensures ∙ c.if-truthy.false) e))))
 
 pub arms-returns-in-None : goal.arms-returns-in-None
 arms-returns-in-None g t c = c.loop-arm.invariant _ _ (rw (drop_of_length-le c.args.arms.now c.loop-arm-test.false, c.in-None.is) gives)

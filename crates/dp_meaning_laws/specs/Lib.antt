@@ -1,0 +1,3 @@
+pub mod Past
+pub mod Coded
+pub mod Limits
