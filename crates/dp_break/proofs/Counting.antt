@@ -3,12 +3,12 @@ use Rattle.std.proofs.Common.{◌≡◌, ℕ, suc, ◌+◌, ◌-◌, ◌≤◌, 
 use Rattle.std.specs.Prelude.{filter, count_by}
 use Rattle.std.specs.List.{list_any, position_from}
 use Rattle.std.proofs.lemmas.List.Sums.{sum_by-append}
-use Rattle.dp_bundle.specs.declared.bundle.Bundle.{Bundle}
+use Rattle.dp_tree.specs.declared.bundle.Bundle.{Bundle}
 use Rattle.dp_state.specs.declared.moments.Moment.{Moment}
 use Rattle.dp_state.specs.declared.state.State.{State}
 use Rattle.dp_break.specs.declared.breakpoint.Breakpoint.{Breakpoint}
 use Rattle.dp_break.specs.Hits.{hits, is_enough}
-use Rattle.dp_break.specs.Passing.{Moments, after, found, held_after, is_there_after, most_hits, one_stops, stop_above, stops_at, up_to, with_more, with_past_from}
+use Rattle.dp_break.specs.Passing.{Moments, Reached, after, each_from, found, held_after, is_there_after, most_hits, one_stops, reached, stop_above, stops_at, up_to, with_more}
 
 -- ---- filters and tests, one behind another
 
@@ -45,28 +45,28 @@ or_assoc true b c = refl
 or_assoc false b c = refl
 
 -- those with a past of a list joined of two
-past-append : {A : Type 0} (test : List A × A → Bool) (earlier xs ys : List A)
-    → list_any test (with_past_from earlier (xs ++ ys)) ≡ (list_any test (with_past_from earlier xs) || list_any test (with_past_from (earlier ++ xs) ys))
-past-append test earlier [] ys = ap (λ l. list_any test (with_past_from l ys)) (sym (append-nil earlier))
+past-append : {A : Type 0} (test : Reached A → Bool) (earlier xs ys : List A)
+    → list_any test (each_from earlier (xs ++ ys)) ≡ (list_any test (each_from earlier xs) || list_any test (each_from (earlier ++ xs) ys))
+past-append test earlier [] ys = ap (λ l. list_any test (each_from l ys)) (sym (append-nil earlier))
 past-append test earlier (x ∷ xs) ys =
-    ap (λ (t : Bool). test (earlier, x) || t) (past-append test (earlier ++ x ∷ []) xs ys)
-    ∙ or_assoc (test (earlier, x)) (list_any test (with_past_from (earlier ++ x ∷ []) xs)) (list_any test (with_past_from ((earlier ++ x ∷ []) ++ xs) ys))
-    ∙ ap (λ l. (test (earlier, x) || list_any test (with_past_from (earlier ++ x ∷ []) xs)) || list_any test (with_past_from l ys)) (append_assoc earlier (x ∷ []) xs)
+    ap (λ (t : Bool). test (reached earlier x) || t) (past-append test (earlier ++ x ∷ []) xs ys)
+    ∙ or_assoc (test (reached earlier x)) (list_any test (each_from (earlier ++ x ∷ []) xs)) (list_any test (each_from ((earlier ++ x ∷ []) ++ xs) ys))
+    ∙ ap (λ l. (test (reached earlier x) || list_any test (each_from (earlier ++ x ∷ []) xs)) || list_any test (each_from l ys)) (append_assoc earlier (x ∷ []) xs)
 
 -- two tests agree, of which the first sees a longer past
-past_shifted : {A : Type 0} (test other : List A × A → Bool) (xs : List A) → ((earlier : List A) (x : A) → test (xs ++ earlier, x) ≡ other (earlier, x))
-    → (earlier ys : List A) → list_any test (with_past_from (xs ++ earlier) ys) ≡ list_any other (with_past_from earlier ys)
+past_shifted : {A : Type 0} (test other : Reached A → Bool) (xs : List A) → ((earlier : List A) (x : A) → test (reached (xs ++ earlier) x) ≡ other (reached earlier x))
+    → (earlier ys : List A) → list_any test (each_from (xs ++ earlier) ys) ≡ list_any other (each_from earlier ys)
 past_shifted test other xs same earlier [] = refl
 past_shifted test other xs same earlier (y ∷ ys) =
-    (λ i. same earlier y i || list_any test (with_past_from (append_assoc xs earlier (y ∷ []) i) ys))
-    ∙ ap (λ (t : Bool). other (earlier, y) || t) (past_shifted test other xs same (earlier ++ y ∷ []) ys)
+    (λ i. same earlier y i || list_any test (each_from (append_assoc xs earlier (y ∷ []) i) ys))
+    ∙ ap (λ (t : Bool). other (reached earlier y) || t) (past_shifted test other xs same (earlier ++ y ∷ []) ys)
 
-position_shifted : {A : Type 0} (test other : List A × A → Bool) (xs : List A) → ((earlier : List A) (x : A) → test (xs ++ earlier, x) ≡ other (earlier, x))
-    → (k : ℕ) (earlier ys : List A) → position_from test k (with_past_from (xs ++ earlier) ys) ≡ position_from other k (with_past_from earlier ys)
+position_shifted : {A : Type 0} (test other : Reached A → Bool) (xs : List A) → ((earlier : List A) (x : A) → test (reached (xs ++ earlier) x) ≡ other (reached earlier x))
+    → (k : ℕ) (earlier ys : List A) → position_from test k (each_from (xs ++ earlier) ys) ≡ position_from other k (each_from earlier ys)
 position_shifted test other xs same k earlier [] = refl
 position_shifted test other xs same k earlier (y ∷ ys) =
-    (λ i. cond (same earlier y i) (Some k) (position_from test (k + 1) (with_past_from (append_assoc xs earlier (y ∷ []) i) ys)))
-    ∙ ap (λ (o : Option ℕ). cond (other (earlier, y)) (Some k) o) (position_shifted test other xs same (k + 1) (earlier ++ y ∷ []) ys)
+    (λ i. cond (same earlier y i) (Some k) (position_from test (k + 1) (each_from (append_assoc xs earlier (y ∷ []) i) ys)))
+    ∙ ap (λ (o : Option ℕ). cond (other (reached earlier y)) (Some k) o) (position_shifted test other xs same (k + 1) (earlier ++ y ∷ []) ys)
 
 -- a first place is not before the number of the first element
 position_least : {A : Type 0} (test : A → Bool) (k : ℕ) (xs : List A) (j : ℕ) → position_from test k xs ≡ Some j → k ≤ j
@@ -112,13 +112,13 @@ module _ (bundle : Bundle) where
 
   there-append : (xs ys : Moments) (b : Breakpoint) → is_there_after bundle (xs ++ ys) b ≡ (is_there_after bundle xs b && is_there_after bundle ys (after bundle xs b))
   there-append xs ys b =
-      let stops : Moments × (Moment × State) → Bool = λ p. stops_at bundle p.0 p.1 b in
-      let later : Moments × (Moment × State) → Bool = λ p. stops_at bundle p.0 p.1 (after bundle xs b) in
-      let before : Bool = list_any stops (with_past_from [] xs) in
+      let stops : Reached (Moment × State) → Bool = λ r. stops_at bundle r.past r.here b in
+      let later : Reached (Moment × State) → Bool = λ r. stops_at bundle r.past r.here (after bundle xs b) in
+      let before : Bool = list_any stops (each_from [] xs) in
       ap (λ (t : Bool). not (t && b.temporary)) (past-append stops [] xs ys)
-      ∙ ap (λ (l : Moments). not ((before || list_any stops (with_past_from l ys)) && b.temporary)) (sym (append-nil xs))
+      ∙ ap (λ (l : Moments). not ((before || list_any stops (each_from l ys)) && b.temporary)) (sym (append-nil xs))
       ∙ ap (λ (t : Bool). not ((before || t) && b.temporary)) (past_shifted stops later xs (λ earlier at. stops-after xs earlier at b) [] ys)
-      ∙ not_or_and before (list_any later (with_past_from [] ys)) b.temporary
+      ∙ not_or_and before (list_any later (each_from [] ys)) b.temporary
 
   pub held-append : (xs ys : Moments) (held : List Breakpoint) → held_after bundle (xs ++ ys) held ≡ held_after bundle ys (held_after bundle xs held)
   held-append xs ys held =
@@ -142,15 +142,15 @@ module _ (bundle : Bundle) where
     abbrev past : List Breakpoint → Moment × State → List Breakpoint
     past held at = held_after bundle (at ∷ []) held
 
-    abbrev tested : List Breakpoint → Moments × (Moment × State) → Bool
-    tested held p = mode p.1.0 || one_stops bundle held p.0 p.1
+    abbrev tested : List Breakpoint → Reached (Moment × State) → Bool
+    tested held r = mode r.here.0 || one_stops bundle held r.past r.here
 
     abbrev stop_from : List Breakpoint → ℕ → Moments → Option ℕ
-    stop_from held n moments = position_from (tested held) (n + 1) (with_past_from [] moments)
+    stop_from held n moments = position_from (tested held) (n + 1) (each_from [] moments)
 
     -- past a moment that does not stop
     stop-later : (held : List Breakpoint) (n : ℕ) (at : Moment × State) (later : Moments)
-        → position_from (tested held) (n + 1 + 1) (with_past_from (at ∷ []) later) ≡ stop_from (held_after bundle (at ∷ []) held) (n + 1) later
+        → position_from (tested held) (n + 1 + 1) (each_from (at ∷ []) later) ≡ stop_from (held_after bundle (at ∷ []) held) (n + 1) later
     stop-later held n at later =
         position_shifted (tested held) (tested (held_after bundle (at ∷ []) held)) (at ∷ []) (λ earlier x. ap (λ (t : Bool). mode x.0 || t) (stop-append held (at ∷ []) earlier x))
         (n + 1 + 1) [] later
@@ -159,7 +159,7 @@ module _ (bundle : Bundle) where
     found-stop held n [] = refl
     found-stop held n (at ∷ later) = cases (mode at.0 || one_stops bundle held [] at) (found-stop (past held at) (n + 1) later) where
       cases : (t : Bool) → (found mode bundle (past held at) (n + 1) later).0 ≡ stop_from (past held at) (n + 1) later → (cond t (Some (n + 1), (past held at)) (found mode bundle (past held at) (n + 1) later)).0
-          ≡ cond t (Some (n + 1)) (position_from (tested held) (n + 1 + 1) (with_past_from (at ∷ []) later))
+          ≡ cond t (Some (n + 1)) (position_from (tested held) (n + 1 + 1) (each_from (at ∷ []) later))
       cases true more = refl
       cases false more = more ∙ sym (stop-later held n at later)
 
@@ -175,17 +175,17 @@ module _ (bundle : Bundle) where
     found-held held n [] = sym (held-none held)
     found-held held n (at ∷ later) = cases (mode at.0 || one_stops bundle held [] at) (found-held (past held at) (n + 1) later) where
       cases : (t : Bool) → (found mode bundle (past held at) (n + 1) later).1 ≡ held_after bundle (up_to (n + 1) (stop_from (past held at) (n + 1) later) later) (past held at) → (cond t (Some (n + 1), (past held at)) (found mode bundle (past held at) (n + 1) later)).1
-          ≡ held_after bundle (up_to n (cond t (Some (n + 1)) (position_from (tested held) (n + 1 + 1) (with_past_from (at ∷ []) later))) (at ∷ later)) held
+          ≡ held_after bundle (up_to n (cond t (Some (n + 1)) (position_from (tested held) (n + 1 + 1) (each_from (at ∷ []) later))) (at ∷ later)) held
       cases true more = let one : 1 ≡ n + 1 - n = omega arith in ap (λ (k : ℕ). held_after bundle (take k (at ∷ later)) held) one
       cases false more =
           let there : Option ℕ = stop_from (past held at) (n + 1) later in
           more
           ∙ sym (held-append (at ∷ []) (up_to (n + 1) there later) held)
-          ∙ ap (λ (l : Moments). held_after bundle l held) (sym (up_to-later n there at later (λ j e. position_least (tested (past held at)) (n + 1 + 1) (with_past_from [] later) j e)))
+          ∙ ap (λ (l : Moments). held_after bundle l held) (sym (up_to-later n there at later (λ j e. position_least (tested (past held at)) (n + 1 + 1) (each_from [] later) j e)))
           ∙ ap (λ (o : Option ℕ). held_after bundle (up_to n o (at ∷ later)) held) (sym (stop-later held n at later))
 
     -- where no breakpoint is held
-    bare_from : (k : ℕ) (earlier moments : Moments) → position_from (tested []) k (with_past_from earlier moments) ≡ position_from (λ at. mode at.0) k moments
+    bare_from : (k : ℕ) (earlier moments : Moments) → position_from (tested []) k (each_from earlier moments) ≡ position_from (λ at. mode at.0) k moments
     bare_from k earlier [] = refl
     bare_from k earlier (at ∷ later) =
         λ i. cond (or_false (mode at.0) i) (Some k) (bare_from (k + 1) (earlier ++ at ∷ []) later i)

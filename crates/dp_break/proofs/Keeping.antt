@@ -5,7 +5,7 @@ use Rattle.std.proofs.lemmas.List.{length-append}
 use Rattle.std.proofs.lemmas.List.Elements.{All-append, All-cons, All-filter, All-head, All-nil, All-push, All-tail}
 use Rattle.dp_break.specs.declared.breakpoint.Breakpoint.{Breakpoint}
 use Rattle.dp_break.specs.Passing.{with_more}
-use Rattle.dp_break.specs.Settling.{one_settled, settled, stops_once_more}
+use Rattle.dp_break.specs.inner.Settling.{one_settled, settled, stops_once_more}
 use Rattle.dp_break.specs.Tables.{Ascend, IsSound, IsTable, Table, breakpoint_limit, last_id}
 
 -- ---- orders
@@ -54,7 +54,7 @@ length-settled (mark ∷ marks) (b ∷ held) = cases mark (stops_once_more b && 
   cases true true more = omega arith
 
 more_is_sound : (b : Breakpoint) → IsSound b → IsSound (with_more 1 b)
-more_is_sound b s = record { parts = s.parts; placed = s.placed; named = s.named; tree = s.tree }
+more_is_sound b s = record { parts = s.parts; placed = s.placed; named = s.named; tree = s.tree; formed = s.formed }
 
 All-settled : (marks : List Bool) (held : List Breakpoint) → All IsSound held → All IsSound (settled marks held)
 All-settled [] held s = s

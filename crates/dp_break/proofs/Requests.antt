@@ -1,68 +1,100 @@
 -- What is accepted of requests.
-use Rattle.std.proofs.Common.{◌≡◌, ℕ, ◌<◌, ◌≤◌, ◌==◌, Bool, true, false, cond, ◌||◌, List, length, Option, Some, None, refl, sym, ap, ◌∙◌, arith}
-use Rattle.std.specs.Prelude.{is_some, nat_le, nat_lt, Ok, Err, IfOk, IfErr}
-use Rattle.std.specs.Option.{option_map_or}
-use Rattle.std.proofs.lemmas.Bool.{le-leb, ltb-false, or_parts, true≢false}
-use Rattle.dp_bundle.specs.declared.bundle.Bundle.{Bundle}
+use Rattle.std.proofs.Common.{◌≡◌, ◌≢◌, ℕ, ◌<◌, ◌≤◌, ◌==◌, Bool, true, false, cond, ◌||◌, List, length, Option, Some, None, refl, sym, ap, ◌∙◌, arith}
+use Rattle.std.specs.Prelude.{is_none, is_some, nat_le, nat_lt, option_and_then, Ok, Err, IfOk, IfErr, IfSome, Result}
+use Rattle.std.specs.Option.{option_map_or, option_or}
+use Rattle.std.proofs.lemmas.Bool.{le-leb, leb-true, ltb-false, or_parts, true≢false}
+use Rattle.std.proofs.lemmas.Bool.Decides.{nat_tests}
+use Rattle.dp_tree.specs.declared.bundle.Bundle.{Bundle}
 use Rattle.dp_parse.specs.declared.errors.ParseError.{ParseError}
 use Rattle.dp_parse.specs.declared.errors.ParseError.TheVariants as parse_error
-use Rattle.dp_parse.specs.Programs.{IsExpressionText}
+use Rattle.dp_parse.specs.ExpressionIn.{expression_in}
 use Rattle.dp_tree.specs.declared.tree.Expression.{Expression}
 use Rattle.dp_tree.specs.Purity.{is_pure}
 use Rattle.dp_break.specs.declared.breakpoint.BreakRequest.{BreakRequest}
 use Rattle.dp_break.specs.Changes.{IsRequest, asked}
+use Rattle.dp_break.specs.Conditions.{condition_of, expression_limit, has_no_tree, if_pure, is_too_long, tree_of}
+use Rattle.dp_break.specs.declared.errors.BreakError.{BreakError}
 use Rattle.dp_break.specs.declared.errors.BreakError.TheVariants as error
 use Rattle.dp_break.specs.Hits.{is_of_function}
-use Rattle.dp_break.specs.Refusals.{HasNoCondition, IsNoTree, IsRefused, asked_line_refusal, cannot_be_held, error_of, pure_or_refused, request_refusal}
-use Rattle.dp_break.specs.Tables.{IsCondition, IsSound, IsTreeOf, Table, breakpoint_limit, expression_limit, last_id, name_limit}
+use Rattle.dp_break.specs.Refusals.{asked_line_refusal, cannot_be_held, code_if, place_refusal, plain_refusal}
+use Rattle.dp_break.specs.Tables.{IsSound, Table, breakpoint_limit, last_id, name_limit}
+use Rattle.dp_break.specs.inner.Refusing.{IsNoTree, error_of, pure_or_refused}
 
 -- ---- expressions
 
-pub too_long : (text : List ℕ) → 4096 < length text → HasNoCondition (Some text)
-too_long text long e c = let short = c.short in absurd (omega arith)
+short_enough : (n : ℕ) → n ≤ expression_limit → nat_lt expression_limit n ≡ false
+short_enough n le = grind (arith, nat_tests)
 
-pub not_pure : (text : List ℕ) (found : Expression) → ((e : Expression) → IsExpressionText text e → found ≡ e) → is_pure found ≡ false → HasNoCondition (Some text)
-not_pure text found only impure e c = let other = sym (ap is_pure (only e c.spelled)) ∙ impure in true≢false (sym c.pure ∙ other)
+too_many : (n : ℕ) → expression_limit < n → nat_le n expression_limit ≡ false
+too_many n lt = grind (arith, nat_tests)
 
-pub no_text : (text : List ℕ) (why : ParseError) → ((e : Expression) → IsExpressionText text e → why ≡ parse_error.Memory) → IsNoTree (Some text) (error_of why)
-no_text text parse_error.Memory only = tt
-no_text text (parse_error.Lex lex) only = (refl, λ e c. let same = only e c.spelled in absurd cc)
-no_text text (parse_error.Unexpected token) only = (refl, λ e c. let same = only e c.spelled in absurd cc)
-no_text text (parse_error.TooDeep token) only = (refl, λ e c. let same = only e c.spelled in absurd cc)
-no_text text (parse_error.DoubleFunction name) only = (refl, λ e c. let same = only e c.spelled in absurd cc)
+pub too_long : (text : List ℕ) → 4096 < length text → IsNoTree (Some text) (error.Code 207)
+unfolding condition_of
+too_long text long = (refl, ap (λ b. is_none (cond b (option_and_then if_pure (expression_in text)) None)) (too_many (length text) long))
 
-pub pure_found : (text : List ℕ) (e : Expression) → length text ≤ expression_limit → IsExpressionText text e → IfOk (pure_or_refused e) (λ found. IsCondition text found)
-pure_found text e short spelled = cases (is_pure e) refl where
-  cases : (p : Bool) → is_pure e ≡ p → IfOk (cond p (Ok e) (Err (error.Code 207))) (λ found. IsCondition text found)
-  cases true is = record { short = short; spelled = spelled; pure = is }
-  cases false is = tt
+module _ (text : List ℕ) (short : length text ≤ expression_limit) where
+  condition_is : condition_of text ≡ option_and_then if_pure (expression_in text)
+  unfolding condition_of
+  condition_is = ap (λ b. cond b (option_and_then if_pure (expression_in text)) None) (le-leb (length text) expression_limit short)
 
-pub pure_one : (text : List ℕ) (e : Expression) → ((other : Expression) → IsExpressionText text other → e ≡ other)
-    → IfOk (pure_or_refused e) (λ found. (other : Expression) → IsCondition text other → other ≡ found)
-pure_one text e only = cases (is_pure e) where
-  cases : (p : Bool) → IfOk (cond p (Ok e) (Err (error.Code 207))) (λ found. (other : Expression) → IsCondition text other → other ≡ found)
-  cases true = λ other c. sym (only other c.spelled)
-  cases false = tt
+  pub pure_found : (e : Expression) → expression_in text ≡ Some e → IfOk (pure_or_refused e) (λ found. condition_of text ≡ Some found)
+  pure_found e is = cases (is_pure e) (condition_is ∙ ap (option_and_then if_pure) is) where
+    cases : (p : Bool) → condition_of text ≡ cond p (Some e) None → IfOk (cond p (Ok e) (Err (error.Code 207))) (λ found. condition_of text ≡ Some found)
+    cases true h = h
+    cases false h = tt
 
--- the one tree of an expression, and of none
-pub tree_only : (text : List ℕ) (e : Expression) → ((other : Expression) → IsCondition text other → other ≡ e) → (other : Option Expression) → IsTreeOf (Some text) other → other ≡ Some e
-tree_only text e only None is = absurd is
-tree_only text e only (Some other) is = ap (λ (x : Expression). Some x) (only other is)
+  pub pure_refused : (e : Expression) → expression_in text ≡ Some e → IfErr (pure_or_refused e) (IsNoTree (Some text))
+  pure_refused e is = cases (is_pure e) (condition_is ∙ ap (option_and_then if_pure) is) where
+    cases : (p : Bool) → condition_of text ≡ cond p (Some e) None → IfErr {T = Expression} (cond p (Ok e) (Err (error.Code 207))) (IsNoTree (Some text))
+    cases true h = tt
+    cases false h = (refl, ap is_none h)
 
-pub no_tree_only : (other : Option Expression) → IsTreeOf None other → other ≡ None
-no_tree_only None is = refl
-no_tree_only (Some e) is = absurd is
+  no_text : expression_in text ≡ None → IsNoTree (Some text) (error.Code 207)
+  no_text is = (refl, ap is_none (condition_is ∙ ap (option_and_then if_pure) is))
 
-pub pure_refused : (text : List ℕ) (e : Expression) → ((other : Expression) → IsExpressionText text other → e ≡ other) → IfErr (pure_or_refused e) (IsNoTree (Some text))
-pure_refused text e only = cases (is_pure e) refl where
-  cases : (p : Bool) → is_pure e ≡ p → IfErr {T = Expression} (cond p (Ok e) (Err (error.Code 207))) (IsNoTree (Some text))
-  cases true is = tt
-  cases false is = (refl, not_pure text e only is)
+  no_memory : IsNoTree (Some text) error.Memory
+  no_memory = short_enough (length text) short
+
+  pub why_none : (why : ParseError) → (why ≢ parse_error.Memory → expression_in text ≡ None) → IsNoTree (Some text) (error_of why)
+  why_none parse_error.Memory told = no_memory
+  why_none (parse_error.Lex lex) told = no_text (told (λ e. cc))
+  why_none (parse_error.Unexpected token) told = no_text (told (λ e. cc))
+  why_none (parse_error.TooDeep token) told = no_text (told (λ e. cc))
+  why_none (parse_error.DoubleFunction name) told = no_text (told (λ e. cc))
+
+-- what has a tree is short enough
+long_has_none : (text : List ℕ) → nat_le (length text) expression_limit ≡ false → is_none (condition_of text) ≡ true
+unfolding condition_of
+long_has_none text long = ap (λ b. is_none (cond b (option_and_then if_pure (expression_in text)) None)) long
+
+pub formed_short : (expression : Option (List ℕ)) → has_no_tree expression ≡ false → is_too_long expression ≡ false
+formed_short None formed = refl
+formed_short (Some text) formed = cases (nat_le (length text) expression_limit) refl where
+  cases : (b : Bool) → nat_le (length text) expression_limit ≡ b → nat_lt expression_limit (length text) ≡ false
+  cases true is = short_enough (length text) (leb-true (length text) expression_limit is)
+  cases false is = absurd (true≢false (sym (long_has_none text is) ∙ formed))
+
+-- a tree that is held changes nothing
+condition_pure : (text : List ℕ) (e : Expression) → condition_of text ≡ Some e → is_pure e ≡ true
+unfolding condition_of
+condition_pure text e h = by (nat_le (length text) expression_limit) (expression_in text) h where
+  one : (x : Expression) (p : Bool) → is_pure x ≡ p → cond p (Some x) None ≡ Some e → is_pure e ≡ true
+  one x true is g = let same : x ≡ e = cc in ap is_pure (sym same) ∙ is
+  one x false is g = absurd cc
+
+  by : (short : Bool) (o : Option Expression) → cond short (option_and_then if_pure o) None ≡ Some e → is_pure e ≡ true
+  by false o g = absurd cc
+  by true None g = absurd cc
+  by true (Some x) g = one x (is_pure x) refl g
+
+pub pure_held : (expression : Option (List ℕ)) (e : Expression) → tree_of expression ≡ Some e → is_pure e ≡ true
+pure_held None e h = absurd cc
+pure_held (Some text) e h = condition_pure text e h
 
 -- ---- requests
 
 module _ (bundle : Bundle) (t : Table) (r : BreakRequest) where
-  can_be_held : request_refusal bundle t r ≡ None → cannot_be_held t r ≡ false
+  can_be_held : place_refusal bundle t r ≡ None → cannot_be_held t r ≡ false
   can_be_held e = cases (cannot_be_held t r) e where
     cases : (c : Bool) → cond c (Some 200) (asked_line_refusal bundle (Some r.file) r.line) ≡ None → c ≡ false
     cases true f = absurd cc
@@ -77,20 +109,24 @@ module _ (bundle : Bundle) (t : Table) (r : BreakRequest) where
   has_file false true any = refl
   has_file false false any = refl
 
-  pub sound_request : (tree : Option Expression) → IsRequest bundle r → request_refusal bundle t r ≡ None → IsTreeOf r.expression tree → IsSound (asked t.next tree r)
-  sound_request tree request accepted is_tree =
+  pub sound_request : (tree : Option Expression) → IsRequest bundle r → place_refusal bundle t r ≡ None → tree ≡ tree_of r.expression → has_no_tree r.expression ≡ false
+      → IsSound (asked t.next tree r)
+  sound_request tree request accepted is_tree formed =
       let free = or_parts (nat_le breakpoint_limit (length t.held) || t.next == last_id) (option_map_or (λ n. nat_lt name_limit (length n)) r.function false) (can_be_held accepted) in record {
         parts = request.parts;
         placed = has_file r.anyfile (is_of_function r.kind) request.anyfile;
         named = name_short r.function free.1;
         tree = is_tree;
+        formed = formed;
       }
 
-  no_tree : (expression : Option (List ℕ)) (tree : Option Expression) → IsTreeOf expression tree → HasNoCondition expression → ⊥
-  no_tree None tree is none = none
-  no_tree (Some text) None is none = is
-  no_tree (Some text) (Some e) is none = none e is
+  -- where no refusal is plain, nothing is sure
+  not_plain : {A : Type 0} (result : Result A BreakError) → place_refusal bundle t r ≡ None → is_too_long r.expression ≡ false
+      → IfSome (plain_refusal bundle t r) (λ code. result ≡ Err (error.Code code))
+  not_plain result place short =
+      let none : plain_refusal bundle t r ≡ None = (λ i. option_or (place i) (code_if (short i) 207)) in
+      rw none tt
 
-  pub not_refused : (tree : Option Expression) (code : ℕ) → request_refusal bundle t r ≡ None → IsTreeOf r.expression tree → IsRefused bundle t r code → ⊥
-  not_refused tree code accepted is_tree refused =
-      let last = rw accepted at refused in no_tree r.expression tree is_tree last.1
+  pub sure_formed : {A : Type 0} (result : Result A BreakError) → place_refusal bundle t r ≡ None → has_no_tree r.expression ≡ false
+      → IfSome (plain_refusal bundle t r) (λ code. result ≡ Err (error.Code code))
+  sure_formed result place formed = not_plain result place (formed_short r.expression formed)

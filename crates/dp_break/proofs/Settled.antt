@@ -1,13 +1,13 @@
 -- What is done by marks is what a moment does to breakpoints.
 use Rattle.std.proofs.Common.{◌≡◌, ◌+◌, Bool, true, false, cond, not, ◌&&◌, ◌||◌, List, [], ◌∷◌, ◌++◌, length, take, map, refl, sym, ap, ◌∙◌}
 use Rattle.std.specs.Prelude.{filter}
-use Rattle.dp_bundle.specs.declared.bundle.Bundle.{Bundle}
+use Rattle.dp_tree.specs.declared.bundle.Bundle.{Bundle}
 use Rattle.dp_state.specs.declared.moments.Moment.{Moment}
 use Rattle.dp_state.specs.declared.state.State.{State}
 use Rattle.dp_break.specs.declared.breakpoint.Breakpoint.{Breakpoint}
 use Rattle.dp_break.specs.Hits.{hits, is_enough}
 use Rattle.dp_break.specs.Passing.{after, held_after, is_there_after, one_stops, with_more}
-use Rattle.dp_break.specs.Settling.{one_settled, settled, some_settled_stops, stops_once_more}
+use Rattle.dp_break.specs.inner.Settling.{one_settled, settled, some_settled_stops, stops_once_more}
 use Rattle.dp_break.proofs.Counting.{with_more-zero}
 
 module _ (bundle : Bundle) (at : Moment × State) where

@@ -1,7 +1,7 @@
 -- What is true in a state, by its value.
 use Rattle.std.proofs.Common.{◌≡◌, false, Option, Some, None, ap}
 use Rattle.std.specs.Option.{option_map_or}
-use Rattle.dp_bundle.specs.declared.bundle.Bundle.{Bundle}
+use Rattle.dp_tree.specs.declared.bundle.Bundle.{Bundle}
 use Rattle.dp_meaning.specs.Pure.{IsValueIn}
 use Rattle.dp_meaning.specs.Values.{holds}
 use Rattle.dp_state.specs.declared.state.State.{State}

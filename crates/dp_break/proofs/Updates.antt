@@ -5,7 +5,7 @@ use Rattle.std.proofs.lemmas.Iterator.Adapters.{position_from-zero}
 use Rattle.std.proofs.lemmas.List.{length-set}
 use Rattle.std.proofs.lemmas.List.Elements.{All-get_or, All-set}
 use Rattle.std.proofs.lemmas.List.Sums.{count_by-le-length, length-filter}
-use Rattle.dp_bundle.specs.declared.bundle.Bundle.{Bundle}
+use Rattle.dp_tree.specs.declared.bundle.Bundle.{Bundle}
 use Rattle.dp_packet.specs.declared.packet.BreakKind.{BreakKind}
 use Rattle.dp_packet.specs.declared.packet.BreakKind.TheVariants.{Line, Call, Return, Conditional}
 use Rattle.dp_break.specs.declared.breakpoint.BreakChange.{BreakChange}
@@ -117,6 +117,7 @@ changed_sound bundle c b accepted s = record {
   placed = s.placed;
   named = s.named;
   tree = s.tree;
+  formed = s.formed;
 } where
   cases : (t : Bool) → cond t (Some 3) (asked_line_refusal bundle b.file c.line) ≡ None → t ≡ false
   cases true f = absurd cc

@@ -1,15 +1,14 @@
 -- What the calls make of the breakpoints that are held.
-use Rattle.std.specs.Prelude.{◌≡◌, ℕ, ◌+◌, ◌<◌, ◌==◌, Bool, true, false, not, if◌then◌else◌, List, [], ◌∷◌, ◌++◌, length, filter, find, map, Option, Some, None, unwrap_or}
-use Rattle.std.specs.List.{list_all}
-use Rattle.std.specs.Option.{option_map_or}
-use Rattle.dp_bundle.specs.declared.bundle.Bundle.{Bundle}
+use Rattle.std.specs.Prelude.{◌≡◌, ℕ, ◌+◌, ◌<◌, ◌==◌, true, not, if◌then◌else◌, List, [], ◌∷◌, ◌++◌, length, filter, find, map, Option, Some, None, unwrap_or}
+use Rattle.dp_tree.specs.declared.bundle.Bundle.{Bundle}
 use Rattle.dp_tree.specs.declared.tree.Expression.{Expression}
 use Rattle.dp_break.specs.declared.breakpoint.BreakChange.{BreakChange}
 use Rattle.dp_break.specs.declared.breakpoint.Breakpoint.{Breakpoint}
 use Rattle.dp_break.specs.declared.breakpoint.BreakRequest.{BreakRequest}
+use Rattle.dp_break.specs.Conditions.{tree_of}
 use Rattle.dp_break.specs.Hits.{is_of_function}
 use Rattle.dp_break.specs.Refusals.{request_refusal}
-use Rattle.dp_break.specs.Tables.{Table, IsTreeOf, has_parts}
+use Rattle.dp_break.specs.Tables.{Table, has_parts}
 
 -- the breakpoint of this id
 abbrev pub held_as : List Breakpoint → ℕ → Option Breakpoint
@@ -48,11 +47,8 @@ with_new b t = record { held = t.held ++ b ∷ []; next = t.next + 1 }
 -- a request is accepted, and gets this id
 pub record Adds (bundle : Bundle) (before : Table) (r : BreakRequest) (id : ℕ) (after : Table) : Type 0 where
   pub accepted : request_refusal bundle before r ≡ None
-  pub tree : Option Expression
-  pub is_tree : IsTreeOf r.expression tree
-  pub only : (other : Option Expression) → IsTreeOf r.expression other → other ≡ tree
   pub numbered : id ≡ before.next
-  pub held : after ≡ with_new (asked before.next tree r) before
+  pub held : after ≡ with_new (asked before.next (tree_of r.expression) r) before
 
 -- ---- a change
 
@@ -80,9 +76,3 @@ with_change id c t = record t { held = map (λ b. if b.id == id then changed c b
 
 abbrev pub without : ℕ → Table → Table
 without id t = record t { held = filter (λ b. not (b.id == id)) t.held }
-
--- ---- expressions
-
--- no breakpoint has an expression
-abbrev pub has_no_expression : List Breakpoint → Bool
-has_no_expression held = list_all (λ b. option_map_or (λ text. false) b.expression true) held

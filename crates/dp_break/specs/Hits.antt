@@ -1,8 +1,9 @@
--- When a breakpoint hits, and when one that hits stops the program: DBGp 1.0, "Breakpoints". That a hit is counted only where the expression is true is this engine's own.
-use Rattle.std.specs.Prelude.{ℕ, ◌%◌, ◌==◌, nat_le, Bool, true, false, ◌&&◌, ◌||◌, if◌then◌else◌, List, Option, Some, None}
+-- When a breakpoint hits, and when one that hits stops the program: DBGp 1.0, "Breakpoints". That a hit is counted only
+-- where the expression is true is this engine's own.
+use Rattle.std.specs.Prelude.{ℕ, ◌%◌, ◌==◌, nat_le, Bool, true, false, ◌&&◌, ◌||◌, if◌then◌else◌, List, Option, Some, None, is_some}
 use Rattle.std.specs.Option.{option_map_or}
 use Rattle.std.specs.Str.{str_eq_ignore_ascii_case}
-use Rattle.dp_bundle.specs.declared.bundle.Bundle.{Bundle}
+use Rattle.dp_tree.specs.declared.bundle.Bundle.{Bundle}
 use Rattle.dp_meaning.specs.Expressions.{evaluation}
 use Rattle.dp_meaning.specs.Run.{Run, Done, Over, At}
 use Rattle.dp_meaning.specs.Values.{holds}
@@ -69,6 +70,10 @@ is_place_of b moment =
 -- it is enabled, its place matches, and its expression is missing or true in the state of the moment
 abbrev pub hits : Bundle → Moment × State → Breakpoint → Bool
 hits bundle at b = b.enabled && is_place_of b at.0 && option_map_or (λ e. is_true_in bundle e at.1) b.parsed true
+
+-- whether it hits there depends on its expression
+abbrev pub asks_expression : Moment → Breakpoint → Bool
+asks_expression moment b = b.enabled && is_place_of b moment && is_some b.parsed
 
 -- its hit rule holds of a count; with the hit value 0 it always does
 abbrev pub rule_holds : HitRule → ℕ → ℕ → Bool

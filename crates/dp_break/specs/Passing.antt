@@ -1,7 +1,7 @@
 -- What a run past a list of moments does to breakpoints, and where it stops. Moments are given with the states in which they come.
 use Rattle.std.specs.Prelude.{ℕ, ◌+◌, ◌-◌, min, Bool, not, ◌&&◌, ◌||◌, if◌then◌else◌, List, [], ◌∷◌, ◌++◌, drop, filter, map, take, count_by, Option, Some, None}
 use Rattle.std.specs.List.{list_any, position_from}
-use Rattle.dp_bundle.specs.declared.bundle.Bundle.{Bundle}
+use Rattle.dp_tree.specs.declared.bundle.Bundle.{Bundle}
 use Rattle.dp_state.specs.declared.moments.Moment.{Moment}
 use Rattle.dp_state.specs.declared.state.State.{State}
 use Rattle.dp_break.specs.declared.breakpoint.Breakpoint.{Breakpoint}
@@ -26,17 +26,26 @@ after bundle moments b = with_more (count_by (λ at. hits bundle at b) moments) 
 abbrev pub stops_at : Bundle → Moments → Moment × State → Breakpoint → Bool
 stops_at bundle earlier at b = hits bundle at b && is_enough b (after bundle (earlier ++ at ∷ []) b).hits
 
--- each element of a list, with those before it
-abbrev pub with_past_from : {A : Type 0} → List A → List A → List (List A × A)
-with_past_from earlier [] = []
-with_past_from earlier (x ∷ xs) = (earlier, x) ∷ with_past_from (earlier ++ x ∷ []) xs
+-- an element of a list, with those before it
+pub record Reached (A : Type 0) : Type 0 where
+  pub past : List A
+  pub here : A
 
-abbrev pub with_past : {A : Type 0} → List A → List (List A × A)
-with_past xs = with_past_from [] xs
+abbrev pub reached : {A : Type 0} → List A → A → Reached A
+reached past here = record { past = past; here = here }
+
+-- each element of a list, behind others
+abbrev pub each_from : {A : Type 0} → List A → List A → List (Reached A)
+each_from past [] = []
+each_from past (x ∷ xs) = reached past x ∷ each_from (past ++ x ∷ []) xs
+
+abbrev pub each_in : {A : Type 0} → List A → List (Reached A)
+each_in xs = each_from [] xs
 
 -- a temporary breakpoint is there until it has stopped, each other one for good
 abbrev pub is_there_after : Bundle → Moments → Breakpoint → Bool
-is_there_after bundle moments b = not (list_any (λ p. stops_at bundle p.0 p.1 b) (with_past moments) && b.temporary)
+is_there_after bundle moments b =
+    not (list_any (λ at. stops_at bundle at.past at.here b) (each_in moments) && b.temporary)
 
 -- the breakpoints that are held after these moments, with their counts
 abbrev pub held_after : Bundle → Moments → List Breakpoint → List Breakpoint
@@ -48,10 +57,11 @@ one_stops bundle held earlier at = list_any (λ b. is_there_after bundle earlier
 
 -- ---- the stop rule
 
--- A mode is a test of moments, by which a command that goes on stops. The stop is the least number above n at which the mode or a breakpoint stops.
+-- A mode is a test of moments, by which a command that goes on stops. The stop is the least number above n at which the
+-- mode or a breakpoint stops.
 abbrev pub stop_above : (Moment → Bool) → Bundle → List Breakpoint → ℕ → Moments → Option ℕ
 stop_above mode bundle held n moments =
-    position_from (λ p. mode p.1.0 || one_stops bundle held p.0 p.1) (n + 1) (with_past (drop n moments))
+    position_from (λ at. mode at.here.0 || one_stops bundle held at.past at.here) (n + 1) (each_in (drop n moments))
 
 -- of moments that are numbered from the one past n: those up to a stop, or all
 abbrev pub up_to : ℕ → Option ℕ → Moments → Moments
@@ -64,7 +74,8 @@ passed n stop moments = up_to n stop (drop n moments)
 
 -- ---- moment by moment
 
--- What is found by going on from n one moment after another, as long as neither the mode nor a breakpoint stops: the stop, and what is held then.
+-- What is found by going on from n one moment after another, as long as neither the mode nor a breakpoint stops: the stop,
+-- and what is held then.
 abbrev pub found : (Moment → Bool) → Bundle → List Breakpoint → ℕ → Moments → Option ℕ × List Breakpoint
 found mode bundle held n [] = (None, held)
 found mode bundle held n (at ∷ later) =

@@ -1,14 +1,12 @@
 -- The breakpoints that are held, and what holds of them.
-use Rattle.std.specs.Prelude.{◌≡◌, ℕ, ◌+◌, ◌≤◌, nat_le, Bool, true, not, ◌&&◌, ◌||◌, List, [], ◌∷◌, length, All, Option, Some, None, is_some, refl, ⊤}
+use Rattle.std.specs.Prelude.{◌≡◌, ℕ, ◌+◌, ◌≤◌, nat_le, Bool, true, false, not, ◌&&◌, ◌||◌, List, [], ◌∷◌, length, All, Option, is_some, refl}
 use Rattle.std.specs.Coded.{Coded, code_by, coded×, coded_list, coded_ℕ}
 use Rattle.std.specs.Option.{option_map_or}
 use Rattle.dp_packet.specs.declared.packet.BreakKind.{BreakKind}
 use Rattle.dp_packet.specs.declared.packet.BreakKind.TheVariants.{Line, Call, Return, Conditional}
-use Rattle.dp_parse.specs.Programs.{IsExpressionText}
-use Rattle.dp_tree.specs.declared.tree.Expression.{Expression}
-use Rattle.dp_tree.specs.Purity.{is_pure}
 use Rattle.dp_break.specs.contracts.breakpoint.Breakpoint as breakpoint
 use Rattle.dp_break.specs.declared.breakpoint.Breakpoint.{Breakpoint}
+use Rattle.dp_break.specs.Conditions.{has_no_tree, tree_of}
 use Rattle.dp_break.specs.Hits.{is_of_function}
 
 -- the breakpoints, and the id that the next one has
@@ -19,7 +17,8 @@ pub record Table : Type 0 where
 -- a table is stored as the pair of its parts
 abbrev pub table_code : Coded Table
 table_code =
-    code_by (List Breakpoint × ℕ) (coded× (coded_list breakpoint.the_row.coded) coded_ℕ) (λ t. (t.held, t.next)) (λ p. record { held = p.0; next = p.1 }) (λ _. refl)
+    code_by (List Breakpoint × ℕ) (coded× (coded_list breakpoint.the_row.coded) coded_ℕ)
+    (λ t. (t.held, t.next)) (λ p. record { held = p.0; next = p.1 }) (λ _. refl)
 
 abbrev pub empty : Table
 empty = record { held = []; next = 1 }
@@ -38,25 +37,6 @@ last_id = 4294967295
 abbrev pub name_limit : ℕ
 name_limit = 255
 
--- the most bytes of an expression
-abbrev pub expression_limit : ℕ
-expression_limit = 4096
-
--- ---- expressions
-
--- a text is an expression that changes nothing, and this is its tree
-pub record IsCondition (text : List ℕ) (e : Expression) : Type 0 where
-  pub short : length text ≤ expression_limit
-  pub spelled : IsExpressionText text e
-  pub pure : is_pure e ≡ true
-
--- the tree of an expression, if there is one
-abbrev pub IsTreeOf : Option (List ℕ) → Option Expression → Type 0
-IsTreeOf None None = ⊤
-IsTreeOf None (Some e) = ⊥
-IsTreeOf (Some text) None = ⊥
-IsTreeOf (Some text) (Some e) = IsCondition text e
-
 -- ---- what is held
 
 -- the parts that a breakpoint of a kind has: its line, its function, its expression
@@ -71,7 +51,8 @@ pub record IsSound (b : Breakpoint) : Type 0 where
   -- only one on a function may be of any file
   pub placed : is_of_function b.kind || is_some b.file ≡ true
   pub named : option_map_or (λ name. nat_le (length name) name_limit) b.function true ≡ true
-  pub tree : IsTreeOf b.expression b.parsed
+  pub tree : b.parsed ≡ tree_of b.expression
+  pub formed : has_no_tree b.expression ≡ false
 
 -- their ids ascend, from this number on and below that one
 abbrev pub Ascend : ℕ → List Breakpoint → ℕ → Type 0

@@ -1,9 +1,11 @@
 //! The breakpoints that a session holds.
 
-ghost use Rattle.std.specs.Prelude.{◌≡◌, ◌==◌, ◌<◌, ◌≤◌, ◌⊎◌, ℕ, true, [], ◌∷◌, length, option_map, is_some, position, IfOk, IsOk, OnOk, OnErr};
-ghost use Rattle.dp_break.specs.Changes.{Adds, IsRequest, has_no_expression, held_as, with_change, with_new, without};
+ghost use Rattle.std.specs.Prelude.{◌≡◌, ◌==◌, ◌<◌, ◌≤◌, true, [], ◌∷◌, length, option_map, is_some, position, IfErr, IfOk, IfSome, OnOk, OnErr, Err};
+ghost use Rattle.std.specs.List.{list_any};
+ghost use Rattle.dp_break.specs.Changes.{Adds, IsRequest, held_as, with_change, with_new, without};
+ghost use Rattle.dp_break.specs.Hits.{asks_expression};
 ghost use Rattle.dp_break.specs.Passing.{held_after, one_stops};
-ghost use Rattle.dp_break.specs.Refusals.{IsRefused, answer_of, change_refusal, request_refusal, update_refusal};
+ghost use Rattle.dp_break.specs.Refusals.{IsCause, answer_of, change_refusal, place_refusal, plain_refusal, request_refusal, update_refusal};
 ghost use Rattle.dp_break.specs.Tables.{IsSound, IsTable, breakpoint_limit, empty, last_id};
 
 use crate::breakpoint::{BreakChange, BreakRequest, Breakpoint};
@@ -13,17 +15,17 @@ use crate::hits::is_of_function;
 use crate::lines::asked_line_refusal;
 use crate::making::asked;
 use crate::passing::{discard, mark, settle};
-use dp_bundle::Bundle;
 use dp_state::{Moment, State};
+use dp_tree::Bundle;
 use dp_value::Memory;
 use std::alloc::Global;
 use std::marker::Model;
 
-/// The most breakpoints.
-pub const BREAKPOINT_LIMIT: usize = 1000;
+// The most breakpoints.
+const BREAKPOINT_LIMIT: usize = 1000;
 
-/// The most bytes of a function's name.
-pub const NAME_LIMIT: usize = 255;
+// The most bytes of a function's name.
+const NAME_LIMIT: usize = 255;
 
 /// Breakpoints, in ascending order of their ids. Contracts see them and the id that the next one has.
 #[derive(Debug, Drop)]
@@ -119,9 +121,10 @@ impl Breaks {
     pub fn add(&mut self, bundle: &Bundle, request: BreakRequest) -> Result<u32, BreakError>
         requires { IsRequest bundle.now request }
         ensures added { IfOk result (λ id. Adds bundle.now self.old request id self.new) }
-        ensures refused { (code : ℕ) → result ≡ Err (BreakError.Code code) → IsRefused bundle.now self.old request code }
-        ensures refuses { (code : ℕ) → IsRefused bundle.now self.old request code →
-            (result ≡ Err (BreakError.Code code)) ⊎ (result ≡ Err BreakError.Memory) }
+        ensures refused { IfErr result (IsCause (request_refusal bundle.now self.old request)) }
+        // Where only an expression would take memory, or nothing, it is refused whatever memory there is.
+        ensures surely { IfSome (plain_refusal bundle.now self.old request) (λ code.
+            result ≡ Err (BreakError.Code code)) }
         ensures unchanged { OnErr result (self.new ≡ self.old) }
     {
         match self.refused_request(bundle, &request) {
@@ -136,7 +139,7 @@ impl Breaks {
 
     // The first of the codes 200, 202 and 203 with which a request is refused, if it is.
     fn refused_request(&self, bundle: &Bundle, request: &BreakRequest) -> Option<u16>
-        ensures { result ≡ request_refusal bundle.now self.now request.now }
+        ensures { result ≡ place_refusal bundle.now self.now request.now }
     {
         if self.held.len() >= BREAKPOINT_LIMIT || self.next == u32::MAX {
             return Some(200);
@@ -205,7 +208,8 @@ impl Breaks {
     }
 
     /// Counts the hits of a moment in this state, takes out the temporary breakpoints that stop, and says whether one
-    /// stops. Takes no memory where no breakpoint has an expression; where memory runs out, nothing has changed.
+    /// stops. Memory is wanted only where an enabled breakpoint whose place is that of the moment has an expression; where it
+    /// runs out, nothing has changed.
     pub fn pass(&mut self, bundle: &Bundle, moment: &Moment, state: &State) -> Result<bool, Memory>
         ensures held { OnOk result (self.new ≡ record self.old {
           held = held_after bundle.now ((moment.now, state.now) ∷ []) self.old.held;
@@ -213,7 +217,7 @@ impl Breaks {
         ensures stop { IfOk result (λ stop.
             stop ≡ one_stops bundle.now self.old.held [] (moment.now, state.now)) }
         ensures unchanged { OnErr result (self.new ≡ self.old) }
-        ensures memory { has_no_expression self.old.held ≡ true → IsOk result }
+        ensures memory { OnErr result (list_any (asks_expression moment.now) self.old.held ≡ true) }
     {
         let alloc = self.alloc;
         mark(

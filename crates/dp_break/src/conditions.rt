@@ -1,23 +1,22 @@
 //! The expressions of breakpoints.
 
-ghost use Rattle.std.specs.Prelude.{◌≡◌, true, IfOk, IfErr, Option};
+ghost use Rattle.std.specs.Prelude.{◌≡◌, false, true, Some, IfOk, IfErr, OnOk};
+ghost use Rattle.dp_break.specs.Conditions as spec;
+ghost use Rattle.dp_break.specs.Conditions.{has_no_tree};
 ghost use Rattle.dp_break.specs.Hits.{is_true_in};
-ghost use Rattle.dp_break.specs.Refusals.{IsNoTree, error_of, pure_or_refused};
-ghost use Rattle.dp_break.specs.Tables.{IsCondition, IsTreeOf};
-ghost use Rattle.dp_tree.specs.declared.tree.Expression.{Expression};
+ghost use Rattle.dp_break.specs.inner.Refusing.{IsNoTree, error_of, pure_or_refused};
 ghost use Rattle.dp_tree.specs.Purity.{is_pure};
 
 use crate::errors::BreakError;
-use dp_bundle::Bundle;
 use dp_meaning::value_in;
 use dp_parse::{ParseError, parse_expression};
 use dp_state::State;
-use dp_tree::{Expression, is_pure};
+use dp_tree::{Bundle, Expression, is_pure};
 use dp_value::{Bytes, Memory, truthy};
 use std::alloc::Global;
 
-/// The most bytes that an expression may have.
-pub const EXPRESSION_LIMIT: usize = 4096;
+// The most bytes that an expression may have.
+const EXPRESSION_LIMIT: usize = 4096;
 
 // Why there is no tree: 207, or want of memory.
 fn no_expression(why: ParseError) -> BreakError
@@ -42,8 +41,7 @@ fn pure_only(e: Expression) -> Result<Expression, BreakError>
 
 // The tree of an expression, or 207 where the text is too long, is none, or may change something.
 fn condition_of(alloc: Global, text: &Bytes) -> Result<Expression, BreakError>
-    ensures found { IfOk result (λ e. IsCondition text.now e) }
-    ensures only { IfOk result (λ e. (other : Expression) → IsCondition text.now other → other ≡ e) }
+    ensures found { IfOk result (λ e. spec.condition_of text.now ≡ Some e) }
     ensures refused { IfErr result (IsNoTree (Some text.now)) }
 {
     if text.len() > EXPRESSION_LIMIT {
@@ -55,11 +53,13 @@ fn condition_of(alloc: Global, text: &Bytes) -> Result<Expression, BreakError>
     }
 }
 
-/// The tree of the expression, if there is one, or 207.
-#[tactic(auto, using(crate::proofs::Requests::tree_only, crate::proofs::Requests::no_tree_only))]
-pub fn tree_of(alloc: Global, expression: &Option<Bytes>) -> Result<Option<Expression>, BreakError>
-    ensures found { IfOk result (λ tree. IsTreeOf expression.now tree) }
-    ensures only { IfOk result (λ tree. (other : Option Expression) → IsTreeOf expression.now other → other ≡ tree) }
+/// The tree of the expression, if one is given, or 207.
+pub(crate) fn tree_of(
+    alloc: Global,
+    expression: &Option<Bytes>,
+) -> Result<Option<Expression>, BreakError>
+    ensures found { IfOk result (λ tree. tree ≡ spec.tree_of expression.now) }
+    ensures formed { OnOk result (has_no_tree expression.now ≡ false) }
     ensures refused { IfErr result (IsNoTree expression.now) }
 {
     match expression {
@@ -72,7 +72,7 @@ pub fn tree_of(alloc: Global, expression: &Option<Bytes>) -> Result<Option<Expre
 }
 
 /// Whether an expression is true in a state. One that is fatal is not.
-pub fn is_true(
+pub(crate) fn is_true(
     alloc: Global,
     bundle: &Bundle,
     state: &State,

@@ -1,3 +1,5 @@
+//! Why a breakpoint is not set or not changed.
+
 ghost use Rattle.std.specs.Prelude.{◌≡◌};
 ghost use Rattle.dp_break.specs.declared.errors.BreakError.TheVariants.{Memory};
 

@@ -1,14 +1,14 @@
 //! When a breakpoint hits, and when it stops.
 
-ghost use Rattle.std.specs.Prelude.{◌≡◌, true, is_some, IfOk, OnErr};
+ghost use Rattle.std.specs.Prelude.{◌≡◌, true, IfOk, OnErr};
 ghost use Rattle.dp_break.specs.Hits as spec;
 ghost use Rattle.dp_break.specs.Tables.{IsSound};
 
 use crate::breakpoint::Breakpoint;
 use crate::conditions::is_true;
-use dp_bundle::Bundle;
 use dp_packet::{BreakKind, HitRule};
 use dp_state::{Moment, MomentKind, State};
+use dp_tree::Bundle;
 use dp_value::{Bytes, Memory};
 use std::alloc::Global;
 
@@ -74,8 +74,8 @@ fn is_place_of(breakpoint: &Breakpoint, moment: &Moment) -> bool
     }
 }
 
-/// Whether a breakpoint hits at a moment in a state. Takes no memory where it has no expression.
-pub fn is_hit(
+/// Whether a breakpoint hits at a moment in a state. Memory is wanted only where that depends on its expression.
+pub(crate) fn is_hit(
     alloc: Global,
     bundle: &Bundle,
     moment: &Moment,
@@ -84,7 +84,7 @@ pub fn is_hit(
 ) -> Result<bool, Memory>
     requires { IsSound breakpoint.now }
     ensures hits { IfOk result (λ hit. hit ≡ spec.hits bundle.now (moment.now, state.now) breakpoint.now) }
-    ensures memory { OnErr result (is_some breakpoint.now.expression ≡ true) }
+    ensures memory { OnErr result (spec.asks_expression moment.now breakpoint.now ≡ true) }
 {
     if !breakpoint.enabled || !is_place_of(breakpoint, moment) {
         return Ok(false);
@@ -96,7 +96,7 @@ pub fn is_hit(
 }
 
 /// Whether a count is enough to stop.
-pub fn is_enough(rule: HitRule, value: u32, count: u64) -> bool
+pub(crate) fn is_enough(rule: HitRule, value: u32, count: u64) -> bool
     ensures { result ≡ spec.is_enough_for rule value count }
 {
     if value == 0 {

@@ -6,7 +6,7 @@ ghost use Rattle.std.specs.Option.{option_map_or};
 ghost use Rattle.dp_break.specs.declared.breakpoint.Breakpoint.{Breakpoint};
 ghost use Rattle.dp_break.specs.Hits.{is_true_in};
 ghost use Rattle.dp_break.specs.Passing.{Moments, found, held_after, passed, stop_above};
-ghost use Rattle.dp_bundle.specs.declared.bundle.Bundle.{Bundle};
+ghost use Rattle.dp_tree.specs.declared.bundle.Bundle.{Bundle};
 ghost use Rattle.dp_meaning.specs.Pure.{IsValueIn};
 ghost use Rattle.dp_meaning.specs.Values.{holds};
 ghost use Rattle.dp_state.specs.declared.moments.Moment.{Moment};

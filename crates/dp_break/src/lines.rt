@@ -3,8 +3,7 @@
 ghost use Rattle.std.specs.Prelude.{◌≡◌};
 ghost use Rattle.dp_break.specs.Refusals as spec;
 
-use dp_bundle::Bundle;
-use dp_tree::{File, has_code};
+use dp_tree::{Bundle, File, has_code};
 
 /// Why no breakpoint may stand on a line of a file, if so: 202 or 203.
 fn line_refusal(file: &File, line: u32) -> Option<u16>
@@ -20,7 +19,11 @@ fn line_refusal(file: &File, line: u32) -> Option<u16>
 }
 
 /// The same for a line that was asked for, if one was, of the file of this number. Takes no memory.
-pub fn asked_line_refusal(bundle: &Bundle, file: Option<u32>, line: Option<u32>) -> Option<u16>
+pub(crate) fn asked_line_refusal(
+    bundle: &Bundle,
+    file: Option<u32>,
+    line: Option<u32>,
+) -> Option<u16>
     ensures { result ≡ spec.asked_line_refusal bundle.now file line }
 {
     let (Some(file), Some(line)) = (file, line) else {

@@ -1,20 +1,20 @@
 //! What a moment does to breakpoints.
 
-ghost use Rattle.std.specs.Prelude.{◌≡◌, ◌+◌, ◌<◌, ◌≤◌, true, ◌&&◌, length, map, take, drop, ◌++◌, slice_index_or, All, IsOk, OnOk};
-ghost use Rattle.dp_break.specs.Changes.{has_no_expression};
-ghost use Rattle.dp_break.specs.Hits.{hits};
-ghost use Rattle.dp_break.specs.Settling.{one_settled, settled, settled_one, some_settled_stops, stops_once_more};
+ghost use Rattle.std.specs.Prelude.{◌≡◌, ◌+◌, ◌<◌, ◌≤◌, true, ◌&&◌, length, map, take, drop, ◌++◌, slice_index_or, All, OnErr, OnOk};
+ghost use Rattle.std.specs.List.{list_any};
+ghost use Rattle.dp_break.specs.Hits.{asks_expression, hits};
+ghost use Rattle.dp_break.specs.inner.Settling.{one_settled, settled, settled_one, some_settled_stops, stops_once_more};
 ghost use Rattle.dp_break.specs.Tables.{IsSound};
 
 use crate::breakpoint::Breakpoint;
 use crate::hits::{is_enough, is_hit};
-use dp_bundle::Bundle;
 use dp_state::{Moment, State};
+use dp_tree::Bundle;
 use dp_value::Memory;
 use std::alloc::Global;
 
-/// Marks the places of the breakpoints that hit at a moment. Takes no memory where none has an expression.
-pub fn mark(
+/// Marks the places of the breakpoints that hit at a moment. Memory is wanted only where one of them asks its expression.
+pub(crate) fn mark(
     alloc: Global,
     bundle: &Bundle,
     moment: &Moment,
@@ -26,7 +26,7 @@ pub fn mark(
     requires sound { All IsSound held.now }
     ensures marked { OnOk result
         (take (length held.now) marks.new ≡ map (hits bundle.now (moment.now, state.now)) held.now) }
-    ensures memory { has_no_expression held.now ≡ true → IsOk result }
+    ensures memory { OnErr result (list_any (asks_expression moment.now) held.now ≡ true) }
 {
     for at in 0..held.len() {
         marks[at] = is_hit(alloc, bundle, moment, state, &held[at])?;
@@ -35,7 +35,7 @@ pub fn mark(
 }
 
 /// Lets go of a breakpoint.
-pub fn discard(_breakpoint: Breakpoint) {}
+pub(crate) fn discard(_breakpoint: Breakpoint) {}
 
 // Counts a hit of the breakpoint at this place. One that is temporary goes where it stops.
 fn hit(held: &mut Vec<Breakpoint>, at: usize) -> bool
@@ -68,7 +68,7 @@ fn settle_at(held: &mut Vec<Breakpoint>, at: usize, mark: bool) -> bool
 
 /// Counts the hits that are marked, takes out the temporary breakpoints that stop, and says whether one stops. Takes no
 /// memory.
-pub fn settle(held: &mut Vec<Breakpoint>, marks: &[bool]) -> bool
+pub(crate) fn settle(held: &mut Vec<Breakpoint>, marks: &[bool]) -> bool
     requires { length held.old.items ≤ length marks.now }
     ensures stops { result ≡ some_settled_stops marks.now held.old.items }
     ensures left { held.new.items ≡ settled marks.now held.old.items }

@@ -1,10 +1,12 @@
 pub mod Runs
 pub mod Sequences
-pub mod Loop
+pub mod Taking
 pub mod Integers
 pub mod Found
 pub mod Again
 pub mod Written
 pub mod Steps
+pub mod Keying
 pub mod Nesting
-pub mod Whole
+pub mod Paths
+pub mod Lines

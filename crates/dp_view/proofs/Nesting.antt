@@ -4,11 +4,12 @@ use Rattle.dp_packet.specs.declared.property.Property.{Property}
 use Rattle.dp_packet.specs.declared.property.Shape.TheVariants as shape
 use Rattle.dp_value.specs.declared.key.Key.{Key}
 use Rattle.dp_value.specs.declared.value.Value.TheVariants.{Array}
-use Rattle.dp_value.specs.Codes.{pairs_of-entries_of}
+use Rattle.dp_value.specs.inner.Codes.{pairs_of-entries_of}
 use Rattle.dp_value.specs.Data.{Data, Table}
 use Rattle.dp_value.specs.Value.{data_of}
 use Rattle.dp_view.specs.declared.paging.Paging.{Paging}
-use Rattle.dp_view.specs.Properties.{nested, page_of, properties, shape_of}
+use Rattle.dp_view.specs.Properties.{nested, page_of, shape_of}
+use Rattle.dp_view.specs.inner.Making.{properties}
 use Rattle.dp_view.proofs.Steps.{page_cut}
 
 one_deeper : (p : Paging) (levels : ℕ) (full : Option (List ℕ)) (entries : List (Key × Data)) → levels ≢ 0 → properties p (levels - 1) full entries ≡ nested p levels full entries

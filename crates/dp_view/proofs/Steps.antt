@@ -4,11 +4,12 @@ use Rattle.std.specs.List.{flat_map}
 use Rattle.std.specs.Option.{option_map_or}
 use Rattle.std.proofs.lemmas.List.{append-nil, drop_all, length-take, length-reverse, get_or-reverse, take_min, drop_min, drop-take}
 use Rattle.std.proofs.lemmas.Option.{slice_get_past, slice_get-get_or}
-use Rattle.dp_bundle.specs.declared.bundle.Bundle.{Bundle}
+use Rattle.dp_tree.specs.declared.bundle.Bundle.{Bundle}
 use Rattle.dp_packet.specs.declared.packet.StackLine.{StackLine}
 use Rattle.dp_state.specs.declared.state.Frame.{Frame}
 use Rattle.dp_view.specs.Properties.{page_of}
-use Rattle.dp_view.specs.Stacks.{lines_from, line_of}
+use Rattle.dp_view.specs.Stacks.{lines_from}
+use Rattle.dp_view.specs.inner.Making.{line_of}
 
 more : (n : ℕ) → suc n + 1 ≡ suc (n + 1)
 more n = omega arith

@@ -9,11 +9,12 @@ use Rattle.dp_value.specs.declared.key.Key.{Key}
 use Rattle.dp_value.specs.declared.key.Key.TheVariants.{Int, Text}
 use Rattle.dp_value.specs.IntText.{int_of_text}
 use Rattle.dp_value.specs.KeyOf.{key_of_text}
+use Rattle.dp_value.specs.Quoting.{in_quotes}
 use Rattle.dp_view.specs.Grammar.{Repeated, Within, is_plain, Quoted, Inner, Index, spelt, HasIndex, HasFullName}
-use Rattle.dp_view.specs.Names.{in_quotes, index_of, entry_name, full_name, with_key}
+use Rattle.dp_view.specs.Names.{index_of, entry_name, full_name, with_key}
+use Rattle.dp_view.specs.Reading.{path_at}
 use Rattle.dp_view.proofs.Again.{path_again}
 use Rattle.dp_view.proofs.Integers.{int_is}
-use Rattle.dp_view.proofs.Runs.{some_is}
 
 plain_byte : (b : ℕ) → (b == 34) ≡ false → (b == 92) ≡ false → (b == 0) ≡ false → is_plain 34 b ≡ true
 plain_byte b x y z = rw (x, y, z) refl
@@ -70,7 +71,7 @@ indices_written (key ∷ keys) all = record {
   second = indices_written keys all.1;
 }
 
-pub full_name_spelt : (path : Path) → HasFullName path → spelt (full_name path) path
+full_name_spelt : (path : Path) → HasFullName path → spelt (full_name path) path
 full_name_spelt path has = record {
   front = 36 ∷ [];
   back = path.name ++ flat_map index_of path.keys;
@@ -85,9 +86,8 @@ full_name_spelt path has = record {
   };
 }
 
-pub full_name_only : (path other : Path) → HasFullName path → spelt (full_name path) other → other ≡ path
-full_name_only path other has is =
-    some_is other path (sym (path_again (full_name path) other is) ∙ path_again (full_name path) path (full_name_spelt path has))
+pub full_name_read : (path : Path) → HasFullName path → path_at (full_name path) ≡ Some path
+full_name_read path has = path_again (full_name path) path (full_name_spelt path has)
 
 indices_more : (keys : List Key) (key : Key) → flat_map index_of keys ++ index_of key ≡ flat_map index_of (keys ++ key ∷ [])
 indices_more [] key = sym (append-nil (index_of key))

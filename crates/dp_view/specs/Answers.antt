@@ -4,11 +4,10 @@ use Rattle.std.specs.Prelude.{◌≡◌, ℕ, Result, Ok, Err, IsOk}
 use Rattle.dp_view.specs.declared.error.ViewError.{ViewError}
 use Rattle.dp_view.specs.declared.error.ViewError.TheVariants.{Code, Memory}
 
--- what is shown, and then what is shown of it
-infixl 10 ◌>>=◌
-abbrev pub ◌>>=◌ : {A B : Type 0} → Result A ℕ → (A → Result B ℕ) → Result B ℕ
-(Ok a) >>= f = f a
-(Err code) >>= f = Err code
+-- what is shown of what is shown, or the code of the first refusal
+abbrev pub and_then : {A B : Type 0} → (A → Result B ℕ) → Result A ℕ → Result B ℕ
+and_then view (Ok a) = view a
+and_then view (Err code) = Err code
 
 -- A call is refused with the code that is asked for. Memory may run out only where something is shown.
 abbrev pub Refuses : {Y : Type 0} → ViewError → Result Y ℕ → Type 0
@@ -28,3 +27,9 @@ RefusesSurely Memory asked = ⊥
 abbrev pub AnswersSurely : {X Y : Type 0} → (X → Y) → Result X ViewError → Result Y ℕ → Type 0
 AnswersSurely view (Ok x) asked = asked ≡ Ok (view x)
 AnswersSurely view (Err e) asked = RefusesSurely e asked
+
+-- The same of a call that looks for something first: memory may run out only where that is there.
+abbrev pub AnswersAfter : {X Y Z : Type 0} → (X → Y) → Result X ViewError → Result Z ℕ → Result Y ℕ → Type 0
+AnswersAfter view (Ok x) first asked = asked ≡ Ok (view x)
+AnswersAfter view (Err (Code code)) first asked = asked ≡ Err code
+AnswersAfter view (Err Memory) first asked = IsOk first

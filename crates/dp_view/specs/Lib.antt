@@ -1,7 +1,12 @@
 pub mod Answers
 pub mod Names
 pub mod Grammar
+pub mod Reading
 pub mod Places
 pub mod Properties
+pub mod Nesting
 pub mod Stacks
-pub mod Reading
+pub mod Source
+pub mod Values
+pub mod Named
+pub mod inner

@@ -1,11 +1,12 @@
 -- The names of properties: DBGp 1.0, "Properties, variables and values", on `name` and `fullname`. The escapes of a key are
 -- this engine's own.
-use Rattle.std.specs.Prelude.{ℕ, ℤ, ◌-◌, if◌then◌else◌, ◌==◌, length, slice_get, List, [], ◌∷◌, ◌++◌, codes, Option, option_map}
+use Rattle.std.specs.Prelude.{ℕ, ℤ, ◌-◌, length, slice_get, List, [], ◌∷◌, ◌++◌, codes, Option, option_map}
 use Rattle.std.specs.Fmt.{signed_decimal}
 use Rattle.std.specs.List.{flat_map}
 use Rattle.std.specs.Option.{option_map_or}
 use Rattle.dp_state.specs.declared.moments.Path.{Path}
 use Rattle.dp_value.specs.declared.key.Key.{Key}
+use Rattle.dp_value.specs.Quoting.{in_quotes}
 use Rattle.dp_value.specs.declared.key.Key.TheVariants.{Int, Text}
 
 -- `$` and its name, for a variable
@@ -16,10 +17,6 @@ variable_name name = codes "$" ++ name
 abbrev pub key_text : Key → List ℕ
 key_text (Int n) = signed_decimal n
 key_text (Text bytes) = bytes
-
--- how a byte of a key stands between quotes: a quote, a backslash and NUL as a pair, each other as itself
-abbrev pub in_quotes : ℕ → List ℕ
-in_quotes b = if b == 34 then codes "\\\"" else if b == 92 then codes "\\\\" else if b == 0 then codes "\\0" else b ∷ []
 
 -- an integer between brackets
 abbrev pub int_index : ℤ → List ℕ

@@ -9,7 +9,7 @@ use Rattle.dp_value.specs.Data.{Data, array, pairs_of}
 use Rattle.dp_value.specs.Key.{key_eq}
 use Rattle.dp_value.specs.Table.{find_value}
 use Rattle.dp_value.specs.Value.{data_of}
-use Rattle.dp_view.specs.Answers.{◌>>=◌}
+use Rattle.dp_view.specs.Answers.{and_then}
 
 -- the contexts, by their names and ids
 abbrev pub contexts : List (List ℕ × ℕ)
@@ -17,11 +17,14 @@ contexts = (codes "Locals", 0) ∷ (codes "Globals", 1) ∷ []
 
 -- the variables of a context at a level: those that the frame uses, or the global ones
 abbrev pub variables_of : State → ℕ → ℕ → Option Variables
-variables_of s level id = if id == 0 then Some (variables_at s level) else if id == 1 then Some s.globals else None
+variables_of s level id =
+    if id == 0 then Some (variables_at s level) else if id == 1 then Some s.globals else None
 
--- The same, or the code of a refusal: 301 where the level is not below the number of frames, else 302 where there is no such context.
+-- The same, or the code of a refusal: 301 where the level is not below the number of frames, else 302 where there is no
+-- such context.
 abbrev pub shown_variables : State → ℕ → ℕ → Result Variables ℕ
-shown_variables s level id = if nat_lt level (length s.frames) then ok_or (variables_of s level id) 302 else Err 301
+shown_variables s level id =
+    if nat_lt level (length s.frames) then ok_or (variables_of s level id) 302 else Err 301
 
 -- what stands under a key in a value, which must be an array
 abbrev pub entry_of : Key → Data → Option Data
@@ -35,8 +38,10 @@ value_under (key ∷ keys) d = option_and_then (value_under keys) (entry_of key 
 
 -- what stands at a path among variables; one that is bound has the value of the global variable of its name
 abbrev pub value_among : Variables → Path → Variables → Option Data
-value_among globals path variables = option_and_then (λ value. value_under path.keys (data_of value)) (value_in globals variables path.name)
+value_among globals path variables =
+    option_and_then (λ value. value_under path.keys (data_of value)) (value_in globals variables path.name)
 
 -- what stands at a path in a context at a level, or the code of a refusal: 301, 302, and 300 where nothing stands there
 abbrev pub value_at : State → ℕ → ℕ → Path → Result Data ℕ
-value_at s level id path = shown_variables s level id >>= λ variables. ok_or (value_among s.globals path variables) 300
+value_at s level id path =
+    and_then (λ variables. ok_or (value_among s.globals path variables) 300) (shown_variables s level id)

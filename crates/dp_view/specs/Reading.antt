@@ -1,5 +1,6 @@
--- Inside the crate: reading a name from left to right. A part is its value and the bytes behind it, or none.
-use Rattle.std.specs.Prelude.{◌≡◌, ℕ, zero, suc, ◌&&◌, ◌||◌, ◌==◌, nat_le, Bool, if◌then◌else◌, List, [], ◌∷◌, length, take, drop, Option, Some, None, Result, Ok, Err}
+-- The path that bytes name, as it is found from left to right. A part is its value and the bytes behind it, or none. By
+-- `names_have_one_path` it is the one path that they spell by the grammar, so nothing here need be believed.
+use Rattle.std.specs.Prelude.{ℕ, zero, suc, ◌&&◌, ◌||◌, ◌==◌, nat_le, Bool, if◌then◌else◌, List, [], ◌∷◌, length, take, drop, Option, Some, None}
 use Rattle.std.specs.List.{prefix_len}
 use Rattle.dp_lexer.specs.Bytes.{is_digit, is_start, is_part, begins}
 use Rattle.dp_lexer.specs.Pieces.{longest_name}
@@ -8,10 +9,6 @@ use Rattle.dp_value.specs.declared.key.Key.{Key}
 use Rattle.dp_value.specs.declared.key.Key.TheVariants as a_key
 use Rattle.dp_value.specs.IntText.{int_of_text}
 use Rattle.dp_value.specs.KeyOf.{key_of_text}
-use Rattle.dp_view.specs.declared.error.ViewError.{ViewError}
-use Rattle.dp_view.specs.declared.error.ViewError.TheVariants.{Code, Memory}
-use Rattle.dp_view.specs.declared.sorts.Sort.{Sort}
-use Rattle.dp_view.specs.declared.sorts.Sort.TheVariants.{Name, Int}
 use Rattle.dp_view.specs.Grammar.{pair_of}
 
 infixl 10 ◌>>=◌
@@ -19,22 +16,9 @@ abbrev pub ◌>>=◌ : {A B : Type 0} → Option A → (A → Option B) → Opti
 (Some x) >>= f = f x
 None >>= f = None
 
--- What a function returned, seen by view, is what reading gives, unless memory ran out.
-abbrev pub Fails : {Y : Type 0} → ViewError → Option Y → Type 0
-Fails Memory read = Unit {0}
-Fails (Code code) read = (code ≡ 300) × (read ≡ None)
-
-abbrev pub Gives : {X Y : Type 0} → (X → Y) → Result X ViewError → Option Y → Type 0
-Gives view (Ok x) read = read ≡ Some (view x)
-Gives view (Err e) read = Fails e read
-
 -- what an integer consists of
 abbrev pub is_int_byte : ℕ → Bool
 is_int_byte b = is_digit b || b == 45
-
-abbrev pub test_of : Sort → ℕ → Bool
-test_of Name = is_part
-test_of Int = is_int_byte
 
 -- the run of bytes of a sort at the front, and what stands behind it
 abbrev pub run_at : (ℕ → Bool) → List ℕ → List ℕ × List ℕ

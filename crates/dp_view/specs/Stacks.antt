@@ -1,7 +1,7 @@
 -- The stack: DBGp 1.0, "stack_get". Level 0 is the top frame.
 use Rattle.std.specs.Prelude.{ℕ, suc, List, [], ◌∷◌, reverse, codes, Option, Some, None, option_map, ok_or, slice_get, Result, Ok}
 use Rattle.std.specs.Option.{option_map_or}
-use Rattle.dp_bundle.specs.declared.bundle.Bundle.{Bundle}
+use Rattle.dp_tree.specs.declared.bundle.Bundle.{Bundle}
 use Rattle.dp_packet.specs.declared.packet.StackLine.{StackLine}
 use Rattle.dp_packet.specs.Uris.{file_uri}
 use Rattle.dp_state.specs.declared.state.Frame.{Frame}
@@ -40,9 +40,5 @@ levels s = reverse s.frames
 -- the whole stack, or the line of one level, or the code of a refusal: 301 where there is no such level
 abbrev pub stack_at : Bundle → State → Option ℕ → Result (List StackLine) ℕ
 stack_at bundle s None = Ok (lines_from bundle 0 (levels s))
-stack_at bundle s (Some level) = ok_or (option_map (λ frame. stack_line bundle level frame ∷ []) (slice_get (levels s) level)) 301
-
--- ---- inside the crate
--- the line of a frame at a level, if there is one
-abbrev pub line_of : Bundle → ℕ → Option Frame → List StackLine
-line_of bundle level frame = option_map_or (λ f. stack_line bundle level f ∷ []) frame []
+stack_at bundle s (Some level) =
+    ok_or (option_map (λ frame. stack_line bundle level frame ∷ []) (slice_get (levels s) level)) 301

@@ -1,19 +1,18 @@
 //! What holds of names, whatever state is shown.
 
-ghost use Rattle.std.specs.Prelude.{◌≡◌, Some};
+ghost use Rattle.std.specs.Prelude.{◌≡◌, ◌↔◌, ℕ, List, Some};
 ghost use Rattle.dp_state.specs.declared.moments.Path.{Path};
-ghost use Rattle.dp_value.specs.declared.key.Key.{Key};
 ghost use Rattle.dp_view.specs.Grammar.{spelt, HasFullName};
-ghost use Rattle.dp_view.specs.Names.{entry_name, full_name, with_key};
+ghost use Rattle.dp_view.specs.Names.{full_name};
+ghost use Rattle.dp_view.specs.Reading.{path_at};
 
-/// The full name of what stands at a path names that path and no other, so [`crate::read_name`] reads the path from it.
-/// The path's name is one that a variable may have, and no text among its keys is one that turns into an integer.
-pub fn full_names_are_read_back()
-    ensures named { (path : Path) → HasFullName path → spelt (full_name path) path }
-    ensures only { (path other : Path) → HasFullName path → spelt (full_name path) other → other ≡ path }
+/// Bytes that spell a path by the grammar of names spell no other, and that one is found from left to right.
+pub fn names_have_one_path()
+    ensures { (bytes : List ℕ) (path : Path) → spelt bytes path ↔ (path_at bytes ≡ Some path) }
 {}
 
-/// The full name of an entry is that of its path: the path of its array, and its key.
-pub fn entries_have_the_names_of_their_paths()
-    ensures { (path : Path) (key : Key) → entry_name (Some (full_name path)) key ≡ Some (full_name (with_key path key)) }
+/// The full name of what stands at a path names that path. The path's name is one that a variable may have, and no text
+/// among its keys is one that turns into an integer.
+pub fn full_names_are_read_back()
+    ensures { (path : Path) → HasFullName path → path_at (full_name path) ≡ Some path }
 {}

@@ -3,24 +3,28 @@
 
 mod error;
 mod laws;
+mod named;
 mod naming;
 mod paging;
 mod places;
 mod properties;
 mod reading;
 mod sorts;
+mod source;
+mod spelling;
 mod stacks;
+mod values;
 mod variables;
 
 pub use dp_value::Memory;
 pub use error::ViewError;
-pub use laws::{entries_have_the_names_of_their_paths, full_names_are_read_back};
+pub use laws::{full_names_are_read_back, names_have_one_path};
+pub use named::{named_property, named_value};
 pub use paging::Paging;
 pub use places::{shown_variables, value_at};
 pub use properties::{property, shown};
 pub use reading::read_name;
+pub use source::source_lines;
 pub use stacks::stack;
+pub use values::{ShownValue, value_shown};
 pub use variables::{context, contexts};
-
-#[cfg(test)]
-mod tests;

@@ -3,11 +3,11 @@
 ghost use Rattle.std.specs.Prelude.{◌≡◌, ◌++◌, IfOk, OnOk};
 ghost use Rattle.std.specs.List.{flat_map};
 ghost use Rattle.dp_view.specs.Names as spec;
-ghost use Rattle.dp_view.specs.Names.{in_quotes, index_of};
+ghost use Rattle.dp_view.specs.Names.{index_of};
 
 use crate::Memory;
 use dp_state::Path;
-use dp_value::{Bytes, Key};
+use dp_value::{Bytes, Key, put_in_quotes};
 use itoa::Buffer;
 use std::alloc::Global;
 
@@ -33,31 +33,11 @@ pub fn key_text(alloc: Global, key: &Key) -> Result<Bytes, Memory>
     }
 }
 
-fn put_byte(out: &mut Vec<u8>, b: u8) -> Result<(), Memory>
-    ensures { OnOk result (out.new.items ≡ out.old.items ++ in_quotes b) }
-{
-    match b {
-        b'"' => out.extend_from_slice(b"\\\""),
-        b'\\' => out.extend_from_slice(b"\\\\"),
-        0 => out.extend_from_slice(b"\\0"),
-        _ => out.extend_from_slice(&[b]),
-    }
-}
-
-fn put_bytes(out: &mut Vec<u8>, bytes: &[u8]) -> Result<(), Memory>
-    ensures { OnOk result (out.new.items ≡ out.old.items ++ flat_map in_quotes bytes.now) }
-{
-    for b in bytes {
-        put_byte(out, *b)?;
-    }
-    Ok(())
-}
-
 fn put_text_index(out: &mut Vec<u8>, bytes: &[u8]) -> Result<(), Memory>
     ensures { OnOk result (out.new.items ≡ out.old.items ++ spec.text_index bytes.now) }
 {
     out.extend_from_slice(b"[\"")?;
-    put_bytes(out, bytes)?;
+    put_in_quotes(out, bytes)?;
     out.extend_from_slice(b"\"]")
 }
 

@@ -4,6 +4,9 @@ ghost use Rattle.std.specs.Prelude.{◌≡◌, ◌+◌, ◌*◌, ◌++◌, min, 
 ghost use Rattle.dp_value.specs.Value.{data_of};
 ghost use Rattle.dp_view.specs.Answers.{Answers};
 ghost use Rattle.dp_view.specs.Properties as spec;
+ghost use Rattle.dp_view.specs.Nesting.{HasPaths};
+ghost use Rattle.dp_view.specs.inner.Keyed.{AreKeyed, HoldsWithin, IsKeyed};
+ghost use Rattle.dp_view.specs.inner.Making as making;
 
 use crate::Memory;
 use crate::error::ViewError;
@@ -49,7 +52,8 @@ fn entry(
     key: &Key,
     value: &Value,
 ) -> Result<Property, Memory>
-    ensures { IfOk result (λ made. made ≡ spec.entry_property p.now levels full.now (key.now, data_of value.now)) }
+    ensures made { IfOk result (λ made. made ≡ making.property_in p.now levels full.now (key.now, data_of value.now)) }
+    ensures keyed { OnOk result (IsKeyed p.now.children 0 levels (data_of value.now)) }
 {
     let name = key_text(alloc, key)?;
     let fullname = entry_name(alloc, full, key)?;
@@ -72,8 +76,10 @@ fn put_entry(
     at: usize,
     made: &mut Vec<Property>,
 ) -> Result<(), Memory>
-    ensures { OnOk result (made.new.items ≡
-        made.old.items ++ spec.properties_at p.now levels full.now array.now.pairs at) }
+    ensures made { OnOk result (made.new.items ≡
+        made.old.items ++ making.properties_at p.now levels full.now array.now.pairs at) }
+    ensures keyed { OnOk result
+        (HoldsWithin (IsKeyed p.now.children 0 levels) array.now.pairs at (at + 1)) }
 {
     if let Some((key, value)) = array.pair(at) {
         made.push(entry(alloc, p, levels, full, key, value)?)?;
@@ -92,8 +98,9 @@ fn entries(
     start: usize,
     end: usize,
 ) -> Result<Vec<Property>, Memory>
-    ensures { IfOk result (λ made. made.items ≡
-        spec.properties p.now levels full.now (drop start (take end array.now.pairs))) }
+    ensures made { IfOk result (λ made. made.items ≡
+        making.properties p.now levels full.now (drop start (take end array.now.pairs))) }
+    ensures keyed { OnOk result (HoldsWithin (IsKeyed p.now.children 0 levels) array.now.pairs start end) }
 {
     let mut made = Vec::new(alloc);
     for at in start..end {
@@ -112,8 +119,9 @@ fn nested(
     full: &Option<Bytes>,
     array: &PhpArray,
 ) -> Result<Vec<Property>, Memory>
-    ensures { IfOk result (λ made. made.items ≡
+    ensures made { IfOk result (λ made. made.items ≡
         spec.nested p.now levels full.now (spec.page_of page p.now.children array.now.pairs)) }
+    ensures keyed { OnOk result (AreKeyed p.now.children page levels array.now.pairs) }
 {
     if levels == 0 {
         return Ok(Vec::new(alloc));
@@ -133,8 +141,9 @@ fn shape(
     full: &Option<Bytes>,
     value: &Value,
 ) -> Result<Shape, Memory>
-    ensures { IfOk result (λ s. s ≡
+    ensures made { IfOk result (λ s. s ≡
         spec.shape_of p.now page (spec.nested p.now levels full.now) (data_of value.now)) }
+    ensures keyed { OnOk result (IsKeyed p.now.children page levels (data_of value.now)) }
 {
     match value {
         Value::Null => Ok(Shape::Null),
@@ -161,7 +170,8 @@ pub fn property_of(
     fullname: Option<Bytes>,
     value: &Value,
 ) -> Result<Property, Memory>
-    ensures { IfOk result (λ made. made ≡ spec.property_of p.now name fullname (data_of value.now)) }
+    ensures made { IfOk result (λ made. made ≡ spec.property_of p.now name fullname (data_of value.now)) }
+    ensures keyed { OnOk result (IsKeyed p.now.children p.now.page p.now.depth (data_of value.now)) }
 {
     let shape = shape(alloc, p, p.page, p.depth, &fullname, value)?;
     Ok(Property {
@@ -180,7 +190,8 @@ pub fn shown(alloc: Global, value: &Value, p: &Paging) -> Result<Property, Memor
 
 // The property of the value at a path.
 fn property_at(alloc: Global, path: &Path, p: &Paging, value: &Value) -> Result<Property, Memory>
-    ensures { IfOk result (λ made. made ≡ spec.path_property path.now p.now (data_of value.now)) }
+    ensures made { IfOk result (λ made. made ≡ spec.path_property path.now p.now (data_of value.now)) }
+    ensures keyed { OnOk result (IsKeyed p.now.children p.now.page p.now.depth (data_of value.now)) }
 {
     let name = own_name(alloc, path)?;
     let fullname = full_name(alloc, path)?;
@@ -199,7 +210,9 @@ pub fn property(
     path: &Path,
     p: &Paging,
 ) -> Result<Property, ViewError>
-    ensures { Answers (λ made. made) result (spec.property_at state.now level id path.now p.now) }
+    ensures answer { Answers (λ made. made) result (spec.property_at state.now level id path.now p.now) }
+    // What stands in it at any depth is what is shown of its own path.
+    ensures paths { IfOk result (HasPaths state.now level id path.now p.now) }
 {
     let value = value_at(state, level, id, path)?;
     Ok(property_at(alloc, path, p, value)?)

@@ -3,12 +3,13 @@
 ghost use Rattle.std.specs.Prelude.{◌≡◌, ◌++◌, [], ◌∷◌, option_map, reverse, slice_get, IfOk, OnOk};
 ghost use Rattle.dp_view.specs.Answers.{Answers};
 ghost use Rattle.dp_view.specs.Stacks as spec;
+ghost use Rattle.dp_view.specs.inner.Making.{line_of};
 
 use crate::Memory;
 use crate::error::ViewError;
-use dp_bundle::Bundle;
 use dp_packet::{StackLine, file_uri};
 use dp_state::{Frame, FrameKind, State};
+use dp_tree::Bundle;
 use dp_value::{Bytes, Items};
 use std::alloc::Global;
 
@@ -74,7 +75,7 @@ fn put_line(
     lines: &mut Vec<StackLine>,
 ) -> Result<(), Memory>
     ensures { OnOk result (lines.new.items ≡
-        lines.old.items ++ spec.line_of bundle.now level (slice_get (reverse frames.now) level)) }
+        lines.old.items ++ line_of bundle.now level (slice_get (reverse frames.now) level)) }
 {
     if let Some(frame) = frame_at(frames, level) {
         lines.push(line_at(alloc, bundle, level, frame)?)?;

@@ -1,11 +1,16 @@
 //! The contexts, and the variables that they show.
 
-ghost use Rattle.std.specs.Prelude.{◌≡◌, ◌++◌, IfOk, OnOk};
-ghost use Rattle.std.specs.List.{flat_map};
+ghost use Rattle.std.specs.Prelude.{◌≡◌, ◌++◌, length, IfOk, OnOk};
+ghost use Rattle.std.specs.List.{flat_map, IsDistinct};
+ghost use Rattle.std.specs.Map.{keys_of};
+ghost use Rattle.std.specs.Str.{bytes_eq};
 ghost use Rattle.dp_value.specs.Value.{data_of};
 ghost use Rattle.dp_view.specs.Answers.{Answers};
 ghost use Rattle.dp_view.specs.Places as places;
 ghost use Rattle.dp_view.specs.Properties as spec;
+ghost use Rattle.dp_view.specs.Nesting.{AreOfVariables};
+ghost use Rattle.dp_view.specs.inner.Keyed.{IsKeyed, VariableIsKeyed, VariablesAreKeyed};
+ghost use Rattle.dp_view.specs.inner.Making.{variables_at};
 
 use crate::Memory;
 use crate::error::ViewError;
@@ -13,9 +18,9 @@ use crate::naming::variable_name;
 use crate::paging::Paging;
 use crate::places::{shown_variables, slot_value};
 use crate::properties::property_of;
-use dp_bundle::Bundle;
 use dp_packet::Property;
 use dp_state::{State, Vars};
+use dp_tree::Bundle;
 use dp_value::{Bytes, Items, Value};
 use std::alloc::Global;
 
@@ -44,7 +49,9 @@ pub fn contexts(alloc: Global) -> Result<Items<(Bytes, u32)>, ViewError>
 
 // The property of a variable with this value.
 fn variable(alloc: Global, p: &Paging, name: &[u8], value: &Value) -> Result<Property, Memory>
-    ensures { IfOk result (λ made. made ≡ spec.variable_property p.now name.now (data_of value.now)) }
+    ensures made { IfOk result (λ made. made ≡
+        spec.path_property (spec.variable_path name.now) p.now (data_of value.now)) }
+    ensures keyed { OnOk result (IsKeyed p.now.children p.now.page p.now.depth (data_of value.now)) }
 {
     let own = variable_name(alloc, name)?;
     let full = variable_name(alloc, name)?;
@@ -60,8 +67,9 @@ fn put_variable(
     at: usize,
     made: &mut Vec<Property>,
 ) -> Result<(), Memory>
-    ensures { OnOk result (made.new.items ≡
-        made.old.items ++ spec.variables_at p.now globals.now variables.now at) }
+    ensures made { OnOk result (made.new.items ≡
+        made.old.items ++ variables_at p.now globals.now variables.now at) }
+    ensures keyed { OnOk result (VariableIsKeyed p.now globals.now variables.now at) }
 {
     if let Some((name, slot)) = variables.pair(at) {
         if let Some(value) = slot_value(globals, name, slot) {
@@ -77,7 +85,9 @@ fn all_variables(
     globals: &Vars,
     variables: &Vars,
 ) -> Result<Items<Property>, Memory>
-    ensures { IfOk result (λ made. made ≡ flat_map (spec.variable_shown p.now globals.now) variables.now) }
+    ensures made { IfOk result (λ made. made ≡ flat_map (spec.variable_shown p.now globals.now) variables.now) }
+    ensures keyed { OnOk result (VariablesAreKeyed p.now globals.now variables.now (length variables.now)) }
+    ensures distinct { IsDistinct bytes_eq (keys_of variables.now) }
 {
     let mut made = Vec::new(alloc);
     for at in 0..variables.len() {
@@ -94,13 +104,16 @@ fn all_variables(
 /// with this id.
 pub fn context(
     alloc: Global,
+    // The program of the state, as the other views take it. No property needs it.
     _bundle: &Bundle,
     state: &State,
     level: u32,
     id: u32,
     p: &Paging,
 ) -> Result<Items<Property>, ViewError>
-    ensures { Answers (λ made. made) result (spec.context_at state.now level id p.now) }
+    ensures answer { Answers (λ made. made) result (spec.context_at state.now level id p.now) }
+    // What stands in it at any depth is what is shown of its own path.
+    ensures paths { IfOk result (AreOfVariables state.now level id p.now) }
 {
     let variables = shown_variables(state, level, id)?;
     Ok(all_variables(alloc, p, &state.globals, variables)?)

@@ -1,6 +1,6 @@
 use Rattle.std.proofs.Common.{sym, ap, ◌∙◌}
 use Rattle.dp_value.specs.declared.value.Value.{Value}
-use Rattle.dp_value.specs.Codes.{pairs_of-entries_of}
+use Rattle.dp_value.specs.inner.Codes.{pairs_of-entries_of}
 use Rattle.dp_value.specs.Key.{key_eq}
 use Rattle.dp_value.specs.Table.{find_value}
 use Rattle.dp_value.specs.Value.{data_of}

@@ -1,5 +1,6 @@
 use Rattle.std.proofs.Common.{◌≡◌, ◌+◌, ◌*◌, ◌++◌, take, drop}
-use Rattle.dp_view.specs.Properties.{properties}
+use Rattle.dp_view.specs.inner.Keyed.{HoldsWithin, IsKeyed}
+use Rattle.dp_view.specs.inner.Making.{properties}
 use Rattle.dp_view.proofs.properties.+nesting.Given as goal
 
 abbrev pub decreases-nested : goal.decreases-nested
@@ -18,6 +19,9 @@ abbrev pub decreases-entries : goal.decreases-entries
 decreases-entries l = 5 * l.levels + 4
 
 abbrev pub invariant-entries-loop-at : goal.invariant-entries-loop-at
-invariant-entries-loop-at l =
-    l.made.items ++ properties l.p l.levels l.full (drop l.at (take l.end l.array.pairs))
-    ≡ properties l.p l.levels l.full (drop l.start (take l.end l.array.pairs))
+invariant-entries-loop-at l = record {
+  made :
+      l.made.items ++ properties l.p l.levels l.full (drop l.at (take l.end l.array.pairs))
+      ≡ properties l.p l.levels l.full (drop l.start (take l.end l.array.pairs));
+  keyed : HoldsWithin (IsKeyed l.p.children 0 l.levels) l.array.pairs l.start l.at;
+}

@@ -1,0 +1,8 @@
+-- What the breakpoint commands ask of a program.
+pub mod Files
+pub mod Words
+pub mod Answers
+pub mod Setting
+pub mod Changing
+pub mod Showing
+pub mod inner

@@ -1,0 +1,34 @@
+//! The change that a breakpoint_update command asks for.
+
+ghost use Rattle.std.specs.Prelude.{◌≡◌};
+ghost use Rattle.dp_breakpoint_commands.specs.Changing as spec;
+ghost use Rattle.dp_breakpoint_commands.specs.Answers.{answer_of};
+ghost use Rattle.dp_command.specs.Tests.{first_code};
+
+use crate::errors::BreakpointError;
+use crate::words::{rule_given, state_given};
+use dp_break::{BreakChange, BreakKind, is_of_function};
+use dp_command::BreakpointUpdate;
+
+/// The change that a breakpoint_update command asks for, of a breakpoint of this kind. DBGp 1.0, "breakpoint_update".
+///
+/// It is refused with code 3 for a line of a call or return breakpoint or a hit rule that is none, and else with 204 for a state
+/// that is none. The codes 205, 202 and 203 are not tested here. Takes no memory, and never answers want of it.
+pub fn breakpoint_change(
+    kind: BreakKind,
+    update: &BreakpointUpdate,
+) -> Result<BreakChange, BreakpointError>
+    ensures { result ≡ answer_of (first_code (spec.change_tests kind update.now)) (spec.change update.now) }
+{
+    if is_of_function(kind) && update.line.is_some() {
+        return Err(BreakpointError::Code(3));
+    }
+    let hit_rule = rule_given(&update.hit_rule)?;
+    let enabled = state_given(&update.state)?;
+    Ok(BreakChange {
+        enabled,
+        line: update.line,
+        hit_value: update.hit_value,
+        hit_rule,
+    })
+}

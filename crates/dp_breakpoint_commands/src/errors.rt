@@ -1,0 +1,27 @@
+//! Why a breakpoint command asks for nothing that can be done.
+
+ghost use Rattle.std.specs.Prelude.{◌≡◌};
+
+use dp_value::Memory;
+use thiserror::Error;
+
+/// Why a command asks for nothing that can be done.
+#[derive(Clone, Copy, Debug, Error, PartialEq, Eq)]
+pub enum BreakpointError {
+    /// The code of the error response. DBGp 1.0, "Error Codes": 3, 200, 201 or 204.
+    #[error("error {0}")]
+    Code(u16),
+    /// Want of memory.
+    #[error("out of memory")]
+    Memory,
+}
+
+impl From<Memory> for BreakpointError {
+    ghost use Rattle.dp_breakpoint_commands.specs.declared.errors.BreakpointError.TheVariants as error;
+
+    ghost from_gives = { λ _ e. e ≡ error.Memory };
+
+    fn from(_refused: Memory) -> BreakpointError {
+        BreakpointError::Memory
+    }
+}

@@ -1,7 +1,0 @@
-use Rattle.std.proofs.Common.{◌≡◌, ◌-◌, length}
-use Rattle.dp_view.specs.Reading.{items_at, byte_at}
-use Rattle.dp_view.proofs.Loop.{with_front}
-use Rattle.dp_view.proofs.reading.inner.Given as goal
-
-abbrev pub invariant-loop : goal.invariant-loop
-invariant-loop l = with_front l.value.items (items_at (byte_at l.quote) (length l.bytes - l.counter) l.rest) ≡ items_at (byte_at l.quote) (length l.bytes) l.bytes
