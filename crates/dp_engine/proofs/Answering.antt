@@ -1,8 +1,7 @@
 -- What is sent: the first packet, and the answers to commands.
 use Rattle.std.proofs.Common.{◌≡◌, ℕ, ◌≤◌, List, [], ◌∷◌, ◌++◌, length, Option, sym, ap, subst, ◌∙◌}
 use Rattle.std.specs.Prelude.{Result, Ok, Err, IfOk}
-use Rattle.std.specs.List.{AllByRecursion}
-use Rattle.dp_bundle.specs.declared.bundle.Bundle.{Bundle}
+use Rattle.dp_tree.specs.declared.bundle.Bundle.{Bundle}
 use Rattle.dp_command.specs.declared.command.StreamMode.{StreamMode}
 use Rattle.dp_command.specs.declared.command.StreamMode.TheVariants.{Disable}
 use Rattle.dp_command.specs.declared.line.Line.{Line}
@@ -22,8 +21,8 @@ use Rattle.dp_engine.specs.Answers.{answer, to_ide, to_program, turn, turn_of}
 use Rattle.dp_engine.specs.Refusals.{refusal_of_line}
 use Rattle.dp_engine.specs.Responses.{init_text, main_name, response_text}
 use Rattle.dp_engine.specs.Session.{State, written_between}
-use Rattle.dp_engine.specs.Sizes.{Fits}
-use Rattle.dp_engine.specs.Turns.{IsTurn, given}
+use Rattle.dp_engine.specs.inner.Sizes.{Fits}
+use Rattle.dp_engine.specs.inner.Turns.{IsTurn, given}
 use Rattle.dp_engine.proofs.Fitting.{init_fits}
 
 -- ---- the first packet
@@ -43,16 +42,17 @@ init_is_text bundle key (Err e) p q is = tt
 
 -- ---- responses
 
-pub sent_is : (r : Response) (line : Text) (texts : List Text) → line ≡ text (packet.Response r) → texts ≡ line ∷ [] → texts ≡ response_text r ∷ []
+pub response_text_is : {E : Type 0} (r : Response) (made : Result Text E) → IfOk made (λ t. t ≡ text (packet.Response r)) → IfOk made (λ t. t ≡ response_text r)
 unfolding response_text
-sent_is r line texts is alone = alone ∙ ap (λ (t : Text). t ∷ []) is
+response_text_is r made is = is
 
-response_is_text : (r : Response) → Fits r → IsPacketText (text (packet.Response r))
+response_is_text : (r : Response) → Fits r → IsPacketText (response_text r)
 unfolding response_text
 response_is_text r fits = record { some_byte = packet_some (packet.Response r); fits = fits.short }
 
-pub sent_are_texts : (r : Response) (line : Text) (texts : List Text) → line ≡ text (packet.Response r) → texts ≡ line ∷ [] → Fits r → AllByRecursion IsPacketText texts
-sent_are_texts r line texts is alone fits = subst (AllByRecursion IsPacketText) (sym alone) (subst IsPacketText (sym is) (response_is_text r fits), tt)
+pub response_fits : {E : Type 0} (r : Response) (made : Result Text E) → Fits r → IfOk made (λ t. t ≡ response_text r) → IfOk made IsPacketText
+response_fits r (Ok t) fits is = subst IsPacketText (sym is) (response_is_text r fits)
+response_fits r (Err e) fits is = tt
 
 -- ---- answers
 
@@ -73,7 +73,7 @@ given_is state bytes made quiet t = turned ∙ (λ i. kept (sym quiet i)) where
 
   turned : given made state ≡ kept Disable
   turned = λ i. record {
-    packets = ap response_text t.response i ∷ [];
+    packets = t.text i ∷ [];
     program = ap (written_between state) t.next i;
     state = t.next i;
     ended = t.ended i;

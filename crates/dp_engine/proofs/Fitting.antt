@@ -4,11 +4,14 @@ use Rattle.std.specs.Prelude.{option_map, unwrap_or, Result, Ok, Err, IfOk, IfSo
 use Rattle.std.specs.List.{AllByRecursion, find}
 use Rattle.std.specs.Option.{option_map_or}
 use Rattle.std.proofs.lemmas.Fmt.{length-decimal-le}
-use Rattle.dp_bundle.specs.declared.bundle.Bundle.{Bundle}
+use Rattle.dp_tree.specs.declared.bundle.Bundle.{Bundle}
 use Rattle.dp_command.specs.declared.command.Command.{Command}
 use Rattle.dp_command.specs.declared.line.Line.{Line}
 use Rattle.dp_command.specs.declared.names.CommandName.{CommandName}
-use Rattle.dp_command.specs.declared.names.CommandName.TheVariants.{FeatureGet, FeatureSet}
+use Rattle.dp_command.specs.declared.names.CommandName.TheVariants as name
+use Rattle.dp_command.specs.declared.command.Request.{Request}
+use Rattle.dp_command.specs.declared.command.Request.TheVariants.{FeatureSet}
+use Rattle.dp_command.specs.Tests.{Test, first_code}
 use Rattle.dp_command.specs.Commands.{command_of, request_of}
 use Rattle.dp_command.specs.Letters as letter
 use Rattle.dp_command.specs.Names.{name_of}
@@ -24,10 +27,10 @@ use Rattle.dp_packet.specs.Parts.{Attributes, Text}
 use Rattle.dp_packet.proofs.LengthLaws.{bare_response_short, fault_short, init_short, packet_short, packet_some, text_short, uri_short, written_short}
 use Rattle.dp_packet.specs.Uris.{file_uri}
 use Rattle.dp_wire.specs.Frames.{IsPacketText, command_limit}
-use Rattle.dp_engine.specs.Refusals.{Test, first_code, own_tests, refusal_of_line, tests}
+use Rattle.dp_engine.specs.Refusals.{own_tests, refusal_of_line, row_tests, tests}
 use Rattle.dp_engine.specs.Responses.{init_text, main_name, fault_response, feature_response, response, response_text, set_response, status_attributes, status_response}
 use Rattle.dp_engine.specs.Session.{State}
-use Rattle.dp_engine.specs.Sizes.{Fits, IsCode, IsShort, IsShortRequest}
+use Rattle.dp_engine.specs.inner.Sizes.{Fits, IsCode, IsShort, IsShortRequest}
 
 -- ---- messages
 
@@ -107,16 +110,19 @@ first_is_code (test ∷ all) code h e = cases test.0 e (first_is_code all code h
 is_code : (code : ℕ) → is_some_text (message_of code) ≡ true → code < 1000 → IsCode code
 is_code code p q = (p, q)
 
-own_codes : (line : Line) (name : Option CommandName) → HaveCodes (option_map_or (own_tests line) name [])
-own_codes line None = tt
-own_codes line (Some FeatureSet) = (is_code 900 refl (omega arith), (is_code 3 refl (omega arith), tt))
-own_codes line (Some name) = tt
+own_codes : (state : State) (r : Request) → HaveCodes (own_tests state r)
+own_codes state (FeatureSet name value) = (is_code 900 refl (omega arith), (is_code 3 refl (omega arith), tt))
+own_codes state r = tt
+
+row_codes : (state : State) (line : Line) (name : Option CommandName) → HaveCodes (option_map_or (row_tests state line) name [])
+row_codes state line None = tt
+row_codes state line (Some name) = (is_code 3 refl (omega arith), own_codes state (request_of name line))
 
 pub refusal_is_code : (state : State) (line : Option Line) (code : ℕ) → refusal_of_line state line ≡ Some code → IsCode code
 refusal_is_code state None code e = let same : 1 ≡ code = cc in subst IsCode same (is_code 1 refl (omega arith))
 refusal_is_code state (Some line) code e =
     first_is_code (tests state line) code
-    (is_code 2 refl (omega arith), (is_code 4 refl (omega arith), (is_code 3 refl (omega arith), (is_code 5 refl (omega arith), (is_code 3 refl (omega arith), own_codes line (name_of line.name)))))) e
+    (is_code 2 refl (omega arith), (is_code 4 refl (omega arith), (is_code 3 refl (omega arith), (is_code 5 refl (omega arith), row_codes state line (name_of line.name))))) e
 
 -- ---- requests
 
@@ -129,9 +135,9 @@ given_short letter (o ∷ options) most h = cases (eqb o.0 letter) (given_short 
 
 request_short : (line : Line) (name : CommandName) → IsShort line → IsShortRequest (request_of name line)
 unfolding request_of
-request_short line FeatureGet h = given_short letter.n line.options command_limit h.values
-request_short line FeatureSet h = given_short letter.n line.options command_limit h.values
-request_short line name h = tt
+request_short line name.FeatureGet h = given_short letter.n line.options command_limit h.values
+request_short line name.FeatureSet h = given_short letter.n line.options command_limit h.values
+request_short line other h = tt
 
 pub command_short : (line : Line) (command : Command) → IsShort line → command_of line ≡ Some command → IsShortRequest command.request
 command_short line command h e = cases (name_of line.name) e where

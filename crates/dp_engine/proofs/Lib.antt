@@ -1,11 +1,12 @@
 pub mod Stopping
 pub mod Refusing
 pub mod Growing
-pub mod Bounds
+pub mod Numbers
 pub mod Arriving
 pub mod Fitting
 pub mod Outputs
 pub mod Watching
+pub mod Whole
 pub mod ServingLaws
 pub mod Turning
 pub mod Answering

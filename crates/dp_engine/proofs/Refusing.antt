@@ -1,8 +1,11 @@
 -- A response is an error exactly where the command is refused, and with that code.
-use Rattle.std.proofs.Common.{◌≡◌, ℕ, Bool, true, false, not, List, ◌∷◌, drop, Option, Some, None, refl}
-use Rattle.std.specs.Prelude.{option_map}
+use Rattle.std.proofs.Common.{◌≡◌, ℕ, Bool, true, false, not, List, [], ◌∷◌, ◌++◌, length, drop, Option, Some, None, refl, sym, ap, subst, ◌∙◌, arith}
+use Rattle.std.specs.Prelude.{option_map, Result, Ok, Err, IfOk}
+use Rattle.std.proofs.lemmas.List.{drop_all}
 use Rattle.dp_command.specs.declared.command.Continuation.{Continuation}
 use Rattle.dp_command.specs.declared.command.Continuation.TheVariants as continuation
+use Rattle.dp_command.specs.declared.command.StreamMode.{StreamMode}
+use Rattle.dp_command.specs.declared.command.StreamMode.TheVariants.{Disable, Copy, Redirect}
 use Rattle.dp_command.specs.declared.line.Line.{Line}
 use Rattle.dp_command.specs.declared.names.CommandName.{CommandName}
 use Rattle.dp_command.specs.declared.names.CommandName.TheVariants.{Status, FeatureGet, FeatureSet, Run, StepInto, StepOver, StepOut, Stop, Detach, BreakpointSet, BreakpointGet, BreakpointRemove, BreakpointUpdate, BreakpointList, StackDepth, StackGet, ContextNames, ContextGet, PropertyGet, PropertyValue, PropertySet, Source, Stdout, Stderr, Eval}
@@ -11,12 +14,17 @@ use Rattle.dp_command.specs.Lines.{line_of}
 use Rattle.dp_command.specs.Names.{name_of}
 use Rattle.dp_command.specs.Options.{has_duplicate}
 use Rattle.dp_command.specs.Refusals.{id_of}
+use Rattle.dp_command.specs.Tests.{Test, first_code}
 use Rattle.dp_engine.specs.declared.states.Phase.{Phase}
 use Rattle.dp_engine.specs.declared.states.Phase.TheVariants.{Starting, Break, Stopping}
-use Rattle.dp_engine.specs.Answers.{Turn, asked, continued, performed, turn, turn_of}
-use Rattle.dp_engine.specs.Refusals.{Test, of_command, tests, first_code, refusal, refusal_of_line}
-use Rattle.dp_engine.specs.Responses.{fault_in, value_body}
-use Rattle.dp_engine.specs.Session.{State}
+use Rattle.dp_serving.specs.declared.responder.Answer.{Answer}
+use Rattle.dp_serving.specs.Folds.{reply_of}
+use Rattle.dp_engine.specs.declared.session.SessionEnd.{SessionEnd}
+use Rattle.dp_engine.specs.Answers.{Turn, answer, asked, command_in, continued, id_in, performed, refused, sent, to_ide, to_program, turn, turn_of}
+use Rattle.dp_engine.specs.Refused.{IsAnsweredBy, error_alone}
+use Rattle.dp_engine.specs.Refusals.{of_command, tests, refusal, refusal_of_line}
+use Rattle.dp_engine.specs.Responses.{fault_in, response_text, value_body}
+use Rattle.dp_engine.specs.Session.{State, output_so_far, written_between}
 use Rattle.dp_engine.specs.States.{is_built}
 use Rattle.dp_packet.specs.Parts.{Text}
 
@@ -94,3 +102,49 @@ turn_cases (Some line) state None e = accepted line.name (id_of line) state line
 pub refused_exactly : (state : State) (bytes : List ℕ) → fault_of (turn state bytes) ≡ refusal state bytes
 unfolding turn refusal
 refused_exactly state bytes = turn_cases (line_of bytes) state (refusal_of_line state (line_of bytes)) refl
+
+-- ---- what is answered
+
+-- nothing is written where nothing has changed
+nothing_written : (state : State) → written_between state state ≡ []
+nothing_written state = drop_all (length (output_so_far state)) (output_so_far state) (omega arith)
+
+none_to_ide : (mode : StreamMode) → to_ide mode [] ≡ []
+none_to_ide Disable = refl
+none_to_ide Copy = refl
+none_to_ide Redirect = refl
+
+none_to_program : (mode : StreamMode) → to_program mode [] ≡ []
+none_to_program Disable = refl
+none_to_program Copy = refl
+none_to_program Redirect = refl
+
+-- a refusal is sent alone
+refusal_alone : (state : State) (bytes : List ℕ) (code : ℕ)
+    → sent state (refused (command_in (line_of bytes)) (id_in (line_of bytes)) code state) ≡ error_alone state bytes code
+refusal_alone state bytes code = λ i. record {
+  packets = (ap (to_ide state.stdout) (nothing_written state) ∙ none_to_ide state.stdout) i ++ response_text (refused (command_in (line_of bytes)) (id_in (line_of bytes)) code state).response ∷ [];
+  program = (ap (to_program state.stdout) (nothing_written state) ∙ none_to_program state.stdout) i;
+  state = state;
+  ended = None;
+}
+
+answered_as : (state : State) (bytes : List ℕ) (code : Option ℕ) → refusal_of_line state (line_of bytes) ≡ code
+    → IsAnsweredBy code state bytes (sent state (turn_of (line_of bytes) code state))
+answered_as state bytes (Some code) e = refusal_alone state bytes code
+answered_as state bytes None e = record {
+  before = to_ide state.stdout (written_between state (turn_of (line_of bytes) None state).next);
+  response = (turn_of (line_of bytes) None state).response;
+  last = refl;
+  no_error = turn_cases (line_of bytes) state None e;
+}
+
+is_answered : (state : State) (bytes : List ℕ) → IsAnsweredBy (refusal state bytes) state bytes (answer state bytes)
+unfolding turn refusal answer
+is_answered state bytes = answered_as state bytes (refusal_of_line state (line_of bytes)) refl
+
+-- an answer that is the reply is one by the code
+pub answered_by_code : {E : Type 0} (state next : State) (bytes : List ℕ) (made : Result (Answer SessionEnd) E)
+    → IfOk made (λ x. reply_of x next ≡ answer state bytes) → IfOk made (λ x. IsAnsweredBy (refusal state bytes) state bytes (reply_of x next))
+answered_by_code state next bytes (Ok x) is = subst (IsAnsweredBy (refusal state bytes) state bytes) (sym is) (is_answered state bytes)
+answered_by_code state next bytes (Err e) is = tt

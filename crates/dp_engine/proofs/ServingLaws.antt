@@ -2,7 +2,7 @@
 use Rattle.std.proofs.Common.{◌≡◌, ◌≤◌, ℕ, List, [], ◌++◌, Option, None, Some, refl, sym, ap, ◌∙◌, subst, arith, inl, inr, append-nil}
 use Rattle.std.specs.Io.KnownBytes.{Appends, Consumes}
 use Rattle.std.proofs.KnownBytes.{Appends-trans}
-use Rattle.dp_bundle.specs.declared.bundle.Bundle.{Bundle}
+use Rattle.dp_tree.specs.declared.bundle.Bundle.{Bundle}
 use Rattle.dp_outside.specs.Changes.{Change, change}
 use Rattle.dp_outside.specs.Streams.{AppendsFront}
 use Rattle.dp_serving.specs.declared.conversing.Fault.{Fault}
@@ -19,7 +19,7 @@ use Rattle.dp_engine.specs.declared.serving.Served.{Served}
 use Rattle.dp_engine.specs.declared.session.SessionEnd.{SessionEnd}
 use Rattle.dp_engine.specs.declared.session.SessionEnd.TheVariants as end
 use Rattle.dp_engine.specs.Answers.{answer}
-use Rattle.dp_engine.specs.Closing.{RanOn, RanOnTo, IsLeft, Closes, ClosesCut}
+use Rattle.dp_engine.specs.inner.Closing.{RanOn, RanOnTo, IsLeft, Closes, ClosesCut}
 use Rattle.dp_engine.specs.Responses.{init_text}
 use Rattle.dp_engine.specs.Served.{alone_with, answers, answers_to, ending_after, rest_after}
 use Rattle.dp_engine.specs.Serving.{CutBy, EndsBy, IsCut, IsServed, Serves, ServesTo}
@@ -124,6 +124,7 @@ module _ {W X Y : Type 0} (left : W → Option (List ℕ)) (breaks : W → ℕ) 
         let reply = answers bundle bound c.read in
         record {
           read = c.read;
+          up_to = c.up_to;
           consumed = c.consumed;
           sent = c.sent;
           printed = own_whole (all_printed o c) rest rest_told;
@@ -146,6 +147,7 @@ module _ {W X Y : Type 0} (left : W → Option (List ℕ)) (breaks : W → ℕ) 
   killed_to : (c : Alone (over.Ended end.Killed)) (served : Served) → IsLeft Stopped served (change prints fails y1 y2) → Serves served bundle bound key source sink (change prints fails y0 y2)
   killed_to c served k = subst (λ (e : ServeEnd). ServesTo e served bundle bound key source sink (change prints fails y0 y2)) (sym k.is_end) (record {
     read = c.read;
+    up_to = c.up_to;
     consumed = c.consumed;
     sent = c.sent;
     printed = subst (Appends (prints y0) (prints y2)) (sym (ap (λ (e : Option SessionEnd). reply.program ++ rest_after e reply.state) c.ends ∙ append-nil reply.program)) there;

@@ -1,47 +1,9 @@
--- The next stop, one moment after another.
-use Rattle.std.proofs.Common.{◌≡◌, ℕ, zero, suc, ◌+◌, ◌≤◌, subst, Bool, true, false, cond, List, [], ◌∷◌, drop, Option, Some, None, refl, sym, ap, ◌∙◌, add-one, arith, ⊎_elim}
+-- A stop is a moment of the program.
+use Rattle.std.proofs.Common.{◌≡◌, ℕ, zero, suc, ◌+◌, ◌≤◌, subst, Bool, true, false, cond, List, [], ◌∷◌, drop, Some, refl, arith}
 use Rattle.std.specs.Prelude.{slice_get}
 use Rattle.std.specs.List.{position_from}
-use Rattle.std.proofs.Math.Seq.{drop-cons}
-use Rattle.std.proofs.lemmas.List.{drop_all}
-use Rattle.std.proofs.lemmas.Option.{slice_get_within, get_or_from_slice_get, slice_get_cases}
 use Rattle.dp_state.specs.declared.moments.Moment.{Moment}
 use Rattle.dp_engine.specs.Stops.{stop_above}
-
--- the element at a place, and those behind it
-from_place : {A : Type 0} (xs : List A) (n : ℕ) (x : A) → slice_get xs n ≡ Some x → drop n xs ≡ x ∷ drop (n + 1) xs
-from_place xs n x e =
-    drop-cons xs n x (slice_get_within xs n x e) ∙ (λ i. get_or_from_slice_get xs n x x e i ∷ drop (sym (add-one n) i) xs)
-
-past_end : {A : Type 0} (xs : List A) (n : ℕ) → slice_get xs n ≡ None → drop n xs ≡ []
-past_end xs n e = ⊎_elim (λ h. let there = h.2 in absurd cc) (λ h. drop_all n xs h.0) (slice_get_cases xs n).1
-
-module _ {S : Type 0} (stops_at : Moment → Bool) where
-  abbrev first_from : ℕ → List (Moment × S) → Option ℕ
-  first_from n moments = position_from (λ m. stops_at m.0) n moments
-
-  -- the moment past n stops
-  pub stops_here : (n : ℕ) (moments : List (Moment × S)) (m : Moment × S) → slice_get moments n ≡ Some m → stops_at m.0 ≡ true
-      → stop_above stops_at n moments ≡ Some (n + 1)
-  stops_here n moments m is holds =
-      ap (first_from (n + 1)) (from_place moments n m is) ∙ ap (λ (b : Bool). cond b (Some (n + 1)) (first_from (n + 1 + 1) (drop (n + 1) moments))) holds
-
-  -- it does not stop
-  pub stops_later : (n : ℕ) (moments : List (Moment × S)) (m : Moment × S) → slice_get moments n ≡ Some m → stops_at m.0 ≡ false
-      → stop_above stops_at n moments ≡ stop_above stops_at (n + 1) moments
-  stops_later n moments m is fails =
-      ap (first_from (n + 1)) (from_place moments n m is) ∙ ap (λ (b : Bool). cond b (Some (n + 1)) (first_from (n + 1 + 1) (drop (n + 1) moments))) fails
-
-  -- there is no moment past n
-  pub stops_nowhere : (n : ℕ) (moments : List (Moment × S)) → slice_get moments n ≡ None → stop_above stops_at n moments ≡ None
-  stops_nowhere n moments none = ap (first_from (n + 1)) (past_end moments n none)
-
--- where nothing stops there is no stop
-pub never_stops : {S : Type 0} (n : ℕ) (moments : List (Moment × S)) → stop_above (λ m. false) n moments ≡ None
-never_stops {S} n moments = none (n + 1) (drop n moments) where
-  none : (k : ℕ) (ms : List (Moment × S)) → position_from (λ m. false) k ms ≡ None
-  none k [] = refl
-  none k (m ∷ ms) = none (k + 1) ms
 
 -- a first element that passes is there
 abbrev IsPlaceOf : {S : Type 0} → ℕ → List (Moment × S) → ℕ → Type 0

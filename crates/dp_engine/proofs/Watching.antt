@@ -4,18 +4,19 @@ use Rattle.std.specs.Prelude.{option_map, option_and_then, slice_get}
 use Rattle.std.specs.Option.{option_map_or}
 use Rattle.std.proofs.lemmas.List.{drop_all}
 use Rattle.std.proofs.Math.Seq.{drop-append_seam}
-use Rattle.dp_bundle.specs.declared.bundle.Bundle.{Bundle}
+use Rattle.dp_tree.specs.declared.bundle.Bundle.{Bundle}
 use Rattle.dp_command.specs.declared.command.Command.{Command}
 use Rattle.dp_command.specs.declared.command.Continuation.{Continuation}
 use Rattle.dp_command.specs.declared.command.Finish.TheVariants.{Stop, Detach}
 use Rattle.dp_command.specs.declared.command.Request.{Request}
 use Rattle.dp_command.specs.declared.command.Request.TheVariants as request
 use Rattle.dp_command.specs.declared.command.StreamMode.{StreamMode}
-use Rattle.dp_command.specs.declared.command.StreamMode.TheVariants.{Disable}
+use Rattle.dp_command.specs.declared.command.StreamMode.TheVariants.{Disable, Copy, Redirect}
 use Rattle.dp_command.specs.declared.line.Line.{Line}
 use Rattle.dp_command.specs.Commands.{command_of}
 use Rattle.dp_command.specs.Lines.{line_of}
-use Rattle.dp_features.specs.declared.features.Features.{Features}
+use Rattle.dp_features.specs.Features.{Features}
+use Rattle.dp_meaning.specs.declared.writing.NumberedWrite.{NumberedWrite}
 use Rattle.dp_meaning.specs.Trace.{moment_at, now, outcome, output, plain, program_trace}
 use Rattle.dp_packet.specs.Parts.{Text}
 use Rattle.dp_serving.specs.Folds.{Reply, unless_ended, followed, replies}
@@ -28,7 +29,7 @@ use Rattle.dp_engine.specs.declared.states.Phase.{Phase}
 use Rattle.dp_engine.specs.declared.states.Phase.TheVariants.{Starting, Break, Stopping}
 use Rattle.dp_engine.specs.Answers.{answer, asked, at_end, at_stop, continued, moved, performed, to_program, turn, turn_of}
 use Rattle.dp_engine.specs.Refusals.{refusal_of_line}
-use Rattle.dp_engine.specs.Served.{Begins, ChangesNothing, answers, ending_after, rest_after}
+use Rattle.dp_engine.specs.Served.{Begins, IsRunWith, NeverRedirects, UnlessEnded, all_output, answers, ending, ending_after, own, rest_after, writes, writing}
 use Rattle.dp_engine.specs.Session.{State, opening, outcome_of, output_by, output_so_far, stop_of, trace_of, unwritten, whole_output, written_between}
 use Rattle.dp_engine.specs.Stops.{depth_of, stops}
 use Rattle.dp_engine.proofs.Outputs.{begins_same, stays_written}
@@ -93,6 +94,49 @@ pub features_apart : (phase : Phase) (state : State) (features : Features) → o
 features_apart Starting state features = refl
 features_apart Break state features = refl
 features_apart Stopping state features = refl
+
+-- ---- where output goes is no matter of what the session knows
+
+abbrev AreSame : Reply State SessionEnd → Reply State SessionEnd → Type 0
+AreSame a b = (a.state ≡ b.state) × (a.ended ≡ b.ended)
+
+same_replies : (state : State) (lines : List (List ℕ)) → AreSame (replies answer state lines) (replies writing state lines)
+same_replies state [] = (refl, refl)
+same_replies state (line ∷ lines) = cases (answer state line).ended (same_replies (answer state line).state lines) where
+  rest : Reply State SessionEnd
+  rest = replies answer (answer state line).state lines
+
+  written : Reply State SessionEnd
+  written = replies writing (answer state line).state lines
+
+  cases : (ended : Option SessionEnd) → AreSame rest written → AreSame (unless_ended ended (answer state line) rest) (unless_ended ended (writing state line) written)
+  cases (Some end) later = (refl, refl)
+  cases None later = later
+
+-- where it does not go to the IDE alone, all of it goes to the program's own output
+printed_whole : (mode : StreamMode) (output : List ℕ) → mode ≢ Redirect → to_program mode output ≡ output
+printed_whole Disable output h = refl
+printed_whole Copy output h = refl
+printed_whole Redirect output h = absurd (h refl)
+
+answer_prints : (state : State) (line : List ℕ) → state.stdout ≢ Redirect → (answer state line).program ≡ (writing state line).program
+unfolding answer
+answer_prints state line h = printed_whole state.stdout (written_between state (turn state line).next) h
+
+own_programs : (state : State) (lines : List (List ℕ)) → NeverRedirects state lines → (replies answer state lines).program ≡ (replies writing state lines).program
+own_programs state [] h = refl
+own_programs state (line ∷ lines) h = cases (answer state line).ended h.1 (own_programs (answer state line).state lines) where
+  rest : Reply State SessionEnd
+  rest = replies answer (answer state line).state lines
+
+  written : Reply State SessionEnd
+  written = replies writing (answer state line).state lines
+
+  cases : (ended : Option SessionEnd) → UnlessEnded ended (NeverRedirects (answer state line).state lines)
+      → (NeverRedirects (answer state line).state lines → rest.program ≡ written.program)
+      → (unless_ended ended (answer state line) rest).program ≡ (unless_ended ended (writing state line) written).program
+  cases (Some end) none later = answer_prints state line h.0
+  cases None more later = let first = answer_prints state line h.0 in let second = later more in λ i. first i ++ second i
 
 -- ---- sessions without writes
 
@@ -200,18 +244,11 @@ module _ (bundle : Bundle) (bound : ℕ) where
     begins : Begins (output_so_far state) (output_so_far r.state)
     shown : r.program ≡ drop (length (output_so_far state)) (output_so_far r.state)
 
-  shown_by : (mode : StreamMode) (output : List ℕ) → mode ≡ Disable → to_program mode output ≡ output
-  shown_by mode output e = ap (λ (m : StreamMode). to_program m output) e
-
-  answer_shows : (state : State) (line : List ℕ) → IsPlain state → Shows state (answer state line)
+  writing_shows : (state : State) (line : List ℕ) → IsPlain state → Shows state (writing state line)
   unfolding answer
-  answer_shows state line h =
+  writing_shows state line h =
       let grown = move_grows state (turn state line).next h (turn_moves state line) in
-      record {
-        is_plain = grown.is_plain;
-        begins = grown.begins;
-        shown = shown_by state.stdout (written_between state (turn state line).next) h.no_stream;
-      }
+      record { is_plain = grown.is_plain; begins = grown.begins; shown = refl }
 
   followed_shows : (state : State) (first rest : Reply State SessionEnd) → Shows state first → Shows first.state rest → Shows state (followed first rest)
   followed_shows state first rest p q = cases first.ended where
@@ -223,15 +260,15 @@ module _ (bundle : Bundle) (bound : ℕ) where
       shown = (λ i. p.shown i ++ q.shown i) ∙ pieces_join (output_so_far state) (output_so_far first.state) (output_so_far rest.state) p.begins q.begins;
     }
 
-  replies_show : (state : State) (lines : List (List ℕ)) → IsPlain state → Shows state (replies answer state lines)
+  replies_show : (state : State) (lines : List (List ℕ)) → IsPlain state → Shows state (replies writing state lines)
   replies_show state [] h = record {
     is_plain = h;
     begins = begins_same (output_so_far state);
     shown = sym (drop_all (length (output_so_far state)) (output_so_far state) (omega arith));
   }
   replies_show state (line ∷ lines) h =
-      let first = answer_shows state line h in
-      followed_shows state (answer state line) (replies answer (answer state line).state lines) first (replies_show (answer state line).state lines first.is_plain)
+      let first = writing_shows state line h in
+      followed_shows state (writing state line) (replies writing (answer state line).state lines) first (replies_show (answer state line).state lines first.is_plain)
 
   opening_plain : IsPlain (opening bundle bound)
   opening_plain = record { of = refl; within = refl; no_writes = refl; no_stream = refl; placed = refl }
@@ -248,16 +285,39 @@ module _ (bundle : Bundle) (bound : ℕ) where
       let program : r.program ++ [] ≡ output_so_far r.state = append-nil r.program ∙ s.shown ∙ ap (λ (o : List ℕ). drop (length o) (output_so_far r.state)) none in
       subst (λ (o : List ℕ). Begins o plain_output) (sym program) (so_far_begins r.state.phase r.state s.is_plain s.is_plain.placed)
 
-  changes_by : (state : State) (r : Reply State SessionEnd) → output_so_far state ≡ [] → Shows state r → (ended : Option SessionEnd) → r.ended ≡ ended → ChangesNothing bundle bound r (ending_after ended r.state)
-  changes_by state r none s None e =
-      (ap (λ (o : Option SessionEnd). r.program ++ rest_after o r.state) e ∙ goes_on_whole state r none s, outcome_is r.state s.is_plain)
-  changes_by state r none s (Some Detached) e =
-      (ap (λ (o : Option SessionEnd). r.program ++ rest_after o r.state) e ∙ goes_on_whole state r none s, outcome_is r.state s.is_plain)
-  changes_by state r none s (Some (Finished o)) e =
-      (ap (λ (o : Option SessionEnd). r.program ++ rest_after o r.state) e ∙ goes_on_whole state r none s, outcome_is r.state s.is_plain)
-  changes_by state r none s (Some Killed) e =
-      subst (λ (l : List ℕ). Begins l plain_output) (sym (ap (λ (o : Option SessionEnd). r.program ++ rest_after o r.state) e)) (front_of_whole state r none s)
+  -- what it writes and how it ends is that of its run with the writes that were accepted
+  writes_are : (r : Reply State SessionEnd) → IsPlain r.state → plain_output ≡ output bundle bound r.state.writes
+  writes_are r h = ap (output bundle bound) (sym h.no_writes)
 
-  pub changes_nothing : (bytes : List ℕ) → ChangesNothing bundle bound (answers bundle bound bytes) (ending_after (answers bundle bound bytes).ended (answers bundle bound bytes).state)
-  changes_nothing bytes =
-      changes_by (opening bundle bound) (answers bundle bound bytes) refl (replies_show (opening bundle bound) (commands_in bytes) opening_plain) (answers bundle bound bytes).ended refl
+  outcome_with : (r : Reply State SessionEnd) → IsPlain r.state → outcome_of r.state ≡ outcome bundle bound r.state.writes
+  outcome_with r h = outcome_is r.state h ∙ ap (outcome bundle bound) (sym h.no_writes)
+
+  abbrev own_by : Reply State SessionEnd → Option SessionEnd → List ℕ
+  own_by r ended = r.program ++ rest_after ended r.state
+
+  run_by : (state : State) (r : Reply State SessionEnd) → output_so_far state ≡ [] → Shows state r → (ended : Option SessionEnd)
+      → IsRunWith bundle bound r.state.writes (own_by r ended) (ending_after ended r.state)
+  run_by state r none s None = (goes_on_whole state r none s ∙ writes_are r s.is_plain, outcome_with r s.is_plain)
+  run_by state r none s (Some Detached) = (goes_on_whole state r none s ∙ writes_are r s.is_plain, outcome_with r s.is_plain)
+  run_by state r none s (Some (Finished o)) = (goes_on_whole state r none s ∙ writes_are r s.is_plain, outcome_with r s.is_plain)
+  run_by state r none s (Some Killed) = subst (Begins (r.program ++ [])) (writes_are r s.is_plain) (front_of_whole state r none s)
+
+  pub is_run : (bytes : List ℕ) → IsRunWith bundle bound (writes bundle bound bytes) (all_output bundle bound bytes) (ending bundle bound bytes)
+  is_run bytes =
+      let lines = commands_in bytes in
+      let start = opening bundle bound in
+      let r = replies writing start lines in
+      let same = same_replies start lines in
+      let run = run_by start r refl (replies_show start lines opening_plain) r.ended in
+      subst (λ (state : State). IsRunWith bundle bound state.writes (all_output bundle bound bytes) (ending_after (answers bundle bound bytes).ended state)) (sym same.0)
+      (subst (λ (ended : Option SessionEnd). IsRunWith bundle bound r.state.writes (all_output bundle bound bytes) (ending_after ended r.state)) (sym same.1) run)
+
+  pub watched_run : (bytes : List ℕ) → writes bundle bound bytes ≡ [] → IsRunWith bundle bound [] (all_output bundle bound bytes) (ending bundle bound bytes)
+  watched_run bytes none = subst (λ (ws : List NumberedWrite). IsRunWith bundle bound ws (all_output bundle bound bytes) (ending bundle bound bytes)) none (is_run bytes)
+
+  pub own_is_all : (bytes : List ℕ) → NeverRedirects (opening bundle bound) (commands_in bytes) → own bundle bound bytes ≡ all_output bundle bound bytes
+  own_is_all bytes h =
+      let lines = commands_in bytes in
+      let start = opening bundle bound in
+      let same = same_replies start lines in
+      λ i. own_programs start lines h i ++ rest_after (same.1 i) (same.0 i)

@@ -1,4 +1,5 @@
--- What one command leads to in a session: DBGp 1.0, "status", "Options and Configuration", "Continuation Commands".
+-- What one command leads to in a session: DBGp 1.0, "status", "Options and Configuration",
+-- "Continuation Commands".
 use Rattle.std.specs.Prelude.{ℕ, true, List, [], ◌∷◌, ◌++◌, Option, Some, None, option_map, option_and_then, codes}
 use Rattle.std.specs.Option.{option_map_or}
 use Rattle.dp_command.specs.declared.command.Command.{Command}
@@ -13,7 +14,8 @@ use Rattle.dp_command.specs.Commands.{command_of}
 use Rattle.dp_command.specs.Lines.{line_of}
 use Rattle.dp_command.specs.Names.{name_of}
 use Rattle.dp_command.specs.Refusals.{id_of}
-use Rattle.dp_features.specs.Features.{feature_named, value_of, with_setting}
+use Rattle.dp_features.specs.declared.feature.Feature.{Feature}
+use Rattle.dp_features.specs.Features.{Features, feature_named, setting_named, value_of, with_setting}
 use Rattle.dp_packet.specs.declared.packet.Response.{Response}
 use Rattle.dp_packet.specs.Parts.{Text, flag}
 use Rattle.dp_serving.specs.Folds.{Reply}
@@ -27,7 +29,8 @@ use Rattle.dp_engine.specs.Responses.{response_text, status_response, feature_re
 use Rattle.dp_engine.specs.Session.{State, outcome_of, stop_of, written_between}
 use Rattle.dp_engine.specs.States.{phase_name, reason_name, reason_of, is_built}
 
--- What a command leads to: its response, what the session knows then, and how it has ended, if it has.
+-- What a command leads to: its response, what the session knows then, and how it has ended, if it
+-- has.
 pub record Turn : Type 0 where
   pub response : Response
   pub next : State
@@ -54,7 +57,8 @@ moved state None = at_end state
 
 -- a response with the state and the reason of a session
 abbrev pub state_response : Text → Text → State → Response
-state_response command id state = status_response command id (phase_name state.phase) (reason_name state.reason)
+state_response command id state =
+    status_response command id (phase_name state.phase) (reason_name state.reason)
 
 abbrev pub stopped_response : Text → Text → Response
 stopped_response command id = status_response command id (codes "stopped") (codes "ok")
@@ -68,7 +72,11 @@ abbrev pub continued : Text → Text → Continuation → Phase → State → Tu
 continued command id mode Starting state = advanced command id mode state
 continued command id mode Break state = advanced command id mode state
 continued command id mode Stopping state =
-    record { response = stopped_response command id; next = state; ended = Some (Finished (outcome_of state)) }
+    record {
+      response = stopped_response command id;
+      next = state;
+      ended = Some (Finished (outcome_of state));
+    }
 
 -- ---- ending the session
 
@@ -79,11 +87,19 @@ end_by_stop Break state = Killed
 end_by_stop Stopping state = Finished (outcome_of state)
 
 abbrev pub stopped : Text → Text → State → Turn
-stopped command id state = record { response = stopped_response command id; next = state; ended = Some (end_by_stop state.phase state) }
+stopped command id state = record {
+  response = stopped_response command id;
+  next = state;
+  ended = Some (end_by_stop state.phase state);
+}
 
 abbrev pub detached : Text → Text → State → Turn
 detached command id state =
-    record { response = status_response command id (codes "stopping") (codes "ok"); next = state; ended = Some Detached }
+    record {
+      response = status_response command id (codes "stopping") (codes "ok");
+      next = state;
+      ended = Some Detached;
+    }
 
 -- ---- features
 
@@ -91,12 +107,18 @@ detached command id state =
 abbrev pub feature_told : Text → Text → Text → State → Response
 feature_told command id name state =
     feature_response command id name
-    (flag (option_map_or (λ feature. true) (feature_named name) (of_command is_built (name_of name))))
+    (flag (option_map_or (λ feature. true) (feature_named name)
+    (of_command is_built (name_of name))))
     (option_map (value_of state.features) (feature_named name))
+
+-- the features with one set, where it can have the value
+abbrev pub set_by : Option (Feature × ℕ) → Features → Features
+set_by setting features = option_map_or (λ s. with_setting s features) setting features
 
 abbrev pub feature_put : Text → Text → Text → Text → State → Turn
 feature_put command id name value state =
-    goes_on (set_response command id name) (record state { features = with_setting name value state.features })
+    goes_on (set_response command id name)
+    (record state { features = set_by (setting_named name value) state.features })
 
 -- ---- commands
 
@@ -107,7 +129,8 @@ refused command id code state = goes_on (fault_response command id code) state
 -- what a command of this name and id asks for is done; what is not built is refused before
 abbrev pub performed : Text → Text → Request → State → Turn
 performed command id request.Status state = goes_on (state_response command id state) state
-performed command id (request.FeatureGet name) state = goes_on (feature_told command id name state) state
+performed command id (request.FeatureGet name) state =
+    goes_on (feature_told command id name state) state
 performed command id (request.FeatureSet name value) state = feature_put command id name value state
 performed command id (request.Continue mode) state = continued command id mode state.phase state
 performed command id (request.Finish Stop) state = stopped command id state
@@ -128,7 +151,8 @@ asked command id None state = refused command id 4 state
 
 abbrev pub turn_of : Option Line → Option ℕ → State → Turn
 turn_of line (Some code) state = refused (command_in line) (id_in line) code state
-turn_of line None state = asked (command_in line) (id_in line) (option_and_then command_of line) state
+turn_of line None state =
+    asked (command_in line) (id_in line) (option_and_then command_of line) state
 
 -- what these bytes lead to
 unfoldable pub turn : State → List ℕ → Turn
@@ -151,7 +175,9 @@ to_program Redirect output = []
 -- the output that the program wrote in this turn goes out before the response
 abbrev pub sent : State → Turn → Reply State SessionEnd
 sent state taken = record {
-  packets = to_ide state.stdout (written_between state taken.next) ++ response_text taken.response ∷ [];
+  packets =
+      to_ide state.stdout (written_between state taken.next)
+      ++ response_text taken.response ∷ [];
   program = to_program state.stdout (written_between state taken.next);
   state = taken.next;
   ended = taken.ended;

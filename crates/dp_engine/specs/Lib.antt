@@ -4,9 +4,7 @@ pub mod Session
 pub mod Responses
 pub mod Refusals
 pub mod Answers
+pub mod Refused
 pub mod Served
-pub mod Standing
-pub mod Turns
-pub mod Sizes
 pub mod Serving
-pub mod Closing
+pub mod inner

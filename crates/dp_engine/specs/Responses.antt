@@ -1,8 +1,9 @@
--- What a session sends: its first packet, responses, and the program's output. DBGp 1.0, "Init Packet", "Response Format",
--- "stdout, stderr". Which attributes stand in a response and in what order is this engine's own.
+-- What a session sends: its first packet, responses, and the program's output. DBGp 1.0, "Init
+-- Packet", "Response Format", "stdout, stderr". Which attributes stand in a response and in what
+-- order is this engine's own.
 use Rattle.std.specs.Prelude.{ℕ, zero, suc, List, [], ◌∷◌, ◌+◌, ◌-◌, ◌/◌, length, take, drop, map, Option, Some, None, codes, slice_get}
 use Rattle.std.specs.Option.{option_map_or}
-use Rattle.dp_bundle.specs.declared.bundle.Bundle.{Bundle}
+use Rattle.dp_tree.specs.declared.bundle.Bundle.{Bundle}
 use Rattle.dp_packet.specs.declared.packet.Body.{Body}
 use Rattle.dp_packet.specs.declared.packet.Body.TheVariants as body
 use Rattle.dp_packet.specs.declared.packet.Packet.TheVariants as packet
@@ -19,20 +20,23 @@ main_name bundle = option_map_or (λ file. file.name) (slice_get bundle.files 0)
 
 -- the packet that opens a session for this key
 unfoldable pub init_text : Bundle → Text → Text
-init_text bundle key = text (packet.Init (record { idekey = key; fileuri = file_uri (main_name bundle) }))
+init_text bundle key =
+    text (packet.Init (record { idekey = key; fileuri = file_uri (main_name bundle) }))
 
 -- ---- responses
 
 -- to the command of this name with this transaction id
 abbrev pub response : Text → Text → Attributes → Body → Response
-response command id attributes what = record { command = command; id = id; attributes = attributes; body = what }
+response command id attributes what =
+    record { command = command; id = id; attributes = attributes; body = what }
 
 abbrev pub status_attributes : Text → Text → Attributes
 status_attributes status reason = (codes "status", status) ∷ (codes "reason", reason) ∷ []
 
 -- a response that tells a status and its reason
 abbrev pub status_response : Text → Text → Text → Text → Response
-status_response command id status reason = response command id (status_attributes status reason) body.Nothing
+status_response command id status reason =
+    response command id (status_attributes status reason) body.Nothing
 
 abbrev pub value_body : Option Text → Body
 value_body None = body.Nothing
@@ -41,11 +45,14 @@ value_body (Some value) = body.Plain value
 -- a feature, whether it is supported, and its value where it has one
 abbrev pub feature_response : Text → Text → Text → Text → Option Text → Response
 feature_response command id feature supported value =
-    response command id ((codes "feature_name", feature) ∷ (codes "supported", supported) ∷ []) (value_body value)
+    response command id
+    ((codes "feature_name", feature) ∷ (codes "supported", supported) ∷ []) (value_body value)
 
 -- a feature that was set
 abbrev pub set_response : Text → Text → Text → Response
-set_response command id feature = response command id ((codes "feature", feature) ∷ (codes "success", codes "1") ∷ []) body.Nothing
+set_response command id feature =
+    response command id
+    ((codes "feature", feature) ∷ (codes "success", codes "1") ∷ []) body.Nothing
 
 -- an error with this code
 abbrev pub fault_response : Text → Text → ℕ → Response
@@ -68,7 +75,8 @@ stream_size = 4096
 -- the first pieces of a text, each of that size but the last
 abbrev pub first_pieces : ℕ → Text → List Text
 first_pieces zero bytes = []
-first_pieces (suc count) bytes = take stream_size bytes ∷ first_pieces count (drop stream_size bytes)
+first_pieces (suc count) bytes =
+    take stream_size bytes ∷ first_pieces count (drop stream_size bytes)
 
 -- a text in pieces, none of them empty
 abbrev pub pieces : Text → List Text

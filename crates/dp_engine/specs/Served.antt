@@ -1,8 +1,9 @@
--- A session that is served alone: what commands, up to the first that ends the session, come to. Of bytes it is what the
--- commands among them come to.
-use Rattle.std.specs.Prelude.{◌≡◌, ℕ, List, [], ◌++◌, Option, Some, None}
+-- A session that is served alone: what commands, up to the first that ends the session, come to. Of
+-- bytes it is what the commands among them come to.
+use Rattle.std.specs.Prelude.{◌≡◌, ◌≢◌, ℕ, ◌<◌, List, [], ◌∷◌, ◌++◌, Option, Some, None, slice_index}
 use Rattle.std.specs.List.{flat_map}
-use Rattle.dp_bundle.specs.declared.bundle.Bundle.{Bundle}
+use Rattle.dp_tree.specs.declared.bundle.Bundle.{Bundle}
+use Rattle.dp_command.specs.declared.command.StreamMode.TheVariants.{Redirect}
 use Rattle.dp_meaning.specs.declared.writing.NumberedWrite.{NumberedWrite}
 use Rattle.dp_meaning.specs.Trace.{outcome, output}
 use Rattle.dp_serving.specs.Folds.{Reply, replies}
@@ -12,7 +13,7 @@ use Rattle.dp_engine.specs.declared.session.SessionEnd.{SessionEnd}
 use Rattle.dp_engine.specs.declared.session.SessionEnd.TheVariants.{Finished, Killed, Detached}
 use Rattle.dp_engine.specs.Answers.{answer}
 use Rattle.dp_engine.specs.Responses.{init_text}
-use Rattle.dp_engine.specs.Session.{State, opening, outcome_of, unwritten}
+use Rattle.dp_engine.specs.Session.{State, opening, outcome_of, unwritten, written_between}
 
 -- ---- with these commands
 
@@ -23,7 +24,8 @@ answers_to bundle bound commands = replies answer (opening bundle bound) command
 -- what the engine sends to an IDE that sends them
 abbrev pub alone_with : Bundle → ℕ → List ℕ → List (List ℕ) → List ℕ
 alone_with bundle bound key commands =
-    packet_frame (init_text bundle key) ++ flat_map packet_frame (answers_to bundle bound commands).packets
+    packet_frame (init_text bundle key)
+    ++ flat_map packet_frame (answers_to bundle bound commands).packets
 
 -- what the program writes once the session is over: nothing where it was killed
 abbrev pub rest_after : Option SessionEnd → State → List ℕ
@@ -70,14 +72,48 @@ ending bundle bound bytes = ending_with bundle bound (commands_in bytes)
 abbrev pub writes : Bundle → ℕ → List ℕ → List NumberedWrite
 writes bundle bound bytes = (answers bundle bound bytes).state.writes
 
+-- ---- all output
+
+-- a turn, of which all is kept that the program writes in it, wherever it goes
+abbrev pub writing : State → List ℕ → Reply State SessionEnd
+writing state bytes =
+    let r = answer state bytes in
+    record {
+      packets = [];
+      program = written_between state r.state;
+      state = r.state;
+      ended = r.ended;
+    }
+
+-- all that the program writes, in order, whether it is shown to the IDE, goes to the program's own
+-- output, or both
+abbrev pub all_output : Bundle → ℕ → List ℕ → List ℕ
+all_output bundle bound bytes = own_of (replies writing (opening bundle bound) (commands_in bytes))
+
+abbrev pub UnlessEnded : Option SessionEnd → Type 0 → Type 0
+UnlessEnded (Some end) Later = Unit {0}
+UnlessEnded None Later = Later
+
+-- in no turn of these commands does output go to the IDE alone
+abbrev pub NeverRedirects : State → List (List ℕ) → Type 0
+NeverRedirects state [] = Unit {0}
+NeverRedirects state (line ∷ lines) =
+    (state.stdout ≢ Redirect)
+    × UnlessEnded (answer state line).ended (NeverRedirects (answer state line).state lines)
+
 -- ---- what holds of every session
+
+-- each is a byte
+abbrev pub AreBytes : List ℕ → Type 0
+AreBytes bytes = (place : ℕ) → slice_index bytes place < 256
 
 -- one list of bytes begins another
 abbrev pub Begins : List ℕ → List ℕ → Type 0
 Begins front bytes = (rest : List ℕ) × (bytes ≡ front ++ rest)
 
--- Watching changes nothing: without an accepted write the program writes what it writes by itself, and ends as it does by
--- itself; one that was killed has written a front of that.
-abbrev pub ChangesNothing : Bundle → ℕ → Reply State SessionEnd → Option Outcome → Type 0
-ChangesNothing bundle bound r (Some o) = (own_of r ≡ output bundle bound []) × (o ≡ outcome bundle bound [])
-ChangesNothing bundle bound r None = Begins (own_of r) (output bundle bound [])
+-- With these writes the program writes this and ends so; one that was killed has written a front of
+-- what it writes.
+abbrev pub IsRunWith : Bundle → ℕ → List NumberedWrite → List ℕ → Option Outcome → Type 0
+IsRunWith bundle bound writes written (Some o) =
+    (written ≡ output bundle bound writes) × (o ≡ outcome bundle bound writes)
+IsRunWith bundle bound writes written None = Begins written (output bundle bound writes)

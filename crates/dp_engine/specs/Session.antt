@@ -1,12 +1,11 @@
 -- What a session of the engine with one IDE knows.
 use Rattle.std.specs.Prelude.{ℕ, List, [], length, drop, Option}
 use Rattle.std.specs.Option.{option_map_or}
-use Rattle.dp_bundle.specs.declared.bundle.Bundle.{Bundle}
+use Rattle.dp_tree.specs.declared.bundle.Bundle.{Bundle}
 use Rattle.dp_command.specs.declared.command.Continuation.{Continuation}
 use Rattle.dp_command.specs.declared.command.StreamMode.{StreamMode}
 use Rattle.dp_command.specs.declared.command.StreamMode.TheVariants.{Disable}
-use Rattle.dp_features.specs.declared.features.Features.{Features}
-use Rattle.dp_features.specs.Features.{defaults}
+use Rattle.dp_features.specs.Features.{Features, defaults}
 use Rattle.dp_meaning.specs.declared.signal.Signal.{Signal}
 use Rattle.dp_meaning.specs.declared.writing.NumberedWrite.{NumberedWrite}
 use Rattle.dp_meaning.specs.Trace.{Trace, moment_at, now, outcome, output, program_trace}
@@ -17,8 +16,9 @@ use Rattle.dp_engine.specs.declared.states.Reason.{Reason}
 use Rattle.dp_engine.specs.declared.states.Reason.TheVariants as reason
 use Rattle.dp_engine.specs.Stops.{stops, stop_above, depth_of}
 
--- The program and the bound of its moments, the writes that were accepted, the number of the current moment (0 before
--- the first), the state and the reason last given, the features, and where output goes.
+-- The program and the bound of its moments, the writes that were accepted, the number of the
+-- current moment (0 before the first), the state and the reason last given, the features, and where
+-- output goes.
 pub record State : Type 0 where
   pub bundle : Bundle
   pub bound : ℕ
@@ -56,7 +56,8 @@ whole_output state = output state.bundle state.bound state.writes
 
 -- what the program has written by the current moment
 abbrev pub output_at : State → List ℕ
-output_at state = option_map_or (λ s. s.output) (now state.bundle state.bound state.writes state.moment) []
+output_at state =
+    option_map_or (λ s. s.output) (now state.bundle state.bound state.writes state.moment) []
 
 -- what the program has written so far
 abbrev pub output_by : Phase → State → List ℕ
@@ -78,4 +79,5 @@ unwritten state = drop (length (output_so_far state)) (whole_output state)
 -- the moment at which the program stops when it goes on from here, if it stops
 abbrev pub stop_of : Continuation → State → Option ℕ
 stop_of mode state =
-    let t = trace_of state in stop_above (stops mode (depth_of (moment_at t state.moment))) state.moment t.moments
+    let t = trace_of state in
+    stop_above (stops mode (depth_of (moment_at t state.moment))) state.moment t.moments

@@ -1,5 +1,6 @@
--- The states of a session, their reasons, and which commands they allow: DBGp 1.0, "status", "Core Commands", "Extended
--- Commands". Which commands a state allows is this engine's own where the standard leaves it open.
+-- The states of a session, their reasons, and which commands they allow: DBGp 1.0, "status", "Core
+-- Commands", "Extended Commands". Which commands a state allows is this engine's own where the
+-- standard leaves it open.
 use Rattle.std.specs.Prelude.{ℕ, Bool, true, false, List, codes}
 use Rattle.dp_command.specs.declared.names.CommandName.{CommandName}
 use Rattle.dp_command.specs.declared.names.CommandName.TheVariants.{Status, FeatureGet, FeatureSet, Run, StepInto, StepOver, StepOut, Stop, Detach, BreakpointSet, BreakpointGet, BreakpointRemove, BreakpointUpdate, BreakpointList, StackDepth, StackGet, ContextNames, ContextGet, PropertyGet, PropertyValue, PropertySet, Source, Stdout, Stderr, Eval}

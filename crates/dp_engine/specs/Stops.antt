@@ -13,8 +13,8 @@ is_place Place = true
 is_place Enter = false
 is_place Leave = false
 
--- A command that goes on from this depth stops at a moment: `step_into` at a place, `step_over` at one that is not deeper,
--- `step_out` at one that is less deep, and `run` at none.
+-- A command that goes on from this depth stops at a moment: `step_into` at a place, `step_over` at
+-- one that is not deeper, `step_out` at one that is less deep, and `run` at none.
 abbrev pub stops : Continuation → ℕ → Moment → Bool
 stops Run depth moment = false
 stops StepInto depth moment = is_place moment.kind

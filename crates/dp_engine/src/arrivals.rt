@@ -1,14 +1,14 @@
 //! Where a program comes to when it goes on.
-ghost use Rattle.std.specs.Prelude.{◌≡◌, ◌<◌, IfOk, None};
+ghost use Rattle.std.specs.Prelude.{◌≡◌, IfOk, None};
 ghost use Rattle.dp_meaning.specs.Trace.{plain};
-ghost use Rattle.dp_engine.specs.Standing.{Arrives, Looks, output_in, standing_in};
+ghost use Rattle.dp_engine.specs.inner.Standing.{Arrives, output_in, standing_in};
 ghost use Rattle.dp_engine.specs.Stops.{is_place, stop_above, stops};
 
 use crate::states::Standing;
-use dp_bundle::Bundle;
 use dp_command::Continuation;
-use dp_meaning::{Stop, run_to};
+use dp_meaning::{Stop, Stops, run_to, run_until};
 use dp_state::{Moment, MomentKind, Outcome, State};
+use dp_tree::Bundle;
 use dp_value::Memory;
 use std::alloc::Global;
 
@@ -72,6 +72,23 @@ fn at_place(kind: MomentKind) -> bool
     }
 }
 
+/// What stops a program that goes on from a depth.
+#[derive(Clone, Copy)]
+struct Going {
+    mode: Continuation,
+    depth: u32,
+}
+
+impl Stops for Going {
+    ghost use Rattle.dp_engine.specs.Stops.{stops};
+
+    ghost test = { λ going moment state. stops going.mode going.depth moment };
+
+    fn holds(&self, moment: &Moment, _state: &mut State) -> Result<bool, Memory> {
+        Ok(is_stop(self.mode, self.depth, moment))
+    }
+}
+
 /// The end of the program.
 pub fn run_out(alloc: Global, bundle: &Bundle, bound: u64) -> Result<Arrival, Memory>
     ensures { IfOk result (Arrives bundle.now bound None) }
@@ -82,58 +99,7 @@ pub fn run_out(alloc: Global, bundle: &Bundle, bound: u64) -> Result<Arrival, Me
     }
 }
 
-/// Where the program comes to at the moment past this one, if it stops there or there is none.
-fn look(
-    alloc: Global,
-    bundle: &Bundle,
-    bound: u64,
-    moment: u64,
-    depth: u32,
-    mode: Continuation,
-) -> Result<Option<Arrival>, Memory>
-    requires { moment < bound }
-    ensures { IfOk result (Looks bundle.now bound (stops mode depth) moment) }
-{
-    let number = moment + 1;
-    match run_to(alloc, bundle, &[], number, bound)? {
-        Stop::Ended(outcome, program) => Ok(Some(Arrival::End { outcome, program })),
-        Stop::At(moment, program) => {
-            if is_stop(mode, depth, &moment) {
-                let depth = moment.depth;
-                return Ok(Some(Arrival::Moment {
-                    number,
-                    depth,
-                    program,
-                }));
-            }
-            Ok(None)
-        }
-    }
-}
-
-/// The next stop past a moment, looked for one moment after another, or the end.
-fn step(
-    alloc: Global,
-    bundle: &Bundle,
-    bound: u64,
-    moment: u64,
-    depth: u32,
-    mode: Continuation,
-) -> Result<Arrival, Memory>
-    ensures { IfOk result (Arrives bundle.now bound
-        (stop_above (stops mode depth) moment (plain bundle.now bound).moments)) }
-{
-    let mut number = moment;
-    'moments: while number < bound {
-        if let Some(arrival) = look(alloc, bundle, bound, number, depth, mode)? {
-            return Ok(arrival);
-        }
-        number += 1;
-    }
-    run_out(alloc, bundle, bound)
-}
-
-/// Where the program comes to from a moment, at which it is this deep.
+/// Where the program comes to from a moment, at which it is this deep: the first moment past it that stops, or the end.
 pub fn go_on(
     alloc: Global,
     bundle: &Bundle,
@@ -145,10 +111,12 @@ pub fn go_on(
     ensures { IfOk result (Arrives bundle.now bound
         (stop_above (stops mode depth) moment (plain bundle.now bound).moments)) }
 {
-    match mode {
-        Continuation::Run => run_out(alloc, bundle, bound),
-        Continuation::StepInto => step(alloc, bundle, bound, moment, depth, mode),
-        Continuation::StepOver => step(alloc, bundle, bound, moment, depth, mode),
-        Continuation::StepOut => step(alloc, bundle, bound, moment, depth, mode),
+    match run_until(alloc, bundle, &[], moment, &Going { mode, depth }, bound)? {
+        Stop::At(moment, program) => Ok(Arrival::Moment {
+            number: moment.number,
+            depth: moment.depth,
+            program,
+        }),
+        Stop::Ended(outcome, program) => Ok(Arrival::End { outcome, program }),
     }
 }

@@ -11,9 +11,9 @@ mod states;
 mod turns;
 
 pub use dp_value::Memory;
-pub use laws::{more_commands_only_add, refused_exactly, watching_changes_nothing};
+pub use laws::{
+    alone_is_whole_packets, more_commands_only_add, refused_exactly, session_is_the_run,
+    watching_changes_nothing,
+};
 pub use serving::{ServeEnd, Served, serve};
 pub use session::{Answer, Session, SessionEnd};
-
-#[cfg(test)]
-mod tests;

@@ -1,43 +1,78 @@
 //! Why a command is refused.
-ghost use Rattle.std.specs.Prelude.{◌≡◌};
-ghost use Rattle.dp_command.specs.Options.{text_given};
-ghost use Rattle.dp_engine.specs.Refusals.{first_code, own_tests};
+ghost use Rattle.std.specs.Prelude.{◌≡◌, ◌∷◌, [], is_none};
+ghost use Rattle.dp_command.specs.Tests.{first_code};
+ghost use Rattle.dp_features.specs.Features.{is_other_encoding, setting_named};
+ghost use Rattle.dp_engine.specs.Refusals.{own_tests};
+ghost use Rattle.dp_engine.specs.inner.Turns.{Asks, AsksRow};
 
-use dp_command::{CommandName, Line, option_value};
-use dp_features::Feature;
-use dp_value::Bytes;
+use crate::session::Session;
+use crate::states::is_built as built;
+use dp_command::{Command, CommandError, CommandName, Line, Request, has_duplicate, id_of};
+use dp_features::Setting;
+use std::alloc::Global;
 
-/// The value of an option that is required.
-fn text_in(options: &[(u8, Bytes)], letter: u8) -> &[u8]
-    ensures { result.now ≡ text_given letter options.now }
+/// Why a feature is not set to a value.
+fn feature_refusal(name: &[u8], value: &[u8]) -> Option<u16>
+    ensures { result ≡ first_code ((is_other_encoding name.now value.now, 900)
+        ∷ (is_none (setting_named name.now value.now), 3) ∷ []) }
 {
-    match option_value(options, letter) {
-        Some(value) => value,
-        None => &[],
-    }
-}
-
-/// Why a feature is not set.
-fn feature_refusal(line: &Line) -> Option<u16>
-    ensures { result ≡ first_code (own_tests line.now CommandName.FeatureSet) }
-{
-    let name = text_in(line.options.as_slice(), b'n');
-    let value = text_in(line.options.as_slice(), b'v');
     if name == b"encoding".as_slice() && value != b"iso-8859-1".as_slice() {
         return Some(900);
     }
-    match Feature::of(name) {
-        Some(feature) if feature.may_be(value) => None,
-        _ => Some(3),
+    match Setting::of(name, value) {
+        Some(_) => None,
+        None => Some(3),
     }
 }
 
-/// The code of the first test that a command has for itself and that holds.
-pub fn own_refusal(name: CommandName, line: &Line) -> Option<u16>
-    ensures { result ≡ first_code (own_tests line.now name) }
-{
-    match name {
-        CommandName::FeatureSet => feature_refusal(line),
-        _ => None,
+impl<'a> Session<'a> {
+    /// The code of the first test that a command has for itself and that holds. Takes no memory.
+    fn own_refusal(&self, request: &Request) -> Option<u16>
+        ensures { result ≡ first_code (own_tests self.now request.now) }
+    {
+        match request {
+            Request::FeatureSet { name, value } => {
+                feature_refusal(name.as_slice(), value.as_slice())
+            }
+            _ => None,
+        }
+    }
+
+    /// What a line asks for that may stand in its row, or why it is refused.
+    fn ask_row(
+        &self,
+        alloc: Global,
+        line: &Line,
+        name: CommandName,
+    ) -> Result<Command, CommandError>
+        ensures { AsksRow self.now line.now name result }
+    {
+        let command = Command::read(alloc, line, name)?;
+        match self.own_refusal(&command.request) {
+            Some(code) => Err(CommandError::Code(code)),
+            None => Ok(command),
+        }
+    }
+
+    /// What a line asks for, or the code of its first refusal. What is tested before its row takes no memory.
+    pub(crate) fn ask(&self, alloc: Global, line: &Line) -> Result<Command, CommandError>
+        ensures { Asks self.now line.now result }
+    {
+        if has_duplicate(line.options.as_slice()) {
+            return Err(CommandError::Code(2));
+        }
+        let Some(name) = CommandName::of(line.name.as_slice()) else {
+            return Err(CommandError::Code(4));
+        };
+        if !built(name) {
+            return Err(CommandError::Code(4));
+        }
+        if id_of(line).is_empty() {
+            return Err(CommandError::Code(3));
+        }
+        if !self.standing.phase().allows(name) {
+            return Err(CommandError::Code(5));
+        }
+        self.ask_row(alloc, line, name)
     }
 }

@@ -1,9 +1,11 @@
 //! The packets that a session sends.
 ghost use Rattle.std.specs.Prelude.{◌≡◌, ◌≤◌, ◌∷◌, [], length, IfOk, IfSome};
+ghost use Rattle.dp_wire.specs.Frames.{IsPacketText};
 ghost use Rattle.dp_engine.specs.Responses as spec;
-ghost use Rattle.dp_engine.specs.Sizes.{Fits, IsCode};
+ghost use Rattle.dp_engine.specs.inner.Sizes.{Fits, IsCode};
 
-use dp_packet::{Body, Response};
+use dp_command::Addressee;
+use dp_packet::{Body, Packet, Response, text_of};
 use dp_value::{Bytes, Items, Memory};
 use std::alloc::Global;
 
@@ -32,15 +34,14 @@ fn pairs(
 
 fn response(
     alloc: Global,
-    command: &[u8],
-    id: &[u8],
+    to: &Addressee,
     attributes: Items<(Bytes, Bytes)>,
     body: Body,
 ) -> Result<Response, Memory>
-    ensures { IfOk result (λ r. r ≡ spec.response command.now id.now attributes body) }
+    ensures { IfOk result (λ r. r ≡ spec.response to.now.command to.now.id attributes body) }
 {
-    let command = Bytes::from_slice(alloc, command)?;
-    let id = Bytes::from_slice(alloc, id)?;
+    let command = to.command.try_clone()?;
+    let id = to.id.try_clone()?;
     Ok(Response {
         command,
         id,
@@ -49,23 +50,29 @@ fn response(
     })
 }
 
+/// The text of the packet of a response.
+pub fn text(alloc: Global, response: Response) -> Result<Bytes, Memory>
+    requires { Fits response }
+    ensures value { IfOk result (λ text. text ≡ spec.response_text response) }
+    ensures is_text { IfOk result IsPacketText }
+{
+    text_of(alloc, &Packet::Response(response))
+}
+
 /// A response that tells a status and its reason.
 pub fn status(
     alloc: Global,
-    command: &[u8],
-    id: &[u8],
+    to: &Addressee,
     status: &[u8],
     reason: &[u8],
 ) -> Result<Response, Memory>
-    requires command { length command.now ≤ 64 }
-    requires id { length id.now ≤ 64 }
     requires status { length status.now ≤ 16 }
     requires reason { length reason.now ≤ 16 }
-    ensures value { IfOk result (λ r. r ≡ spec.status_response command.now id.now status.now reason.now) }
+    ensures value { IfOk result (λ r. r ≡ spec.status_response to.now.command to.now.id status.now reason.now) }
     ensures fits { IfOk result Fits }
 {
     let attributes = pairs(alloc, (b"status", status), (b"reason", reason))?;
-    response(alloc, command, id, attributes, Body::Nothing)
+    response(alloc, to, attributes, Body::Nothing)
 }
 
 /// What tells a value, where there is one.
@@ -81,55 +88,37 @@ fn told(value: Option<Bytes>) -> Body
 /// A feature, whether it is supported, and its value where it has one.
 pub fn feature(
     alloc: Global,
-    command: &[u8],
-    id: &[u8],
+    to: &Addressee,
     feature: &[u8],
     supported: &[u8],
     value: Option<Bytes>,
 ) -> Result<Response, Memory>
-    requires command { length command.now ≤ 64 }
-    requires id { length id.now ≤ 64 }
     requires feature { length feature.now ≤ 1048576 }
     requires supported { length supported.now ≤ 16 }
     requires value { IfSome value (λ text. length text ≤ 64) }
     ensures value { IfOk result (λ r. r
-        ≡ spec.feature_response command.now id.now feature.now supported.now value) }
+        ≡ spec.feature_response to.now.command to.now.id feature.now supported.now value) }
     ensures fits { IfOk result Fits }
 {
     let attributes = pairs(alloc, (b"feature_name", feature), (b"supported", supported))?;
-    response(alloc, command, id, attributes, told(value))
+    response(alloc, to, attributes, told(value))
 }
 
 /// A feature that was set.
-pub fn feature_set(
-    alloc: Global,
-    command: &[u8],
-    id: &[u8],
-    feature: &[u8],
-) -> Result<Response, Memory>
-    requires command { length command.now ≤ 64 }
-    requires id { length id.now ≤ 64 }
+pub fn feature_set(alloc: Global, to: &Addressee, feature: &[u8]) -> Result<Response, Memory>
     requires feature { length feature.now ≤ 1048576 }
-    ensures value { IfOk result (λ r. r ≡ spec.set_response command.now id.now feature.now) }
+    ensures value { IfOk result (λ r. r ≡ spec.set_response to.now.command to.now.id feature.now) }
     ensures fits { IfOk result Fits }
 {
     let attributes = pairs(alloc, (b"feature", feature), (b"success", b"1"))?;
-    response(alloc, command, id, attributes, Body::Nothing)
+    response(alloc, to, attributes, Body::Nothing)
 }
 
 /// An error with this code.
-pub fn fault(alloc: Global, command: &[u8], id: &[u8], code: u16) -> Result<Response, Memory>
-    requires command { length command.now ≤ 64 }
-    requires id { length id.now ≤ 64 }
+pub fn fault(alloc: Global, to: &Addressee, code: u16) -> Result<Response, Memory>
     requires code { IsCode code }
-    ensures value { IfOk result (λ r. r ≡ spec.fault_response command.now id.now code) }
+    ensures value { IfOk result (λ r. r ≡ spec.fault_response to.now.command to.now.id code) }
     ensures fits { IfOk result Fits }
 {
-    response(
-        alloc,
-        command,
-        id,
-        Items::of(Vec::new(alloc)),
-        Body::Fault(code),
-    )
+    response(alloc, to, Items::of(Vec::new(alloc)), Body::Fault(code))
 }

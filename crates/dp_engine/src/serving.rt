@@ -3,7 +3,7 @@ ghost use Rattle.std.specs.Prelude.{◌≡◌, ◌≤◌, ℕ, List, None, Some}
 ghost use Rattle.std.specs.Io.KnownBytes.{Appends};
 ghost use Rattle.dp_outside.specs.Changes.{change};
 ghost use Rattle.dp_wire.specs.Frames.{IsPacketText};
-ghost use Rattle.dp_engine.specs.Closing.{CanRunOn, Closes, ClosesCut, RanOn};
+ghost use Rattle.dp_engine.specs.inner.Closing.{CanRunOn, Closes, ClosesCut, RanOn};
 ghost use Rattle.dp_engine.specs.Responses.{init_text};
 ghost use Rattle.dp_engine.specs.Serving.{Serves};
 ghost use Rattle.dp_engine.specs.Session.{opening};
@@ -118,7 +118,7 @@ fn close_cut<E: Sink>(
 /// command has killed it. It waits in the calls of the link alone.
 pub fn serve<S: Source, K: Sink, E: Sink>(
     alloc: Global,
-    mut session: Session<'_>,
+    session: Session<'_>,
     init: Bytes,
     source: &mut S,
     sink: &mut K,
@@ -136,7 +136,8 @@ pub fn serve<S: Source, K: Sink, E: Sink>(
     ensures sink_later { K.faults sink.old ≤ K.faults sink.new }
     ensures out_later { E.faults out.old ≤ E.faults out.new }
 {
-    match converse(alloc, &mut session, init.as_slice(), source, sink, out) {
+    let (over, session) = converse(alloc, session, init.as_slice(), source, sink, out);
+    match over {
         Ok(over) => close(alloc, session, over, out),
         Err(fault) => close_cut(alloc, session, fault, out),
     }

@@ -1,21 +1,21 @@
 //! One session of the engine with an IDE.
-ghost use Rattle.std.specs.Prelude.{◌≡◌, ◌≤◌, ◌∷◌, [], drop, length, IfOk, OnErr};
+ghost use Rattle.std.specs.Prelude.{◌≡◌, ◌≤◌, ◌∷◌, [], drop, length, IfOk};
 ghost use Rattle.std.specs.List.{AllByRecursion};
 ghost use Rattle.dp_wire.specs.Frames.{IsCommand, IsPacketText};
-ghost use Rattle.dp_engine.specs.Responses.{init_text, main_name, response_text};
-ghost use Rattle.dp_engine.specs.Sizes.{Fits, IsShortLine};
+ghost use Rattle.dp_engine.specs.Responses.{init_text, main_name};
+ghost use Rattle.dp_engine.specs.inner.Sizes.{IsShortLine};
 ghost use Rattle.dp_command.specs.declared.command.StreamMode.TheVariants.{Disable};
 ghost use Rattle.dp_command.specs.Lines.{line_of};
 
 use crate::arrivals::{Arrival, run_out};
 use crate::states::Standing;
 use crate::turns::{Step, Turn};
-use dp_bundle::Bundle;
 use dp_command::{Line, LineError, read_line};
 use dp_features::Features;
-use dp_packet::{Init, Packet, Response, file_uri, text_of};
+use dp_packet::{Init, Packet, file_uri, text_of};
 use dp_serving::Responder;
 use dp_state::{Outcome, State};
+use dp_tree::Bundle;
 use dp_value::{Bytes, Items, Memory};
 use std::alloc::Global;
 use std::marker::Model;
@@ -52,7 +52,7 @@ pub struct Session<'a> {
 
 impl<'a> Model for Session<'a> {
     ghost use Rattle.std.specs.Coded.{codes};
-    ghost use Rattle.dp_bundle.specs.contracts.bundle.Bundle as bundle_type;
+    ghost use Rattle.dp_tree.specs.contracts.bundle.Bundle as bundle_type;
     ghost use Rattle.dp_meaning.specs.contracts.writing.NumberedWrite as write_type;
     ghost use Rattle.dp_engine.specs.Session.{State as Known};
 
@@ -60,7 +60,7 @@ impl<'a> Model for Session<'a> {
 
     ghost coded = { Prim.hlevel (codes, bundle_type.the_row.coded, write_type.the_row.coded) };
 
-    ghost use Rattle.dp_engine.specs.Standing.{known, IsAt, IsDeep};
+    ghost use Rattle.dp_engine.specs.inner.Standing.{known, IsAt, IsDeep};
 
     ghost view = { λ s. known s.bundle.now s.bound s.moment s.standing s.features };
 
@@ -94,8 +94,10 @@ fn tail(bytes: &[u8], count: usize) -> &[u8]
 
 impl<'a> Session<'a> {
     ghost use Rattle.dp_engine.specs.Answers as spec;
+    ghost use Rattle.dp_engine.specs.Refusals.{refusal};
+    ghost use Rattle.dp_engine.specs.Refused.{IsAnsweredBy};
     ghost use Rattle.dp_engine.specs.Session.{opening, outcome_of, output_so_far, unwritten, written_between};
-    ghost use Rattle.dp_engine.specs.Turns.{after, given, Leads};
+    ghost use Rattle.dp_engine.specs.inner.Turns.{after, given, Leads};
     ghost use Rattle.dp_serving.specs.Folds.{reply_of};
 
     /// A session over a program that may have so many moments, in the state starting, and the text of its first packet.
@@ -127,12 +129,13 @@ impl<'a> Session<'a> {
         Ok((session, init))
     }
 
-    /// Answers one whole command, without its NUL. On want of memory nothing has changed.
+    /// Answers one whole command, without its NUL. After want of memory it has failed for good: nothing is said of it then.
     pub fn answer(&mut self, alloc: Global, line: &[u8]) -> Result<Answer, Memory>
         requires { IsCommand line.now }
         ensures ok { IfOk result (λ answer. reply_of answer self.new ≡ spec.answer self.old line.now) }
         ensures are_texts { IfOk result (λ answer. AllByRecursion IsPacketText answer.packets) }
-        ensures err { OnErr result (self.new ≡ self.old) }
+        ensures refused { IfOk result (λ answer.
+            IsAnsweredBy (refusal self.old line.now) self.old line.now (reply_of answer self.new)) }
     {
         let line = read(alloc, line)?;
         let turn = self.turn(alloc, line)?;
@@ -142,19 +145,14 @@ impl<'a> Session<'a> {
     /// Makes a turn, and answers what is sent of it.
     fn give(&mut self, alloc: Global, turn: Turn) -> Result<Answer, Memory>
         requires leads { Leads turn.step self.old }
-        requires fits { Fits turn.response }
+        requires is_text { IsPacketText turn.text }
         ensures ok { IfOk result (λ answer. reply_of answer self.new ≡ given turn self.old) }
         ensures are_texts { IfOk result (λ answer. AllByRecursion IsPacketText answer.packets) }
         ensures quiet { self.old.stdout ≡ Disable }
-        ensures err { OnErr result (self.new ≡ self.old) }
     {
-        let Turn {
-            response,
-            step,
-            ended,
-        } = turn;
+        let Turn { text, step, ended } = turn;
         let program = self.written(alloc, &step)?;
-        let packets = sent(alloc, response)?;
+        let packets = alone(alloc, text)?;
         self.take(step);
         Ok(Answer {
             packets,
@@ -186,38 +184,51 @@ impl<'a> Session<'a> {
         Bytes::from_slice(alloc, tail(self.output_after(step), before))
     }
 
-    /// Makes a step.
-    fn take(&mut self, step: Step)
-        requires { Leads step self.old }
-        ensures { self.new ≡ after step self.old }
+    /// Comes to where the program has come to.
+    fn come(&mut self, arrival: Arrival)
+        requires { Leads (Step.Come arrival) self.old }
+        ensures { self.new ≡ after (Step.Come arrival) self.old }
     {
-        match step {
-            Step::Stay => {}
-            Step::Set(features) => self.features = features,
-            Step::Come(
-                Arrival::Moment {
-                    number,
-                    depth,
-                    program,
-                },
-            ) => {
+        match arrival {
+            Arrival::Moment {
+                number,
+                depth,
+                program,
+            } => {
                 self.moment = number;
                 self.depth = depth;
                 self.standing = Standing::Break;
                 self.program = program;
             }
-            Step::Come(Arrival::End { outcome, program }) => {
+            Arrival::End { outcome, program } => {
                 self.standing = Standing::Stopping(outcome);
                 self.program = program;
             }
         }
     }
 
-    /// Runs the program on to its end, and answers the rest of its output and how it ended.
+    /// Makes a step.
+    fn take(&mut self, step: Step)
+        requires { Leads step self.old }
+        ensures { self.new ≡ after step self.old }
+    {
+        // Read through a reference: rattle's borrow checker cannot move features out of the enum.
+        if let Step::Set(features) = &step {
+            self.features = *features;
+        }
+        if let Step::Come(arrival) = step {
+            self.come(arrival);
+        }
+    }
+
+    /// Runs the program on to its end, if it has not ended, and answers the rest of its output and how it ended.
     pub fn finish(self, alloc: Global) -> Result<(Bytes, Outcome), Memory>
         ensures rest { IfOk result (λ rest. rest.0 ≡ unwritten self.entry) }
         ensures outcome { IfOk result (λ rest. rest.1 ≡ outcome_of self.entry) }
     {
+        if let Standing::Stopping(outcome) = self.standing {
+            return Ok((Bytes::of(Vec::new(alloc)), outcome));
+        }
         let before = self.program.output.len();
         match run_out(alloc, self.bundle, self.bound)? {
             Arrival::End { outcome, program } => {
@@ -229,13 +240,10 @@ impl<'a> Session<'a> {
     }
 }
 
-/// The texts of the packets that a response goes out in.
-fn sent(alloc: Global, response: Response) -> Result<Items<Bytes>, Memory>
-    requires { Fits response }
-    ensures value { IfOk result (λ texts. texts ≡ response_text response ∷ []) }
-    ensures are_texts { IfOk result (λ texts. AllByRecursion IsPacketText texts) }
+/// A text alone.
+fn alone(alloc: Global, text: Bytes) -> Result<Items<Bytes>, Memory>
+    ensures { IfOk result (λ texts. texts ≡ text ∷ []) }
 {
-    let text = text_of(alloc, &Packet::Response(response))?;
     let mut texts = Vec::new(alloc);
     texts.push(text)?;
     Ok(Items::of(texts))

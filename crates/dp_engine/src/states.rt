@@ -1,6 +1,6 @@
 //! The states of a session, their reasons, and which commands they allow.
 ghost use Rattle.std.specs.Prelude.{◌≡◌, ◌≤◌, length};
-ghost use Rattle.dp_engine.specs.Standing.{phase_of, reason_at};
+ghost use Rattle.dp_engine.specs.inner.Standing.{phase_of, reason_at};
 ghost use Rattle.dp_engine.specs.States as spec;
 
 use dp_command::CommandName;

@@ -8,21 +8,33 @@ use Rattle.dp_outside.specs.Streams.{AppendsFront}
 use Rattle.dp_wire.specs.Frames.{commands_in, packet_frame}
 use Rattle.dp_serving.specs.declared.conversing.Fault.{Fault}
 use Rattle.dp_serving.specs.declared.conversing.Fault.TheVariants.{Write, Out, Memory}
-use Rattle.dp_serving.specs.Exchanges.{Reached, CutsShort, OpenFault, Conversation}
-use Rattle.dp_serving.specs.Folds.{Reply, replies}
-use Rattle.dp_serving.specs.Serving.{CutBy, IsCut}
+use Rattle.dp_serving.specs.inner.Exchanges.{Reached, CutsAnswer, CutsShort, OpenFault, Conversation}
+use Rattle.dp_serving.specs.declared.responder.Answer.{Answer}
+use Rattle.dp_serving.specs.Folds.{Reply, replies, reply_of}
+use Rattle.dp_serving.specs.Serving.{CutBy, IsCut, IsLeftIn}
 use Rattle.dp_serving.proofs.FrontLaws.{front_none, front_after}
 use Rattle.dp_serving.proofs.ServingLaws.{Joins, replies_join, replies_one, stands_all, talk_fed}
 
 module _ {S E X Y : Type 0} (step : S → List ℕ → Reply S E) (told : X → Option (List ℕ)) (faults : X → ℕ) (prints : Y → Option (List ℕ)) (fails : Y → ℕ) where
+  -- the state after a fault is that of the reply to the commands taken
+  left_in : (fault : Fault E) (after state : S) → after ≡ state → IsLeftIn fault after state
+  left_in (Write ended) after state same = same
+  left_in Out after state same = same
+  left_in Memory after state same = tt
+
+  left_joined : (fault : Fault E) (all after state : S) → all ≡ after → IsLeftIn fault after state → IsLeftIn fault all state
+  left_joined (Write ended) all after state same is = same ∙ is
+  left_joined Out all after state same is = same ∙ is
+  left_joined Memory all after state same is = tt
+
   -- no command was taken
-  pub cut_before : (start now : S) (lines : List (List ℕ)) (x : X) (y : Y) → now ≡ start → CutsShort step start now lines Memory (change told faults x x) (change prints fails y y)
-  cut_before start now lines x y same = record {
+  pub cut_before : (start now : S) (lines : List (List ℕ)) (x : X) (y : Y) → CutsShort step start now lines Memory (change told faults x x) (change prints fails y y)
+  cut_before start now lines x y = record {
     taken = [];
     later = lines;
     first = refl;
     sent = front_none (told x) [];
-    is_state = sym same;
+    is_state = tt;
     by = front_none (prints y) [];
   }
 
@@ -36,9 +48,20 @@ module _ {S E X Y : Type 0} (step : S → List ℕ → Reply S E) (told : X → 
         later = [];
         first = refl;
         sent = subst (λ (r : Reply S E). AppendsFront sink.told_before sink.told (flat_map packet_frame r.packets)) one sent;
-        is_state = ap (λ (r : Reply S E). r.state) (sym one);
+        is_state = left_in fault _ _ (ap (λ (r : Reply S E). r.state) (sym one));
         by = subst (λ (r : Reply S E). CutBy fault r sink out) one by;
       }
+
+  -- what a fault leaves of an answer says nothing of the state
+  by_any : {A B : Type 0} (a : A) (b : B) (answer : Answer E) (fault : Fault E) (sink out : Change) → CutBy fault (reply_of answer a) sink out → CutBy fault (reply_of answer b) sink out
+  by_any a b answer (Write ended) sink out c = c
+  by_any a b answer Out sink out c = c
+  by_any a b answer Memory sink out c = c
+
+  -- the fault came while the answer to this command went out
+  pub cut_answer : (start state : S) (line : List ℕ) (answer : Answer E) (fault : Fault E) (sink out : Change) → reply_of answer state ≡ step start line
+      → CutsAnswer answer fault sink out → CutsShort step start state (line ∷ []) fault sink out
+  cut_answer start state line answer fault sink out is c = cut_within start line (reply_of answer state) fault sink out is c.sent (by_any {A = ℕ} 0 state answer fault sink out c.by)
 
   -- what a fault leaves of the reply to the last commands, it leaves of the whole
   by_joined : (fault : Fault E) (first next all : Reply S E) (x0 x1 x2 : X) (y0 y1 y2 : Y) → Joins first next all → faults x0 ≤ faults x1 → fails y0 ≤ fails y1
@@ -66,7 +89,7 @@ module _ {S E X Y : Type 0} (step : S → List ℕ → Reply S E) (told : X → 
         first = stands_all bytes held r.taken r.stands ∙ ap (λ l. r.taken ++ l) (comes ∙ ap (λ l. l ++ others) c.first ∙ append_assoc c.taken c.later others)
             ∙ sym (append_assoc r.taken c.taken (c.later ++ others));
         sent = subst (AppendsFront (told x0) (told x2)) (sym joins.packets) (front_after (told x0) (told x1) (told x2) _ _ r.delivers.sent c.sent);
-        is_state = joins.state ∙ c.is_state;
+        is_state = left_joined fault _ _ now joins.state c.is_state;
         by = by_joined fault (replies step start r.taken) (replies step state c.taken) (replies step start (r.taken ++ c.taken)) x0 x1 x2 y0 y1 y2 joins x_later y_later r.delivers.printed c.by;
       }
 
@@ -87,7 +110,7 @@ module _ {S E X Y : Type 0} (step : S → List ℕ → Reply S E) (told : X → 
         later = c.later;
         first = stands_all read held talk.taken talk.stands ∙ ap (λ l. talk.taken ++ l) c.first ∙ sym (append_assoc talk.taken c.taken c.later);
         sent = subst (AppendsFront (told x0) (told x2)) (sym packets) (front_after (told x0) (told x1) (told x2) _ _ talk.sent c.sent);
-        is_state = joins.state ∙ c.is_state;
+        is_state = left_joined fault _ _ now joins.state c.is_state;
         by = by_joined fault (replies step start talk.taken) (replies step state c.taken) (replies step start (talk.taken ++ c.taken)) x0 x1 x2 y0 y1 y2 joins x_later y_later talk.printed c.by;
       }
 
@@ -102,7 +125,7 @@ module _ {S E X Y : Type 0} (step : S → List ℕ → Reply S E) (told : X → 
       later = [];
       first = refl;
       sent = subst (AppendsFront (told x0) (told x1)) (sym (append-nil (packet_frame init))) front;
-      is_state = refl;
+      is_state = left_in fault start start refl;
       by = by fault why;
     } where
       by : (fault : Fault E) → OpenFault fault (change told faults x0 x1) → CutBy fault (replies step start []) (change told faults x0 x1) (change prints fails y y)
@@ -118,7 +141,7 @@ module _ {S E X Y : Type 0} (step : S → List ℕ → Reply S E) (told : X → 
     cut_reading start state init read held piece w0 w1 w2 x0 x1 y0 y1 talk goes_on came x_later y_later =
         let fed = talk_fed step left breaks told faults prints fails start state init read held piece (held ++ piece) w0 w1 w2 (change told faults x0 x1) (change prints fails y0 y1) talk came refl in
         talk_cut start state state init (read ++ piece) (held ++ piece) Memory (change left breaks w0 w2) x0 x1 x1 y0 y1 y1 fed.0 (ap (λ (l : List (List ℕ)). (replies step start l).ended) fed.1 ∙ goes_on) x_later y_later
-        (cut_before state state (commands_in (held ++ piece)) x1 y1 refl)
+        (cut_before state state (commands_in (held ++ piece)) x1 y1)
 
     -- a piece was read, and a fault came while the commands then held were answered
     pub cut_answering : (start state now : S) (init read held fed piece : List ℕ) (fault : Fault E) (w0 w1 w2 : W) (x0 x1 x2 : X) (y0 y1 y2 : Y)

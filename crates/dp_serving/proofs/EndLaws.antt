@@ -1,5 +1,5 @@
 -- The end of a session over a link: what it has led to is what all bytes read lead to.
-use Rattle.std.proofs.Common.{◌≡◌, ◌⊎◌, ℕ, ◌+◌, List, [], ◌∷◌, ◌++◌, length, Option, None, Some, refl, sym, ap, ◌∙◌, subst, inl, inr, append_assoc, append-nil}
+use Rattle.std.proofs.Common.{◌≡◌, ◌⊎◌, ℕ, ◌+◌, ◌≤◌, List, [], ◌∷◌, ◌++◌, length, Option, None, Some, refl, sym, ap, ◌∙◌, subst, inl, inr, append_assoc, append-nil}
 use Rattle.std.specs.List.{flat_map}
 use Rattle.std.specs.Io.KnownBytes.{Appends}
 use Rattle.dp_outside.specs.Changes.{Change}
@@ -7,10 +7,10 @@ use Rattle.dp_wire.specs.Frames.{IsCommand, command_frame, commands_in, rest_of,
 use Rattle.dp_wire.proofs.SplitLaws.{no_frame_begins, one_split_lem, commands_split}
 use Rattle.dp_serving.specs.declared.conversing.Over.{Over}
 use Rattle.dp_serving.specs.declared.conversing.Over.TheVariants.{Ended, LinkEnd, ReadFault, BadCommandFrame, ByteLimit}
-use Rattle.dp_serving.specs.Exchanges.{Stands, Converses}
+use Rattle.dp_serving.specs.inner.Exchanges.{Stands, Converses}
 use Rattle.dp_serving.specs.Folds.{Reply, replies}
 use Rattle.dp_serving.specs.Growth.{served}
-use Rattle.dp_serving.specs.Serving.{EndsBy, IsServed}
+use Rattle.dp_serving.specs.Serving.{EndsBy, IsReadUpTo, IsServed, piece_limit}
 use Rattle.dp_serving.proofs.ServingLaws.{followed_over, replies_append, stands_all}
 
 abbrev NoMore : List ℕ → Type 0
@@ -88,9 +88,21 @@ is_served {S} {E} step start state init over source sink out c =
     over_cases step start c.read c.held talk.taken talk.stands (no_more over (replies step start talk.taken).ended c.held c.read source c.ends) in
     record {
       read = c.read;
+      up_to = c.up_to;
       consumed = talk.consumed;
       sent = subst (λ (r : Reply S E). Appends sink.told_before sink.told (packet_frame init ++ flat_map packet_frame r.packets)) (sym all) talk.sent;
       printed = subst (λ (r : Reply S E). Appends out.told_before out.told r.program) (sym all) talk.printed;
       is_state = ap (λ (r : Reply S E). r.state) all ∙ talk.is_state;
       ends = ends_over_all step start c.read c.held talk.taken talk.stands over source (served step start c.read).ended (ap (λ (r : Reply S E). r.ended) (sym all)) c.ends;
     }
+
+-- a conversation whose commands have not ended the session, and of which part of a command is held, goes on
+pub goes_on_still : {S E : Type 0} (step : S → List ℕ → Reply S E) (start : S) (read held : List ℕ) (taken : List (List ℕ)) → Stands read held taken
+    → (replies step start taken).ended ≡ None → IsPartialCommand held → (served step start read).ended ≡ None
+goes_on_still {S} {E} step start read held taken stands goes_on partial =
+    ap (λ (r : Reply S E). r.ended) (over_left step start read held taken stands (no_more_partial held partial)) ∙ goes_on
+
+-- what was read ends with this piece, before which the session went on
+pub read_up_to : {S E : Type 0} (step : S → List ℕ → Reply S E) (start : S) (front piece read : List ℕ) → read ≡ front ++ piece → length piece ≤ piece_limit
+    → (served step start front).ended ≡ None → IsReadUpTo step start read
+read_up_to step start front piece read whole short goes_on = record { front = front; piece = piece; whole = whole; short = short; goes_on = goes_on }

@@ -3,3 +3,4 @@ pub mod ServingLaws
 pub mod CutLaws
 pub mod EndLaws
 pub mod GrowthLaws
+pub mod FeedingLaws

@@ -1,13 +1,16 @@
 -- What a session over a link has come to, one command and one piece at a time.
-use Rattle.std.proofs.Common.{◌≡◌, ◌+◌, ℕ, List, [], ◌∷◌, ◌++◌, Option, None, Some, take, drop, refl, sym, ap, ◌∙◌, subst, append_assoc, append-nil}
+use Rattle.std.proofs.Common.{◌≡◌, ℕ, List, [], ◌∷◌, ◌++◌, Option, None, Some, refl, sym, ap, ◌∙◌, subst, append_assoc, append-nil}
 use Rattle.std.specs.List.{flat_map, AllByRecursion}
 use Rattle.std.specs.Io.KnownBytes.{Appends, Consumes, Keeps}
 use Rattle.std.proofs.KnownBytes.{Appends-nil, Appends-trans, Consumes-nil, Consumes-trans, Consumes-kept}
 use Rattle.std.proofs.lemmas.List.Concat.{flat_map-append}
 use Rattle.dp_outside.specs.Changes.{Change, change}
 use Rattle.dp_wire.specs.Frames.{IsCommand, command_frame, commands_in, packet_frame, BeginsCommand}
-use Rattle.dp_serving.specs.Exchanges.{Stands, Delivers, Reached, Conversation}
-use Rattle.dp_serving.specs.Folds.{Reply, quiet, unless_ended, followed, replies}
+use Rattle.dp_wire.proofs.FrameLaws.{commands-text}
+use Rattle.dp_wire.proofs.SplitLaws.{framed}
+use Rattle.dp_serving.specs.inner.Exchanges.{Stands, Delivers, DeliversAnswer, Reached, Conversation}
+use Rattle.dp_serving.specs.declared.responder.Answer.{Answer}
+use Rattle.dp_serving.specs.Folds.{Reply, quiet, unless_ended, followed, replies, reply_of}
 
 -- ---- replies
 
@@ -101,6 +104,11 @@ stands_joined read held rest taken more s t = record {
   each_joined [] others p q = q
   each_joined (line ∷ lines) others p q = (p.0, each_joined lines others p.1 q)
 
+-- one command, told by what it leaves
+pub stands_first_of : (held line rest : List ℕ) → BeginsCommand held line rest → Stands held rest (line ∷ [])
+stands_first_of held line rest b = stands_one held line rest b (λ more.
+    ap commands_in (ap (λ l. l ++ more) (b.whole ∙ framed line rest) ∙ append_assoc line (0 ∷ rest) more) ∙ commands-text line (rest ++ more) b.is_text.no_nul b.is_text.fits)
+
 -- a piece more was read
 pub stands_fed : (read held piece : List ℕ) (taken : List (List ℕ)) → Stands read held taken → Stands (read ++ piece) (held ++ piece) taken
 stands_fed read held piece taken s = record {
@@ -114,22 +122,9 @@ pub stands_all : (read held : List ℕ) (taken : List (List ℕ)) → Stands rea
 stands_all read held taken s =
     ap commands_in (sym (append-nil read)) ∙ s.first [] ∙ ap (λ l. taken ++ commands_in l) (append-nil held)
 
--- the command at the front of what is held, and what is held once it was dropped
-pub front_dropped : (end : ℕ) (held bytes now : List ℕ) → bytes ≡ held → BeginsCommand held (take end held) (drop (end + 1) held)
-    → ((more : List ℕ) → commands_in (held ++ more) ≡ take end held ∷ commands_in (drop (end + 1) held ++ more))
-    → ((line rest : List ℕ) → BeginsCommand held line rest → now ≡ rest)
-    → Stands held now (take end bytes ∷ [])
-front_dropped end held bytes now same begins first dropped =
-    let left : now ≡ drop (end + 1) held = dropped _ _ begins in
-    subst (λ (l : List ℕ). Stands held l (take end bytes ∷ [])) (sym left)
-    (subst (λ (l : List ℕ). Stands held (drop (end + 1) held) (take end l ∷ [])) (sym same) (stands_one held (take end held) (drop (end + 1) held) begins first))
-
 -- the command at the front is the first of those that are held
-pub front_comes : (end : ℕ) (held bytes : List ℕ) → bytes ≡ held
-    → ((more : List ℕ) → commands_in (held ++ more) ≡ take end held ∷ commands_in (drop (end + 1) held ++ more))
-    → commands_in held ≡ take end bytes ∷ commands_in (drop (end + 1) held)
-front_comes end held bytes same first =
-    ap commands_in (sym (append-nil held)) ∙ first [] ∙ (λ i. take end (sym same i) ∷ commands_in (append-nil (drop (end + 1) held) i))
+pub front_comes : (held line rest : List ℕ) → BeginsCommand held line rest → commands_in held ≡ line ∷ commands_in rest
+front_comes held line rest b = stands_all held rest (line ∷ []) (stands_first_of held line rest b)
 
 -- ---- answering what is held
 
@@ -141,6 +136,13 @@ module _ {S E X Y : Type 0} (step : S → List ℕ → Reply S E) (told : X → 
   delivers_joined first next all x0 x1 x2 y0 y1 y2 joins p q = record {
     sent = subst (Appends (told x0) (told x2)) (sym joins.packets) (Appends-trans (told x0) (told x1) (told x2) _ _ p.sent q.sent);
     printed = subst (Appends (prints y0) (prints y2)) (sym joins.program) (Appends-trans (prints y0) (prints y1) (prints y2) _ _ p.printed q.printed);
+  }
+
+  -- an answer that was delivered is the reply that it is
+  pub delivers_reply : (answer : Answer E) (state : S) (r : Reply S E) (sink out : Change) → reply_of answer state ≡ r → DeliversAnswer answer sink out → Delivers r sink out
+  delivers_reply answer state r sink out is d = record {
+    sent = subst (λ (a : Reply S E). Appends sink.told_before sink.told (flat_map packet_frame a.packets)) is d.sent;
+    printed = subst (λ (a : Reply S E). Appends out.told_before out.told a.program) is d.printed;
   }
 
   pub reached_first : (start : S) (held : List ℕ) (x : X) (y : Y) → (r : Reached step start start held held (change told faults x x) (change prints fails y y)) × ((replies step start r.taken).ended ≡ None)
@@ -172,7 +174,36 @@ module _ {S E X Y : Type 0} (step : S → List ℕ → Reply S E) (told : X → 
         joins.ended ∙ ap (λ (a : Reply S E). a.ended) one,
       )
 
+  -- nothing was answered
+  pub reached_kept : (start state now : S) (bytes held rest : List ℕ) (sink out : Change) → (r : Reached step start state bytes held sink out) → now ≡ state → rest ≡ held
+      → (kept : Reached step start now bytes rest sink out) × (kept.taken ≡ r.taken)
+  reached_kept start state now bytes held rest sink out r is_now is_rest = (
+    record {
+      taken = r.taken;
+      stands = subst (λ (l : List ℕ). Stands bytes l r.taken) (sym is_rest) r.stands;
+      delivers = r.delivers;
+      is_state = r.is_state ∙ sym is_now;
+    },
+    refl,
+  )
+
 -- ---- over the link
+
+-- a session that is as it was
+pub talk_same : {S E : Type 0} (step : S → List ℕ → Reply S E) (start state now : S) (init read held : List ℕ) (source sink out : Change) → now ≡ state
+    → (talk : Conversation step start state init read held source sink out) → (replies step start talk.taken).ended ≡ None
+    → (same : Conversation step start now init read held source sink out) × ((replies step start same.taken).ended ≡ None)
+talk_same step start state now init read held source sink out is_now talk goes_on = (
+  record {
+    taken = talk.taken;
+    consumed = talk.consumed;
+    stands = talk.stands;
+    sent = talk.sent;
+    printed = talk.printed;
+    is_state = talk.is_state ∙ sym is_now;
+  },
+  goes_on,
+)
 
 module _ {S E W X Y : Type 0} (step : S → List ℕ → Reply S E) (left : W → Option (List ℕ)) (breaks : W → ℕ) (told : X → Option (List ℕ)) (faults : X → ℕ) (prints : Y → Option (List ℕ)) (fails : Y → ℕ) where
   -- the first packet was sent, and nothing was read

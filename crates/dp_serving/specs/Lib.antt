@@ -1,4 +1,5 @@
 pub mod Folds
 pub mod Growth
+pub mod Feeding
 pub mod Serving
-pub mod Exchanges
+pub mod inner

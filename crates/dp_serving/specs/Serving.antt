@@ -1,5 +1,5 @@
 -- A session that was served over a link, by how it ended.
-use Rattle.std.specs.Prelude.{◌≡◌, ℕ, ◌+◌, List, ◌++◌, length, Option, None, Some}
+use Rattle.std.specs.Prelude.{◌≡◌, ℕ, ◌+◌, ◌≤◌, List, ◌++◌, length, Option, None, Some}
 use Rattle.std.specs.List.{flat_map}
 use Rattle.std.specs.Io.KnownBytes.{Appends, Consumes, IsAtEnd}
 use Rattle.dp_outside.specs.Causes.{Rose}
@@ -26,10 +26,24 @@ EndsBy ReadFault ended rest read source = (ended ≡ None) × IsPartialCommand r
 EndsBy (BadCommandFrame offset) ended rest read source = (ended ≡ None) × BeginsNoCommand rest × (offset + length rest ≡ length read)
 EndsBy ByteLimit ended rest read source = (ended ≡ None) × IsPartialCommand rest × (length read ≡ byte_limit)
 
+-- the most bytes that are read at once
+abbrev pub piece_limit : ℕ
+piece_limit = 8192
+
+-- What was read ends with one piece, before which no command had ended the session: behind a command that ends it nothing
+-- more is read.
+pub record IsReadUpTo {S E : Type 0} (step : S → List ℕ → Reply S E) (start : S) (read : List ℕ) : Type 0 where
+  pub front : List ℕ
+  pub piece : List ℕ
+  pub whole : read ≡ front ++ piece
+  pub short : length piece ≤ piece_limit
+  pub goes_on : (served step start front).ended ≡ None
+
 -- Read from the source, written on the link and to the program's own output is what the first packet and the commands
 -- among the bytes read lead to.
 pub record IsServed {S E : Type 0} (step : S → List ℕ → Reply S E) (start state : S) (init : List ℕ) (over : Over E) (source sink out : Change) : Type 0 where
   pub read : List ℕ
+  pub up_to : IsReadUpTo step start read
   pub consumed : Consumes source.told_before source.told read
   pub sent : Appends sink.told_before sink.told (packet_frame init ++ flat_map packet_frame (served step start read).packets)
   pub printed : Appends out.told_before out.told (served step start read).program
@@ -43,6 +57,12 @@ CutBy (Write ended) reply sink out = Rose sink.faults_before sink.faults × (end
 CutBy Out reply sink out = Rose out.faults_before out.faults × AppendsFront out.told_before out.told reply.program
 CutBy Memory reply sink out = AppendsFront out.told_before out.told reply.program
 
+-- the state that a session is in after a fault; after want of memory it has failed for good, and nothing is known of it
+abbrev pub IsLeftIn : {S E : Type 0} → Fault E → S → S → Type 0
+IsLeftIn (Write ended) after state = after ≡ state
+IsLeftIn Out after state = after ≡ state
+IsLeftIn Memory after state = Unit {0}
+
 -- A fault cut the session short. Of the commands among the bytes read it has taken the first ones. The link has taken a
 -- front of what these lead to, the first packet included.
 pub record IsCut {S E : Type 0} (step : S → List ℕ → Reply S E) (start state : S) (init : List ℕ) (fault : Fault E) (source sink out : Change) : Type 0 where
@@ -52,5 +72,5 @@ pub record IsCut {S E : Type 0} (step : S → List ℕ → Reply S E) (start sta
   pub later : List (List ℕ)
   pub first : commands_in read ≡ taken ++ later
   pub sent : AppendsFront sink.told_before sink.told (packet_frame init ++ flat_map packet_frame (replies step start taken).packets)
-  pub is_state : (replies step start taken).state ≡ state
+  pub is_state : IsLeftIn fault (replies step start taken).state state
   pub by : CutBy fault (replies step start taken) sink out

@@ -1,17 +1,18 @@
 //! A session over a link, from its first packet to its end.
-ghost use Rattle.std.specs.Prelude.{◌≡◌, ◌<◌, ◌≤◌, [], ◌∷◌, ℕ, List, length, OnOk, OnErr, IfOk, IfErr, IsErrOf};
+ghost use Rattle.std.specs.Prelude.{◌≡◌, ◌<◌, ◌≤◌, [], ℕ, List, length, OnOk, OnErr, IfOk, IfErr, IsErrOf};
 ghost use Rattle.dp_outside.specs.Changes.{change};
 ghost use Rattle.dp_outside.specs.Streams.{PutAppends};
 ghost use Rattle.std.specs.Io.KnownBytes.{Consumes};
-ghost use Rattle.dp_wire.specs.Frames.{IsCommand, IsPacketText, commands_in, packet_frame};
-ghost use Rattle.dp_serving.specs.Exchanges.{Delivers, AnswersHeld, CutsShort, OpenFault, ReadsPiece};
+ghost use Rattle.std.specs.List.{AllByRecursion};
+ghost use Rattle.dp_wire.specs.Frames.{IsPacketText, commands_in, packet_frame};
+ghost use Rattle.dp_serving.specs.inner.Exchanges.{AnswersHeld, CutsAnswer, CutsShort, DeliversAnswer, OpenFault, ReadsPiece};
 ghost use Rattle.dp_serving.specs.Serving.{IsServed, IsCut};
 
+use crate::conversation::{Conversation, Next};
 use crate::responder::{Answer, Responder};
 use crate::sending::{Unsent, put_some, send, send_all};
 use dp_outside::{Sink, Source};
 use dp_value::Memory;
-use dp_wire::Commands;
 use std::alloc::{AllocError, Global};
 
 /// The most bytes that one session reads.
@@ -79,21 +80,18 @@ enum Piece {
     Failed,
 }
 
-/// Answers one command: prints what the program wrote, then sends the packets. On want of memory it may have been answered
-/// or not.
-fn answer_one<A: Responder, K: Sink, E: Sink>(
+/// Delivers an answer: prints what the program wrote, then sends the packets.
+fn deliver<T: Drop, K: Sink, E: Sink>(
     alloc: Global,
-    session: &mut A,
-    line: &[u8],
+    answer: Answer<T>,
     sink: &mut K,
     out: &mut E,
-) -> Result<Option<A::End>, Fault<A::End>>
-    requires { IsCommand line.now }
-    ensures state { OnOk result (session.new ≡ (A.step session.old line.now).state) }
-    ensures ended { IfOk result (λ ended. ended ≡ (A.step session.old line.now).ended) }
-    ensures delivers { OnOk result (Delivers (A.step session.old line.now)
+) -> Result<Option<T>, Fault<T>>
+    requires { AllByRecursion IsPacketText answer.packets }
+    ensures ended { IfOk result (λ ended. ended ≡ answer.ended) }
+    ensures delivers { OnOk result (DeliversAnswer answer
         (change K.taken K.faults sink.old sink.new) (change E.taken E.faults out.old out.new)) }
-    ensures cut { IfErr result (λ fault. CutsShort A.step session.old session.new (line.now ∷ []) fault
+    ensures cut { IfErr result (λ fault. CutsAnswer answer fault
         (change K.taken K.faults sink.old sink.new) (change E.taken E.faults out.old out.new)) }
     ensures sink_later { K.faults sink.old ≤ K.faults sink.new }
     ensures out_later { E.faults out.old ≤ E.faults out.new }
@@ -102,7 +100,7 @@ fn answer_one<A: Responder, K: Sink, E: Sink>(
         packets,
         program,
         ended,
-    } = session.answer(alloc, line)?;
+    } = answer;
     if put_some(out, program.as_slice()).is_err() {
         return Err(Fault::Out);
     }
@@ -116,41 +114,41 @@ fn answer_one<A: Responder, K: Sink, E: Sink>(
 /// Answers each whole command that is held, up to one that ends the session.
 fn answer_held<A: Responder, K: Sink, E: Sink>(
     alloc: Global,
-    session: &mut A,
-    commands: &mut Commands,
+    talk: &mut Conversation<A>,
     sink: &mut K,
     out: &mut E,
 ) -> Result<Held<A::End>, Fault<A::End>>
-    ensures ok { IfOk result (λ held. AnswersHeld A.step session.old session.new commands.old commands.new held
+    ensures ok { IfOk result (λ held. AnswersHeld A.step talk.old.session talk.new.session
+        talk.old.held.held talk.new.held.held held
         (change K.taken K.faults sink.old sink.new) (change E.taken E.faults out.old out.new)) }
-    ensures cut { IfErr result (λ fault. CutsShort A.step session.old session.new (commands_in commands.old) fault
+    ensures cut { IfErr result (λ fault. CutsShort A.step talk.old.session talk.new.session
+        (commands_in talk.old.held.held) fault
         (change K.taken K.faults sink.old sink.new) (change E.taken E.faults out.old out.new)) }
     ensures sink_later { K.faults sink.old ≤ K.faults sink.new }
     ensures out_later { E.faults out.old ≤ E.faults out.new }
 {
     'commands: loop {
-        let range = match commands.next() {
-            Ok(Some(range)) => range,
-            Ok(None) => return Ok(Held::Partial),
-            Err(_) => return Ok(Held::TooLong),
+        let answer = match talk.next(alloc)? {
+            Next::Answered(answer) => answer,
+            Next::Partial => return Ok(Held::Partial),
+            Next::TooLong => return Ok(Held::TooLong),
         };
-        let ended = answer_one(alloc, session, &commands.bytes()[..range.end], sink, out)?;
-        commands.drop_front();
-        if let Some(end) = ended {
+        if let Some(end) = deliver(alloc, answer, sink, out)? {
             return Ok(Held::Ended(end));
         }
     }
 }
 
 /// Reads one piece, which follows what is held. On want of memory it was read and is not held.
-fn read_piece<S: Source>(
+fn read_piece<A: Responder, S: Source>(
     source: &mut S,
-    commands: &mut Commands,
+    talk: &mut Conversation<A>,
     buffer: &mut [u8],
 ) -> Result<Piece, Memory>
     requires { 0 < length buffer.old }
+    ensures session { talk.new.session ≡ talk.old.session }
     ensures ok { IfOk result (λ piece. ReadsPiece piece (length buffer.old)
-        (change S.left S.faults source.old source.new) commands.old commands.new) }
+        (change S.left S.faults source.old source.new) talk.old.held.held talk.new.held.held) }
     ensures err { OnErr result ((piece : List ℕ) × Consumes (S.left source.old) (S.left source.new) piece) }
     ensures later { S.faults source.old ≤ S.faults source.new }
 {
@@ -158,7 +156,7 @@ fn read_piece<S: Source>(
         Err(_) => Ok(Piece::Failed),
         Ok(0) => Ok(Piece::End),
         Ok(count) => {
-            commands.feed(&buffer[..count])?;
+            talk.feed(&buffer[..count])?;
             Ok(Piece::Came(count))
         }
     }
@@ -178,21 +176,21 @@ fn open<T: Drop, K: Sink>(alloc: Global, init: &[u8], sink: &mut K) -> Result<()
     }
 }
 
-/// Sends the first packet of a session and answers each command that comes, until the session is over or a fault of a
-/// sink cuts it short. It waits in the calls of the link alone.
-pub fn converse<A: Responder, S: Source, K: Sink, E: Sink>(
+/// Sends the first packet of a session that was fed nothing, and answers each command that comes.
+fn exchange<A: Responder, S: Source, K: Sink, E: Sink>(
     alloc: Global,
-    session: &mut A,
+    talk: &mut Conversation<A>,
     init: &[u8],
     source: &mut S,
     sink: &mut K,
     out: &mut E,
 ) -> Result<Over<A::End>, Fault<A::End>>
-    requires { IsPacketText init.now }
-    ensures ok { IfOk result (λ over. IsServed A.step session.old session.new init.now over
+    requires text { IsPacketText init.now }
+    requires fed { talk.old.held.held ≡ [] }
+    ensures ok { IfOk result (λ over. IsServed A.step talk.old.session talk.new.session init.now over
         (change S.left S.faults source.old source.new) (change K.taken K.faults sink.old sink.new)
         (change E.taken E.faults out.old out.new)) }
-    ensures cut { IfErr result (λ fault. IsCut A.step session.old session.new init.now fault
+    ensures cut { IfErr result (λ fault. IsCut A.step talk.old.session talk.new.session init.now fault
         (change S.left S.faults source.old source.new) (change K.taken K.faults sink.old sink.new)
         (change E.taken E.faults out.old out.new)) }
     ensures source_later { S.faults source.old ≤ S.faults source.new }
@@ -200,25 +198,52 @@ pub fn converse<A: Responder, S: Source, K: Sink, E: Sink>(
     ensures out_later { E.faults out.old ≤ E.faults out.new }
 {
     open(alloc, init, sink)?;
-    let mut commands = Commands::new(alloc);
     let mut buffer = [0; PIECE];
     let mut count = 0;
     'pieces: while count < BYTE_LIMIT {
         let room = PIECE.min(BYTE_LIMIT - count);
-        let more = match read_piece(source, &mut commands, &mut buffer[..room])? {
+        let more = match read_piece(source, talk, &mut buffer[..room])? {
             Piece::Failed => return Ok(Over::ReadFault),
             Piece::End => return Ok(Over::LinkEnd),
             Piece::Came(more) => more,
         };
         count += more;
-        match answer_held(alloc, session, &mut commands, sink, out)? {
+        match answer_held(alloc, talk, sink, out)? {
             Held::Ended(end) => return Ok(Over::Ended(end)),
             Held::TooLong => {
-                let offset = (count - commands.bytes().len()) as u64;
+                let offset = (count - talk.held.bytes().len()) as u64;
                 return Ok(Over::BadCommandFrame { offset });
             }
             Held::Partial => {}
         }
     }
     Ok(Over::ByteLimit)
+}
+
+/// Sends the first packet of a session and answers each command that comes, until the session is over or a fault of a
+/// sink cuts it short. It waits in the calls of the link alone. The session is handed back with how it ended; nothing is
+/// read behind the piece in which a command ended it, and after want of memory it has failed for good.
+pub fn converse<A: Responder + Drop, S: Source, K: Sink, E: Sink>(
+    alloc: Global,
+    session: A,
+    init: &[u8],
+    source: &mut S,
+    sink: &mut K,
+    out: &mut E,
+) -> (Result<Over<A::End>, Fault<A::End>>, A)
+    requires { IsPacketText init.now }
+    ensures ok { IfOk result.0 (λ over. IsServed A.step session result.1 init.now over
+        (change S.left S.faults source.old source.new) (change K.taken K.faults sink.old sink.new)
+        (change E.taken E.faults out.old out.new)) }
+    ensures cut { IfErr result.0 (λ fault. IsCut A.step session result.1 init.now fault
+        (change S.left S.faults source.old source.new) (change K.taken K.faults sink.old sink.new)
+        (change E.taken E.faults out.old out.new)) }
+    ensures source_later { S.faults source.old ≤ S.faults source.new }
+    ensures sink_later { K.faults sink.old ≤ K.faults sink.new }
+    ensures out_later { E.faults out.old ≤ E.faults out.new }
+{
+    let mut talk = Conversation::begin(alloc, session);
+    let over = exchange(alloc, &mut talk, init, source, sink, out);
+    let Conversation { session, held: _ } = talk;
+    (over, session)
 }

@@ -2,13 +2,15 @@
 //! are sent. What a command means is left to whoever answers.
 #![tactic(auto)]
 
+mod conversation;
 mod conversing;
 mod laws;
 mod responder;
 mod sending;
 
+pub use conversation::{Conversation, Next};
 pub use conversing::{Fault, Over, converse};
 pub use dp_value::Memory;
-pub use laws::one_session_grows;
+pub use laws::{feeding_goes_on, one_session_grows};
 pub use responder::{Answer, Responder};
 pub use sending::put_some;

@@ -1,5 +1,5 @@
 //! What answers commands.
-ghost use Rattle.std.specs.Prelude.{◌≡◌, IfOk, List, OnErr, ℕ};
+ghost use Rattle.std.specs.Prelude.{◌≡◌, IfOk, List, ℕ};
 ghost use Rattle.std.specs.List.{AllByRecursion};
 ghost use Rattle.dp_wire.specs.Frames.{IsCommand, IsPacketText};
 ghost use Rattle.dp_serving.specs.Folds.{Reply, reply_of};
@@ -26,10 +26,9 @@ pub trait Responder {
     /// What a command leads to.
     ghost step: { Self → List ℕ → Reply Self Self.End };
 
-    /// Answers one command, without its NUL. On want of memory nothing has changed.
+    /// Answers one command, without its NUL. After want of memory it has failed for good: nothing is said of it then.
     fn answer(&mut self, alloc: Global, line: &[u8]) -> Result<Answer<Self::End>, Memory>
         requires { IsCommand line.now }
         ensures ok { IfOk result (λ answer. reply_of answer self.new ≡ step self.old line.now) }
-        ensures are_texts { IfOk result (λ answer. AllByRecursion IsPacketText answer.packets) }
-        ensures err { OnErr result (self.new ≡ self.old) };
+        ensures are_texts { IfOk result (λ answer. AllByRecursion IsPacketText answer.packets) };
 }

@@ -5,6 +5,6 @@ use Rattle.dp_engine.proofs.responses.fault.Goals as goal
 
 pub returns-clause-fits : goal.returns-clause-fits
 returns-clause-fits c =
-    let command = c.args.command.now in
-    let id = c.args.id.now in
-    made_fits command id c.of.result [] (Fault c.args.code) c.response.result c.response.ensures (c.of.ensures ∙ c.new.ensures.items) (fault_fits command id c.requires.command c.requires.id c.args.code c.requires.code)
+    let command = c.args.to.now.command in
+    let id = c.args.to.now.id in
+    made_fits command id c.of.result [] (Fault c.args.code) c.response.result c.response.ensures (c.of.ensures ∙ c.new.ensures.items) (fault_fits command id c.args.to.now.command_bound c.args.to.now.id_bound c.args.code c.requires.code)

@@ -8,9 +8,9 @@ use Rattle.dp_engine.proofs.responses.feature.Goals as goal
 
 pub returns-clause-fits : goal.returns-clause-fits
 returns-clause-fits c =
-    let command = c.args.command.now in
-    let id = c.args.id.now in
+    let command = c.args.to.now.command in
+    let id = c.args.to.now.id in
     made_fits command id c.in_ok-attributes.attributes ((codes "feature_name", c.args.feature.now) ∷ (codes "supported", c.args.supported.now) ∷ []) (value_body c.args.value)
     c.response.result (subst (λ (what : Body). IfOk c.response.result (λ (r : Response). r ≡ response command id c.in_ok-attributes.attributes what)) c.told.ensures c.response.ensures)
     c.in_ok-attributes.ensures
-    (feature_fits_if command id c.requires.command c.requires.id c.args.feature.now c.args.supported.now c.args.value c.requires.feature c.requires.supported c.requires.value)
+    (feature_fits_if command id c.args.to.now.command_bound c.args.to.now.id_bound c.args.feature.now c.args.supported.now c.args.value c.requires.feature c.requires.supported c.requires.value)

@@ -1,6 +1,6 @@
 use Rattle.std.proofs.Common.{ap, ◌∙◌}
-use Rattle.dp_engine.specs.Responses.{status_response}
-use Rattle.dp_engine.specs.Standing.{phase_of, reason_at, standing_in}
+use Rattle.dp_engine.specs.Responses.{response_text, status_response}
+use Rattle.dp_engine.specs.inner.Standing.{phase_of, reason_at, standing_in}
 use Rattle.dp_engine.specs.States.{phase_name, reason_name}
 use Rattle.dp_engine.proofs.Turning.{advances}
 use Rattle.dp_engine.proofs.session.Session.advance.Goals as goal
@@ -8,13 +8,13 @@ use Rattle.dp_engine.proofs.session.Session.advance.Goals as goal
 pub returns : goal.returns
 returns c =
     let s = c.self.inside in
-    let command = c.args.name.now in
-    let id = c.args.id.now in
+    let command = c.args.to.now.command in
+    let id = c.args.to.now.id in
     let arrival = c.in_ok-arrival.arrival in
     let status = c.name-status.ensures.text ∙ ap phase_name (c.phase.ensures ∙ ap phase_of c.standing.ensures) in
     let reason = c.name-reason.ensures.text ∙ ap reason_name (c.reason.ensures ∙ ap reason_at c.standing-2.ensures) in
     let told =
-    c.in_ok-response.ensures.value ∙ ap (λ t. status_response command id t c.name-reason.result.now) status
-    ∙ ap (λ t. status_response command id (phase_name (phase_of (standing_in arrival))) t) reason in
-    rw (← c.self.view_is) (advances s.bundle.now s.bound s.moment s.standing s.features s.depth command id c.args.mode arrival c.in_ok-response.response
-    c.self.invariant.1 c.in_ok-arrival.ensures told c.in_ok-response.ensures.fits)
+    c.in_ok-text.ensures.value ∙ ap response_text c.in_ok-response.ensures.value ∙ ap (λ t. response_text (status_response command id t c.name-reason.result.now)) status
+    ∙ ap (λ t. response_text (status_response command id (phase_name (phase_of (standing_in arrival))) t)) reason in
+    rw (← c.self.view_is) (advances s.bundle.now s.bound s.moment s.standing s.features s.depth command id c.args.mode arrival c.in_ok-text.text
+    c.self.invariant.1 c.in_ok-arrival.ensures told c.in_ok-text.ensures.is_text)

@@ -1,0 +1,63 @@
+-- What becomes of the program once its session is over.
+use Rattle.std.specs.Prelude.{◌≡◌, None, Some}
+use Rattle.std.specs.Io.KnownBytes.{Appends}
+use Rattle.dp_outside.specs.Causes.{Rose}
+use Rattle.dp_outside.specs.Changes.{Change}
+use Rattle.dp_outside.specs.Streams.{AppendsFront}
+use Rattle.dp_serving.specs.declared.conversing.Fault.{Fault}
+use Rattle.dp_serving.specs.declared.conversing.Fault.TheVariants as fault
+use Rattle.dp_serving.specs.declared.conversing.Over.{Over}
+use Rattle.dp_serving.specs.declared.conversing.Over.TheVariants as over
+use Rattle.dp_engine.specs.declared.serving.ServeEnd.{ServeEnd}
+use Rattle.dp_engine.specs.declared.serving.ServeEnd.TheVariants.{Stopped, Detached, LinkEnd, ReadFault, WriteFault, OutFault, BadCommandFrame, ByteLimit, Memory}
+use Rattle.dp_engine.specs.declared.serving.Served.{Served}
+use Rattle.dp_engine.specs.declared.session.SessionEnd.{SessionEnd}
+use Rattle.dp_engine.specs.declared.session.SessionEnd.TheVariants as end
+use Rattle.dp_engine.specs.Session.{State, outcome_of, unwritten}
+
+-- after this end the program still runs on
+abbrev pub CanRunOn : ServeEnd → Type 0
+CanRunOn OutFault = ⊥
+CanRunOn Memory = ⊥
+CanRunOn end = Unit {0}
+
+-- the program ran on to its end, if its output and memory allowed; else a front of what it still
+-- writes was put
+abbrev pub RanOnTo : ServeEnd → ServeEnd → Served → State → Change → Type 0
+RanOnTo OutFault asked served state out =
+    Rose out.faults_before out.faults
+    × (served.outcome ≡ None)
+    × AppendsFront out.told_before out.told (unwritten state)
+RanOnTo Memory asked served state out =
+    (served.outcome ≡ None) × AppendsFront out.told_before out.told (unwritten state)
+RanOnTo end asked served state out =
+    (end ≡ asked)
+    × (served.outcome ≡ Some (outcome_of state))
+    × Appends out.told_before out.told (unwritten state)
+
+abbrev pub RanOn : ServeEnd → Served → State → Change → Type 0
+RanOn asked served state out = RanOnTo served.end asked served state out
+
+-- the program was left where it stood
+pub record IsLeft (end : ServeEnd) (served : Served) (out : Change) : Type 0 where
+  pub is_end : served.end ≡ end
+  pub outcome : served.outcome ≡ None
+  pub told : out.told ≡ out.told_before
+
+-- what becomes of it, by how the session came to be over
+abbrev pub Closes : Over SessionEnd → Served → State → Change → Type 0
+Closes (over.Ended end.Killed) served state out = IsLeft Stopped served out
+Closes (over.Ended end.Detached) served state out = RanOn Detached served state out
+Closes (over.Ended (end.Finished o)) served state out = RanOn Stopped served state out
+Closes over.LinkEnd served state out = RanOn LinkEnd served state out
+Closes over.ReadFault served state out = RanOn ReadFault served state out
+Closes (over.BadCommandFrame offset) served state out =
+    RanOn (BadCommandFrame offset) served state out
+Closes over.ByteLimit served state out = RanOn ByteLimit served state out
+
+-- what becomes of it, by the fault that cut the session short
+abbrev pub ClosesCut : Fault SessionEnd → Served → State → Change → Type 0
+ClosesCut (fault.Write (Some end.Killed)) served state out = IsLeft WriteFault served out
+ClosesCut (fault.Write ended) served state out = RanOn WriteFault served state out
+ClosesCut fault.Out served state out = IsLeft OutFault served out
+ClosesCut fault.Memory served state out = IsLeft Memory served out
