@@ -1,7 +1,8 @@
 //! The program `dbgp`: hands its words, files and standard streams to the top call, and ends with its answer.
 #![tactic(auto)]
 
-use dp_outside::{FileShelf, NoNet, NoSpawner, Reading, Writing};
+use dp_adapters::{FileShelf, Reading, Writing};
+use dp_outside::{NoNet, NoSpawner};
 use dp_top::top;
 use std::alloc::{AllocError, Global};
 use std::fs::Files;

@@ -1,26 +1,34 @@
 -- The run of a program: what is fetched, what its files make, and what its end is.
-use Rattle.std.proofs.Common.{◌≡◌, ◌⊎◌, ℕ, suc, ◌+◌, ◌<◌, ◌≤◌, true, false, List, [], ◌∷◌, ◌++◌, length, map, All, Some, None, Result, Ok, Err, refl, sym, ap, ◌∙◌, subst, arith, inl, inr, get_or, take, IsSome, String, string_bytes}
+use Rattle.std.proofs.Common.{◌≡◌, ◌⊎◌, ℕ, suc, ◌+◌, ◌<◌, ◌≤◌, true, false, List, [], ◌∷◌, ◌++◌, length, map, All, Some}
+use Rattle.std.proofs.Common.{None, Result, Ok, Err, refl, sym, ap, ◌∙◌, subst, arith, inl, inr, get_or, take, IsSome}
+use Rattle.std.proofs.Common.{String, string_bytes}
 use Rattle.std.specs.declared.alloc.Global.{Global}
 use Rattle.std.specs.Prelude.{IfOk, IfErr, MatchResult}
-use Rattle.std.specs.List.{IsDistinct}
-use Rattle.std.specs.Str.{bytes_eq}
 use Rattle.std.specs.Io.KnownBytes.{Appends}
 use Rattle.std.proofs.lemmas.List.{length-map, length-take, get_or-map, map-append, take-map, take_all, take_more}
 use Rattle.std.proofs.lemmas.List.Elements.{All-push}
-use Rattle.dp_outside.specs.Changes.{Change, IsUntouched}
+use Rattle.dp_outside.specs.Changes.{Change}
 use Rattle.dp_outside.specs.Files.{Fetches, Lacks}
-use Rattle.dp_bundle.specs.Bundles.{Given, AreForBundle, IsAnswer, IsFileName, Makes, MakesFrom, without_slash}
-use Rattle.dp_bundle.specs.declared.bundle.BundleFile.{BundleFile}
-use Rattle.dp_bundle.specs.declared.bundle.Bundle.{Bundle}
+use Rattle.dp_outside.specs.Telling.{grown}
+use Rattle.dp_run.proofs.Growing.{grown_again}
+use Rattle.dp_bundle.specs.Bundles.{Given, AreForBundle, IsAnswer, Makes, MakesFrom}
+use Rattle.dp_tree.specs.FileNames.{AreFileNames, file_limit}
+use Rattle.dp_tree.specs.declared.bundle.BundleFile.{BundleFile}
+use Rattle.dp_tree.specs.declared.bundle.Bundle.{Bundle}
 use Rattle.dp_bundle.specs.declared.errors.BundleError.{BundleError}
 use Rattle.dp_bundle.specs.declared.errors.BundleError.TheVariants as unmade
 use Rattle.dp_state.specs.declared.moments.Outcome.{Outcome}
 use Rattle.dp_state.specs.declared.moments.Outcome.TheVariants as way
 use Rattle.dp_meaning.specs.Trace.{outcome_of, plain}
 use Rattle.dp_meaning.proofs.Exits.{exit_small}
+use Rattle.dp_run.specs.declared.error.ProgramError.{ProgramError}
+use Rattle.dp_run.specs.declared.error.ProgramError.TheVariants as none
 use Rattle.dp_run.specs.declared.error.RunError.{RunError}
 use Rattle.dp_run.specs.declared.error.RunError.TheVariants as run
-use Rattle.dp_run.specs.Runs.{AreFetched, AreNames, Comes, Ends, FetchCaused, FetchingCaused, Files, Holds, IsHeld, IsMade, IsNext, IsPlainPut, IsPlainUnput, IsRefused, Make, NoProgram, RunCaused, Runs, file_limit, is_bad_file, judged, refusal}
+use Rattle.dp_run.specs.Programs.{AreFetched, Asks, Comes, Files, Holds, IsHeld, Make, NoProgram, Told, is_bad_file}
+use Rattle.dp_run.specs.Programs.{refusal}
+use Rattle.dp_run.specs.Runs.{Ends, RunCaused, Runs, judged, of_program}
+use Rattle.dp_run.specs.inner.Steps.{FetchCaused, IsMade, IsNext, IsPlainPut, IsPlainUnput, IsRefused, IsUnread}
 
 -- ---- what is fetched, one file after another
 
@@ -30,60 +38,77 @@ name_of file = file.0
 pub fetched_none : (files : Files) → AreFetched files [] []
 fetched_none files = record { named = refl; contents = λ k d below. absurd (omega (arith, below)) }
 
-pub fetched_next : (files : Files) (names : List (List ℕ)) (name : List ℕ) (fetched more : List Given) → AreFetched files names fetched → IsNext files name fetched more
+pub fetched_next : (files : Files) (names : List (List ℕ)) (name : List ℕ) (fetched more : List Given)
+    → AreFetched files names fetched → IsNext files name fetched more
     → AreFetched files (names ++ name ∷ []) more
 fetched_next files names name fetched more are next = record {
-  named = ap (map (λ (f : Given). f.0)) next.appended ∙ map-append (λ (f : Given). f.0) fetched ((name, next.content) ∷ []) ∙ ap (λ (l : List (List ℕ)). l ++ name ∷ []) are.named;
+  named = ap (map (λ (f : Given). f.0)) next.appended
+      ∙ map-append (λ (f : Given). f.0) fetched ((name, next.content) ∷ [])
+      ∙ ap (λ (l : List (List ℕ)). l ++ name ∷ []) are.named;
   contents = subst (All (λ (f : Given). Fetches files f.0 file_limit f.1)) (sym next.appended)
-      (All-push (λ (f : Given). Fetches files f.0 file_limit f.1) fetched (name, next.content) are.contents next.is_content);
+      (All-push (λ (f : Given). Fetches files f.0 file_limit f.1) fetched (name, next.content) are.contents
+      next.is_content);
 }
 
 -- as many as names
-pub fetched_count : (files : Files) (names : List (List ℕ)) (fetched : List Given) → AreFetched files names fetched → length fetched ≡ length names
+pub fetched_count : (files : Files) (names : List (List ℕ)) (fetched : List Given) → AreFetched files names fetched
+    → length fetched ≡ length names
 fetched_count files names fetched are = sym (length-map fetched (λ (f : Given). f.0)) ∙ ap length are.named
 
--- why one file was not fetched is why the files were not
-pub not_fetched : (why : RunError) (number : ℕ) (name : List ℕ) (files : Files) (first before after : ℕ) (names : List (List ℕ)) → FetchCaused why number name files before after
-    → first ≤ before → Comes files names number → get_or names number [] ≡ name → FetchingCaused why names files first after
-not_fetched (run.ShelfFailed file) number name files first before after names h later comes at = (subst (Comes files names) (sym h.0) comes, omega (arith, h.1, later))
-not_fetched (run.NoFile file) number name files first before after names h later comes at =
+-- why one file was not fetched is why there is no program
+pub not_fetched : (why : ProgramError) (number : ℕ) (name : List ℕ) (files : Files) (first before after : ℕ)
+    (names : List (List ℕ)) → FetchCaused why number name files before after
+    → first ≤ before → Comes files names number → get_or names number [] ≡ name → NoProgram why files first after names
+not_fetched (none.Shelf file) number name files first before after names h later comes at =
+    (subst (Comes files names) (sym h.0) comes, omega (arith, h.1, later))
+not_fetched (none.Missing file) number name files first before after names h later comes at =
     (subst (Comes files names) (sym h.0) comes, subst (Lacks files) (sym (ap (λ n. get_or names n []) h.0 ∙ at)) h.1)
-not_fetched run.Memory number name files first before after names h later comes at = tt
-not_fetched (run.TooLong file) number name files first before after names h later comes at = absurd h
-not_fetched (run.Source file why) number name files first before after names h later comes at = absurd h
-not_fetched (run.Fatal kind file line) number name files first before after names h later comes at = absurd h
-not_fetched run.Bound number name files first before after names h later comes at = absurd h
-not_fetched run.OutFault number name files first before after names h later comes at = absurd h
+not_fetched (none.TooLong file) number name files first before after names h later comes at = absurd h
+not_fetched (none.Source file why) number name files first before after names h later comes at = absurd h
+not_fetched none.Memory number name files first before after names h later comes at = tt
+
+-- and none of them was read
+pub unread : (why : ProgramError) (number : ℕ) (name : List ℕ) (files : Files) (before after : ℕ)
+    → FetchCaused why number name files before after → IsUnread why
+unread (none.Shelf file) number name files before after h = tt
+unread (none.Missing file) number name files before after h = tt
+unread (none.TooLong file) number name files before after h = h
+unread (none.Source file why) number name files before after h = h
+unread none.Memory number name files before after h = tt
 
 -- files that are fetched under a program's names are for a bundle
-pub for_bundle : (files : Files) (names : List (List ℕ)) (fetched : List Given) → AreNames names → AreFetched files names fetched → AreForBundle fetched
-for_bundle files names fetched are given =
-    let count = fetched_count files names fetched given in
-    record {
-      some = omega (arith, are.some, count);
-      few = omega (arith, are.few, count);
-      named = λ k d below.
-          subst IsFileName (ap (λ (l : List (List ℕ)). get_or l k d.0) (sym given.named) ∙ get_or-map (λ (f : Given). f.0) fetched k d d.0 below)
-          (are.named k d.0 (omega (arith, below, count)));
-      apart = subst (IsDistinct bytes_eq) (ap (map without_slash) (sym given.named) ∙ bare_names fetched) are.apart;
-    } where
-      bare_names : (l : List Given) → map without_slash (map (λ (f : Given). f.0) l) ≡ map (λ (f : Given). without_slash f.0) l
-      bare_names [] = refl
-      bare_names (f ∷ l) = ap (λ (m : List (List ℕ)). without_slash f.0 ∷ m) (bare_names l)
+pub for_bundle : (files : Files) (names : List (List ℕ)) (fetched : List Given) → AreFileNames names
+    → AreFetched files names fetched → AreForBundle fetched
+for_bundle files names fetched are given = subst AreFileNames (sym given.named) are
 
 -- ---- a loop over names
 
-module _ (files : Files) (names : List (String Global)) (i : ℕ) (fetched : List Given) (are : AreFetched files (map string_bytes (take i names)) fetched) (more : i < length names) where
+module _ (files : Files) (names : List (String Global)) (i : ℕ) (fetched : List Given)
+    (are : AreFetched files (map string_bytes (take i names)) fetched) (more : i < length names) where
   pub so_many : length fetched ≡ i
-  so_many = omega (arith, more, fetched_count files (map string_bytes (take i names)) fetched are, length-map (take i names) string_bytes, length-take i names)
+  so_many =
+      omega (
+        arith,
+        more,
+        fetched_count files (map string_bytes (take i names)) fetched are,
+        length-map (take i names)
+            string_bytes,
+        length-take i names,
+      )
 
-  pub one_more : (item : String Global) (after : List Given) → item ≡ get_or names i item → IsNext files (string_bytes item) fetched after
+  path_more : (item : String Global) → item ≡ get_or names i item
+      → map string_bytes (take (i + 1) names) ≡ map string_bytes (take i names) ++ string_bytes item ∷ []
+  path_more item is =
+      ap (map string_bytes) (take_more names i item more)
+      ∙ map-append string_bytes (take i names) (get_or names i item ∷ [])
+      ∙ ap (λ (s : String Global). map string_bytes (take i names) ++ string_bytes s ∷ []) (sym is)
+
+  pub one_more : (item : String Global) (after : List Given) → item ≡ get_or names i item
+      → IsNext files (string_bytes item) fetched after
       → AreFetched files (map string_bytes (take (i + 1) names)) after
   one_more item after is next =
-      let path : map string_bytes (take (i + 1) names) ≡ map string_bytes (take i names) ++ string_bytes item ∷ [] =
-      ap (map string_bytes) (take_more names i item more) ∙ map-append string_bytes (take i names) (get_or names i item ∷ [])
-      ∙ ap (λ (s : String Global). map string_bytes (take i names) ++ string_bytes s ∷ []) (sym is) in
-      subst (λ (l : List (List ℕ)). AreFetched files l after) (sym path) (fetched_next files (map string_bytes (take i names)) (string_bytes item) fetched after are next)
+      subst (λ (l : List (List ℕ)). AreFetched files l after) (sym (path_more item is))
+      (fetched_next files (map string_bytes (take i names)) (string_bytes item) fetched after are next)
 
   comes : Comes files (map string_bytes names) i
   comes = record {
@@ -92,55 +117,86 @@ module _ (files : Files) (names : List (String Global)) (i : ℕ) (fetched : Lis
     are = subst (λ (l : List (List ℕ)). AreFetched files l fetched) (sym (take-map string_bytes i names)) are;
   }
 
-  pub none_more : (why : RunError) (item : String Global) (first before after : ℕ) → item ≡ get_or names i item → first ≤ before
-      → FetchCaused why (length fetched) (string_bytes item) files before after → FetchingCaused why (map string_bytes names) files first after
+  pub none_more : (why : ProgramError) (item : String Global) (first before after : ℕ) → item ≡ get_or names i item
+      → first ≤ before
+      → FetchCaused why (length fetched) (string_bytes item) files before after
+      → NoProgram why files first after (map string_bytes names)
   none_more why item first before after is later h =
       not_fetched why i (string_bytes item) files first before after (map string_bytes names)
       (subst (λ n. FetchCaused why n (string_bytes item) files before after) so_many h) later comes
       (get_or-map string_bytes names i item [] more ∙ ap string_bytes (sym is))
 
-pub all_fetched : (files : Files) (names : List (String Global)) (i : ℕ) (fetched : List Given) → AreFetched files (map string_bytes (take i names)) fetched → length names ≤ i
+  -- one name more was asked for
+  pub asked_more : (item : String Global) (start before after : Told) → item ≡ get_or names i item
+      → before ≡ grown start (map string_bytes (take i names))
+      → after ≡ grown before (string_bytes item ∷ []) → after ≡ grown start (map string_bytes (take (i + 1) names))
+  asked_more item start before after is far one =
+      one ∙ ap (λ (told : Told). grown told (string_bytes item ∷ [])) far
+      ∙ grown_again start (map string_bytes (take i names)) (string_bytes item ∷ [])
+      ∙ ap (grown start) (sym (path_more item is))
+
+  -- and it is the last, where its file was not fetched
+  pub asked_last : (why : ProgramError) (item : String Global) (first last : ℕ) (start after : Told)
+      → after ≡ grown start (map string_bytes (take (i + 1) names))
+      → FetchCaused why (length fetched) (string_bytes item) files first last
+      → Asks {A = List Given} (Err why) start after (map string_bytes names)
+  asked_last why item first last start after far h = by why h where
+    upto : after ≡ grown start (take (i + 1) (map string_bytes names))
+    upto = far ∙ ap (grown start) (sym (take-map string_bytes (i + 1) names))
+
+    by : (why : ProgramError) → FetchCaused why (length fetched) (string_bytes item) files first last
+        → Asks {A = List Given} (Err why) start after (map string_bytes names)
+    by (none.Shelf file) h = upto ∙ ap (λ n. grown start (take (n + 1) (map string_bytes names))) (sym (h.0 ∙ so_many))
+    by (none.Missing file) h = upto
+        ∙ ap (λ n. grown start (take (n + 1) (map string_bytes names))) (sym (h.0 ∙ so_many))
+    by (none.TooLong file) h = absurd h
+    by (none.Source file why) h = absurd h
+    by none.Memory h = (i + 1, upto)
+
+pub all_asked : (names : List (String Global)) (i : ℕ) (start after : Told)
+    → after ≡ grown start (map string_bytes (take i names)) → length names ≤ i
+    → after ≡ grown start (map string_bytes names)
+all_asked names i start after far over = far
+    ∙ ap (λ (l : List (String Global)). grown start (map string_bytes l)) (take_all i names over)
+
+pub all_fetched : (files : Files) (names : List (String Global)) (i : ℕ) (fetched : List Given)
+    → AreFetched files (map string_bytes (take i names)) fetched → length names ≤ i
     → AreFetched files (map string_bytes names) fetched
-all_fetched files names i fetched are over = subst (λ (l : List (String Global)). AreFetched files (map string_bytes l) fetched) (take_all i names over) are
+all_fetched files names i fetched are over =
+    subst (λ (l : List (String Global)). AreFetched files (map string_bytes l) fetched) (take_all i names over) are
 
 -- ---- what fetched files make
 
-pub made_ok : (fetched : List Given) (program : Bundle) → (Ok program ≡ Err unmade.Memory) ⊎ Makes fetched (Ok program) → Makes fetched (Ok program)
+pub made_ok : (fetched : List Given) (program : Bundle) → (Ok program ≡ Err unmade.Memory) ⊎ Makes fetched (Ok program)
+    → Makes fetched (Ok program)
 made_ok fetched program (inl e) = absurd (cc)
 made_ok fetched program (inr makes) = makes
 
 abbrev unmade_by : BundleError → Result Bundle BundleError
 unmade_by why = Err why
 
-pub made_err : (fetched : List Given) (why : BundleError) → (unmade_by why ≡ unmade_by unmade.Memory) ⊎ Makes fetched (Err why) → IsMade fetched (refusal why)
+pub made_err : (fetched : List Given) (why : BundleError) → (unmade_by why ≡ unmade_by unmade.Memory)
+    ⊎ Makes fetched (Err why) → IsMade fetched (refusal why)
 made_err fetched why (inl e) = let same : why ≡ unmade.Memory = cc in inl (ap refusal same)
 made_err fetched why (inr makes) = inr (why, makes, refl)
 
-pub only_ok : {A : Type 0} (program : Bundle) (a : A) (asked : Result Bundle BundleError) → IsAnswer asked (Ok program) → IsRefused asked (Ok a)
+pub only_ok : {A : Type 0} (program : Bundle) (a : A) (asked : Result Bundle BundleError) → IsAnswer asked (Ok program)
+    → IsRefused asked (Ok a)
 only_ok program a (Ok other) h = tt
 only_ok program a (Err e) (inl same) = absurd (cc)
 only_ok program a (Err e) (inr same) = absurd (cc)
 
-pub only_err : (A : Type 0) (why : BundleError) (asked : Result Bundle BundleError) → IsAnswer asked (Err why) → IsRefused {A = A} asked (Err (refusal why))
+pub only_err : (A : Type 0) (why : BundleError) (asked : Result Bundle BundleError) → IsAnswer asked (Err why)
+    → IsRefused {A = A} asked (Err (refusal why))
 only_err A why (Ok other) (inl same) = absurd (cc)
-only_err A why (Ok other) (inr same) = let memory : why ≡ unmade.Memory = cc in ap (λ (e : BundleError). is_bad_file (refusal e)) memory
+only_err A why (Ok other) (inr same) = let memory : why ≡ unmade.Memory = cc in
+    ap (λ (e : BundleError). is_bad_file (refusal e)) memory
 only_err A why (Err e) (inl same) = let one : why ≡ e = cc in inl (ap refusal one)
 only_err A why (Err e) (inr same) = let memory : why ≡ unmade.Memory = cc in inr (ap refusal memory)
 
 -- ---- why there is no program
 
 module _ (files : Files) (before after : ℕ) (names : List (List ℕ)) where
-  -- files that were not fetched
-  pub fetching_none : (why : RunError) → FetchingCaused why names files before after → NoProgram why files before after names
-  fetching_none (run.ShelfFailed file) h = h
-  fetching_none (run.NoFile file) h = h
-  fetching_none run.Memory h = tt
-  fetching_none (run.TooLong file) h = absurd h
-  fetching_none (run.Source file why) h = absurd h
-  fetching_none (run.Fatal kind file line) h = absurd h
-  fetching_none run.Bound h = absurd h
-  fetching_none run.OutFault h = absurd h
-
   module _ (fetched : List Given) (are : AreFetched files names fetched) where
     made_of : (made : Result Bundle BundleError) → Makes fetched made → Make files names made
     made_of made h = record { fetched = fetched; are = are; makes = h }
@@ -151,15 +207,17 @@ module _ (files : Files) (before after : ℕ) (names : List (List ℕ)) where
     refused_none unmade.Memory h = tt
 
     -- files that make none
-    unmade_none : (why : RunError) → IsMade fetched why → NoProgram why files before after names
-    unmade_none why (inl e) = subst (λ (w : RunError). NoProgram w files before after names) (sym e) tt
-    unmade_none why (inr (e, makes, same)) = subst (λ (w : RunError). NoProgram w files before after names) (sym same) (refused_none e makes)
+    unmade_none : (why : ProgramError) → IsMade fetched why → NoProgram why files before after names
+    unmade_none why (inl e) = subst (λ (w : ProgramError). NoProgram w files before after names) (sym e) tt
+    unmade_none why (inr (e, makes, same)) = subst (λ (w : ProgramError). NoProgram w files before after names)
+        (sym same) (refused_none e makes)
 
-    pub program_made : (result : Result Bundle RunError) → IfOk result (λ program. Makes fetched (Ok program)) → IfOk result (λ program. Make files names (Ok program))
+    pub program_made : (result : Result Bundle ProgramError) → IfOk result (λ program. Makes fetched (Ok program))
+        → IfOk result (λ program. Make files names (Ok program))
     program_made (Ok program) h = made_of _ h
     program_made (Err why) h = tt
 
-    pub program_named : (result : Result Bundle RunError) → IfOk result (λ program. Makes fetched (Ok program))
+    pub program_named : (result : Result Bundle ProgramError) → IfOk result (λ program. Makes fetched (Ok program))
         → IfOk result (λ program. map (λ (f : BundleFile). f.name) program.files ≡ names)
     program_named (Ok program) h = names_made 0 fetched program.files h ∙ are.named where
       names_made : (number : ℕ) (given : List Given) (made : List BundleFile) → MakesFrom number given (Ok made)
@@ -170,26 +228,17 @@ module _ (files : Files) (before after : ℕ) (names : List (List ℕ)) where
       names_made number (g ∷ more) (f ∷ rest) h = λ i. h.0.named i ∷ names_made (suc number) more rest h.1 i
     program_named (Err why) h = tt
 
-    pub program_caused : (result : Result Bundle RunError) → IfErr result (λ why. IsMade fetched why) → IfErr result (λ why. NoProgram why files before after names)
+    pub program_caused : (result : Result Bundle ProgramError) → IfErr result (λ why. IsMade fetched why)
+        → IfErr result (λ why. NoProgram why files before after names)
     program_caused (Ok program) h = tt
     program_caused (Err why) h = unmade_none why h
 
 -- ---- what the end of a program is
 
 module _ (files : Files) (before after : ℕ) (names : List (List ℕ)) (bound : ℕ) (out : Change) where
-  -- where there is no program
-  pub none_run : (why : RunError) → NoProgram why files before after names → IsUntouched out → RunCaused why files before after names bound out
-  none_run (run.ShelfFailed file) h stays = (h.0, h.1, stays)
-  none_run (run.NoFile file) h stays = (h.0, h.1, stays)
-  none_run (run.TooLong file) h stays = (h, stays)
-  none_run (run.Source file why) h stays = (h, stays)
-  none_run run.Memory h stays = stays
-  none_run (run.Fatal kind file line) h stays = absurd h
-  none_run run.Bound h stays = absurd h
-  none_run run.OutFault h stays = absurd h
-
   module _ (program : Bundle) (made : Make files names (Ok program)) where
-    ended : (outcome : Outcome) → outcome ≡ outcome_of (plain program bound).end → Appends out.told_before out.told (plain program bound).state.output
+    ended : (outcome : Outcome) → outcome ≡ outcome_of (plain program bound).end
+        → Appends out.told_before out.told (plain program bound).state.output
         → Ends outcome files names bound out
     ended outcome is wrote = record { program = program; made = made; is_end = is; wrote = wrote }
 
@@ -197,27 +246,34 @@ module _ (files : Files) (before after : ℕ) (names : List (List ℕ)) (bound :
     put_run : (status : ℕ) → IsPlainPut status program bound out → Runs status files names bound out
     put_run status h = record { outcome = _; ends = ended _ refl h.0; is_status = h.1 }
 
-    by_end : (why : RunError) (outcome : Outcome) → Ends outcome files names bound out → judged outcome ≡ Err why → RunCaused why files before after names bound out
+    by_end : (why : RunError) (outcome : Outcome) → Ends outcome files names bound out → judged outcome ≡ Err why
+        → RunCaused why files before after names bound out
     by_end why way.Done ends e = absurd (cc)
     by_end why (way.Exit status) ends e = absurd (cc)
     by_end why (way.Fatal kind file line) ends e =
-        let same : run.Fatal kind file line ≡ why = cc in subst (λ (w : RunError). RunCaused w files before after names bound out) same ends
-    by_end why way.Bound ends e = let same : run.Bound ≡ why = cc in subst (λ (w : RunError). RunCaused w files before after names bound out) same ends
+        let same : run.Fatal kind file line ≡ why = cc in
+        subst (λ (w : RunError). RunCaused w files before after names bound out) same ends
+    by_end why way.Bound ends e = let same : run.Bound ≡ why = cc in
+        subst (λ (w : RunError). RunCaused w files before after names bound out) same ends
 
     -- one whose end is a failure, or whose output failed
     unput_run : (why : RunError) → IsPlainUnput why program bound out → RunCaused why files before after names bound out
     unput_run why (inl e) = subst (λ (w : RunError). RunCaused w files before after names bound out) (sym e.0) e.1
     unput_run why (inr (inl h)) = by_end why _ (ended _ refl h.0) h.1
     unput_run why (inr (inr h)) =
-        subst (λ (w : RunError). RunCaused w files before after names bound out) (sym h.0) (record { program = program; made = made; wrote = h.1 }, h.2)
+        subst (λ (w : RunError). RunCaused w files before after names bound out) (sym h.0)
+        (record { program = program; made = made; wrote = h.1 }, h.2)
 
-    pub ends_run : (result : Result ℕ RunError) → MatchResult result (λ status. IsPlainPut status program bound out) (λ why. IsPlainUnput why program bound out)
-        → MatchResult result (λ status. Runs status files names bound out) (λ why. RunCaused why files before after names bound out)
+    pub ends_run : (result : Result ℕ RunError)
+        → MatchResult result (λ status. IsPlainPut status program bound out) (λ why. IsPlainUnput why program bound out)
+        → MatchResult result (λ status. Runs status files names bound out)
+        (λ why. RunCaused why files before after names bound out)
     ends_run (Ok status) h = put_run status h
     ends_run (Err why) h = unput_run why h
 
 -- the status of a program is one of 200
-pub put_small : (status : ℕ) (program : Bundle) (bound : ℕ) (out : Change) → IsPlainPut status program bound out → status ≤ 199
+pub put_small : (status : ℕ) (program : Bundle) (bound : ℕ) (out : Change) → IsPlainPut status program bound out
+    → status ≤ 199
 put_small status program bound out h = by (outcome_of (plain program bound).end) refl h.1 where
   by : (outcome : Outcome) → outcome_of (plain program bound).end ≡ outcome → judged outcome ≡ Ok status → status ≤ 199
   by way.Done is e = let same : 0 ≡ status = cc in omega (arith, same)
@@ -226,37 +282,107 @@ put_small status program bound out h = by (outcome_of (plain program bound).end)
   by way.Bound is e = absurd (cc)
 
 pub small_status : (program : Bundle) (bound : ℕ) (out : Change) (result : Result ℕ RunError)
-    → MatchResult result (λ status. IsPlainPut status program bound out) (λ why. IsPlainUnput why program bound out) → IfOk result (λ status. status ≤ 199)
+    → MatchResult result (λ status. IsPlainPut status program bound out) (λ why. IsPlainUnput why program bound out)
+    → IfOk result (λ status. status ≤ 199)
 small_status program bound out (Ok status) h = put_small status program bound out h
 small_status program bound out (Err why) h = tt
 
--- what fails once there is a program tells of no bad file
-pub unput_good : (why : RunError) (program : Bundle) (bound : ℕ) (out : Change) → IsPlainUnput why program bound out → is_bad_file why ≡ false
-unput_good why program bound out (inl e) = ap is_bad_file e.0
-unput_good why program bound out (inr (inr h)) = ap is_bad_file h.0
-unput_good why program bound out (inr (inl h)) = by (outcome_of (plain program bound).end) h.1 where
-  by : (outcome : Outcome) → judged outcome ≡ Err why → is_bad_file why ≡ false
-  by way.Done e = absurd (cc)
-  by (way.Exit n) e = absurd (cc)
-  by (way.Fatal kind file line) e = let same : run.Fatal kind file line ≡ why = cc in sym (ap is_bad_file same)
-  by way.Bound e = let same : run.Bound ≡ why = cc in sym (ap is_bad_file same)
+-- what fails once there is a program says that there was one
+judged_of : (why : RunError) (outcome : Outcome) → judged outcome ≡ Err why → of_program {A = ℕ} (Err why) ≡ Ok tt
+judged_of why way.Done e = absurd (cc)
+judged_of why (way.Exit n) e = absurd (cc)
+judged_of why (way.Fatal kind file line) e =
+    let same : run.Fatal kind file line ≡ why = cc in sym (ap (λ (w : RunError). of_program {A = ℕ} (Err w)) same)
+judged_of why way.Bound e = let same : run.Bound ≡ why = cc in
+    sym (ap (λ (w : RunError). of_program {A = ℕ} (Err w)) same)
+
+unput_of : (why : RunError) (program : Bundle) (bound : ℕ) (out : Change) → IsPlainUnput why program bound out
+    → of_program {A = ℕ} (Err why) ≡ Ok tt
+unput_of why program bound out (inl e) = ap (λ (w : RunError). of_program {A = ℕ} (Err w)) e.0
+unput_of why program bound out (inr (inl h)) = judged_of why (outcome_of (plain program bound).end) h.1
+unput_of why program bound out (inr (inr h)) = ap (λ (w : RunError). of_program {A = ℕ} (Err w)) h.0
+
+run_of : (program : Bundle) (bound : ℕ) (out : Change) (result : Result ℕ RunError)
+    → MatchResult result (λ status. IsPlainPut status program bound out) (λ why. IsPlainUnput why program bound out)
+    → of_program result ≡ Ok tt
+run_of program bound out (Ok status) ends = refl
+run_of program bound out (Err why) ends = unput_of why program bound out ends
 
 -- what the files make decides what may fail
-pub held_run : (asked : Result Bundle BundleError) (program : Bundle) (bound : ℕ) (out : Change) (before after : ℕ) (result : Result ℕ RunError)
+pub held_run : (asked : Result Bundle BundleError) (program : Bundle) (bound : ℕ) (out : Change) (before after : ℕ)
+    (result : Result ℕ RunError)
     → IsHeld {A = Bundle} asked (Ok program) before after
     → MatchResult result (λ status. IsPlainPut status program bound out) (λ why. IsPlainUnput why program bound out)
-    → IsHeld {A = ℕ} asked result before after
-held_run (Ok made) program bound out before after (Ok status) held ends = tt
-held_run (Ok made) program bound out before after (Err why) held ends = unput_good why program bound out ends
+    → IsHeld asked (of_program result) before after
+held_run (Ok made) program bound out before after result held ends =
+    subst (λ r. IsHeld (Ok made) r before after) (sym (run_of program bound out result ends)) tt
 held_run (Err e) program bound out before after result held ends = absurd held
 
-pub held_none : (asked : Result Bundle BundleError) (why : RunError) (before after : ℕ) → IsHeld {A = Bundle} asked (Err why) before after → IsHeld {A = ℕ} asked (Err why) before after
+pub held_none : (asked : Result Bundle BundleError) (why : ProgramError) (before after : ℕ)
+    → IsHeld {A = Bundle} asked (Err why) before after
+    → IsHeld asked (of_program {A = ℕ} (Err (run.Program why))) before after
 held_none (Ok made) why before after h = h
 held_none (Err e) why before after h = h
 
+-- what is asked for
+pub asked_run : (program : Bundle) (bound : ℕ) (out : Change) (result : Result ℕ RunError) (start after : Told)
+    (names : List (List ℕ))
+    → after ≡ grown start names
+    → MatchResult result (λ status. IsPlainPut status program bound out) (λ why. IsPlainUnput why program bound out)
+    → Asks (of_program result) start after names
+asked_run program bound out result start after names all ends = subst (λ r. Asks r start after names)
+    (sym (run_of program bound out result ends)) all
+
+pub asked_none : (why : ProgramError) (start after : Told) (names : List (List ℕ))
+    → Asks {A = Bundle} (Err why) start after names
+    → Asks (of_program {A = ℕ} (Err (run.Program why))) start after names
+asked_none (none.Shelf file) start after names h = h
+asked_none (none.Missing file) start after names h = h
+asked_none (none.TooLong file) start after names h = h
+asked_none (none.Source file why) start after names h = h
+asked_none none.Memory start after names h = h
+
+-- where all were asked for, whatever the files make
+pub asked_made : (fetched : List Given) (result : Result Bundle ProgramError) (start after : Told)
+    (names : List (List ℕ)) → IfErr result (λ why. IsMade fetched why)
+    → after ≡ grown start names → Asks result start after names
+asked_made fetched (Ok program) start after names made all = all
+asked_made fetched (Err why) start after names made all = by why made where
+  whole : after ≡ grown start (take (length names) names)
+  whole = all ∙ ap (grown start) (sym (take_all (length names) names (omega arith)))
+
+  refused : (e : BundleError) → Asks {A = Bundle} (Err (refusal e)) start after names
+  refused (unmade.Source file why) = all
+  refused (unmade.TooLong file) = all
+  refused unmade.Memory = (length names, whole)
+
+  by : (why : ProgramError) → IsMade fetched why → Asks {A = Bundle} (Err why) start after names
+  by why (inl e) = subst (λ (w : ProgramError). Asks {A = Bundle} (Err w) start after names) (sym e)
+      (length names, whole)
+  by why (inr (e, makes, same)) = subst (λ (w : ProgramError). Asks {A = Bundle} (Err w) start after names) (sym same)
+      (refused e)
+
+-- Whatever comes of it, the names that were asked for are the first of these.
+pub asks_first : {A : Type 0} (result : Result A ProgramError) (start after : Told) (names : List (List ℕ))
+    → Asks result start after names
+    → (count : ℕ) × (after ≡ grown start (take count names))
+asks_first result start after names asks = by result asks where
+  whole : after ≡ grown start names → after ≡ grown start (take (length names) names)
+  whole all = all ∙ ap (grown start) (sym (take_all (length names) names (omega arith)))
+
+  by : {A : Type 0} (result : Result A ProgramError) → Asks result start after names → (count : ℕ)
+      × (after ≡ grown start (take count names))
+  by (Ok a) h = (length names, whole h)
+  by (Err (none.Shelf file)) h = (file + 1, h)
+  by (Err (none.Missing file)) h = (file + 1, h)
+  by (Err (none.TooLong file)) h = (length names, whole h)
+  by (Err (none.Source file why)) h = (length names, whole h)
+  by (Err none.Memory) h = h
+
 -- ---- what a shelf holds
 
-one_content : (files : Files) (name first other : List ℕ) → IsSome files → Fetches files name file_limit first → Fetches files name file_limit other → first ≡ other
+one_content : (files : Files) (name first other : List ℕ) → IsSome files → Fetches files name file_limit first
+    → Fetches files name file_limit other → first ≡ other
 one_content None name first other tells p q = let no : false ≡ true = tells in absurd (cc)
 one_content (Some files) name first other tells p q =
     let same : Some p.0 ≡ Some q.0 = sym p.1 ∙ q.1 in
@@ -271,63 +397,71 @@ module _ (P : Given → Type 0) (file : Given) (rest : List Given) (all : All P 
   tail_of = λ k d below. all (suc k) d (omega (arith, below))
 
 -- what a shelf that tells its files gives for names is one thing
-pub one_fetched : (files : Files) (names : List (List ℕ)) (first other : List Given) → IsSome files → AreFetched files names first → AreFetched files names other → first ≡ other
+pub one_fetched : (files : Files) (names : List (List ℕ)) (first other : List Given) → IsSome files
+    → AreFetched files names first → AreFetched files names other → first ≡ other
 one_fetched files names [] [] tells p q = refl
-one_fetched files names [] (g ∷ other) tells p q = let no : [] ≡ g.0 ∷ map (λ (f : Given). f.0) other = p.named ∙ sym q.named in absurd (cc)
-one_fetched files names (f ∷ first) [] tells p q = let no : f.0 ∷ map (λ (f : Given). f.0) first ≡ [] = p.named ∙ sym q.named in absurd (cc)
+one_fetched files names [] (g ∷ other) tells p q = let no : [] ≡ g.0 ∷ map (λ (f : Given). f.0) other = p.named
+    ∙ sym q.named in absurd (cc)
+one_fetched files names (f ∷ first) [] tells p q = let no : f.0 ∷ map (λ (f : Given). f.0) first ≡ [] = p.named
+    ∙ sym q.named in absurd (cc)
 one_fetched files names (f ∷ first) (g ∷ other) tells p q =
     let same : f.0 ∷ map (λ (f : Given). f.0) first ≡ g.0 ∷ map (λ (f : Given). f.0) other = p.named ∙ sym q.named in
     let name : f.0 ≡ g.0 = cc in
     let names_same : map (λ (f : Given). f.0) first ≡ map (λ (f : Given). f.0) other = cc in
     let fetches = λ (file : Given). Fetches files file.0 file_limit file.1 in
-    let content : f.1 ≡ g.1 = one_content files g.0 f.1 g.1 tells (subst (λ (n : List ℕ). Fetches files n file_limit f.1) name (head_of fetches f first p.contents))
+    let content : f.1 ≡ g.1 = one_content files g.0 f.1 g.1 tells
+    (subst (λ (n : List ℕ). Fetches files n file_limit f.1) name (head_of fetches f first p.contents))
     (head_of fetches g other q.contents) in
     let rest : first ≡ other = one_fetched files (map (λ (f : Given). f.0) first) first other tells
-    (record { named = refl; contents = tail_of fetches f first p.contents }) (record { named = sym names_same; contents = tail_of fetches g other q.contents }) in
+    (record { named = refl; contents = tail_of fetches f first p.contents })
+    (record { named = sym names_same; contents = tail_of fetches g other q.contents }) in
     λ i. (name i, content i) ∷ rest i
 
-not_lacked : (files : Files) (name content : List ℕ) → IsSome files → Fetches files name file_limit content → Lacks files name → ⊥
+not_lacked : (files : Files) (name content : List ℕ) → IsSome files → Fetches files name file_limit content
+    → Lacks files name → ⊥
 not_lacked None name content tells p q = let no : false ≡ true = tells in cc
 not_lacked (Some files) name content tells p q = let same : Some p.0 ≡ None = sym p.1 ∙ q in cc
 
-held_not_lacked : (files : Files) (names : List (List ℕ)) (made : Result Bundle BundleError) (k : ℕ) → Holds files names made → k < length names → Lacks files (get_or names k []) → ⊥
+held_not_lacked : (files : Files) (names : List (List ℕ)) (made : Result Bundle BundleError) (k : ℕ)
+    → Holds files names made → k < length names → Lacks files (get_or names k []) → ⊥
 held_not_lacked files names made k held below lacks =
     let fetched = held.make.fetched in
     let named = held.make.are.named in
     let within : k < length fetched = omega (arith, below, fetched_count files names fetched held.make.are) in
     let here : (get_or fetched k ([], [])).0 ≡ get_or names k [] =
-    sym (get_or-map (λ (f : Given). f.0) fetched k ([], []) [] within) ∙ ap (λ (l : List (List ℕ)). get_or l k []) named in
+    sym (get_or-map (λ (f : Given). f.0) fetched k ([], []) [] within)
+    ∙ ap (λ (l : List (List ℕ)). get_or l k []) named in
     not_lacked files (get_or names k []) (get_or fetched k ([], [])).1 held.tells
-    (subst (λ (n : List ℕ). Fetches files n file_limit (get_or fetched k ([], [])).1) here (held.make.are.contents k ([], []) within)) lacks
+    (subst (λ (n : List ℕ). Fetches files n file_limit (get_or fetched k ([], [])).1) here
+    (held.make.are.contents k ([], []) within)) lacks
 
 -- the run of files that a shelf holds
-pub held_fetched : {A : Type 0} (files : Files) (names : List (List ℕ)) (fetched : List Given) (before after : ℕ) (asked : Result Bundle BundleError) (result : Result A RunError)
+pub held_fetched : {A : Type 0} (files : Files) (names : List (List ℕ)) (fetched : List Given) (before after : ℕ)
+    (asked : Result Bundle BundleError) (result : Result A ProgramError)
     → AreFetched files names fetched → ((a : Result Bundle BundleError) → Makes fetched a → IsRefused a result)
     → Holds files names asked → IsHeld asked result before after
 held_fetched files names fetched before after asked result are only held =
-    by asked result (only asked (subst (λ (l : List Given). Makes l asked) (one_fetched files names held.make.fetched fetched held.tells held.make.are are) held.make.makes)) where
-      by : {A : Type 0} (asked : Result Bundle BundleError) (result : Result A RunError) → IsRefused asked result → IsHeld asked result before after
+    by asked result
+    (only asked
+    (subst (λ (l : List Given). Makes l asked)
+    (one_fetched files names held.make.fetched fetched held.tells held.make.are are) held.make.makes)) where
+      by : {A : Type 0} (asked : Result Bundle BundleError) (result : Result A ProgramError) → IsRefused asked result
+          → IsHeld asked result before after
       by (Ok program) result h = h
       by (Err e) (Ok a) h = h
       by (Err e) (Err why) (inl same) = inl same
       by (Err e) (Err why) (inr same) = inr (inl same)
 
 -- the same where they were not fetched
-pub held_unfetched : (A : Type 0) (files : Files) (names : List (List ℕ)) (before after : ℕ) (asked : Result Bundle BundleError) (why : RunError)
-    → FetchingCaused why names files before after → Holds files names asked → IsHeld {A = A} asked (Err why) before after
-held_unfetched A files names before after (Ok program) (run.ShelfFailed file) h held = refl
-held_unfetched A files names before after (Ok program) (run.NoFile file) h held = absurd (held_not_lacked files names _ file held h.0.below h.1)
-held_unfetched A files names before after (Ok program) run.Memory h held = refl
-held_unfetched A files names before after (Ok program) (run.TooLong file) h held = absurd h
-held_unfetched A files names before after (Ok program) (run.Source file why) h held = absurd h
-held_unfetched A files names before after (Ok program) (run.Fatal kind file line) h held = absurd h
-held_unfetched A files names before after (Ok program) run.Bound h held = absurd h
-held_unfetched A files names before after (Ok program) run.OutFault h held = absurd h
-held_unfetched A files names before after (Err e) (run.ShelfFailed file) h held = inr (inr h.1)
-held_unfetched A files names before after (Err e) (run.NoFile file) h held = absurd (held_not_lacked files names _ file held h.0.below h.1)
-held_unfetched A files names before after (Err e) run.Memory h held = inr (inl refl)
-held_unfetched A files names before after (Err e) (run.TooLong file) h held = absurd h
-held_unfetched A files names before after (Err e) (run.Source file why) h held = absurd h
-held_unfetched A files names before after (Err e) (run.Fatal kind file line) h held = absurd h
-held_unfetched A files names before after (Err e) run.Bound h held = absurd h
-held_unfetched A files names before after (Err e) run.OutFault h held = absurd h
+pub held_unfetched : (A : Type 0) (files : Files) (names : List (List ℕ)) (before after : ℕ)
+    (asked : Result Bundle BundleError) (why : ProgramError)
+    → NoProgram why files before after names → IsUnread why → Holds files names asked
+    → IsHeld {A = A} asked (Err why) before after
+held_unfetched A files names before after asked (none.Missing file) h unread held =
+    absurd (held_not_lacked files names asked file held h.0.below h.1)
+held_unfetched A files names before after asked (none.TooLong file) h unread held = absurd unread
+held_unfetched A files names before after asked (none.Source file why) h unread held = absurd unread
+held_unfetched A files names before after (Ok program) (none.Shelf file) h unread held = refl
+held_unfetched A files names before after (Ok program) none.Memory h unread held = refl
+held_unfetched A files names before after (Err e) (none.Shelf file) h unread held = inr (inr h.1)
+held_unfetched A files names before after (Err e) none.Memory h unread held = inr (inl refl)

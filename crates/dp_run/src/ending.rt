@@ -2,13 +2,14 @@
 
 ghost use Rattle.std.specs.Prelude.{◌≡◌, ◌≤◌, MatchResult};
 ghost use Rattle.dp_outside.specs.Changes.{change};
-ghost use Rattle.dp_run.specs.Runs.{IsPut, IsUnput, IsPlainPut, IsPlainUnput, judged};
+ghost use Rattle.dp_run.specs.Runs.{judged};
+ghost use Rattle.dp_run.specs.inner.Steps.{IsPut, IsUnput, IsPlainPut, IsPlainUnput};
 
 use crate::error::RunError;
-use dp_bundle::Bundle;
 use dp_meaning::{Stop, run_to};
 use dp_outside::Sink;
 use dp_state::Outcome;
+use dp_tree::Bundle;
 use std::alloc::Global;
 
 /// What the end of a program comes to: a status, or why there is none. Takes no memory.
@@ -50,7 +51,7 @@ pub(crate) fn run_program<K: Sink>(
 {
     match run_to(alloc, program, &[], 0, bound) {
         Ok(Stop::Ended(outcome, state)) => put_end(outcome, state.output.as_slice(), out),
-        Ok(Stop::At(_moment, _state)) => Err(RunError::Memory),
+        Ok(Stop::At(_moment, _state)) => unreachable!(),
         Err(_) => Err(RunError::Memory),
     }
 }

@@ -2,22 +2,25 @@
 
 ghost use Rattle.std.specs.Prelude.{◌≡◌, ◌≤◌, ◌<◌, ◌++◌, ◌∷◌, [], length, map, string_bytes, IfOk, IfErr, OnOk};
 ghost use Rattle.dp_outside.specs.Files.{Fetches};
-ghost use Rattle.dp_run.specs.Runs.{AreFetched, FetchCaused, FetchingCaused, IsNext, file_limit};
+ghost use Rattle.dp_outside.specs.Telling.{grown};
+ghost use Rattle.dp_tree.specs.FileNames.{file_limit};
+ghost use Rattle.dp_run.specs.Programs.{AreFetched, Asks, NoProgram};
+ghost use Rattle.dp_run.specs.inner.Steps.{FetchCaused, IsNext, IsUnread};
 
-use crate::error::RunError;
-use dp_bundle::FILE_LIMIT;
+use crate::error::ProgramError;
 use dp_outside::{Shelf, ShelfError};
+use dp_tree::FILE_LIMIT;
 use dp_value::{Bytes, Items};
 use std::alloc::Global;
 
 /// A file as a bundle takes it.
-fn given(alloc: Global, name: &str, content: Vec<u8>) -> Result<(Bytes, Bytes), RunError>
+fn given(alloc: Global, name: &str, content: Vec<u8>) -> Result<(Bytes, Bytes), ProgramError>
     ensures ok { IfOk result (λ file. (file.0 ≡ name.now) × (file.1 ≡ content.items)) }
-    ensures err { IfErr result (λ why. why ≡ RunError.Memory) }
+    ensures err { IfErr result (λ why. why ≡ ProgramError.Memory) }
 {
     match Bytes::from_slice(alloc, name.as_bytes()) {
         Ok(name) => Ok((name, Bytes::of(content))),
-        Err(_) => Err(RunError::Memory),
+        Err(_) => Err(ProgramError::Memory),
     }
 }
 
@@ -27,28 +30,29 @@ fn fetch<H: Shelf>(
     number: u32,
     name: &str,
     shelf: &mut H,
-) -> Result<(Bytes, Bytes), RunError>
+) -> Result<(Bytes, Bytes), ProgramError>
     ensures ok { IfOk result (λ file. (file.0 ≡ name.now) × Fetches (H.files shelf.old) name.now file_limit file.1) }
     ensures err { IfErr result (λ why. FetchCaused why number name.now (H.files shelf.old) (H.faults shelf.old) (H.faults shelf.new)) }
     ensures later { H.faults shelf.old ≤ H.faults shelf.new }
     ensures files { H.files shelf.new ≡ H.files shelf.old }
+    ensures asked { H.fetched shelf.new ≡ grown (H.fetched shelf.old) (name.now ∷ []) }
 {
     match shelf.fetch(alloc, name, FILE_LIMIT) {
         Ok(content) => given(alloc, name, content.into_vec()),
-        Err(ShelfError::Failed) => Err(RunError::ShelfFailed { file: number }),
-        Err(ShelfError::Missing) => Err(RunError::NoFile { file: number }),
-        Err(ShelfError::Memory) => Err(RunError::Memory),
+        Err(ShelfError::Failed) => Err(ProgramError::Shelf { file: number }),
+        Err(ShelfError::Missing) => Err(ProgramError::Missing { file: number }),
+        Err(ShelfError::Memory) => Err(ProgramError::Memory),
     }
 }
 
 /// Puts a file behind those that are fetched.
-fn keep(fetched: &mut Vec<(Bytes, Bytes)>, file: (Bytes, Bytes)) -> Result<(), RunError>
+fn keep(fetched: &mut Vec<(Bytes, Bytes)>, file: (Bytes, Bytes)) -> Result<(), ProgramError>
     ensures ok { OnOk result (fetched.new.items ≡ fetched.old.items ++ file ∷ []) }
-    ensures err { IfErr result (λ why. why ≡ RunError.Memory) }
+    ensures err { IfErr result (λ why. why ≡ ProgramError.Memory) }
 {
     match fetched.push(file) {
         Ok(()) => Ok(()),
-        Err(_) => Err(RunError::Memory),
+        Err(_) => Err(ProgramError::Memory),
     }
 }
 
@@ -58,12 +62,13 @@ fn fetch_next<H: Shelf>(
     name: &str,
     shelf: &mut H,
     fetched: &mut Vec<(Bytes, Bytes)>,
-) -> Result<(), RunError>
+) -> Result<(), ProgramError>
     requires { length fetched.old.items < 64 }
     ensures ok { OnOk result (IsNext (H.files shelf.old) name.now fetched.old.items fetched.new.items) }
     ensures err { IfErr result (λ why. FetchCaused why (length fetched.old.items) name.now (H.files shelf.old) (H.faults shelf.old) (H.faults shelf.new)) }
     ensures later { H.faults shelf.old ≤ H.faults shelf.new }
     ensures files { H.files shelf.new ≡ H.files shelf.old }
+    ensures asked { H.fetched shelf.new ≡ grown (H.fetched shelf.old) (name.now ∷ []) }
 {
     match fetch(alloc, fetched.len() as u32, name, shelf) {
         Ok(file) => keep(fetched, file),
@@ -76,12 +81,15 @@ pub(crate) fn fetch_all<H: Shelf>(
     alloc: Global,
     names: &[String],
     shelf: &mut H,
-) -> Result<Items<(Bytes, Bytes)>, RunError>
+) -> Result<Items<(Bytes, Bytes)>, ProgramError>
     requires { length names.now ≤ 64 }
     ensures ok { IfOk result (λ fetched. AreFetched (H.files shelf.old) (map string_bytes names.now) fetched) }
-    ensures err { IfErr result (λ why. FetchingCaused why (map string_bytes names.now) (H.files shelf.old) (H.faults shelf.old) (H.faults shelf.new)) }
+    ensures err { IfErr result (λ why. NoProgram why (H.files shelf.old) (H.faults shelf.old) (H.faults shelf.new)
+        (map string_bytes names.now)) }
+    ensures unread { IfErr result IsUnread }
     ensures later { H.faults shelf.old ≤ H.faults shelf.new }
     ensures files { H.files shelf.new ≡ H.files shelf.old }
+    ensures asked { Asks result (H.fetched shelf.old) (H.fetched shelf.new) (map string_bytes names.now) }
 {
     let mut fetched = Vec::new(alloc);
     for name in names {

@@ -8,6 +8,6 @@ mod programs;
 mod running;
 
 pub use ending::judge;
-pub use error::RunError;
+pub use error::{ProgramError, RunError};
 pub use programs::fetch_program;
 pub use running::run;

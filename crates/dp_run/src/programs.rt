@@ -2,30 +2,22 @@
 
 ghost use Rattle.std.specs.Prelude.{◌≡◌, ◌≤◌, map, string_bytes, IfOk, IfErr, Ok, Result};
 ghost use Rattle.dp_bundle.specs.Bundles.{AreForBundle, Makes};
-ghost use Rattle.dp_bundle.specs.declared.bundle.Bundle.{Bundle as Program};
+ghost use Rattle.dp_tree.specs.FileNames.{AreFileNames};
+ghost use Rattle.dp_tree.specs.declared.bundle.Bundle.{Bundle as Program};
 ghost use Rattle.dp_bundle.specs.declared.errors.BundleError.{BundleError as Unmade};
-ghost use Rattle.dp_run.specs.Runs.{AreNames, Holds, IsHeld, IsMade, IsRefused, Make, NoProgram, refusal as refusal_of};
+ghost use Rattle.dp_run.specs.Programs.{Asks, Holds, IsHeld, Make, NoProgram};
+ghost use Rattle.dp_run.specs.inner.Steps.{IsMade, IsRefused};
 
-use crate::error::RunError;
+use crate::error::ProgramError;
 use crate::fetching::fetch_all;
-use dp_bundle::{Bundle, BundleError};
+use dp_bundle::FromTexts;
 use dp_outside::Shelf;
+use dp_tree::Bundle;
 use dp_value::{Bytes, Items};
 use std::alloc::Global;
 
-/// Why files make no program.
-fn refusal(why: BundleError) -> RunError
-    ensures { result ≡ refusal_of why }
-{
-    match why {
-        BundleError::Source { file, error } => RunError::Source { file, error },
-        BundleError::TooLong { file } => RunError::TooLong { file },
-        BundleError::Memory => RunError::Memory,
-    }
-}
-
 /// The program that fetched files make.
-fn make(alloc: Global, fetched: Items<(Bytes, Bytes)>) -> Result<Bundle, RunError>
+fn make(alloc: Global, fetched: Items<(Bytes, Bytes)>) -> Result<Bundle, ProgramError>
     requires { AreForBundle fetched }
     ensures ok { IfOk result (λ program. Makes fetched (Ok program)) }
     ensures err { IfErr result (λ why. IsMade fetched why) }
@@ -34,7 +26,7 @@ fn make(alloc: Global, fetched: Items<(Bytes, Bytes)>) -> Result<Bundle, RunErro
 {
     match Bundle::new(alloc, fetched) {
         Ok(program) => Ok(program),
-        Err(why) => Err(refusal(why)),
+        Err(why) => Err(ProgramError::from(why)),
     }
 }
 
@@ -45,11 +37,13 @@ pub fn fetch_program<H: Shelf>(
     alloc: Global,
     names: &[String],
     shelf: &mut H,
-) -> Result<Bundle, RunError>
-    requires { AreNames (map string_bytes names.now) }
+) -> Result<Bundle, ProgramError>
+    requires { AreFileNames (map string_bytes names.now) }
     ensures made { IfOk result (λ program. Make (H.files shelf.old) (map string_bytes names.now) (Ok program)) }
     ensures named { IfOk result (λ program. map (λ file. file.name) program.files ≡ map string_bytes names.now) }
     ensures cause { IfErr result (λ why. NoProgram why (H.files shelf.old) (H.faults shelf.old) (H.faults shelf.new) (map string_bytes names.now)) }
+    // Only these files are asked for, each once, in order: all of them, or those up to one that is not fetched.
+    ensures asked { Asks result (H.fetched shelf.old) (H.fetched shelf.new) (map string_bytes names.now) }
     // What the files of a shelf that tells them make is answered, unless the shelf or memory fails.
     ensures held { (asked : Result Program Unmade) → Holds (H.files shelf.old) (map string_bytes names.now) asked
         → IsHeld asked result (H.faults shelf.old) (H.faults shelf.new) }

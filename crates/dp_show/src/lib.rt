@@ -9,6 +9,3 @@ pub use dp_value::Memory;
 pub use error::ShowError;
 pub use laws::ends_apart;
 pub use showing::show;
-
-#[cfg(test)]
-mod tests;

@@ -7,8 +7,8 @@ use Rattle.std.proofs.lemmas.List.{length-map, get_or-map, take_all, take_more}
 use Rattle.std.proofs.lemmas.List.Elements.{All-map, All-push}
 use Rattle.std.proofs.lemmas.List.Folds.{list_all-map}
 use Rattle.std.proofs.lemmas.Str.{IsUtf8-string_bytes}
-use Rattle.dp_bundle.specs.Bundles.{without_slash}
-use Rattle.dp_run.specs.Runs.{AreNames}
+use Rattle.dp_value.specs.Names.{without_slash}
+use Rattle.dp_tree.specs.FileNames.{AreFileNames}
 use Rattle.dp_wire.specs.Frames.{has_no_nul}
 use Rattle.dp_top.specs.CommandLine.{AreFileWords, IsFileWord, are_apart}
 
@@ -86,7 +86,7 @@ text_at (word ∷ words) k d below =
     subst IsUtf8 (sym (get_or-map string_bytes (word ∷ words) k word d (omega (arith, below, length-map (word ∷ words) string_bytes)))) (IsUtf8-string_bytes (get_or (word ∷ words) k word))
 
 -- the names that words are
-pub names_of : (words : List (String Global)) → AreFileWords (map string_bytes words) → AreNames (map string_bytes words)
+pub names_of : (words : List (String Global)) → AreFileWords (map string_bytes words) → AreFileNames (map string_bytes words)
 names_of words files = record {
   some = files.some;
   few = files.few;

@@ -1,33 +1,38 @@
--- What is told of the end of a run, by what the files are.
-use Rattle.std.proofs.Common.{◌≡◌, ◌≢◌, ℕ, false, Result, Ok, Err, refl, sym, ap, ◌∙◌, subst, inl, inr, arith}
-use Rattle.dp_bundle.specs.declared.bundle.Bundle.{Bundle}
+-- What is told of files and of the end of a run, by what the files are.
+use Rattle.std.proofs.Common.{◌≡◌, ◌≢◌, ℕ, ◌+◌, ◌≤◌, false, List, Result, Ok, Err, length, take, refl, sym, ap, ◌∙◌, subst, inl, inr, arith}
+use Rattle.std.specs.Prelude.{⊤, Some}
+use Rattle.std.proofs.lemmas.List.{take_all}
+use Rattle.dp_outside.specs.Telling.{grown}
+use Rattle.dp_tree.specs.declared.bundle.Bundle.{Bundle}
 use Rattle.dp_bundle.specs.declared.errors.BundleError.{BundleError}
 use Rattle.dp_bundle.specs.declared.errors.BundleError.TheVariants as unmade
 use Rattle.dp_lexer.specs.declared.errors.LexError.TheVariants as lex
 use Rattle.dp_parse.specs.declared.errors.ParseError.{ParseError}
 use Rattle.dp_parse.specs.declared.errors.ParseError.TheVariants as parse
+use Rattle.dp_run.specs.declared.error.ProgramError.{ProgramError}
+use Rattle.dp_run.specs.declared.error.ProgramError.TheVariants as none
 use Rattle.dp_run.specs.declared.error.RunError.{RunError}
 use Rattle.dp_run.specs.declared.error.RunError.TheVariants as run
-use Rattle.dp_run.specs.Runs.{IsHeld as IsRunHeld, is_bad_file, refusal}
+use Rattle.dp_run.specs.Programs.{Asks, IsHeld as IsRunHeld, Told, is_bad_file, refusal}
+use Rattle.dp_run.specs.Runs.{of_program}
 use Rattle.dp_top.specs.declared.failures.Failure.{Failure}
 use Rattle.dp_top.specs.declared.failures.Failure.TheVariants.{NoFile}
 use Rattle.dp_top.specs.declared.failures.Refused.{Refused}
+use Rattle.dp_top.specs.CommandLine.{Ask}
 use Rattle.dp_top.specs.Failures.{status_of}
-use Rattle.dp_top.specs.Runs.{failure_of, IsBadSource, IsHeld}
+use Rattle.dp_top.specs.Runs.{IsFetched, failure_of, program_failure}
+use Rattle.dp_top.specs.inner.Held.{IsBadSource, IsHeld}
 use Rattle.dp_top.specs.Sources.{failure_of as failure_of_source}
 
 abbrev pub IsGood : Failure → Type 0
 IsGood failure = (status_of failure ≢ 201) × (failure ≢ NoFile)
 
-good : (bound : ℕ) (why : RunError) → is_bad_file why ≡ false → IsGood (failure_of bound why)
-good bound (run.ShelfFailed file) h = ((λ e. omega (arith, e)), (λ e. cc))
-good bound (run.NoFile file) h = absurd (cc)
-good bound (run.TooLong file) h = absurd (cc)
-good bound (run.Source file why) h = absurd (cc)
-good bound (run.Fatal kind file line) h = ((λ e. omega (arith, e)), (λ e. cc))
-good bound run.Bound h = ((λ e. omega (arith, e)), (λ e. cc))
-good bound run.OutFault h = ((λ e. omega (arith, e)), (λ e. cc))
-good bound run.Memory h = ((λ e. omega (arith, e)), (λ e. cc))
+good : (why : ProgramError) → is_bad_file why ≡ false → IsGood (program_failure why)
+good (none.Shelf file) h = ((λ e. omega (arith, e)), (λ e. cc))
+good (none.Missing file) h = absurd (cc)
+good (none.TooLong file) h = absurd (cc)
+good (none.Source file why) h = absurd (cc)
+good none.Memory h = ((λ e. omega (arith, e)), (λ e. cc))
 
 pub bad_source : (why : ParseError) → IsBadSource (failure_of_source why)
 bad_source (parse.Lex (lex.BadByte offset)) = inl refl
@@ -40,18 +45,45 @@ bad_source (parse.TooDeep token) = inl refl
 bad_source (parse.DoubleFunction name) = inl refl
 bad_source parse.Memory = inr refl
 
-bad : (bound : ℕ) (e : BundleError) → IsBadSource (failure_of bound (refusal e))
-bad bound (unmade.Source file why) = bad_source why
-bad bound (unmade.TooLong file) = inl refl
-bad bound unmade.Memory = inr refl
+bad : (e : BundleError) → IsBadSource (program_failure (refusal e))
+bad (unmade.Source file why) = bad_source why
+bad (unmade.TooLong file) = inl refl
+bad unmade.Memory = inr refl
 
-pub held_status : (asked : Result Bundle BundleError) (status before after : ℕ) → IsRunHeld asked (Ok status) before after → IsHeld {A = ℕ} asked (Ok status) before after
+pub held_failure : (A : Type 0) (asked : Result Bundle BundleError) (why : ProgramError) (refused : Refused) (before after : ℕ) → refused.failure ≡ program_failure why
+    → IsRunHeld {A = A} asked (Err why) before after → IsHeld {A = ℕ} asked (Err refused) before after
+held_failure A (Ok program) why refused before after told h = subst IsGood (sym told) (good why h)
+held_failure A (Err e) why refused before after told (inl same) = inl (subst IsBadSource (sym (told ∙ ap program_failure same)) (bad e))
+held_failure A (Err e) why refused before after told (inr (inl memory)) = inl (inr (told ∙ ap program_failure memory))
+held_failure A (Err e) why refused before after told (inr (inr rose)) = inr rose
+
+-- a run that was made of a program is no bad source
+held_good : (asked : Result Bundle BundleError) (refused : Refused) (before after : ℕ) → IsGood refused.failure → IsRunHeld {A = ⊤} asked (Ok tt) before after → IsHeld {A = ℕ} asked (Err refused) before after
+held_good (Ok program) refused before after is h = is
+held_good (Err e) refused before after is h = absurd h
+
+pub held_status : (asked : Result Bundle BundleError) (status before after : ℕ) → IsRunHeld {A = ⊤} asked (Ok tt) before after → IsHeld {A = ℕ} asked (Ok status) before after
 held_status (Ok program) status before after h = tt
 held_status (Err e) status before after h = h
 
-pub held_failure : (A : Type 0) (bound : ℕ) (asked : Result Bundle BundleError) (why : RunError) (refused : Refused) (before after : ℕ) → refused.failure ≡ failure_of bound why
-    → IsRunHeld {A = A} asked (Err why) before after → IsHeld {A = ℕ} asked (Err refused) before after
-held_failure A bound (Ok program) why refused before after told h = subst IsGood (sym told) (good bound why h)
-held_failure A bound (Err e) why refused before after told (inl same) = inl (subst IsBadSource (sym (told ∙ ap (failure_of bound) same)) (bad bound e))
-held_failure A bound (Err e) why refused before after told (inr (inl memory)) = inl (inr (told ∙ ap (failure_of bound) memory))
-held_failure A bound (Err e) why refused before after told (inr (inr rose)) = inr rose
+pub held_run : (bound : ℕ) (asked : Result Bundle BundleError) (why : RunError) (refused : Refused) (before after : ℕ) → refused.failure ≡ failure_of bound why
+    → IsRunHeld {A = ⊤} asked (of_program {A = ℕ} (Err why)) before after → IsHeld {A = ℕ} asked (Err refused) before after
+held_run bound asked (run.Program why) refused before after told h = held_failure ⊤ asked why refused before after told h
+held_run bound asked (run.Fatal kind file line) refused before after told h = held_good asked refused before after (subst IsGood (sym told) ((λ e. omega (arith, e)), (λ e. cc))) h
+held_run bound asked run.Bound refused before after told h = held_good asked refused before after (subst IsGood (sym told) ((λ e. omega (arith, e)), (λ e. cc))) h
+held_run bound asked run.OutFault refused before after told h = held_good asked refused before after (subst IsGood (sym told) ((λ e. omega (arith, e)), (λ e. cc))) h
+held_run bound asked run.Memory refused before after told h = held_good asked refused before after (subst IsGood (sym told) ((λ e. omega (arith, e)), (λ e. cc))) h
+
+-- ---- what was fetched
+
+-- all names are the first of them
+all_fetched : (before after : Told) (names : List (List ℕ)) → after ≡ grown before names → (count : ℕ) × (after ≡ grown before (take count names))
+all_fetched before after names e = (length names, e ∙ ap (grown before) (sym (take_all (length names) names (omega arith))))
+
+pub fetched : (A : Type 0) (result : Result A ProgramError) (before after : Told) (ask : Ask) → Asks result before after ask.names → IsFetched (Some ask) before after
+fetched A (Ok a) before after ask e = all_fetched before after ask.names e
+fetched A (Err (none.Shelf file)) before after ask e = (file + 1, e)
+fetched A (Err (none.Missing file)) before after ask e = (file + 1, e)
+fetched A (Err (none.TooLong file)) before after ask e = all_fetched before after ask.names e
+fetched A (Err (none.Source file why)) before after ask e = all_fetched before after ask.names e
+fetched A (Err none.Memory) before after ask e = e

@@ -3,8 +3,8 @@ use Rattle.std.proofs.Common.{◌≡◌, ◌≤◌, ℕ, List, [], ◌∷◌, le
 use Rattle.std.specs.Prelude.{IfOk, IfErr, MatchResult, slice_get}
 use Rattle.std.specs.Option.{option_map_or}
 use Rattle.dp_outside.specs.Changes.{Change, IsUntouched}
-use Rattle.dp_bundle.specs.declared.bundle.Bundle.{Bundle}
-use Rattle.dp_bundle.specs.declared.bundle.BundleFile.{BundleFile}
+use Rattle.dp_tree.specs.declared.bundle.Bundle.{Bundle}
+use Rattle.dp_tree.specs.declared.bundle.BundleFile.{BundleFile}
 use Rattle.dp_bundle.specs.declared.errors.BundleError.{BundleError}
 use Rattle.dp_engine.specs.declared.serving.ServeEnd.{ServeEnd}
 use Rattle.dp_engine.specs.declared.serving.ServeEnd.TheVariants.{Stopped, Detached, LinkEnd, ReadFault, WriteFault, OutFault, BadCommandFrame, ByteLimit, Memory}
@@ -17,15 +17,19 @@ use Rattle.dp_engine.specs.Responses.{main_name}
 use Rattle.dp_engine.specs.Session.{State, outcome_of}
 use Rattle.dp_meaning.proofs.Exits.{exit_small}
 use Rattle.dp_run.specs.declared.error.RunError.{RunError}
-use Rattle.dp_run.specs.Runs.{Files, IsHeld as IsRunHeld, Make, NoProgram, judged as judged_end}
+use Rattle.dp_run.specs.declared.error.ProgramError.{ProgramError}
+use Rattle.dp_run.specs.Programs.{Files, IsHeld as IsRunHeld, Make, NoProgram}
+use Rattle.dp_run.specs.Runs.{judged as judged_end}
 use Rattle.dp_state.specs.declared.moments.Outcome.{Outcome}
 use Rattle.dp_state.specs.declared.moments.Outcome.TheVariants as way
 use Rattle.dp_top.specs.declared.failures.Failure.{Failure}
 use Rattle.dp_top.specs.declared.failures.Failure.TheVariants as failure
 use Rattle.dp_top.specs.declared.failures.Refused.{Refused}
 use Rattle.dp_top.specs.CommandLine.{AreFileWords, Ask}
-use Rattle.dp_top.specs.Runs.{IsHeld, IsRunTold}
-use Rattle.dp_top.specs.Talk.{ServedSo, Talks, TalkFails, Told, UnservedSo, end_told, ended, judged, judged_by, told_in, unnamed}
+use Rattle.dp_top.specs.Runs.{IsProgramTold, IsRunTold}
+use Rattle.dp_top.specs.inner.Held.{IsHeld}
+use Rattle.dp_top.specs.Talk.{Talks, TalkFails, Told, end_told, ended, judged, judged_by, unnamed}
+use Rattle.dp_top.specs.inner.Sessions.{ServedSo, UnservedSo, told_in}
 use Rattle.dp_top.proofs.RunTold.{IsGood}
 
 -- ---- what is told
@@ -120,7 +124,7 @@ module _ (files : Files) (before after : ℕ) (key : List ℕ) (ask : Ask) (inpu
   program_served program made (Err why) (inl memory) = inl (memory.0, inl memory.1)
   program_served program made (Err why) (inr h) = inr (inr (record { served = h.served; is = record { program = program; made = made; serves = h.serves }; told = h.told }))
 
-  pub none_served : (refused : Refused) (why : RunError) → NoProgram why files before after ask.names → IsRunTold refused.failure refused.name.now ask why
+  pub none_served : (refused : Refused) (why : ProgramError) → NoProgram why files before after ask.names → IsProgramTold refused.failure refused.name.now ask why
       → IsUntouched input → IsUntouched out → IsUntouched err → TalkFails refused.failure refused.name.now files before after key ask input out err
   none_served refused why caused told i o e = inr (inl (record { cause = why; caused = caused; told = told; idle = record { input_stays = i; out_stays = o; err_stays = e } }))
 

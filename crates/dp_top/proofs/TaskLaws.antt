@@ -8,21 +8,25 @@ use Rattle.dp_show.specs.Shows.{Ends}
 use Rattle.dp_show.proofs.ShowLaws.{cut_of}
 use Rattle.dp_top.specs.declared.failures.Failure.{Failure}
 use Rattle.dp_top.specs.declared.failures.Failure.TheVariants as failure
-use Rattle.dp_bundle.specs.declared.bundle.Bundle.{Bundle}
+use Rattle.dp_tree.specs.declared.bundle.Bundle.{Bundle}
 use Rattle.dp_bundle.specs.declared.errors.BundleError.{BundleError}
 use Rattle.dp_engine.specs.declared.serving.ServeEnd.{ServeEnd}
 use Rattle.dp_engine.specs.declared.serving.ServeEnd.TheVariants as serve
 use Rattle.dp_engine.specs.Serving.{CutBy, EndsBy, IsCut, ServesTo}
 use Rattle.dp_engine.specs.declared.session.SessionEnd.{SessionEnd}
+use Rattle.dp_run.specs.declared.error.ProgramError.{ProgramError}
+use Rattle.dp_run.specs.declared.error.ProgramError.TheVariants as none
 use Rattle.dp_run.specs.declared.error.RunError.{RunError}
 use Rattle.dp_run.specs.declared.error.RunError.TheVariants as end
-use Rattle.dp_run.specs.Runs.{Files, Holds, NoProgram, RunCaused}
+use Rattle.dp_run.specs.Programs.{Files, Holds, NoProgram, Told as FetchedTold}
+use Rattle.dp_run.specs.Runs.{RunCaused}
 use Rattle.dp_state.specs.declared.moments.Outcome.{Outcome}
 use Rattle.dp_state.specs.declared.moments.Outcome.TheVariants as way
 use Rattle.dp_top.specs.declared.failures.Refused.{Refused}
 use Rattle.dp_top.specs.CommandLine.{Ask, IsRun, IsTalk, Task, run, talk, show, Asks, ask_in, ask_of}
 use Rattle.dp_top.specs.Failures.{status_of, line_of, Says}
-use Rattle.dp_top.specs.Runs.{IsBadSource, IsHeld, RunFails, failure_of as failure_told}
+use Rattle.dp_top.specs.Runs.{IsFetched, RunFails, failure_of as failure_told, program_failure}
+use Rattle.dp_top.specs.inner.Held.{IsBadSource, IsHeld}
 use Rattle.dp_top.specs.Talk.{EndsSo, TalkFails, Told, ended, judged_by}
 use Rattle.dp_top.specs.Tasks.{failure_of, ShowCaused, Does, Caused, Fails, NoneRose}
 use Rattle.dp_top.proofs.RunTold.{IsGood, bad_source}
@@ -164,6 +168,16 @@ caused_of : (status : ℕ) (words : List (List ℕ)) (files : Files) (before aft
 caused_of status words files before after input out err f task asks =
     subst (λ (t : Task). Caused f.failure f.name t files before after input out (before_line err f.told.between f.told.faults_between)) (one_task words f.task task f.asks asks) f.told.first
 
+-- files that are not told as bad, on a shelf that did not fail, make a program unless memory runs out
+no_program : (failed : Failure) (files : Files) (before after : ℕ) (names : List (List ℕ)) → IsGood failed → (Rose before after → ⊥) → (why : ProgramError)
+    → NoProgram why files before after names → failed ≡ program_failure why → status_of failed ≡ 209
+no_program failed files before after names good shelf (none.Shelf file) caused told = absurd (shelf caused.1)
+no_program failed files before after names good shelf (none.Missing file) caused told = absurd (good.1 told)
+no_program failed files before after names good shelf (none.TooLong file) caused told = absurd (good.0 (ap status_of told))
+no_program failed files before after names good shelf (none.Source file why) caused told =
+    ⊎_elim (λ e. absurd (good.0 (ap status_of told ∙ e))) (λ e. ap status_of (told ∙ e)) (bad_source why)
+no_program failed files before after names good shelf none.Memory caused told = ap status_of told
+
 -- ---- `talk`
 
 -- where no count rose and the files are not told as bad, what fails is a packet, the program's end, a stop or memory
@@ -172,16 +186,8 @@ module _ (failed : Failure) (name : List ℕ) (files : Files) (before after : �
   abbrev IsTalkEnd : Failure → Type 0
   IsTalkEnd f = (status_of f ≡ 207) ⊎ (status_of f ≡ 210) ⊎ (status_of f ≡ 255) ⊎ (status_of f ≡ 209)
 
-  unserved : (why : RunError) → NoProgram why files before after ask.names → failed ≡ failure_told ask.bound why → IsTalkEnd failed
-  unserved (end.ShelfFailed file) caused told = absurd (shelf caused.1)
-  unserved (end.NoFile file) caused told = absurd (good.1 told)
-  unserved (end.TooLong file) caused told = absurd (good.0 (ap status_of told))
-  unserved (end.Source file why) caused told =
-      ⊎_elim (λ e. absurd (good.0 (ap status_of told ∙ e))) (λ e. inr (inr (inr (ap status_of (told ∙ e))))) (bad_source why)
-  unserved (end.Fatal kind file line) caused told = absurd caused
-  unserved end.Bound caused told = absurd caused
-  unserved end.OutFault caused told = absurd caused
-  unserved end.Memory caused told = inr (inr (inr (ap status_of told)))
+  unserved : (why : ProgramError) → NoProgram why files before after ask.names → failed ≡ program_failure why → IsTalkEnd failed
+  unserved why caused told = inr (inr (inr (no_program failed files before after ask.names good shelf why caused told)))
 
   abbrev failure_in : Told → Failure
   failure_in (Ok status) = failure.Memory
@@ -255,11 +261,7 @@ module _ (failed : Failure) (files : Files) (before after : ℕ) (ask : Ask) (ou
   IsEnd f = (status_of f ≡ 255) ⊎ (status_of f ≡ 209)
 
   by_why : (why : RunError) → RunCaused why files before after ask.names ask.bound out → failed ≡ failure_told ask.bound why → IsEnd failed
-  by_why (end.ShelfFailed file) caused told = absurd (shelf caused.1)
-  by_why (end.NoFile file) caused told = absurd (good.1 told)
-  by_why (end.TooLong file) caused told = absurd (good.0 (ap status_of told))
-  by_why (end.Source file why) caused told =
-      ⊎_elim (λ e. absurd (good.0 (ap status_of told ∙ e))) (λ e. inr (ap status_of (told ∙ e))) (bad_source why)
+  by_why (end.Program why) caused told = inr (no_program failed files before after ask.names good shelf why caused.0 told)
   by_why (end.Fatal kind file line) caused told = inl (ap status_of told)
   by_why end.Bound caused told = inl (ap status_of told)
   by_why end.OutFault caused told = absurd (put caused.1)
@@ -332,3 +334,7 @@ asks_show words task asks other = one_task words task show asks other
 -- what was shown well has the status 0
 pub shows_well : (status : ℕ) (words : List (List ℕ)) (files : Files) (task : Task) (input out err : Change) → Asks words task → Does status task files input out err → Asks words show → status ≡ 0
 shows_well status words files task input out err asks does is = (subst (λ (t : Task). Does status t files input out err) (one_task words task show asks is) does).0
+
+-- what was fetched for the task that is asked for
+pub asks_fetched : (words : List (List ℕ)) (task other : Task) (before after : FetchedTold) → Asks words task → IsFetched (ask_in task) before after → Asks words other → IsFetched (ask_in other) before after
+asks_fetched words task other before after asks is asked = subst (λ (t : Task). IsFetched (ask_in t) before after) (one_task words task other asks asked) is

@@ -1,13 +1,11 @@
 -- The words of a command line, without the program's name, and what they ask for.
-use Rattle.std.specs.Prelude.{◌≡◌, ℕ, zero, suc, ◌≤◌, nat_le, Bool, true, false, ◌&&◌, not, if◌then◌else◌, List, [], ◌∷◌, length, map, All, codes, ◌==◌, Option, Some, None, option_map, string_bytes}
+use Rattle.std.specs.Prelude.{◌≡◌, ℕ, zero, suc, ◌≤◌, nat_le, Bool, true, false, ◌&&◌, not, if◌then◌else◌, List, [], ◌∷◌, length, All, codes, ◌==◌, Option, Some, None, option_map}
 use Rattle.std.specs.List.{list_all}
 use Rattle.std.specs.Str.{bytes_eq}
-use Rattle.dp_bundle.specs.Bundles.{without_slash}
+use Rattle.dp_tree.specs.FileNames.{file_count_limit, file_name_limit}
+use Rattle.dp_value.specs.Names.{without_slash}
 use Rattle.dp_value.specs.Decimals.{decimal_in}
 use Rattle.dp_wire.specs.Frames.{has_no_nul}
-use Rattle.dp_top.specs.declared.command_line.Command.{Command}
-use Rattle.dp_top.specs.declared.command_line.Program.{Program}
-use Rattle.dp_top.specs.declared.command_line.Command.TheVariants as told
 
 abbrev pub between : ℕ → ℕ → ℕ → Bool
 between low high byte = nat_le low byte && nat_le byte high
@@ -21,7 +19,7 @@ pub record IsKey (key : List ℕ) : Type 0 where
 -- the name of a file: 1 to 255 bytes without NUL
 pub record IsFileName (name : List ℕ) : Type 0 where
   pub some : 1 ≤ length name
-  pub short : length name ≤ 255
+  pub short : length name ≤ file_name_limit
   pub no_nul : has_no_nul name ≡ true
 
 -- a word that begins with `-` asks for an option, and none is known
@@ -36,15 +34,12 @@ pub record IsFileWord (word : List ℕ) : Type 0 where
 
 -- ---- the words behind a command
 
--- how many moments a program may have where the words do not say it, the most that they may ask for, and the most files
+-- how many moments a program may have where the words do not say it, and the most that they may ask for
 abbrev pub default_bound : ℕ
 default_bound = 1000000
 
 abbrev pub bound_limit : ℕ
 bound_limit = 100000000
-
-abbrev pub most_files : ℕ
-most_files = 64
 
 abbrev pub not_zero : Option ℕ → Option ℕ
 not_zero None = None
@@ -78,7 +73,7 @@ are_apart (name ∷ names) = list_all (λ other. not (bytes_eq (without_slash na
 -- the names of a program's files: 1 to the most, apart also without one leading `/`
 pub record AreFileWords (names : List (List ℕ)) : Type 0 where
   pub some : 1 ≤ length names
-  pub few : length names ≤ most_files
+  pub few : length names ≤ file_count_limit
   pub named : All IsFileWord names
   pub apart : are_apart names ≡ true
 
@@ -128,13 +123,3 @@ abbrev pub ask_in : Task → Option Ask
 ask_in (run ask) = Some ask
 ask_in (talk key ask) = Some ask
 ask_in show = None
-
--- a program that is asked for, apart from where its words lie in memory
-abbrev pub ask_told : Program → Ask
-ask_told program = record { bound = program.bound; names = map string_bytes program.files.now }
-
--- a command of the code, apart from where its words lie in memory
-abbrev pub task_of : Command → Task
-task_of (told.Run program) = run (ask_told program)
-task_of (told.Talk request) = talk request.key.now (ask_told request.program)
-task_of told.Show = show

@@ -5,7 +5,7 @@ use Rattle.std.specs.Io.KnownBytes.{Appends}
 use Rattle.dp_outside.specs.Causes.{Rose}
 use Rattle.dp_outside.specs.Changes.{Change}
 use Rattle.dp_outside.specs.Streams.{AppendsFront}
-use Rattle.dp_run.specs.Runs.{file_limit}
+use Rattle.dp_tree.specs.FileNames.{file_limit}
 use Rattle.dp_state.specs.declared.moments.FatalKind.{FatalKind}
 use Rattle.dp_state.specs.declared.moments.FatalKind.TheVariants as kinds
 use Rattle.dp_top.specs.declared.failures.Failure.{Failure}

@@ -4,3 +4,4 @@ pub mod Runs
 pub mod Sources
 pub mod Talk
 pub mod Tasks
+pub mod inner

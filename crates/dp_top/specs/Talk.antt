@@ -1,20 +1,21 @@
 -- The command `talk`: what it does, and why it fails.
 use Rattle.std.specs.Prelude.{◌≡◌, ◌⊎◌, ℕ, List, [], Option, None, Some, Result, Ok, Err}
 use Rattle.dp_outside.specs.Changes.{Change, IsUntouched}
-use Rattle.dp_bundle.specs.declared.bundle.Bundle.{Bundle}
+use Rattle.dp_tree.specs.declared.bundle.Bundle.{Bundle}
 use Rattle.dp_engine.specs.declared.serving.ServeEnd.{ServeEnd}
 use Rattle.dp_engine.specs.declared.serving.ServeEnd.TheVariants.{Stopped, Detached, LinkEnd, ReadFault, WriteFault, OutFault, BadCommandFrame, ByteLimit, Memory}
 use Rattle.dp_engine.specs.declared.serving.Served.{Served}
 use Rattle.dp_engine.specs.Serving.{Serves}
 use Rattle.dp_run.specs.declared.error.RunError.{RunError}
-use Rattle.dp_run.specs.Runs.{Files, Make, NoProgram, judged as judged_end}
+use Rattle.dp_run.specs.declared.error.ProgramError.{ProgramError}
+use Rattle.dp_run.specs.Programs.{Files, Make, NoProgram}
+use Rattle.dp_run.specs.Runs.{judged as judged_end}
 use Rattle.dp_serving.specs.Serving.{byte_limit}
 use Rattle.dp_state.specs.declared.moments.Outcome.{Outcome}
 use Rattle.dp_top.specs.declared.failures.Failure.{Failure}
 use Rattle.dp_top.specs.declared.failures.Failure.TheVariants as failure
-use Rattle.dp_top.specs.declared.failures.Refused.{Refused}
 use Rattle.dp_top.specs.CommandLine.{Ask}
-use Rattle.dp_top.specs.Runs.{IsRunTold, failure_of, name_told}
+use Rattle.dp_top.specs.Runs.{IsProgramTold, failure_of, name_told}
 
 -- ---- what is told of an end
 
@@ -72,9 +73,9 @@ pub record IsIdle (input out err : Change) : Type 0 where
 
 -- there is no program
 pub record IsUnserved (why : Failure) (name : List ℕ) (files : Files) (before after : ℕ) (ask : Ask) (input out err : Change) : Type 0 where
-  pub cause : RunError
+  pub cause : ProgramError
   pub caused : NoProgram cause files before after ask.names
-  pub told : IsRunTold why name ask cause
+  pub told : IsProgramTold why name ask cause
   pub idle : IsIdle input out err
 
 -- The session was served, and its end is this failure. What `out` and `err` have taken then is said with each end of serving.
@@ -91,25 +92,3 @@ IsStarved files key ask input out err = IsIdle input out err ⊎ ((served : Serv
 abbrev pub TalkFails : Failure → List ℕ → Files → ℕ → ℕ → List ℕ → Ask → Change → Change → Change → Type 0
 TalkFails why name files before after key ask input out err =
     ((why ≡ failure.Memory) × IsStarved files key ask input out err) ⊎ IsUnserved why name files before after ask input out err ⊎ EndsSo why name files key ask input out err
-
--- ---- inside the crate
-
--- what the code tells
-abbrev pub told_in : Result ℕ Refused → Told
-told_in (Ok status) = Ok status
-told_in (Err why) = Err (why.failure, why.name.now)
-
--- a session over this program went well, with this status
-pub record ServedSo (status : ℕ) (program : Bundle) (key : List ℕ) (ask : Ask) (input out err : Change) : Type 0 where
-  pub served : Served
-  pub serves : Serves served program ask.bound key input out err
-  pub told : judged ask served ≡ Ok status
-
-pub record EndedSo (why : Failure) (name : List ℕ) (program : Bundle) (key : List ℕ) (ask : Ask) (input out err : Change) : Type 0 where
-  pub served : Served
-  pub serves : Serves served program ask.bound key input out err
-  pub told : judged ask served ≡ Err (why, name)
-
--- one failed so, or memory ran out before it began
-abbrev pub UnservedSo : Failure → List ℕ → Bundle → List ℕ → Ask → Change → Change → Change → Type 0
-UnservedSo why name program key ask input out err = ((why ≡ failure.Memory) × IsIdle input out err) ⊎ EndedSo why name program key ask input out err

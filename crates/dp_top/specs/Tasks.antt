@@ -9,7 +9,8 @@ use Rattle.dp_top.specs.declared.failures.Failure.{Failure}
 use Rattle.dp_top.specs.declared.failures.Failure.TheVariants.{TooLong, Source, ShelfFailed, NoFile, Fatal, Bound, Output, PeerEnd, Packet, Network, Stopped, Memory}
 use Rattle.dp_top.specs.CommandLine.{Task, run, talk, show, Asks}
 use Rattle.dp_top.specs.Failures.{status_of, line_of, ThenSays}
-use Rattle.dp_run.specs.Runs.{Files, Runs}
+use Rattle.dp_run.specs.Programs.{Files}
+use Rattle.dp_run.specs.Runs.{Runs}
 use Rattle.dp_top.specs.Runs.{RunFails}
 use Rattle.dp_top.specs.Talk.{Talks, TalkFails}
 

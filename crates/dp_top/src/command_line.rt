@@ -2,7 +2,8 @@
 ghost use Rattle.std.specs.Prelude.{◌≡◌, ◌↔◌, ◌∷◌, [], ℕ, List, IsTrue, IfSome, IfNone, map, string_bytes};
 ghost use Rattle.std.specs.List.{list_all};
 ghost use Rattle.std.specs.Option.{option_map};
-ghost use Rattle.dp_top.specs.CommandLine.{AreFileWords, Ask, Asks, Follows, IsKey, IsSession, Speaks, Task, ask_of, ask_told, between, bound_of, task_of, with_bound};
+ghost use Rattle.dp_top.specs.CommandLine.{AreFileWords, Ask, Asks, Follows, IsKey, IsSession, Speaks, Task, ask_of, between, bound_of, with_bound};
+ghost use Rattle.dp_top.specs.inner.Commands.{ask_told, task_of};
 
 use crate::names::{are_files, is_option};
 use dp_value::decimal;

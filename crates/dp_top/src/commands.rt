@@ -1,11 +1,13 @@
 //! What each command does.
 ghost use Rattle.std.specs.Prelude.{◌≡◌, ◌≤◌, ℕ, List, Some, Result, IfOk, MatchResult};
-ghost use Rattle.dp_bundle.specs.declared.bundle.Bundle.{Bundle};
+ghost use Rattle.dp_tree.specs.declared.bundle.Bundle.{Bundle};
 ghost use Rattle.dp_bundle.specs.declared.errors.BundleError.{BundleError};
 ghost use Rattle.dp_outside.specs.Changes.{change};
-ghost use Rattle.dp_top.specs.CommandLine.{Ask, Task, Asks, ask_in, task_of};
-ghost use Rattle.dp_run.specs.Runs.{Holds};
-ghost use Rattle.dp_top.specs.Runs.{IsHeld};
+ghost use Rattle.dp_top.specs.CommandLine.{Ask, Task, Asks, ask_in};
+ghost use Rattle.dp_top.specs.inner.Commands.{task_of};
+ghost use Rattle.dp_run.specs.Programs.{Holds};
+ghost use Rattle.dp_top.specs.Runs.{IsFetched};
+ghost use Rattle.dp_top.specs.inner.Held.{IsHeld};
 ghost use Rattle.dp_top.specs.Tasks.{failure_of, Does, Caused};
 
 use crate::command_line::Command;
@@ -52,6 +54,7 @@ pub fn carry_out<'a, H: Shelf, S: Source, K: Sink, E: Sink>(
     ensures held { (ask : Ask) (asked : Result Bundle BundleError) → ask_in (task_of command.entry) ≡ Some ask
         → Holds (H.files shelf.old) ask.names asked → IsHeld asked result (H.faults shelf.old) (H.faults shelf.new) }
     ensures show_shelf { task_of command.entry ≡ Task.show → H.faults shelf.new ≡ H.faults shelf.old }
+    ensures fetched { IsFetched (ask_in (task_of command.entry)) (H.fetched shelf.old) (H.fetched shelf.new) }
     ensures files { H.files shelf.new ≡ H.files shelf.old }
 
     ensures shelf_later { H.faults shelf.old ≤ H.faults shelf.new }

@@ -10,8 +10,3 @@ mod talk;
 mod top_call;
 
 pub use top_call::top;
-
-#[cfg(test)]
-mod run_tests;
-#[cfg(test)]
-mod tests;

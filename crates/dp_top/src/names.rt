@@ -3,12 +3,12 @@
 ghost use Rattle.std.specs.Prelude.{◌≡◌, ◌↔◌, ◌∷◌, List, ℕ, true, IsTrue, not, map, All, string_bytes};
 ghost use Rattle.std.specs.List.{list_all};
 ghost use Rattle.std.specs.Str.{bytes_eq};
-ghost use Rattle.dp_bundle.specs.Bundles.{without_slash as bare};
+ghost use Rattle.dp_value.specs.Names.{without_slash as bare};
 ghost use Rattle.dp_wire.specs.Frames.{has_no_nul};
 ghost use Rattle.dp_top.specs.CommandLine.{AreFileWords, IsFileName, IsFileWord, are_apart as all_apart, is_option};
 
-/// The most files of a program.
-pub const MOST_FILES: usize = 64;
+use dp_tree::{FILE_COUNT_LIMIT, FILE_NAME_LIMIT};
+use dp_value::are_alike;
 
 /// Whether the bytes are the name of a file.
 pub fn is_file_name(name: &[u8]) -> bool
@@ -17,7 +17,7 @@ pub fn is_file_name(name: &[u8]) -> bool
     if name.is_empty() {
         return false;
     }
-    if name.len() > 255 {
+    if name.len() > FILE_NAME_LIMIT {
         return false;
     }
     are_no_nul(name)
@@ -58,28 +58,6 @@ fn are_named(words: &[String]) -> bool
     true
 }
 
-/// A name without one leading `/`.
-fn without_slash(name: &[u8]) -> &[u8]
-    ensures { result.now ≡ bare name.now }
-{
-    match name.split_first() {
-        None => name,
-        Some((byte, rest)) => {
-            if *byte == b'/' {
-                return rest;
-            }
-            name
-        }
-    }
-}
-
-/// Whether two names are the same without one leading `/` of each.
-fn are_alike(name: &[u8], other: &[u8]) -> bool
-    ensures { result ≡ bytes_eq (bare name.now) (bare other.now) }
-{
-    without_slash(name) == without_slash(other)
-}
-
 /// Whether a name is apart from others.
 fn is_apart(name: &str, others: &[String]) -> bool
     ensures { result ≡ list_all (λ other. not (bytes_eq (bare name.now) (bare (string_bytes other)))) others.now }
@@ -108,7 +86,7 @@ pub fn are_files(words: &[String]) -> bool
     if words.is_empty() {
         return false;
     }
-    if words.len() > MOST_FILES {
+    if words.len() > FILE_COUNT_LIMIT {
         return false;
     }
     if !are_named(words) {

@@ -1,16 +1,19 @@
 //! The command `run`.
-ghost use Rattle.std.specs.Prelude.{◌≡◌, ◌≤◌, map, string_bytes, IfOk, Result, MatchResult};
+ghost use Rattle.std.specs.Prelude.{◌≡◌, ◌≤◌, map, string_bytes, Some, IfOk, Result, MatchResult};
 ghost use Rattle.dp_outside.specs.Changes.{change};
-ghost use Rattle.dp_bundle.specs.declared.bundle.Bundle.{Bundle};
+ghost use Rattle.dp_tree.specs.declared.bundle.Bundle.{Bundle};
 ghost use Rattle.dp_bundle.specs.declared.errors.BundleError.{BundleError as Unmade};
-ghost use Rattle.dp_run.specs.Runs.{Holds, Runs};
-ghost use Rattle.dp_top.specs.CommandLine.{AreFileWords, ask_told};
-ghost use Rattle.dp_top.specs.Runs.{IsHeld, IsRunTold, failure_of, name_at as name_in, name_told, RunFails};
+ghost use Rattle.dp_run.specs.Programs.{Holds};
+ghost use Rattle.dp_run.specs.Runs.{Runs};
+ghost use Rattle.dp_top.specs.CommandLine.{AreFileWords};
+ghost use Rattle.dp_top.specs.inner.Commands.{ask_told};
+ghost use Rattle.dp_top.specs.Runs.{IsFetched, IsProgramTold, IsRunTold, failure_of, name_at as name_in, name_told, program_failure, program_name, RunFails};
+ghost use Rattle.dp_top.specs.inner.Held.{IsHeld};
 
 use crate::command_line::Program;
 use crate::failures::{Failure, Refused, refusal};
 use dp_outside::{Shelf, Sink};
-use dp_run::RunError;
+use dp_run::{ProgramError, RunError};
 use std::alloc::Global;
 
 /// The name of the file of this number.
@@ -23,15 +26,48 @@ fn name_at(names: &[String], number: u32) -> &[u8]
     }
 }
 
+/// The failure that it is that files make no program.
+fn program_failure(why: &ProgramError) -> Failure
+    ensures { result ≡ program_failure why.now }
+{
+    match why {
+        ProgramError::Shelf { file: _ } => Failure::ShelfFailed,
+        ProgramError::Missing { file: _ } => Failure::NoFile,
+        ProgramError::TooLong { file: _ } => Failure::TooLong,
+        ProgramError::Source { file: _, error } => refusal(error),
+        ProgramError::Memory => Failure::Memory,
+    }
+}
+
+/// The name of the file that it is of, where it is of one, else nothing.
+fn program_name<'a>(names: &'a [String], why: &ProgramError) -> &'a [u8]
+    ensures { result.now ≡ program_name (map string_bytes names.now) why.now }
+{
+    match why {
+        ProgramError::Shelf { file } => name_at(names, *file),
+        ProgramError::Missing { file } => name_at(names, *file),
+        ProgramError::TooLong { file } => name_at(names, *file),
+        ProgramError::Source { file, error: _ } => name_at(names, *file),
+        ProgramError::Memory => b"",
+    }
+}
+
+/// What is told of files that make no program.
+pub fn told_of_files<'a>(program: Program<'a>, why: &ProgramError) -> Refused<'a>
+    ensures { IsProgramTold result.failure result.name.now (ask_told program.entry) why.now }
+{
+    Refused {
+        failure: program_failure(why),
+        name: program_name(program.files, why),
+    }
+}
+
 /// The failure that the end of a run is.
 fn failure_of(bound: u64, why: &RunError) -> Failure
     ensures { result ≡ failure_of bound why.now }
 {
     match why {
-        RunError::ShelfFailed { file: _ } => Failure::ShelfFailed,
-        RunError::NoFile { file: _ } => Failure::NoFile,
-        RunError::TooLong { file: _ } => Failure::TooLong,
-        RunError::Source { file: _, error } => refusal(error),
+        RunError::Program(why) => program_failure(why),
         RunError::Fatal {
             kind,
             file: _,
@@ -51,10 +87,7 @@ fn name_told<'a>(names: &'a [String], why: &RunError) -> &'a [u8]
     ensures { result.now ≡ name_told (map string_bytes names.now) why.now }
 {
     match why {
-        RunError::ShelfFailed { file } => name_at(names, *file),
-        RunError::NoFile { file } => name_at(names, *file),
-        RunError::TooLong { file } => name_at(names, *file),
-        RunError::Source { file, error: _ } => name_at(names, *file),
+        RunError::Program(why) => program_name(names, why),
         RunError::Fatal {
             kind: _,
             file,
@@ -91,6 +124,7 @@ pub fn run<'a, H: Shelf, K: Sink>(
     ensures status { IfOk result (λ status. status ≤ 199) }
     ensures held { (asked : Result Bundle Unmade) → Holds (H.files shelf.old) (ask_told program.entry).names asked
         → IsHeld asked result (H.faults shelf.old) (H.faults shelf.new) }
+    ensures fetched { IsFetched (Some (ask_told program.entry)) (H.fetched shelf.old) (H.fetched shelf.new) }
     ensures shelf_later { H.faults shelf.old ≤ H.faults shelf.new }
     ensures files { H.files shelf.new ≡ H.files shelf.old }
     ensures out_later { K.faults out.old ≤ K.faults out.new }

@@ -1,21 +1,24 @@
 //! The command `talk`: one session over the program's own input and output.
-ghost use Rattle.std.specs.Prelude.{◌≡◌, ◌≤◌, ℕ, Ok, map, IfOk, Result, MatchResult};
+ghost use Rattle.std.specs.Prelude.{◌≡◌, ◌≤◌, ℕ, Ok, map, Some, IfOk, Result, MatchResult};
 ghost use Rattle.dp_outside.specs.Changes.{change};
-ghost use Rattle.dp_bundle.specs.declared.bundle.Bundle.{Bundle as Made};
+ghost use Rattle.dp_tree.specs.declared.bundle.Bundle.{Bundle as Made};
 ghost use Rattle.dp_bundle.specs.declared.errors.BundleError.{BundleError as Unmade};
-ghost use Rattle.dp_run.specs.Runs.{Holds};
-ghost use Rattle.dp_top.specs.CommandLine.{IsSession, ask_told};
-ghost use Rattle.dp_top.specs.Runs.{IsHeld};
-ghost use Rattle.dp_top.specs.Talk.{ServedSo, Talks, TalkFails, UnservedSo, ended, judged, told_in};
+ghost use Rattle.dp_run.specs.Programs.{Holds};
+ghost use Rattle.dp_top.specs.CommandLine.{IsSession};
+ghost use Rattle.dp_top.specs.inner.Commands.{ask_told};
+ghost use Rattle.dp_top.specs.Runs.{IsFetched};
+ghost use Rattle.dp_top.specs.inner.Held.{IsHeld};
+ghost use Rattle.dp_top.specs.Talk.{Talks, TalkFails, ended, judged};
+ghost use Rattle.dp_top.specs.inner.Sessions.{ServedSo, UnservedSo, told_in};
 
 use crate::command_line::{Program, Talk};
 use crate::failures::{Failure, Refused};
-use crate::run::told;
-use dp_bundle::Bundle;
+use crate::run::{told, told_of_files};
 use dp_engine::{ServeEnd, Served, Session, serve};
 use dp_outside::{Shelf, Sink, Source};
 use dp_run::fetch_program;
 use dp_state::Outcome;
+use dp_tree::Bundle;
 use std::alloc::Global;
 
 /// What the end of a program says of the command; a program that has none was stopped.
@@ -106,6 +109,7 @@ pub fn talk<'a, H: Shelf, S: Source, K: Sink, E: Sink>(
     // Files that make a program are no bad source, and those that make none are one, unless the shelf failed.
     ensures held { (asked : Result Made Unmade) → Holds (H.files shelf.old) (ask_told request.entry.program).names asked
         → IsHeld asked result (H.faults shelf.old) (H.faults shelf.new) }
+    ensures fetched { IsFetched (Some (ask_told request.entry.program)) (H.fetched shelf.old) (H.fetched shelf.new) }
     ensures files { H.files shelf.new ≡ H.files shelf.old }
 
     ensures shelf_later { H.faults shelf.old ≤ H.faults shelf.new }
@@ -115,6 +119,6 @@ pub fn talk<'a, H: Shelf, S: Source, K: Sink, E: Sink>(
 {
     match fetch_program(alloc, request.program.files, shelf) {
         Ok(bundle) => serve_program(alloc, request, &bundle, input, out, err),
-        Err(why) => Err(told(request.program, &why)),
+        Err(why) => Err(told_of_files(request.program, &why)),
     }
 }

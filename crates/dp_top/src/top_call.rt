@@ -2,11 +2,12 @@
 ghost use Rattle.std.specs.Prelude.{◌≡◌, ◌↔◌, ◌⊎◌, ◌<◌, ◌≤◌, ℕ, List, Some, Ok, Err, codes, map, string_bytes};
 ghost use Rattle.dp_outside.specs.Causes.{Rose};
 ghost use Rattle.dp_outside.specs.Changes.{change, IsUntouched};
-ghost use Rattle.dp_bundle.specs.declared.bundle.Bundle.{Bundle};
+ghost use Rattle.dp_tree.specs.declared.bundle.Bundle.{Bundle};
 ghost use Rattle.dp_bundle.specs.declared.errors.BundleError.{BundleError};
 ghost use Rattle.dp_top.specs.CommandLine.{Ask, IsRun, IsTalk, Task, Asks, ask_in};
 ghost use Rattle.dp_top.specs.Failures.{Says};
-ghost use Rattle.dp_run.specs.Runs.{Holds};
+ghost use Rattle.dp_run.specs.Programs.{Holds};
+ghost use Rattle.dp_top.specs.Runs.{IsFetched};
 ghost use Rattle.dp_top.specs.Tasks.{IsDone, Fails, NoneRose};
 
 use crate::command_line::read_words;
@@ -54,6 +55,7 @@ pub fn top<R: Wait + Sync, H: Shelf, S: Source, K: Sink, E: Sink, N: Net, P: Spa
     ensures usage_input { result ≡ 200 → IsUntouched (change S.left S.faults input.old input.new) }
     ensures usage_out { result ≡ 200 → IsUntouched (change K.taken K.faults out.old out.new) }
     ensures usage_shelf { result ≡ 200 → H.faults shelf.new ≡ H.faults shelf.old }
+    ensures usage_fetched { result ≡ 200 → H.fetched shelf.new ≡ H.fetched shelf.old }
 
     ensures done { result ≤ 199 → IsDone result (map string_bytes words.now) (H.files shelf.old)
         (change S.left S.faults input.old input.new) (change K.taken K.faults out.old out.new)
@@ -86,6 +88,9 @@ pub fn top<R: Wait + Sync, H: Shelf, S: Source, K: Sink, E: Sink, N: Net, P: Spa
         → (result ≡ 0) ⊎ (result ≡ 206) ⊎ (result ≡ 207) ⊎ (result ≡ 209) }
 
     ensures show_shelf { Asks (map string_bytes words.now) Task.show → H.faults shelf.new ≡ H.faults shelf.old }
+    // Only files that the words name are fetched, each once, in their order; for `show` none.
+    ensures fetched { (task : Task) → Asks (map string_bytes words.now) task
+        → IsFetched (ask_in task) (H.fetched shelf.old) (H.fetched shelf.new) }
     ensures files { H.files shelf.new ≡ H.files shelf.old }
     ensures net { N.faults net.new ≡ N.faults net.old }
     ensures spawner { P.faults spawner.new ≡ P.faults spawner.old }

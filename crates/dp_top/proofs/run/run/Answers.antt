@@ -1,6 +1,9 @@
-use Rattle.std.proofs.Common.{ℕ, inl}
+use Rattle.std.proofs.Common.{ℕ, Ok, Err, inl}
+use Rattle.std.specs.Prelude.{⊤}
+use Rattle.dp_run.specs.Runs.{of_program}
+use Rattle.dp_top.specs.inner.Commands.{ask_told}
 use Rattle.dp_top.proofs.NameLaws.{names_of}
-use Rattle.dp_top.proofs.RunTold.{held_failure, held_status}
+use Rattle.dp_top.proofs.RunTold.{fetched, held_run, held_status}
 use Rattle.dp_top.proofs.run.run.Goals as goal
 
 pub run-requires : goal.run-requires
@@ -12,8 +15,16 @@ returns-in-Ok-clause-held g c asked held =
 
 pub returns-in-Err-clause-held : goal.returns-in-Err-clause-held
 returns-in-Err-clause-held g c asked held =
-    held_failure ℕ c.args.program.bound asked c.in-Err.why c.told.result (g.H.Shelf.faults c.args.shelf.now) (g.H.Shelf.faults c.run.new.shelf) c.told.ensures.0
+    held_run c.args.program.bound asked c.in-Err.why c.told.result (g.H.Shelf.faults c.args.shelf.now) (g.H.Shelf.faults c.run.new.shelf) c.told.ensures.0
     (c.in-Err.ensures.held asked held)
 
 pub returns-in-Err-clause-ends : goal.returns-in-Err-clause-ends
 returns-in-Err-clause-ends g c = record { why = c.in-Err.why; caused = c.in-Err.ensures.ends; told = inl c.told.ensures }
+
+pub returns-in-Ok-clause-fetched : goal.returns-in-Ok-clause-fetched
+returns-in-Ok-clause-fetched g c =
+    fetched ⊤ (Ok tt) (g.H.Shelf.fetched c.args.shelf.now) (g.H.Shelf.fetched c.run.new.shelf) (ask_told c.args.program) c.in-Ok.ensures.asked
+
+pub returns-in-Err-clause-fetched : goal.returns-in-Err-clause-fetched
+returns-in-Err-clause-fetched g c =
+    fetched ⊤ (of_program {A = ℕ} (Err c.in-Err.why)) (g.H.Shelf.fetched c.args.shelf.now) (g.H.Shelf.fetched c.run.new.shelf) (ask_told c.args.program) c.in-Err.ensures.asked

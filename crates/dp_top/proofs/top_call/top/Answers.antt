@@ -1,6 +1,7 @@
 use Rattle.std.proofs.Common.{Err, inl, arith}
-use Rattle.dp_top.proofs.TaskLaws.{fails_told, told_above, complete_show_fails, shows_well, asks_show, asks_program, refused_told, complete_run_told, complete_talk_told}
-use Rattle.dp_top.specs.CommandLine.{run, talk, show, task_of}
+use Rattle.dp_top.proofs.TaskLaws.{asks_fetched, fails_told, told_above, complete_show_fails, shows_well, asks_show, asks_program, refused_told, complete_run_told, complete_talk_told}
+use Rattle.dp_top.specs.CommandLine.{run, talk, show}
+use Rattle.dp_top.specs.inner.Commands.{task_of}
 use Rattle.dp_top.proofs.top_call.top.Goals as goal
 
 pub returns-in-None-clause-complete_talk : goal.returns-in-None-clause-complete_talk
@@ -71,3 +72,12 @@ returns-in-Ok-clause-refused g c = λ task ask why asks is held.
 
 pub returns-in-Ok-clause-show_shelf : goal.returns-in-Ok-clause-show_shelf
 returns-in-Ok-clause-show_shelf g c = λ asks. c.in-Ok.ensures.show_shelf (asks_show _ (task_of c.in-Some.command) c.in-Some.ensures.found asks)
+
+pub returns-in-None-clause-fetched : goal.returns-in-None-clause-fetched
+returns-in-None-clause-fetched g c = λ task asks. absurd (c.in-None.ensures.none task asks)
+
+pub returns-in-Err-clause-fetched : goal.returns-in-Err-clause-fetched
+returns-in-Err-clause-fetched g c = λ task asks. asks_fetched _ (task_of c.in-Some.command) task _ _ c.in-Some.ensures.found c.in-Err.ensures.fetched asks
+
+pub returns-in-Ok-clause-fetched : goal.returns-in-Ok-clause-fetched
+returns-in-Ok-clause-fetched g c = λ task asks. asks_fetched _ (task_of c.in-Some.command) task _ _ c.in-Some.ensures.found c.in-Ok.ensures.fetched asks

@@ -1,0 +1,101 @@
+-- The program of files that lie on a shelf: which it is, which files are asked for, and why there
+-- is none.
+use Rattle.std.specs.Prelude.{◌≡◌, ◌⊎◌, ℕ, ◌+◌, ◌<◌, Bool, true, false, List, [], length, map}
+use Rattle.std.specs.Prelude.{take, All, get_or, Option, Result, Ok, Err, IsSome, IfErr}
+use Rattle.std.specs.Prelude.{MatchResult, ⊤}
+use Rattle.dp_outside.specs.Causes.{Rose}
+use Rattle.dp_outside.specs.Files.{Fetches, Lacks}
+use Rattle.dp_outside.specs.Telling.{grown}
+use Rattle.dp_bundle.specs.Bundles.{Given, Makes}
+use Rattle.dp_tree.specs.FileNames.{file_limit}
+use Rattle.dp_tree.specs.declared.bundle.Bundle.{Bundle}
+use Rattle.dp_bundle.specs.declared.errors.BundleError.{BundleError}
+use Rattle.dp_bundle.specs.declared.errors.BundleError.TheVariants as unmade
+use Rattle.dp_run.specs.declared.error.ProgramError.{ProgramError}
+use Rattle.dp_run.specs.declared.error.ProgramError.TheVariants.{Shelf, Missing, TooLong, Source}
+use Rattle.dp_run.specs.declared.error.ProgramError.TheVariants.{Memory}
+
+-- ---- the program
+
+-- the names and contents of a shelf's files, where it tells them
+abbrev pub Files : Type 0
+Files = Option (List (List ℕ × List ℕ))
+
+-- what was fetched: the files of these names, in order; of a file that is longer than one may be,
+-- its front
+pub record AreFetched (files : Files) (names : List (List ℕ)) (fetched : List Given) : Type 0 where
+  pub named : map (λ file. file.0) fetched ≡ names
+  pub contents : All (λ file. Fetches files file.0 file_limit file.1) fetched
+
+-- what the files of these names make: a program, or the refusal of the first that is refused
+pub record Make (files : Files) (names : List (List ℕ)) (made : Result Bundle BundleError) : Type 0
+  where
+    pub fetched : List Given
+    pub are : AreFetched files names fetched
+    pub makes : Makes fetched made
+
+-- the shelf tells its files, and those of these names make this
+pub record Holds (files : Files) (names : List (List ℕ)) (made : Result Bundle BundleError) : Type 0
+  where
+    pub tells : IsSome files
+    pub make : Make files names made
+
+-- ---- why there is none
+
+-- the files before that of this number were fetched, and it came next
+pub record Comes (files : Files) (names : List (List ℕ)) (file : ℕ) : Type 0 where
+  pub below : file < length names
+  pub before : List Given
+  pub are : AreFetched files (take file names) before
+
+-- why the files of these names were not fetched, or make no program
+abbrev pub NoProgram : ProgramError → Files → ℕ → ℕ → List (List ℕ) → Type 0
+NoProgram (Shelf file) files before after names = Comes files names file × Rose before after
+NoProgram (Missing file) files before after names =
+    Comes files names file × Lacks files (get_or names file [])
+NoProgram (TooLong file) files before after names = Make files names (Err (unmade.TooLong file))
+NoProgram (Source file why) files before after names =
+    Make files names (Err (unmade.Source file why))
+NoProgram Memory files before after names = ⊤
+
+-- ---- which files are asked for
+
+-- the names that a shelf was asked for, where it tells them
+abbrev pub Told : Type 0
+Told = Option (List (List ℕ))
+
+-- These names were asked for, each once, in their order, and no other: all of them, or those up to
+-- the file that was not
+-- fetched. Where memory ran out it may have been any number of them.
+abbrev pub Asks : {A : Type 0} → Result A ProgramError → Told → Told → List (List ℕ) → Type 0
+Asks (Ok a) before after names = after ≡ grown before names
+Asks (Err (Shelf file)) before after names = after ≡ grown before (take (file + 1) names)
+Asks (Err (Missing file)) before after names = after ≡ grown before (take (file + 1) names)
+Asks (Err (TooLong file)) before after names = after ≡ grown before names
+Asks (Err (Source file why)) before after names = after ≡ grown before names
+Asks (Err Memory) before after names = (count : ℕ) × (after ≡ grown before (take count names))
+
+-- ---- completeness
+
+-- whether it tells of a file that is lacking or refused
+abbrev pub is_bad_file : ProgramError → Bool
+is_bad_file (Shelf file) = false
+is_bad_file (Missing file) = true
+is_bad_file (TooLong file) = true
+is_bad_file (Source file why) = true
+is_bad_file Memory = false
+
+-- the failure that a refusal is
+abbrev pub refusal : BundleError → ProgramError
+refusal (unmade.Source file why) = Source file why
+refusal (unmade.TooLong file) = TooLong file
+refusal unmade.Memory = Memory
+
+-- Where the files make a program, none is told as bad; where they make a refusal, that is told,
+-- unless the shelf or
+-- memory failed.
+abbrev pub IsHeld : {A : Type 0} → Result Bundle BundleError → Result A ProgramError → ℕ → ℕ
+    → Type 0
+IsHeld (Ok program) result before after = IfErr result (λ why. is_bad_file why ≡ false)
+IsHeld (Err e) result before after =
+    MatchResult result (λ _. ⊥) (λ why. (why ≡ refusal e) ⊎ (why ≡ Memory) ⊎ Rose before after)

@@ -1,0 +1,2 @@
+-- How the code goes; no public clause cites it.
+pub mod Steps

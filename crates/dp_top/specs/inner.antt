@@ -1,0 +1,4 @@
+-- What only proofs use. No clause of the top call cites these.
+pub mod Commands
+pub mod Held
+pub mod Sessions

@@ -1,0 +1,18 @@
+-- How what the files make decides whether a run or a session fails by a bad source.
+use Rattle.std.specs.Prelude.{◌≡◌, ◌≢◌, ◌⊎◌, ℕ, Result, Ok, Err, IfErr, MatchResult}
+use Rattle.dp_outside.specs.Causes.{Rose}
+use Rattle.dp_tree.specs.declared.bundle.Bundle.{Bundle}
+use Rattle.dp_bundle.specs.declared.errors.BundleError.{BundleError}
+use Rattle.dp_top.specs.declared.failures.Failure.{Failure}
+use Rattle.dp_top.specs.declared.failures.Failure.TheVariants.{NoFile, Memory}
+use Rattle.dp_top.specs.declared.failures.Refused.{Refused}
+use Rattle.dp_top.specs.Failures.{status_of}
+
+-- it is told as a bad source, or memory ran out
+abbrev pub IsBadSource : Failure → Type 0
+IsBadSource failure = (status_of failure ≡ 201) ⊎ (failure ≡ Memory)
+
+-- files that make a program are no bad source, and those that make none are one, unless the shelf failed
+abbrev pub IsHeld : {A : Type 0} → Result Bundle BundleError → Result A Refused → ℕ → ℕ → Type 0
+IsHeld (Ok program) result before after = IfErr result (λ why. (status_of why.failure ≢ 201) × (why.failure ≢ NoFile))
+IsHeld (Err e) result before after = MatchResult result (λ _. ⊥) (λ why. IsBadSource why.failure ⊎ Rose before after)
