@@ -124,13 +124,19 @@ impl Session {
         } else if field.name == b"evaluate".as_slice() {
             self.write(text, evaluation(self.alloc, field.text)?)
         } else if field.name == b"place".as_slice() {
-            self.write(text, placing(self.alloc, &self.bundle, field.text)?)
+            let write = self.placed(field.text)?;
+            self.write(text, write)
         } else if is_other(field.name) {
             Ok(())
         } else {
             text.push_str("unknown field\n")?;
             Ok(())
         }
+    }
+
+    /// The write that a field names, over the program of this session.
+    fn placed(&self, text: &[u8]) -> Result<Option<NumberedWrite>, Memory> {
+        placing(self.alloc, &self.bundle, text)
     }
 
     /// Sets how much is shown.
