@@ -10,7 +10,8 @@ use Rattle.dp_bundle.specs.declared.errors.BundleError.{BundleError}
 use Rattle.dp_bundle.specs.declared.errors.BundleError.TheVariants.{Source, TooLong, Memory}
 use Rattle.dp_tree.specs.declared.bundle.BundleFile.{BundleFile}
 use Rattle.dp_tree.specs.FileNames.{file_limit}
-use Rattle.dp_bundle.specs.Bundles.{Given, IsBundleFile, IsRefused, IsAnswer, MakesFrom, Makes, files_in, source_of}
+use Rattle.dp_bundle.specs.Bundles.{Given, IsBundleFile, IsRefused, IsAnswer, MakesFrom, Makes, files_in}
+use Rattle.dp_bundle.specs.inner.Sources.{source_of}
 
 -- ---- one file
 

@@ -1,6 +1,5 @@
 -- The files of a program: which bundle they make, and why they make none.
-use Rattle.std.specs.Prelude.{◌≡◌, ◌≢◌, ◌⊎◌, ℕ, suc, ◌<◌, ◌≤◌, ◌==◌, if◌then◌else◌, List, [], ◌∷◌, length, map, All, IsUtf8, Result, Ok, Err, ⊤}
-use Rattle.dp_parse.specs.declared.errors.ParseError.{ParseError}
+use Rattle.std.specs.Prelude.{◌≡◌, ◌≢◌, ◌⊎◌, ℕ, suc, ◌<◌, ◌≤◌, List, [], ◌∷◌, length, map, Result, Ok, Err, ⊤}
 use Rattle.dp_parse.specs.declared.errors.ParseError.TheVariants as parse_error
 use Rattle.dp_parse.specs.Programs.{IsFile, IsNoFile}
 use Rattle.dp_tree.specs.declared.bundle.Bundle.{Bundle}
@@ -56,9 +55,3 @@ Makes files result = MakesFrom 0 files (files_in result)
 -- a result is this one, or memory ran out
 abbrev pub IsAnswer : Result Bundle BundleError → Result Bundle BundleError → Type 0
 IsAnswer asked result = (result ≡ asked) ⊎ (result ≡ Err Memory)
-
--- ---- inside the crate
--- the refusal of the file of this number, where its text has no tree for this reason
-abbrev pub source_of : ℕ → ParseError → BundleError
-source_of number parse_error.Memory = Memory
-source_of number why = Source number why

@@ -1,3 +1,5 @@
+//! Why files make no program.
+
 ghost use Rattle.std.specs.Prelude.{◌≡◌};
 
 use dp_parse::ParseError;

@@ -3,7 +3,8 @@
 ghost use Rattle.std.specs.Prelude.{◌≡◌, ◌⊎◌, ◌≤◌, length, Result, Err, IfOk, IfErr, MatchResult};
 ghost use Rattle.std.specs.Prelude.{List};
 ghost use Rattle.dp_tree.specs.FileNames.{file_limit};
-ghost use Rattle.dp_bundle.specs.Bundles.{AreForBundle, IsAnswer, IsBundleFile, IsRefused, Makes, source_of as named_source};
+ghost use Rattle.dp_bundle.specs.Bundles.{AreForBundle, IsAnswer, IsBundleFile, IsRefused, Makes};
+ghost use Rattle.dp_bundle.specs.inner.Sources.{source_of as named_source};
 ghost use Rattle.dp_tree.specs.declared.bundle.Bundle.{Bundle as Made};
 ghost use Rattle.dp_bundle.specs.declared.errors.BundleError.{BundleError as Refusal};
 ghost use Rattle.dp_tree.specs.declared.bundle.BundleFile.{BundleFile as MadeFile};

@@ -21,8 +21,8 @@ with_text name options (Some text) =
 unfoldable pub line_of : List ℕ → Option Line
 line_of bytes = parts_at bytes >>= λ parts. with_text parts.0 parts.1 parts.2
 
--- what a function that reads answers, seen by view: what there is, or a refusal where there is none,
--- unless memory ran out
+-- what a function that reads answers, seen by view: what there is, or a refusal where there is
+-- none, unless memory ran out
 abbrev pub Fails : {Y : Type 0} → LineError → Option Y → Type 0
 Fails errors.Memory read = Unit {0}
 Fails errors.Parse read = read ≡ None

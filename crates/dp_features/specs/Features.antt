@@ -1,5 +1,5 @@
--- The features of an engine: DBGp 1.0, "feature_get", "feature_set". Which of them can be set, and to
--- what, is this engine's own where the standard leaves it open.
+-- The features of an engine: DBGp 1.0, "feature_get", "feature_set". Which of them can be set, and
+-- to what, is this engine's own where the standard leaves it open.
 use Rattle.std.specs.Prelude.{◌≤◌, ℕ, nat_le, Bool, not, ◌&&◌, List, [], ◌∷◌, Option, Some, None, IfSome, if◌then◌else◌, option_map, option_and_then, codes, decimal}
 use Rattle.std.specs.List.{find}
 use Rattle.std.specs.Str.{bytes_eq}
@@ -92,7 +92,8 @@ range_of feature = None
 
 -- the number is in the feature's range, where it has one
 abbrev pub IsInRange : Feature → ℕ → Type 0
-IsInRange feature number = IfSome (range_of feature) (λ range. (range.0 ≤ number) × (number ≤ range.1))
+IsInRange feature number =
+    IfSome (range_of feature) (λ range. (range.0 ≤ number) × (number ≤ range.1))
 
 -- the number of a decimal in this range
 abbrev pub number_in : List ℕ → ℕ × ℕ → Option ℕ
@@ -110,7 +111,8 @@ setting_of feature value = option_map (λ number. (feature, number)) (number_of 
 
 -- the same, of the feature of this name
 abbrev pub setting_named : List ℕ → List ℕ → Option (Feature × ℕ)
-setting_named name value = option_and_then (λ feature. setting_of feature value) (feature_named name)
+setting_named name value =
+    option_and_then (λ feature. setting_of feature value) (feature_named name)
 
 -- another encoding than the one that there is
 abbrev pub is_other_encoding : List ℕ → List ℕ → Bool

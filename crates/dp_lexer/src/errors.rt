@@ -1,3 +1,5 @@
+//! Why bytes have no tokens.
+
 ghost use Rattle.std.specs.Prelude.{◌≡◌};
 
 use std::alloc::{AllocError, AllocFailed};

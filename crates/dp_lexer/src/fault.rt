@@ -1,3 +1,5 @@
+//! Why no piece of a text was found, before its place in the whole is known.
+
 ghost use Rattle.std.specs.Prelude.{◌≡◌};
 
 use std::alloc::AllocError;

@@ -1,3 +1,5 @@
+//! The bytes of names and texts among tokens.
+
 ghost use Rattle.std.specs.Prelude.{◌≡◌, IfOk};
 
 use std::alloc::{AllocError, Global};

@@ -1,3 +1,5 @@
+//! Tokens, with their places.
+
 use crate::spelling::Spelling;
 
 /// What a token is: a variable (by its name without the `$`), a name as written, a number, the bytes that a quoted text

@@ -91,7 +91,8 @@ start_tag name is_empty t = record { name = name; attributes = t.found; is_empty
 -- `>`, or `/>` of an empty element
 abbrev pub TagEnd : Text → Tag → Rule StartTag
 TagEnd name t =
-    Made (Mark 62) (λ _. start_tag name false t) or Made (Word (codes "/>")) (λ _. start_tag name true t)
+    Made (Mark 62) (λ _. start_tag name false t) or Made (Word (codes "/>"))
+    (λ _. start_tag name true t)
 
 abbrev pub no_attribute : Tag
 no_attribute = record { found = []; apart = false }

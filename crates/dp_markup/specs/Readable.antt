@@ -16,7 +16,8 @@ AreBytes (b ∷ bytes) = (b < 256) × AreBytes bytes
 abbrev pub AreAttributes : Attributes → Attributes → Type 0
 AreAttributes found [] = Unit {0}
 AreAttributes found (a ∷ rest) =
-    (is_name a.0 ≡ true) × (is_new found a.0 ≡ true) × AreBytes a.1 × AreAttributes (found ++ a ∷ []) rest
+    (is_name a.0 ≡ true) × (is_new found a.0 ≡ true) × AreBytes a.1
+    × AreAttributes (found ++ a ∷ []) rest
 
 -- a text that is not empty
 abbrev pub IsText : Text → Type 0
@@ -42,4 +43,5 @@ AreNodes inner behind_text (n ∷ nodes) =
 abbrev pub IsReadable : ℕ → Element → Type 0
 IsReadable zero e = ⊥
 IsReadable (suc level) e =
-    (is_name e.name ≡ true) × AreAttributes [] e.attributes × AreNodes (IsReadable level) false e.children
+    (is_name e.name ≡ true) × AreAttributes [] e.attributes
+    × AreNodes (IsReadable level) false e.children

@@ -58,12 +58,14 @@ Word [] = Gives tt
 Word (c ∷ cs) = Mark c >> Word cs
 
 -- a value that passes a test
-pub record Tested {A : Type 0} (rule : Rule A) (test : A → Bool) (text : List ℕ) (a : A) : Type 0 where
+pub record Tested {A : Type 0} (rule : Rule A) (test : A → Bool) (text : List ℕ)
+    (a : A) : Type 0 where
   pub spelled : rule text a
   pub passes : test a ≡ true
 
 -- the rule where the condition holds, else nothing
-pub record When {A : Type 0} (condition : Bool) (rule : Rule A) (text : List ℕ) (a : A) : Type 0 where
+pub record When {A : Type 0} (condition : Bool) (rule : Rule A) (text : List ℕ)
+    (a : A) : Type 0 where
   pub holds : condition ≡ true
   pub spelled : rule text a
 
@@ -73,7 +75,8 @@ Chain piece end zero a = end a
 Chain piece end (suc count) a = Joined (piece a) (Chain piece end count)
 
 -- any number of pieces, each from the value of the last, and then an end
-pub record Closed {A B : Type 0} (piece : A → Rule A) (end : A → Rule B) (a : A) (text : List ℕ) (b : B) : Type 0 where
+pub record Closed {A B : Type 0} (piece : A → Rule A) (end : A → Rule B) (a : A) (text : List ℕ)
+    (b : B) : Type 0 where
   pub count : ℕ
   pub chain : Chain piece end count a text b
 

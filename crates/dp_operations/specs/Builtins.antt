@@ -1,4 +1,5 @@
--- The table of the built-in functions. Each takes exactly its arguments. Source: the PHP manual, "Function Reference".
+-- The table of the built-in functions. Each takes exactly its arguments. Source: the PHP manual,
+-- "Function Reference".
 use Rattle.std.specs.Prelude.{◌≡◌, ◌⊎◌, ℕ, ℤ, pos, negsuc, ◌*◌, Bool, true, false, cond, nat_le, List, [], ◌∷◌, length, map, Option, Some, None, Result, Ok, Err, MatchResult, int_div}
 use Rattle.std.specs.Int.{int_rem_euclid}
 use Rattle.std.specs.Int.RustNames.{unsigned_abs}
@@ -18,7 +19,8 @@ use Rattle.dp_operations.specs.Text.{text_of}
 
 -- r is the value or the refusal that the table has, or want of memory
 abbrev pub CallAnswers : Result Value CallError → Result Data CallError → Type 0
-CallAnswers r table = MatchResult r (λ v. table ≡ Ok (data_of v)) (λ e. (e ≡ Memory) ⊎ (table ≡ Err e))
+CallAnswers r table =
+    MatchResult r (λ v. table ≡ Ok (data_of v)) (λ e. (e ≡ Memory) ⊎ (table ≡ Err e))
 
 -- r is the value or the refusal that the table has
 abbrev pub CallGives : Result Value CallError → Result Data CallError → Type 0
@@ -48,11 +50,13 @@ abbrev pub on_one : (Data → Result Data CallError) → Option Data → Result 
 on_one f None = Err Arguments
 on_one f (Some a) = f a
 
-abbrev pub on_two : (Data → Data → Result Data CallError) → Option (Data × Data) → Result Data CallError
+abbrev pub on_two : (Data → Data → Result Data CallError) → Option (Data × Data)
+    → Result Data CallError
 on_two f None = Err Arguments
 on_two f (Some p) = f p.0 p.1
 
-abbrev pub on_three : (Data → Data → Data → Result Data CallError) → Option (Data × (Data × Data)) → Result Data CallError
+abbrev pub on_three : (Data → Data → Data → Result Data CallError) → Option (Data × (Data × Data))
+    → Result Data CallError
 on_three f None = Err Arguments
 on_three f (Some p) = f p.0 p.1.0 p.1.1
 
@@ -80,7 +84,8 @@ part (text bytes) (integer offset) (integer count) = Ok (text (part_of bytes off
 part _ _ _ = Err Unsupported
 
 abbrev pub repetition_of : List ℕ → ℤ → Result Data CallError
-repetition_of bytes (pos n) = cond (nat_le (n * length bytes) weight_limit) (Ok (text (repeated n bytes))) (Err TooHeavy)
+repetition_of bytes (pos n) =
+    cond (nat_le (n * length bytes) weight_limit) (Ok (text (repeated n bytes))) (Err TooHeavy)
 repetition_of bytes (negsuc n) = Err Arguments
 
 abbrev pub repetition : Data → Data → Result Data CallError
@@ -91,7 +96,8 @@ abbrev pub joining_of : List ℕ → Result Data CallError
 joining_of bytes = cond (nat_le (length bytes) weight_limit) (Ok (text bytes)) (Err TooHeavy)
 
 abbrev pub joining : Data → Data → Result Data CallError
-joining (text glue) (array es largest) = joining_of (join_by glue (map text_of (values_of (pairs_of es))))
+joining (text glue) (array es largest) =
+    joining_of (join_by glue (map text_of (values_of (pairs_of es))))
 joining _ _ = Err Unsupported
 
 -- ---- arrays
@@ -109,7 +115,9 @@ value_list _ = Err Unsupported
 
 -- ---- integers: the quotient toward zero
 abbrev pub quotient_of : ℤ → ℤ → Result Data CallError
-quotient_of m n = cond (int_eq n (pos 0)) (Err DivByZero) (cond (is_in_64_bits (int_div m n)) (Ok (integer (int_div m n))) (Err Overflow))
+quotient_of m n =
+    cond (int_eq n (pos 0)) (Err DivByZero) (cond (is_in_64_bits (int_div m n))
+    (Ok (integer (int_div m n))) (Err Overflow))
 
 abbrev pub quotient : Data → Data → Result Data CallError
 quotient (integer m) (integer n) = quotient_of m n

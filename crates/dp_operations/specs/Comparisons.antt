@@ -1,5 +1,5 @@
--- `==` and the order of values. Where PHP would compare by rules that this subset leaves out, the comparison is unsupported.
--- Source: the PHP manual, "Comparison Operators".
+-- `==` and the order of values. Where PHP would compare by rules that this subset leaves out, the
+-- comparison is unsupported. Source: the PHP manual, "Comparison Operators".
 use Rattle.std.specs.Prelude.{ℕ, Bool, true, false, ◌&&◌, cond, List, nat_eq, Result, Ok, Err}
 use Rattle.std.specs.Char.{is_ascii_digit}
 use Rattle.std.specs.Cmp.Lexicographic.{pointwise}
@@ -14,9 +14,12 @@ use Rattle.dp_value.specs.Data.{Data, null, boolean, integer, text, array}
 abbrev pub has_digit : List ℕ → Bool
 has_digit bytes = list_any is_ascii_digit bytes
 
--- equal texts are equal; two others differ where one of them has no digit, since such a text is no number
+-- equal texts are equal; two others differ where one of them has no digit, since such a text is no
+-- number
 abbrev pub equal_texts : List ℕ → List ℕ → Result Bool ValueError
-equal_texts a b = cond (pointwise nat_eq a b) (Ok true) (cond (has_digit a && has_digit b) (Err Unsupported) (Ok false))
+equal_texts a b =
+    cond (pointwise nat_eq a b) (Ok true) (cond (has_digit a && has_digit b) (Err Unsupported)
+    (Ok false))
 
 abbrev pub equality : Data → Data → Result Bool ValueError
 equality null null = Ok true

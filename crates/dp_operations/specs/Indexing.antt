@@ -13,7 +13,8 @@ use Rattle.dp_value.specs.Value.{data_of}
 -- a byte of a text by its position, which is counted from the end where it is negative
 abbrev pub byte_at : List ℕ → ℤ → Option ℕ
 byte_at bytes (pos n) = slice_get bytes n
-byte_at bytes (negsuc n) = cond (nat_le (suc n) (length bytes)) (slice_get bytes (length bytes - suc n)) None
+byte_at bytes (negsuc n) =
+    cond (nat_le (suc n) (length bytes)) (slice_get bytes (length bytes - suc n)) None
 
 -- the text of one byte of a text; only an integer has a position
 abbrev pub letter_at : List ℕ → Data → Option Data
@@ -23,13 +24,16 @@ letter_at bytes (integer n) = option_map (λ byte. text (byte ∷ [])) (byte_at 
 letter_at bytes (text index) = None
 letter_at bytes (array es largest) = None
 
--- what isset finds under an index: an array has what is under its key, a text its byte, and any other value nothing
+-- what isset finds under an index: an array has what is under its key, a text its byte, and any
+-- other value nothing
 abbrev pub found_under : Data → Data → Result (Option Data) ValueError
 found_under null index = Ok None
 found_under (boolean b) index = Ok None
 found_under (integer n) index = Ok None
 found_under (text bytes) index = Ok (letter_at bytes index)
-found_under (array es largest) index = option_map_or (λ key. Ok (value_at (record { pairs = pairs_of es; largest = largest }) key)) (key_of_data index) (Err BadKey)
+found_under (array es largest) index =
+    option_map_or (λ key. Ok (value_at (record { pairs = pairs_of es; largest = largest }) key))
+    (key_of_data index) (Err BadKey)
 
 abbrev pub or_null : Result (Option Data) ValueError → Result Data ValueError
 or_null (Ok found) = Ok (unwrap_or found null)
@@ -44,12 +48,14 @@ indexed holder index = or_null (found_under holder index)
 abbrev pub looked_up : Data → Data → Result Data ValueError
 looked_up holder index = or_null (found_under holder index)
 
-abbrev pub then_under : Result Data ValueError → (Data → Result Data ValueError) → Result Data ValueError
+abbrev pub then_under : Result Data ValueError → (Data → Result Data ValueError)
+    → Result Data ValueError
 then_under (Ok d) f = f d
 then_under (Err e) f = Err e
 
 -- what a reading gives under indices, one after another
-abbrev pub read_by : (Data → Data → Result Data ValueError) → List Data → Data → Result Data ValueError
+abbrev pub read_by : (Data → Data → Result Data ValueError) → List Data → Data
+    → Result Data ValueError
 read_by under [] d = Ok d
 read_by under (index ∷ indices) d = then_under (under d index) (read_by under indices)
 

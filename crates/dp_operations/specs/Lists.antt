@@ -22,4 +22,5 @@ list_of ds = record { pairs = numbered 0 ds; largest = last_of (length ds) }
 
 -- an array, where it is not too heavy
 abbrev pub light_array : Table → Result Data CallError
-light_array t = cond (nat_le (pairs_weight t.pairs) weight_limit) (Ok (data_of_table t)) (Err TooHeavy)
+light_array t =
+    cond (nat_le (pairs_weight t.pairs) weight_limit) (Ok (data_of_table t)) (Err TooHeavy)

@@ -1,3 +1,5 @@
+//! The arguments of calls, by their number.
+
 ghost use Rattle.std.specs.Prelude.{◌≡◌, map, option_map};
 ghost use Rattle.dp_value.specs.Value.{data_of};
 ghost use Rattle.dp_operations.specs.Builtins.{double as two_of, single as one_of};

@@ -1,3 +1,5 @@
+//! The built-in functions on arrays.
+
 ghost use Rattle.std.specs.Prelude.{◌≡◌, ◌<◌, ◌≤◌, ◌⊎◌, pos, length, map, Some, IfOk, IfErr, OnOk};
 ghost use Rattle.dp_value.specs.Data.{data_of_key, pairs_weight};
 ghost use Rattle.dp_value.specs.Table.{table_push, largest_int, weight_limit};

@@ -1,3 +1,5 @@
+//! Comparisons of values.
+
 ghost use Rattle.std.specs.Prelude.{◌≡◌};
 ghost use Rattle.dp_value.specs.Value.{data_of};
 ghost use Rattle.dp_operations.specs.Comparisons.{equality, equal_texts, has_digit, order_of};

@@ -1,3 +1,5 @@
+//! Values read under an index.
+
 ghost use Rattle.std.specs.Prelude.{◌≡◌, ◌⊎◌, [], ◌∷◌, map, option_map, Ok, Err, Some, IfOk, MatchResult};
 ghost use Rattle.dp_value.specs.Data.{text};
 ghost use Rattle.dp_value.specs.Value.{data_of};

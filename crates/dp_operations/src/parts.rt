@@ -1,3 +1,5 @@
+//! Parts of texts.
+
 ghost use Rattle.std.specs.Prelude.{◌≡◌, ◌≤◌, ◌<◌, ◌+◌, ◌++◌, ◌⊎◌, map, length, IfOk, OnOk, IfErr};
 ghost use Rattle.dp_value.specs.Data.{text};
 ghost use Rattle.dp_value.specs.Table.{weight_limit};

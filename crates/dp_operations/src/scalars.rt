@@ -1,3 +1,5 @@
+//! The built-in functions on texts and numbers that look at no array.
+
 ghost use Rattle.std.specs.Prelude.{◌≡◌, map};
 ghost use Rattle.dp_value.specs.Value.{data_of};
 ghost use Rattle.dp_operations.specs.Builtins as table;

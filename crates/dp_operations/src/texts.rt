@@ -1,3 +1,5 @@
+//! The texts of values, and texts joined.
+
 ghost use Rattle.std.specs.Prelude.{◌≡◌, IfOk, MatchResult};
 ghost use Rattle.std.specs.Fmt.{signed_decimal};
 ghost use Rattle.dp_value.specs.Value.{data_of};

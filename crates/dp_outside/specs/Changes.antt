@@ -11,7 +11,12 @@ pub record Change : Type 0 where
 
 abbrev pub change : {X : Type 0} → (X → Option (List ℕ)) → (X → ℕ) → X → X → Change
 change told faults before after =
-    record { told_before = told before; told = told after; faults_before = faults before; faults = faults after }
+    record {
+      told_before = told before;
+      told = told after;
+      faults_before = faults before;
+      faults = faults after;
+    }
 
 -- nothing was read or written, and nothing failed
 abbrev pub IsUntouched : Change → Type 0

@@ -24,7 +24,8 @@ after_call plan fault = record {
   faults = if fault then one_more plan.faults else plan.faults;
 }
 
--- bytes that are given in pieces: those given, those still left, and the sizes of the pieces to come
+-- bytes that are given in pieces: those given, those still left, and the sizes of the pieces to
+-- come
 pub record Tape : Type 0 where
   pub given : List ℕ
   pub left : List ℕ

@@ -9,7 +9,8 @@ use Rattle.std.specs.declared.option.Option.{Option}
 -- the content of the first file with this name
 abbrev pub content_of : List ℕ → List (List ℕ × List ℕ) → Option (List ℕ)
 content_of name [] = None
-content_of name (file ∷ files) = if pointwise nat_eq file.0 name then Some file.1 else content_of name files
+content_of name (file ∷ files) =
+    if pointwise nat_eq file.0 name then Some file.1 else content_of name files
 
 -- what a list of files tells: their names and contents
 abbrev pub told : List (String Global × Vec ℕ Global) → List (List ℕ × List ℕ)

@@ -1,3 +1,5 @@
+//! The objects in memory and the adapters, called as a program calls them.
+
 use dp_adapters::{FileShelf, Reading, Writing};
 use dp_outside::{
     ByteSink, ByteSource, Dialer, Failed, Faults, Gate, Hook, Host, Job, MapShelf, Memory, Net,

@@ -1,3 +1,5 @@
+//! Why bytes are no program, or no expression.
+
 ghost use Rattle.std.specs.Prelude.{◌≡◌};
 
 use dp_lexer::LexError;

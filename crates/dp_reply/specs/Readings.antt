@@ -72,7 +72,11 @@ shape_in inner type e =
 
 abbrev pub property_of : Element → Shape → Property
 property_of e s =
-    record { name = attribute (codes "name") e; fullname = attribute (codes "fullname") e; shape = s }
+    record {
+      name = attribute (codes "name") e;
+      fullname = attribute (codes "fullname") e;
+      shape = s;
+    }
 
 abbrev pub property_around : (Element → Option Property) → Element → Option Property
 property_around inner e = if is_named (codes "property") e

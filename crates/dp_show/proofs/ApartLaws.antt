@@ -11,7 +11,7 @@ use Rattle.dp_wire.proofs.LengthLaws.{partial_refused, unfinished_partial}
 use Rattle.dp_show.specs.declared.error.ShowError.TheVariants.{PeerEnd, BadPacket}
 use Rattle.dp_show.specs.Lines.{AreMarkup}
 use Rattle.dp_show.specs.Shows.{Shown, Shows, IsBadAt}
-use Rattle.dp_show.specs.Progress.{Told}
+use Rattle.dp_show.specs.inner.Progress.{Told}
 
 -- what is told decides what was read
 one_read : (before after : Told) (read other : List ℕ) → IsSome before → Consumes before after read → Consumes before after other → read ≡ other

@@ -1,3 +1,3 @@
 pub mod Lines
 pub mod Shows
-pub mod Progress
+pub mod inner

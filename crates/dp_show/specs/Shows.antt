@@ -29,7 +29,8 @@ pub record Shown (input : Change) : Type 0 where
 abbrev pub place_behind : List (List ℕ) → ℕ
 place_behind texts = min (length (flat_map packet_frame texts)) last_place
 
--- the place of a refusal: its byte, or where the length passes the limit the first byte of the frame
+-- the place of a refusal: its byte, or where the length passes the limit the first byte of the
+-- frame
 abbrev pub refused_at : WireError → ℕ → ℕ
 refused_at (BadLength offset) start = offset
 refused_at (NoNul offset) start = offset
@@ -42,20 +43,24 @@ pub record IsRefusedAt (received : Received) (offset : ℕ) : Type 0 where
   pub is_why : IsCause received why
   pub place : offset ≡ refused_at why received.dropped
 
--- Behind these packets no packet is shown: the next one's text is no markup, and its frame begins here; or no packet is
--- left, none begins the rest, and the place of this is here.
+-- Behind these packets no packet is shown: the next one's text is no markup, and its frame begins
+-- here; or no packet is left, none begins the rest, and the place of this is here.
 abbrev pub IsBadAt : ℕ → List (List ℕ) → List (List ℕ) → List ℕ → Type 0
 IsBadAt offset texts (next ∷ others) rest = IsNoMarkup next × (offset ≡ place_behind texts)
-IsBadAt offset texts [] rest = IsRefusedAt (record { held = rest; dropped = place_behind texts }) offset
+IsBadAt offset texts [] rest =
+    IsRefusedAt (record { held = rest; dropped = place_behind texts }) offset
 
 -- ---- why it ended
 
 -- the packets shown and the others, the rest of the bytes read, and what became of the input
-abbrev pub EndsBy : Result (Unit {0}) ShowError → List (List ℕ) → List (List ℕ) → List ℕ → Change → Type 0
+abbrev pub EndsBy : Result (Unit {0}) ShowError → List (List ℕ) → List (List ℕ) → List ℕ → Change
+    → Type 0
 EndsBy (Ok u) texts others rest input = (others ≡ []) × (rest ≡ []) × IsAtEnd input.told
-EndsBy (Err PeerEnd) texts others rest input = (others ≡ []) × (rest ≢ []) × IsPartialPacket rest × IsAtEnd input.told
+EndsBy (Err PeerEnd) texts others rest input =
+    (others ≡ []) × (rest ≢ []) × IsPartialPacket rest × IsAtEnd input.told
 EndsBy (Err (BadPacket offset)) texts others rest input = IsBadAt offset texts others rest
-EndsBy (Err ReadFault) texts others rest input = (others ≡ []) × IsPartialPacket rest × Rose input.faults_before input.faults
+EndsBy (Err ReadFault) texts others rest input =
+    (others ≡ []) × IsPartialPacket rest × Rose input.faults_before input.faults
 EndsBy (Err OutFault) texts others rest input = ⊥
 EndsBy (Err Memory) texts others rest input = ⊥
 

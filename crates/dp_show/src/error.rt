@@ -1,3 +1,5 @@
+//! Why not all that is read was shown.
+
 use std::alloc::{AllocError, AllocFailed};
 use thiserror::Error;
 

@@ -8,7 +8,8 @@ use Rattle.std.specs.Map.{keys_of}
 use Rattle.std.specs.Option.{option_map_or}
 use Rattle.std.specs.Str.{bytes_eq}
 use Rattle.dp_state.specs.declared.vars.Slot.{Slot}
-use Rattle.dp_state.specs.Variables.{Variables, with_slot, with_pair}
+use Rattle.dp_state.specs.Variables.{Variables, with_slot}
+use Rattle.dp_state.specs.inner.Parts.{with_pair}
 use Rattle.dp_value.specs.declared.key.Key.TheVariants.{Text}
 use Rattle.dp_value.proofs.KeyLemmas.{key_eq_equivalence}
 

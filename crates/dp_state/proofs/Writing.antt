@@ -8,7 +8,8 @@ use Rattle.dp_state.specs.declared.state.Fault.TheVariants as fault
 use Rattle.dp_state.specs.declared.state.State.{State}
 use Rattle.dp_state.specs.declared.vars.Slot.{Slot}
 use Rattle.dp_state.specs.declared.vars.Slot.TheVariants.{Held, Bound}
-use Rattle.dp_state.specs.Places.{assigned, assigned_in, home, is_bound, removed_in, then_state, then_variables, unset, with_global, with_null, with_own, with_value, without_entry, without_variable, IsCauseIn}
+use Rattle.dp_state.specs.Places.{assigned, is_bound, then_state, unset, with_global, with_null, with_own, with_value, without_entry, without_variable}
+use Rattle.dp_state.specs.inner.Parts.{assigned_in, home, removed_in, then_variables, IsCauseIn}
 use Rattle.dp_state.specs.States.{own_variables, owner_at, read_at, variables_at, IsCause}
 use Rattle.dp_state.specs.Variables.{Variables, slot_of, value_held, value_through, with_slot, without}
 use Rattle.dp_value.specs.declared.error.WriteError.{WriteError}

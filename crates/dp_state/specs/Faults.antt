@@ -1,4 +1,5 @@
--- The fatal faults that refusals of operations on values are. Want of memory is none, and no table of theirs has it.
+-- The fatal faults that refusals of operations on values are. Want of memory is none, and no table
+-- of theirs has it.
 use Rattle.dp_state.specs.declared.moments.FatalKind.{FatalKind}
 use Rattle.dp_state.specs.declared.moments.FatalKind.TheVariants as fatal
 use Rattle.dp_state.specs.declared.state.Fault.{Fault}

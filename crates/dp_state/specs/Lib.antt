@@ -3,3 +3,4 @@ pub mod Variables
 pub mod Faults
 pub mod Places
 pub mod Functions
+pub mod inner

@@ -1,6 +1,6 @@
--- Places: variables and what stands under keys in them. What a write, an unset and a `global` leave. Source: the PHP manual, "Variable scope", "Arrays",
--- "unset".
-use Rattle.std.specs.Prelude.{◌≡◌, ⊤, ℕ, zero, suc, ◌==◌, Bool, true, false, if◌then◌else◌, List, [], ◌∷◌, map, Option, Some, None, is_some, unwrap_or, Result, Ok, Err}
+-- Places: variables and what stands under keys in them. What a write, an unset and a `global`
+-- leave. Source: the PHP manual, "Variable scope", "Arrays", "unset".
+use Rattle.std.specs.Prelude.{ℕ, zero, suc, ◌==◌, Bool, true, false, if◌then◌else◌, List, [], ◌∷◌, map, Option, Some, None, is_some, unwrap_or, Result, Ok, Err}
 use Rattle.std.specs.Option.{option_map_or}
 use Rattle.dp_value.specs.declared.error.WriteError.{WriteError}
 use Rattle.dp_value.specs.declared.key.Key.{Key}
@@ -11,15 +11,13 @@ use Rattle.dp_value.specs.KeyOf.{key_of_data}
 use Rattle.dp_value.specs.Value.{data_of, value_of}
 use Rattle.dp_value.specs.Entry.{write_result, removed}
 use Rattle.dp_state.specs.declared.moments.FatalKind.{FatalKind}
-use Rattle.dp_state.specs.declared.state.Fault.{Fault}
-use Rattle.dp_state.specs.declared.state.Fault.TheVariants as fault
 use Rattle.dp_state.specs.declared.state.Frame.{Frame}
 use Rattle.dp_state.specs.declared.state.State.{State}
 use Rattle.dp_state.specs.declared.vars.Slot.{Slot}
 use Rattle.dp_state.specs.declared.vars.Slot.TheVariants.{Held, Bound}
 use Rattle.dp_state.specs.Faults.{kind_of_write}
 use Rattle.dp_state.specs.States.{owner_at, read_at, variables_at}
-use Rattle.dp_state.specs.Variables.{Variables, slot_of, value_held, with_slot, without}
+use Rattle.dp_state.specs.Variables.{Variables, slot_of, with_slot, without}
 
 -- ---- keys
 
@@ -41,7 +39,9 @@ with_vars (suc at) variables (f ∷ fs) = f ∷ with_vars at variables fs
 
 -- with these variables for the frame at this position; those of the lowest are the global ones
 abbrev pub with_own : ℕ → Variables → State → State
-with_own at variables s = if at == 0 then record s { globals = variables } else record s { frames = with_vars at variables s.frames }
+with_own at variables s =
+    if at == 0 then record s { globals = variables }
+    else record s { frames = with_vars at variables s.frames }
 
 -- with these variables for the frame at this level, or for the one whose variables it uses
 abbrev pub with_variables : ℕ → Variables → State → State
@@ -55,7 +55,8 @@ is_bound (Some (Held value)) = false
 -- with a value for a variable at a level, or for the global variable of its name where it is bound
 abbrev pub with_value : ℕ → List ℕ → Value → State → State
 with_value level name value s =
-    if is_bound (slot_of (variables_at s level) name) then record s { globals = with_slot s.globals name (Held value) }
+    if is_bound (slot_of (variables_at s level) name)
+    then record s { globals = with_slot s.globals name (Held value) }
     else with_variables level (with_slot (variables_at s level) name (Held value)) s
 
 -- ---- writes
@@ -65,20 +66,26 @@ abbrev pub then_state : Result Data WriteError → (Data → State) → Result S
 then_state (Ok d) f = Ok (f d)
 then_state (Err e) f = Err (kind_of_write e)
 
--- With a value for the variable of this name at a level, or for its entry under keys, or pushed there. What is missing is created.
+-- With a value for the variable of this name at a level, or for its entry under keys, or pushed
+-- there. What is missing is created.
 abbrev pub assigned : ℕ → List ℕ → List (Option Key) → Bool → Value → State → Result State FatalKind
 assigned level name keys push value s =
-    then_state (write_result keys push (data_of value) (data_of (unwrap_or (read_at s level name) Null))) (λ d. with_value level name (value_of d) s)
+    then_state (write_result keys push (data_of value)
+    (data_of (unwrap_or (read_at s level name) Null)))
+    (λ d. with_value level name (value_of d) s)
 
 -- ---- unset
 
--- without a variable of the top frame; one that is bound is bound no more, and the global variable stays
+-- without a variable of the top frame; one that is bound is bound no more, and the global variable
+-- stays
 abbrev pub without_variable : List ℕ → State → State
 without_variable name s = with_variables 0 (without (variables_at s 0) name) s
 
 -- without the entry of a variable of the top frame under keys; a variable that is missing stays so
 abbrev pub without_entry : List ℕ → List (Option Key) → State → Result State FatalKind
-without_entry name keys s = option_map_or (λ value. then_state (removed keys (data_of value)) (λ d. with_value 0 name (value_of d) s)) (read_at s 0 name) (Ok s)
+without_entry name keys s =
+    option_map_or (λ value. then_state (removed keys (data_of value))
+    (λ d. with_value 0 name (value_of d) s)) (read_at s 0 name) (Ok s)
 
 -- without a variable, or without its entry under keys
 abbrev pub unset : List ℕ → List (Option Key) → State → Result State FatalKind
@@ -89,39 +96,13 @@ unset name (key ∷ keys) s = without_entry name (key ∷ keys) s
 
 -- with null for a name that is missing
 abbrev pub with_null : List ℕ → Variables → Variables
-with_null name variables = if is_some (slot_of variables name) then variables else with_slot variables name (Held Null)
+with_null name variables =
+    if is_some (slot_of variables name) then variables else with_slot variables name (Held Null)
 
--- with a global variable of this name, to which the name is bound in the top frame, unless its variables are the global ones
+-- with a global variable of this name, to which the name is bound in the top frame, unless its
+-- variables are the global ones
 abbrev pub with_global : List ℕ → State → State
 with_global name s =
     if owner_at s 0 == 0 then record s { globals = with_null name s.globals }
-    else with_variables 0 (with_slot (variables_at s 0) name Bound) (record s { globals = with_null name s.globals })
-
--- ---- inside the crate
-
--- the position of the frame among whose own variables the variable of this name at a level stands
-abbrev pub home : State → ℕ → List ℕ → ℕ
-home s level name = if is_bound (slot_of (variables_at s level) name) then 0 else owner_at s level
-
--- variables with what a write or a removal gives for one of them, or its fault
-abbrev pub then_variables : List ℕ → Variables → Result Data WriteError → Result Variables FatalKind
-then_variables name variables (Ok d) = Ok (with_slot variables name (Held (value_of d)))
-then_variables name variables (Err e) = Err (kind_of_write e)
-
--- what the variable of this name has among variables, or null
-abbrev pub data_in : Variables → List ℕ → Data
-data_in variables name = data_of (unwrap_or (value_held (slot_of variables name)) Null)
-
--- variables with a value for one of them, or for its entry under keys, or pushed there
-abbrev pub assigned_in : List ℕ → List (Option Key) → Bool → Value → Variables → Result Variables FatalKind
-assigned_in name keys push value variables = then_variables name variables (write_result keys push (data_of value) (data_in variables name))
-
--- variables without the entry of one of them under keys
-abbrev pub removed_in : List ℕ → List (Option Key) → Variables → Result Variables FatalKind
-removed_in name keys variables =
-    option_map_or (λ value. then_variables name variables (removed keys (data_of value))) (value_held (slot_of variables name)) (Ok variables)
-
--- why variables are not changed: as it is asked, or for want of memory
-abbrev pub IsCauseIn : Result Variables FatalKind → Fault → Type 0
-IsCauseIn asked fault.Memory = ⊤
-IsCauseIn asked (fault.Fatal kind) = asked ≡ Err kind
+    else with_variables 0 (with_slot (variables_at s 0) name Bound)
+    (record s { globals = with_null name s.globals })

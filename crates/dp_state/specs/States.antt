@@ -1,4 +1,5 @@
--- States of a program: of which bundle they are, where a program begins, whose variables a frame uses, and what a step leaves.
+-- States of a program: of which bundle they are, where a program begins, whose variables a frame
+-- uses, and what a step leaves.
 use Rattle.std.specs.Prelude.{◌≡◌, ℕ, zero, suc, ◌+◌, ◌-◌, ◌<◌, ◌==◌, nat_le, Bool, false, if◌then◌else◌, List, [], ◌∷◌, ◌++◌, length, take, All, Option, slice_get, Result, Ok, Err, ⊤}
 use Rattle.std.specs.Option.{option_map_or}
 use Rattle.dp_tree.specs.declared.bundle.Bundle.{Bundle}
@@ -29,7 +30,8 @@ abbrev pub IsHeld : Slot → Type 0
 IsHeld (Held value) = ⊤
 IsHeld Bound = ⊥
 
--- Its lowest frame is the main one and does not share, no global variable is bound, and each frame and each declared function has its place in the bundle.
+-- Its lowest frame is the main one and does not share, no global variable is bound, and each frame
+-- and each declared function has its place in the bundle.
 pub record IsOf (bundle : Bundle) (s : State) : Type 0 where
   pub main : Frame
   pub above : List Frame
@@ -56,7 +58,8 @@ opening bundle = record {
 
 -- ---- the variables of a frame
 
--- whether the frame at this position, counted from the lowest, uses the variables of the frame below it
+-- whether the frame at this position, counted from the lowest, uses the variables of the frame
+-- below it
 abbrev pub shares_at : List Frame → ℕ → Bool
 shares_at frames at = option_map_or (λ f. f.shares) (slice_get frames at) false
 
@@ -67,13 +70,15 @@ owner frames (suc at) = if shares_at frames (suc at) then owner frames at else s
 
 -- the own variables of the frame at this position; those of the lowest are the global ones
 abbrev pub own_variables : State → ℕ → Variables
-own_variables s at = if at == 0 then s.globals else option_map_or (λ f. f.vars) (slice_get s.frames at) s.globals
+own_variables s at =
+    if at == 0 then s.globals else option_map_or (λ f. f.vars) (slice_get s.frames at) s.globals
 
 -- the position of a level: level 0 is the top frame
 abbrev pub position_of : State → ℕ → ℕ
 position_of s level = length s.frames - 1 - level
 
--- the position of the frame whose variables the frame at this level uses: 0 where they are the global ones
+-- the position of the frame whose variables the frame at this level uses: 0 where they are the
+-- global ones
 abbrev pub owner_at : State → ℕ → ℕ
 owner_at s level = owner s.frames (position_of s level)
 
@@ -118,11 +123,15 @@ counted s = record s { moments = s.moments + 1 }
 
 -- with a piece behind what was written
 abbrev pub printed : List ℕ → State → Result State FatalKind
-printed piece s = if nat_le (length s.output + length piece) output_limit then Ok (record s { output = s.output ++ piece }) else Err OutputFull
+printed piece s =
+    if nat_le (length s.output + length piece) output_limit
+    then Ok (record s { output = s.output ++ piece }) else Err OutputFull
 
 -- with a new top frame
 abbrev pub entered : Frame → State → Result State FatalKind
-entered frame s = if nat_le (length s.frames + 1) frame_limit then Ok (record s { frames = s.frames ++ frame ∷ [] }) else Err TooDeep
+entered frame s =
+    if nat_le (length s.frames + 1) frame_limit
+    then Ok (record s { frames = s.frames ++ frame ∷ [] }) else Err TooDeep
 
 -- without the top frame
 abbrev pub left : State → State

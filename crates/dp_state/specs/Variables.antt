@@ -1,7 +1,6 @@
 -- Variables in the order of their first assignment.
-use Rattle.std.specs.Prelude.{ℕ, List, Option, Some, None, slice_get}
+use Rattle.std.specs.Prelude.{ℕ, List, Option, Some, None}
 use Rattle.std.specs.Map.{lookup, remove_entry}
-use Rattle.std.specs.Option.{option_map_or}
 use Rattle.std.specs.Str.{bytes_eq}
 use Rattle.dp_value.specs.declared.value.Value.{Value}
 use Rattle.dp_state.specs.declared.vars.Slot.{Slot}
@@ -38,14 +37,5 @@ value_through (Some (Held value)) global = Some value
 
 -- the value of a name among variables beside the global ones
 abbrev pub value_in : Variables → Variables → List ℕ → Option Value
-value_in globals variables name = value_through (slot_of variables name) (value_held (slot_of globals name))
-
--- ---- inside the crate
--- with the variable at a position of others
-abbrev pub with_pair : Variables → ℕ → Variables → Variables
-with_pair from at to = option_map_or (λ variable. with_slot to variable.0 variable.1) (slice_get from at) to
-
--- a slot with a value in the place of the one that it holds
-abbrev pub with_held : Value → Slot → Slot
-with_held value (Held old) = Held value
-with_held value Bound = Bound
+value_in globals variables name =
+    value_through (slot_of variables name) (value_held (slot_of globals name))

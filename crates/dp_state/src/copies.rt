@@ -1,7 +1,7 @@
 //! Copies of states.
 
 ghost use Rattle.std.specs.Prelude.{◌≡◌, IfOk, OnOk};
-ghost use Rattle.dp_state.specs.Variables.{with_pair};
+ghost use Rattle.dp_state.specs.inner.Parts.{with_pair};
 
 use crate::state::{Frame, FrameKind, State};
 use crate::vars::{Slot, Vars};

@@ -2,7 +2,8 @@
 
 ghost use Rattle.std.specs.Prelude.{◌≡◌, ◌≢◌, not, is_some, None, Ok, Err, IfOk, IfErr, OnOk, OnErr};
 ghost use Rattle.dp_state.specs.Variables.{slot_of, value_held, with_slot};
-ghost use Rattle.dp_state.specs.Places.{assigned_in, removed_in, with_null, IsCauseIn};
+ghost use Rattle.dp_state.specs.Places.{with_null};
+ghost use Rattle.dp_state.specs.inner.Parts.{assigned_in, removed_in, IsCauseIn};
 ghost use Rattle.dp_state.specs.declared.state.Fault.TheVariants as fault;
 ghost use Rattle.dp_state.specs.declared.vars.Slot.TheVariants as variable;
 

@@ -1,3 +1,5 @@
+//! The moments of a run, its end, and paths to what stands in variables.
+
 use dp_value::{Bytes, Items, Key};
 
 /// What comes at a moment.

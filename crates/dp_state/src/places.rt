@@ -4,7 +4,8 @@ ghost use Rattle.std.specs.Prelude.{◌≡◌, ◌≢◌, ◌≤◌, ◌<◌, �
 ghost use Rattle.dp_state.specs.States.{own_variables, IsCause, IsSure};
 ghost use Rattle.dp_state.specs.declared.state.Fault.TheVariants as fault;
 ghost use Rattle.dp_state.specs.Variables.{slot_of};
-ghost use Rattle.dp_state.specs.Places.{assigned, home as home_of, is_bound as is_mark, unset, with_global, with_own, with_vars, without_variable};
+ghost use Rattle.dp_state.specs.Places.{assigned, is_bound as is_mark, unset, with_global, with_own, with_vars, without_variable};
+ghost use Rattle.dp_state.specs.inner.Parts.{home as home_of};
 
 use crate::entries::{assign_in, bind_in, make_null, remove_in};
 use crate::state::{Fault, Frame, State};

@@ -1,3 +1,5 @@
+//! The state of a program that runs.
+
 use crate::moments::FatalKind;
 use crate::vars::Vars;
 use dp_tree::FunctionRef;

@@ -1,3 +1,5 @@
+//! The variables of a frame.
+
 use dp_value::{Bytes, Memory, Value};
 use indexmap::IndexMap;
 use std::alloc::Global;
@@ -32,7 +34,8 @@ impl Model for Vars {
 
 impl Slot {
     ghost use Rattle.std.specs.Prelude.{◌≡◌, Some};
-    ghost use Rattle.dp_state.specs.Variables.{value_held, with_held};
+    ghost use Rattle.dp_state.specs.Variables.{value_held};
+    ghost use Rattle.dp_state.specs.inner.Parts.{with_held};
 
     // Puts a value in the place of the one that is held, and gives that one out.
     fn exchange(&mut self, value: Value) -> Option<Value>

@@ -8,9 +8,11 @@ abbrev pub builtins : List (List ℕ × Builtin)
 builtins =
     (codes "strlen", builtin.StrLen) ∷ (codes "ord", builtin.Ord) ∷ (codes "count", builtin.Count)
     ∷ (codes "array_keys", builtin.ArrayKeys) ∷ (codes "array_values", builtin.ArrayValues)
-    ∷ (codes "intdiv", builtin.IntDiv) ∷ (codes "chr", builtin.Chr) ∷ (codes "substr", builtin.SubStr)
+    ∷ (codes "intdiv", builtin.IntDiv) ∷ (codes "chr", builtin.Chr)
+    ∷ (codes "substr", builtin.SubStr)
     ∷ (codes "str_repeat", builtin.StrRepeat) ∷ (codes "implode", builtin.Implode)
-    ∷ (codes "is_int", builtin.IsInt) ∷ (codes "is_string", builtin.IsString) ∷ (codes "is_bool", builtin.IsBool)
+    ∷ (codes "is_int", builtin.IsInt) ∷ (codes "is_string", builtin.IsString)
+    ∷ (codes "is_bool", builtin.IsBool)
     ∷ (codes "is_null", builtin.IsNull) ∷ (codes "is_array", builtin.IsArray) ∷ []
 
 -- the first that has the name, in any case of letters

@@ -26,7 +26,8 @@ kind_layer (StatementKind-F.Expression value) line = line ∷ []
 kind_layer (StatementKind-F.Echo values) line = line ∷ []
 kind_layer (StatementKind-F.Block all) line = flat_map (λ lines. lines) all
 kind_layer StatementKind-F.Empty line = []
-kind_layer (StatementKind-F.If arms otherwise) line = flat_map (λ lines. lines) arms ++ option_map_or (λ lines. lines) otherwise []
+kind_layer (StatementKind-F.If arms otherwise) line =
+    flat_map (λ lines. lines) arms ++ option_map_or (λ lines. lines) otherwise []
 kind_layer (StatementKind-F.While test body) line = line ∷ body
 kind_layer (StatementKind-F.DoWhile body end test) line = body ++ end ∷ []
 kind_layer (StatementKind-F.For before tests after body) line = line ∷ body
@@ -56,7 +57,8 @@ body_lines all = flat_map lines_of all
 
 -- the lines of a file: those of its statements and of its functions' bodies
 abbrev pub file_lines : File → Lines
-file_lines file = body_lines file.body ++ flat_map (λ (f : Function). body_lines f.body) file.functions
+file_lines file =
+    body_lines file.body ++ flat_map (λ (f : Function). body_lines f.body) file.functions
 
 abbrev pub has_line : Lines → ℕ → Bool
 has_line lines line = list_any (λ other. nat_eq other line) lines

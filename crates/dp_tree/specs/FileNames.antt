@@ -23,7 +23,8 @@ pub record IsFileName (name : List ℕ) : Type 0 where
   pub text : IsUtf8 name
   pub bare : All (λ byte. byte ≢ 0) name
 
--- the names of a program's files: 1 to 64, of which no two are the same, also without one leading `/`
+-- the names of a program's files: 1 to 64, of which no two are the same, also without one leading
+-- `/`
 pub record AreFileNames (names : List (List ℕ)) : Type 0 where
   pub some : 0 < length names
   pub few : length names ≤ file_count_limit

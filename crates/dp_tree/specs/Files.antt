@@ -12,11 +12,14 @@ file_named bundle name = position (λ file. bytes_eq file.name name) bundle.file
 
 -- the function that a reference names
 abbrev pub function_at : Bundle → FunctionRef → Option Function
-function_at bundle reference = option_map_or (λ file. slice_get file.tree.functions reference.function) (slice_get bundle.files reference.file) None
+function_at bundle reference =
+    option_map_or (λ file. slice_get file.tree.functions reference.function)
+    (slice_get bundle.files reference.file) None
 
 -- how many functions the file of this number has
 abbrev pub function_count : Bundle → ℕ → ℕ
-function_count bundle file = option_map_or (λ f. length f.tree.functions) (slice_get bundle.files file) 0
+function_count bundle file =
+    option_map_or (λ f. length f.tree.functions) (slice_get bundle.files file) 0
 
 -- so many functions of a file, in order
 abbrev pub first_functions : ℕ → ℕ → List FunctionRef

@@ -1,4 +1,5 @@
--- Which expressions change nothing: no call, assignment, `++`, `--` or include stands in them, however deep.
+-- Which expressions change nothing: no call, assignment, `++`, `--` or include stands in them,
+-- however deep.
 use Rattle.std.specs.Prelude.{Bool, true, false, ◌&&◌, List}
 use Rattle.std.specs.Option.{option_map_or}
 use Rattle.std.specs.List.{list_all}
@@ -36,7 +37,8 @@ expression_layer (Expression-F.Unary by of) = of
 expression_layer (Expression-F.Step by order place) = false
 expression_layer (Expression-F.Chain first links) = first && all_pure links
 expression_layer (Expression-F.Coalesce left right) = left && right
-expression_layer (Expression-F.Conditional test middle otherwise) = test && (option_map_or (λ between. between) middle true && otherwise)
+expression_layer (Expression-F.Conditional test middle otherwise) =
+    test && (option_map_or (λ between. between) middle true && otherwise)
 expression_layer (Expression-F.Include how of) = false
 expression_layer (Expression-F.Assign to from) = false
 expression_layer (Expression-F.Compound by to from) = false

@@ -1,3 +1,5 @@
+//! One value on the heap.
+
 ghost use Rattle.std.specs.Prelude.{◌≡◌, IfOk};
 
 use dp_value::Memory;

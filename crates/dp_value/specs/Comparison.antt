@@ -1,4 +1,5 @@
--- `===`: the same type and value; arrays with the same pairs in the same order. Source: the PHP manual, "Comparison Operators".
+-- `===`: the same type and value; arrays with the same pairs in the same order. Source: the PHP
+-- manual, "Comparison Operators".
 use Rattle.std.specs.Prelude.{Bool, true, false, ◌&&◌, nat_eq}
 use mathlib.Core.Bool.{beq}
 use Rattle.std.specs.Ordering.{int_eq}
@@ -19,4 +20,5 @@ abbrev mutual
   identical_entries no_entries no_entries = true
   identical_entries no_entries (entry l e fs) = false
   identical_entries (entry k d es) no_entries = false
-  identical_entries (entry k d es) (entry l e fs) = key_eq k l && (identical d e && identical_entries es fs)
+  identical_entries (entry k d es) (entry l e fs) =
+      key_eq k l && (identical d e && identical_entries es fs)

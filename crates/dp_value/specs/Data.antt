@@ -39,8 +39,8 @@ pairs_of (entry k d es) = (k, d) ∷ pairs_of es
 abbrev pub data_of_table : Table → Data
 data_of_table t = array (entries_of t.pairs) t.largest
 
--- The weight of a text is its length; of an array the number of its entries, the lengths of its text keys and the
--- weights of its values together; of any other value 0.
+-- The weight of a text is its length; of an array the number of its entries, the lengths of its
+-- text keys and the weights of its values together; of any other value 0.
 abbrev mutual
   pub weight_of : Data → ℕ
   weight_of null = 0

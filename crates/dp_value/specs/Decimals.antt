@@ -9,4 +9,5 @@ is_decimal text = bytes_eq text (codes "0") || is_positive text
 
 -- the number whose decimal the text is, where it is at most this
 unfoldable pub decimal_in : ℕ → List ℕ → Option ℕ
-decimal_in most text = cond (is_decimal text && nat_le (digits_value 10 text) most) (Some (digits_value 10 text)) None
+decimal_in most text =
+    cond (is_decimal text && nat_le (digits_value 10 text) most) (Some (digits_value 10 text)) None

@@ -1,5 +1,5 @@
--- The texts that spell an integer: `0`, or an optional minus and digits that do not begin with 0, in the range of 64 bits.
--- Source: the PHP manual, "Arrays", on keys.
+-- The texts that spell an integer: `0`, or an optional minus and digits that do not begin with 0,
+-- in the range of 64 bits. Source: the PHP manual, "Arrays", on keys.
 use Rattle.std.specs.Prelude.{ℕ, ℤ, pos, negsuc, ◌==◌, ◌^◌, Bool, false, not, ◌&&◌, ◌||◌, cond, List, [], ◌∷◌, Option, Some, None, nat_eq, nat_lt}
 use Rattle.std.specs.Cmp.Lexicographic.{pointwise}
 use Rattle.std.specs.Char.{is_ascii_digit}
@@ -24,4 +24,6 @@ is_in_64_bits (negsuc n) = nat_lt n (2 ^ 63)
 
 -- the integer that a text spells
 abbrev pub int_of_text : List ℕ → Option ℤ
-int_of_text bytes = cond (is_int_form bytes && is_in_64_bits (signed_digits_value 10 bytes)) (Some (signed_digits_value 10 bytes)) None
+int_of_text bytes =
+    cond (is_int_form bytes && is_in_64_bits (signed_digits_value 10 bytes))
+    (Some (signed_digits_value 10 bytes)) None

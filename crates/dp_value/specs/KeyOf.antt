@@ -1,5 +1,6 @@
--- The key that a value becomes: an integer is itself, a bool is 0 or 1, null is the empty text, a text that spells an integer is that
--- integer, another text is itself; an array is no key. Source: the PHP manual, "Arrays".
+-- The key that a value becomes: an integer is itself, a bool is 0 or 1, null is the empty text, a
+-- text that spells an integer is that integer, another text is itself; an array is no key. Source:
+-- the PHP manual, "Arrays".
 use Rattle.std.specs.Prelude.{pos, cond, List, ℕ, [], Option, Some, None}
 use Rattle.std.specs.Option.{option_map_or}
 use Rattle.dp_value.specs.declared.key.Key.{Key}

@@ -3,4 +3,6 @@ use Rattle.std.specs.Prelude.{ℕ, if◌then◌else◌, ◌==◌, List, [], ◌�
 
 -- how a byte stands between quotes: a quote, a backslash and NUL as a pair, each other as itself
 abbrev pub in_quotes : ℕ → List ℕ
-in_quotes b = if b == 34 then codes "\\\"" else if b == 92 then codes "\\\\" else if b == 0 then codes "\\0" else b ∷ []
+in_quotes b =
+    if b == 34 then codes
+    "\\\"" else if b == 92 then codes "\\\\" else if b == 0 then codes "\\0" else b ∷ []

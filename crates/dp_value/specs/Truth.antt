@@ -1,5 +1,5 @@
--- Which values count as true: all but null, false, 0, the empty text, the text `0` and the empty array.
--- Source: the PHP manual, "Booleans".
+-- Which values count as true: all but null, false, 0, the empty text, the text `0` and the empty
+-- array. Source: the PHP manual, "Booleans".
 use Rattle.std.specs.Prelude.{Bool, true, false, not, pos, [], ◌∷◌, nat_eq}
 use Rattle.std.specs.Ordering.{int_eq}
 use Rattle.std.specs.Cmp.Lexicographic.{pointwise}

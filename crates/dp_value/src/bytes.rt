@@ -1,3 +1,5 @@
+//! Byte strings.
+
 ghost use Rattle.std.specs.Prelude.{◌≡◌, ◌==◌, pos, length, IfOk};
 
 use crate::Memory;

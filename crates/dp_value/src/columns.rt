@@ -1,3 +1,5 @@
+//! The keys and values of an array, side by side.
+
 ghost use Rattle.std.specs.Prelude.{◌≡◌, ◌+◌, ◌<◌, ◌≤◌, length, remove, IfSome, MatchOption, OnOk, OnErr};
 ghost use Rattle.dp_value.specs.Key.{key_eq};
 ghost use Rattle.dp_value.specs.Data.{pairs_weight};

@@ -1,3 +1,5 @@
+//! Whether values count as true.
+
 ghost use Rattle.std.specs.Prelude.{◌≡◌};
 ghost use Rattle.dp_value.specs.Truth.{is_true};
 ghost use Rattle.dp_value.specs.Value.{data_of};

@@ -1,3 +1,5 @@
+//! Copies of values.
+
 ghost use Rattle.std.specs.Prelude.{◌≡◌, IfOk};
 
 use crate::{Key, Memory, PhpArray, Value};

@@ -1,3 +1,5 @@
+//! Numbers that are spelled in decimal.
+
 ghost use Rattle.std.specs.Prelude.{◌≡◌, ◌≤◌, IfSome};
 ghost use Rattle.dp_value.specs.Decimals.{decimal_in, is_decimal as spelt_decimal};
 

@@ -1,3 +1,5 @@
+//! Why operations on values are refused.
+
 ghost use Rattle.std.specs.Prelude.{◌≡◌};
 ghost use Rattle.dp_value.specs.declared.error.ValueError.TheVariants.{Memory as NoMemoryForValue};
 ghost use Rattle.dp_value.specs.declared.error.CallError.TheVariants.{Memory as NoMemoryForCall};

@@ -1,3 +1,5 @@
+//! Whether values are identical.
+
 ghost use Rattle.std.specs.Prelude.{◌≡◌};
 ghost use Rattle.dp_value.specs.Comparison.{identical, identical_entries};
 ghost use Rattle.dp_value.specs.Data.{entries_of};

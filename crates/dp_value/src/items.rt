@@ -1,3 +1,5 @@
+//! Lists that own their items.
+
 ghost use Rattle.std.specs.Prelude.{◌≡◌, ◌==◌, length};
 
 use std::marker::Model;

@@ -1,3 +1,5 @@
+//! The keys of arrays.
+
 ghost use Rattle.std.specs.Prelude.{◌≡◌, IfOk};
 
 use crate::{Bytes, Memory, Value};

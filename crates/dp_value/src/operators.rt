@@ -1,3 +1,5 @@
+//! The names of operators and of built-in functions.
+
 /// The operators between two values.
 #[derive(Clone, Copy, Debug, PartialEq, Eq, Hash)]
 pub enum BinaryOp {

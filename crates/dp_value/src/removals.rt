@@ -1,3 +1,5 @@
+//! Entries removed, however deep.
+
 ghost use Rattle.std.specs.Prelude.{◌≡◌, ◌∷◌, Ok, Err, IfErr, OnOk, OnErr};
 ghost use Rattle.dp_value.specs.Data.{data_of_table};
 ghost use Rattle.dp_value.specs.Value.{data_of};

@@ -1,3 +1,5 @@
+//! The values of the language.
+
 ghost use Rattle.std.specs.Prelude.{◌≡◌, ◌==◌, ◌<◌, ◌≤◌, ◌↔◌, ◌⊎◌, min, length, map, slice_get, is_some, option_map, Some, OnOk, OnErr, IfErr, IsErrOf};
 ghost use Rattle.dp_value.specs.Data.{pairs_weight};
 ghost use Rattle.dp_value.specs.Table.{empty, keys_of, values_of, value_at, put, table_set, table_push, table_remove, table_exchange, swapped, weight_limit, largest_int, IsTable, raised as raised_by};

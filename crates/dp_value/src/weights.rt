@@ -1,3 +1,5 @@
+//! The weights of values.
+
 ghost use Rattle.std.specs.Prelude.{◌≡◌};
 ghost use Rattle.dp_value.specs.Data.{weight_of};
 ghost use Rattle.dp_value.specs.Value.{data_of};

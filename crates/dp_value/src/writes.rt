@@ -1,3 +1,5 @@
+//! Entries written, however deep.
+
 ghost use Rattle.std.specs.Prelude.{◌≡◌, ◌≤◌, ◌+◌, min, Ok, IfOk, IfErr, OnOk, OnErr};
 ghost use Rattle.dp_value.specs.Data.{Data, data_of_table, null, pairs_weight};
 ghost use Rattle.dp_value.specs.Table.{empty, put, table_set, weight_limit};

@@ -1,5 +1,5 @@
--- How messages are framed on a link: DBGp 1.0, "Message Packets".
--- An IDE sends a command and a NUL. An engine sends the length of a text in decimal, a NUL, the text, and a NUL.
+-- How messages are framed on a link: DBGp 1.0, "Message Packets". An IDE sends a command and a NUL.
+-- An engine sends the length of a text in decimal, a NUL, the text, and a NUL.
 use Rattle.std.specs.Prelude.{◌≡◌, ◌≢◌, ℕ, zero, suc, ◌+◌, ◌≤◌, Bool, true, false, not, ◌&&◌, List, [], ◌∷◌, ◌++◌, length, take, drop, if◌then◌else◌, ◌==◌, nat_le}
 use Rattle.std.specs.List.{list_all, flat_map, AllByRecursion}
 use Rattle.std.specs.Fmt.{decimal}
@@ -8,18 +8,21 @@ use Rattle.std.specs.Str.Parse.{digits_value}
 -- ---- frames in general
 
 -- The bytes are the frames of these texts, and then the rest, which no whole frame begins.
-pub record Splits (IsText : List ℕ → Type 0) (frame : List ℕ → List ℕ) (bytes : List ℕ) (texts : List (List ℕ)) (rest : List ℕ) : Type 0 where
+pub record Splits (IsText : List ℕ → Type 0) (frame : List ℕ → List ℕ) (bytes : List ℕ)
+    (texts : List (List ℕ)) (rest : List ℕ) : Type 0 where
   pub whole : bytes ≡ flat_map frame texts ++ rest
   pub each : AllByRecursion IsText texts
   pub no_more : (text more : List ℕ) → IsText text → rest ≡ frame text ++ more → ⊥
 
 -- The bytes begin with the frame of this text, and the rest follows it.
-pub record Begins (IsText : List ℕ → Type 0) (frame : List ℕ → List ℕ) (bytes text rest : List ℕ) : Type 0 where
+pub record Begins (IsText : List ℕ → Type 0) (frame : List ℕ → List ℕ)
+    (bytes text rest : List ℕ) : Type 0 where
   pub is_text : IsText text
   pub whole : bytes ≡ frame text ++ rest
 
 -- The bytes are a proper prefix of a frame: more has to come.
-pub record IsPartial (IsText : List ℕ → Type 0) (frame : List ℕ → List ℕ) (bytes : List ℕ) : Type 0 where
+pub record IsPartial (IsText : List ℕ → Type 0) (frame : List ℕ → List ℕ)
+    (bytes : List ℕ) : Type 0 where
   pub text : List ℕ
   pub more : List ℕ
   pub is_text : IsText text
@@ -28,7 +31,8 @@ pub record IsPartial (IsText : List ℕ → Type 0) (frame : List ℕ → List �
 
 -- However the bytes go on, no frame begins them.
 abbrev pub BeginsNoFrame : (List ℕ → Type 0) → (List ℕ → List ℕ) → List ℕ → Type 0
-BeginsNoFrame IsText frame bytes = (text rest more : List ℕ) → IsText text → bytes ++ more ≡ frame text ++ rest → ⊥
+BeginsNoFrame IsText frame bytes =
+    (text rest more : List ℕ) → IsText text → bytes ++ more ≡ frame text ++ rest → ⊥
 
 -- ---- commands, from the IDE to the engine
 
@@ -55,12 +59,14 @@ widened byte (text ∷ texts) = (byte ∷ text) ∷ texts
 -- the texts that a NUL ends, in their order
 abbrev pub ended_texts : List ℕ → List (List ℕ)
 ended_texts [] = []
-ended_texts (byte ∷ bytes) = if byte == 0 then [] ∷ ended_texts bytes else widened byte (ended_texts bytes)
+ended_texts (byte ∷ bytes) =
+    if byte == 0 then [] ∷ ended_texts bytes else widened byte (ended_texts bytes)
 
 -- the texts before the first that passes the limit of a command
 abbrev pub up_to_limit : List (List ℕ) → List (List ℕ)
 up_to_limit [] = []
-up_to_limit (text ∷ texts) = if nat_le (length text) command_limit then text ∷ up_to_limit texts else []
+up_to_limit (text ∷ texts) =
+    if nat_le (length text) command_limit then text ∷ up_to_limit texts else []
 
 -- the whole commands at the front of the bytes, and what follows their frames
 abbrev pub commands_in : List ℕ → List (List ℕ)
@@ -96,9 +102,11 @@ abbrev pub up_to_nul : List ℕ → List ℕ
 up_to_nul [] = []
 up_to_nul (byte ∷ bytes) = if byte == 0 then [] else byte ∷ up_to_nul bytes
 
--- what stands in the place of a packet's text: behind the first NUL, as many bytes as the digits before it say
+-- what stands in the place of a packet's text: behind the first NUL, as many bytes as the digits
+-- before it say
 abbrev pub front_text : List ℕ → List ℕ
-front_text bytes = take (digits_value 10 (up_to_nul bytes)) (drop (length (up_to_nul bytes) + 1) bytes)
+front_text bytes =
+    take (digits_value 10 (up_to_nul bytes)) (drop (length (up_to_nul bytes) + 1) bytes)
 
 abbrev pub begins_with : List ℕ → List ℕ → Bool
 begins_with bytes [] = true
@@ -107,13 +115,17 @@ begins_with (byte ∷ bytes) (wanted ∷ front) = byte == wanted && begins_with 
 
 -- that is a packet's text, and its frame begins the bytes
 abbrev pub is_packet_first : List ℕ → Bool
-is_packet_first bytes = nat_le 1 (length (front_text bytes)) && nat_le (length (front_text bytes)) packet_limit && begins_with bytes (packet_frame (front_text bytes))
+is_packet_first bytes =
+    nat_le 1 (length (front_text bytes)) && nat_le (length (front_text bytes)) packet_limit
+    && begins_with bytes (packet_frame (front_text bytes))
 
 -- the first packets at the front of the bytes, at most so many
 abbrev pub first_packets : ℕ → List ℕ → List (List ℕ)
 first_packets zero bytes = []
 first_packets (suc count) bytes =
-    if is_packet_first bytes then front_text bytes ∷ first_packets count (drop (length (packet_frame (front_text bytes))) bytes) else []
+    if is_packet_first bytes
+    then front_text bytes
+    ∷ first_packets count (drop (length (packet_frame (front_text bytes))) bytes) else []
 
 -- the whole packets at the front of the bytes, and what follows their frames
 abbrev pub packets_in : List ℕ → List (List ℕ)

@@ -7,7 +7,8 @@ use Rattle.dp_wire.specs.declared.wire_error.WireError.TheVariants.{BadLength, N
 use Rattle.dp_wire.specs.declared.length.Length.{Length}
 use Rattle.dp_wire.specs.declared.length.Length.TheVariants.{Unfinished, Known, Bad, Passed}
 
--- the bytes held, and how many of the stream were dropped before them; 2^64 - 1 stands for all that pass it
+-- the bytes held, and how many of the stream were dropped before them; 2^64 - 1 stands for all that
+-- pass it
 pub record Received : Type 0 where
   pub held : List ℕ
   pub dropped : ℕ
@@ -66,13 +67,20 @@ pub record LacksNul (bytes : List ℕ) (index : ℕ) : Type 0 where
 -- ---- why no packet begins the bytes held
 
 abbrev pub IsCause : Received → WireError → Type 0
-IsCause received (BadLength offset) = (index : ℕ) × (HasBadLength received.held index × IsFirstBad received.held index × (offset ≡ place_of received index))
-IsCause received (NoNul offset) = (index : ℕ) × (LacksNul received.held index × IsFirstBad received.held index × (offset ≡ place_of received index))
+IsCause received (BadLength offset) =
+    (index : ℕ) × (HasBadLength received.held index × IsFirstBad received.held index
+    × (offset ≡ place_of received index))
+IsCause received (NoNul offset) =
+    (index : ℕ) × (LacksNul received.held index × IsFirstBad received.held index
+    × (offset ≡ place_of received index))
 IsCause received (TooLong number) = PassesLimit received.held number
 
 -- what the bytes say of the first length
 abbrev pub IsLength : List ℕ → Length → Type 0
-IsLength bytes Unfinished = (number : ℕ) × ((number ≤ packet_limit) × (bytes ≡ length_digits number))
-IsLength bytes (Known nul number) = (1 ≤ number) × (number ≤ packet_limit) × (nul ≡ length (decimal number)) × (bytes ≡ decimal number ++ 0 ∷ drop (nul + 1) bytes)
+IsLength bytes Unfinished =
+    (number : ℕ) × ((number ≤ packet_limit) × (bytes ≡ length_digits number))
+IsLength bytes (Known nul number) =
+    (1 ≤ number) × (number ≤ packet_limit) × (nul ≡ length (decimal number))
+    × (bytes ≡ decimal number ++ 0 ∷ drop (nul + 1) bytes)
 IsLength bytes (Bad index) = HasBadLength bytes index
 IsLength bytes (Passed number) = PassesLimit bytes number

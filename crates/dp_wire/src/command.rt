@@ -1,3 +1,5 @@
+//! The frame of a command.
+
 ghost use Rattle.std.specs.Prelude.{◌≡◌, IfOk};
 ghost use Rattle.dp_wire.specs.Frames.{IsCommand, command_frame};
 

@@ -1,3 +1,5 @@
+//! A stream split into commands.
+
 ghost use Rattle.std.specs.Prelude.{◌≡◌, ◌↔◌, ◌+◌, ◌≤◌, [], ◌∷◌, ◌++◌, List, ℕ, min, length, vec_len, take, drop, IsErr, IfOk, IfErr, IfSome, OnOk, OnErr};
 ghost use Rattle.dp_wire.specs.Frames.{command_frame, command_limit, BeginsCommand, IsPartialCommand, BeginsNoCommand, commands_in};
 ghost use Rattle.dp_wire.specs.inner.Held.{FirstNul};

@@ -1,3 +1,5 @@
+//! The length that stands before the text of a packet.
+
 ghost use Rattle.std.specs.Prelude.{◌≡◌, ◌+◌, ◌<◌, IsNone, IfSome};
 ghost use Rattle.dp_wire.specs.Received.{MayFollow, IsLength};
 

@@ -1,3 +1,5 @@
+//! The frame of a packet.
+
 ghost use Rattle.std.specs.Prelude.{◌≡◌, length, IfOk};
 ghost use Rattle.dp_wire.specs.Frames.{IsPacketText, packet_frame};
 

@@ -1,3 +1,5 @@
+//! Why held bytes begin no frame.
+
 use thiserror::Error;
 
 /// Why held bytes begin no frame. Offsets count from the first byte of the stream.

@@ -25,15 +25,18 @@ unfoldable pub spaces_at : List ℕ → Option (List ℕ)
 spaces_at bytes = if begins is_space bytes then Some (run_at is_space bytes).1 else None
 
 unfoldable pub name_at : List ℕ → Option (List ℕ × List ℕ)
-name_at bytes = if nat_le 1 (prefix_len is_name_byte bytes) && nat_le (prefix_len is_name_byte bytes) 64
+name_at bytes =
+    if nat_le 1 (prefix_len is_name_byte bytes) && nat_le (prefix_len is_name_byte bytes) 64
     then Some (run_at is_name_byte bytes) else None
 
 -- items one after the other, as long as there is one; their count has a bound
-abbrev pub onward : {A : Type 0} → Option A → List ℕ → (List ℕ → Option (List A × List ℕ)) → Option (List A × List ℕ)
+abbrev pub onward : {A : Type 0} → Option A → List ℕ → (List ℕ → Option (List A × List ℕ))
+    → Option (List A × List ℕ)
 onward None rest next = Some ([], rest)
 onward (Some item) rest next = next rest >>= λ more. Some (item ∷ more.0, more.1)
 
-unfoldable pub items_at : {A : Type 0} → (List ℕ → Option (Option A × List ℕ)) → ℕ → List ℕ → Option (List A × List ℕ)
+unfoldable pub items_at : {A : Type 0} → (List ℕ → Option (Option A × List ℕ)) → ℕ → List ℕ
+    → Option (List A × List ℕ)
 items_at step zero bytes = Some ([], bytes)
 items_at step (suc n) bytes = step bytes >>= λ found. onward found.0 found.1 (items_at step n)
 
@@ -63,7 +66,8 @@ value_at bytes = if begins (λ b. b == 34) bytes then quoted_at (drop 1 bytes) e
 abbrev pub letter_of : List ℕ → Option (ℕ × List ℕ)
 letter_of [] = None
 letter_of (dash ∷ []) = None
-letter_of (dash ∷ letter ∷ rest) = if dash == 45 && is_letter letter then Some (letter, rest) else None
+letter_of (dash ∷ letter ∷ rest) =
+    if dash == 45 && is_letter letter then Some (letter, rest) else None
 
 unfoldable pub letter_at : List ℕ → Option (ℕ × List ℕ)
 letter_at bytes = spaces_at bytes >>= letter_of
@@ -86,7 +90,8 @@ options_at bytes = items_at option_at (length bytes) bytes
 unfoldable pub text_at : List ℕ → Option (List ℕ)
 text_at bytes = do
   text ← spaces_at bytes
-  let found = run_at is_text text in if length (run_at is_space found.1).1 == 0 then Some found.0 else None
+  let found = run_at is_text text in if length (run_at is_space found.1).1 == 0 then Some found.0
+      else None
 
 abbrev pub dashed : List ℕ → Option (List ℕ)
 dashed [] = None

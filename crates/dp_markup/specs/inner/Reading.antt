@@ -22,13 +22,16 @@ same c b = b == c
 
 unfoldable pub name : Reader Text
 name ts =
-    if next is_name_start (head ts) then Ok (take (prefix_len is_name_byte ts) ts, drop (prefix_len is_name_byte ts) ts)
+    if next is_name_start (head ts)
+    then Ok (take (prefix_len is_name_byte ts) ts, drop (prefix_len is_name_byte ts) ts)
     else refuse ts
 
 -- ---- white space, and then
 
 unfoldable pub spaced_mark_step : ℕ → Unit {0} → Reader (ControlFlow ℕ (Unit {0}))
-spaced_mark_step c u ts = if next (same c) (head ts) then made (mark c) Break ts else made (made (one (passing is_white)) (λ _. tt)) Continue ts
+spaced_mark_step c u ts =
+    if next (same c) (head ts) then made (mark c) Break ts
+    else made (made (one (passing is_white)) (λ _. tt)) Continue ts
 
 unfoldable pub spaced_mark : ℕ → Reader ℕ
 spaced_mark c = closed (spaced_mark_step c) tt
@@ -36,7 +39,9 @@ spaced_mark c = closed (spaced_mark_step c) tt
 -- ---- references
 
 unfoldable pub number_step : (ℕ → ℕ → Option ℕ) → ℕ → Reader (ControlFlow ℕ ℕ)
-number_step behind n ts = if next (same 59) (head ts) then made (made (mark 59) (λ _. n)) Break ts else made (one (behind n)) Continue ts
+number_step behind n ts =
+    if next (same 59) (head ts) then made (made (mark 59) (λ _. n)) Break ts
+    else made (one (behind n)) Continue ts
 
 unfoldable pub number : (ℕ → ℕ → Option ℕ) → Reader ℕ
 number behind = one (behind 0) >>= closed (number_step behind)
@@ -50,10 +55,13 @@ behind_of Decimal = decimal_behind
 behind_of Hexadecimal = hexadecimal_behind
 
 unfoldable pub by_number : Reader ℕ
-by_number ts = if next (same 120) (head ts) then (mark 120 >> number hexadecimal_behind) ts else number decimal_behind ts
+by_number ts =
+    if next (same 120) (head ts) then (mark 120 >> number hexadecimal_behind) ts
+    else number decimal_behind ts
 
 unfoldable pub by_a : Reader ℕ
-by_a ts = if next (same 109) (head ts) then named (codes "mp;") 38 ts else named (codes "pos;") 39 ts
+by_a ts =
+    if next (same 109) (head ts) then named (codes "mp;") 38 ts else named (codes "pos;") 39 ts
 
 unfoldable pub entity : Reader ℕ
 entity ts =
@@ -69,7 +77,8 @@ reference = mark 38 >> entity
 -- ---- start tags
 
 unfoldable pub value_byte : ℕ → Reader ℕ
-value_byte quote ts = if next (same 38) (head ts) then reference ts else one (passing (is_plain_in_value quote)) ts
+value_byte quote ts =
+    if next (same 38) (head ts) then reference ts else one (passing (is_plain_in_value quote)) ts
 
 unfoldable pub value_step : ℕ → Text → Reader (ControlFlow Text Text)
 value_step quote v ts =
@@ -83,14 +92,17 @@ unfoldable pub value : Reader Text
 value = one (passing is_quote) >>= quoted
 
 unfoldable pub spaced_value_step : Unit {0} → Reader (ControlFlow Text (Unit {0}))
-spaced_value_step u ts = if next is_quote (head ts) then made value Break ts else made (made (one (passing is_white)) (λ _. tt)) Continue ts
+spaced_value_step u ts =
+    if next is_quote (head ts) then made value Break ts
+    else made (made (one (passing is_white)) (λ _. tt)) Continue ts
 
 unfoldable pub spaced_value : Reader Text
 spaced_value = closed spaced_value_step tt
 
 unfoldable pub attribute : Attributes → Reader Attributes
 attribute found =
-    name >>= tested (is_new found) >>= (λ n. spaced_mark 61 >> made spaced_value (λ v. found ++ (n, v) ∷ []))
+    name >>= tested (is_new found)
+    >>= (λ n. spaced_mark 61 >> made spaced_value (λ v. found ++ (n, v) ∷ []))
 
 unfoldable pub tag_piece : Tag → Reader Tag
 tag_piece t ts =
@@ -99,7 +111,9 @@ tag_piece t ts =
     else refuse ts
 
 unfoldable pub tag_end : Text → Tag → Reader StartTag
-tag_end n t ts = if next (same 62) (head ts) then made (mark 62) (λ _. start_tag n false t) ts else made (word (codes "/>")) (λ _. start_tag n true t) ts
+tag_end n t ts =
+    if next (same 62) (head ts) then made (mark 62) (λ _. start_tag n false t) ts
+    else made (word (codes "/>")) (λ _. start_tag n true t) ts
 
 unfoldable pub tag_step : Text → Tag → Reader (ControlFlow StartTag Tag)
 tag_step n t ts =
@@ -145,9 +159,11 @@ bracket inner n c ts =
     else made (made inner (with_child c)) Continue ts
 
 unfoldable pub content_byte : Reader ℕ
-content_byte ts = if next (same 38) (head ts) then reference ts else one (passing is_plain_in_text) ts
+content_byte ts =
+    if next (same 38) (head ts) then reference ts else one (passing is_plain_in_text) ts
 
-unfoldable pub content_step : Reader Element → Text → Content → Reader (ControlFlow (List Node) Content)
+unfoldable pub content_step : Reader Element → Text → Content
+    → Reader (ControlFlow (List Node) Content)
 content_step inner n c ts =
     if next (same 60) (head ts) then (mark 60 >> bracket inner n c) ts
     else made (made content_byte (λ b. with_bytes c (b ∷ []))) Continue ts
@@ -176,7 +192,9 @@ opened (suc level) = element_in (opened level)
 unfoldable pub prolog_bracket : Bool → Reader (ControlFlow ℕ Bool)
 prolog_bracket at_first ts =
     if next (same 33) (head ts) then made (made (mark 33 >> comment) (λ _. false)) Continue ts
-    else if next (same 63) (head ts) then (if at_first then made (made (mark 63 >> declaration) (λ _. false)) Continue ts else refuse ts)
+    else if next (same 63) (head ts)
+    then (if at_first then made (made (mark 63 >> declaration) (λ _. false)) Continue ts
+    else refuse ts)
     else Ok (Break 60, ts)
 
 unfoldable pub prolog_step : Bool → Reader (ControlFlow ℕ Bool)
@@ -188,10 +206,13 @@ unfoldable pub prolog : Reader ℕ
 prolog = closed prolog_step true
 
 unfoldable pub misc : Reader (Unit {0})
-misc ts = if next is_white (head ts) then made (one (passing is_white)) (λ _. tt) ts else made (word (codes "<!") >> comment) (λ _. tt) ts
+misc ts =
+    if next is_white (head ts) then made (one (passing is_white)) (λ _. tt) ts
+    else made (word (codes "<!") >> comment) (λ _. tt) ts
 
 unfoldable pub trail_step : Element → Reader (ControlFlow Element Element)
-trail_step e ts = if next (λ _. true) (head ts) then made (made misc (λ _. e)) Continue ts else Ok (Break e, ts)
+trail_step e ts =
+    if next (λ _. true) (head ts) then made (made misc (λ _. e)) Continue ts else Ok (Break e, ts)
 
 unfoldable pub trail : Element → Reader Element
 trail e = closed trail_step e

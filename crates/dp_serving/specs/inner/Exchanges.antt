@@ -1,5 +1,5 @@
--- A session that goes on over a link: what was read so far, what of it is held, and what it has led to. Only the proof
--- of serving speaks of these.
+-- A session that goes on over a link: what was read so far, what of it is held, and what it has led
+-- to. Only the proof of serving speaks of these.
 use Rattle.std.specs.Prelude.{◌≡◌, ℕ, ◌<◌, ◌≤◌, List, ◌++◌, length, Option, None, Some}
 use Rattle.std.specs.List.{flat_map, AllByRecursion}
 use Rattle.std.specs.Io.KnownBytes.{Appends, Consumes, Keeps, IsAtEnd}
@@ -18,8 +18,8 @@ use Rattle.dp_serving.specs.declared.responder.Answer.{Answer}
 use Rattle.dp_serving.specs.Folds.{Reply, replies, reply_of}
 use Rattle.dp_serving.specs.Serving.{EndsBy, CutBy, IsLeftIn, IsReadUpTo}
 
--- These commands were taken from the bytes read, and what follows them is held. However the bytes go on, they stay the
--- first commands.
+-- These commands were taken from the bytes read, and what follows them is held. However the bytes
+-- go on, they stay the first commands.
 pub record Stands (read held : List ℕ) (taken : List (List ℕ)) : Type 0 where
   pub each : AllByRecursion IsCommand taken
   pub whole : read ≡ flat_map command_frame taken ++ held
@@ -36,7 +36,8 @@ pub record DeliversAnswer {E : Type 0} (answer : Answer E) (sink out : Change) :
   pub printed : Appends out.told_before out.told answer.program
 
 -- a fault left this of an answer, whatever the session knows then (a number stands for that)
-pub record CutsAnswer {E : Type 0} (answer : Answer E) (fault : Fault E) (sink out : Change) : Type 0 where
+pub record CutsAnswer {E : Type 0} (answer : Answer E) (fault : Fault E)
+    (sink out : Change) : Type 0 where
   pub sent : AppendsFront sink.told_before sink.told (flat_map packet_frame answer.packets)
   pub by : CutBy {S = ℕ} fault (reply_of answer 0) sink out
 
@@ -47,23 +48,27 @@ StopsBy Partial ended rest = (ended ≡ None) × IsPartialCommand rest
 StopsBy TooLong ended rest = (ended ≡ None) × BeginsNoCommand rest
 
 -- so far the session has come from the bytes held at the start to those that are left
-pub record Reached {S E : Type 0} (step : S → List ℕ → Reply S E) (start state : S) (held rest : List ℕ) (sink out : Change) : Type 0 where
+pub record Reached {S E : Type 0} (step : S → List ℕ → Reply S E) (start state : S)
+    (held rest : List ℕ) (sink out : Change) : Type 0 where
   pub taken : List (List ℕ)
   pub stands : Stands held rest taken
   pub delivers : Delivers (replies step start taken) sink out
   pub is_state : (replies step start taken).state ≡ state
 
 -- the commands among the bytes held were answered, as far as they go
-pub record AnswersHeld {S E : Type 0} (step : S → List ℕ → Reply S E) (start state : S) (held rest : List ℕ) (answer : Held E) (sink out : Change) : Type 0 where
+pub record AnswersHeld {S E : Type 0} (step : S → List ℕ → Reply S E) (start state : S)
+    (held rest : List ℕ) (answer : Held E) (sink out : Change) : Type 0 where
   pub reached : Reached step start state held rest sink out
   pub stops : StopsBy answer (replies step start reached.taken).ended rest
 
 -- A fault cut the answering of these commands short: the first ones were taken.
-pub record CutsShort {S E : Type 0} (step : S → List ℕ → Reply S E) (start state : S) (lines : List (List ℕ)) (fault : Fault E) (sink out : Change) : Type 0 where
+pub record CutsShort {S E : Type 0} (step : S → List ℕ → Reply S E) (start state : S)
+    (lines : List (List ℕ)) (fault : Fault E) (sink out : Change) : Type 0 where
   pub taken : List (List ℕ)
   pub later : List (List ℕ)
   pub first : lines ≡ taken ++ later
-  pub sent : AppendsFront sink.told_before sink.told (flat_map packet_frame (replies step start taken).packets)
+  pub sent : AppendsFront sink.told_before sink.told
+      (flat_map packet_frame (replies step start taken).packets)
   pub is_state : IsLeftIn fault (replies step start taken).state state
   pub by : CutBy fault (replies step start taken) sink out
 
@@ -75,21 +80,30 @@ OpenFault Memory sink = Unit {0}
 
 -- one piece was read from the source, and follows what is held
 abbrev pub ReadsPiece : Piece → ℕ → Change → List ℕ → List ℕ → Type 0
-ReadsPiece (Came count) room source held now = (0 < count) × (count ≤ room) × ((piece : List ℕ) × Consumes source.told_before source.told piece × (now ≡ held ++ piece) × (length piece ≡ count))
-ReadsPiece End room source held now = Keeps source.told_before source.told × IsAtEnd source.told × (now ≡ held)
-ReadsPiece Failed room source held now = Keeps source.told_before source.told × Rose source.faults_before source.faults × (now ≡ held)
+ReadsPiece (Came count) room source held now =
+    (0 < count) × (count ≤ room)
+    × ((piece : List ℕ) × Consumes source.told_before source.told piece × (now ≡ held ++ piece)
+    × (length piece ≡ count))
+ReadsPiece End room source held now =
+    Keeps source.told_before source.told × IsAtEnd source.told × (now ≡ held)
+ReadsPiece Failed room source held now =
+    Keeps source.told_before source.told × Rose source.faults_before source.faults × (now ≡ held)
 
--- the session that began with this packet has taken these commands of what was read, of which some is held
-pub record Conversation {S E : Type 0} (step : S → List ℕ → Reply S E) (start state : S) (init read held : List ℕ) (source sink out : Change) : Type 0 where
+-- the session that began with this packet has taken these commands of what was read, of which some
+-- is held
+pub record Conversation {S E : Type 0} (step : S → List ℕ → Reply S E) (start state : S)
+    (init read held : List ℕ) (source sink out : Change) : Type 0 where
   pub taken : List (List ℕ)
   pub consumed : Consumes source.told_before source.told read
   pub stands : Stands read held taken
-  pub sent : Appends sink.told_before sink.told (packet_frame init ++ flat_map packet_frame (replies step start taken).packets)
+  pub sent : Appends sink.told_before sink.told (packet_frame init
+      ++ flat_map packet_frame (replies step start taken).packets)
   pub printed : Appends out.told_before out.told (replies step start taken).program
   pub is_state : (replies step start taken).state ≡ state
 
 -- and it is over
-pub record Converses {S E : Type 0} (step : S → List ℕ → Reply S E) (start state : S) (init : List ℕ) (over : Over E) (source sink out : Change) : Type 0 where
+pub record Converses {S E : Type 0} (step : S → List ℕ → Reply S E) (start state : S)
+    (init : List ℕ) (over : Over E) (source sink out : Change) : Type 0 where
   pub read : List ℕ
   pub held : List ℕ
   pub up_to : IsReadUpTo step start read

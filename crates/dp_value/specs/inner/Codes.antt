@@ -1,4 +1,5 @@
--- How the logic stores an array: as a list of tokens, each value behind its parts, which two stacks read back.
+-- How the logic stores an array: as a list of tokens, each value behind its parts, which two stacks
+-- read back.
 use Rattle.std.specs.Prelude.{◌≡◌, ℕ, ℤ, pos, List, [], ◌∷◌, Option, Bool, true, false, cond, ◌==◌, None, refl}
 use Rattle.std.specs.Coded.{Coded, code_by, coded×, coded_ℕ, coded_ℤ, coded_list, coded_option}
 use mathlib.Core.Path.{ap, ◌∙◌}
@@ -46,17 +47,20 @@ build (an_entry k ∷ ts) (d ∷ ds) [] = null
 build (an_entry k ∷ ts) (d ∷ ds) (es ∷ ess) = build ts ds (entry k d es ∷ ess)
 
 mutual
-  pub build-tokens : (d : Data) (ts : List Token) (ds : List Data) (ess : List Entries) → build (tokens d ts) ds ess ≡ build ts (d ∷ ds) ess
+  pub build-tokens : (d : Data) (ts : List Token) (ds : List Data) (ess : List Entries)
+      → build (tokens d ts) ds ess ≡ build ts (d ∷ ds) ess
   build-tokens null ts ds ess = refl
   build-tokens (boolean b) ts ds ess = refl
   build-tokens (integer n) ts ds ess = refl
   build-tokens (text bytes) ts ds ess = refl
   build-tokens (array es largest) ts ds ess = build-entry_tokens es (an_array largest ∷ ts) ds ess
 
-  pub build-entry_tokens : (es : Entries) (ts : List Token) (ds : List Data) (ess : List Entries) → build (entry_tokens es ts) ds ess ≡ build ts ds (es ∷ ess)
+  pub build-entry_tokens : (es : Entries) (ts : List Token) (ds : List Data) (ess : List Entries)
+      → build (entry_tokens es ts) ds ess ≡ build ts ds (es ∷ ess)
   build-entry_tokens no_entries ts ds ess = refl
   build-entry_tokens (entry k d es) ts ds ess =
-      build-tokens d (entry_tokens es (an_entry k ∷ ts)) ds ess ∙ build-entry_tokens es (an_entry k ∷ ts) (d ∷ ds) ess
+      build-tokens d (entry_tokens es (an_entry k ∷ ts)) ds ess ∙ build-entry_tokens es
+      (an_entry k ∷ ts) (d ∷ ds) ess
 
 pub pairs_of-entries_of : (ps : List (Key × Data)) → pairs_of (entries_of ps) ≡ ps
 pairs_of-entries_of [] = refl
@@ -70,7 +74,8 @@ table_from (text bytes) = record { pairs = []; largest = None }
 table_from (array es largest) = record { pairs = pairs_of es; largest = largest }
 
 pub table_from-data_of_table : (t : Table) → table_from (data_of_table t) ≡ t
-table_from-data_of_table t = λ i. record { pairs = pairs_of-entries_of t.pairs i; largest = t.largest }
+table_from-data_of_table t =
+    λ i. record { pairs = pairs_of-entries_of t.pairs i; largest = t.largest }
 
 abbrev Parts : Type 0
 Parts = ℕ × (ℤ × (List ℕ × Option ℤ))
@@ -88,8 +93,10 @@ to_parts (an_entry (Text bytes)) = (8, (pos 0, (bytes, None)))
 
 abbrev from_parts : Parts → Token
 from_parts p =
-    cond (p.0 == 0) a_null (cond (p.0 == 1) (a_boolean true) (cond (p.0 == 2) (a_boolean false) (cond (p.0 == 3) (an_integer p.1.0)
-    (cond (p.0 == 4) (a_text p.1.1.0) (cond (p.0 == 5) (an_array p.1.1.1) (cond (p.0 == 6) an_end (cond (p.0 == 7) (an_entry (Int p.1.0))
+    cond (p.0 == 0) a_null (cond (p.0 == 1) (a_boolean true)
+    (cond (p.0 == 2) (a_boolean false) (cond (p.0 == 3) (an_integer p.1.0)
+    (cond (p.0 == 4) (a_text p.1.1.0) (cond (p.0 == 5) (an_array p.1.1.1)
+    (cond (p.0 == 6) an_end (cond (p.0 == 7) (an_entry (Int p.1.0))
     (an_entry (Text p.1.1.0)))))))))
 
 pub from_parts-to_parts : (t : Token) → from_parts (to_parts t) ≡ t
@@ -104,10 +111,14 @@ from_parts-to_parts (an_entry (Int n)) = refl
 from_parts-to_parts (an_entry (Text bytes)) = refl
 
 abbrev pub token_code : Coded Token
-token_code = code_by Parts (coded× coded_ℕ (coded× coded_ℤ (coded× (coded_list coded_ℕ) (coded_option coded_ℤ)))) to_parts from_parts from_parts-to_parts
+token_code =
+    code_by Parts (coded× coded_ℕ (coded× coded_ℤ (coded× (coded_list coded_ℕ)
+    (coded_option coded_ℤ)))) to_parts from_parts from_parts-to_parts
 
 pub table_back : (t : Table) → table_from (build (tokens (data_of_table t) []) [] []) ≡ t
 table_back t = ap table_from (build-tokens (data_of_table t) [] [] []) ∙ table_from-data_of_table t
 
 abbrev pub table_code : Coded Table
-table_code = code_by (List Token) (coded_list token_code) (λ t. tokens (data_of_table t) []) (λ ts. table_from (build ts [] [])) table_back
+table_code =
+    code_by (List Token) (coded_list token_code) (λ t. tokens (data_of_table t) [])
+    (λ ts. table_from (build ts [] [])) table_back

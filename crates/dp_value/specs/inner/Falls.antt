@@ -17,9 +17,11 @@ deep_le (Int n) = omega arith
 deep_le (Text bytes) = omega arith
 deep_le (Array t) = omega arith
 
-pub most_le_depth : (ks : List Key) (vs : List Value) → length vs ≡ length ks → max (most deep-Value vs) 0 ≤ suc (entries_depth (entries_of (zip ks (map data_of vs))))
+pub most_le_depth : (ks : List Key) (vs : List Value) → length vs ≡ length ks
+    → max (most deep-Value vs) 0 ≤ suc (entries_depth (entries_of (zip ks (map data_of vs))))
 most_le_depth ks [] same = omega arith
 most_le_depth [] (v ∷ vs) same = omega arith
 most_le_depth (k ∷ ks) (v ∷ vs) same =
-    let rest : max (most deep-Value vs) 0 ≤ suc (entries_depth (entries_of (zip ks (map data_of vs)))) = most_le_depth ks vs (omega arith) in
+    let rest : max (most deep-Value vs) 0 ≤ suc (entries_depth
+    (entries_of (zip ks (map data_of vs)))) = most_le_depth ks vs (omega arith) in
     omega (arith, deep_le v)

@@ -2,7 +2,7 @@ use Rattle.std.proofs.Common.{◌≡◌, List, ℕ, ap, ◌∙◌, subst}
 use Rattle.dp_tree.specs.declared.tree.File.{File}
 use Rattle.dp_parse.specs.declared.errors.ParseError.TheVariants.{Memory}
 use Rattle.dp_parse.specs.Programs.{IsFile}
-use Rattle.dp_bundle.specs.Bundles.{source_of}
+use Rattle.dp_bundle.specs.inner.Sources.{source_of}
 use Rattle.dp_bundle.proofs.Bundling.{one_file}
 use Rattle.dp_bundle.proofs.making.file_of.Goals as goal
 

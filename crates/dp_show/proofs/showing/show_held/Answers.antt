@@ -1,6 +1,6 @@
 use Rattle.std.proofs.Common.{ℕ, ◌-◌, List, take, drop, sym, subst, arith}
 use Rattle.dp_outside.specs.Changes.{change}
-use Rattle.dp_show.specs.Progress.{IsLine, TextFails}
+use Rattle.dp_show.specs.inner.Progress.{IsLine, TextFails}
 use Rattle.dp_show.proofs.ShowLaws.{packet_shown, text_failed, then_shows}
 use Rattle.dp_show.proofs.showing.show_held.Goals as goal
 

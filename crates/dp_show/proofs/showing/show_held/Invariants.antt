@@ -1,5 +1,5 @@
 use Rattle.std.proofs.Common.{◌≤◌, length}
-use Rattle.dp_show.specs.Progress.{ShowsOn}
+use Rattle.dp_show.specs.inner.Progress.{ShowsOn}
 use Rattle.dp_show.proofs.showing.show_held.Given as goal
 
 abbrev pub invariant-packets : goal.invariant-packets

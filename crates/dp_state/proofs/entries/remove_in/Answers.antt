@@ -5,7 +5,7 @@ use Rattle.dp_value.specs.declared.value.Value.TheVariants.{Null}
 use Rattle.dp_value.specs.Data.{Data}
 use Rattle.dp_value.specs.Entry.{removed}
 use Rattle.dp_value.specs.Value.{data_of}
-use Rattle.dp_state.specs.Places.{then_variables}
+use Rattle.dp_state.specs.inner.Parts.{then_variables}
 use Rattle.dp_state.proofs.Removals.{removal_free}
 use Rattle.dp_state.proofs.Slots.{then_put_back, put_same}
 use Rattle.dp_state.proofs.entries.remove_in.Goals as goal

@@ -1,5 +1,6 @@
 use Rattle.std.proofs.Common.{◌-◌, ◌≤◌, ◌≡◌, ℕ, Ok, Result, length, sym, ap, ◌∙◌, subst}
-use Rattle.dp_state.specs.Places.{removed_in, unset}
+use Rattle.dp_state.specs.Places.{unset}
+use Rattle.dp_state.specs.inner.Parts.{removed_in}
 use Rattle.dp_state.specs.States.{own_variables}
 use Rattle.dp_state.proofs.Removals.{sure_by}
 use Rattle.dp_state.proofs.Writing.{on_ok, on_refused, on_err, unset-home, with_result, within-still}

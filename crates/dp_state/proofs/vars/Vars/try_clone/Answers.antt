@@ -1,5 +1,5 @@
 use Rattle.std.proofs.Common.{◌<◌, length, ap, ◌∙◌, arith}
-use Rattle.dp_state.specs.Variables.{with_pair}
+use Rattle.dp_state.specs.inner.Parts.{with_pair}
 use Rattle.dp_state.proofs.Pairs.{take_next}
 use Rattle.dp_state.proofs.vars.Vars.try_clone.Goals as goal
 

@@ -51,17 +51,21 @@ pub record WasShowing (read : List ℕ) (before now : Told) : Type 0 where
 
 -- whatever was shown before, these packets were shown after it
 abbrev pub ShowsOn : Received → Received → Told → Told → Type 0
-ShowsOn held left old new = (read : List ℕ) (before : Told) → HasShown read held before old → HasShown read left before new
+ShowsOn held left old new =
+    (read : List ℕ) (before : Told) → HasShown read held before old → HasShown read left before new
 
 -- whatever was shown before, it was cut short after it
 abbrev pub IsCut : Received → Told → Told → Type 0
-IsCut held old new = (read : List ℕ) (before : Told) → HasShown read held before old → WasShowing read before new
+IsCut held old new =
+    (read : List ℕ) (before : Told) → HasShown read held before old → WasShowing read before new
 
 -- why a text was not shown, whose frame begins at this place
 abbrev pub TextFails : ShowError → List ℕ → ℕ → Change → Type 0
-TextFails (BadPacket offset) text start out = IsNoMarkup text × (offset ≡ start) × (out.told ≡ out.told_before)
+TextFails (BadPacket offset) text start out =
+    IsNoMarkup text × (offset ≡ start) × (out.told ≡ out.told_before)
 TextFails OutFault text start out =
-    Rose out.faults_before out.faults × ((line : List ℕ) × IsLine text line × AppendsFront out.told_before out.told line)
+    Rose out.faults_before out.faults
+    × ((line : List ℕ) × IsLine text line × AppendsFront out.told_before out.told line)
 TextFails Memory text start out = out.told ≡ out.told_before
 TextFails PeerEnd text start out = ⊥
 TextFails ReadFault text start out = ⊥
@@ -78,14 +82,16 @@ pub record HasNoMarkup (packets : Received) (offset : ℕ) : Type 0 where
 abbrev pub HeldFails : ShowError → Received → Received → Change → Type 0
 HeldFails (BadPacket offset) held left out =
     ShowsOn held left out.told_before out.told × (HasNoMarkup left offset ⊎ IsRefusedAt left offset)
-HeldFails OutFault held left out = Rose out.faults_before out.faults × IsCut held out.told_before out.told
+HeldFails OutFault held left out =
+    Rose out.faults_before out.faults × IsCut held out.told_before out.told
 HeldFails Memory held left out = IsCut held out.told_before out.told
 HeldFails PeerEnd held left out = ⊥
 HeldFails ReadFault held left out = ⊥
 
 -- why no piece follows what is held
 abbrev pub PieceFails : ShowError → Change → Type 0
-PieceFails ReadFault input = Rose input.faults_before input.faults × Keeps input.told_before input.told
+PieceFails ReadFault input =
+    Rose input.faults_before input.faults × Keeps input.told_before input.told
 PieceFails Memory input = (piece : List ℕ) × Consumes input.told_before input.told piece
 PieceFails PeerEnd input = ⊥
 PieceFails (BadPacket offset) input = ⊥

@@ -1,0 +1,3 @@
+-- How far `show` has come: what the functions inside the crate say of themselves. No clause of a
+-- public call speaks of it.
+pub mod Progress

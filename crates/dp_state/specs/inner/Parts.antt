@@ -1,0 +1,61 @@
+-- Variables and states with one part changed, as the functions inside the crate change it.
+use Rattle.dp_state.specs.Faults.{kind_of_write}
+use Rattle.dp_state.specs.Places.{is_bound}
+use Rattle.dp_state.specs.States.{owner_at, variables_at}
+use Rattle.dp_state.specs.Variables.{Variables, slot_of, value_held, with_slot}
+use Rattle.dp_state.specs.declared.moments.FatalKind.{FatalKind}
+use Rattle.dp_state.specs.declared.state.Fault.TheVariants as fault
+use Rattle.dp_state.specs.declared.state.Fault.{Fault}
+use Rattle.dp_state.specs.declared.state.State.{State}
+use Rattle.dp_state.specs.declared.vars.Slot.TheVariants.{Held, Bound}
+use Rattle.dp_state.specs.declared.vars.Slot.{Slot}
+use Rattle.dp_value.specs.Data.{Data}
+use Rattle.dp_value.specs.Entry.{write_result, removed}
+use Rattle.dp_value.specs.Value.{data_of, value_of}
+use Rattle.dp_value.specs.declared.error.WriteError.{WriteError}
+use Rattle.dp_value.specs.declared.key.Key.{Key}
+use Rattle.dp_value.specs.declared.value.Value.TheVariants.{Null}
+use Rattle.dp_value.specs.declared.value.Value.{Value}
+use Rattle.std.specs.Option.{option_map_or}
+use Rattle.std.specs.Prelude.{◌≡◌, ⊤, ℕ, Bool, if◌then◌else◌, List, Option, slice_get, unwrap_or, Result, Ok, Err}
+
+-- with the variable at a position of others
+abbrev pub with_pair : Variables → ℕ → Variables → Variables
+with_pair from at to =
+    option_map_or (λ variable. with_slot to variable.0 variable.1) (slice_get from at) to
+
+-- a slot with a value in the place of the one that it holds
+abbrev pub with_held : Value → Slot → Slot
+with_held value (Held old) = Held value
+with_held value Bound = Bound
+
+-- the position of the frame among whose own variables the variable of this name at a level stands
+abbrev pub home : State → ℕ → List ℕ → ℕ
+home s level name = if is_bound (slot_of (variables_at s level) name) then 0 else owner_at s level
+
+-- variables with what a write or a removal gives for one of them, or its fault
+abbrev pub then_variables :
+    List ℕ → Variables → Result Data WriteError → Result Variables FatalKind
+then_variables name variables (Ok d) = Ok (with_slot variables name (Held (value_of d)))
+then_variables name variables (Err e) = Err (kind_of_write e)
+
+-- what the variable of this name has among variables, or null
+abbrev pub data_in : Variables → List ℕ → Data
+data_in variables name = data_of (unwrap_or (value_held (slot_of variables name)) Null)
+
+-- variables with a value for one of them, or for its entry under keys, or pushed there
+abbrev pub assigned_in :
+    List ℕ → List (Option Key) → Bool → Value → Variables → Result Variables FatalKind
+assigned_in name keys push value variables =
+    then_variables name variables (write_result keys push (data_of value) (data_in variables name))
+
+-- variables without the entry of one of them under keys
+abbrev pub removed_in : List ℕ → List (Option Key) → Variables → Result Variables FatalKind
+removed_in name keys variables =
+    option_map_or (λ value. then_variables name variables (removed keys (data_of value)))
+    (value_held (slot_of variables name)) (Ok variables)
+
+-- why variables are not changed: as it is asked, or for want of memory
+abbrev pub IsCauseIn : Result Variables FatalKind → Fault → Type 0
+IsCauseIn asked fault.Memory = ⊤
+IsCauseIn asked (fault.Fatal kind) = asked ≡ Err kind
