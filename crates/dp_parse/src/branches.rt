@@ -1,20 +1,35 @@
 //! `if` with its arms.
 
-ghost use Rattle.std.specs.Prelude.{◌≡◌, ◌+◌, ◌<◌, ◌≤◌, ◌^◌};
+ghost use Rattle.std.specs.Prelude.{◌≡◌, ◌+◌, ◌<◌, ◌≤◌, ◌^◌, IfOk};
 ghost use Rattle.dp_rules.specs.inner.Input.{Reads};
 ghost use Rattle.dp_parse.specs.inner.Within.{within};
 ghost use Rattle.dp_parse.specs.inner.ReadingStatements as spec;
+ghost use Rattle.dp_parse.specs.Statements as grammar;
 
-use crate::ended::{Body, Ended};
+use crate::ended::{Body, Ended, finished};
 use crate::grammar::Statements;
 use crate::inside::Inside;
 use crate::levels::expression;
 use dp_expressions::both;
 use dp_rules::{Refusal, Sign, Tokens, none, with};
-use dp_tree::{Arm, Boxed, Expression, StatementKind};
-use dp_value::Items;
+use dp_tree::{Arm, Expression, StatementKind};
+use dp_value::{Items, Memory};
 use std::alloc::Global;
 use std::ops::ControlFlow;
+
+/// The arms with one more, and whether its body is open.
+fn with_arm(
+    arms: Items<Arm>,
+    line: u32,
+    test: Expression,
+    body: Body,
+) -> Result<(Items<Arm>, bool), Memory>
+    ensures { IfOk result (λ more. more ≡ grammar.with_arm arms line test body) }
+{
+    let Body { statement, is_open } = body;
+    let body = statement.into_inner();
+    Ok((with(arms, Arm { line, test, body })?, is_open))
+}
 
 impl<R: Inside> Statements<R> {
     /// An expression in parentheses.
@@ -40,14 +55,8 @@ impl<R: Inside> Statements<R> {
         ensures { Reads (within spec.next_arm self.now arms line tokens.old) result tokens.new }
     {
         let test = self.test(tokens)?;
-        let (test, found) = both(test, self.head_body(tokens, self.loops()))?;
-        let Body { statement, is_open } = found;
-        let arm = Arm {
-            line,
-            test,
-            body: statement,
-        };
-        Ok((with(arms, arm)?, is_open))
+        let (test, body) = both(test, self.head_body(tokens, self.loops()))?;
+        Ok(with_arm(arms, line, test, body)?)
     }
 
     /// The body behind an `else`.
@@ -57,11 +66,9 @@ impl<R: Inside> Statements<R> {
         ensures { Reads (within spec.otherwise self.now arms tokens.old) result tokens.new }
     {
         let Body { statement, is_open } = self.head_body(tokens, self.loops())?;
-        let otherwise = Some(Boxed::new(self.alloc(), statement)?);
-        Ok(Ended {
-            kind: StatementKind::If { arms, otherwise },
-            is_open,
-        })
+        let otherwise = Some(statement);
+        let kind = StatementKind::If { arms, otherwise };
+        finished(self.alloc(), tokens, kind, is_open)
     }
 
     /// What stands behind an `else` on this line: a further arm, or the last body.
@@ -99,13 +106,9 @@ impl<R: Inside> Statements<R> {
             let line = tokens.mark(Sign::Else)?;
             return self.behind_else(tokens, arms, line);
         }
-        Ok(ControlFlow::Break(Ended {
-            kind: StatementKind::If {
-                arms,
-                otherwise: None,
-            },
-            is_open: true,
-        }))
+        let otherwise = None;
+        let kind = StatementKind::If { arms, otherwise };
+        Ok(ControlFlow::Break(finished(self.alloc(), tokens, kind, true)?))
     }
 
     /// What stands behind the first arm.

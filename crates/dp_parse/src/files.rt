@@ -7,7 +7,7 @@ ghost use Rattle.dp_parse.specs.inner.Within as limited;
 ghost use Rattle.dp_parse.specs.inner.ReadingStatements as spec;
 ghost use Rattle.dp_parse.specs.Statements as grammar;
 
-use crate::ended::{Body, Parts};
+use crate::ended::{Body, Parts, with_body};
 use crate::inside::Called;
 use crate::levels::{BODY_LEVELS, expression};
 use crate::parameters::parameters;
@@ -68,7 +68,7 @@ fn with_statement(parts: Parts, body: Body) -> Result<Parts, Memory>
         functions,
     } = parts;
     Ok(Parts {
-        body: with(before, body.statement)?,
+        body: with_body(before, body)?,
         functions,
     })
 }

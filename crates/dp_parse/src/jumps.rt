@@ -8,11 +8,10 @@ ghost use Rattle.dp_rules.specs.inner.ReadingLists as lists;
 ghost use Rattle.dp_parse.specs.inner.ReadingStatements as spec;
 ghost use Rattle.dp_parse.specs.Statements as grammar;
 
-use crate::ended::Ended;
+use crate::ended::{Ended, whole};
 use crate::grammar::Statements;
 use crate::inside::Inside;
 use crate::levels::{expression, some_places};
-use crate::statements::whole;
 use dp_expressions::both;
 use dp_rules::{Piece, Refusal, Sign, Tokens, plain_items};
 use dp_tree::{Expression, StatementKind};
@@ -48,7 +47,7 @@ pub(crate) fn global_rule(alloc: Global, tokens: &mut Tokens<'_>) -> Result<Ende
 {
     tokens.mark(Sign::Global)?;
     let names = variables(alloc, tokens)?;
-    Ok(whole(StatementKind::Global(names)))
+    whole(alloc, tokens, StatementKind::Global(names))
 }
 
 #[tactic(auto, unfolding(crate::specs::inner::ReadingStatements::exit_word))]
@@ -93,7 +92,7 @@ impl<R: Inside> Statements<R> {
         }
         tokens.mark(Sign::Break)?;
         let count = self.loops_rule(tokens)?;
-        Ok(whole(StatementKind::Break(count)))
+        whole(self.alloc(), tokens, StatementKind::Break(count))
     }
 
     #[tactic(auto, unfolding(crate::specs::inner::ReadingStatements::continue_rule, dp_rules::specs::inner::Input::refuse))]
@@ -105,7 +104,7 @@ impl<R: Inside> Statements<R> {
         }
         tokens.mark(Sign::Continue)?;
         let count = self.loops_rule(tokens)?;
-        Ok(whole(StatementKind::Continue(count)))
+        whole(self.alloc(), tokens, StatementKind::Continue(count))
     }
 
     /// An expression, or none, and what closes it.
@@ -132,7 +131,7 @@ impl<R: Inside> Statements<R> {
     {
         tokens.mark(Sign::Return)?;
         let value = self.maybe_up_to(tokens, Sign::Semicolon)?;
-        Ok(whole(StatementKind::Return(value)))
+        whole(self.alloc(), tokens, StatementKind::Return(value))
     }
 
     #[tactic(auto, unfolding(crate::specs::inner::ReadingStatements::unset))]
@@ -143,7 +142,7 @@ impl<R: Inside> Statements<R> {
         tokens.mark(Sign::OpenParenthesis)?;
         let places = some_places(self.alloc(), tokens, Sign::CloseParenthesis)?;
         tokens.mark(Sign::Semicolon)?;
-        Ok(whole(StatementKind::Unset(places)))
+        whole(self.alloc(), tokens, StatementKind::Unset(places))
     }
 
     #[tactic(auto, unfolding(crate::specs::inner::ReadingStatements::exit_value))]
@@ -165,6 +164,6 @@ impl<R: Inside> Statements<R> {
         exit_word(tokens)?;
         let value = self.exit_value(tokens)?;
         let (value, _) = both(value, tokens.mark(Sign::Semicolon))?;
-        Ok(whole(StatementKind::Exit(value)))
+        whole(self.alloc(), tokens, StatementKind::Exit(value))
     }
 }

@@ -6,14 +6,13 @@ ghost use Rattle.dp_parse.specs.inner.Within as limited;
 ghost use Rattle.dp_parse.specs.inner.Within.{within};
 ghost use Rattle.dp_parse.specs.inner.ReadingStatements as spec;
 
-use crate::ended::{Body, Ended};
+use crate::ended::{Body, Ended, finished, whole};
 use crate::grammar::Statements;
 use crate::inside::Inside;
 use crate::levels::{any_expressions, expression};
-use crate::statements::whole;
 use dp_expressions::both;
 use dp_rules::{Refusal, Sign, Tokens};
-use dp_tree::{Binding, Boxed, Expression, StatementKind};
+use dp_tree::{Binding, Expression, StatementKind};
 use dp_value::Bytes;
 use std::alloc::Global;
 
@@ -62,11 +61,13 @@ impl<R: Inside> Statements<R> {
         let test = self.test(tokens)?;
         let (test, found) = both(test, self.looped(tokens))?;
         let Body { statement, is_open } = found;
-        let (test, body) = both(test, Boxed::new(self.alloc(), statement))?;
-        Ok(Ended {
-            kind: StatementKind::While { test, body },
+        let body = statement;
+        finished(
+            self.alloc(),
+            tokens,
+            StatementKind::While { test, body },
             is_open,
-        })
+        )
     }
 
     #[tactic(auto, unfolding(crate::specs::inner::ReadingStatements::do_while))]
@@ -76,11 +77,15 @@ impl<R: Inside> Statements<R> {
         self.enter(tokens)?;
         tokens.mark(Sign::Do)?;
         let found = self.looped(tokens)?;
-        let body = Boxed::new(self.alloc(), found.statement)?;
+        let body = found.statement;
         let line = tokens.mark(Sign::While)?;
         let test = self.test(tokens)?;
         let (test, _) = both(test, tokens.mark(Sign::Semicolon))?;
-        Ok(whole(StatementKind::DoWhile { body, line, test }))
+        whole(
+            self.alloc(),
+            tokens,
+            StatementKind::DoWhile { body, line, test },
+        )
     }
 
     #[tactic(auto, unfolding(crate::specs::inner::ReadingStatements::for_rule, crate::specs::inner::ReadingStatements::loop_body))]
@@ -94,16 +99,13 @@ impl<R: Inside> Statements<R> {
         let tests = any_expressions(self.alloc(), tokens, Sign::Semicolon)?;
         let after = any_expressions(self.alloc(), tokens, Sign::CloseParenthesis)?;
         let Body { statement, is_open } = self.looped(tokens)?;
-        let body = Boxed::new(self.alloc(), statement)?;
-        Ok(Ended {
-            kind: StatementKind::For {
-                before,
-                tests,
-                after,
-                body,
-            },
-            is_open,
-        })
+        let kind = StatementKind::For {
+            before,
+            tests,
+            after,
+            body: statement,
+        };
+        finished(self.alloc(), tokens, kind, is_open)
     }
 
     #[tactic(auto, unfolding(crate::specs::inner::ReadingStatements::foreach))]
@@ -141,14 +143,11 @@ impl<R: Inside> Statements<R> {
     {
         let (subject, found) = both(subject, self.looped(tokens))?;
         let Body { statement, is_open } = found;
-        let (subject, body) = both(subject, Boxed::new(self.alloc(), statement))?;
-        Ok(Ended {
-            kind: StatementKind::Foreach {
-                subject,
-                binding,
-                body,
-            },
-            is_open,
-        })
+        let kind = StatementKind::Foreach {
+            subject,
+            binding,
+            body: statement,
+        };
+        finished(self.alloc(), tokens, kind, is_open)
     }
 }

@@ -10,7 +10,7 @@ use std::alloc::Global;
 use std::marker::Model;
 
 /// Names that differ, in the order in which they came. A name is looked up by its hash.
-#[derive(Debug, Drop)]
+#[derive(Drop)]
 pub(crate) struct Names {
     names: IndexSet<Bytes>,
 }

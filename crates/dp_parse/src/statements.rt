@@ -6,47 +6,25 @@ ghost use Rattle.dp_parse.specs.Limits as limits;
 ghost use Rattle.dp_parse.specs.inner.Within as limited;
 ghost use Rattle.dp_parse.specs.inner.Within.{within};
 ghost use Rattle.dp_parse.specs.inner.ReadingStatements as spec;
-ghost use Rattle.dp_parse.specs.Statements as grammar;
 
-use crate::ended::{Body, Ended};
+use crate::ended::{Body, Ended, stated, whole, with_body};
 use crate::grammar::Statements;
 use crate::inside::{Called, Inside};
 use crate::jumps::global_rule;
 use crate::levels::{expression, some_expressions};
 use dp_expressions::both;
-use dp_rules::{Refusal, Sign, Tokens, none, with};
+use dp_rules::{Refusal, Sign, Tokens, none};
 use dp_tree::{Statement, StatementKind};
 use dp_value::Items;
 use std::alloc::Global;
 use std::ops::ControlFlow;
 
-/// A statement with its end: no `else` belongs to it.
-pub(crate) fn whole(kind: StatementKind) -> Ended
-    ensures { result ≡ grammar.whole kind }
-{
-    Ended {
-        kind,
-        is_open: false,
-    }
-}
-
-/// A statement that begins on this line.
-fn stated(line: u32, ended: Ended) -> Body
-    ensures { result ≡ grammar.stated line ended }
-{
-    let Ended { kind, is_open } = ended;
-    Body {
-        statement: Statement { line, kind },
-        is_open,
-    }
-}
-
 #[tactic(auto, unfolding(crate::specs::inner::ReadingStatements::empty))]
-fn empty(tokens: &mut Tokens<'_>) -> Result<Ended, Refusal>
+fn empty(alloc: Global, tokens: &mut Tokens<'_>) -> Result<Ended, Refusal>
     ensures { Reads (spec.empty tokens.old) result tokens.new }
 {
     tokens.mark(Sign::Semicolon)?;
-    Ok(whole(StatementKind::Empty))
+    whole(alloc, tokens, StatementKind::Empty)
 }
 
 impl<R: Inside> Statements<R> {
@@ -65,7 +43,7 @@ impl<R: Inside> Statements<R> {
             return Ok(ControlFlow::Break(all));
         }
         let body = self.body(tokens, loops)?;
-        Ok(ControlFlow::Continue(with(all, body.statement)?))
+        Ok(ControlFlow::Continue(with_body(all, body)?))
     }
 
     /// Statements in so many loops, up to the closing brace.
@@ -98,7 +76,7 @@ impl<R: Inside> Statements<R> {
     {
         tokens.mark(Sign::OpenBrace)?;
         let all = self.bodies(tokens, loops)?;
-        Ok(whole(StatementKind::Block(all)))
+        whole(self.alloc(), tokens, StatementKind::Block(all))
     }
 
     /// The body of a head, in so many loops. Its braces are no block of their own.
@@ -110,7 +88,8 @@ impl<R: Inside> Statements<R> {
     {
         if tokens.sees(Sign::OpenBrace) {
             let line = tokens.line();
-            return Ok(stated(line, self.braced(tokens, loops)?));
+            let found = self.braced(tokens, loops)?;
+            return Ok(stated(self.alloc(), line, found)?);
         }
         self.body(tokens, loops)
     }
@@ -121,7 +100,7 @@ impl<R: Inside> Statements<R> {
     {
         let value = expression(self.alloc(), tokens)?;
         let (value, _) = both(value, tokens.mark(Sign::Semicolon))?;
-        Ok(whole(StatementKind::Expression(value)))
+        whole(self.alloc(), tokens, StatementKind::Expression(value))
     }
 
     #[tactic(auto, unfolding(crate::specs::inner::ReadingStatements::echo))]
@@ -130,7 +109,7 @@ impl<R: Inside> Statements<R> {
     {
         tokens.mark(Sign::Echo)?;
         let values = some_expressions(self.alloc(), tokens, Sign::Semicolon)?;
-        Ok(whole(StatementKind::Echo(values)))
+        whole(self.alloc(), tokens, StatementKind::Echo(values))
     }
 
     #[tactic(auto, unfolding(crate::specs::inner::ReadingStatements::block))]
@@ -148,7 +127,7 @@ impl<R: Inside> Statements<R> {
         match tokens.peek() {
             Sign::Echo => self.echo(tokens),
             Sign::OpenBrace => self.block(tokens),
-            Sign::Semicolon => empty(tokens),
+            Sign::Semicolon => empty(self.alloc(), tokens),
             Sign::If => self.if_rule(tokens),
             Sign::While => self.while_rule(tokens),
             Sign::Do => self.do_while(tokens),
@@ -170,7 +149,8 @@ impl<R: Inside> Statements<R> {
         ensures { Reads (spec.on_its_line (within spec.any_statement self.now) tokens.old) result tokens.new }
     {
         let line = tokens.line();
-        Ok(stated(line, self.any_statement(tokens)?))
+        let found = self.any_statement(tokens)?;
+        Ok(stated(self.alloc(), line, found)?)
     }
 }
 
