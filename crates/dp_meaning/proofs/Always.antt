@@ -1,5 +1,5 @@
 -- What is kept by each step of a program is true at each moment of its run and at its end, and an exit has one of 200 statuses.
-use Rattle.std.proofs.Common.{◌≡◌, ℕ, zero, suc, ◌+◌, ◌<◌, ◌≤◌, Bool, true, false, List, [], ◌∷◌, length, map, Option, Some, None, Result, Ok, Err, refl, sym, ap, subst}
+use Rattle.std.proofs.Common.{◌≡◌, ℕ, ◌+◌, ◌<◌, ◌≤◌, Bool, true, false, List, [], ◌∷◌, length, map, Option, Result, Ok, Err, refl}
 use Rattle.std.specs.Prelude.{if◌then◌else◌}
 use Rattle.dp_tree.specs.declared.bundle.Bundle.{Bundle}
 use Rattle.dp_value.specs.declared.error.CallError.{CallError}
@@ -16,7 +16,7 @@ use Rattle.dp_state.specs.Functions.{called, included}
 use Rattle.dp_state.specs.Places.{assigned, unset, with_global}
 use Rattle.dp_state.specs.States.{printed, left}
 use Rattle.dp_tree.specs.declared.tree.Function.{Function}
-use Rattle.dp_meaning.specs.Run.{Run, Done, Over, At, and_then, fatal, taken}
+use Rattle.dp_meaning.specs.Run.{Run, Done, Over, At, and_then, taken}
 use Rattle.dp_meaning.specs.Setting.{Setting, Part}
 use Rattle.dp_meaning.specs.Values.{value_run, builtin_run, write_run}
 

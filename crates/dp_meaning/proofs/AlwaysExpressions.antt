@@ -1,5 +1,5 @@
 -- What is kept by each step of a program is kept by expressions.
-use Rattle.std.proofs.Common.{◌≡◌, ℕ, ◌+◌, Bool, true, false, if◌then◌else◌, List, [], ◌∷◌, map, Option, Some, None, Result, refl, sym, ap, ◌∙◌, subst}
+use Rattle.std.proofs.Common.{◌≡◌, ℕ, Bool, true, false, if◌then◌else◌, List, [], ◌∷◌, map, Option, Some, None, Result, refl, sym, subst}
 use Rattle.dp_tree.specs.declared.bundle.Bundle.{Bundle}
 use Rattle.dp_value.specs.declared.error.ValueError.{ValueError}
 use Rattle.dp_value.specs.declared.value.Value.{Value}
@@ -21,13 +21,13 @@ use Rattle.dp_tree.specs.declared.tree.Link.{Link, map-Link, roll-Link}
 use Rattle.dp_tree.specs.declared.tree.Operator.{Operator}
 use Rattle.dp_tree.specs.declared.tree.Operator.TheVariants.{Or, And, Of}
 use Rattle.dp_tree.specs.declared.tree.Place.{Place, map-Place, roll-Place, ind-Place}
-use Rattle.dp_meaning.specs.Expressions.{ExpressionRun, ItemRun, LinkRun, values_run, indices_run, links_run, items_run, operator_run, item_run, choice, place_layer, item_layer, link_layer, expression_layer, expression_run, place_run, item_run_of, link_run, evaluation, evaluations}
+use Rattle.dp_meaning.specs.Expressions.{ExpressionRun, ItemRun, LinkRun, values_run, indices_run, links_run, items_run, operator_run, item_run, choice, place_layer, item_layer, link_layer, expression_layer, expression_run, place_run, item_run_of, link_run, evaluations}
 use Rattle.dp_meaning.specs.Calls.{include_run}
-use Rattle.dp_meaning.specs.Places.{PlaceRun, variable}
-use Rattle.dp_meaning.specs.Run.{Run, Done, and_then}
-use Rattle.dp_meaning.specs.Setting.{Setting, Part}
-use Rattle.dp_meaning.specs.Values.{value_run, write_run, holds, is_missing}
-use Rattle.dp_meaning.proofs.Always.{Each, each-images, IsKept, IsKeptBy, Keeps, KeepsPart, Keeps-and_then, Keeps-value, Keeps-write, Always-if}
+use Rattle.dp_meaning.specs.Places.{PlaceRun}
+use Rattle.dp_meaning.specs.Run.{Done, and_then}
+use Rattle.dp_meaning.specs.Setting.{Part}
+use Rattle.dp_meaning.specs.Values.{value_run, holds, is_missing}
+use Rattle.dp_meaning.proofs.Always.{Each, each-images, IsKept, KeepsPart, Keeps-and_then, Keeps-value, Keeps-write, Always-if}
 use Rattle.dp_meaning.proofs.AlwaysCalls.{Keeps-named, Keeps-include}
 use Rattle.dp_meaning.proofs.AlwaysPlaces.{KeepsPlace, Keeps-assignment, Keeps-coalescing, Keeps-compound, Keeps-isset, Keeps-step}
 

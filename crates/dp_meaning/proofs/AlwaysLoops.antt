@@ -1,6 +1,6 @@
 -- What is kept by each step of a program is kept by loops.
-use Rattle.std.proofs.Common.{◌≡◌, ℕ, zero, suc, ◌+◌, ◌-◌, Bool, true, false, List, [], ◌∷◌, Option, Some, None}
-use Rattle.std.specs.Prelude.{nat_le, if◌then◌else◌}
+use Rattle.std.proofs.Common.{ℕ, zero, suc, ◌+◌, ◌-◌, false, List, [], ◌∷◌, Option, Some, None}
+use Rattle.std.specs.Prelude.{nat_le}
 use Rattle.dp_tree.specs.declared.bundle.Bundle.{Bundle}
 use Rattle.dp_value.specs.declared.key.Key.{Key}
 use Rattle.dp_value.specs.declared.value.Value.{Value}
@@ -11,9 +11,9 @@ use Rattle.dp_tree.specs.declared.tree.Binding.{Binding}
 use Rattle.dp_meaning.specs.declared.signal.Signal.{Signal}
 use Rattle.dp_meaning.specs.declared.signal.Signal.TheVariants.{Next, Break, Continue, Return}
 use Rattle.dp_meaning.specs.Loops.{turn_over, last_holds, turns, do_turns, bind_name, bind_key, bind, each_run}
-use Rattle.dp_meaning.specs.Run.{Run, Done, Over, At, and_then}
+use Rattle.dp_meaning.specs.Run.{Run, Done}
 use Rattle.dp_meaning.specs.Values.{holds}
-use Rattle.dp_meaning.proofs.Always.{Always, IsKept, Keeps, Keeps-and_then, Always-if, Always-taken}
+use Rattle.dp_meaning.proofs.Always.{IsKept, Keeps, Keeps-and_then, Always-if, Always-taken}
 
 module _ {D : Type 0} (P : D → ℕ → State → Type 0) where
   pub Keeps-turn_over : (next : State → Run Signal) → Keeps P next → (g : Signal) → Keeps P (turn_over g next)

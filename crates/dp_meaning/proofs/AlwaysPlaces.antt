@@ -1,6 +1,5 @@
 -- What is kept by each step of a program is kept by what is done with places.
-use Rattle.std.proofs.Common.{◌≡◌, ℕ, suc, ◌+◌, Bool, true, false, List, [], ◌∷◌, map, Option, Some, None, Result, Ok, Err, refl}
-use Rattle.std.specs.Prelude.{is_some}
+use Rattle.std.proofs.Common.{ℕ, Bool, false, List, [], ◌∷◌, map}
 use Rattle.dp_tree.specs.declared.bundle.Bundle.{Bundle}
 use Rattle.dp_value.specs.declared.operators.BinaryOp.{BinaryOp}
 use Rattle.dp_value.specs.declared.operators.UnaryOp.{UnaryOp}
@@ -10,15 +9,14 @@ use Rattle.dp_value.specs.Value.{data_of}
 use Rattle.dp_operations.specs.Binary.{binary_of}
 use Rattle.dp_operations.specs.Indexing.{found_by, indexed_by}
 use Rattle.dp_operations.specs.Unary.{unary_of}
-use Rattle.dp_state.specs.declared.moments.FatalKind.TheVariants.{BadKey}
 use Rattle.dp_state.specs.declared.state.State.{State}
 use Rattle.dp_state.specs.Places.{keys_of_indices}
 use Rattle.dp_tree.specs.declared.tree.Order.{Order}
-use Rattle.dp_meaning.specs.Places.{PlaceRun, variable, read_run, found_run, assign_run, assignment, compound, coalescing, step, stepped, isset_run, unset_run}
-use Rattle.dp_meaning.specs.Run.{Run, Done, fatal, and_then}
-use Rattle.dp_meaning.specs.Setting.{Setting, Part}
+use Rattle.dp_meaning.specs.Places.{PlaceRun, variable, read_run, found_run, assign_run, assignment, compound, coalescing, step, isset_run, unset_run}
+use Rattle.dp_meaning.specs.Run.{Done}
+use Rattle.dp_meaning.specs.Setting.{Part}
 use Rattle.dp_meaning.specs.Values.{is_missing}
-use Rattle.dp_meaning.proofs.Always.{Each, IsKept, IsKeptBy, Keeps, KeepsPart, Keeps-and_then, Keeps-value, Always-if, Always-taken}
+use Rattle.dp_meaning.proofs.Always.{Each, IsKept, Keeps, KeepsPart, Keeps-and_then, Keeps-value, Always-if, Always-taken}
 
 module _ {D : Type 0} (P : D → ℕ → State → Type 0) (bundle : Bundle) (kept : IsKept P bundle) where
   pub Keeps-assign : (name : List ℕ) (indices : List Value) (push : Bool) (v : Value) → Keeps P (assign_run name indices push v)

@@ -1,5 +1,5 @@
 -- What is kept by each step of a program is kept by statements.
-use Rattle.std.proofs.Common.{◌≡◌, ℕ, ◌+◌, ◌≤◌, Bool, true, false, if◌then◌else◌, List, [], ◌∷◌, map, Option, Some, None, ℤ, Result, Ok, Err, pos, negsuc, refl, sym, subst, arith}
+use Rattle.std.proofs.Common.{◌≡◌, ℕ, ◌+◌, ◌≤◌, Bool, true, false, if◌then◌else◌, List, [], ◌∷◌, map, Option, Some, None, ℤ, pos, negsuc, refl, sym, subst, arith}
 use Rattle.std.proofs.lemmas.Bool.Decides.{nat_tests}
 use Rattle.std.specs.Prelude.{nat_le}
 use Rattle.dp_tree.specs.declared.bundle.Bundle.{Bundle}
@@ -7,7 +7,6 @@ use Rattle.dp_value.specs.declared.value.Value.{Value}
 use Rattle.dp_value.specs.declared.value.Value.TheVariants as value
 use Rattle.dp_value.specs.Value.{data_of}
 use Rattle.dp_operations.specs.Text.{text_of}
-use Rattle.dp_state.specs.declared.moments.FatalKind.TheVariants.{Unsupported}
 use Rattle.dp_state.specs.declared.moments.Outcome.TheVariants.{Exit}
 use Rattle.dp_state.specs.declared.state.State.{State}
 use Rattle.dp_state.specs.Places.{with_global}
@@ -21,15 +20,14 @@ use Rattle.dp_tree.specs.declared.tree.StatementKind.TheFolds.{fold-roll-Stateme
 use Rattle.dp_tree.specs.declared.tree.StatementKind.TheOpen.{Statement-F, StatementKind-F, Arm-F}
 use Rattle.dp_meaning.specs.declared.signal.Signal.{Signal}
 use Rattle.dp_meaning.specs.declared.signal.Signal.TheVariants.{Next, Break, Continue, Return}
-use Rattle.dp_meaning.specs.Expressions.{ExpressionRun, expression_run, evaluation, place_run}
+use Rattle.dp_meaning.specs.Expressions.{expression_run, evaluation, place_run}
 use Rattle.dp_meaning.specs.Loops.{entries}
-use Rattle.dp_meaning.specs.Places.{unset_run}
-use Rattle.dp_meaning.specs.Run.{Run, Done, Over, At, fatal, and_then}
-use Rattle.dp_meaning.specs.Setting.{Setting, Part}
+use Rattle.dp_meaning.specs.Run.{Run}
+use Rattle.dp_meaning.specs.Setting.{Part}
 use Rattle.dp_meaning.specs.Statements.{KindRun, ArmRun, go_on, sequence, echoes, arms_run, with_globals, status_of, exit_with, exit_run, return_run, end_run, kind_layer, arm_layer, statement_layer, kind_run, arm_run, statement_run, body_run}
 use Rattle.dp_meaning.specs.Values.{holds}
-use Rattle.dp_meaning.proofs.Always.{Each, each-images, Always, IsKept, IsKeptBy, Keeps, KeepsPart, Keeps-and_then, Always-if, Always-taken}
-use Rattle.dp_meaning.proofs.AlwaysExpressions.{KeepsExpression, Keeps-expression, Keeps-evaluations, Keeps-place}
+use Rattle.dp_meaning.proofs.Always.{Each, each-images, Always, IsKept, Keeps, KeepsPart, Keeps-and_then, Always-if, Always-taken}
+use Rattle.dp_meaning.proofs.AlwaysExpressions.{Keeps-expression, Keeps-evaluations, Keeps-place}
 use Rattle.dp_meaning.proofs.AlwaysLoops.{Keeps-turns, Keeps-do_turns, Keeps-each}
 use Rattle.dp_meaning.proofs.AlwaysPlaces.{KeepsPlace, Keeps-unset}
 

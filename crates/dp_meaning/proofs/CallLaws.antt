@@ -1,5 +1,5 @@
 -- Calls and included files by how many frames more can be on the stack, and names that are bound.
-use Rattle.std.proofs.Common.{◌≡◌, ℕ, zero, suc, ◌-◌, Bool, true, false, if◌then◌else◌, List, [], Result, Ok, Err, refl, sym, ap, ◌∙◌, subst, arith}
+use Rattle.std.proofs.Common.{◌≡◌, ℕ, zero, suc, ◌-◌, Bool, true, false, if◌then◌else◌, List, Result, Ok, Err, refl, sym, ap, subst, arith}
 use Rattle.dp_tree.specs.declared.bundle.Bundle.{Bundle}
 use Rattle.dp_state.specs.declared.moments.FatalKind.TheVariants.{TooDeep}
 use Rattle.dp_state.specs.declared.state.State.{State}
@@ -10,7 +10,7 @@ use Rattle.dp_state.specs.Functions.{included}
 use Rattle.dp_meaning.specs.declared.halt.Halt.{Halt}
 use Rattle.dp_meaning.specs.declared.signal.Signal.{Signal}
 use Rattle.dp_meaning.specs.declared.signal.Signal.TheVariants.{Next}
-use Rattle.dp_meaning.specs.Drive.{Rules, Reached, Gives, Ends, Stops, Evaluates}
+use Rattle.dp_meaning.specs.inner.Drive.{Rules, Reached, Gives, Ends, Stops, Evaluates}
 use Rattle.dp_meaning.specs.Calls.{call_run, callee}
 use Rattle.dp_meaning.specs.Expressions.{evaluations}
 use Rattle.dp_meaning.specs.Loops.{do_turns, turns}

@@ -1,13 +1,12 @@
 -- A run that stops where a test first holds comes to the first such moment of its trace.
-use Rattle.std.proofs.Common.{◌≡◌, ℕ, ◌+◌, Bool, true, false, List, [], Option, Some, None, refl, sym, ap, ◌∙◌}
+use Rattle.std.proofs.Common.{◌≡◌, ℕ, ◌+◌, Bool, true, false, List, [], Option, Some, None, refl, sym, ◌∙◌}
 use Rattle.std.specs.Prelude.{if◌then◌else◌, nat_lt}
 use Rattle.dp_tree.specs.declared.bundle.Bundle.{Bundle}
 use Rattle.dp_state.specs.declared.moments.Moment.{Moment}
 use Rattle.dp_state.specs.declared.moments.Outcome.TheVariants.{Bound}
 use Rattle.dp_state.specs.declared.state.State.{State}
-use Rattle.dp_meaning.specs.declared.stop.Stop.{Stop}
 use Rattle.dp_meaning.specs.declared.writing.NumberedWrite.{NumberedWrite}
-use Rattle.dp_meaning.specs.Drive.{Rules, Ends, Stops, drive, stopped}
+use Rattle.dp_meaning.specs.inner.Drive.{Rules, Ends, Stops, drive, stopped}
 use Rattle.dp_meaning.specs.Programs.{program_run}
 use Rattle.dp_meaning.specs.Run.{Run, Done, Over, At}
 use Rattle.dp_meaning.specs.Stopping.{above, first_at, first_stop, stop_of}

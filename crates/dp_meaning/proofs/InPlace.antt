@@ -1,5 +1,5 @@
 -- Variables that are read in their place.
-use Rattle.std.proofs.Common.{◌≡◌, ℕ, true, List, [], ◌∷◌, Result, Ok, refl, sym, ap, ◌∙◌, subst}
+use Rattle.std.proofs.Common.{◌≡◌, ℕ, true, List, [], ◌∷◌, Result, Ok, sym, ap, ◌∙◌, subst}
 use Rattle.dp_state.specs.declared.moments.Outcome.TheVariants.{Fatal}
 use Rattle.dp_state.specs.declared.state.State.{State}
 use Rattle.dp_state.specs.States.{file_of, line_of}
@@ -11,7 +11,7 @@ use Rattle.dp_value.specs.declared.value.Value.{Value}
 use Rattle.dp_value.specs.Data.{Data}
 use Rattle.dp_value.specs.Value.{data_of}
 use Rattle.dp_meaning.specs.declared.halt.Halt.{Halt}
-use Rattle.dp_meaning.specs.Drive.{Rules, Gives, Ends, drive, Evaluates}
+use Rattle.dp_meaning.specs.inner.Drive.{Rules, Gives, Ends, drive, Evaluates}
 use Rattle.dp_meaning.specs.Expressions.{entry_run, evaluation, evaluations, expression_run}
 use Rattle.dp_meaning.specs.Places.{variable}
 use Rattle.dp_meaning.specs.Setting.{Setting}

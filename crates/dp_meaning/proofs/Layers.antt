@@ -17,7 +17,6 @@ use Rattle.dp_tree.specs.declared.tree.Link.{Link}
 use Rattle.dp_tree.specs.declared.tree.Order.{Order}
 use Rattle.dp_tree.specs.declared.tree.Place.{Place}
 use Rattle.dp_tree.specs.declared.tree.Statement.{Statement}
-use Rattle.dp_tree.specs.declared.tree.StatementKind.{StatementKind}
 use Rattle.dp_tree.specs.declared.tree.StatementKind.TheFolds.{fold-roll-StatementKind, fold_out-Arm, fold_out-Statement}
 use Rattle.dp_tree.specs.declared.tree.StatementKind.TheOpen.{StatementKind-F}
 use Rattle.dp_tree.specs.declared.tree.StatementKind.TheVariants as kind

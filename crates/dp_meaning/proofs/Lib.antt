@@ -12,7 +12,7 @@ pub mod WrittenMoments
 pub mod StopLaws
 pub mod FirstStops
 pub mod Alone
-pub mod PastLaws
+pub mod AnswerLaws
 pub mod Layers
 pub mod Tails
 pub mod SizeLaws

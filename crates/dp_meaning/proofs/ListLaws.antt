@@ -1,10 +1,10 @@
 -- Lists of parts, one element after another.
-use Rattle.std.proofs.Common.{◌≡◌, ℕ, zero, suc, ◌+◌, ◌<◌, List, [], ◌∷◌, ◌++◌, length, get_or, drop, drop-cons, add-one, map, Some, slice_get, arith, Result, Ok, Err, refl, sym, ap, ◌∙◌, subst, append_assoc, append-nil}
+use Rattle.std.proofs.Common.{◌≡◌, ℕ, zero, suc, ◌+◌, ◌<◌, List, [], ◌∷◌, ◌++◌, length, get_or, drop, drop-cons, add-one, Some, slice_get, arith, Result, Ok, Err, refl, sym, ap, ◌∙◌, subst, append_assoc, append-nil}
 use Rattle.dp_state.specs.declared.state.State.{State}
 use Rattle.dp_tree.specs.declared.tree.Expression.{Expression}
 use Rattle.dp_value.specs.declared.value.Value.{Value}
 use Rattle.dp_meaning.specs.declared.halt.Halt.{Halt}
-use Rattle.dp_meaning.specs.Drive.{Rules, Evaluates}
+use Rattle.dp_meaning.specs.inner.Drive.{Rules, Evaluates}
 use Rattle.dp_meaning.specs.Expressions.{evaluation, evaluations}
 use Rattle.dp_meaning.specs.Run.{Run, Done, and_then}
 use Rattle.dp_meaning.specs.Setting.{Setting}

@@ -1,25 +1,22 @@
 -- Loops, one turn after another.
-use Rattle.std.proofs.Common.{◌≡◌, ℕ, zero, suc, ◌+◌, ◌-◌, ◌<◌, Bool, true, false, List, [], ◌∷◌, Result, Ok, Err, refl, sym, ap, ◌∙◌, subst, arith}
+use Rattle.std.proofs.Common.{◌≡◌, ℕ, zero, suc, ◌-◌, ◌<◌, Bool, true, false, List, ◌∷◌, Result, Ok, Err, refl, ap, arith}
 use Rattle.std.specs.Prelude.{if◌then◌else◌, nat_le}
 use Rattle.dp_state.specs.declared.moments.MomentKind.TheVariants.{Place}
-use Rattle.dp_state.specs.declared.moments.Outcome.TheVariants.{Bound}
 use Rattle.dp_state.specs.declared.state.State.{State}
 use Rattle.dp_tree.specs.declared.tree.Binding.{Binding}
 use Rattle.dp_value.specs.declared.key.Key.{Key}
 use Rattle.dp_value.specs.declared.value.Value.{Value}
 use Rattle.dp_value.specs.Data.{Data}
 use Rattle.dp_meaning.specs.declared.halt.Halt.{Halt}
-use Rattle.dp_meaning.specs.declared.halt.Halt.TheVariants.{Finished}
-use Rattle.dp_meaning.specs.declared.turning.Turn.{Turn}
 use Rattle.dp_meaning.specs.declared.turning.Turn.TheVariants as turn
 use Rattle.dp_meaning.specs.declared.signal.Signal.{Signal}
 use Rattle.dp_meaning.specs.declared.signal.Signal.TheVariants.{Next, Break, Continue, Return}
-use Rattle.dp_meaning.specs.Drive.{Rules, Evaluates, moment_run}
-use Rattle.dp_meaning.specs.Evaluation.{turn_of}
+use Rattle.dp_meaning.specs.inner.Drive.{Rules, Evaluates, moment_run}
+use Rattle.dp_meaning.specs.inner.Evaluation.{turn_of}
 use Rattle.dp_meaning.specs.Loops.{turn_over, last_holds, turns, do_turns, bind, each_run}
 use Rattle.dp_meaning.specs.Run.{Run, Done, At, and_then}
 use Rattle.dp_meaning.specs.Values.{holds}
-use Rattle.dp_meaning.proofs.Drives.{gives, ends, breaks_off, goes_on, passes, stops_at}
+use Rattle.dp_meaning.proofs.Drives.{gives, breaks_off, goes_on, passes, stops_at}
 
 -- ---- after a body
 

@@ -15,7 +15,6 @@ use Rattle.dp_value.specs.Value.{data_of, value_of}
 use Rattle.dp_state.specs.declared.moments.FatalKind.{FatalKind}
 use Rattle.dp_state.specs.declared.moments.FatalKind.TheVariants.{Arguments, Redeclared, TooDeep}
 use Rattle.dp_state.specs.declared.moments.Moment.{Moment}
-use Rattle.dp_state.specs.declared.moments.MomentKind.{MomentKind}
 use Rattle.dp_state.specs.declared.moments.Outcome.TheVariants as way
 use Rattle.dp_state.specs.declared.moments.Path.{Path}
 use Rattle.dp_state.specs.declared.state.Frame.{Frame}
@@ -23,12 +22,11 @@ use Rattle.dp_state.specs.declared.state.State.{State}
 use Rattle.dp_state.specs.declared.vars.Slot.TheVariants.{Bound}
 use Rattle.dp_state.specs.Functions.{called, called_frame, included, included_frame, any_declared}
 use Rattle.dp_state.specs.Places.{assigned, given_keys, unset, then_state, with_global, with_null, with_own, with_value, with_variables, with_vars}
-use Rattle.dp_state.specs.States.{IsOf, entered, frame_limit, left, on_line, opening, owner_at, printed, read_at, variables_at, with_line}
+use Rattle.dp_state.specs.States.{IsOf, entered, frame_limit, on_line, owner_at, printed, read_at, variables_at, with_line}
 use Rattle.dp_state.specs.Variables.{Variables, with_slot, without}
 use Rattle.dp_state.proofs.Kept.{of-assigned, of-called, of-counted, of-included, of-left, of-on_line, of-opening, of-printed, of-unset, of-with_global}
 use Rattle.dp_tree.specs.declared.tree.Expression.{Expression}
 use Rattle.dp_tree.specs.declared.tree.Function.{Function}
-use Rattle.dp_meaning.specs.declared.signal.Signal.{Signal}
 use Rattle.dp_meaning.specs.declared.stop.Stop.{Stop}
 use Rattle.dp_meaning.specs.declared.stop.Stop.TheVariants as stop
 use Rattle.dp_meaning.specs.declared.writing.WriteFault.{WriteFault}
@@ -36,14 +34,13 @@ use Rattle.dp_meaning.specs.declared.writing.WriteFault.TheVariants.{NoFrame}
 use Rattle.dp_meaning.specs.declared.writing.NumberedWrite.{NumberedWrite}
 use Rattle.dp_meaning.specs.declared.writing.Write.{Write}
 use Rattle.dp_meaning.specs.declared.writing.Write.TheVariants.{Place, Evaluate}
-use Rattle.dp_meaning.specs.Expressions.{evaluation, expression_run}
-use Rattle.dp_meaning.specs.Programs.{program_run, setting_of}
+use Rattle.dp_meaning.specs.Expressions.{evaluation}
+use Rattle.dp_meaning.specs.Programs.{program_run}
 use Rattle.dp_meaning.specs.Run.{Run, Done, Over, At}
-use Rattle.dp_meaning.specs.Setting.{Setting}
 use Rattle.dp_meaning.specs.Stopping.{above, first_at, first_stop, state_of, stop_of}
-use Rattle.dp_meaning.specs.Trace.{End, Ended, Gave, IsStop, Trace, moment_of, program_trace, trace, with_moment}
-use Rattle.dp_meaning.specs.Writes.{Writes, alone, arrived, evaluated, evaluation_limit, evaluation_setting, in_context, left_by, one_write, or_unchanged, place_or_fault, recounted, with_place, written, written_by, writes_of}
-use Rattle.dp_meaning.proofs.Always.{Always, Each, IsKept, IsKeptBy}
+use Rattle.dp_meaning.specs.Trace.{Ended, IsStop, Trace, moment_of, program_trace, trace, with_moment}
+use Rattle.dp_meaning.specs.Writes.{alone, arrived, evaluated, evaluation_limit, evaluation_setting, in_context, left_by, one_write, or_unchanged, place_or_fault, recounted, written, written_by, writes_of}
+use Rattle.dp_meaning.proofs.Always.{Always, Each, IsKept}
 use Rattle.dp_meaning.proofs.AlwaysExpressions.{Keeps-expression}
 use Rattle.dp_meaning.proofs.AlwaysPrograms.{Always-program, Keeps-setting}
 

@@ -1,8 +1,5 @@
 -- An expression without calls, assignments, steps and includes gives a value or is fatal, and leaves the state as it is.
-use Rattle.std.proofs.Common.{◌≡◌, ℕ, Bool, true, false, ◌&&◌, if◌then◌else◌, List, [], ◌∷◌, map, Option, Some, None, Result, Ok, Err, refl, sym, ap, ◌∙◌, subst}
-use Rattle.std.specs.List.{list_all}
-use Rattle.std.specs.Option.{option_map_or}
-use Rattle.dp_tree.specs.declared.bundle.Bundle.{Bundle}
+use Rattle.std.proofs.Common.{◌≡◌, Bool, true, false, ◌&&◌, if◌then◌else◌, List, [], ◌∷◌, map, Option, Some, None, Result, Ok, Err, refl, sym, ap, ◌∙◌, subst}
 use Rattle.dp_value.specs.declared.error.ValueError.{ValueError}
 use Rattle.dp_value.specs.declared.error.WriteError.{WriteError}
 use Rattle.dp_value.specs.declared.value.Value.{Value}
@@ -28,8 +25,8 @@ use Rattle.dp_tree.specs.declared.tree.Operator.TheVariants.{Or, And, Of}
 use Rattle.dp_tree.specs.declared.tree.Place.{Place, map-Place, roll-Place}
 use Rattle.dp_tree.specs.Purity as purity
 use Rattle.dp_meaning.specs.Expressions.{ExpressionRun, ItemRun, LinkRun, values_run, indices_run, links_run, items_run, operator_run, item_run, coalesced, choice, conditional, place_layer, item_layer, link_layer, expression_layer, expression_run, place_run, item_run_of, link_run, evaluation}
-use Rattle.dp_meaning.specs.Places.{PlaceRun, found_run, isset_run, variable}
-use Rattle.dp_meaning.specs.Run.{Run, Done, Over, At, and_then, fatal}
+use Rattle.dp_meaning.specs.Places.{PlaceRun, isset_run, variable}
+use Rattle.dp_meaning.specs.Run.{Run, Done, and_then, fatal}
 use Rattle.dp_meaning.specs.Setting.{Setting, Part}
 use Rattle.dp_meaning.specs.Values.{value_run, write_run, holds, is_missing}
 use Rattle.dp_meaning.proofs.Always.{Each}

@@ -1,5 +1,5 @@
 -- How large a statement is, by how large its parts are; and that each body of a bundle fits into a frame of it.
-use Rattle.std.proofs.Common.{◌≡◌, ℕ, zero, suc, ◌+◌, ◌-◌, ◌*◌, ◌<◌, ◌≤◌, Bool, List, [], ◌∷◌, length, get_or, map, Option, Some, None, refl, sym, ap, ◌∙◌, subst, arith}
+use Rattle.std.proofs.Common.{◌≡◌, ℕ, zero, suc, ◌+◌, ◌-◌, ◌*◌, ◌<◌, ◌≤◌, List, [], ◌∷◌, length, get_or, map, Option, Some, None, refl, sym, ap, ◌∙◌, subst, arith}
 use Rattle.std.specs.Prelude.{slice_get}
 use Rattle.std.specs.Option.{option_map_or}
 use Rattle.dp_tree.specs.declared.bundle.Bundle.{Bundle}
@@ -19,9 +19,9 @@ use Rattle.dp_tree.specs.declared.tree.StatementKind.TheOpen.{StatementKind-F}
 use Rattle.dp_tree.specs.declared.tree.StatementKind.TheVariants as kind
 use Rattle.dp_tree.specs.Builtins.{builtin_of as builtin_named}
 use Rattle.dp_value.specs.declared.operators.Builtin.{Builtin}
-use Rattle.dp_meaning.specs.Calls.{Callee, BuiltIn, Declared, callee, declared_callee}
+use Rattle.dp_meaning.specs.Calls.{BuiltIn, Declared, callee, declared_callee}
 use Rattle.dp_meaning.specs.Programs.{statements_of}
-use Rattle.dp_meaning.specs.Sizes.{arm_layer, arm_size, body_size, expression_size, files_size, frame_size, functions_size, kind_layer, kind_size, sizes_sum, statement_layer, statement_size}
+use Rattle.dp_meaning.specs.inner.Sizes.{arm_layer, arm_size, body_size, expression_size, files_size, frame_size, functions_size, kind_layer, kind_size, sizes_sum, statement_layer, statement_size}
 
 -- ---- statements
 

@@ -9,7 +9,7 @@ use Rattle.dp_state.specs.declared.state.State.{State}
 use Rattle.dp_meaning.specs.declared.stop.Stop.{Stop}
 use Rattle.dp_meaning.specs.declared.stop.Stop.TheVariants as stop
 use Rattle.dp_meaning.specs.declared.writing.NumberedWrite.{NumberedWrite}
-use Rattle.dp_meaning.specs.Drive.{Rules, Ends, Stops, at_number, drive, stopped}
+use Rattle.dp_meaning.specs.inner.Drive.{Rules, Ends, Stops, at_number, drive, stopped}
 use Rattle.dp_meaning.specs.Programs.{program_run}
 use Rattle.dp_meaning.specs.Run.{Run, Done, Over, At}
 use Rattle.dp_meaning.specs.Trace.{Ended, IsStop, Trace, moment_at, moment_of, outcome_of, program_trace, trace, with_moment}

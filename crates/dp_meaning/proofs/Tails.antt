@@ -1,5 +1,5 @@
 -- What operations and steps give, as the evaluator answers it.
-use Rattle.std.proofs.Common.{◌≡◌, ◌⊎◌, inl, inr, ℕ, Bool, true, false, List, [], ◌∷◌, Option, Some, None, Result, Ok, Err, refl, sym, ap, ◌∙◌, subst}
+use Rattle.std.proofs.Common.{◌≡◌, ◌⊎◌, inl, inr, Bool, true, false, Option, Some, None, Result, Ok, Err, refl, sym, ap, ◌∙◌, subst}
 use Rattle.dp_value.specs.declared.error.CallError.{CallError}
 use Rattle.dp_value.specs.declared.error.CallError.TheVariants as call
 use Rattle.dp_value.specs.declared.error.ValueError.{ValueError}
@@ -9,23 +9,22 @@ use Rattle.dp_value.specs.declared.error.WriteError.TheVariants as write
 use Rattle.dp_value.specs.declared.value.Value.{Value}
 use Rattle.dp_value.specs.Data.{Data}
 use Rattle.dp_value.specs.Entry.{IsCause as IsWriteCause}
-use Rattle.dp_value.specs.Value.{data_of, value_of}
+use Rattle.dp_value.specs.Value.{data_of}
 use Rattle.dp_state.proofs.ValueLemmas.{value_of-data_of}
 use Rattle.dp_operations.specs.Answers.{Answers, Gives}
-use Rattle.dp_operations.specs.Builtins.{CallAnswers}
 use Rattle.dp_state.specs.declared.moments.FatalKind.{FatalKind}
 use Rattle.dp_state.specs.declared.state.Fault.{Fault}
 use Rattle.dp_state.specs.declared.state.Fault.TheVariants as fault
 use Rattle.dp_state.specs.declared.state.State.{State}
 use Rattle.dp_state.specs.Faults.{fault_of_call, fault_of_value, fault_of_write}
 use Rattle.dp_state.specs.States.{IsCause}
-use Rattle.std.specs.Prelude.{if◌then◌else◌, option_map}
+use Rattle.std.specs.Prelude.{if◌then◌else◌, option_map, OnOk, OnErr, IfErr}
 use Rattle.dp_tree.specs.declared.tree.Binding.{Binding}
 use Rattle.dp_value.specs.declared.key.Key.{Key}
 use Rattle.dp_meaning.specs.declared.halt.Halt.{Halt}
 use Rattle.dp_meaning.specs.Loops.{bind, bind_key, bind_name}
-use Rattle.dp_meaning.specs.Drive.{Gives as Reaches, Rules, Evaluates, drive, halt_of}
-use Rattle.dp_meaning.specs.Run.{Run, Done, and_then, fatal, taken}
+use Rattle.dp_meaning.specs.inner.Drive.{Gives as Reaches, Rules, Evaluates, drive, halt_of, settled_of}
+use Rattle.dp_meaning.specs.Run.{Done, and_then, fatal, taken}
 use Rattle.dp_meaning.specs.Values.{builtin_run, holds, is_missing, kept_of, present_of, value_run, write_run}
 use Rattle.dp_meaning.proofs.Drives.{gives, ends, wants_memory, breaks_off, goes_on}
 
@@ -78,6 +77,12 @@ module _ (rules : Rules) (s : State) where
   pub step-err : (r : Result State FatalKind) (why : Fault) → IsCause r why → Evaluates rules (taken r s) (Err (halt_of why s)) s
   step-err r (fault.Fatal kind) e = rw e ends
   step-err r fault.Memory e = wants_memory
+
+  -- a step, whatever it answers
+  pub settles : (r : Result State FatalKind) (step : Result Unit Fault) (t : State) → OnOk step (r ≡ Ok t) → IfErr step (IsCause r)
+      → OnErr step (t ≡ s) → Evaluates rules (taken r s) (settled_of step t) t
+  settles r (Ok done) t ok refused same = step-ok r t ok
+  settles r (Err why) t ok refused same = rw same (step-err r why refused)
 
 -- what is given is answered
 pub gives-answers : (r : Result Value ValueError) (table : Result Data ValueError) → Gives r table → Answers r table

@@ -1,10 +1,10 @@
 -- Writes leave the number of moments alone.
-use Rattle.std.proofs.Common.{◌≡◌, ℕ, zero, suc, ◌-◌, Bool, true, false, if◌then◌else◌, List, [], ◌∷◌, length, Option, Some, None, Result, Ok, Err, refl, sym, ap, ◌∙◌}
+use Rattle.std.proofs.Common.{◌≡◌, ℕ, zero, suc, ◌-◌, Bool, true, false, if◌then◌else◌, List, [], ◌∷◌, length, Option, Some, None, Result, Ok, Err, refl, ◌∙◌}
 use Rattle.std.specs.Prelude.{nat_eq, nat_lt}
 use Rattle.dp_state.specs.declared.moments.FatalKind.{FatalKind}
 use Rattle.dp_state.specs.declared.moments.Path.{Path}
 use Rattle.dp_state.specs.declared.state.State.{State}
-use Rattle.dp_state.specs.Places.{assigned, given_keys}
+use Rattle.dp_state.specs.Places.{given_keys}
 use Rattle.dp_value.specs.declared.value.Value.{Value}
 use Rattle.dp_meaning.specs.declared.writing.NumberedWrite.{NumberedWrite}
 use Rattle.dp_meaning.specs.declared.writing.Write.{Write}
@@ -12,8 +12,8 @@ use Rattle.dp_meaning.specs.declared.writing.Write.TheVariants.{Place, Evaluate}
 use Rattle.dp_meaning.specs.Expressions.{evaluation}
 use Rattle.dp_meaning.specs.Setting.{Setting}
 use Rattle.dp_meaning.specs.declared.writing.WriteFault.{WriteFault}
-use Rattle.dp_meaning.specs.declared.writing.WriteFault.TheVariants.{NoFrame, NoPlace}
-use Rattle.dp_meaning.specs.Writes.{Writes, alone, evaluated, evaluation_limit, in_context, left_by, one_write, or_unchanged, place_or_fault, recounted, with_place, written, written_by}
+use Rattle.dp_meaning.specs.declared.writing.WriteFault.TheVariants.{NoFrame}
+use Rattle.dp_meaning.specs.Writes.{Writes, alone, evaluation_limit, in_context, left_by, one_write, or_unchanged, place_or_fault, recounted, with_place, written, written_by}
 use Rattle.dp_meaning.proofs.Steady.{moments-assigned}
 
 -- what a place write gives has as many moments

@@ -17,8 +17,8 @@ use Rattle.dp_tree.specs.declared.bundle.FunctionRef.{FunctionRef}
 use Rattle.dp_state.specs.declared.state.State.{State}
 use Rattle.dp_tree.specs.Files.{file_named, function_at}
 use Rattle.dp_state.specs.Functions.{declared_function}
-use Rattle.dp_meaning.specs.Run.{Run, Done, fatal, ◌>>=◌}
-use Rattle.dp_meaning.specs.Setting.{Setting, Part}
+use Rattle.dp_meaning.specs.Run.{Done, fatal, ◌>>=◌}
+use Rattle.dp_meaning.specs.Setting.{Part}
 use Rattle.dp_meaning.specs.Values.{builtin_run}
 
 -- what a name calls: a built-in function, or one of the file of this number

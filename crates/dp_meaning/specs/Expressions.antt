@@ -1,5 +1,5 @@
 -- What expressions do. Source: the PHP manual, "Expressions" and "Operators".
-use Rattle.std.specs.Prelude.{ℕ, Bool, true, false, if◌then◌else◌, List, [], ◌∷◌, map, Option, Some, None, Result}
+use Rattle.std.specs.Prelude.{Bool, true, false, if◌then◌else◌, List, [], ◌∷◌, map, Option, Some, None, Result}
 use Rattle.dp_value.specs.declared.error.ValueError.{ValueError}
 use Rattle.dp_value.specs.declared.value.Value.{Value}
 use Rattle.dp_value.specs.declared.value.Value.TheVariants as value
@@ -19,12 +19,11 @@ use Rattle.dp_tree.specs.declared.tree.Link.{Link, fold-Link}
 use Rattle.dp_tree.specs.declared.tree.Operator.{Operator}
 use Rattle.dp_tree.specs.declared.tree.Operator.TheVariants.{Or, And, Of}
 use Rattle.dp_tree.specs.declared.tree.Place.{Place, fold-Place}
-use Rattle.dp_state.specs.declared.state.State.{State}
 use Rattle.dp_state.specs.Places.{keys_of_indices}
 use Rattle.dp_meaning.specs.Calls.{call_run, callee, include_run}
 use Rattle.dp_meaning.specs.Places.{PlaceRun, variable, assignment, compound, coalescing, step, isset_run}
-use Rattle.dp_meaning.specs.Run.{Run, Done, ◌>>=◌}
-use Rattle.dp_meaning.specs.Setting.{Setting, Part}
+use Rattle.dp_meaning.specs.Run.{Done, ◌>>=◌}
+use Rattle.dp_meaning.specs.Setting.{Part}
 use Rattle.dp_meaning.specs.Values.{value_run, write_run, holds, is_missing}
 
 -- An expression: its value, and its value to the left of `??`, where an entry is read as isset finds it.

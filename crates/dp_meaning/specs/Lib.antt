@@ -10,8 +10,5 @@ pub mod Programs
 pub mod Writes
 pub mod Trace
 pub mod Stopping
-pub mod Past
-pub mod Drive
-pub mod Evaluation
-pub mod Sizes
 pub mod Pure
+pub mod inner

@@ -11,6 +11,8 @@ use Rattle.dp_value.specs.declared.value.Value.{Value}
 use Rattle.dp_meaning.specs.declared.writing.NumberedWrite.{NumberedWrite}
 use Rattle.dp_meaning.specs.declared.writing.Write.{Write}
 use Rattle.dp_meaning.specs.declared.writing.Write.TheVariants.{Place, Evaluate}
+use Rattle.dp_meaning.specs.declared.writing.WriteAnswer.{WriteAnswer}
+use Rattle.dp_meaning.specs.declared.writing.WriteAnswer.TheVariants as answer
 use Rattle.dp_meaning.specs.declared.writing.WriteFault.{WriteFault}
 use Rattle.dp_meaning.specs.declared.writing.WriteFault.TheVariants.{NoFrame, NoPlace}
 use Rattle.dp_meaning.specs.Expressions.{evaluation}
@@ -35,9 +37,10 @@ abbrev pub with_place : ℕ → ℕ → Path → Value → State → Result Stat
 with_place level context path value s = if nat_lt level (length s.frames) then in_context context level path value s else Err NoFrame
 
 -- what a write of a place answers
-abbrev pub answer_of : Result State WriteFault → Result Unit WriteFault
-answer_of (Ok s) = Ok tt
-answer_of (Err fault) = Err fault
+abbrev pub place_answer : Result State WriteFault → WriteAnswer
+place_answer (Ok s) = answer.Set
+place_answer (Err NoFrame) = answer.NoFrame
+place_answer (Err NoPlace) = answer.NoPlace
 
 -- ---- evaluations
 
@@ -64,6 +67,11 @@ recounted moments (Some end) = Some (end.0, record end.1 { moments = moments })
 abbrev pub evaluated : Setting → Expression → State → Option (Value × State)
 evaluated setting e s = recounted s.moments (alone evaluation_limit (evaluation e setting (record s { moments = 0 })))
 
+-- what an evaluation answers
+abbrev pub value_answer : Option (Value × State) → WriteAnswer
+value_answer None = answer.Fatal
+value_answer (Some end) = answer.Value end.0
+
 -- ---- the writes of a moment
 
 -- what evaluations go by
@@ -81,6 +89,11 @@ left_by s (Some end) = end.1
 abbrev pub one_write : Setting → Write → State → State
 one_write setting (Place level context path value) s = or_unchanged s (with_place level context path value s)
 one_write setting (Evaluate e) s = left_by s (evaluated setting e s)
+
+-- what one write answers in a state
+abbrev pub answer_in : Setting → Write → State → WriteAnswer
+answer_in setting (Place level context path value) s = place_answer (with_place level context path value s)
+answer_in setting (Evaluate e) s = value_answer (evaluated setting e s)
 
 abbrev pub written_by : Setting → List NumberedWrite → ℕ → State → State
 written_by setting [] n s = s

@@ -7,11 +7,11 @@ ghost use Rattle.dp_value.specs.Data.{Data};
 ghost use Rattle.dp_value.specs.Value.{data_of};
 ghost use Rattle.dp_operations.specs.Answers.{Answers};
 ghost use Rattle.dp_operations.specs.Builtins.{CallAnswers, is_null};
-ghost use Rattle.dp_meaning.specs.Drive.{Evaluates, Rules};
+ghost use Rattle.dp_meaning.specs.inner.Drive.{Evaluates, Rules};
 ghost use Rattle.dp_meaning.specs.Statements.{exit_run, print_run, status_of};
 ghost use Rattle.dp_meaning.specs.Values.{builtin_run, is_missing as missing, value_run};
 
-use crate::faults::{fatal, fault};
+use crate::faults::{fatal, fault, settled};
 use crate::halt::Halt;
 use crate::signal::Signal;
 use dp_operations::text;
@@ -59,10 +59,8 @@ pub(crate) fn print_value(alloc: Global, value: &Value, state: &mut State) -> Re
     let Ok(text) = text(alloc, value) else {
         return Err(Halt::Memory);
     };
-    match state.print(text.as_slice()) {
-        Ok(()) => Ok(()),
-        Err(why) => Err(fault(why, state)),
-    }
+    let step = state.print(text.as_slice());
+    settled(step, state)
 }
 
 /// Ends the program with a value.

@@ -15,8 +15,8 @@ use dp_value::{BinaryOp, Bytes, UnaryOp, Value};
 
 impl<O: Outside> Evaluator<'_, O> {
     ghost use Rattle.std.specs.Prelude.{map};
-    ghost use Rattle.dp_meaning.specs.Drive.{Evaluates};
-    ghost use Rattle.dp_meaning.specs.Evaluation.{goes_by};
+    ghost use Rattle.dp_meaning.specs.inner.Drive.{Evaluates};
+    ghost use Rattle.dp_meaning.specs.inner.Evaluation.{goes_by};
     ghost use Rattle.dp_meaning.specs.Expressions.{evaluation, place_run};
     ghost use Rattle.dp_meaning.specs.Places.{assigned_under, assignment, coalescing, coalescing_under, compound, compound_from, compound_under, found_at, isset_run, step};
 

@@ -4,8 +4,8 @@ ghost use Rattle.std.specs.Prelude.{◌≡◌, Some, slice_get, IfOk};
 ghost use Rattle.dp_value.specs.declared.key.Key.{Key as EntryKey};
 ghost use Rattle.dp_value.specs.Data.{Data};
 ghost use Rattle.dp_value.specs.Value.{value_of};
-ghost use Rattle.dp_meaning.specs.Drive.{Evaluates, Rules};
-ghost use Rattle.dp_meaning.specs.Loops.{bind, bind_key as bind_run};
+ghost use Rattle.dp_meaning.specs.inner.Drive.{Evaluates, Rules};
+ghost use Rattle.dp_meaning.specs.Loops.{bind, bind_key as bind_run, bind_name};
 ghost use Rattle.dp_meaning.specs.Run.{Done};
 ghost use Rattle.dp_meaning.specs.Statements.{with_globals};
 
@@ -13,7 +13,7 @@ use crate::halt::Halt;
 use crate::places::assign_variable;
 use dp_state::State;
 use dp_tree::Binding;
-use dp_value::{Bytes, Key, PhpArray};
+use dp_value::{Bytes, Key, PhpArray, Value};
 
 /// Binds the entry at a position: its value, then its key.
 pub(crate) fn bind_entry(
@@ -27,10 +27,17 @@ pub(crate) fn bind_entry(
     match array.pair(at) {
         None => Ok(()),
         Some((key, value)) => {
-            assign_variable(&binding.value, value.try_clone()?, state)?;
+            bind_value(&binding.value, value, state)?;
             bind_key(&binding.key, key, state)
         }
     }
+}
+
+/// Binds the value of an entry.
+fn bind_value(name: &Bytes, value: &Value, state: &mut State) -> Result<(), Halt>
+    ensures { (rules : Rules) → Evaluates rules (bind_name name.now value.now state.old) result state.new }
+{
+    assign_variable(name, value.try_clone()?, state)
 }
 
 /// Binds the key of an entry.

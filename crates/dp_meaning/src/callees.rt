@@ -2,7 +2,7 @@
 
 ghost use Rattle.std.specs.Prelude.{option_map, ◌≡◌};
 ghost use Rattle.dp_meaning.specs.Calls.{callee as callee_named};
-ghost use Rattle.dp_meaning.specs.Evaluation.{callee_of};
+ghost use Rattle.dp_meaning.specs.inner.Evaluation.{callee_of};
 
 use dp_state::State;
 use dp_tree::{Bundle, Function, builtin_of};

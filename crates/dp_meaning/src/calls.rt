@@ -20,11 +20,11 @@ use dp_value::{Builtin, Bytes, Items, Value};
 impl<O: Outside> Evaluator<'_, O> {
     ghost use Rattle.std.specs.Prelude.{◌+◌, ◌<◌, map, Some};
     ghost use Rattle.dp_meaning.specs.Calls.{BuiltIn, call_run, callee as callee_named, include_run};
-    ghost use Rattle.dp_meaning.specs.Drive.{Evaluates};
-    ghost use Rattle.dp_meaning.specs.Evaluation.{goes_by};
+    ghost use Rattle.dp_meaning.specs.inner.Drive.{Evaluates};
+    ghost use Rattle.dp_meaning.specs.inner.Evaluation.{goes_by};
     ghost use Rattle.dp_meaning.specs.Expressions.{evaluations};
     ghost use Rattle.dp_meaning.specs.Programs.{file_run, function_run};
-    ghost use Rattle.dp_meaning.specs.Sizes.{body_size, frame_size};
+    ghost use Rattle.dp_meaning.specs.inner.Sizes.{body_size, frame_size};
 
     /// A call of what a name calls.
     #[cycle(evaluate)]

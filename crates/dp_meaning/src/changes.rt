@@ -3,7 +3,7 @@
 #![tactic(auto, using(crate::proofs::Drives::evaluating))]
 
 ghost use Rattle.std.specs.Prelude.{◌≡◌};
-ghost use Rattle.dp_meaning.specs.Drive.{Evaluates, Rules};
+ghost use Rattle.dp_meaning.specs.inner.Drive.{Evaluates, Rules};
 ghost use Rattle.dp_meaning.specs.Places.{combined, step_from as from_old, step_under, step_written, stepped};
 
 use crate::answers::value_of;

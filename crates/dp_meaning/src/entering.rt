@@ -6,12 +6,12 @@ ghost use Rattle.dp_operations.specs.Text.{text_of};
 ghost use Rattle.dp_tree.specs.Files.{file_named};
 ghost use Rattle.dp_state.specs.Functions.{called, included};
 ghost use Rattle.dp_meaning.specs.Calls.{inclusion_run};
-ghost use Rattle.dp_meaning.specs.Drive.{Evaluates, Rules};
+ghost use Rattle.dp_meaning.specs.inner.Drive.{Evaluates, Rules};
 ghost use Rattle.dp_meaning.specs.Programs.{returned as value_returned, statements_of as body_of};
 ghost use Rattle.dp_meaning.specs.Run.{taken};
 ghost use Rattle.dp_meaning.specs.Setting.{Setting};
 
-use crate::faults::{fatal, fault};
+use crate::faults::{fatal, settled};
 use crate::halt::Halt;
 use crate::signal::Signal;
 use dp_operations::text;
@@ -29,20 +29,16 @@ pub(crate) fn enter_call(
 ) -> Result<(), Halt>
     ensures { (rules : Rules) → Evaluates rules (taken (called file function.now values state.old) state.old) result state.new }
 {
-    match state.call(file, function, values) {
-        Ok(()) => Ok(()),
-        Err(why) => Err(fault(why, state)),
-    }
+    let step = state.call(file, function, values);
+    settled(step, state)
 }
 
 /// Enters a file.
 pub(crate) fn enter_file(bundle: &Bundle, file: u32, state: &mut State) -> Result<(), Halt>
     ensures { (rules : Rules) → Evaluates rules (taken (included bundle.now file state.old) state.old) result state.new }
 {
-    match state.include(bundle, file) {
-        Ok(()) => Ok(()),
-        Err(why) => Err(fault(why, state)),
-    }
+    let step = state.include(bundle, file);
+    settled(step, state)
 }
 
 /// The number of the file whose name is the text of a value, if there is one.

@@ -20,7 +20,7 @@ pub(crate) struct Evaluator<'a, O> {
 
 impl<O: Outside> Evaluator<'_, O> {
     ghost use Rattle.dp_state.specs.declared.moments.MomentKind.TheVariants as moment;
-    ghost use Rattle.dp_meaning.specs.Drive.{Evaluates, moment_run};
+    ghost use Rattle.dp_meaning.specs.inner.Drive.{Evaluates, moment_run};
 
     /// A moment before a statement, a test or a binding on this line.
     pub(crate) fn place(&self, line: u32, state: &mut State) -> Result<(), Halt>

@@ -13,8 +13,8 @@ use dp_tree::{Expression, Inclusion};
 use dp_value::{Items, UnaryOp, Value};
 
 impl<O: Outside> Evaluator<'_, O> {
-    ghost use Rattle.dp_meaning.specs.Drive.{Evaluates};
-    ghost use Rattle.dp_meaning.specs.Evaluation.{goes_by};
+    ghost use Rattle.dp_meaning.specs.inner.Drive.{Evaluates};
+    ghost use Rattle.dp_meaning.specs.inner.Evaluation.{goes_by};
     ghost use Rattle.dp_meaning.specs.Expressions.{evaluations, expression_run, included, operated};
 
     /// The value of an expression.

@@ -4,7 +4,7 @@ ghost use Rattle.std.specs.Prelude.{◌≡◌};
 ghost use Rattle.dp_state.specs.States.{file_of, line_of};
 ghost use Rattle.dp_state.specs.declared.moments.Outcome.TheVariants as way;
 ghost use Rattle.dp_meaning.specs.declared.halt.Halt.TheVariants as halt;
-ghost use Rattle.dp_meaning.specs.Drive.{halt_of};
+ghost use Rattle.dp_meaning.specs.inner.Drive.{halt_of, settled_of};
 
 use crate::halt::Halt;
 use dp_state::{FatalKind, Fault, Outcome, State};
@@ -27,5 +27,15 @@ pub(crate) fn fault(why: Fault, state: &State) -> Halt
     match why {
         Fault::Fatal(kind) => fatal(kind, state),
         Fault::Memory => Halt::Memory,
+    }
+}
+
+/// What a step is.
+pub(crate) fn settled(step: Result<(), Fault>, state: &State) -> Result<(), Halt>
+    ensures { result ≡ settled_of step state.now }
+{
+    match step {
+        Ok(()) => Ok(()),
+        Err(why) => Err(fault(why, state)),
     }
 }

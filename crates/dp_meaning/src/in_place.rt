@@ -6,8 +6,8 @@ ghost use Rattle.dp_tree.specs.declared.tree.Expression.TheVariants as tree;
 ghost use Rattle.dp_value.specs.Value.{data_of};
 ghost use Rattle.dp_operations.specs.Builtins.{builtin_of};
 ghost use Rattle.dp_operations.specs.Indexing.{indexed, looked_up};
-ghost use Rattle.dp_meaning.specs.Drive.{Evaluates, Rules};
-ghost use Rattle.dp_meaning.specs.Evaluation.{IsEntry};
+ghost use Rattle.dp_meaning.specs.inner.Drive.{Evaluates, Rules};
+ghost use Rattle.dp_meaning.specs.inner.Evaluation.{IsEntry};
 ghost use Rattle.dp_meaning.specs.Places.{variable as value_named};
 ghost use Rattle.dp_meaning.specs.Values.{builtin_run, value_run};
 

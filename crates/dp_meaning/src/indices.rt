@@ -16,8 +16,8 @@ impl<O: Outside> Evaluator<'_, O> {
     ghost use Rattle.std.specs.Prelude.{◌≡◌, map, true};
     ghost use Rattle.dp_tree.specs.Purity.{is_pure};
     ghost use Rattle.dp_operations.specs.Indexing.{indexed, looked_up};
-    ghost use Rattle.dp_meaning.specs.Drive.{Evaluates};
-    ghost use Rattle.dp_meaning.specs.Evaluation.{goes_by};
+    ghost use Rattle.dp_meaning.specs.inner.Drive.{Evaluates};
+    ghost use Rattle.dp_meaning.specs.inner.Evaluation.{goes_by};
     ghost use Rattle.dp_meaning.specs.Expressions.{entry_run, expression_run, found_entry, indices_run, read_entry};
     ghost use Rattle.dp_meaning.specs.Places.{variable};
 

@@ -1,6 +1,7 @@
 //! What programs do: a recursive meaning, moment by moment, and its evaluator.
 #![tactic(auto)]
 
+mod answering;
 mod answers;
 mod assignments;
 mod binding;
@@ -35,10 +36,11 @@ mod watched;
 mod writing;
 mod written;
 
+pub use answering::write_in;
 pub use halt::Halt;
 pub use running::{run_to, run_until};
 pub use signal::Signal;
 pub use stop::Stop;
 pub use stops::Stops;
 pub use values::{value_in, value_in_place};
-pub use writing::{NumberedWrite, Write, WriteFault};
+pub use writing::{NumberedWrite, Write, WriteAnswer, WriteFault};

@@ -14,8 +14,8 @@ impl<O: Outside> Evaluator<'_, O> {
     ghost use Rattle.std.specs.Prelude.{map, Option, Some, None};
     ghost use Rattle.dp_value.specs.declared.value.Value.TheVariants as variant;
     ghost use Rattle.dp_value.specs.Table.{empty};
-    ghost use Rattle.dp_meaning.specs.Drive.{Evaluates};
-    ghost use Rattle.dp_meaning.specs.Evaluation.{goes_by};
+    ghost use Rattle.dp_meaning.specs.inner.Drive.{Evaluates};
+    ghost use Rattle.dp_meaning.specs.inner.Evaluation.{goes_by};
     ghost use Rattle.dp_meaning.specs.Expressions.{expression_run, item_run, item_run_of, items_run, keyed_run};
 
     /// The value of a literal.

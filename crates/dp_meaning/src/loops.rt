@@ -13,8 +13,8 @@ use dp_tree::{Binding, Expression, Statement};
 use dp_value::{Value, truthy};
 
 impl<O: Outside> Evaluator<'_, O> {
-    ghost use Rattle.dp_meaning.specs.Drive.{Evaluates};
-    ghost use Rattle.dp_meaning.specs.Evaluation.{goes_by};
+    ghost use Rattle.dp_meaning.specs.inner.Drive.{Evaluates};
+    ghost use Rattle.dp_meaning.specs.inner.Evaluation.{goes_by};
     ghost use Rattle.dp_meaning.specs.Expressions.{evaluation, evaluations};
     ghost use Rattle.dp_meaning.specs.Loops.{do_turns, each_run, entries, turns};
     ghost use Rattle.dp_meaning.specs.Statements.{statement_run};

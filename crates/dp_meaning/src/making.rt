@@ -1,17 +1,19 @@
 //! The writes of a moment.
 
-ghost use Rattle.std.specs.Prelude.{◌≡◌, false, Ok, Err, IfOk, OnOk, OnErr};
+ghost use Rattle.std.specs.Prelude.{◌≡◌, false, option_map, Err, IfOk, OnOk, OnErr};
 ghost use Rattle.dp_meaning.specs.declared.halt.Halt.TheVariants as halt;
 ghost use Rattle.dp_state.specs.Places.{assigned, given_keys as all_given};
-ghost use Rattle.dp_meaning.specs.Writes.{answer_of, evaluated, evaluation_setting, left_by, one_write, or_unchanged, place_or_fault, with_place, written_by};
+ghost use Rattle.dp_meaning.specs.inner.Drive.{ComesTo, IsHeld, drive, quiet};
+ghost use Rattle.dp_meaning.specs.Expressions.{evaluation as expression_value};
+ghost use Rattle.dp_meaning.specs.Writes.{evaluated, evaluation_limit, evaluation_setting, left_by, one_write, or_unchanged, place_or_fault, with_place, written_by};
 
 use crate::evaluator::Evaluator;
 use crate::halt::Halt;
 use crate::quiet::Quiet;
-use crate::writing::{NumberedWrite, Write, WriteFault};
+use crate::writing::{NumberedWrite, Write};
 use dp_state::{FRAME_LIMIT, Fault, Path, State};
 use dp_tree::{Bundle, Expression};
-use dp_value::{Key, Memory, Value};
+use dp_value::{Bytes, Key, Memory, Value};
 use std::alloc::Global;
 
 /// How many moments an evaluation may have.
@@ -48,29 +50,27 @@ fn make_write(alloc: Global, bundle: &Bundle, write: &Write, state: &mut State) 
             path,
             value,
         } => {
-            let _answer = write_place(alloc, *level, *context, path, value, state)?;
+            write_place(alloc, *level, *context, path, value, state)?;
             Ok(())
         }
         Write::Evaluate(e) => evaluate(alloc, bundle, e, state),
     }
 }
 
-/// Gives a place a value, where it can hold it, and answers whether it was given.
-pub(crate) fn write_place(
+/// Gives a place a value, where it can hold it.
+fn write_place(
     alloc: Global,
     level: u32,
     context: u32,
     path: &Path,
     value: &Value,
     state: &mut State,
-) -> Result<Result<(), WriteFault>, Memory>
-    ensures answer { IfOk result (λ answer. answer ≡ answer_of (with_place level context path.now value.now state.old)) }
-    ensures ok { OnOk result (state.new ≡ or_unchanged state.old (with_place level context path.now value.now state.old)) }
-    ensures err { OnErr result (state.new ≡ state.old) }
+) -> Result<(), Memory>
+    ensures { OnOk result (state.new ≡ or_unchanged state.old (with_place level context path.now value.now state.old)) }
 {
     let depth = state.frames.len();
     if level as usize >= depth {
-        return Ok(Err(WriteFault::NoFrame));
+        return Ok(());
     }
     if context == 0 {
         return write_variable(alloc, level as usize, path, value, state);
@@ -78,7 +78,7 @@ pub(crate) fn write_place(
     if context == 1 {
         return write_variable(alloc, depth - 1, path, value, state);
     }
-    Ok(Err(WriteFault::NoPlace))
+    Ok(())
 }
 
 /// The same of a place that begins at a variable of the frame at a level.
@@ -88,22 +88,32 @@ fn write_variable(
     path: &Path,
     value: &Value,
     state: &mut State,
-) -> Result<Result<(), WriteFault>, Memory>
-    ensures answer { IfOk result (λ answer. answer ≡ answer_of (place_or_fault (assigned level path.now.name (all_given path.now.keys) false value.now state.old))) }
-    ensures ok { OnOk result (state.new ≡ or_unchanged state.old (place_or_fault (assigned level path.now.name (all_given path.now.keys) false value.now state.old))) }
-    ensures err { OnErr result (state.new ≡ state.old) }
+) -> Result<(), Memory>
+    ensures { OnOk result (state.new ≡ or_unchanged state.old (place_or_fault (assigned level path.now.name (all_given path.now.keys) false value.now state.old))) }
 {
     let keys = given_keys(alloc, path.keys.as_slice())?;
-    let value = value.try_clone()?;
-    match state.assign(level, &path.name, keys.as_slice(), false, value) {
-        Ok(()) => Ok(Ok(())),
-        Err(Fault::Fatal(_)) => Ok(Err(WriteFault::NoPlace)),
+    write_keyed(level, &path.name, keys.as_slice(), value, state)
+}
+
+/// The same under keys.
+fn write_keyed(
+    level: usize,
+    name: &Bytes,
+    keys: &[Option<Key>],
+    value: &Value,
+    state: &mut State,
+) -> Result<(), Memory>
+    ensures { OnOk result (state.new ≡ or_unchanged state.old (place_or_fault (assigned level name.now keys.now false value.now state.old))) }
+{
+    match state.assign(level, name, keys, false, value.try_clone()?) {
+        Ok(()) => Ok(()),
+        Err(Fault::Fatal(_)) => Ok(()),
         Err(Fault::Memory) => Err(Memory),
     }
 }
 
 /// Keys that are there.
-fn given_keys(alloc: Global, keys: &[Key]) -> Result<Vec<Option<Key>>, Memory>
+pub(crate) fn given_keys(alloc: Global, keys: &[Key]) -> Result<Vec<Option<Key>>, Memory>
     ensures { IfOk result (λ given. given.items ≡ all_given keys.now) }
 {
     let mut given = Vec::with_capacity(alloc, keys.len())?;
@@ -118,26 +128,38 @@ fn evaluate(alloc: Global, bundle: &Bundle, e: &Expression, state: &mut State) -
     ensures ok { OnOk result (state.new ≡ left_by state.old (evaluated (evaluation_setting bundle.now) e.now state.old)) }
     ensures err { OnErr result (result ≡ Err halt.Memory) }
 {
-    match evaluation(alloc, bundle, e, state)? {
-        None => Ok(()),
-        Some((_value, after)) => {
-            *state = after;
-            Ok(())
-        }
+    let (value, after) = evaluation(alloc, bundle, e, state)?;
+    if value.is_some() {
+        *state = after;
     }
+    Ok(())
 }
 
-/// The value of an expression in the top frame, with the state that it leaves, where it holds.
+/// The value of an expression in the top frame, where it holds, and the state that its evaluation leaves.
 pub(crate) fn evaluation(
     alloc: Global,
     bundle: &Bundle,
     e: &Expression,
     state: &State,
-) -> Result<Option<(Value, State)>, Memory>
-    ensures { IfOk result (λ end. end ≡ evaluated (evaluation_setting bundle.now) e.now state.now) }
+) -> Result<(Option<Value>, State), Memory>
+    ensures { IfOk result (λ end. evaluated (evaluation_setting bundle.now) e.now state.now ≡ option_map (λ v. (v, end.1)) end.0) }
 {
     let mut copy = state.try_clone()?;
     copy.moments = 0;
+    let value = quietly(alloc, bundle, e, &mut copy)?;
+    copy.moments = state.moments;
+    Ok((value, copy))
+}
+
+/// The value of an expression, where it holds, with no writes at its moments.
+pub(crate) fn quietly(
+    alloc: Global,
+    bundle: &Bundle,
+    e: &Expression,
+    state: &mut State,
+) -> Result<Option<Value>, Memory>
+    ensures { IfOk result (λ answer. ComesTo (drive (quiet evaluation_limit) (expression_value e.now (evaluation_setting bundle.now) state.old)) answer state.new) }
+{
     let quiet = Quiet {
         bound: EVALUATION_LIMIT,
     };
@@ -148,11 +170,15 @@ pub(crate) fn evaluation(
         bound: EVALUATION_LIMIT,
         depth: FRAME_LIMIT as u64,
     };
-    match evaluator.expression(e, &mut copy) {
-        Ok(value) => {
-            copy.moments = state.moments;
-            Ok(Some((value, copy)))
-        }
+    held(evaluator.expression(e, state))
+}
+
+/// A value, where there is one.
+fn held(answer: Result<Value, Halt>) -> Result<Option<Value>, Memory>
+    ensures { IfOk result (IsHeld answer) }
+{
+    match answer {
+        Ok(value) => Ok(Some(value)),
         Err(Halt::Memory) => Err(Memory),
         Err(Halt::Finished(_)) => Ok(None),
         Err(Halt::Stopped(_)) => Ok(None),

@@ -5,7 +5,7 @@
 ghost use Rattle.std.specs.Prelude.{◌≡◌};
 ghost use Rattle.dp_state.specs.declared.state.State.{State as AnyState};
 ghost use Rattle.dp_value.specs.declared.value.Value.TheVariants as variant;
-ghost use Rattle.dp_meaning.specs.Drive.{Evaluates, Rules};
+ghost use Rattle.dp_meaning.specs.inner.Drive.{Evaluates, Rules};
 ghost use Rattle.dp_meaning.specs.Places.{variable as value_named};
 ghost use Rattle.dp_meaning.specs.Run.{Done};
 ghost use Rattle.dp_meaning.specs.Values.{kept_of, present_of};

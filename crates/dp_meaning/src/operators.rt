@@ -15,8 +15,8 @@ use dp_value::{BinaryOp, Value, truthy};
 impl<O: Outside> Evaluator<'_, O> {
     ghost use Rattle.std.specs.Prelude.{map, option_map};
     ghost use Rattle.dp_tree.specs.declared.tree.Operator.TheVariants.{Of};
-    ghost use Rattle.dp_meaning.specs.Drive.{Evaluates};
-    ghost use Rattle.dp_meaning.specs.Evaluation.{goes_by};
+    ghost use Rattle.dp_meaning.specs.inner.Drive.{Evaluates};
+    ghost use Rattle.dp_meaning.specs.inner.Evaluation.{goes_by};
     ghost use Rattle.dp_meaning.specs.Expressions.{chained, choice, coalesced, conditional, expression_run, link_run, links_run, operator_run, tested};
 
     /// The value of operands that are joined from left to right.

@@ -5,7 +5,7 @@ use dp_state::{MomentKind, State};
 
 /// What happens at a moment.
 pub(crate) trait Outside {
-    ghost use Rattle.dp_meaning.specs.Drive.{Evaluates, Rules, moment_run};
+    ghost use Rattle.dp_meaning.specs.inner.Drive.{Evaluates, Rules, moment_run};
 
     ghost rules: { Self → Rules };
 

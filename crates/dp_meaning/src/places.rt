@@ -3,14 +3,15 @@
 ghost use Rattle.std.specs.Prelude.{◌≡◌, IfOk};
 ghost use Rattle.dp_value.specs.KeyOf.{key_of_data};
 ghost use Rattle.dp_value.specs.Value.{data_of};
-ghost use Rattle.dp_state.specs.Places.{keys_of_indices, unset, with_global};
-ghost use Rattle.dp_meaning.specs.Drive.{Evaluates, Rules};
+ghost use Rattle.dp_state.specs.Places.{assigned, keys_of_indices, unset};
+ghost use Rattle.dp_meaning.specs.inner.Drive.{Evaluates, Rules};
+ghost use Rattle.dp_meaning.specs.inner.Evaluation.{keyed_write};
 ghost use Rattle.dp_meaning.specs.Loops.{bind_name};
 ghost use Rattle.dp_meaning.specs.Places.{assign_run, found_run, read_run, variable as value_named};
 ghost use Rattle.dp_meaning.specs.Run.{Done, taken};
 
 use crate::answers::value_of;
-use crate::faults::fault;
+use crate::faults::settled;
 use crate::halt::Halt;
 use dp_operations::{find_by, index_by};
 use dp_state::State;
@@ -69,21 +70,43 @@ pub(crate) fn assign_place(
     ensures { (rules : Rules) → Evaluates rules (assign_run name.now indices.now push value state.old) result state.new }
 {
     let keys = keys_of(alloc, indices)?;
+    assign_keyed(name, keys.as_slice(), push, value, state)
+}
+
+/// The same under keys.
+fn assign_keyed(
+    name: &Bytes,
+    keys: &[Option<Key>],
+    push: bool,
+    value: Value,
+    state: &mut State,
+) -> Result<Value, Halt>
+    ensures { (rules : Rules) → Evaluates rules (keyed_write name.now keys.now push value state.old) result state.new }
+{
     let copy = value.try_clone()?;
-    match state.assign(0, name, keys.as_slice(), push, value) {
-        Ok(()) => Ok(copy),
-        Err(why) => Err(fault(why, state)),
-    }
+    write_keyed(name, keys, push, value, state)?;
+    Ok(copy)
+}
+
+/// Writes a value under keys.
+fn write_keyed(
+    name: &Bytes,
+    keys: &[Option<Key>],
+    push: bool,
+    value: Value,
+    state: &mut State,
+) -> Result<(), Halt>
+    ensures { (rules : Rules) → Evaluates rules (taken (assigned 0 name.now keys.now push value state.old) state.old) result state.new }
+{
+    let step = state.assign(0, name, keys, push, value);
+    settled(step, state)
 }
 
 /// Gives a variable a value.
 pub(crate) fn assign_variable(name: &Bytes, value: Value, state: &mut State) -> Result<(), Halt>
     ensures { (rules : Rules) → Evaluates rules (bind_name name.now value state.old) result state.new }
 {
-    match state.assign(0, name, &[], false, value) {
-        Ok(()) => Ok(()),
-        Err(why) => Err(fault(why, state)),
-    }
+    write_keyed(name, &[], false, value, state)
 }
 
 /// Takes a variable, or an entry of it, away.
@@ -96,10 +119,8 @@ pub(crate) fn unset_place(
     ensures { (rules : Rules) → Evaluates rules (taken (unset name.now (keys_of_indices indices.now) state.old) state.old) result state.new }
 {
     let keys = keys_of(alloc, indices)?;
-    match state.unset(name, keys.as_slice()) {
-        Ok(()) => Ok(()),
-        Err(why) => Err(fault(why, state)),
-    }
+    let step = state.unset(name, keys.as_slice());
+    settled(step, state)
 }
 
 /// The keys that indices become. One that is an array becomes none.

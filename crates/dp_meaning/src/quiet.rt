@@ -5,13 +5,13 @@ use crate::outside::Outside;
 use dp_state::{MomentKind, Outcome, State};
 
 /// A bound alone: nothing is written, and nothing stops the run before it.
-#[derive(Clone, Copy)]
+#[derive(Drop)]
 pub(crate) struct Quiet {
     pub(crate) bound: u64,
 }
 
 impl Outside for Quiet {
-    ghost use Rattle.dp_meaning.specs.Drive.{quiet};
+    ghost use Rattle.dp_meaning.specs.inner.Drive.{quiet};
 
     ghost rules = { λ q. quiet q.bound };
 

@@ -2,7 +2,7 @@
 
 ghost use Rattle.std.specs.Prelude.{◌≡◌, ◌<◌, length, IfOk};
 ghost use Rattle.dp_state.specs.States.{IsOf};
-ghost use Rattle.dp_meaning.specs.Drive.{drive, stopped};
+ghost use Rattle.dp_meaning.specs.inner.Drive.{IsStopAt, drive, halt_after, stopped};
 ghost use Rattle.dp_meaning.specs.Programs.{program_run};
 ghost use Rattle.dp_meaning.specs.Stopping.{first_stop, state_of};
 ghost use Rattle.dp_meaning.specs.Trace.{IsStop, program_trace};
@@ -12,6 +12,7 @@ use crate::entering::statements_of;
 use crate::evaluator::Evaluator;
 use crate::halt::Halt;
 use crate::outside::Outside;
+use crate::signal::Signal;
 use crate::stop::Stop;
 use crate::stops::Stops;
 use crate::watched::Watched;
@@ -80,10 +81,27 @@ fn run<O: Outside>(alloc: Global, bundle: &Bundle, outside: &O, bound: u64) -> R
         bound,
         depth: FRAME_LIMIT as u64,
     };
-    match evaluator.body(statements_of(bundle, 0), &mut state) {
-        Ok(_) => Ok(Stop::Ended(Outcome::Done, state)),
-        Err(Halt::Memory) => Err(Memory),
-        Err(Halt::Finished(outcome)) => Ok(Stop::Ended(outcome, state)),
-        Err(Halt::Stopped(moment)) => Ok(Stop::At(moment, state)),
+    let halt = halt_of(evaluator.body(statements_of(bundle, 0), &mut state));
+    stop_at(halt, state)
+}
+
+/// Why a program that was run is no more on its way.
+fn halt_of(body: Result<Signal, Halt>) -> Halt
+    ensures { result ≡ halt_after body }
+{
+    match body {
+        Ok(_signal) => Halt::Finished(Outcome::Done),
+        Err(halt) => halt,
+    }
+}
+
+/// Where it stopped.
+fn stop_at(halt: Halt, state: State) -> Result<Stop, Memory>
+    ensures { IfOk result (IsStopAt halt state) }
+{
+    match halt {
+        Halt::Finished(outcome) => Ok(Stop::Ended(outcome, state)),
+        Halt::Stopped(moment) => Ok(Stop::At(moment, state)),
+        Halt::Memory => Err(Memory),
     }
 }

@@ -16,8 +16,8 @@ use std::slice;
 
 impl<O: Outside> Evaluator<'_, O> {
     ghost use Rattle.std.specs.Prelude.{map, option_map, ◌≡◌};
-    ghost use Rattle.dp_meaning.specs.Drive.{Evaluates};
-    ghost use Rattle.dp_meaning.specs.Evaluation.{goes_by};
+    ghost use Rattle.dp_meaning.specs.inner.Drive.{Evaluates};
+    ghost use Rattle.dp_meaning.specs.inner.Evaluation.{goes_by};
     ghost use Rattle.dp_meaning.specs.Expressions.{expression_run, place_run};
     ghost use Rattle.dp_meaning.specs.Places.{unset_run};
     ghost use Rattle.dp_meaning.specs.Run.{Done};

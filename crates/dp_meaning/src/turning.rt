@@ -1,14 +1,14 @@
 //! The turns of loops.
 
 ghost use Rattle.std.specs.Prelude.{◌≡◌};
-ghost use Rattle.dp_meaning.specs.Evaluation.{turn_of};
+ghost use Rattle.dp_meaning.specs.inner.Evaluation.{turn_of};
 ghost use Rattle.dp_meaning.specs.Loops.{last_holds as ends_true};
 
 use crate::signal::Signal;
 use dp_value::{Value, truthy};
 
 /// What comes after the body of a loop.
-#[derive(Debug, Drop)]
+#[derive(Drop)]
 pub(crate) enum Turn {
     /// On with the loop.
     On,

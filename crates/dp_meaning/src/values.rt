@@ -4,11 +4,8 @@ ghost use Rattle.std.specs.Prelude.{◌≡◌, true, IfOk, OnOk};
 ghost use Rattle.dp_tree.specs.Purity.{is_pure};
 ghost use Rattle.dp_meaning.specs.Pure.{IsValueIn};
 
-use crate::evaluator::Evaluator;
-use crate::halt::Halt;
-use crate::making::EVALUATION_LIMIT;
-use crate::quiet::Quiet;
-use dp_state::{FRAME_LIMIT, State};
+use crate::making::quietly;
+use dp_state::State;
 use dp_tree::{Bundle, Expression};
 use dp_value::{Memory, Value};
 use std::alloc::Global;
@@ -39,20 +36,5 @@ pub fn value_in_place(
     ensures value { IfOk result (λ value. IsValueIn bundle.now e.now state.old value) }
     ensures same { OnOk result (state.new ≡ state.old) }
 {
-    let quiet = Quiet {
-        bound: EVALUATION_LIMIT,
-    };
-    let evaluator = Evaluator {
-        bundle,
-        outside: &quiet,
-        alloc,
-        bound: EVALUATION_LIMIT,
-        depth: FRAME_LIMIT as u64,
-    };
-    match evaluator.expression(e, state) {
-        Ok(value) => Ok(Some(value)),
-        Err(Halt::Memory) => Err(Memory),
-        Err(Halt::Finished(_)) => Ok(None),
-        Err(Halt::Stopped(_)) => Ok(None),
-    }
+    quietly(alloc, bundle, e, state)
 }

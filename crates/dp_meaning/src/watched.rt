@@ -11,7 +11,7 @@ use dp_tree::Bundle;
 use std::alloc::Global;
 
 /// Writes, a bound, and a test of the moments above a number.
-#[derive(Clone, Copy)]
+#[derive(Drop)]
 pub(crate) struct Watched<'a, S> {
     pub(crate) bundle: &'a Bundle,
     pub(crate) writes: &'a [NumberedWrite],

@@ -26,6 +26,21 @@ pub enum WriteFault {
     NoPlace,
 }
 
+/// What a write gives in a state.
+#[derive(Debug, Drop)]
+pub enum WriteAnswer {
+    /// The place has the value.
+    Set,
+    /// The evaluation holds, with this value.
+    Value(Value),
+    /// The evaluation does not hold: it is fatal, ends the program, or has too many moments.
+    Fatal,
+    /// The level has no frame.
+    NoFrame,
+    /// There is no such place, or it cannot hold the value.
+    NoPlace,
+}
+
 /// A write and the number of the moment at which it is made.
 #[derive(Debug, Drop)]
 pub struct NumberedWrite {

@@ -10,7 +10,7 @@ use dp_tree::Bundle;
 use std::alloc::Global;
 
 /// Writes, a bound, and the number of the moment at which the run stops.
-#[derive(Clone, Copy)]
+#[derive(Drop)]
 pub(crate) struct Written<'a> {
     pub(crate) bundle: &'a Bundle,
     pub(crate) writes: &'a [NumberedWrite],
@@ -20,7 +20,7 @@ pub(crate) struct Written<'a> {
 }
 
 impl Outside for Written<'_> {
-    ghost use Rattle.dp_meaning.specs.Drive.{at_number};
+    ghost use Rattle.dp_meaning.specs.inner.Drive.{at_number};
     ghost use Rattle.dp_meaning.specs.Writes.{writes_of};
 
     ghost rules = { λ w. record { bound = w.bound; halts = at_number w.stop; writes = writes_of w.bundle.now w.writes.now } };

@@ -3,6 +3,7 @@ pub mod Whole
 pub mod Coding
 pub mod Ample
 pub mod AmpleLaws
+pub mod Answers
 pub mod Alike
 pub mod AlikeCalls
 pub mod AlikeExpressions

@@ -1,20 +1,26 @@
 //! The laws, each as the contract of a function that does nothing.
-ghost use Rattle.std.specs.Prelude.{◌≡◌, ◌+◌, ◌<◌, ◌≤◌, suc, List, length, ℕ, Some};
+ghost use Rattle.std.specs.Prelude.{◌≡◌, ◌≢◌, ◌↔◌, ◌+◌, ◌<◌, ◌≤◌, suc, List, length, ℕ, Some, Ok};
+ghost use Rattle.dp_value.specs.declared.value.Value.{Value};
 ghost use Rattle.dp_tree.specs.declared.bundle.Bundle.{Bundle};
 ghost use Rattle.dp_tree.specs.declared.tree.Expression.{Expression};
 ghost use Rattle.dp_tree.specs.declared.tree.Statement.{Statement};
 ghost use Rattle.dp_state.specs.declared.moments.Moment.{Moment};
 ghost use Rattle.dp_state.specs.declared.moments.MomentKind.TheVariants.{Place};
 ghost use Rattle.dp_state.specs.declared.moments.Outcome.TheVariants as way;
+ghost use Rattle.dp_state.specs.declared.moments.Path.{Path};
 ghost use Rattle.dp_state.specs.declared.state.State.{State};
 ghost use Rattle.dp_state.specs.States.{frame_limit};
 ghost use Rattle.dp_meaning.specs.declared.writing.NumberedWrite.{NumberedWrite};
+ghost use Rattle.dp_meaning.specs.declared.writing.Write.{Write};
+ghost use Rattle.dp_meaning.specs.declared.writing.Write.TheVariants as write;
+ghost use Rattle.dp_meaning.specs.declared.writing.WriteAnswer.TheVariants as answer;
 ghost use Rattle.dp_meaning.specs.Expressions.{evaluation, evaluations};
 ghost use Rattle.dp_meaning.specs.Loops.{do_turns, turns};
 ghost use Rattle.dp_meaning.specs.Programs.{setting_of};
 ghost use Rattle.dp_meaning.specs.Statements.{body_run, statement_run};
 ghost use Rattle.dp_meaning.specs.Trace.{moment_at, now, outcome, program_trace};
-ghost use Rattle.dp_meaning.specs.Writes.{evaluation_limit};
+ghost use Rattle.dp_meaning.specs.Setting.{Setting};
+ghost use Rattle.dp_meaning.specs.Writes.{answer_in, evaluated, evaluation_limit, one_write, with_place};
 ghost use Rattle.dp_meaning_laws.specs.Coded.{HasCode};
 ghost use Rattle.dp_meaning_laws.specs.Limits.{CanStand, IsAmple, SameTraces, trace_by};
 ghost use Rattle.dp_meaning_laws.specs.Past.{AgreeBelow, SameUpTo};
@@ -105,4 +111,17 @@ pub fn more_turns_change_no_loop()
         (statement_run body (setting_of bundle limit frames)) s)
         (do_turns m line (evaluation test (setting_of bundle limit frames))
         (statement_run body (setting_of bundle limit frames)) s) }
+{}
+
+/// A write answers that it is made exactly where it is: `Set` where its place takes the value, a value where its
+/// evaluation gives it, and then the state is what that leaves. A write of another answer leaves the state as it is.
+pub fn answers_tell_writes()
+    ensures place { (setting : Setting) (level context : ℕ) (path : Path) (value : Value) (s : State)
+        → (answer_in setting (write.Place level context path value) s ≡ answer.Set)
+        ↔ (with_place level context path value s ≡ Ok (one_write setting (write.Place level context path value) s)) }
+    ensures value { (setting : Setting) (e : Expression) (v : Value) (s : State)
+        → (answer_in setting (write.Evaluate e) s ≡ answer.Value v)
+        ↔ (evaluated setting e s ≡ Some (v, one_write setting (write.Evaluate e) s)) }
+    ensures other { (setting : Setting) (w : Write) (s : State) → answer_in setting w s ≢ answer.Set
+        → ((v : Value) → answer_in setting w s ≢ answer.Value v) → one_write setting w s ≡ s }
 {}

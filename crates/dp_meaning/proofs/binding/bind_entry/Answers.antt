@@ -1,17 +1,14 @@
-use Rattle.std.proofs.Common.{◌≡◌, sym, subst}
 use Rattle.dp_meaning.proofs.Drives.{exits}
 use Rattle.dp_meaning.proofs.Tails.{bind-breaks-off, bind-goes-on, entry-is}
 use Rattle.dp_meaning.proofs.binding.bind_entry.Goals as goal
 
-pub returns-in_err-assign_variable-in-Some : goal.returns-in_err-assign_variable-in-Some
-returns-in_err-assign_variable-in-Some c = λ entry found rules.
+pub returns-in_err-bind_value-in-Some : goal.returns-in_err-bind_value-in-Some
+returns-in_err-bind_value-in-Some c = λ entry found rules.
     let same = entry-is _ _ _ _ _ c.pair.ensures c.in-Some.is found in
-    exits _ _ c.from_residual-in_err-assign_variable-in-Some.ensures.1
-    (bind-breaks-off rules c.args.binding.now _ _ entry same c.args.state.now _ _ (rw c.in_ok-try_clone-in-Some.ensures at
-    (c.in_err-assign_variable-in-Some.ensures rules)))
+    exits _ _ c.from_residual.ensures.1
+    (bind-breaks-off rules c.args.binding.now _ _ entry same c.args.state.now _ _ (c.in_err-bind_value-in-Some.ensures rules))
 
-pub returns-in_ok-assign_variable-in-Some : goal.returns-in_ok-assign_variable-in-Some
-returns-in_ok-assign_variable-in-Some c = λ entry found rules.
+pub returns-in_ok-bind_value-in-Some : goal.returns-in_ok-bind_value-in-Some
+returns-in_ok-bind_value-in-Some c = λ entry found rules.
     let same = entry-is _ _ _ _ _ c.pair.ensures c.in-Some.is found in
-    bind-goes-on rules c.args.binding.now _ _ entry same c.args.state.now _ _ _ (rw c.in_ok-try_clone-in-Some.ensures at
-    (c.in_ok-assign_variable-in-Some.ensures rules)) (c.bind_key.ensures rules)
+    bind-goes-on rules c.args.binding.now _ _ entry same c.args.state.now _ _ _ (c.in_ok-bind_value-in-Some.ensures rules) (c.bind_key.ensures rules)

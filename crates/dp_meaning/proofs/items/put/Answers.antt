@@ -1,5 +1,4 @@
-use Rattle.dp_meaning.proofs.Tails.{write-ok}
 use Rattle.dp_meaning.proofs.items.put.Goals as goal
 
-pub returns-in-Ok : goal.returns-in-Ok
-returns-in-Ok c = λ rules. write-ok rules _ _ _ (rw c.in_ok-key.ensures at c.in-Ok.ensures.ok)
+pub returns : goal.returns
+returns c = λ rules. rw c.in_ok-key.ensures at (c.put_under.ensures rules)

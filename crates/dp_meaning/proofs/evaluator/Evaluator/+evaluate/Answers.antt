@@ -1,5 +1,5 @@
 -- What the evaluator answers is what its parts give, one after another.
-use Rattle.std.proofs.Common.{◌≡◌, ◌+◌, ◌-◌, ◌<◌, ◌≤◌, List, [], ◌∷◌, map, drop, length, rules, sym, ap, ◌∙◌, add-one, arith}
+use Rattle.std.proofs.Common.{◌≡◌, ◌+◌, ◌-◌, ◌≤◌, List, [], ◌∷◌, map, drop, length, rules, sym, ap, ◌∙◌, add-one, arith}
 use Rattle.std.specs.Prelude.{option_map}
 use Rattle.std.proofs.Math.ListN.{drop_of_length-le}
 use Rattle.std.proofs.lemmas.Int.{to_z-of_z}
@@ -10,9 +10,9 @@ use Rattle.dp_tree.specs.declared.tree.Arm.{Arm}
 use Rattle.dp_operations.specs.Indexing.{indexed, looked_up}
 use Rattle.dp_tree.specs.declared.tree.Expression.{Expression, size-Expression as nesting}
 use Rattle.dp_tree.specs.declared.tree.Place.{Place, size-Place}
-use Rattle.dp_meaning.specs.Evaluation.{callee_of, goes_by}
+use Rattle.dp_meaning.specs.inner.Evaluation.{callee_of, goes_by}
 use Rattle.dp_meaning.specs.Expressions.{evaluation, evaluations}
-use Rattle.dp_meaning.specs.Sizes.{arm_size, body_size, expressions_size, kind_size, sizes_sum, statement_size}
+use Rattle.dp_meaning.specs.inner.Sizes.{arm_size, body_size, expressions_size, kind_size, sizes_sum, statement_size}
 use Rattle.dp_meaning.specs.Statements.{arm_run, arms_run, statement_run}
 use Rattle.dp_meaning.proofs.CallLaws.{bounded-do, bounded-turns, branch-off, branch-on, call-is, file-is, next-off, runs-for, setting-bundle, suc-call, suc-include, then-next, zero-call, zero-include}
 use Rattle.dp_meaning.proofs.Drives.{breaks_off, ends, exits, gives, goes_on, joined_off, joined_on, passes, stops_at}

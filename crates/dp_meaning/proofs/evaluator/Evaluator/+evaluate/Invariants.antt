@@ -1,5 +1,5 @@
 -- The measures of the evaluator's recursion, and what its loops keep: what the rest of a list gives, the whole list gives.
-use Rattle.std.proofs.Common.{◌≡◌, ℕ, ◌+◌, ◌-◌, ◌*◌, max, List, map, drop, Option, Result}
+use Rattle.std.proofs.Common.{◌+◌, ◌-◌, ◌*◌, max, List, map, drop, Result}
 use Rattle.std.specs.Prelude.{option_map}
 use Rattle.std.specs.Option.{option_map_or}
 use denote.Param.Weighed.{most}
@@ -14,13 +14,13 @@ use Rattle.dp_value.specs.declared.value.Value.TheVariants as variant
 use Rattle.dp_value.specs.Table.{empty}
 use Rattle.dp_meaning.specs.declared.halt.Halt.{Halt}
 use Rattle.dp_meaning.specs.declared.signal.Signal.{Signal}
-use Rattle.dp_meaning.specs.Drive.{Evaluates}
-use Rattle.dp_meaning.specs.Evaluation.{goes_by}
+use Rattle.dp_meaning.specs.inner.Drive.{Evaluates}
+use Rattle.dp_meaning.specs.inner.Evaluation.{goes_by}
 use Rattle.dp_meaning.specs.Expressions.{evaluation, evaluations, expression_run, indices_run, item_run_of, items_run, link_run, links_run, place_run}
 use Rattle.dp_meaning.specs.Loops.{do_turns, each_run, entries, turns}
 use Rattle.dp_meaning.specs.Places.{isset_run, unset_run}
 use Rattle.dp_meaning.specs.Programs.{statements_of}
-use Rattle.dp_meaning.specs.Sizes.{arm_size, body_size, expression_size, expressions_size, frame_size, kind_size, optional_size, sizes_sum, statement_size}
+use Rattle.dp_meaning.specs.inner.Sizes.{arm_size, body_size, expression_size, expressions_size, frame_size, kind_size, optional_size, sizes_sum, statement_size}
 use Rattle.dp_meaning.specs.Statements.{arm_run, arms_run, body_run, echoes, statement_run}
 use Rattle.dp_meaning.proofs.ListLaws.{more_values}
 use Rattle.dp_meaning.proofs.evaluator.Evaluator.+evaluate.Given as goal

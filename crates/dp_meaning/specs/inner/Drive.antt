@@ -1,5 +1,6 @@
 -- A run up to a moment at which it stops. Private to the evaluator: `trace` says the same without a stop.
-use Rattle.std.specs.Prelude.{◌≡◌, ℕ, ◌+◌, nat_lt, nat_eq, Bool, false, if◌then◌else◌, [], Result, Ok, Err}
+use Rattle.std.specs.Prelude.{◌≡◌, ℕ, ◌+◌, nat_lt, nat_eq, Bool, false, if◌then◌else◌, [], Option, Some, None, Result, Ok, Err}
+use Rattle.dp_value.specs.declared.value.Value.{Value}
 use Rattle.dp_state.specs.declared.moments.Moment.{Moment}
 use Rattle.dp_state.specs.declared.moments.MomentKind.{MomentKind}
 use Rattle.dp_state.specs.declared.moments.Outcome.{Outcome}
@@ -10,6 +11,7 @@ use Rattle.dp_state.specs.declared.state.State.{State}
 use Rattle.dp_state.specs.States.{file_of, line_of}
 use Rattle.dp_meaning.specs.declared.halt.Halt.{Halt}
 use Rattle.dp_meaning.specs.declared.halt.Halt.TheVariants.{Memory, Finished, Stopped}
+use Rattle.dp_meaning.specs.declared.signal.Signal.{Signal}
 use Rattle.dp_meaning.specs.declared.stop.Stop.{Stop}
 use Rattle.dp_meaning.specs.declared.stop.Stop.TheVariants as stop
 use Rattle.dp_meaning.specs.Run.{Run, Done, Over, At}
@@ -78,3 +80,36 @@ moment_run kind line s = At kind line s (λ t. Done tt t)
 abbrev pub halt_of : Fault → State → Halt
 halt_of (fault.Fatal kind) s = Finished (Fatal kind (file_of s) (line_of s))
 halt_of fault.Memory s = Memory
+
+-- what a step is to the evaluator
+abbrev pub settled_of : Result Unit Fault → State → Result Unit Halt
+settled_of (Ok done) s = Ok tt
+settled_of (Err why) s = Err (halt_of why s)
+
+-- ---- evaluations that nothing stops
+
+-- a value, or none where there is no value. Want of memory says nothing
+abbrev pub IsHeld : Result Value Halt → Option Value → Type 0
+IsHeld (Ok v) answer = answer ≡ Some v
+IsHeld (Err Memory) answer = ⊥
+IsHeld (Err (Finished o)) answer = answer ≡ None
+IsHeld (Err (Stopped moment)) answer = answer ≡ None
+
+-- what an evaluation came to, and the state that it left
+abbrev pub ComesTo : Reached Value → Option Value → State → Type 0
+ComesTo (Gives v s) answer t = (answer ≡ Some v) × (t ≡ s)
+ComesTo (Ends o s) answer t = (answer ≡ None) × (t ≡ s)
+ComesTo (Stops moment s) answer t = (answer ≡ None) × (t ≡ s)
+
+-- ---- programs
+
+-- why a program that was run is no more on its way
+abbrev pub halt_after : Result Signal Halt → Halt
+halt_after (Ok signal) = Finished Completed
+halt_after (Err h) = h
+
+-- where it stopped. Want of memory says nothing
+abbrev pub IsStopAt : Halt → State → Stop → Type 0
+IsStopAt (Finished o) s end = end ≡ stop.Ended o s
+IsStopAt (Stopped moment) s end = end ≡ stop.At moment s
+IsStopAt Memory s end = ⊥

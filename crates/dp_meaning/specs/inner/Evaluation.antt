@@ -1,5 +1,9 @@
 -- What an evaluator goes by, as the definitions have it.
-use Rattle.std.specs.Prelude.{◌≡◌, ◌-◌, nat_le, true, if◌then◌else◌, List, ◌∷◌}
+use Rattle.std.specs.Prelude.{◌≡◌, ℕ, ◌-◌, nat_le, Bool, true, if◌then◌else◌, List, ◌∷◌, Option}
+use Rattle.dp_value.specs.declared.key.Key.{Key}
+use Rattle.dp_value.specs.declared.value.Value.{Value}
+use Rattle.dp_state.specs.declared.state.State.{State}
+use Rattle.dp_state.specs.Places.{assigned}
 use Rattle.dp_tree.specs.declared.tree.Expression.{Expression}
 use Rattle.dp_tree.specs.declared.tree.Expression.TheVariants as tree
 use Rattle.dp_tree.specs.Purity.{is_pure}
@@ -13,6 +17,7 @@ use Rattle.dp_meaning.specs.declared.signal.Signal.{Signal}
 use Rattle.dp_meaning.specs.declared.signal.Signal.TheVariants.{Next, Break, Continue, Return}
 use Rattle.dp_meaning.specs.Calls.{Callee, BuiltIn, Declared}
 use Rattle.dp_meaning.specs.Programs.{setting_of}
+use Rattle.dp_meaning.specs.Run.{Run, Done, taken, ◌>>=◌}
 use Rattle.dp_meaning.specs.Setting.{Setting}
 
 abbrev pub goes_by : {O : Type 0} → Evaluator O → Setting
@@ -35,3 +40,7 @@ pub record IsEntry (base : Expression) (indices : List Expression) (entry : Entr
   pub base_is : base ≡ tree.Variable entry.name.now
   pub indices_are : indices ≡ entry.index.now ∷ entry.rest.now
   pub index_is_pure : is_pure entry.index.now ≡ true
+
+-- a write of a variable of the top frame under keys, which gives the value
+abbrev pub keyed_write : List ℕ → List (Option Key) → Bool → Value → State → Run Value
+keyed_write name keys push value s = taken (assigned 0 name keys push value s) s >>= λ _ t. Done value t

@@ -1,6 +1,6 @@
 -- How large the parts of a program are. The evaluator's recursion ends by it: a part is larger than its parts, and a frame of a bundle is larger than
 -- each body in it.
-use Rattle.std.specs.Prelude.{ℕ, ◌+◌, ◌*◌, List, [], ◌∷◌, Option, Some, None, map}
+use Rattle.std.specs.Prelude.{ℕ, ◌+◌, ◌*◌, List, [], ◌∷◌, Option, map}
 use Rattle.std.specs.Option.{option_map_or}
 use denote.Param.Weighed.{most}
 use Rattle.dp_tree.specs.declared.bundle.Bundle.{Bundle}
