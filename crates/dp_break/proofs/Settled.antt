@@ -1,6 +1,8 @@
 -- What is done by marks is what a moment does to breakpoints.
 use Rattle.std.proofs.Common.{◌≡◌, ◌+◌, Bool, true, false, cond, not, ◌&&◌, ◌||◌, List, [], ◌∷◌, ◌++◌, length, take, map, refl, sym, ap, ◌∙◌}
 use Rattle.std.specs.Prelude.{filter}
+use Rattle.std.specs.List.{list_any}
+use Rattle.std.proofs.lemmas.Bool.{or_parts}
 use Rattle.dp_tree.specs.declared.bundle.Bundle.{Bundle}
 use Rattle.dp_state.specs.declared.moments.Moment.{Moment}
 use Rattle.dp_state.specs.declared.state.State.{State}
@@ -53,3 +55,19 @@ module _ (bundle : Bundle) (at : Moment × State) where
         cases : (h : Bool) → (h && stops_once_more b) ≡ (h && is_enough b (with_more (0 + cond h 1 0) b).hits)
         cases true = refl
         cases false = refl
+
+  -- ---- a moment at which none hits
+
+  pub no_hit-held : (held : List Breakpoint) → list_any (hits bundle at) held ≡ false → held_after bundle (at ∷ []) held ≡ held
+  no_hit-held [] e = refl
+  no_hit-held (b ∷ held) e =
+      let parts = or_parts (hits bundle at b) (list_any (hits bundle at) held) e in
+      map_cond (is_there_after bundle (at ∷ []) b) b (filter (is_there_after bundle (at ∷ [])) held)
+      ∙ sym (one b (held_after bundle (at ∷ []) held) (hits bundle at b))
+      ∙ (λ i. cond (parts.0 i) (one_settled b) (b ∷ []) ++ no_hit-held held parts.1 i)
+
+  pub no_hit-stops : (held : List Breakpoint) → list_any (hits bundle at) held ≡ false → one_stops bundle held [] at ≡ false
+  no_hit-stops [] e = refl
+  no_hit-stops (b ∷ held) e =
+      let parts = or_parts (hits bundle at b) (list_any (hits bundle at) held) e in
+      λ i. (parts.0 i && is_enough b (after bundle (at ∷ []) b).hits) || no_hit-stops held parts.1 i

@@ -3,7 +3,7 @@
 ghost use Rattle.std.specs.Prelude.{◌≡◌, ◌==◌, ◌<◌, ◌≤◌, true, [], ◌∷◌, length, option_map, is_some, position, IfErr, IfOk, IfSome, OnOk, OnErr, Err};
 ghost use Rattle.std.specs.List.{list_any};
 ghost use Rattle.dp_break.specs.Changes.{Adds, IsRequest, held_as, with_change, with_new, without};
-ghost use Rattle.dp_break.specs.Hits.{asks_expression};
+ghost use Rattle.dp_break.specs.Hits.{asks_expression, hits};
 ghost use Rattle.dp_break.specs.Passing.{held_after, one_stops};
 ghost use Rattle.dp_break.specs.Refusals.{IsCause, answer_of, change_refusal, place_refusal, plain_refusal, request_refusal, update_refusal};
 ghost use Rattle.dp_break.specs.Tables.{IsSound, IsTable, breakpoint_limit, empty, last_id};
@@ -14,7 +14,7 @@ use crate::errors::BreakError;
 use crate::hits::is_of_function;
 use crate::lines::asked_line_refusal;
 use crate::making::asked;
-use crate::passing::{discard, mark, settle};
+use crate::passing::{any_hits, discard, mark, settle};
 use dp_state::{Moment, State};
 use dp_tree::Bundle;
 use dp_value::Memory;
@@ -207,15 +207,36 @@ impl Breaks {
         }
     }
 
+    /// Whether a breakpoint hits at a moment in this state, which is lent so that expressions can be evaluated in it, and
+    /// left as it was. Memory is wanted only where an enabled breakpoint whose place is that of the moment has an expression.
+    pub fn is_hit(
+        &self,
+        bundle: &Bundle,
+        moment: &Moment,
+        state: &mut State,
+    ) -> Result<bool, Memory>
+        ensures hit { IfOk result (λ hit. hit ≡ list_any (hits bundle.now (moment.now, state.old)) self.now.held) }
+        ensures same { OnOk result (state.new ≡ state.old) }
+        ensures memory { OnErr result (list_any (asks_expression moment.now) self.now.held ≡ true) }
+    {
+        any_hits(self.alloc, bundle, moment, state, self.held.as_slice())
+    }
+
     /// Counts the hits of a moment in this state, takes out the temporary breakpoints that stop, and says whether one
-    /// stops. Memory is wanted only where an enabled breakpoint whose place is that of the moment has an expression; where it
-    /// runs out, nothing has changed.
-    pub fn pass(&mut self, bundle: &Bundle, moment: &Moment, state: &State) -> Result<bool, Memory>
+    /// stops. The state is lent and left as it was. Memory is wanted only where an enabled breakpoint whose place is that of
+    /// the moment has an expression; where it runs out, no breakpoint has changed.
+    pub fn pass(
+        &mut self,
+        bundle: &Bundle,
+        moment: &Moment,
+        state: &mut State,
+    ) -> Result<bool, Memory>
         ensures held { OnOk result (self.new ≡ record self.old {
-          held = held_after bundle.now ((moment.now, state.now) ∷ []) self.old.held;
+          held = held_after bundle.now ((moment.now, state.old) ∷ []) self.old.held;
         }) }
         ensures stop { IfOk result (λ stop.
-            stop ≡ one_stops bundle.now self.old.held [] (moment.now, state.now)) }
+            stop ≡ one_stops bundle.now self.old.held [] (moment.now, state.old)) }
+        ensures same { OnOk result (state.new ≡ state.old) }
         ensures unchanged { OnErr result (self.new ≡ self.old) }
         ensures memory { OnErr result (list_any (asks_expression moment.now) self.old.held ≡ true) }
     {

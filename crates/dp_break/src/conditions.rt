@@ -8,7 +8,7 @@ ghost use Rattle.dp_break.specs.inner.Refusing.{IsNoTree, error_of, pure_or_refu
 ghost use Rattle.dp_tree.specs.Purity.{is_pure};
 
 use crate::errors::BreakError;
-use dp_meaning::value_in;
+use dp_meaning::value_in_place;
 use dp_parse::{ParseError, parse_expression};
 use dp_state::State;
 use dp_tree::{Bundle, Expression, is_pure};
@@ -71,17 +71,18 @@ pub(crate) fn tree_of(
     }
 }
 
-/// Whether an expression is true in a state. One that is fatal is not.
+/// Whether an expression is true in a state, which is lent and left as it was. One that is fatal is not.
 pub(crate) fn is_true(
     alloc: Global,
     bundle: &Bundle,
-    state: &State,
+    state: &mut State,
     e: &Expression,
 ) -> Result<bool, Memory>
     requires { is_pure e.now ≡ true }
-    ensures { IfOk result (λ truth. truth ≡ is_true_in bundle.now e.now state.now) }
+    ensures truth { IfOk result (λ truth. truth ≡ is_true_in bundle.now e.now state.old) }
+    ensures same { OnOk result (state.new ≡ state.old) }
 {
-    match value_in(alloc, state, bundle, e)? {
+    match value_in_place(alloc, state, bundle, e)? {
         Some(value) => Ok(truthy(&value)),
         None => Ok(false),
     }

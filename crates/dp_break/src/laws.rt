@@ -1,11 +1,11 @@
 //! What holds of all breakpoints and all moments.
 
-ghost use Rattle.std.specs.Prelude.{◌≡◌, ◌+◌, Bool, List, [], ℕ, false, drop, Option};
-ghost use Rattle.std.specs.List.{position_from};
+ghost use Rattle.std.specs.Prelude.{◌≡◌, ◌+◌, Bool, List, [], ◌∷◌, ℕ, false, drop, Option};
+ghost use Rattle.std.specs.List.{list_any, position_from};
 ghost use Rattle.std.specs.Option.{option_map_or};
 ghost use Rattle.dp_break.specs.declared.breakpoint.Breakpoint.{Breakpoint};
-ghost use Rattle.dp_break.specs.Hits.{is_true_in};
-ghost use Rattle.dp_break.specs.Passing.{Moments, found, held_after, passed, stop_above};
+ghost use Rattle.dp_break.specs.Hits.{hits, is_true_in};
+ghost use Rattle.dp_break.specs.Passing.{Moments, found, held_after, one_stops, passed, stop_above};
 ghost use Rattle.dp_tree.specs.declared.bundle.Bundle.{Bundle};
 ghost use Rattle.dp_meaning.specs.Pure.{IsValueIn};
 ghost use Rattle.dp_meaning.specs.Values.{holds};
@@ -28,6 +28,14 @@ pub fn counting_by_moments()
 pub fn stops_without_breakpoints()
     ensures { (mode : Moment → Bool) (bundle : Bundle) (n : ℕ) (moments : Moments)
         → stop_above mode bundle [] n moments ≡ position_from (λ at. mode at.0) (n + 1) (drop n moments) }
+{}
+
+/// A moment at which no breakpoint that is held hits leaves them as they are, and none stops there.
+pub fn nothing_without_hits()
+    ensures held { (bundle : Bundle) (held : List Breakpoint) (at : Moment × State)
+        → list_any (hits bundle at) held ≡ false → held_after bundle (at ∷ []) held ≡ held }
+    ensures stop { (bundle : Bundle) (held : List Breakpoint) (at : Moment × State)
+        → list_any (hits bundle at) held ≡ false → one_stops bundle held [] at ≡ false }
 {}
 
 /// An expression that changes nothing is true in a state exactly where its value there holds.

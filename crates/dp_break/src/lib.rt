@@ -17,4 +17,6 @@ pub use dp_packet::{BreakKind, HitRule};
 pub use dp_value::Memory;
 pub use errors::BreakError;
 pub use hits::is_of_function;
-pub use laws::{counting_by_moments, stops_without_breakpoints, true_by_value};
+pub use laws::{
+    counting_by_moments, nothing_without_hits, stops_without_breakpoints, true_by_value,
+};

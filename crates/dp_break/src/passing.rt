@@ -1,6 +1,6 @@
 //! What a moment does to breakpoints.
 
-ghost use Rattle.std.specs.Prelude.{◌≡◌, ◌+◌, ◌<◌, ◌≤◌, true, ◌&&◌, length, map, take, drop, ◌++◌, slice_index_or, All, OnErr, OnOk};
+ghost use Rattle.std.specs.Prelude.{◌≡◌, ◌+◌, ◌<◌, ◌≤◌, true, ◌&&◌, length, map, take, drop, ◌++◌, slice_index_or, All, IfOk, OnErr, OnOk};
 ghost use Rattle.std.specs.List.{list_any};
 ghost use Rattle.dp_break.specs.Hits.{asks_expression, hits};
 ghost use Rattle.dp_break.specs.inner.Settling.{one_settled, settled, settled_one, some_settled_stops, stops_once_more};
@@ -13,19 +13,43 @@ use dp_tree::Bundle;
 use dp_value::Memory;
 use std::alloc::Global;
 
-/// Marks the places of the breakpoints that hit at a moment. Memory is wanted only where one of them asks its expression.
+/// Whether one of the breakpoints hits at a moment in a state, which is lent and left as it was. Memory is wanted only where
+/// one of them asks its expression.
+pub(crate) fn any_hits(
+    alloc: Global,
+    bundle: &Bundle,
+    moment: &Moment,
+    state: &mut State,
+    held: &[Breakpoint],
+) -> Result<bool, Memory>
+    requires { All IsSound held.now }
+    ensures hit { IfOk result (λ hit. hit ≡ list_any (hits bundle.now (moment.now, state.old)) held.now) }
+    ensures same { OnOk result (state.new ≡ state.old) }
+    ensures memory { OnErr result (list_any (asks_expression moment.now) held.now ≡ true) }
+{
+    for at in 0..held.len() {
+        if is_hit(alloc, bundle, moment, state, &held[at])? {
+            return Ok(true);
+        }
+    }
+    Ok(false)
+}
+
+/// Marks the places of the breakpoints that hit at a moment in a state, which is lent and left as it was. Memory is wanted
+/// only where one of them asks its expression.
 pub(crate) fn mark(
     alloc: Global,
     bundle: &Bundle,
     moment: &Moment,
-    state: &State,
+    state: &mut State,
     held: &[Breakpoint],
     marks: &mut [bool],
 ) -> Result<(), Memory>
     requires room { length held.now ≤ length marks.old }
     requires sound { All IsSound held.now }
     ensures marked { OnOk result
-        (take (length held.now) marks.new ≡ map (hits bundle.now (moment.now, state.now)) held.now) }
+        (take (length held.now) marks.new ≡ map (hits bundle.now (moment.now, state.old)) held.now) }
+    ensures same { OnOk result (state.new ≡ state.old) }
     ensures memory { OnErr result (list_any (asks_expression moment.now) held.now ≡ true) }
 {
     for at in 0..held.len() {

@@ -1,5 +1,7 @@
 -- What a command is answered where it asks for nothing that can be done: a refusal, by the codes of DBGp 1.0, "Error Codes".
 use Rattle.std.specs.Prelude.{◌≡◌, ℕ, Option, Some, None, Result, Ok, Err, ⊤}
+use Rattle.dp_break.specs.declared.errors.BreakError.{BreakError}
+use Rattle.dp_break.specs.declared.errors.BreakError.TheVariants as held
 use Rattle.dp_breakpoint_commands.specs.declared.errors.BreakpointError.{BreakpointError}
 use Rattle.dp_breakpoint_commands.specs.declared.errors.BreakpointError.TheVariants.{Code, Memory}
 
@@ -17,3 +19,8 @@ IsCode refusal Memory = ⊥
 abbrev pub IsCause : Option ℕ → BreakpointError → Type 0
 IsCause refusal (Code code) = refusal ≡ Some code
 IsCause refusal Memory = ⊤
+
+-- why the breakpoints that are held refuse a change is why the command is refused
+abbrev pub error_of : BreakError → BreakpointError
+error_of (held.Code code) = Code code
+error_of held.Memory = Memory

@@ -5,4 +5,5 @@ pub mod Answers
 pub mod Setting
 pub mod Changing
 pub mod Showing
+pub mod Commands
 pub mod inner

@@ -2,13 +2,15 @@
 
 ghost use Rattle.std.specs.Prelude.{◌≡◌};
 
+use dp_break::BreakError;
 use dp_value::Memory;
+use std::alloc::AllocFailed;
 use thiserror::Error;
 
 /// Why a command asks for nothing that can be done.
 #[derive(Clone, Copy, Debug, Error, PartialEq, Eq)]
 pub enum BreakpointError {
-    /// The code of the error response. DBGp 1.0, "Error Codes": 3, 200, 201 or 204.
+    /// The code of the error response. DBGp 1.0, "Error Codes".
     #[error("error {0}")]
     Code(u16),
     /// Want of memory.
@@ -22,6 +24,29 @@ impl From<Memory> for BreakpointError {
     ghost from_gives = { λ _ e. e ≡ error.Memory };
 
     fn from(_refused: Memory) -> BreakpointError {
+        BreakpointError::Memory
+    }
+}
+
+impl From<BreakError> for BreakpointError {
+    ghost use Rattle.dp_breakpoint_commands.specs.Answers.{error_of};
+
+    ghost from_gives = { λ why e. e ≡ error_of why };
+
+    fn from(why: BreakError) -> BreakpointError {
+        match why {
+            BreakError::Code(code) => BreakpointError::Code(code),
+            BreakError::Memory => BreakpointError::Memory,
+        }
+    }
+}
+
+impl<T: Drop> From<AllocFailed<T>> for BreakpointError {
+    ghost use Rattle.dp_breakpoint_commands.specs.declared.errors.BreakpointError.TheVariants as error;
+
+    ghost from_gives = { λ _ e. e ≡ error.Memory };
+
+    fn from(_refused: AllocFailed<T>) -> BreakpointError {
         BreakpointError::Memory
     }
 }

@@ -1,7 +1,6 @@
 //! The file that a value of `-f` names.
 
-ghost use Rattle.std.specs.Prelude.{◌≡◌, ◌<◌, ◌⊎◌, true, nat_eq, length, IfOk, OnErr};
-ghost use Rattle.std.specs.List.{starts_with};
+ghost use Rattle.std.specs.Prelude.{◌≡◌, ◌<◌, ◌⊎◌, true, length, IfOk, OnErr};
 ghost use Rattle.dp_breakpoint_commands.specs.Files as spec;
 ghost use Rattle.percent_encoding.specs.Percent.{percent_decode as decoded_path};
 
@@ -53,8 +52,7 @@ fn decoded(alloc: Global, path: &[u8]) -> Result<Bytes, Memory>
 pub fn requested_file(alloc: Global, bundle: &Bundle, value: &[u8]) -> Result<Option<u32>, Memory>
     ensures number { IfOk result (λ number. number ≡ spec.requested_file bundle.now value.now) }
     // Memory is wanted only to decode a URI, and by more files than can be numbered.
-    ensures memory { OnErr result ((starts_with nat_eq value.now spec.uri_front ≡ true)
-        ⊎ (u32.MAX < length bundle.now.files)) }
+    ensures memory { OnErr result ((spec.is_uri value.now ≡ true) ⊎ (u32.MAX < length bundle.now.files)) }
 {
     if value.starts_with(URI_FRONT) {
         let name = decoded(alloc, &value[URI_FRONT.len()..])?;

@@ -1,15 +1,18 @@
-//! What the breakpoint commands ask of a program: the files that they name, the breakpoints and changes that they ask for, and
-//! how breakpoints are shown.
+//! The breakpoint commands: what they ask of a program, the files that they name, how breakpoints are shown, and the answers.
 #![tactic(auto)]
 
+mod answering;
 mod changing;
 mod errors;
 mod files;
 mod laws;
+mod listing;
+mod responses;
 mod setting;
 mod showing;
 mod words;
 
+pub use answering::answer_breakpoints;
 pub use changing::breakpoint_change;
 pub use dp_value::Memory;
 pub use errors::BreakpointError;

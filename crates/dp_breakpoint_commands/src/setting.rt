@@ -1,11 +1,12 @@
 //! The breakpoint that a breakpoint_set command asks for.
 
-ghost use Rattle.std.specs.Prelude.{◌≡◌, ◌<◌, Err, None, true, is_some, length, IfErr, IfOk, IfSome, OnErr, OnOk};
+ghost use Rattle.std.specs.Prelude.{◌≡◌, ◌<◌, ◌≤◌, Err, None, false, length, IfErr, IfOk, IfSome, OnOk};
+ghost use Rattle.std.specs.Option.{option_map_or};
 ghost use Rattle.dp_breakpoint_commands.specs.Setting as spec;
 ghost use Rattle.dp_breakpoint_commands.specs.Answers.{IsCause, IsCode};
 ghost use Rattle.dp_breakpoint_commands.specs.inner.Meant as inner;
 ghost use Rattle.dp_command.specs.Tests.{first_code};
-ghost use Rattle.dp_breakpoint_commands.specs.Files.{requested_file as named_file};
+ghost use Rattle.dp_breakpoint_commands.specs.Files.{is_uri, requested_file as named_file};
 ghost use Rattle.dp_breakpoint_commands.specs.Words.{meant};
 ghost use Rattle.dp_break.specs.Changes.{IsRequest};
 
@@ -85,7 +86,9 @@ fn file_given(
     ensures file { IfOk result (λ file. file ≡ meant (named_file bundle.now) value.now) }
     ensures found { OnOk result (first_code (spec.file_tests bundle.now value.now) ≡ None) }
     ensures refused { IfErr result (IsCause (first_code (spec.file_tests bundle.now value.now))) }
-    ensures memory { OnErr result (is_some value.now ≡ true) }
+    // Memory is wanted only to decode a URI.
+    ensures memory { option_map_or is_uri value.now false ≡ false → length bundle.now.files ≤ u32.MAX
+        → IfErr result (IsCode (first_code (spec.file_tests bundle.now value.now))) }
 {
     match value {
         None => Ok(None),
@@ -130,9 +133,10 @@ pub fn breakpoint_request(
     ensures request { IfOk result (λ r. r ≡ spec.request bundle.now here set) }
     ensures accepted { OnOk result (spec.refusal bundle.now set ≡ None) }
     ensures refused { IfErr result (IsCause (spec.refusal bundle.now set)) }
-    // Only the test of the file takes memory.
+    // Only the test of the file takes memory, and only to decode a URI.
     ensures surely { IfSome (first_code (spec.word_tests set)) (λ code. result ≡ Err (BreakpointError.Code code)) }
-    ensures memory { set.file ≡ None → IfErr result (IsCode (spec.refusal bundle.now set)) }
+    ensures memory { option_map_or is_uri set.file false ≡ false → length bundle.now.files ≤ u32.MAX
+        → IfErr result (IsCode (spec.refusal bundle.now set)) }
     // What is accepted can be asked of breakpoints.
     ensures sound { IfOk result (λ r. here < length bundle.now.files → IsRequest bundle.now r) }
 {

@@ -3,4 +3,5 @@ use Rattle.dp_break.specs.Hits.{hits}
 use Rattle.dp_break.proofs.passing.mark.Given as goal
 
 abbrev pub invariant-loop-at : goal.invariant-loop-at
-invariant-loop-at l = take l.at l.marks ≡ map (hits l.bundle (l.moment, l.state)) (take l.at l.held)
+invariant-loop-at l =
+    (l.state ≡ l.initial.state) × (take l.at l.marks ≡ map (hits l.bundle (l.moment, l.initial.state)) (take l.at l.held))

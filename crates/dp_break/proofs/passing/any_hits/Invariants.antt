@@ -1,0 +1,8 @@
+use Rattle.std.proofs.Common.{◌≡◌, false, take}
+use Rattle.std.specs.List.{list_any}
+use Rattle.dp_break.specs.Hits.{hits}
+use Rattle.dp_break.proofs.passing.any_hits.Given as goal
+
+abbrev pub invariant-loop-at : goal.invariant-loop-at
+invariant-loop-at l =
+    (l.state ≡ l.initial.state) × (list_any (hits l.bundle (l.moment, l.initial.state)) (take l.at l.held) ≡ false)

@@ -1,0 +1,128 @@
+-- What the breakpoint commands do with the breakpoints that are held, why one is refused, and what is answered: DBGp 1.0,
+-- "breakpoint_set", "breakpoint_get", "breakpoint_update", "breakpoint_remove", "breakpoint_list".
+use Rattle.std.specs.Prelude.{ℕ, nat_le, Bool, true, false, ◌||◌, List, [], ◌∷◌, ◌++◌, length, map, take_while, Option, Some, None, is_none, is_some, unwrap_or, codes, decimal}
+use Rattle.std.specs.Option.{option_map_or, option_or}
+use Rattle.dp_break.specs.declared.breakpoint.Breakpoint.{Breakpoint}
+use Rattle.dp_break.specs.Changes.{asked, held_as, with_change, with_new, without}
+use Rattle.dp_break.specs.Conditions.{tree_of}
+use Rattle.dp_break.specs.Passing.{each_in}
+use Rattle.dp_break.specs.Refusals.{change_refusal, code_if, request_refusal}
+use Rattle.dp_break.specs.Tables.{Table}
+use Rattle.dp_command.specs.declared.command.BreakpointAction.{BreakpointAction}
+use Rattle.dp_command.specs.declared.command.BreakpointAction.TheVariants.{Get, Remove}
+use Rattle.dp_command.specs.declared.command.BreakpointSet.{BreakpointSet}
+use Rattle.dp_command.specs.declared.command.BreakpointUpdate.{BreakpointUpdate}
+use Rattle.dp_command.specs.declared.command.Request.{Request}
+use Rattle.dp_command.specs.declared.command.Request.TheVariants as request
+use Rattle.dp_command.specs.Tests.{first_code}
+use Rattle.dp_packet.specs.Breakpoints.{state_name}
+use Rattle.dp_packet.specs.declared.packet.Body.{Body}
+use Rattle.dp_packet.specs.declared.packet.Body.TheVariants as body
+use Rattle.dp_packet.specs.declared.packet.BreakLine.{BreakLine}
+use Rattle.dp_packet.specs.declared.packet.Packet.TheVariants as packet
+use Rattle.dp_packet.specs.declared.packet.Response.{Response}
+use Rattle.dp_packet.specs.Parts.{Text, Attributes}
+use Rattle.dp_packet.specs.Text.{text}
+use Rattle.dp_tree.specs.declared.bundle.Bundle.{Bundle}
+use Rattle.dp_wire.specs.Frames.{packet_limit}
+use Rattle.dp_breakpoint_commands.specs.Changing.{change, change_tests}
+use Rattle.dp_breakpoint_commands.specs.Files.{is_uri}
+use Rattle.dp_breakpoint_commands.specs.Setting as setting
+use Rattle.dp_breakpoint_commands.specs.Showing.{breakpoint_line}
+use Rattle.dp_breakpoint_commands.specs.Words.{meant, state_named}
+
+-- ---- refusals
+
+-- a new breakpoint, asked for at a moment in this file: by its words and its file, then by what is held, its line and expression
+abbrev pub set_refusal : Bundle → ℕ → Table → BreakpointSet → Option ℕ
+set_refusal bundle here t set =
+    option_or (setting.refusal bundle set) (request_refusal bundle t (setting.request bundle here set))
+
+-- there is no breakpoint of this id: 205
+abbrev pub id_refusal : Table → ℕ → Option ℕ
+id_refusal t id = code_if (is_none (held_as t.held id)) 205
+
+-- a change of a breakpoint: by its words, then by its line
+abbrev pub change_refused : Bundle → BreakpointUpdate → Breakpoint → Option ℕ
+change_refused bundle update b =
+    option_or (first_code (change_tests b.kind update)) (change_refusal bundle (change update) b)
+
+abbrev pub update_refusal : Bundle → Table → BreakpointUpdate → Option ℕ
+update_refusal bundle t update =
+    option_map_or (change_refused bundle update) (held_as t.held update.id) (Some 205)
+
+-- the code with which a command is refused at a moment in this file, if it is; one that is no breakpoint command is none here
+abbrev pub breakpoint_refusal : Bundle → ℕ → Table → Request → Option ℕ
+breakpoint_refusal bundle here t (request.BreakpointSet set) = set_refusal bundle here t set
+breakpoint_refusal bundle here t (request.Breakpoint action id) = id_refusal t id
+breakpoint_refusal bundle here t (request.BreakpointUpdate update) = update_refusal bundle t update
+breakpoint_refusal bundle here t request.BreakpointList = None
+breakpoint_refusal bundle here t other = Some 4
+
+-- a refusal may need memory: to decode the URI of a file, or to read an expression
+abbrev pub wants_memory : Request → Bool
+wants_memory (request.BreakpointSet set) =
+    option_map_or is_uri set.file false || is_some set.expression
+wants_memory other = false
+
+-- ---- what is held
+
+abbrev pub set_table : Bundle → ℕ → BreakpointSet → Table → Table
+set_table bundle here set t =
+    let r = setting.request bundle here set in with_new (asked t.next (tree_of r.expression) r) t
+
+abbrev pub acted_on : BreakpointAction → ℕ → Table → Table
+acted_on Get id t = t
+acted_on Remove id t = without id t
+
+-- what is held after a command that is not refused
+abbrev pub breakpoint_table : Bundle → ℕ → Request → Table → Table
+breakpoint_table bundle here (request.BreakpointSet set) t = set_table bundle here set t
+breakpoint_table bundle here (request.Breakpoint action id) t = acted_on action id t
+breakpoint_table bundle here (request.BreakpointUpdate update) t = with_change update.id (change update) t
+breakpoint_table bundle here other t = t
+
+-- ---- responses
+
+-- to the command of this name with this transaction id
+abbrev pub response : Text → Text → Attributes → Body → Response
+response command id attributes what =
+    record { command = command; id = id; attributes = attributes; body = what }
+
+abbrev pub bare_response : Text → Text → Response
+bare_response command id = response command id [] body.Nothing
+
+-- the state and the id of a new breakpoint
+abbrev pub set_response : Text → Text → Bool → ℕ → Response
+set_response command id enabled number =
+    response command id ((codes "state", state_name enabled) ∷ (codes "id", decimal number) ∷ []) body.Nothing
+
+abbrev pub lines_response : Text → Text → List BreakLine → Response
+lines_response command id lines = response command id [] (body.Breakpoints lines)
+
+-- these breakpoints fit in a packet
+abbrev pub lines_fit : Text → Text → List BreakLine → Bool
+lines_fit command id lines = nat_le (length (text (packet.Response (lines_response command id lines)))) packet_limit
+
+-- the first of these breakpoints, up to the one with which they would not fit
+abbrev pub listed : Text → Text → List BreakLine → List BreakLine
+listed command id lines =
+    map (λ line. line.here) (take_while (λ line. lines_fit command id (line.past ++ line.here ∷ [])) (each_in lines))
+
+-- a breakpoint that was found
+abbrev pub found_line : Bundle → Option Breakpoint → List BreakLine
+found_line bundle found = option_map_or (λ b. breakpoint_line bundle b ∷ []) found []
+
+abbrev pub action_response : Bundle → Text → Text → BreakpointAction → Option Breakpoint → Response
+action_response bundle command id Get found = lines_response command id (found_line bundle found)
+action_response bundle command id Remove found = bare_response command id
+
+-- what is answered to a command that is not refused, by what was held before it
+abbrev pub breakpoint_response : Bundle → Text → Text → Table → Request → Response
+breakpoint_response bundle command id t (request.BreakpointSet set) =
+    set_response command id (unwrap_or (meant state_named set.state) true) t.next
+breakpoint_response bundle command id t (request.Breakpoint action number) =
+    action_response bundle command id action (held_as t.held number)
+breakpoint_response bundle command id t request.BreakpointList =
+    lines_response command id (listed command id (map (breakpoint_line bundle) t.held))
+breakpoint_response bundle command id t other = bare_response command id

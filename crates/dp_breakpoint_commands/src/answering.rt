@@ -1,0 +1,205 @@
+//! The answers to breakpoint commands.
+
+ghost use Rattle.std.specs.Prelude.{◌≡◌, ◌<◌, ◌≤◌, Err, None, ℕ, false, length, map, IfErr, IfOk, IfSome, OnOk};
+ghost use Rattle.dp_break.specs.Changes.{held_as, with_change, without};
+ghost use Rattle.dp_breakpoint_commands.specs.Answers.{IsCause};
+ghost use Rattle.dp_breakpoint_commands.specs.Changing.{change};
+ghost use Rattle.dp_breakpoint_commands.specs.Commands as spec;
+ghost use Rattle.dp_breakpoint_commands.specs.Showing.{breakpoint_line as line_of};
+ghost use Rattle.dp_packet.specs.declared.packet.Packet.TheVariants as packet;
+ghost use Rattle.dp_packet.specs.Packets.{HasMessage};
+ghost use Rattle.dp_packet.specs.Text.{text};
+ghost use Rattle.dp_tree.specs.FileNames.{AreFileNames};
+ghost use Rattle.dp_wire.specs.Frames.{packet_limit};
+
+use crate::changing::breakpoint_change;
+use crate::errors::BreakpointError;
+use crate::listing::listed_lines;
+use crate::responses::{bare_response, lines_response, set_response};
+use crate::setting::breakpoint_request;
+use crate::showing::breakpoint_line;
+use dp_break::Breaks;
+use dp_command::{Addressee, BreakpointAction, BreakpointSet, BreakpointUpdate, Request};
+use dp_packet::Response;
+use dp_tree::Bundle;
+use std::alloc::Global;
+
+/// Holds the breakpoint that is asked for.
+fn set_breakpoint(
+    alloc: Global,
+    bundle: &Bundle,
+    here: u32,
+    to: &Addressee,
+    set: BreakpointSet,
+    breaks: &mut Breaks,
+) -> Result<Response, BreakpointError>
+    requires files { length bundle.now.files ≤ u32.MAX }
+    requires here { here < length bundle.now.files }
+    ensures response { IfOk result (λ r. r
+        ≡ spec.breakpoint_response bundle.now to.now.command to.now.id breaks.old (Request.BreakpointSet set)) }
+    ensures accepted { OnOk result (spec.set_refusal bundle.now here breaks.old set ≡ None) }
+    ensures table { OnOk result (breaks.new ≡ spec.set_table bundle.now here set breaks.old) }
+    ensures refused { IfErr result (IsCause (spec.set_refusal bundle.now here breaks.old set)) }
+    ensures surely { spec.wants_memory (Request.BreakpointSet set) ≡ false
+        → IfSome (spec.set_refusal bundle.now here breaks.old set) (λ code.
+        result ≡ Err (BreakpointError.Code code)) }
+    ensures unchanged { (code : ℕ) → result ≡ Err (BreakpointError.Code code) → breaks.new ≡ breaks.old }
+{
+    let request = breakpoint_request(alloc, bundle, here, set)?;
+    let enabled = request.enabled;
+    let id = breaks.add(bundle, request)?;
+    Ok(set_response(alloc, to, enabled, id)?)
+}
+
+/// Shows the breakpoint of this id.
+fn get_breakpoint(
+    alloc: Global,
+    bundle: &Bundle,
+    to: &Addressee,
+    id: u32,
+    breaks: &Breaks,
+) -> Result<Response, BreakpointError>
+    requires { AreFileNames (map (λ f. f.name) bundle.now.files) }
+    ensures response { IfOk result (λ r. r
+        ≡ spec.lines_response to.now.command to.now.id (spec.found_line bundle.now (held_as breaks.now.held id))) }
+    ensures accepted { OnOk result (spec.id_refusal breaks.now id ≡ None) }
+    ensures refused { IfErr result (IsCause (spec.id_refusal breaks.now id)) }
+    ensures surely { IfSome (spec.id_refusal breaks.now id) (λ code. result ≡ Err (BreakpointError.Code code)) }
+    ensures short { IfOk result (λ r. length (text (packet.Response r)) ≤ packet_limit) }
+{
+    let Some(breakpoint) = breaks.get(id) else {
+        return Err(BreakpointError::Code(205));
+    };
+    let mut lines = Vec::new(alloc);
+    lines.push(breakpoint_line(alloc, bundle, breakpoint)?)?;
+    Ok(lines_response(alloc, to, lines)?)
+}
+
+/// Takes out the breakpoint of this id.
+fn remove_breakpoint(
+    alloc: Global,
+    to: &Addressee,
+    id: u32,
+    breaks: &mut Breaks,
+) -> Result<Response, BreakpointError>
+    ensures response { IfOk result (λ r. r ≡ spec.bare_response to.now.command to.now.id) }
+    ensures accepted { OnOk result (spec.id_refusal breaks.old id ≡ None) }
+    ensures table { OnOk result (breaks.new ≡ without id breaks.old) }
+    ensures refused { IfErr result (IsCause (spec.id_refusal breaks.old id)) }
+    ensures surely { IfSome (spec.id_refusal breaks.old id) (λ code. result ≡ Err (BreakpointError.Code code)) }
+    ensures unchanged { (code : ℕ) → result ≡ Err (BreakpointError.Code code) → breaks.new ≡ breaks.old }
+{
+    if !breaks.remove(id) {
+        return Err(BreakpointError::Code(205));
+    }
+    Ok(bare_response(alloc, to)?)
+}
+
+/// Gets or removes the breakpoint of this id.
+fn act_on_breakpoint(
+    alloc: Global,
+    bundle: &Bundle,
+    to: &Addressee,
+    action: BreakpointAction,
+    id: u32,
+    breaks: &mut Breaks,
+) -> Result<Response, BreakpointError>
+    requires { AreFileNames (map (λ f. f.name) bundle.now.files) }
+    ensures response { IfOk result (λ r. r
+        ≡ spec.action_response bundle.now to.now.command to.now.id action (held_as breaks.old.held id)) }
+    ensures accepted { OnOk result (spec.id_refusal breaks.old id ≡ None) }
+    ensures table { OnOk result (breaks.new ≡ spec.acted_on action id breaks.old) }
+    ensures refused { IfErr result (IsCause (spec.id_refusal breaks.old id)) }
+    ensures surely { IfSome (spec.id_refusal breaks.old id) (λ code. result ≡ Err (BreakpointError.Code code)) }
+    ensures unchanged { (code : ℕ) → result ≡ Err (BreakpointError.Code code) → breaks.new ≡ breaks.old }
+    ensures short { IfOk result (λ r. length (text (packet.Response r)) ≤ packet_limit) }
+{
+    match action {
+        BreakpointAction::Get => get_breakpoint(alloc, bundle, to, id, breaks),
+        BreakpointAction::Remove => remove_breakpoint(alloc, to, id, breaks),
+    }
+}
+
+/// Changes a breakpoint.
+fn update_breakpoint(
+    alloc: Global,
+    bundle: &Bundle,
+    to: &Addressee,
+    update: &BreakpointUpdate,
+    breaks: &mut Breaks,
+) -> Result<Response, BreakpointError>
+    ensures response { IfOk result (λ r. r ≡ spec.bare_response to.now.command to.now.id) }
+    ensures accepted { OnOk result (spec.update_refusal bundle.now breaks.old update.now ≡ None) }
+    ensures table { OnOk result (breaks.new ≡ with_change update.now.id (change update.now) breaks.old) }
+    ensures refused { IfErr result (IsCause (spec.update_refusal bundle.now breaks.old update.now)) }
+    ensures surely { IfSome (spec.update_refusal bundle.now breaks.old update.now) (λ code.
+        result ≡ Err (BreakpointError.Code code)) }
+    ensures unchanged { (code : ℕ) → result ≡ Err (BreakpointError.Code code) → breaks.new ≡ breaks.old }
+{
+    let Some(breakpoint) = breaks.get(update.id) else {
+        return Err(BreakpointError::Code(205));
+    };
+    let change = breakpoint_change(breakpoint.kind, update)?;
+    breaks.update(bundle, update.id, change)?;
+    Ok(bare_response(alloc, to)?)
+}
+
+/// Lists the breakpoints.
+fn list_breakpoints(
+    alloc: Global,
+    bundle: &Bundle,
+    to: &Addressee,
+    breaks: &Breaks,
+) -> Result<Response, BreakpointError>
+    ensures response { IfOk result (λ r. r ≡ spec.lines_response to.now.command to.now.id
+        (spec.listed to.now.command to.now.id (map (line_of bundle.now) breaks.now.held))) }
+    ensures memory { IfErr result (λ e. e ≡ BreakpointError.Memory) }
+    ensures short { IfOk result (λ r. length (text (packet.Response r)) ≤ packet_limit) }
+{
+    let lines = listed_lines(alloc, bundle, to, breaks.list())?;
+    Ok(lines_response(alloc, to, lines)?)
+}
+
+/// Does what a breakpoint command asks for, at a moment in the file of this number, and answers it. DBGp 1.0, "breakpoint_set",
+/// "breakpoint_get", "breakpoint_update", "breakpoint_remove", "breakpoint_list".
+///
+/// It is refused with the first code of its row whose test holds, and then nothing has changed: breakpoint_set with 201, 3,
+/// 204, 200, 202, 203 or 207; breakpoint_update with 205, 3, 204, 202 or 203; breakpoint_get and breakpoint_remove with 205. A
+/// list ends before the first breakpoint with which its text would have more than 16,777,216 bytes. What is no breakpoint
+/// command is refused with 4. After want of memory nothing is said of the breakpoints.
+pub fn answer_breakpoints(
+    alloc: Global,
+    bundle: &Bundle,
+    here: u32,
+    to: &Addressee,
+    request: Request,
+    breaks: &mut Breaks,
+) -> Result<Response, BreakpointError>
+    requires names { AreFileNames (map (λ f. f.name) bundle.now.files) }
+    requires here { here < length bundle.now.files }
+    ensures response { IfOk result (λ r. r
+        ≡ spec.breakpoint_response bundle.now to.now.command to.now.id breaks.old request) }
+    ensures accepted { OnOk result (spec.breakpoint_refusal bundle.now here breaks.old request ≡ None) }
+    ensures table { OnOk result (breaks.new ≡ spec.breakpoint_table bundle.now here request breaks.old) }
+    ensures refused { IfErr result (IsCause (spec.breakpoint_refusal bundle.now here breaks.old request)) }
+    // Only a URI that is decoded and an expression that is read make want of memory come before a refusal.
+    ensures surely { spec.wants_memory request ≡ false
+        → IfSome (spec.breakpoint_refusal bundle.now here breaks.old request) (λ code.
+        result ≡ Err (BreakpointError.Code code)) }
+    ensures unchanged { (code : ℕ) → result ≡ Err (BreakpointError.Code code) → breaks.new ≡ breaks.old }
+    // A packet can be made of it.
+    ensures known { IfOk result (λ r. HasMessage (packet.Response r)) }
+    ensures short { IfOk result (λ r. length (text (packet.Response r)) ≤ packet_limit) }
+{
+    match request {
+        Request::BreakpointSet(set) => set_breakpoint(alloc, bundle, here, to, set, breaks),
+        Request::Breakpoint { action, id } => {
+            act_on_breakpoint(alloc, bundle, to, action, id, breaks)
+        }
+        Request::BreakpointUpdate(update) => {
+            update_breakpoint(alloc, bundle, to, &update, breaks)
+        }
+        Request::BreakpointList => list_breakpoints(alloc, bundle, to, breaks),
+        _ => Err(BreakpointError::Code(4)),
+    }
+}

@@ -1,0 +1,72 @@
+//! Breakpoints that are listed.
+
+ghost use Rattle.std.specs.Prelude.{◌≡◌, ◌+◌, ◌-◌, ◌≤◌, [], length, map, IfOk};
+ghost use Rattle.dp_breakpoint_commands.specs.Commands.{listed, lines_response as response_of};
+ghost use Rattle.dp_breakpoint_commands.specs.Showing as spec;
+ghost use Rattle.dp_breakpoint_commands.specs.inner.Listing.{fitting};
+ghost use Rattle.dp_packet.specs.declared.packet.Packet.TheVariants as packet;
+ghost use Rattle.dp_packet.specs.Text.{text};
+ghost use Rattle.dp_wire.specs.Frames.{packet_limit};
+
+use crate::showing::breakpoint_line;
+use dp_break::Breakpoint;
+use dp_command::Addressee;
+use dp_packet::{BreakLine, attribute_size, break_size};
+use dp_tree::Bundle;
+use dp_value::Memory;
+use std::alloc::Global;
+
+/// The most bytes of a packet's text.
+const PACKET_LIMIT: u64 = 16_777_216;
+
+/// The size of a response without its command's name, its id and what stands in it.
+const BARE_SIZE: u64 = 98;
+
+/// The room for breakpoints in the response to a command.
+#[tactic(auto, using(crate::proofs::Lengths::bare_size))]
+fn room_for_lines(to: &Addressee) -> u64
+    ensures { result + length (text (packet.Response (response_of to.now.command to.now.id []))) ≡ packet_limit }
+{
+    let command = attribute_size(b"command", to.command.as_slice());
+    let id = attribute_size(b"transaction_id", to.id.as_slice());
+    PACKET_LIMIT - (BARE_SIZE + command + id)
+}
+
+/// The first of the breakpoints as a packet shows them, up to the one for which there is no room.
+fn fitting_lines(
+    alloc: Global,
+    bundle: &Bundle,
+    held: &[Breakpoint],
+    room: u64,
+) -> Result<Vec<BreakLine>, Memory>
+    requires { room ≤ packet_limit }
+    ensures { IfOk result (λ lines. lines.items ≡ fitting room (map (spec.breakpoint_line bundle.now) held.now)) }
+{
+    let mut lines = Vec::new(alloc);
+    let mut left = room;
+    for breakpoint in held {
+        let line = breakpoint_line(alloc, bundle, breakpoint)?;
+        let size = break_size(&line);
+        if size > left {
+            return Ok(lines);
+        }
+        left -= size;
+        lines.push(line)?;
+    }
+    Ok(lines)
+}
+
+/// The breakpoints that a response to a command lists. Each is measured before it is put in, so that none is made behind the
+/// first that would not fit.
+#[tactic(auto, using(crate::proofs::Lengths::listed_are))]
+pub(crate) fn listed_lines(
+    alloc: Global,
+    bundle: &Bundle,
+    to: &Addressee,
+    held: &[Breakpoint],
+) -> Result<Vec<BreakLine>, Memory>
+    ensures { IfOk result (λ lines. lines.items
+        ≡ listed to.now.command to.now.id (map (spec.breakpoint_line bundle.now) held.now)) }
+{
+    fitting_lines(alloc, bundle, held, room_for_lines(to))
+}

@@ -1,0 +1,89 @@
+//! The responses to breakpoint commands.
+
+ghost use Rattle.std.specs.Prelude.{◌≡◌, ◌∷◌, [], decimal, IfOk};
+ghost use Rattle.dp_breakpoint_commands.specs.Commands as spec;
+ghost use Rattle.dp_packet.specs.Breakpoints as breakpoints;
+
+use dp_command::Addressee;
+use dp_packet::{Body, BreakLine, Response};
+use dp_value::{Bytes, Items, Memory};
+use itoa::Buffer;
+use std::alloc::Global;
+
+// How it is said whether a breakpoint is enabled.
+fn state_name(enabled: bool) -> &'static [u8]
+    ensures { result.now ≡ breakpoints.state_name enabled }
+{
+    if enabled { b"enabled" } else { b"disabled" }
+}
+
+fn pair(alloc: Global, name: &[u8], value: &[u8]) -> Result<(Bytes, Bytes), Memory>
+    ensures { IfOk result (λ pair. pair ≡ (name.now, value.now)) }
+{
+    let name = Bytes::from_slice(alloc, name)?;
+    let value = Bytes::from_slice(alloc, value)?;
+    Ok((name, value))
+}
+
+fn number_pair(alloc: Global, name: &[u8], number: u32) -> Result<(Bytes, Bytes), Memory>
+    ensures { IfOk result (λ pair. pair ≡ (name.now, decimal number)) }
+{
+    let mut buffer = Buffer::new();
+    pair(alloc, name, buffer.format(number).as_bytes())
+}
+
+fn response(
+    alloc: Global,
+    to: &Addressee,
+    attributes: Vec<(Bytes, Bytes)>,
+    body: Body,
+) -> Result<Response, Memory>
+    ensures { IfOk result (λ r. r ≡ spec.response to.now.command to.now.id attributes.items body) }
+{
+    let command = to.command.try_clone()?;
+    let id = to.id.try_clone()?;
+    Ok(Response {
+        command,
+        id,
+        attributes: Items::of(attributes),
+        body,
+    })
+}
+
+/// A response that says nothing but that the command is done.
+pub(crate) fn bare_response(alloc: Global, to: &Addressee) -> Result<Response, Memory>
+    ensures { IfOk result (λ r. r ≡ spec.bare_response to.now.command to.now.id) }
+{
+    response(alloc, to, Vec::new(alloc), Body::Nothing)
+}
+
+/// The state and the id of a new breakpoint.
+pub(crate) fn set_response(
+    alloc: Global,
+    to: &Addressee,
+    enabled: bool,
+    id: u32,
+) -> Result<Response, Memory>
+    ensures { IfOk result (λ r. r ≡ spec.set_response to.now.command to.now.id enabled id) }
+{
+    let mut attributes = Vec::new(alloc);
+    attributes.push(pair(alloc, b"state", state_name(enabled))?)?;
+    attributes.push(number_pair(alloc, b"id", id)?)?;
+    response(alloc, to, attributes, Body::Nothing)
+}
+
+/// A response with breakpoints.
+pub(crate) fn lines_response(
+    alloc: Global,
+    to: &Addressee,
+    lines: Vec<BreakLine>,
+) -> Result<Response, Memory>
+    ensures { IfOk result (λ r. r ≡ spec.lines_response to.now.command to.now.id lines.items) }
+{
+    response(
+        alloc,
+        to,
+        Vec::new(alloc),
+        Body::Breakpoints(Items::of(lines)),
+    )
+}

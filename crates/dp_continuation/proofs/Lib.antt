@@ -1,0 +1,5 @@
+pub mod Lists
+pub mod Numbers
+pub mod Skipping
+pub mod Coming
+pub mod Stopping

@@ -1,0 +1,4 @@
+-- Where a program comes to when it goes on.
+pub mod Stops
+pub mod Going
+pub mod inner

@@ -1,0 +1,12 @@
+//! Where a program comes to when it goes on, with the breakpoints that are held: DBGp 1.0, "Continuation Commands".
+#![tactic(auto)]
+
+mod arrival;
+mod going;
+mod laws;
+mod stops;
+
+pub use arrival::Arrival;
+pub use dp_value::Memory;
+pub use going::{go_on, run_out};
+pub use laws::stops_are_moments;
