@@ -1,6 +1,6 @@
 -- What comes of going on to the next moment at which the mode stops or a breakpoint hits.
-use Rattle.std.proofs.Common.{◌≡◌, ℕ, suc, ◌+◌, ◌-◌, ◌<◌, ◌≤◌, Bool, true, false, cond, ◌||◌, List, [], ◌∷◌, drop, length, Option, Some, None, refl, sym, ap, subst, ◌∙◌, arith}
-use Rattle.std.specs.Prelude.{option_map}
+use Rattle.std.proofs.Common.{◌≡◌, ℕ, suc, ◌+◌, ◌<◌, ◌≤◌, Bool, true, false, cond, ◌||◌, List, [], ◌∷◌, drop, Option, Some, None, refl, sym, ap, subst, ◌∙◌, arith}
+use Rattle.std.specs.Prelude.{option_map, Result, Ok, Err, IfOk, OnOk}
 use Rattle.dp_break.specs.Passing.{found, held_after, one_stops}
 use Rattle.dp_break.specs.declared.breakpoint.Breakpoint.{Breakpoint}
 use Rattle.dp_break.specs.Tables.{Table}
@@ -16,6 +16,7 @@ use Rattle.dp_meaning.specs.Trace.{moment_at, now, outcome_of, program_trace}
 use Rattle.dp_meaning.specs.Writes.{written, writes_of}
 use Rattle.dp_continuation.specs.declared.arrival.Arrival.{Arrival}
 use Rattle.dp_continuation.specs.declared.arrival.Arrival.TheVariants as arrival
+use Rattle.dp_continuation.specs.declared.going.Next.{Next}
 use Rattle.dp_continuation.specs.declared.going.Next.TheVariants.{On, Come}
 use Rattle.dp_continuation.specs.Going.{Arrives, stop_past, table_past}
 use Rattle.dp_continuation.specs.inner.Hits.{IsNext, is_told, left_in}
@@ -53,8 +54,8 @@ module _ (mode : Moment → Bool) (bundle : Bundle) (bound : ℕ) (list : List N
 
     module _ (k : ℕ) (p : Moment × State) (late : n ≤ k) (rest : List (Moment × State)) (here : drop k moments ≡ p ∷ rest) (number : p.0.number ≡ k + 1)
         (same : found_past before.held n ≡ found mode bundle before.held k (p ∷ rest)) where
-      comes : left_in mode bundle before.held p ≡ left_in mode bundle before.held p → IsNext mode bundle bound list n before (after p) (left_in mode bundle before.held p)
-      comes _ = cases (mode p.0 || one_stops bundle before.held [] p) same where
+      comes : IsNext mode bundle bound list n before (after p) (left_in mode bundle before.held p)
+      comes = cases (mode p.0 || one_stops bundle before.held [] p) same where
         cases : (b : Bool) → found_past before.held n ≡ cond b (Some (k + 1), held_after bundle (p ∷ []) before.held) (found mode bundle (held_after bundle (p ∷ []) before.held) (k + 1) rest)
             → IsNext mode bundle bound list n before (after p) (cond b (Come (arrival.Moment p.0.number p.0.depth p.1)) (On p.0.number))
         cases true e = (
@@ -68,7 +69,7 @@ module _ (mode : Moment → Bool) (bundle : Bundle) (bound : ℕ) (list : List N
               omega (arith, late, number),
               (let w = at.within in omega (arith, number)),
               refl,
-              e ∙ (λ i. found mode bundle (held_after bundle (p ∷ []) before.held) (k + 1) (at.rest (~ i)))
+              e ∙ ap (found mode bundle (held_after bundle (p ∷ []) before.held) (k + 1)) (sym at.follows)
                   ∙ (λ i. found mode bundle (held_after bundle (p ∷ []) before.held) (k + 1) (drop (next i) moments))
                   ∙ (λ i. found mode bundle (held_after bundle (p ∷ []) before.held) (step i) (drop (step i) moments)),
             )
@@ -87,7 +88,7 @@ module _ (mode : Moment → Bool) (bundle : Bundle) (bound : ℕ) (list : List N
         let k = n + h.0 in
         let here : drop k moments ≡ p ∷ drop (suc h.0) (drop n moments) = sym (drop-twice n h.0 moments) ∙ h.1 in
         subst (λ (q : Moment × State). IsNext mode bundle bound list n before (after q) (left_in mode bundle before.held q)) (λ i. (moment i, state i))
-        (comes k p (omega arith) (drop (suc h.0) (drop n moments)) here h.2 (h.3 ∙ ap (found mode bundle before.held k) h.1) refl)
+        (comes k p (omega arith) (drop (suc h.0) (drop n moments)) here h.2 (h.3 ∙ ap (found mode bundle before.held k) h.1))
 
     ended_to : (o : Option (Moment × State)) → FoundIn o → (end : Outcome) (s : State) → stop.Ended end s ≡ stop_of (program_trace bundle bound list) o
         → IsNext mode bundle bound list n before before (Come (arrival.End end s))
@@ -99,13 +100,20 @@ module _ (mode : Moment → Bool) (bundle : Bundle) (bound : ℕ) (list : List N
         )
     ended_to (Some p) h end s e = absurd cc
 
-    found_in : (o : Option (Moment × State)) → FoundIn o → FoundIn o
-    found_in o h = h
-
     pub next_at : (m : Moment) (s : State)
         → stop.At m s ≡ first_stop (program_trace bundle bound list) (writes_of bundle list) n (λ m s. is_told mode bundle before.held (m, s))
         → IsNext mode bundle bound list n before (after (m, s)) (left_in mode bundle before.held (m, s))
     next_at m s e = came_to _ (reach_past (writes_of bundle list) mode bundle before.held n early n 0 moments (numbered bundle bound list) (omega arith)) m s e
+
+    -- what a call answers that goes on to a moment
+    pub next_left : {E : Type 0} (m : Moment) (s : State)
+        → stop.At m s ≡ first_stop (program_trace bundle bound list) (writes_of bundle list) n (λ m s. is_told mode bundle before.held (m, s))
+        → (result : Result Next E) (left : Table) → IfOk result (λ next. next ≡ left_in mode bundle before.held (m, s)) → OnOk result (left ≡ after (m, s))
+        → IfOk result (IsNext mode bundle bound list n before left)
+    next_left m s e (Ok next) left is_next is_left =
+        subst (λ (t : Table). IsNext mode bundle bound list n before t next) (sym is_left)
+        (subst (λ (x : Next). IsNext mode bundle bound list n before (after (m, s)) x) (sym is_next) (next_at m s e))
+    next_left m s e (Err why) left is_next is_left = tt
 
     pub next_end : (end : Outcome) (s : State)
         → stop.Ended end s ≡ first_stop (program_trace bundle bound list) (writes_of bundle list) n (λ m s. is_told mode bundle before.held (m, s))
@@ -136,6 +144,6 @@ module _ (mode : Moment → Bool) (bundle : Bundle) (bound : ℕ) (list : List N
     subst (λ (o : Option ℕ). Arrives bundle bound list o a)
         (ap (λ (f : Option ℕ × List Breakpoint). f.0) (sym w.found) ∙ found-stop bundle mode before.held n (drop n moments)) h.1,
     h.0
-        ∙ (λ i. record { held = (w.found (~ i)).1; next = w.next i })
+        ∙ (λ i. record { held = (sym w.found i).1; next = w.next i })
         ∙ ap (λ (l : List Breakpoint). record before { held = l }) (found-held bundle mode before.held n (drop n moments)),
   )
