@@ -26,7 +26,7 @@ map_step f [] (suc n) = ap (λ k. map f (drop k [])) (sym (more n))
 map_step f (x ∷ xs) zero = refl
 map_step f (x ∷ xs) (suc n) = map_step f xs n ∙ ap (λ k. option_map_or (λ x. f x ∷ []) (slice_get xs n) [] ++ map f (drop k (x ∷ xs))) (sym (more n))
 
-slice_get_front : {A : Type 0} (xs : List A) (at end : ℕ) → at < end → slice_get (take end xs) at ≡ slice_get xs at
+pub slice_get_front : {A : Type 0} (xs : List A) (at end : ℕ) → at < end → slice_get (take end xs) at ≡ slice_get xs at
 slice_get_front xs at zero below = absurd (omega arith)
 slice_get_front [] at (suc end) below = refl
 slice_get_front (x ∷ xs) zero (suc end) below = refl

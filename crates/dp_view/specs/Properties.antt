@@ -1,5 +1,5 @@
 -- Properties: what is shown of values. DBGp 1.0, "Properties, variables and values".
-use Rattle.std.specs.Prelude.{ℕ, zero, suc, ◌*◌, List, [], ◌∷◌, length, map, take, drop, Option, Some, None, Result, Ok}
+use Rattle.std.specs.Prelude.{ℕ, Bool, true, false, zero, suc, ◌*◌, List, [], ◌∷◌, length, map, take, drop, Option, Some, None, Result, Ok}
 use Rattle.std.specs.List.{flat_map}
 use Rattle.std.specs.Option.{option_map_or}
 use Rattle.dp_packet.specs.declared.property.Property.{Property}
@@ -60,6 +60,12 @@ property_of p name full d = record {
 -- what an evaluation shows of its value, which has no name
 abbrev pub shown : Paging → Data → Property
 shown p d = property_of p None None d
+
+-- a value of which bytes or entries are copied where it is shown
+abbrev pub is_copied : Data → Bool
+is_copied (text bytes) = true
+is_copied (array es largest) = true
+is_copied other = false
 
 -- ---- places
 

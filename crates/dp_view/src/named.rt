@@ -17,8 +17,9 @@ use dp_packet::Property;
 use dp_state::{Path, State};
 use std::alloc::Global;
 
-// The path that is named, where there are the level and the context.
-fn named_path(
+/// The path that bytes name, where there are the level and the context: 301 where there is no such level, else 302 where there
+/// is no such context, else 300 where the bytes are no name. No refusal takes memory.
+pub fn named_path(
     alloc: Global,
     state: &State,
     level: u32,

@@ -1,6 +1,6 @@
 //! Properties: what is shown of values.
 
-ghost use Rattle.std.specs.Prelude.{◌≡◌, ◌+◌, ◌*◌, ◌++◌, min, take, drop, length, IfOk, OnOk};
+ghost use Rattle.std.specs.Prelude.{◌≡◌, ◌+◌, ◌*◌, ◌++◌, true, None, min, take, drop, length, IfOk, OnErr, OnOk};
 ghost use Rattle.dp_value.specs.Value.{data_of};
 ghost use Rattle.dp_view.specs.Answers.{Answers};
 ghost use Rattle.dp_view.specs.Properties as spec;
@@ -26,16 +26,17 @@ fn front(alloc: Global, bytes: &[u8], most: u64) -> Result<Bytes, Memory>
     Bytes::from_slice(alloc, &bytes[..end])
 }
 
-// Where a page of an array begins: at its end, if there are not so many entries.
-fn page_start(array: &PhpArray, page: u64, size: u64) -> usize
+/// Where a page of an array begins, counted from 0, where a page has so many entries: at its end, if there are not so many.
+/// Takes no memory.
+pub fn page_start(array: &PhpArray, page: u64, size: u64) -> usize
     ensures { result ≡ min (page * size) (length array.now.pairs) }
 {
     let len = array.len();
     len.min(page.saturating_mul(size) as usize)
 }
 
-// Where a page of an array ends that begins here.
-fn page_end(array: &PhpArray, start: usize, size: u64) -> usize
+/// Where a page of an array ends that begins here: at its end, if it comes before. Takes no memory.
+pub fn page_end(array: &PhpArray, start: usize, size: u64) -> usize
     ensures { result ≡ min (start + size) (length array.now.pairs) }
 {
     let len = array.len();
@@ -181,11 +182,30 @@ pub fn property_of(
     })
 }
 
+// A property without names.
+fn bare(shape: Shape) -> Property
+    ensures { result ≡ record { name = None; fullname = None; shape = shape } }
+{
+    Property {
+        name: None,
+        fullname: None,
+        shape,
+    }
+}
+
 /// The property that an evaluation shows of its value: it has no name, and its entries have no full name.
 pub fn shown(alloc: Global, value: &Value, p: &Paging) -> Result<Property, Memory>
-    ensures { IfOk result (λ made. made ≡ spec.shown p.now (data_of value.now)) }
+    ensures made { IfOk result (λ made. made ≡ spec.shown p.now (data_of value.now)) }
+    // Memory is wanted only for a text and for an array.
+    ensures memory { OnErr result (spec.is_copied (data_of value.now) ≡ true) }
 {
-    property_of(alloc, p, None, None, value)
+    match value {
+        Value::Null => Ok(bare(Shape::Null)),
+        Value::Bool(b) => Ok(bare(Shape::Bool(*b))),
+        Value::Int(n) => Ok(bare(Shape::Int(*n))),
+        Value::Text(_) => property_of(alloc, p, None, None, value),
+        Value::Array(_) => property_of(alloc, p, None, None, value),
+    }
 }
 
 // The property of the value at a path.

@@ -1,0 +1,50 @@
+-- What the call of a command answers: a response or the code of a refusal; or memory runs out.
+use Rattle.std.specs.Prelude.{◌≡◌, ◌≢◌, ℕ, ◌<◌, ◌≤◌, ◌||◌, true, if◌then◌else◌, length, Option, Some, None, Result, Ok, Err, ⊤}
+use Rattle.dp_command.specs.declared.command.Request.{Request}
+use Rattle.dp_command.specs.declared.command.Request.TheVariants as request
+use Rattle.dp_features.specs.Features.{Features}
+use Rattle.dp_packet.specs.declared.packet.Body.TheVariants as body
+use Rattle.dp_packet.specs.declared.packet.Packet.TheVariants as packet
+use Rattle.dp_packet.specs.declared.packet.Response.{Response}
+use Rattle.dp_packet.specs.Messages.{is_some_text, message_of}
+use Rattle.dp_packet.specs.Packets.{HasMessage}
+use Rattle.dp_packet.specs.Parts.{Text}
+use Rattle.dp_packet.specs.Text.{text}
+use Rattle.dp_state.specs.declared.state.State.{State}
+use Rattle.dp_tree.specs.declared.bundle.Bundle.{Bundle}
+use Rattle.dp_view.specs.declared.error.ViewError.{ViewError}
+use Rattle.dp_view.specs.declared.error.ViewError.TheVariants.{Code, Memory}
+use Rattle.dp_view.specs.Named.{named_path}
+use Rattle.dp_view.specs.Stacks.{stack_at}
+use Rattle.dp_wire.specs.Frames.{packet_limit}
+use Rattle.dp_view_commands.specs.Views.{code_in, is_zero, view_refusal}
+
+abbrev pub Answers : Result Response ViewError → Result Response ℕ → Type 0
+Answers (Ok made) asked = asked ≡ Ok made
+Answers (Err (Code code)) asked = asked ≡ Err code
+Answers (Err Memory) asked = ⊤
+
+-- The code of a refusal that is told whatever memory there is: each one, but that there is nothing at a name that is one, that
+-- this is too long, and that there is no such file.
+abbrev pub refusal_at_once : Bundle → ℕ → Features → State → Text → Text → Request → Option ℕ
+refusal_at_once bundle here features s command id (request.StackGet level) = code_in (stack_at bundle s level)
+refusal_at_once bundle here features s command id (request.ContextGet level context) =
+    view_refusal bundle here features s command id (request.ContextGet level context)
+refusal_at_once bundle here features s command id (request.PropertyGet place page most) =
+    code_in (named_path s place.level place.context place.name)
+refusal_at_once bundle here features s command id (request.PropertyValue place most) =
+    code_in (named_path s place.level place.context place.name)
+refusal_at_once bundle here features s command id (request.Source range) =
+    if is_zero range.first || is_zero range.last then Some 3 else None
+refusal_at_once bundle here features s command id other = None
+
+-- a packet can be made of it, and it tells no error
+pub record IsSent (r : Response) : Type 0 where
+  pub known : HasMessage (packet.Response r)
+  pub short : length (text (packet.Response r)) ≤ packet_limit
+  pub no_error : (code : ℕ) → r.body ≢ body.Fault code
+
+-- the code of a refusal has a message
+abbrev pub HasKnownCode : Result Response ViewError → Type 0
+HasKnownCode (Err (Code code)) = (is_some_text (message_of code) ≡ true) × (code < 1000)
+HasKnownCode other = ⊤

@@ -1,0 +1,141 @@
+-- What the commands answer that look at a program: its stack, its variables and its text. DBGp 1.0, "stack_depth", "stack_get",
+-- "context_names", "context_get", "property_get", "property_value", "source". Which attributes stand in a response and in what
+-- order, the order of the codes, and the limit are this engine's own.
+use Rattle.std.specs.Prelude.{ℕ, ◌==◌, ◌||◌, nat_le, Bool, true, false, if◌then◌else◌, List, [], ◌∷◌, length, codes, decimal, Option, Some, None, ok_or, unwrap_or, option_and_then, slice_get, Result, Ok, Err}
+use Rattle.std.specs.Option.{option_map_or}
+use Rattle.dp_breakpoint_commands.specs.Files.{requested_file}
+use Rattle.dp_command.specs.declared.command.PropertyPlace.{PropertyPlace}
+use Rattle.dp_command.specs.declared.command.Request.{Request}
+use Rattle.dp_command.specs.declared.command.Request.TheVariants as request
+use Rattle.dp_command.specs.declared.command.SourceRange.{SourceRange}
+use Rattle.dp_features.specs.Features.{Features}
+use Rattle.dp_packet.specs.declared.packet.Body.{Body}
+use Rattle.dp_packet.specs.declared.packet.Body.TheVariants as body
+use Rattle.dp_packet.specs.declared.packet.Packet.TheVariants as packet
+use Rattle.dp_packet.specs.declared.packet.Response.{Response}
+use Rattle.dp_packet.specs.Parts.{Attributes, Text, base64}
+use Rattle.dp_packet.specs.Text.{text}
+use Rattle.dp_state.specs.declared.state.State.{State}
+use Rattle.dp_tree.specs.declared.bundle.Bundle.{Bundle}
+use Rattle.dp_tree.specs.declared.bundle.BundleFile.{BundleFile}
+use Rattle.dp_view.specs.declared.paging.Paging.{Paging}
+use Rattle.dp_view.specs.Answers.{and_then}
+use Rattle.dp_view.specs.Named.{named_property, named_value}
+use Rattle.dp_view.specs.Places.{contexts}
+use Rattle.dp_view.specs.Properties.{context_at}
+use Rattle.dp_view.specs.Source.{source_lines}
+use Rattle.dp_view.specs.Stacks.{stack_at}
+use Rattle.dp_wire.specs.Frames.{packet_limit}
+
+-- what a response has of its own: attributes and a body
+abbrev pub Part : Type 0
+Part = Attributes × Body
+
+-- how much is shown of values: as the features say, but for the bytes of a text where a command says how many
+abbrev pub paging : Features → Option ℕ → ℕ → Paging
+paging features most page = record {
+  children = features.max_children;
+  bytes = unwrap_or most features.max_data;
+  depth = features.max_depth;
+  page = page;
+}
+
+-- ---- the stack and the contexts
+
+abbrev pub depth_part : State → Part
+depth_part s = ((codes "depth", decimal (length s.frames)) ∷ [], body.Nothing)
+
+-- 301
+abbrev pub stack_part : Bundle → State → Option ℕ → Result Part ℕ
+stack_part bundle s level = and_then (λ lines. Ok ([], body.Stacks lines)) (stack_at bundle s level)
+
+-- 301, 302
+abbrev pub context_part : Features → State → ℕ → ℕ → Result Part ℕ
+context_part features s level id =
+    and_then (λ shown. Ok ((codes "context", decimal id) ∷ [], body.Properties shown))
+    (context_at s level id (paging features None 0))
+
+-- ---- properties
+
+-- 301, 302, and 300 where the name is none or nothing stands there
+abbrev pub property_part : Features → State → PropertyPlace → ℕ → Option ℕ → Result Part ℕ
+property_part features s place page most =
+    and_then (λ shown. Ok ([], body.Properties (shown ∷ [])))
+    (named_property s place.level place.context place.name (paging features most page))
+
+-- the same codes
+abbrev pub value_part : State → PropertyPlace → Option ℕ → Result Part ℕ
+value_part s place most =
+    and_then (λ shown. Ok (shown.attributes, body.Plain shown.text))
+    (named_value s place.level place.context place.name most)
+
+-- ---- the text of a file
+
+-- the file that is asked for: the one of the moment where none is given
+abbrev pub file_asked : Bundle → ℕ → Option Text → Option BundleFile
+file_asked bundle here None = slice_get bundle.files here
+file_asked bundle here (Some value) = option_and_then (slice_get bundle.files) (requested_file bundle value)
+
+abbrev pub is_zero : Option ℕ → Bool
+is_zero line = option_map_or (λ n. n == 0) line false
+
+abbrev pub source_attributes : Attributes
+source_attributes = (codes "success", codes "1") ∷ (codes "encoding", codes "base64") ∷ []
+
+-- the lines asked for, where there is the file: else 100
+abbrev pub lines_part : SourceRange → Option BundleFile → Result Part ℕ
+lines_part range file =
+    and_then (λ f. Ok (source_attributes, body.Plain (base64 (source_lines range.first range.last f.text))))
+    (ok_or file 100)
+
+-- 3 where a line is 0, 100 where there is no such file
+abbrev pub source_part : Bundle → ℕ → SourceRange → Result Part ℕ
+source_part bundle here range =
+    if is_zero range.first || is_zero range.last then Err 3
+    else lines_part range (file_asked bundle here range.file)
+
+-- ---- responses
+
+-- What a command shows, or the code of its refusal, where its text has no limit. Another command looks at nothing and is not
+-- known here.
+abbrev pub part_of : Bundle → ℕ → Features → State → Request → Result Part ℕ
+part_of bundle here features s request.StackDepth = Ok (depth_part s)
+part_of bundle here features s (request.StackGet level) = stack_part bundle s level
+part_of bundle here features s request.ContextNames = Ok ([], body.Contexts contexts)
+part_of bundle here features s (request.ContextGet level id) = context_part features s level id
+part_of bundle here features s (request.PropertyGet place page most) = property_part features s place page most
+part_of bundle here features s (request.PropertyValue place most) = value_part s place most
+part_of bundle here features s (request.Source range) = source_part bundle here range
+part_of bundle here features s other = Err 4
+
+-- a command that shows values, whose response has a limit
+abbrev pub is_limited : Request → Bool
+is_limited (request.ContextGet level id) = true
+is_limited (request.PropertyGet place page most) = true
+is_limited (request.PropertyValue place most) = true
+is_limited other = false
+
+abbrev pub response_with : Text → Text → Part → Response
+response_with command id part = record { command = command; id = id; attributes = part.0; body = part.1 }
+
+abbrev pub is_short : Response → Bool
+is_short r = nat_le (length (text (packet.Response r))) packet_limit
+
+-- a response, or 300 where it has a limit and its text passes that
+abbrev pub within_limit : Bool → Response → Result Response ℕ
+within_limit limited r = if limited then (if is_short r then Ok r else Err 300) else Ok r
+
+-- The response to a command of this name and transaction id, or the code of its refusal. `here` is the number of the file of
+-- the moment, 0 before the first.
+unfoldable pub view_response : Bundle → ℕ → Features → State → Text → Text → Request → Result Response ℕ
+view_response bundle here features s command id asked =
+    and_then (λ part. within_limit (is_limited asked) (response_with command id part))
+    (part_of bundle here features s asked)
+
+-- the code of a refusal
+abbrev pub code_in : {A : Type 0} → Result A ℕ → Option ℕ
+code_in (Ok a) = None
+code_in (Err code) = Some code
+
+unfoldable pub view_refusal : Bundle → ℕ → Features → State → Text → Text → Request → Option ℕ
+view_refusal bundle here features s command id asked = code_in (view_response bundle here features s command id asked)
