@@ -1,7 +1,8 @@
--- What the commands answer that look at a program: its stack, its variables and its text. DBGp 1.0, "stack_depth", "stack_get",
--- "context_names", "context_get", "property_get", "property_value", "source". Which attributes stand in a response and in what
--- order, the order of the codes, and the limit are this engine's own.
-use Rattle.std.specs.Prelude.{ℕ, ◌==◌, ◌||◌, nat_le, Bool, true, false, if◌then◌else◌, List, [], ◌∷◌, length, codes, decimal, Option, Some, None, ok_or, unwrap_or, option_and_then, slice_get, Result, Ok, Err}
+-- What the commands answer that look at a program: its stack, its variables and its text. DBGp 1.0,
+-- "stack_depth", "stack_get", "context_names", "context_get", "property_get", "property_value",
+-- "source". Which attributes stand in a response and in what order, the order of the codes, and the
+-- limit are this engine's own.
+use Rattle.std.specs.Prelude.{ℕ, ◌==◌, ◌||◌, nat_le, Bool, true, false, if◌then◌else◌, List, [], ◌∷◌, length, codes, decimal, Option, Some, None, ok_or, unwrap_or, option_and_then, option_map, slice_get, Result, Ok, Err}
 use Rattle.std.specs.Option.{option_map_or}
 use Rattle.dp_breakpoint_commands.specs.Files.{requested_file}
 use Rattle.dp_command.specs.declared.command.PropertyPlace.{PropertyPlace}
@@ -31,7 +32,8 @@ use Rattle.dp_wire.specs.Frames.{packet_limit}
 abbrev pub Part : Type 0
 Part = Attributes × Body
 
--- how much is shown of values: as the features say, but for the bytes of a text where a command says how many
+-- how much is shown of values: as the features say, but for the bytes of a text where a command says
+-- how many
 abbrev pub paging : Features → Option ℕ → ℕ → Paging
 paging features most page = record {
   children = features.max_children;
@@ -47,12 +49,16 @@ depth_part s = ((codes "depth", decimal (length s.frames)) ∷ [], body.Nothing)
 
 -- 301
 abbrev pub stack_part : Bundle → State → Option ℕ → Result Part ℕ
-stack_part bundle s level = and_then (λ lines. Ok ([], body.Stacks lines)) (stack_at bundle s level)
+stack_part bundle s level =
+    and_then (λ lines. Ok ([], body.Stacks lines)) (stack_at bundle s level)
 
 -- 301, 302
+abbrev pub context_attributes : ℕ → Attributes
+context_attributes id = (codes "context", decimal id) ∷ []
+
 abbrev pub context_part : Features → State → ℕ → ℕ → Result Part ℕ
 context_part features s level id =
-    and_then (λ shown. Ok ((codes "context", decimal id) ∷ [], body.Properties shown))
+    and_then (λ shown. Ok (context_attributes id, body.Properties shown))
     (context_at s level id (paging features None 0))
 
 -- ---- properties
@@ -74,7 +80,8 @@ value_part s place most =
 -- the file that is asked for: the one of the moment where none is given
 abbrev pub file_asked : Bundle → ℕ → Option Text → Option BundleFile
 file_asked bundle here None = slice_get bundle.files here
-file_asked bundle here (Some value) = option_and_then (slice_get bundle.files) (requested_file bundle value)
+file_asked bundle here (Some value) =
+    option_and_then (slice_get bundle.files) (requested_file bundle value)
 
 abbrev pub is_zero : Option ℕ → Bool
 is_zero line = option_map_or (λ n. n == 0) line false
@@ -85,8 +92,8 @@ source_attributes = (codes "success", codes "1") ∷ (codes "encoding", codes "b
 -- the lines asked for, where there is the file: else 100
 abbrev pub lines_part : SourceRange → Option BundleFile → Result Part ℕ
 lines_part range file =
-    and_then (λ f. Ok (source_attributes, body.Plain (base64 (source_lines range.first range.last f.text))))
-    (ok_or file 100)
+    and_then (λ text. Ok (source_attributes, body.Plain (base64 (source_lines range.first range.last text))))
+    (ok_or (option_map (λ f. f.text) file) 100)
 
 -- 3 where a line is 0, 100 where there is no such file
 abbrev pub source_part : Bundle → ℕ → SourceRange → Result Part ℕ
@@ -96,14 +103,15 @@ source_part bundle here range =
 
 -- ---- responses
 
--- What a command shows, or the code of its refusal, where its text has no limit. Another command looks at nothing and is not
--- known here.
+-- What a command shows, or the code of its refusal, where its text has no limit. Another command
+-- looks at nothing and is not known here.
 abbrev pub part_of : Bundle → ℕ → Features → State → Request → Result Part ℕ
 part_of bundle here features s request.StackDepth = Ok (depth_part s)
 part_of bundle here features s (request.StackGet level) = stack_part bundle s level
 part_of bundle here features s request.ContextNames = Ok ([], body.Contexts contexts)
 part_of bundle here features s (request.ContextGet level id) = context_part features s level id
-part_of bundle here features s (request.PropertyGet place page most) = property_part features s place page most
+part_of bundle here features s (request.PropertyGet place page most) =
+    property_part features s place page most
 part_of bundle here features s (request.PropertyValue place most) = value_part s place most
 part_of bundle here features s (request.Source range) = source_part bundle here range
 part_of bundle here features s other = Err 4
@@ -116,7 +124,8 @@ is_limited (request.PropertyValue place most) = true
 is_limited other = false
 
 abbrev pub response_with : Text → Text → Part → Response
-response_with command id part = record { command = command; id = id; attributes = part.0; body = part.1 }
+response_with command id part =
+    record { command = command; id = id; attributes = part.0; body = part.1 }
 
 abbrev pub is_short : Response → Bool
 is_short r = nat_le (length (text (packet.Response r))) packet_limit
@@ -125,12 +134,17 @@ is_short r = nat_le (length (text (packet.Response r))) packet_limit
 abbrev pub within_limit : Bool → Response → Result Response ℕ
 within_limit limited r = if limited then (if is_short r then Ok r else Err 300) else Ok r
 
--- The response to a command of this name and transaction id, or the code of its refusal. `here` is the number of the file of
--- the moment, 0 before the first.
-unfoldable pub view_response : Bundle → ℕ → Features → State → Text → Text → Request → Result Response ℕ
+-- the same of what a command shows
+abbrev pub answered : Bool → Text → Text → Result Part ℕ → Result Response ℕ
+answered limited command id shown =
+    and_then (λ part. within_limit limited (response_with command id part)) shown
+
+-- The response to a command of this name and transaction id, or the code of its refusal. `here` is
+-- the number of the file of the moment, 0 before the first.
+unfoldable pub view_response : Bundle → ℕ → Features → State → Text → Text → Request
+    → Result Response ℕ
 view_response bundle here features s command id asked =
-    and_then (λ part. within_limit (is_limited asked) (response_with command id part))
-    (part_of bundle here features s asked)
+    answered (is_limited asked) command id (part_of bundle here features s asked)
 
 -- the code of a refusal
 abbrev pub code_in : {A : Type 0} → Result A ℕ → Option ℕ
@@ -138,4 +152,5 @@ code_in (Ok a) = None
 code_in (Err code) = Some code
 
 unfoldable pub view_refusal : Bundle → ℕ → Features → State → Text → Text → Request → Option ℕ
-view_refusal bundle here features s command id asked = code_in (view_response bundle here features s command id asked)
+view_refusal bundle here features s command id asked =
+    code_in (view_response bundle here features s command id asked)

@@ -1,6 +1,7 @@
 //! What a debugger shows of a state within so many bytes of a packet's text: it is measured before it is made.
 #![tactic(auto)]
 
+mod compat;
 mod limits;
 mod measuring;
 mod sizes;

@@ -152,7 +152,10 @@ pub(crate) fn after_own_name(path: &Path, left: u32) -> Option<u32>
 pub(crate) fn after_full_name(path: &Path, left: u32) -> Option<u32>
     ensures { spec.Leaves left (spec.text_size (names.full_name path.now)) result }
 {
-    after_indices(path.keys.as_slice(), after_variable_name(path.name.as_slice(), left)?)
+    after_indices(
+        path.keys.as_slice(),
+        after_variable_name(path.name.as_slice(), left)?,
+    )
 }
 
 /// What the value of a text adds to its property, of which so many bytes are shown.

@@ -1,0 +1,131 @@
+//! Responses, and what fits into them.
+
+ghost use Rattle.std.specs.Prelude.{◌≡◌, ◌+◌, ◌≤◌, ◌∷◌, [], false, true, codes, decimal, IfNone, IfOk, IfSome};
+ghost use Rattle.dp_packet.specs.declared.packet.Body.{Body as AnyBody};
+ghost use Rattle.dp_packet.specs.Packets.{has_words};
+ghost use Rattle.dp_view_commands.specs.Views as spec;
+ghost use Rattle.dp_view_commands.specs.inner.Rooms.{around};
+ghost use Rattle.dp_wire.specs.Frames.{packet_limit};
+
+use dp_command::Addressee;
+use dp_packet::{Body, Packet, Response, attribute_size, text_size};
+use dp_value::{Bytes, Items, Memory};
+use itoa::Buffer;
+use std::alloc::Global;
+
+/// The most bytes of a packet's text.
+const LIMIT: u32 = 16_777_216;
+
+// Puts an attribute behind others.
+fn put(
+    alloc: Global,
+    attributes: &mut Vec<(Bytes, Bytes)>,
+    name: &[u8],
+    value: &[u8],
+) -> Result<(), Memory>
+    ensures { OnOk result (attributes.new.items ≡
+        attributes.old.items ++ (name.now, value.now) ∷ []) }
+{
+    let pair = (
+        Bytes::from_slice(alloc, name)?,
+        Bytes::from_slice(alloc, value)?,
+    );
+    attributes.push(pair)?;
+    Ok(())
+}
+
+/// No attributes.
+pub(crate) fn none(alloc: Global) -> Items<(Bytes, Bytes)>
+    ensures { result ≡ [] }
+{
+    Items::of(Vec::new(alloc))
+}
+
+/// A number as an attribute.
+pub(crate) fn number(
+    alloc: Global,
+    name: &[u8],
+    number: u64,
+) -> Result<Items<(Bytes, Bytes)>, Memory>
+    ensures { IfOk result (λ made. made ≡ (name.now, decimal number) ∷ []) }
+{
+    let mut attributes = Vec::new(alloc);
+    let mut buffer = Buffer::new();
+    put(
+        alloc,
+        &mut attributes,
+        name,
+        buffer.format(number).as_bytes(),
+    )?;
+    Ok(Items::of(attributes))
+}
+
+/// The attributes of a text that is sent in base64.
+pub(crate) fn encoded(alloc: Global) -> Result<Items<(Bytes, Bytes)>, Memory>
+    ensures { IfOk result (λ made. made ≡ spec.source_attributes) }
+{
+    let mut attributes = Vec::new(alloc);
+    put(alloc, &mut attributes, b"success", b"1")?;
+    put(alloc, &mut attributes, b"encoding", b"base64")?;
+    Ok(Items::of(attributes))
+}
+
+/// The response to a command.
+pub(crate) fn respond(
+    alloc: Global,
+    to: &Addressee,
+    attributes: Items<(Bytes, Bytes)>,
+    body: Body,
+) -> Result<Response, Memory>
+    ensures { IfOk result (λ r. r ≡ spec.response_with to.now.command to.now.id (attributes, body)) }
+{
+    let command = to.command.try_clone()?;
+    let id = to.id.try_clone()?;
+    Ok(Response {
+        command,
+        id,
+        attributes,
+        body,
+    })
+}
+
+/// A response whose text fits into a packet.
+pub(crate) fn fitting(response: Response) -> Option<Response>
+    ensures same { IfSome result (λ r. r ≡ response) }
+    ensures short { IfSome result (λ r. spec.is_short response ≡ true) }
+    ensures long { IfNone result (spec.is_short response ≡ false) }
+{
+    let packet = Packet::Response(response);
+    if text_size(&packet) > u64::from(LIMIT) {
+        return None;
+    }
+    match packet {
+        Packet::Response(response) => Some(response),
+        _ => None,
+    }
+}
+
+// The size of a response without attributes of its own and without a body.
+fn bare_size(to: &Addressee) -> u64
+    ensures size { result ≡ around to.now.command to.now.id [] }
+    ensures small { result ≤ 2000 }
+{
+    98 + attribute_size(b"command", to.command.as_slice())
+        + attribute_size(b"transaction_id", to.id.as_slice())
+}
+
+/// How many bytes properties may have in a response without attributes of its own.
+pub(crate) fn property_room(to: &Addressee) -> u32
+    ensures { result + around to.now.command to.now.id [] ≡ packet_limit }
+{
+    LIMIT - bare_size(to) as u32
+}
+
+/// How many bytes properties may have in a response that names a context.
+pub(crate) fn context_room(to: &Addressee, id: u32) -> u32
+    ensures { result + around to.now.command to.now.id (spec.context_attributes id) ≡ packet_limit }
+{
+    let mut buffer = Buffer::new();
+    let own = attribute_size(b"context", buffer.format(id).as_bytes());
+    LIMIT - (bare_size(to) + own) as u32
+}
