@@ -2,7 +2,7 @@
 -- "stack_depth", "stack_get", "context_names", "context_get", "property_get", "property_value",
 -- "source". Which attributes stand in a response and in what order, the order of the codes, and the
 -- limit are this engine's own.
-use Rattle.std.specs.Prelude.{ℕ, ◌==◌, ◌||◌, nat_le, Bool, true, false, if◌then◌else◌, List, [], ◌∷◌, length, codes, decimal, Option, Some, None, ok_or, unwrap_or, option_and_then, option_map, slice_get, Result, Ok, Err}
+use Rattle.std.specs.Prelude.{ℕ, ◌==◌, ◌||◌, nat_le, Bool, true, false, if◌then◌else◌, [], ◌∷◌, length, codes, decimal, Option, Some, None, ok_or, unwrap_or, option_and_then, option_map, slice_get, Result, Ok, Err}
 use Rattle.std.specs.Option.{option_map_or}
 use Rattle.dp_breakpoint_commands.specs.Files.{requested_file}
 use Rattle.dp_command.specs.declared.command.PropertyPlace.{PropertyPlace}
@@ -89,17 +89,18 @@ is_zero line = option_map_or (λ n. n == 0) line false
 abbrev pub source_attributes : Attributes
 source_attributes = (codes "success", codes "1") ∷ (codes "encoding", codes "base64") ∷ []
 
--- the lines asked for, where there is the file: else 100
-abbrev pub lines_part : SourceRange → Option BundleFile → Result Part ℕ
+-- the lines asked for of a file's text, where there is the file: else 100
+abbrev pub lines_part : SourceRange → Option Text → Result Part ℕ
 lines_part range file =
-    and_then (λ text. Ok (source_attributes, body.Plain (base64 (source_lines range.first range.last text))))
-    (ok_or (option_map (λ f. f.text) file) 100)
+    and_then
+    (λ t. Ok (source_attributes, body.Plain (base64 (source_lines range.first range.last t))))
+    (ok_or file 100)
 
 -- 3 where a line is 0, 100 where there is no such file
 abbrev pub source_part : Bundle → ℕ → SourceRange → Result Part ℕ
 source_part bundle here range =
     if is_zero range.first || is_zero range.last then Err 3
-    else lines_part range (file_asked bundle here range.file)
+    else lines_part range (option_map (λ f. f.text) (file_asked bundle here range.file))
 
 -- ---- responses
 

@@ -1,15 +1,17 @@
 //! Responses, and what fits into them.
 
-ghost use Rattle.std.specs.Prelude.{◌≡◌, ◌+◌, ◌≤◌, ◌∷◌, [], false, true, codes, decimal, IfNone, IfOk, IfSome};
-ghost use Rattle.dp_packet.specs.declared.packet.Body.{Body as AnyBody};
-ghost use Rattle.dp_packet.specs.Packets.{has_words};
+ghost use Rattle.std.specs.Prelude.{◌≡◌, ◌+◌, ◌≤◌, ◌∷◌, ◌++◌, [], false, true, codes, decimal, length, None, IfOk, IfSome, OnOk};
+ghost use Rattle.dp_markup.specs.Writing.{attribute_text};
+ghost use Rattle.dp_view.specs.Answers.{AnswersSurely};
+ghost use Rattle.dp_view_commands.specs.Answers.{IsSent};
 ghost use Rattle.dp_view_commands.specs.Views as spec;
-ghost use Rattle.dp_view_commands.specs.inner.Rooms.{around};
+ghost use Rattle.dp_view_commands.specs.inner.Making.{around, Gives, IsPlain};
 ghost use Rattle.dp_wire.specs.Frames.{packet_limit};
 
 use dp_command::Addressee;
 use dp_packet::{Body, Packet, Response, attribute_size, text_size};
 use dp_value::{Bytes, Items, Memory};
+use dp_view::ViewError;
 use itoa::Buffer;
 use std::alloc::Global;
 
@@ -93,25 +95,70 @@ pub(crate) fn respond(
 pub(crate) fn fitting(response: Response) -> Option<Response>
     ensures same { IfSome result (λ r. r ≡ response) }
     ensures short { IfSome result (λ r. spec.is_short response ≡ true) }
-    ensures long { IfNone result (spec.is_short response ≡ false) }
+    ensures long { result ≡ None → spec.is_short response ≡ false }
 {
     let packet = Packet::Response(response);
-    if text_size(&packet) > u64::from(LIMIT) {
-        return None;
-    }
+    let is_short = text_size(&packet) <= u64::from(LIMIT);
     match packet {
-        Packet::Response(response) => Some(response),
-        _ => None,
+        Packet::Response(response) => { if is_short { Some(response) } else { None } }
+        Packet::Init(_init) => None,
+        Packet::Stream(_bytes) => None,
+        Packet::Notify(_notify) => None,
+        Packet::Proxy(_reply) => None,
     }
 }
 
+/// A response that has no limit. There is no memory for one that does not fit into a packet.
+pub(crate) fn whole(response: Response) -> Result<Response, ViewError>
+    requires { IsPlain response.body }
+    ensures same { Gives response result }
+    ensures is_sent { IfOk result IsSent }
+{
+    match fitting(response) {
+        Some(response) => Ok(response),
+        None => Err(ViewError::Memory),
+    }
+}
+
+/// The response, or 300 where it does not fit into a packet.
+pub(crate) fn limited(response: Response) -> Result<Response, ViewError>
+    requires { IsPlain response.body }
+    ensures answer { AnswersSurely (λ r. r) result (spec.within_limit true response) }
+    ensures is_sent { IfOk result IsSent }
+{
+    match fitting(response) {
+        Some(response) => Ok(response),
+        None => Err(ViewError::Code(300)),
+    }
+}
+
+// The size of an attribute whose value is short.
+fn short_size(name: &[u8], value: &[u8]) -> u64
+    requires name { length name.now ≤ 20 }
+    requires value { length value.now ≤ 64 }
+    ensures size { result ≡ length (attribute_text (name.now, value.now)) }
+    ensures small { result ≤ 500 }
+{
+    attribute_size(name, value)
+}
+
 // The size of a response without attributes of its own and without a body.
+#[tactic(auto, using(crate::proofs::Sizes::bare_is))]
 fn bare_size(to: &Addressee) -> u64
     ensures size { result ≡ around to.now.command to.now.id [] }
     ensures small { result ≤ 2000 }
 {
-    98 + attribute_size(b"command", to.command.as_slice())
-        + attribute_size(b"transaction_id", to.id.as_slice())
+    98 + short_size(b"command", to.command.as_slice())
+        + short_size(b"transaction_id", to.id.as_slice())
+}
+
+// The size of the attribute that names a context.
+fn context_size(id: u32) -> u64
+    ensures size { result ≡ length (attribute_text (codes "context", decimal id)) }
+    ensures small { result ≤ 500 }
+{
+    let mut buffer = Buffer::new();
+    short_size(b"context", buffer.format(id).as_bytes())
 }
 
 /// How many bytes properties may have in a response without attributes of its own.
@@ -122,10 +169,9 @@ pub(crate) fn property_room(to: &Addressee) -> u32
 }
 
 /// How many bytes properties may have in a response that names a context.
+#[tactic(auto, using(crate::proofs::Sizes::one_more))]
 pub(crate) fn context_room(to: &Addressee, id: u32) -> u32
     ensures { result + around to.now.command to.now.id (spec.context_attributes id) ≡ packet_limit }
 {
-    let mut buffer = Buffer::new();
-    let own = attribute_size(b"context", buffer.format(id).as_bytes());
-    LIMIT - (bare_size(to) + own) as u32
+    LIMIT - (bare_size(to) + context_size(id)) as u32
 }

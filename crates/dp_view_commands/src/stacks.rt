@@ -1,31 +1,19 @@
 //! The stack, and the contexts by their names.
 
-ghost use Rattle.std.specs.Prelude.{◌≡◌, Err, Ok, IfOk, IfSome};
+ghost use Rattle.std.specs.Prelude.{◌≡◌, [], false, Err, Ok, IfOk, IfSome};
 ghost use Rattle.dp_packet.specs.declared.packet.Body.TheVariants as body;
 ghost use Rattle.dp_view.specs.Places.{contexts as all_contexts};
 ghost use Rattle.dp_view.specs.Stacks.{stack_at};
 ghost use Rattle.dp_view_commands.specs.Answers.{Answers, IsSent};
 ghost use Rattle.dp_view_commands.specs.Views as spec;
 
-use crate::packets::{fitting, none, number, respond};
+use crate::packets::{none, number, respond, whole};
 use dp_command::Addressee;
 use dp_packet::{Body, Response};
 use dp_state::State;
 use dp_tree::Bundle;
 use dp_view::{ViewError, contexts, stack};
 use std::alloc::Global;
-
-// A response that passes no limit. There is no memory for one that does not fit into a packet.
-fn whole(response: Response) -> Result<Response, ViewError>
-    requires { IsPlain response.body }
-    ensures same { Gives result response }
-    ensures is_sent { IfOk result IsSent }
-{
-    match fitting(response) {
-        Some(response) => Ok(response),
-        None => Err(ViewError::Memory),
-    }
-}
 
 /// The number of frames.
 pub(crate) fn depth_response(

@@ -1,17 +1,24 @@
 //! Variables and properties.
 
-ghost use Rattle.std.specs.Prelude.{◌≡◌, Err, Option, IfOk, IfSome};
+ghost use Rattle.std.specs.Prelude.{◌≡◌, ◌≤◌, ◌∷◌, [], true, length, Err, IfOk, IfSome};
+ghost use Rattle.dp_packet.specs.declared.packet.Body.TheVariants as body;
+ghost use Rattle.dp_packet.specs.declared.packet.Packet.TheVariants as packet;
+ghost use Rattle.dp_packet.specs.Text.{text};
+ghost use Rattle.dp_view.specs.Answers as viewed;
+ghost use Rattle.dp_view.specs.Answers.{AnswersAfter};
 ghost use Rattle.dp_view.specs.Named.{named_path};
 ghost use Rattle.dp_view_commands.specs.Answers.{Answers, IsSent};
 ghost use Rattle.dp_view_commands.specs.Views as spec;
+ghost use Rattle.dp_view_commands.specs.inner.Making.{Gives};
+ghost use Rattle.dp_wire.specs.Frames.{packet_limit};
 
-use crate::packets::{context_room, fitting, none, number, property_room, respond};
+use crate::packets::{context_room, limited, none, number, property_room, respond};
 use dp_command::{Addressee, PropertyPlace};
 use dp_features::Features;
 use dp_packet::{Body, Property, Response};
 use dp_state::State;
 use dp_tree::Bundle;
-use dp_value::{Items, Memory};
+use dp_value::{Bytes, Items, Memory};
 use dp_view::{Paging, ShownValue, ViewError, named_value};
 use dp_view_limits::{limited_context, limited_property};
 use std::alloc::Global;
@@ -28,6 +35,39 @@ fn paging(features: &Features, most: Option<u32>, page: u32) -> Paging
     }
 }
 
+// The response that shows properties, which it has room for.
+fn filled(
+    alloc: Global,
+    to: &Addressee,
+    attributes: Items<(Bytes, Bytes)>,
+    shown: Items<Property>,
+) -> Result<Response, ViewError>
+    requires { length (text (packet.Response
+        (spec.response_with to.now.command to.now.id (attributes, body.Properties shown)))) ≤ packet_limit }
+    ensures made { Gives
+        (spec.response_with to.now.command to.now.id (attributes, body.Properties shown)) result }
+    ensures is_sent { IfOk result IsSent }
+{
+    Ok(respond(alloc, to, attributes, Body::Properties(shown))?)
+}
+
+// The same with the number of a context.
+fn context_filled(
+    alloc: Global,
+    to: &Addressee,
+    id: u32,
+    shown: Items<Property>,
+) -> Result<Response, ViewError>
+    requires { length (text (packet.Response
+        (spec.response_with to.now.command to.now.id (spec.context_attributes id, body.Properties shown)))) ≤ packet_limit }
+    ensures made { Gives
+        (spec.response_with to.now.command to.now.id (spec.context_attributes id, body.Properties shown)) result }
+    ensures is_sent { IfOk result IsSent }
+{
+    let attributes = number(alloc, b"context", u64::from(id))?;
+    filled(alloc, to, attributes, shown)
+}
+
 /// The variables of a context.
 pub(crate) fn context_response(
     alloc: Global,
@@ -38,17 +78,16 @@ pub(crate) fn context_response(
     id: u32,
     to: &Addressee,
 ) -> Result<Response, ViewError>
-    ensures answer { Answers result (spec.answered true to.now.command to.now.id (spec.context_part features.now state.now level id)) }
-    ensures at_once { IfSome
-        (spec.code_in (spec.answered true to.now.command to.now.id (spec.context_part features.now state.now level id)))
-        (λ code. result ≡ Err (ViewError.Code code)) }
+    ensures answer { viewed.Answers (λ r. r) result
+        (spec.answered true to.now.command to.now.id (spec.context_part features.now state.now level id)) }
     ensures is_sent { IfOk result IsSent }
 {
     let p = paging(features, None, 0);
     let room = context_room(to, id);
-    let shown = limited_context(alloc, bundle, state, level, id, &p, room)?;
-    let attributes = number(alloc, b"context", u64::from(id))?;
-    Ok(respond(alloc, to, attributes, Body::Properties(shown))?)
+    match limited_context(alloc, bundle, state, level, id, &p, room) {
+        Ok(shown) => context_filled(alloc, to, id, shown),
+        Err(why) => Err(why),
+    }
 }
 
 // One property.
@@ -58,6 +97,17 @@ fn alone(alloc: Global, made: Property) -> Result<Items<Property>, Memory>
     let mut all = Vec::new(alloc);
     all.push(made)?;
     Ok(Items::of(all))
+}
+
+// The response that shows one property.
+fn property_filled(alloc: Global, to: &Addressee, made: Property) -> Result<Response, ViewError>
+    requires { length (text (packet.Response
+        (spec.response_with to.now.command to.now.id ([], body.Properties (made ∷ []))))) ≤ packet_limit }
+    ensures made { Gives (spec.response_with to.now.command to.now.id ([], body.Properties (made ∷ []))) result }
+    ensures is_sent { IfOk result IsSent }
+{
+    let shown = alone(alloc, made)?;
+    filled(alloc, to, none(alloc), shown)
 }
 
 /// The property at a place.
@@ -70,30 +120,17 @@ pub(crate) fn property_response(
     most: Option<u32>,
     to: &Addressee,
 ) -> Result<Response, ViewError>
-    ensures answer { Answers result (spec.answered true to.now.command to.now.id
-        (spec.property_part features.now state.now place.now page most)) }
-    ensures at_once { IfSome (spec.code_in (named_path state.now place.now.level place.now.context place.now.name))
-        (λ code. result ≡ Err (ViewError.Code code)) }
+    ensures answer { AnswersAfter (λ r. r) result
+        (named_path state.now place.now.level place.now.context place.now.name)
+        (spec.answered true to.now.command to.now.id (spec.property_part features.now state.now place.now page most)) }
     ensures is_sent { IfOk result IsSent }
 {
     let p = paging(features, most, page);
     let room = property_room(to);
     let name = place.name.as_slice();
-    let made = limited_property(alloc, state, place.level, place.context, name, &p, room)?;
-    let shown = alone(alloc, made)?;
-    Ok(respond(alloc, to, none(alloc), Body::Properties(shown))?)
-}
-
-// The response, or 300 where it does not fit into a packet.
-fn limited(response: Response) -> Result<Response, ViewError>
-    requires { IsPlain response.body }
-    ensures answer { Answers result (spec.within_limit true response) }
-    ensures code { result ≢ Err ViewError.Memory }
-    ensures is_sent { IfOk result IsSent }
-{
-    match fitting(response) {
-        Some(response) => Ok(response),
-        None => Err(ViewError::Code(300)),
+    match limited_property(alloc, state, place.level, place.context, name, &p, room) {
+        Ok(made) => property_filled(alloc, to, made),
+        Err(why) => Err(why),
     }
 }
 

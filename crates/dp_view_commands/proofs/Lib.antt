@@ -1,0 +1,3 @@
+pub mod Sizes
+pub mod Limited
+pub mod Codes

@@ -1,0 +1,147 @@
+-- What is shown within what a response has room for is what the response shows within its limit.
+use Rattle.std.proofs.Common.{◌≡◌, ◌≢◌, ℕ, ◌+◌, ◌≤◌, ◌<◌, Bool, true, false, cond, length, Option, Some, None, nat_le, refl, sym, ap, subst, ◌∙◌, arith}
+use Rattle.std.specs.Prelude.{Result, Ok, Err, IfSome, IsOk}
+use Rattle.std.proofs.lemmas.Bool.{leb-false, leb-true}
+use Rattle.std.proofs.lemmas.Bool.Decides.{nat_tests}
+use Rattle.dp_packet.specs.declared.packet.Body.{Body}
+use Rattle.dp_packet.specs.declared.packet.Body.TheVariants as body
+use Rattle.dp_packet.specs.declared.packet.Packet.TheVariants as packet
+use Rattle.dp_packet.specs.declared.packet.Response.{Response}
+use Rattle.dp_packet.specs.Packets.{HasMessage, has_words}
+use Rattle.dp_packet.specs.Parts.{Text}
+use Rattle.dp_packet.specs.Text.{text}
+use Rattle.dp_view.specs.declared.error.ViewError.{ViewError}
+use Rattle.dp_view.specs.declared.error.ViewError.TheVariants.{Code, Memory}
+use Rattle.dp_view.specs.Answers as viewed
+use Rattle.dp_view.specs.Answers.{and_then}
+use Rattle.dp_view_limits.specs.Limits.{within}
+use Rattle.dp_wire.specs.Frames.{packet_limit}
+use Rattle.dp_view_commands.specs.Answers.{Answers, IsSent}
+use Rattle.dp_view_commands.specs.Views.{Part, answered, code_in, is_short, response_with, within_limit}
+use Rattle.dp_view_commands.specs.inner.Making.{Gives, IsPlain}
+
+-- ---- what is sent
+
+words : (b : Body) → IsPlain b → has_words b ≡ true
+words body.Nothing p = refl
+words (body.Plain t) p = refl
+words (body.Fault code) p = absurd p
+words (body.Stacks lines) p = refl
+words (body.Contexts all) p = refl
+words (body.Properties shown) p = refl
+words (body.Breakpoints lines) p = refl
+
+no_fault : (b : Body) → IsPlain b → (code : ℕ) → b ≢ body.Fault code
+no_fault b p code e = subst IsPlain e p
+
+pub sent : (r : Response) → IsPlain r.body → length (text (packet.Response r)) ≤ packet_limit → IsSent r
+sent r plain short = record { known = words r.body plain; short = short; no_error = no_fault r.body plain }
+
+pub short_is : (r : Response) → is_short r ≡ true → length (text (packet.Response r)) ≤ packet_limit
+short_is r e = leb-true _ _ e
+
+-- ---- limits
+
+abbrev ok_of : {A : Type 0} → A → Result A ℕ
+ok_of a = Ok a
+
+fits_in : (r : Response) (rest size base : ℕ) → rest + base ≡ packet_limit → length (text (packet.Response r)) ≡ base + size → size ≤ rest → within_limit true r ≡ Ok r
+fits_in r rest size base room whole le =
+    let low : length (text (packet.Response r)) ≤ packet_limit = omega arith in
+    let yes : is_short r ≡ true = grind (arith, nat_tests) in
+    ap (λ (b : Bool). cond b (ok_of r) (Err 300)) yes
+
+passes : (r : Response) (rest size base : ℕ) → rest + base ≡ packet_limit → length (text (packet.Response r)) ≡ base + size → rest < size → within_limit true r ≡ Err 300
+passes r rest size base room whole lt =
+    let high : packet_limit < length (text (packet.Response r)) = omega arith in
+    let no : is_short r ≡ false = grind (arith, nat_tests) in
+    ap (λ (b : Bool). cond b (ok_of r) (Err 300)) no
+
+module _ {A : Type 0} (size : A → ℕ) (part : A → Part) (command id : Text) (rest base : ℕ) (room : rest + base ≡ packet_limit)
+    (whole : (a : A) → length (text (packet.Response (response_with command id (part a)))) ≡ base + size a) where
+  abbrev shown : Result A ℕ → Result Response ℕ
+  shown x = answered true command id (and_then (λ a. Ok (part a)) x)
+
+  pub record IsMade (x : Result A ℕ) (a : A) : Type 0 where
+    pub same : shown x ≡ Ok (response_with command id (part a))
+    pub short : length (text (packet.Response (response_with command id (part a)))) ≤ packet_limit
+
+  pub is_made : (x : Result A ℕ) (a : A) → and_then (within rest size) x ≡ Ok a → IsMade x a
+  is_made (Err code) a e = absurd cc
+  is_made (Ok b) a e = by (nat_le (size b) rest) refl e where
+    by : (t : Bool) → nat_le (size b) rest ≡ t → cond t (ok_of b) (Err 300) ≡ Ok a → IsMade (Ok b) a
+    by false t h = absurd cc
+    by true t h =
+        let same : b ≡ a = cc in
+        let le : size b ≤ rest = leb-true (size b) rest t in
+        subst (IsMade (Ok b)) same (record {
+          same = fits_in (response_with command id (part b)) rest (size b) base room (whole b) le;
+          short = omega (arith, whole b, room, le);
+        })
+
+  pub is_refused : (x : Result A ℕ) (code : ℕ) → and_then (within rest size) x ≡ Err code → shown x ≡ Err code
+  is_refused (Err other) code e = let same : other ≡ code = cc in ap (λ c. Err c) same
+  is_refused (Ok b) code e = by (nat_le (size b) rest) refl e where
+    by : (t : Bool) → nat_le (size b) rest ≡ t → cond t (ok_of b) (Err 300) ≡ Err code → shown (Ok b) ≡ Err code
+    by true t h = absurd cc
+    by false t h =
+        let same : 300 ≡ code = cc in
+        passes (response_with command id (part b)) rest (size b) base room (whole b) (leb-false (size b) rest t) ∙ ap (λ c. Err c) same
+
+  -- what a call answers, by what it answered within its room
+  pub refused_answers : (x : Result A ℕ) (why : ViewError) → viewed.Refuses why (and_then (within rest size) x) → viewed.Refuses why (shown x)
+  refused_answers x (Code code) e = is_refused x code e
+  refused_answers x Memory e = by (and_then (within rest size) x) refl e where
+    by : (l : Result A ℕ) → and_then (within rest size) x ≡ l → IsOk l → IsOk (shown x)
+    by (Ok a) is ok = subst (λ (r : Result Response ℕ). IsOk r) (sym (is_made x a is).same) refl
+    by (Err code) is ok = absurd cc
+
+  pub made_answers : (x : Result A ℕ) (a : A) (result : Result Response ViewError) → and_then (within rest size) x ≡ Ok a → Gives (response_with command id (part a)) result
+      → viewed.Answers (λ r. r) result (shown x)
+  made_answers x a (Ok r) is gives = (is_made x a is).same ∙ ap (λ (r : Response). ok_of r) (sym gives)
+  made_answers x a (Err (Code code)) is gives = absurd gives
+  made_answers x a (Err Memory) is gives = subst (λ (r : Result Response ℕ). IsOk r) (sym (is_made x a is).same) refl
+
+  -- the same where something is looked for first
+  module _ {Z : Type 0} (first : Result Z ℕ) where
+    pub refused_after : (x : Result A ℕ) (why : ViewError) → viewed.AnswersAfter {X = A} (λ a. a) (Err why) first (and_then (within rest size) x) → viewed.AnswersAfter {X = Response} (λ r. r) (Err why) first (shown x)
+    refused_after x (Code code) e = is_refused x code e
+    refused_after x Memory e = e
+
+    pub made_after : (x : Result A ℕ) (a : A) (result : Result Response ViewError) → and_then (within rest size) x ≡ Ok a → IsOk first → Gives (response_with command id (part a)) result
+        → viewed.AnswersAfter (λ r. r) result first (shown x)
+    made_after x a (Ok r) is there gives = (is_made x a is).same ∙ ap (λ (r : Response). ok_of r) (sym gives)
+    made_after x a (Err (Code code)) is there gives = absurd gives
+    made_after x a (Err Memory) is there gives = there
+
+-- what comes first was there
+pub was_there : {A B C : Type 0} (f : A → Result B ℕ) (g : B → Result C ℕ) (first : Result A ℕ) (c : C) → and_then g (and_then f first) ≡ Ok c → IsOk first
+was_there f g (Ok a) c e = refl
+was_there f g (Err code) c e = absurd cc
+
+-- ---- at once
+
+pub told_at_once : (result : Result Response ViewError) (asked : Result Response ℕ) → viewed.Answers (λ r. r) result asked → IfSome (code_in asked) (λ code. result ≡ Err (Code code))
+told_at_once (Ok r) (Ok s) e = tt
+told_at_once (Ok r) (Err code) e = absurd cc
+told_at_once (Err why) (Ok s) e = tt
+told_at_once (Err (Code other)) (Err code) e = let same : other ≡ code = cc in ap (λ c. Err (Code c)) same
+told_at_once (Err Memory) (Err code) e = absurd cc
+
+pub answer_of : (result : Result Response ViewError) (asked : Result Response ℕ) → viewed.Answers (λ r. r) result asked → Answers result asked
+answer_of (Ok r) asked e = e
+answer_of (Err (Code code)) asked e = e
+answer_of (Err Memory) asked e = tt
+
+-- where what comes first is refused, so is all
+pub told_after : {Z : Type 0} (result : Result Response ViewError) (first : Result Z ℕ) (rest : Z → Result Response ℕ) → viewed.AnswersAfter (λ r. r) result first (and_then rest first)
+    → IfSome (code_in first) (λ code. result ≡ Err (Code code))
+told_after result (Ok z) rest e = tt
+told_after (Ok r) (Err code) rest e = absurd cc
+told_after (Err (Code other)) (Err code) rest e = let same : code ≡ other = cc in ap (λ c. Err (Code c)) (sym same)
+told_after (Err Memory) (Err code) rest e = absurd cc
+
+pub answer_after : {Z : Type 0} (result : Result Response ViewError) (first : Result Z ℕ) (asked : Result Response ℕ) → viewed.AnswersAfter (λ r. r) result first asked → Answers result asked
+answer_after (Ok r) first asked e = e
+answer_after (Err (Code code)) first asked e = e
+answer_after (Err Memory) first asked e = tt

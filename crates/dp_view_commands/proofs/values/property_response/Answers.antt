@@ -1,0 +1,63 @@
+use Rattle.std.proofs.Common.{◌≡◌, ℕ, [], ◌∷◌, sym, subst, ap, ◌∙◌}
+use Rattle.std.specs.Prelude.{Result, Ok, Err}
+use Rattle.dp_packet.specs.declared.packet.Body.TheVariants as body
+use Rattle.dp_packet.specs.declared.property.Property.{Property}
+use Rattle.dp_state.specs.declared.moments.Path.{Path}
+use Rattle.dp_view.specs.declared.paging.Paging.{Paging}
+use Rattle.dp_view.specs.Answers.{AnswersAfter}
+use Rattle.dp_view.specs.Named.{named_path, named_property}
+use Rattle.dp_view.specs.Properties.{property_at}
+use Rattle.dp_view_limits.specs.Limits.{limited_property, property_size, within}
+use Rattle.dp_view_commands.specs.Views.{Part, paging}
+use Rattle.dp_view_commands.specs.inner.Making.{around}
+use Rattle.dp_view_commands.proofs.Limited.{is_made, made_after, refused_after, was_there}
+use Rattle.dp_view_commands.proofs.Sizes.{one_filled}
+use Rattle.dp_view_commands.proofs.values.property_response.Goals as goal
+
+abbrev part : Property → Part
+part q = ([], body.Properties (q ∷ []))
+
+pub property_filled-requires : goal.property_filled-requires
+property_filled-requires c =
+    let state = c.args.state.now in
+    let place = c.args.place.now in
+    let command = c.args.to.now.command in
+    let number = c.args.to.now.id in
+    let room = c.property_room-room.result in
+    let p : Paging = paging c.args.features.now c.args.most c.args.page in
+    let made : limited_property state place.level place.context place.name p room ≡ Ok c.in-Ok.made =
+    subst (λ (q : Paging). limited_property state place.level place.context place.name q room ≡ Ok c.in-Ok.made) c.paging-p.ensures
+    (subst (λ name. limited_property state place.level place.context name c.paging-p.result room ≡ Ok c.in-Ok.made) c.as_slice-name.ensures c.in-Ok.ensures.answer) in
+    (is_made property_size part command number room (around command number []) c.property_room-room.ensures (one_filled command number)
+    (named_property state place.level place.context place.name p) c.in-Ok.made made).short
+
+pub returns-in-Ok-clause-answer : goal.returns-in-Ok-clause-answer
+returns-in-Ok-clause-answer c =
+    let state = c.args.state.now in
+    let place = c.args.place.now in
+    let command = c.args.to.now.command in
+    let number = c.args.to.now.id in
+    let room = c.property_room-room.result in
+    let p : Paging = paging c.args.features.now c.args.most c.args.page in
+    let made : limited_property state place.level place.context place.name p room ≡ Ok c.in-Ok.made =
+    subst (λ (q : Paging). limited_property state place.level place.context place.name q room ≡ Ok c.in-Ok.made) c.paging-p.ensures
+    (subst (λ name. limited_property state place.level place.context name c.paging-p.result room ≡ Ok c.in-Ok.made) c.as_slice-name.ensures c.in-Ok.ensures.answer) in
+    let first = named_path state place.level place.context place.name in
+    made_after property_size part command number room (around command number []) c.property_room-room.ensures (one_filled command number) first
+    (named_property state place.level place.context place.name p) c.in-Ok.made c.property_filled.result made
+    (was_there (λ path. property_at state place.level place.context path p) (within room property_size) first c.in-Ok.made made) c.property_filled.ensures.made
+
+pub returns-in-Err-clause-answer : goal.returns-in-Err-clause-answer
+returns-in-Err-clause-answer c =
+    let state = c.args.state.now in
+    let place = c.args.place.now in
+    let command = c.args.to.now.command in
+    let number = c.args.to.now.id in
+    let room = c.property_room-room.result in
+    let p : Paging = paging c.args.features.now c.args.most c.args.page in
+    let first = named_path state place.level place.context place.name in
+    let refused : AnswersAfter {X = Property} (λ a. a) (Err c.in-Err.why) first (limited_property state place.level place.context place.name p room) =
+    subst (λ (q : Paging). AnswersAfter {X = Property} (λ a. a) (Err c.in-Err.why) first (limited_property state place.level place.context place.name q room)) c.paging-p.ensures
+    (subst (λ name. AnswersAfter {X = Property} (λ a. a) (Err c.in-Err.why) (named_path state place.level place.context name) (limited_property state place.level place.context name c.paging-p.result room)) c.as_slice-name.ensures c.in-Err.ensures.answer) in
+    refused_after property_size part command number room (around command number []) c.property_room-room.ensures (one_filled command number) first
+    (named_property state place.level place.context place.name p) c.in-Err.why refused
