@@ -20,26 +20,6 @@ use Rattle.dp_view_commands.specs.Answers.{Answers, IsSent}
 use Rattle.dp_view_commands.specs.Views.{Part, answered, code_in, is_short, response_with, within_limit}
 use Rattle.dp_view_commands.specs.inner.Making.{Gives, IsPlain}
 
--- ---- what is sent
-
-words : (b : Body) → IsPlain b → has_words b ≡ true
-words body.Nothing p = refl
-words (body.Plain t) p = refl
-words (body.Fault code) p = absurd p
-words (body.Stacks lines) p = refl
-words (body.Contexts all) p = refl
-words (body.Properties shown) p = refl
-words (body.Breakpoints lines) p = refl
-
-no_fault : (b : Body) → IsPlain b → (code : ℕ) → b ≢ body.Fault code
-no_fault b p code e = subst IsPlain e p
-
-pub sent : (r : Response) → IsPlain r.body → length (text (packet.Response r)) ≤ packet_limit → IsSent r
-sent r plain short = record { known = words r.body plain; short = short; no_error = no_fault r.body plain }
-
-pub short_is : (r : Response) → is_short r ≡ true → length (text (packet.Response r)) ≤ packet_limit
-short_is r e = leb-true _ _ e
-
 -- ---- limits
 
 abbrev ok_of : {A : Type 0} → A → Result A ℕ
@@ -118,30 +98,3 @@ module _ {A : Type 0} (size : A → ℕ) (part : A → Part) (command id : Text)
 pub was_there : {A B C : Type 0} (f : A → Result B ℕ) (g : B → Result C ℕ) (first : Result A ℕ) (c : C) → and_then g (and_then f first) ≡ Ok c → IsOk first
 was_there f g (Ok a) c e = refl
 was_there f g (Err code) c e = absurd cc
-
--- ---- at once
-
-pub told_at_once : (result : Result Response ViewError) (asked : Result Response ℕ) → viewed.Answers (λ r. r) result asked → IfSome (code_in asked) (λ code. result ≡ Err (Code code))
-told_at_once (Ok r) (Ok s) e = tt
-told_at_once (Ok r) (Err code) e = absurd cc
-told_at_once (Err why) (Ok s) e = tt
-told_at_once (Err (Code other)) (Err code) e = let same : other ≡ code = cc in ap (λ c. Err (Code c)) same
-told_at_once (Err Memory) (Err code) e = absurd cc
-
-pub answer_of : (result : Result Response ViewError) (asked : Result Response ℕ) → viewed.Answers (λ r. r) result asked → Answers result asked
-answer_of (Ok r) asked e = e
-answer_of (Err (Code code)) asked e = e
-answer_of (Err Memory) asked e = tt
-
--- where what comes first is refused, so is all
-pub told_after : {Z : Type 0} (result : Result Response ViewError) (first : Result Z ℕ) (rest : Z → Result Response ℕ) → viewed.AnswersAfter (λ r. r) result first (and_then rest first)
-    → IfSome (code_in first) (λ code. result ≡ Err (Code code))
-told_after result (Ok z) rest e = tt
-told_after (Ok r) (Err code) rest e = absurd cc
-told_after (Err (Code other)) (Err code) rest e = let same : code ≡ other = cc in ap (λ c. Err (Code c)) (sym same)
-told_after (Err Memory) (Err code) rest e = absurd cc
-
-pub answer_after : {Z : Type 0} (result : Result Response ViewError) (first : Result Z ℕ) (asked : Result Response ℕ) → viewed.AnswersAfter (λ r. r) result first asked → Answers result asked
-answer_after (Ok r) first asked e = e
-answer_after (Err (Code code)) first asked e = e
-answer_after (Err Memory) first asked e = tt

@@ -32,8 +32,8 @@ use Rattle.dp_wire.specs.Frames.{packet_limit}
 abbrev pub Part : Type 0
 Part = Attributes × Body
 
--- how much is shown of values: as the features say, but for the bytes of a text where a command says
--- how many
+-- how much is shown of values: as the features say, but for the bytes of a text where a command
+-- says how many
 abbrev pub paging : Features → Option ℕ → ℕ → Paging
 paging features most page = record {
   children = features.max_children;

@@ -12,7 +12,7 @@ use Rattle.dp_value.specs.Data.{Data, Table}
 use Rattle.dp_value.specs.Value.{data_of}
 use Rattle.dp_view.specs.declared.paging.Paging.{Paging}
 use Rattle.dp_view.specs.Properties.{page_of}
-use Rattle.dp_view.proofs.Steps.{page_cut}
+use Rattle.dp_view.proofs.Steps.{page_cut, slice_get_front}
 use Rattle.dp_view_limits.specs.inner.Sizes.{Leaves, array_size, entries_size, entry_size, value_size}
 
 -- ---- whether it fits
@@ -60,12 +60,6 @@ sum_step f [] zero = refl
 sum_step f [] (suc n) = let none : sum_by f (drop (suc n + 1) []) ≡ 0 = ap (λ k. sum_by f (drop k [])) (more n) in omega (arith, none)
 sum_step f (x ∷ xs) zero = sum_by-cons f x xs
 sum_step f (x ∷ xs) (suc n) = sum_step f xs n ∙ ap (λ k. option_map_or f (slice_get xs n) 0 + sum_by f (drop k (x ∷ xs))) (sym (more n))
-
-slice_get_front : {A : Type 0} (xs : List A) (at end : ℕ) → at < end → slice_get (take end xs) at ≡ slice_get xs at
-slice_get_front xs at zero below = absurd (omega arith)
-slice_get_front [] at (suc end) below = refl
-slice_get_front (x ∷ xs) zero (suc end) below = refl
-slice_get_front (x ∷ xs) (suc at) (suc end) below = slice_get_front xs at end (omega arith)
 
 pub front_step : {A : Type 0} (f : A → ℕ) (xs : List A) (at end : ℕ) → at < end
     → sum_by f (drop at (take end xs)) ≡ option_map_or f (slice_get xs at) 0 + sum_by f (drop (at + 1) (take end xs))

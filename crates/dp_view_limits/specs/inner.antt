@@ -1,2 +1,3 @@
--- How sizes are counted: what the functions inside the crate say. No clause of a public call speaks of it.
+-- How sizes are counted: what the functions inside the crate say. No clause of a public call speaks
+-- of it.
 pub mod Sizes

@@ -1,7 +1,6 @@
 //! What a debugger shows of a state within so many bytes of a packet's text: it is measured before it is made.
 #![tactic(auto)]
 
-mod compat;
 mod limits;
 mod measuring;
 mod sizes;

@@ -1,22 +1,21 @@
 //! What is shown in so many bytes.
 
-ghost use Rattle.std.specs.Prelude.{◌≡◌, Some, IfOk};
+ghost use Rattle.std.specs.Prelude.{◌≡◌, true, Err, Some, IfOk};
 ghost use Rattle.dp_state.specs.declared.moments.Path.{Path as NamedPath};
 ghost use Rattle.dp_value.specs.Value.{data_of};
 ghost use Rattle.dp_view.specs.Answers.{Answers, AnswersAfter};
 ghost use Rattle.dp_view.specs.Named.{named_path as path_of_name};
 ghost use Rattle.dp_view.specs.Nesting.{AreOfVariables, HasPaths};
-//ISCOPIED
+ghost use Rattle.dp_view.specs.Properties.{is_copied};
 ghost use Rattle.dp_view.specs.Reading.{path_at};
 ghost use Rattle.dp_view_limits.specs.Limits as spec;
 
-use crate::compat::named_path;
 use crate::measuring::{property_fits, shown_fits, variables_fit};
 use dp_packet::Property;
 use dp_state::{Path, State};
 use dp_tree::Bundle;
 use dp_value::{Items, Value};
-use dp_view::{Paging, ViewError, context, property, shown, shown_variables, value_at};
+use dp_view::{Paging, ViewError, context, named_path, property, shown, shown_variables, value_at};
 use std::alloc::Global;
 
 // The property of what stands at a path, in at most so many bytes.
@@ -100,7 +99,8 @@ pub fn limited_shown(
     most: u32,
 ) -> Result<Property, ViewError>
     ensures answer { Answers (λ made. made) result (spec.limited_shown (data_of value.now) p.now most) }
-//MEMORY
+    // Memory is wanted only for a text and for an array.
+    ensures memory { result ≡ Err ViewError.Memory → is_copied (data_of value.now) ≡ true }
 {
     if shown_fits(p, value, most) {
         Ok(shown(alloc, value, p)?)

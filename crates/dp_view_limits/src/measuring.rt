@@ -10,14 +10,13 @@ ghost use Rattle.dp_view.specs.Properties as properties;
 ghost use Rattle.dp_view_limits.specs.Limits.{properties_size, property_size};
 ghost use Rattle.dp_view_limits.specs.inner.Sizes as spec;
 
-use crate::compat::{page_end, page_start, slot_value};
 use crate::sizes::{
     after_array, after_front, after_full_name, after_index, after_int, after_key, after_own_name,
     after_variable_name, less,
 };
 use dp_state::{Path, Vars};
 use dp_value::{Key, PhpArray, Value};
-use dp_view::Paging;
+use dp_view::{Paging, page_end, page_start, slot_value};
 
 // The length of the full name of an entry, where that of its array is known, and what is left behind its attribute.
 fn after_full(full: Option<u32>, key: &Key, left: u32) -> Option<(Option<u32>, u32)>

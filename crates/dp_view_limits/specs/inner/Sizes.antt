@@ -1,4 +1,5 @@
--- How much text properties take, as it is counted from values: by the lengths of names, and not by names.
+-- How much text properties take, as it is counted from values: by the lengths of names, and not by
+-- names.
 use Rattle.std.specs.Prelude.{◌≡◌, ℕ, zero, suc, ◌+◌, ◌<◌, List, length, sum_by, take, decimal, Option, Some, None, option_map}
 use Rattle.std.specs.Fmt.{signed_decimal}
 use Rattle.std.specs.Option.{option_map_or}
@@ -72,10 +73,12 @@ entries_size p (suc levels) full es = sum_by (entry_size p (entries_size p level
 -- that of a value whose names have these lengths
 abbrev pub named_size : Paging → Option ℕ → Option ℕ → Data → ℕ
 named_size p name full d =
-    21 + given_size 8 name + given_size 12 full + value_size p p.page (entries_size p p.depth full) d
+    21 + given_size 8 name + given_size 12 full
+    + value_size p p.page (entries_size p p.depth full) d
 
 -- that of a variable, if it has a value
 abbrev pub variable_size : Paging → Variables → List ℕ × Slot → ℕ
 variable_size p globals v =
     let name = text_size (variable_name v.0) in
-    option_map_or (λ value. named_size p (Some name) (Some name) (data_of value)) (variable_value globals v) 0
+    option_map_or (λ value. named_size p (Some name) (Some name) (data_of value))
+    (variable_value globals v) 0
