@@ -121,8 +121,22 @@ row_codes state line (Some name) = (is_code 3 refl (omega arith), own_codes stat
 pub refusal_is_code : (state : State) (line : Option Line) (code : ℕ) → refusal_of_line state line ≡ Some code → IsCode code
 refusal_is_code state None code e = let same : 1 ≡ code = cc in subst IsCode same (is_code 1 refl (omega arith))
 refusal_is_code state (Some line) code e =
-    first_is_code (tests state line) code
-    (is_code 2 refl (omega arith), (is_code 4 refl (omega arith), (is_code 3 refl (omega arith), (is_code 5 refl (omega arith), row_codes state line (name_of line.name))))) e
+    first_is_code (tests state line) code (
+      is_code 2 refl (omega arith),
+      (
+        is_code 4 refl (omega arith),
+        (
+          is_code 3 refl (omega arith),
+          (
+            is_code 4 refl (omega arith),
+            (
+              is_code 5 refl (omega arith),
+              row_codes state line (name_of line.name),
+            ),
+          ),
+        ),
+      ),
+    ) e
 
 -- ---- requests
 

@@ -12,7 +12,6 @@ use Rattle.dp_command.specs.declared.names.CommandName.TheVariants.{Status, Feat
 use Rattle.dp_command.specs.Commands.{request_of}
 use Rattle.dp_command.specs.Lines.{line_of}
 use Rattle.dp_command.specs.Names.{name_of}
-use Rattle.dp_command.specs.Options.{has_duplicate}
 use Rattle.dp_command.specs.Refusals.{id_of}
 use Rattle.dp_command.specs.Tests.{Test, first_code}
 use Rattle.dp_engine.specs.declared.states.Phase.{Phase}
@@ -79,15 +78,18 @@ not_false : (b : Bool) → not b ≡ false → b ≡ true
 not_false true h = refl
 not_false false h = absurd cc
 
--- the tests behind that of the name
-abbrev pub later_tests : State → Line → List Test
-later_tests state line = drop 2 (tests state line)
+-- the tests behind the first ones
+abbrev pub later_tests : ℕ → State → Line → List Test
+later_tests count state line = drop count (tests state line)
 
--- the second test of a line is on its name
+-- the fourth test of a line is on its name
 pub built : (state : State) (line : Line) → first_code (tests state line) ≡ None → of_command is_built (name_of line.name) ≡ true
 built state line e =
     let name = of_command is_built (name_of line.name) in
-    not_false name (passed (not name) 4 (later_tests state line) (passed (has_duplicate line.options) 2 ((not name, 4) ∷ later_tests state line) e).1).0
+    let admitted = passed _ _ (later_tests 1 state line) e in
+    let named = passed _ _ (later_tests 2 state line) admitted.1 in
+    let numbered = passed _ _ (later_tests 3 state line) named.1 in
+    not_false name (passed (not name) 4 (later_tests 4 state line) numbered.1).0
 
 accepted : (command id : Text) (state : State) (line : Line) (name : Option CommandName) → of_command is_built name ≡ true
     → fault_of (asked command id (option_map (λ n. record { id = id_of line; request = request_of n line }) name) state) ≡ None

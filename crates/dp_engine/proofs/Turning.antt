@@ -1,5 +1,5 @@
 -- Turns as the code makes them.
-use Rattle.std.proofs.Common.{◌≡◌, ℕ, Bool, true, false, not, [], ◌∷◌, length, Option, Some, None, Result, Ok, Err, refl, sym, ap, subst, ◌∙◌, ◌==◌}
+use Rattle.std.proofs.Common.{◌≡◌, ℕ, Bool, true, false, cond, not, List, [], ◌∷◌, drop, Option, Some, None, Result, Ok, Err, refl, sym, ap, subst, ◌∙◌}
 use Rattle.std.specs.Prelude.{codes, option_map, IfOk}
 use Rattle.std.specs.Option.{option_map_or}
 use Rattle.dp_wire.specs.Frames.{IsPacketText}
@@ -9,12 +9,13 @@ use Rattle.dp_command.specs.declared.command.Command.{Command}
 use Rattle.dp_command.specs.declared.errors.CommandError.{CommandError}
 use Rattle.dp_command.specs.declared.errors.CommandError.TheVariants.{Code, Memory}
 use Rattle.dp_command.specs.Commands.{command_as, command_of}
-use Rattle.dp_command.specs.Tests.{first_code}
+use Rattle.dp_command.specs.Tests.{Test, first_code}
 use Rattle.dp_command.specs.declared.line.Line.{Line}
 use Rattle.dp_command.specs.declared.names.CommandName.{CommandName}
 use Rattle.dp_command.specs.Names.{name_of}
-use Rattle.dp_command.specs.Options.{has_duplicate}
-use Rattle.dp_command.specs.Refusals.{id_of}
+use Rattle.dp_command.specs.Refusals.{admission_refusal, code_of, coded, holds_of, id_of}
+use Rattle.dp_command.specs.declared.errors.Refusal.{Refusal}
+use Rattle.dp_command.specs.declared.errors.Refusal.TheVariants.{Duplicate, Unimplemented, NoId}
 use Rattle.dp_features.specs.Features.{Features}
 use Rattle.dp_meaning.specs.Trace.{plain}
 use Rattle.dp_packet.specs.Parts.{Text}
@@ -35,27 +36,44 @@ use Rattle.dp_engine.specs.inner.Turns.{Asks, AsksRow, IsTurn}
 
 -- ---- what a line asks for
 
--- the tests before that of the row do not hold
-left_tests : (state : State) (line : Line) (name : CommandName) → has_duplicate line.options ≡ false → name_of line.name ≡ Some name → is_built name ≡ true
-    → (length (id_of line) == 0) ≡ false → allows state.phase name ≡ true → first_code (tests state line) ≡ first_code (row_tests state line name)
-left_tests state line name d n b i a =
-    ap (λ (o : Option CommandName). first_code ((has_duplicate line.options, 2) ∷ (not (of_command is_built o), 4) ∷ (length (id_of line) == 0, 3)
-    ∷ (not (of_command (allows state.phase) o), 5) ∷ option_map_or (row_tests state line) o [])) n
-    ∙ four (has_duplicate line.options) (is_built name) (length (id_of line) == 0) (allows state.phase name) d b i a where
-      four : (p q r s : Bool) → p ≡ false → q ≡ true → r ≡ false → s ≡ true
-          → first_code ((p, 2) ∷ (not q, 4) ∷ (r, 3) ∷ (not s, 5) ∷ row_tests state line name) ≡ first_code (row_tests state line name)
-      four false true false true e f g h = refl
-      four true q r s e f g h = absurd cc
-      four false false r s e f g h = absurd cc
-      four false true true s e f g h = absurd cc
-      four false true false false e f g h = absurd cc
+-- the first of the tests of admission that holds
+abbrev first_refusal : Bool → Bool → Bool → Option Refusal
+first_refusal d u n = cond d (Some Duplicate) (cond u (Some Unimplemented) (cond n (Some NoId) None))
 
-pub asks_row : (state : State) (line : Line) (name : CommandName) (result : Result Command CommandError) → has_duplicate line.options ≡ false → name_of line.name ≡ Some name
-    → is_built name ≡ true → (length (id_of line) == 0) ≡ false → allows state.phase name ≡ true → AsksRow state line name result → Asks state line result
-asks_row state line name (Ok command) d n b i a h =
-    (left_tests state line name d n b i a ∙ h.0, ap (option_map (command_as line)) n ∙ ap (λ (c : Command). Some c) (sym h.1))
-asks_row state line name (Err (Code code)) d n b i a h = left_tests state line name d n b i a ∙ h
-asks_row state line name (Err Memory) d n b i a h = tt
+left_tests : (d u n b a : Bool) (row : List Test) → first_refusal d u n ≡ None → b ≡ true → a ≡ true
+    → first_code ((d, 2) ∷ (u, 4) ∷ (n, 3) ∷ (not b, 4) ∷ (not a, 5) ∷ row) ≡ first_code row
+left_tests false false false true true row e f g = refl
+left_tests true u n b a row e f g = absurd cc
+left_tests false true n b a row e f g = absurd cc
+left_tests false false true b a row e f g = absurd cc
+left_tests false false false false a row e f g = absurd cc
+left_tests false false false true false row e f g = absurd cc
+
+-- a line that is admitted has the tests of its row left
+pub admitted : (state : State) (line : Line) (name : CommandName) → admission_refusal line ≡ None → name_of line.name ≡ Some name → is_built name ≡ true
+    → allows state.phase name ≡ true → first_code (tests state line) ≡ first_code (row_tests state line name)
+admitted state line name h n b a =
+    ap (λ (o : Option CommandName). first_code (coded line Duplicate ∷ coded line Unimplemented ∷ coded line NoId ∷ (not (of_command is_built o), 4)
+    ∷ (not (of_command (allows state.phase) o), 5) ∷ option_map_or (row_tests state line) o [])) n
+    ∙ left_tests (holds_of line Duplicate) (holds_of line Unimplemented) (holds_of line NoId) (is_built name) (allows state.phase name) (row_tests state line name) h b a
+
+first_admission : (d u n : Bool) (more : List Test) (refusal : Refusal) → first_refusal d u n ≡ Some refusal → first_code ((d, 2) ∷ (u, 4) ∷ (n, 3) ∷ more) ≡ Some (code_of refusal)
+first_admission true u n more refusal e = let same : Duplicate ≡ refusal = cc in ap (λ (r : Refusal). Some (code_of r)) same
+first_admission false true n more refusal e = let same : Unimplemented ≡ refusal = cc in ap (λ (r : Refusal). Some (code_of r)) same
+first_admission false false true more refusal e = let same : NoId ≡ refusal = cc in ap (λ (r : Refusal). Some (code_of r)) same
+first_admission false false false more refusal e = absurd cc
+
+-- one that is not admitted is refused so
+pub unadmitted : (state : State) (line : Line) (refusal : Refusal) → admission_refusal line ≡ Some refusal → first_code (tests state line) ≡ Some (code_of refusal)
+unadmitted state line refusal h =
+    first_admission (holds_of line Duplicate) (holds_of line Unimplemented) (holds_of line NoId) (drop 3 (tests state line)) refusal h
+
+pub asks_row : (state : State) (line : Line) (name : CommandName) (result : Result Command CommandError) → admission_refusal line ≡ None → name_of line.name ≡ Some name
+    → is_built name ≡ true → allows state.phase name ≡ true → AsksRow state line name result → Asks state line result
+asks_row state line name (Ok command) h n b a row =
+    (admitted state line name h n b a ∙ row.0, ap (option_map (command_as line)) n ∙ ap (λ (c : Command). Some c) (sym row.1))
+asks_row state line name (Err (Code code)) h n b a row = admitted state line name h n b a ∙ row
+asks_row state line name (Err Memory) h n b a row = tt
 
 -- ---- what a line leads to
 

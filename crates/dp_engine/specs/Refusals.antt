@@ -1,6 +1,6 @@
 -- Why a command is refused in a session: the codes of DBGp 1.0, "Errors". Which case gives which
 -- code, and their order, are this engine's own.
-use Rattle.std.specs.Prelude.{ℕ, Bool, false, not, ◌==◌, List, [], ◌∷◌, length, Option, Some, None, is_none}
+use Rattle.std.specs.Prelude.{ℕ, Bool, false, not, List, [], ◌∷◌, Option, Some, None, is_none}
 use Rattle.std.specs.Option.{option_map_or}
 use Rattle.dp_command.specs.declared.line.Line.{Line}
 use Rattle.dp_command.specs.declared.names.CommandName.{CommandName}
@@ -9,8 +9,8 @@ use Rattle.dp_command.specs.declared.command.Request.TheVariants as request
 use Rattle.dp_command.specs.Commands.{request_of}
 use Rattle.dp_command.specs.Lines.{line_of}
 use Rattle.dp_command.specs.Names.{name_of}
-use Rattle.dp_command.specs.Options.{has_duplicate}
-use Rattle.dp_command.specs.Refusals.{id_of, fits_row}
+use Rattle.dp_command.specs.Refusals.{coded, fits_row}
+use Rattle.dp_command.specs.declared.errors.Refusal.TheVariants.{Duplicate, Unimplemented, NoId}
 use Rattle.dp_command.specs.Tests.{Test, first_code}
 use Rattle.dp_features.specs.Features.{is_other_encoding, setting_named}
 use Rattle.dp_engine.specs.Session.{State}
@@ -31,13 +31,15 @@ abbrev pub row_tests : State → Line → CommandName → List Test
 row_tests state line name =
     (not (fits_row name line), 3) ∷ own_tests state (request_of name line)
 
--- the tests of a line in a session, in their order
+-- the tests of a line in a session, in their order: the first three are those in which neither the
+-- session nor the row of the command has a part
 abbrev pub tests : State → Line → List Test
 tests state line =
     let name = name_of line.name in
-    (has_duplicate line.options, 2)
+    coded line Duplicate
+    ∷ coded line Unimplemented
+    ∷ coded line NoId
     ∷ (not (of_command is_built name), 4)
-    ∷ (length (id_of line) == 0, 3)
     ∷ (not (of_command (allows state.phase) name), 5)
     ∷ option_map_or (row_tests state line) name []
 

@@ -1,6 +1,6 @@
 //! Where a program comes to when it goes on.
-ghost use Rattle.std.specs.Prelude.{◌≡◌, IfOk, None};
-ghost use Rattle.dp_meaning.specs.Trace.{plain};
+ghost use Rattle.std.specs.Prelude.{◌≡◌, [], IfOk};
+ghost use Rattle.dp_meaning.specs.Trace.{outcome, plain};
 ghost use Rattle.dp_engine.specs.inner.Standing.{Arrives, output_in, standing_in};
 ghost use Rattle.dp_engine.specs.Stops.{is_place, stop_above, stops};
 
@@ -89,14 +89,16 @@ impl Stops for Going {
     }
 }
 
-/// The end of the program.
-pub fn run_out(alloc: Global, bundle: &Bundle, bound: u64) -> Result<Arrival, Memory>
-    ensures { IfOk result (Arrives bundle.now bound None) }
+/// How a program ends, and its state then.
+pub fn run_out(alloc: Global, bundle: &Bundle, bound: u64) -> Result<(Outcome, State), Memory>
+    ensures outcome { IfOk result (λ end. end.0 ≡ outcome bundle.now bound []) }
+    ensures state { IfOk result (λ end. end.1 ≡ (plain bundle.now bound).state) }
 {
-    match run_to(alloc, bundle, &[], 0, bound)? {
-        Stop::Ended(outcome, program) => Ok(Arrival::End { outcome, program }),
-        Stop::At(_, _) => unreachable!(),
-    }
+    // No moment has the number 0, so the run comes to its end.
+    let Stop::Ended(outcome, program) = run_to(alloc, bundle, &[], 0, bound)? else {
+        return Err(Memory);
+    };
+    Ok((outcome, program))
 }
 
 /// Where the program comes to from a moment, at which it is this deep: the first moment past it that stops, or the end.

@@ -8,6 +8,7 @@ mod responses;
 mod serving;
 mod session;
 mod states;
+mod steps;
 mod turns;
 
 pub use dp_value::Memory;
@@ -17,3 +18,4 @@ pub use laws::{
 };
 pub use serving::{ServeEnd, Served, serve};
 pub use session::{Answer, Session, SessionEnd};
+pub use steps::Steps;

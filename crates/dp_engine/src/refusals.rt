@@ -7,7 +7,7 @@ ghost use Rattle.dp_engine.specs.inner.Turns.{Asks, AsksRow};
 
 use crate::session::Session;
 use crate::states::is_built as built;
-use dp_command::{Command, CommandError, CommandName, Line, Request, has_duplicate, id_of};
+use dp_command::{Command, CommandError, CommandName, Line, Request};
 use dp_features::Setting;
 use std::alloc::Global;
 
@@ -58,17 +58,12 @@ impl<'a> Session<'a> {
     pub(crate) fn ask(&self, alloc: Global, line: &Line) -> Result<Command, CommandError>
         ensures { Asks self.now line.now result }
     {
-        if has_duplicate(line.options.as_slice()) {
-            return Err(CommandError::Code(2));
-        }
-        let Some(name) = CommandName::of(line.name.as_slice()) else {
-            return Err(CommandError::Code(4));
+        let name = match CommandName::admit(line) {
+            Ok(name) => name,
+            Err(refusal) => return Err(CommandError::Code(refusal.code())),
         };
         if !built(name) {
             return Err(CommandError::Code(4));
-        }
-        if id_of(line).is_empty() {
-            return Err(CommandError::Code(3));
         }
         if !self.standing.phase().allows(name) {
             return Err(CommandError::Code(5));

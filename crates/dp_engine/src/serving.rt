@@ -9,11 +9,13 @@ ghost use Rattle.dp_engine.specs.Serving.{Serves};
 ghost use Rattle.dp_engine.specs.Session.{opening};
 
 use crate::session::{Session, SessionEnd};
+use crate::steps::Steps;
 use dp_outside::{Sink, Source};
 use dp_serving::{Fault, Over, converse, put_some};
 use dp_state::Outcome;
 use dp_value::Bytes;
 use std::alloc::Global;
+use std::sync::ledger::Ledger;
 
 /// How a session over a link ended.
 #[derive(Clone, Copy, Debug, PartialEq, Eq)]
@@ -54,12 +56,18 @@ fn cut_short(end: ServeEnd) -> Served
 }
 
 /// Runs the program on to its end, once the session is over.
-fn run_on<E: Sink>(alloc: Global, session: Session<'_>, end: ServeEnd, out: &mut E) -> Served
+fn run_on<E: Sink, L: Ledger>(
+    session: Session<'_>,
+    end: ServeEnd,
+    out: &mut E,
+    steps: &mut Steps<L>,
+) -> Served
     requires { CanRunOn end }
     ensures ran { RanOn end result session.entry (change E.taken E.faults out.old out.new) }
     ensures out_later { E.faults out.old ≤ E.faults out.new }
+    ensures steps { steps.new ≡ steps.old }
 {
-    let Ok((rest, outcome)) = session.finish(alloc) else {
+    let Ok((rest, outcome)) = session.finish(steps) else {
         return cut_short(ServeEnd::Memory);
     };
     match put_some(out, rest.as_slice()) {
@@ -72,41 +80,43 @@ fn run_on<E: Sink>(alloc: Global, session: Session<'_>, end: ServeEnd, out: &mut
 }
 
 /// What becomes of the program once the session is over.
-fn close<E: Sink>(
-    alloc: Global,
+fn close<E: Sink, L: Ledger>(
     session: Session<'_>,
     over: Over<SessionEnd>,
     out: &mut E,
+    steps: &mut Steps<L>,
 ) -> Served
     ensures closes { Closes over result session.entry (change E.taken E.faults out.old out.new) }
     ensures out_later { E.faults out.old ≤ E.faults out.new }
+    ensures steps { steps.new ≡ steps.old }
 {
     match over {
         Over::Ended(SessionEnd::Killed) => cut_short(ServeEnd::Stopped),
-        Over::Ended(SessionEnd::Detached) => run_on(alloc, session, ServeEnd::Detached, out),
-        Over::Ended(SessionEnd::Finished(_)) => run_on(alloc, session, ServeEnd::Stopped, out),
-        Over::LinkEnd => run_on(alloc, session, ServeEnd::LinkEnd, out),
-        Over::ReadFault => run_on(alloc, session, ServeEnd::ReadFault, out),
+        Over::Ended(SessionEnd::Detached) => run_on(session, ServeEnd::Detached, out, steps),
+        Over::Ended(SessionEnd::Finished(_)) => run_on(session, ServeEnd::Stopped, out, steps),
+        Over::LinkEnd => run_on(session, ServeEnd::LinkEnd, out, steps),
+        Over::ReadFault => run_on(session, ServeEnd::ReadFault, out, steps),
         Over::BadCommandFrame { offset } => {
-            run_on(alloc, session, ServeEnd::BadCommandFrame { offset }, out)
+            run_on(session, ServeEnd::BadCommandFrame { offset }, out, steps)
         }
-        Over::ByteLimit => run_on(alloc, session, ServeEnd::ByteLimit, out),
+        Over::ByteLimit => run_on(session, ServeEnd::ByteLimit, out, steps),
     }
 }
 
 /// What becomes of the program once a fault has cut the session short.
-fn close_cut<E: Sink>(
-    alloc: Global,
+fn close_cut<E: Sink, L: Ledger>(
     session: Session<'_>,
     fault: Fault<SessionEnd>,
     out: &mut E,
+    steps: &mut Steps<L>,
 ) -> Served
     ensures closes { ClosesCut fault result session.entry (change E.taken E.faults out.old out.new) }
     ensures out_later { E.faults out.old ≤ E.faults out.new }
+    ensures steps { steps.new ≡ steps.old }
 {
     match fault {
         Fault::Write(Some(SessionEnd::Killed)) => cut_short(ServeEnd::WriteFault),
-        Fault::Write(_) => run_on(alloc, session, ServeEnd::WriteFault, out),
+        Fault::Write(_) => run_on(session, ServeEnd::WriteFault, out, steps),
         Fault::Out => cut_short(ServeEnd::OutFault),
         Fault::Memory => cut_short(ServeEnd::Memory),
     }
@@ -116,13 +126,16 @@ fn close_cut<E: Sink>(
 ///
 /// The program's own output goes to `out`. Where the link ends or fails first, the program runs on to its end, unless a
 /// command has killed it. It waits in the calls of the link alone.
-pub fn serve<S: Source, K: Sink, E: Sink>(
+///
+/// No step is counted yet.
+pub fn serve<S: Source, K: Sink, E: Sink, L: Ledger>(
     alloc: Global,
     session: Session<'_>,
     init: Bytes,
     source: &mut S,
     sink: &mut K,
     out: &mut E,
+    steps: &mut Steps<L>,
 ) -> Served
     requires opening { session ≡ opening session.bundle session.bound }
     requires text { IsPacketText init }
@@ -135,10 +148,11 @@ pub fn serve<S: Source, K: Sink, E: Sink>(
     ensures source_later { S.faults source.old ≤ S.faults source.new }
     ensures sink_later { K.faults sink.old ≤ K.faults sink.new }
     ensures out_later { E.faults out.old ≤ E.faults out.new }
+    ensures steps { steps.new ≡ steps.old }
 {
     let (over, session) = converse(alloc, session, init.as_slice(), source, sink, out);
     match over {
-        Ok(over) => close(alloc, session, over, out),
-        Err(fault) => close_cut(alloc, session, fault, out),
+        Ok(over) => close(session, over, out, steps),
+        Err(fault) => close_cut(session, fault, out, steps),
     }
 }

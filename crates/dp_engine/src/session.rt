@@ -9,6 +9,7 @@ ghost use Rattle.dp_command.specs.Lines.{line_of};
 
 use crate::arrivals::{Arrival, run_out};
 use crate::states::Standing;
+use crate::steps::Steps;
 use crate::turns::{Step, Turn};
 use dp_command::{Line, LineError, read_line};
 use dp_features::Features;
@@ -19,6 +20,7 @@ use dp_tree::Bundle;
 use dp_value::{Bytes, Items, Memory};
 use std::alloc::Global;
 use std::marker::Model;
+use std::sync::ledger::Ledger;
 
 /// How a command ends a session.
 #[derive(Clone, Copy, Debug, PartialEq, Eq)]
@@ -48,6 +50,7 @@ pub struct Session<'a> {
     pub(crate) features: Features,
     /// The program's state at the moment, and the last one after its end.
     pub(crate) program: State,
+    pub(crate) alloc: Global,
 }
 
 impl<'a> Model for Session<'a> {
@@ -125,18 +128,34 @@ impl<'a> Session<'a> {
             standing: Standing::Starting,
             features: Features::new(),
             program,
+            alloc,
         };
         Ok((session, init))
     }
 
     /// Answers one whole command, without its NUL. After want of memory it has failed for good: nothing is said of it then.
-    pub fn answer(&mut self, alloc: Global, line: &[u8]) -> Result<Answer, Memory>
+    ///
+    /// No step is counted yet.
+    pub fn answer<L: Ledger>(&mut self, line: &[u8], steps: &mut Steps<L>) -> Result<Answer, Memory>
+        requires { IsCommand line.now }
+        ensures ok { IfOk result (λ answer. reply_of answer self.new ≡ spec.answer self.old line.now) }
+        ensures are_texts { IfOk result (λ answer. AllByRecursion IsPacketText answer.packets) }
+        ensures refused { IfOk result (λ answer.
+            IsAnsweredBy (refusal self.old line.now) self.old line.now (reply_of answer self.new)) }
+        ensures steps { steps.new ≡ steps.old }
+    {
+        self.respond(line)
+    }
+
+    /// The same, without a look at the steps.
+    fn respond(&mut self, line: &[u8]) -> Result<Answer, Memory>
         requires { IsCommand line.now }
         ensures ok { IfOk result (λ answer. reply_of answer self.new ≡ spec.answer self.old line.now) }
         ensures are_texts { IfOk result (λ answer. AllByRecursion IsPacketText answer.packets) }
         ensures refused { IfOk result (λ answer.
             IsAnsweredBy (refusal self.old line.now) self.old line.now (reply_of answer self.new)) }
     {
+        let alloc = self.alloc;
         let line = read(alloc, line)?;
         let turn = self.turn(alloc, line)?;
         self.give(alloc, turn)
@@ -222,21 +241,20 @@ impl<'a> Session<'a> {
     }
 
     /// Runs the program on to its end, if it has not ended, and answers the rest of its output and how it ended.
-    pub fn finish(self, alloc: Global) -> Result<(Bytes, Outcome), Memory>
+    ///
+    /// No step is counted yet.
+    pub fn finish<L: Ledger>(self, steps: &mut Steps<L>) -> Result<(Bytes, Outcome), Memory>
         ensures rest { IfOk result (λ rest. rest.0 ≡ unwritten self.entry) }
         ensures outcome { IfOk result (λ rest. rest.1 ≡ outcome_of self.entry) }
+        ensures steps { steps.new ≡ steps.old }
     {
         if let Standing::Stopping(outcome) = self.standing {
-            return Ok((Bytes::of(Vec::new(alloc)), outcome));
+            return Ok((Bytes::of(Vec::new(self.alloc)), outcome));
         }
+        let (outcome, program) = run_out(self.alloc, self.bundle, self.bound)?;
         let before = self.program.output.len();
-        match run_out(alloc, self.bundle, self.bound)? {
-            Arrival::End { outcome, program } => {
-                let rest = Bytes::from_slice(alloc, tail(program.output.as_slice(), before))?;
-                Ok((rest, outcome))
-            }
-            Arrival::Moment { .. } => unreachable!(),
-        }
+        let rest = Bytes::from_slice(self.alloc, tail(program.output.as_slice(), before))?;
+        Ok((rest, outcome))
     }
 }
 
@@ -278,7 +296,8 @@ impl<'a> Responder for Session<'a> {
 
     ghost step = { answer };
 
-    fn answer(&mut self, alloc: Global, line: &[u8]) -> Result<Answer, Memory> {
-        Session::answer(self, alloc, line)
+    // The session has an allocator of its own.
+    fn answer(&mut self, _alloc: Global, line: &[u8]) -> Result<Answer, Memory> {
+        self.respond(line)
     }
 }

@@ -1,5 +1,5 @@
 //! The command `talk`: one session over the program's own input and output.
-ghost use Rattle.std.specs.Prelude.{◌≡◌, ◌≤◌, ℕ, Ok, map, Some, IfOk, Result, MatchResult};
+ghost use Rattle.std.specs.Prelude.{◌≡◌, ◌<◌, ◌≤◌, ℕ, Ok, map, Some, IfOk, Result, MatchResult};
 ghost use Rattle.dp_outside.specs.Changes.{change};
 ghost use Rattle.dp_tree.specs.declared.bundle.Bundle.{Bundle as Made};
 ghost use Rattle.dp_bundle.specs.declared.errors.BundleError.{BundleError as Unmade};
@@ -14,12 +14,14 @@ ghost use Rattle.dp_top.specs.inner.Sessions.{ServedSo, UnservedSo, told_in};
 use crate::command_line::{Program, Talk};
 use crate::failures::{Failure, Refused};
 use crate::run::{told, told_of_files};
-use dp_engine::{ServeEnd, Served, Session, serve};
+use dp_engine::{ServeEnd, Served, Session, Steps, serve};
 use dp_outside::{Shelf, Sink, Source};
 use dp_run::fetch_program;
 use dp_state::Outcome;
 use dp_tree::Bundle;
 use std::alloc::Global;
+use std::marker::Brand;
+use std::sync::ledger::{Blank, Ledger};
 
 /// What the end of a program says of the command; a program that has none was stopped.
 fn judge_end<'a>(program: Program<'a>, outcome: Option<Outcome>) -> Result<u8, Refused<'a>>
@@ -53,16 +55,20 @@ fn judge<'a>(program: Program<'a>, served: Served) -> Result<u8, Refused<'a>>
     }
 }
 
-/// Serves one session over a program.
+/// Serves one session over a program, with a ledger for its steps.
 #[tactic(auto, using(crate::proofs::TalkLaws::main_short, crate::proofs::TalkLaws::small_served))]
-fn serve_program<'a, S: Source, K: Sink, E: Sink>(
+fn serve_program<'a, S: Source, K: Sink, E: Sink, L: Ledger>(
     alloc: Global,
     request: Talk<'a>,
     bundle: &Bundle,
     input: &mut S,
     out: &mut K,
     err: &mut E,
+    blank: Blank,
 ) -> Result<u8, Refused<'a>>
+    requires name { blank.name ≡ L.name }
+    requires parts { blank.parts ≡ L.parts }
+    requires some { 0 < blank.parts }
     requires session { IsSession request.key.now (ask_told request.program) }
     requires named { map (λ file. file.name) bundle.now.files ≡ (ask_told request.program).names }
     ensures ends { MatchResult result
@@ -79,10 +85,11 @@ fn serve_program<'a, S: Source, K: Sink, E: Sink>(
     ensures err_later { E.faults err.old ≤ E.faults err.new }
 {
     match Session::begin(alloc, bundle, request.key.as_bytes(), request.program.bound) {
-        Ok((session, init)) => judge(
-            request.program,
-            serve(alloc, session, init, input, out, err),
-        ),
+        Ok((session, init)) => {
+            let mut steps = Steps::<L>::new(blank);
+            let served = serve(alloc, session, init, input, out, err, &mut steps);
+            judge(request.program, served)
+        }
         Err(_) => Err(Refused::unnamed(Failure::Memory)),
     }
 }
@@ -118,7 +125,11 @@ pub fn talk<'a, H: Shelf, S: Source, K: Sink, E: Sink>(
     ensures err_later { E.faults err.old ≤ E.faults err.new }
 {
     match fetch_program(alloc, request.program.files, shelf) {
-        Ok(bundle) => serve_program(alloc, request, &bundle, input, out, err),
+        Ok(bundle) => {
+            // Nobody asks for the steps.
+            let blank = Blank::new(1);
+            serve_program::<S, K, E, Brand>(alloc, request, &bundle, input, out, err, blank)
+        }
         Err(why) => Err(told_of_files(request.program, &why)),
     }
 }

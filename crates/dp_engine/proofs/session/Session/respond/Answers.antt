@@ -1,6 +1,6 @@
 use Rattle.dp_engine.proofs.Answering.{answered}
 use Rattle.dp_engine.proofs.Refusing.{answered_by_code}
-use Rattle.dp_engine.proofs.session.Session.answer.Goals as goal
+use Rattle.dp_engine.proofs.session.Session.respond.Goals as goal
 
 pub returns-clause-ok : goal.returns-clause-ok
 returns-clause-ok c =
