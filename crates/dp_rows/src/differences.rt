@@ -2,6 +2,7 @@
 
 use crate::Memory;
 use crate::escapes::put_window;
+use crate::row::Row;
 use std::alloc::Global;
 
 /// How many bytes a report shows, and how many of them stand before the first that differs.
@@ -29,6 +30,21 @@ impl Differences {
         Differences {
             lines: String::new(alloc),
         }
+    }
+
+    /// The differences between what the field `gives` of a row has and what was found.
+    pub fn of_given(alloc: Global, row: &Row<'_>, found: &str) -> Result<Differences, Memory> {
+        let mut differences = Differences::new(alloc);
+        let wanted = row.bytes(alloc, b"gives")?;
+        differences.compare("gives", wanted.as_slice(), found.as_bytes())?;
+        Ok(differences)
+    }
+
+    /// A row that is not understood, and what of it is not.
+    pub fn of_mistake(alloc: Global, what: &str, bytes: &[u8]) -> Result<Differences, Memory> {
+        let mut differences = Differences::new(alloc);
+        differences.mistake(what, bytes)?;
+        Ok(differences)
     }
 
     /// Whether the row holds.

@@ -10,11 +10,13 @@ mod escapes;
 mod fields;
 mod files;
 mod lines;
+mod report;
 mod row;
 
 pub use differences::Differences;
 pub use escapes::{put_bytes, unescaped};
 pub use fields::{Field, at_space, number_of};
-pub use files::{Caller, run_files};
+pub use files::{RowFile, read_files};
+pub use report::Report;
 pub use row::{Row, rows_of};
 pub use std::alloc::AllocError as Memory;

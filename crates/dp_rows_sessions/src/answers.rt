@@ -3,7 +3,7 @@
 use crate::breakpoints::{remove, set, shown, shown_all, update};
 use crate::session::Session;
 use crate::views::{context_body, evaluated_body, names_body, page_body, stack_body, value_body};
-use dp_command::{BreakpointAction, Command, Request, read_line};
+use dp_command::{BreakpointAction, Command, Line, Request, read_line};
 use dp_packet::{Body, Packet, Response, has_message, text_of};
 use dp_rows::Memory;
 use dp_value::{Bytes, Items};
@@ -37,52 +37,95 @@ pub(crate) fn attribute(
 fn answer_to(session: &mut Session, request: Request) -> Result<Answer, Memory> {
     match request {
         Request::BreakpointSet(asked) => set(session, asked),
+        other => answer_of(session, &other),
+    }
+}
+
+/// What a request about breakpoints that are set gives, or about what is shown.
+fn answer_of(session: &mut Session, request: &Request) -> Result<Answer, Memory> {
+    match request {
         Request::Breakpoint {
             action: BreakpointAction::Get,
             id,
-        } => shown(session, id),
+        } => shown(session, *id),
         Request::Breakpoint {
             action: BreakpointAction::Remove,
             id,
-        } => Ok(remove(session, id)),
-        Request::BreakpointUpdate(asked) => Ok(update(session, &asked)),
+        } => Ok(remove(session, *id)),
+        Request::BreakpointUpdate(asked) => Ok(update(session, asked)),
         Request::BreakpointList => shown_all(session),
-        Request::StackGet { level } => stack_body(session, level),
-        Request::ContextGet { level, context } => context_body(session, level, context),
+        other => view_of(session, other),
+    }
+}
+
+/// What a request about what is shown gives.
+fn view_of(session: &Session, request: &Request) -> Result<Answer, Memory> {
+    match request {
+        Request::StackGet { level } => stack_body(session, *level),
+        Request::ContextGet { level, context } => context_body(session, *level, *context),
         Request::ContextNames => names_body(session),
         Request::PropertyGet {
             place,
             page,
             max_data,
-        } => page_body(session, &place, page, max_data),
-        Request::PropertyValue { place, max_data } => value_body(session, &place, max_data),
+        } => page_body(session, place, *page, *max_data),
+        Request::PropertyValue { place, max_data } => value_body(session, place, *max_data),
         Request::Eval { expression } => evaluated_body(session, expression.as_slice()),
         _ => Ok(Answer::Nothing),
     }
 }
 
-/// The packet that answers a command line.
-pub(crate) fn packet_for(session: &mut Session, bytes: &[u8]) -> Result<Option<Packet>, Memory> {
-    let alloc = session.alloc;
-    let Ok(line) = read_line(alloc, bytes) else {
-        return Ok(None);
-    };
-    let Ok(command) = Command::of(alloc, &line) else {
-        return Ok(None);
-    };
-    let name = line.name;
-    let Command { id, request } = command;
-    let (attributes, body) = match answer_to(session, request)? {
-        Answer::Given(attributes, body) => (attributes, body),
-        Answer::Code(code) => (Items::of(Vec::new(alloc)), Body::Fault(code)),
-        Answer::Nothing => return Ok(None),
-    };
-    Ok(Some(Packet::Response(Response {
-        command: name,
+/// A response with attributes and a body.
+fn response(
+    command: Bytes,
+    id: Bytes,
+    attributes: Items<(Bytes, Bytes)>,
+    body: Body,
+) -> Option<Packet> {
+    Some(Packet::Response(Response {
+        command,
         id,
         attributes,
         body,
-    })))
+    }))
+}
+
+/// The response to the command of this name with this id, if it is answered.
+fn answered(alloc: Global, name: Bytes, id: Bytes, answer: Answer) -> Option<Packet> {
+    match answer {
+        Answer::Given(attributes, body) => response(name, id, attributes, body),
+        Answer::Code(code) => response(name, id, Items::of(Vec::new(alloc)), Body::Fault(code)),
+        Answer::Nothing => None,
+    }
+}
+
+/// The packet that answers the command of this name.
+fn packet_of(
+    session: &mut Session,
+    name: Bytes,
+    command: Command,
+) -> Result<Option<Packet>, Memory> {
+    let Command { id, request } = command;
+    match answer_to(session, request) {
+        Ok(answer) => Ok(answered(session.alloc, name, id, answer)),
+        Err(error) => Err(error),
+    }
+}
+
+/// The packet that answers a line.
+fn packet_for_line(session: &mut Session, line: Line) -> Result<Option<Packet>, Memory> {
+    match Command::of(session.alloc, &line) {
+        Ok(command) => packet_of(session, line.name, command),
+        Err(_) => Ok(None),
+    }
+}
+
+/// The packet that answers the bytes of a command line.
+pub(crate) fn packet_for(session: &mut Session, bytes: &[u8]) -> Result<Option<Packet>, Memory> {
+    match read_line(session.alloc, bytes) {
+        Ok(line) => packet_for_line(session, line),
+        Err(_) => Ok(None),
+    }
 }
 
 /// Puts a packet as it stands on a wire.

@@ -9,26 +9,33 @@ mod session;
 mod views;
 mod writes;
 
-use dp_rows::{Caller, Differences, Memory, Row, run_files};
+use dp_rows::{Differences, Memory, Report, Row, RowFile, read_files, rows_of};
 use session::told_session;
 use std::alloc::Global;
 use std::io;
 
-/// Makes the sessions of rows.
-#[derive(Drop)]
-struct SessionCaller {
-    alloc: Global,
+/// Makes the session of a row, and tells what differs.
+fn differences_of(alloc: Global, row: &Row<'_>) -> Result<Differences, Memory> {
+    let found = told_session(alloc, row)?;
+    Differences::of_given(alloc, row, found.as_str())
 }
 
-impl Caller for SessionCaller {
-    fn call(&mut self, row: &Row<'_>, differences: &mut Differences) -> Result<(), Memory> {
-        let found = told_session(self.alloc, row)?;
-        let wanted = row.bytes(self.alloc, b"gives")?;
-        differences.compare("gives", wanted.as_slice(), found.as_bytes())
+/// Makes the sessions of the rows of a file, and reports them.
+fn put_file(alloc: Global, report: &mut Report, file: &RowFile) -> Result<(), Memory> {
+    let lines = file.lines(alloc)?;
+    let rows = rows_of(alloc, lines.as_slice())?;
+    for row in rows.iter() {
+        let differences = differences_of(alloc, row)?;
+        report.put_row(row, &differences)?;
     }
+    report.put_file(file.name.as_str())
 }
 
 fn main(rt: HostRuntime) -> io::Result<()> {
-    let mut caller = SessionCaller { alloc: rt.alloc() };
-    run_files(&rt, &mut caller)
+    let mut report = Report::new(rt.alloc());
+    for file in read_files(&rt)?.iter() {
+        put_file(rt.alloc(), &mut report, file)?;
+    }
+    print!(rt; "{}", report.as_str())?;
+    Ok(())
 }

@@ -55,9 +55,10 @@ fn file_of(alloc: Global, name: &[u8], text: Vec<u8>) -> Result<Option<BundleFil
     if text.len() > 1_000_000 {
         return Ok(None);
     }
+    let name = Bytes::from_slice(alloc, name)?;
     match parse_file(alloc, text.as_slice()) {
         Ok(tree) => Ok(Some(BundleFile {
-            name: Bytes::from_slice(alloc, name)?,
+            name,
             text: Bytes::of(text),
             tree,
         })),
@@ -70,12 +71,9 @@ fn is_other(name: &[u8]) -> bool {
     name == b"file".as_slice() || name == b"gives".as_slice()
 }
 
-/// What comes of the fields of a row.
-pub(crate) fn told_session(alloc: Global, row: &Row<'_>) -> Result<String, Memory> {
-    let Some(bundle) = program(alloc, row)? else {
-        return String::from_str(alloc, "no program");
-    };
-    let mut session = Session {
+/// A session of a program, before its first moment.
+fn started(alloc: Global, bundle: Bundle) -> Session {
+    Session {
         alloc,
         bundle,
         state: None,
@@ -87,12 +85,27 @@ pub(crate) fn told_session(alloc: Global, row: &Row<'_>) -> Result<String, Memor
             page: 0,
         },
         writes: Vec::new(alloc),
-    };
-    let mut text = String::new(alloc);
+    }
+}
+
+/// What comes of the fields of a row in a session.
+fn told_fields(session: &mut Session, row: &Row<'_>) -> Result<String, Memory> {
+    let mut text = String::new(session.alloc);
     for field in row.fields.iter() {
         session.do_field(&mut text, field)?;
     }
     Ok(text)
+}
+
+/// What comes of the fields of a row.
+pub(crate) fn told_session(alloc: Global, row: &Row<'_>) -> Result<String, Memory> {
+    match program(alloc, row)? {
+        Some(bundle) => {
+            let mut session = started(alloc, bundle);
+            told_fields(&mut session, row)
+        }
+        None => String::from_str(alloc, "no program"),
+    }
 }
 
 /// The number at this place of numbers between spaces, or 0.
@@ -100,6 +113,30 @@ fn number_at(text: &[u8], at: usize) -> u64 {
     match text.split(|byte| *byte == b' ').nth(at) {
         Some(digits) => number_of(digits).unwrap_or(0),
         None => 0,
+    }
+}
+
+/// Whether a moment is on a line, or behind the end.
+#[derive(Clone, Copy)]
+enum Place {
+    Here,
+    Elsewhere,
+    Behind,
+}
+
+/// Puts a moment, or how the program ended before it.
+fn put_stop(text: &mut String, stop: &Stop) -> Result<(), Memory> {
+    match stop {
+        Stop::At(moment, _) => put_moment(text, moment),
+        Stop::Ended(outcome, state) => put_end(text, *outcome, state),
+    }
+}
+
+/// The state at a moment.
+fn state_at(stop: Stop) -> Option<State> {
+    match stop {
+        Stop::At(_, state) => Some(state),
+        Stop::Ended(_, _) => None,
     }
 }
 
@@ -117,7 +154,14 @@ impl Session {
         } else if field.name == b"limits".as_slice() {
             self.limit(field.text);
             Ok(())
-        } else if field.name == b"ask".as_slice() {
+        } else {
+            self.do_command(text, field)
+        }
+    }
+
+    /// Does what a field says that asks a command or has a write made.
+    fn do_command(&mut self, text: &mut String, field: &Field<'_>) -> Result<(), Memory> {
+        if field.name == b"ask".as_slice() {
             self.ask(text, field)
         } else if field.name == b"fill".as_slice() {
             self.fill(field)
@@ -146,44 +190,42 @@ impl Session {
         self.paging.depth = number_at(text, 2).min(32) as u32;
     }
 
+    /// The stop at the moment of this number.
+    fn stop_at(&self, number: u64) -> Result<Stop, Memory> {
+        let writes = self.writes.as_slice();
+        run_to(self.alloc, &self.bundle, writes, number, BOUND)
+    }
+
     /// Goes to a moment. Tells it, or how the program ended before it.
     fn go(&mut self, text: &mut String, number: u64) -> Result<(), Memory> {
-        match run_to(
-            self.alloc,
-            &self.bundle,
-            self.writes.as_slice(),
-            number,
-            BOUND,
-        )? {
+        let stop = self.stop_at(number)?;
+        let told = put_stop(text, &stop);
+        self.state = state_at(stop);
+        told
+    }
+
+    /// Goes to a moment if it is on a line.
+    fn try_line(&mut self, number: u64, line: u64) -> Result<Place, Memory> {
+        match self.stop_at(number)? {
             Stop::At(moment, state) => {
-                put_moment(text, &moment)?;
-                self.state = Some(state);
+                if u64::from(moment.line) == line {
+                    self.state = Some(state);
+                    Ok(Place::Here)
+                } else {
+                    Ok(Place::Elsewhere)
+                }
             }
-            Stop::Ended(outcome, state) => {
-                put_end(text, outcome, &state)?;
-                self.state = None;
-            }
+            Stop::Ended(_, _) => Ok(Place::Behind),
         }
-        Ok(())
     }
 
     /// Goes to the first moment on a line.
     fn go_to_line(&mut self, text: &mut String, line: u64) -> Result<(), Memory> {
         for number in 1..BOUND {
-            match run_to(
-                self.alloc,
-                &self.bundle,
-                self.writes.as_slice(),
-                number,
-                BOUND,
-            )? {
-                Stop::At(moment, state) => {
-                    if u64::from(moment.line) == line {
-                        self.state = Some(state);
-                        return Ok(());
-                    }
-                }
-                Stop::Ended(_, _) => break,
+            match self.try_line(number, line)? {
+                Place::Here => return Ok(()),
+                Place::Elsewhere => (),
+                Place::Behind => break,
             }
         }
         text.push_str("no moment is on this line\n")?;

@@ -35,6 +35,20 @@ pub(crate) fn evaluation(alloc: Global, text: &[u8]) -> Result<Option<NumberedWr
     }
 }
 
+/// The value of an expression that changes nothing, in a state.
+fn pure_value(
+    alloc: Global,
+    bundle: &Bundle,
+    state: &State,
+    expression: &Expression,
+) -> Result<Option<Value>, Memory> {
+    if is_pure(expression) {
+        value_in(alloc, state, bundle, expression)
+    } else {
+        Ok(None)
+    }
+}
+
 /// The value of the expression of a text, if it is one that changes nothing, in a state.
 pub(crate) fn value_of(
     alloc: Global,
@@ -43,13 +57,7 @@ pub(crate) fn value_of(
     text: &[u8],
 ) -> Result<Option<Value>, Memory> {
     match tree_of(alloc, text) {
-        Some(expression) => {
-            if is_pure(&expression) {
-                value_in(alloc, state, bundle, &expression)
-            } else {
-                Ok(None)
-            }
-        }
+        Some(expression) => pure_value(alloc, bundle, state, &expression),
         None => Ok(None),
     }
 }
@@ -62,6 +70,22 @@ fn first_value(alloc: Global, bundle: &Bundle, text: &[u8]) -> Result<Option<Val
     }
 }
 
+/// The write of a value to the place of this name in the top frame, if it is a name.
+fn write_to(alloc: Global, number: &[u8], name: &[u8], value: Value) -> Option<NumberedWrite> {
+    match read_name(alloc, name) {
+        Ok(path) => Some(numbered(
+            number,
+            Write::Place {
+                level: 0,
+                context: 0,
+                path,
+                value,
+            },
+        )),
+        Err(_) => None,
+    }
+}
+
 /// The write of `N NAME EXPRESSION`: the value of the expression at the place of this name in the top frame.
 pub(crate) fn placing(
     alloc: Global,
@@ -71,19 +95,8 @@ pub(crate) fn placing(
     let (number, behind) = at_space(text);
     let (name, expression) = at_space(behind);
     let expression = unescaped(alloc, expression)?;
-    let Some(value) = first_value(alloc, bundle, expression.as_slice())? else {
-        return Ok(None);
-    };
-    match read_name(alloc, name) {
-        Ok(path) => Ok(Some(numbered(
-            number,
-            Write::Place {
-                level: 0,
-                context: 0,
-                path,
-                value,
-            },
-        ))),
-        Err(_) => Ok(None),
+    match first_value(alloc, bundle, expression.as_slice())? {
+        Some(value) => Ok(write_to(alloc, number, name, value)),
+        None => Ok(None),
     }
 }
