@@ -1,3 +1,3 @@
 pub mod Sizes
 pub mod Limited
-pub mod Codes
+pub mod Sent

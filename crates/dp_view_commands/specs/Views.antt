@@ -2,7 +2,7 @@
 -- "stack_depth", "stack_get", "context_names", "context_get", "property_get", "property_value",
 -- "source". Which attributes stand in a response and in what order, the order of the codes, and the
 -- limit are this engine's own.
-use Rattle.std.specs.Prelude.{ℕ, ◌==◌, ◌||◌, nat_le, Bool, true, false, if◌then◌else◌, [], ◌∷◌, length, codes, decimal, Option, Some, None, ok_or, unwrap_or, option_and_then, option_map, slice_get, Result, Ok, Err}
+use Rattle.std.specs.Prelude.{ℕ, ◌==◌, ◌||◌, nat_le, Bool, false, if◌then◌else◌, [], ◌∷◌, length, codes, decimal, Option, Some, None, ok_or, unwrap_or, option_and_then, option_map, slice_get, Result, Ok, Err}
 use Rattle.std.specs.Option.{option_map_or}
 use Rattle.dp_breakpoint_commands.specs.Files.{requested_file}
 use Rattle.dp_command.specs.declared.command.PropertyPlace.{PropertyPlace}
@@ -117,13 +117,6 @@ part_of bundle here features s (request.PropertyValue place most) = value_part s
 part_of bundle here features s (request.Source range) = source_part bundle here range
 part_of bundle here features s other = Err 4
 
--- a command that shows values, whose response has a limit
-abbrev pub is_limited : Request → Bool
-is_limited (request.ContextGet level id) = true
-is_limited (request.PropertyGet place page most) = true
-is_limited (request.PropertyValue place most) = true
-is_limited other = false
-
 abbrev pub response_with : Text → Text → Part → Response
 response_with command id part =
     record { command = command; id = id; attributes = part.0; body = part.1 }
@@ -131,21 +124,21 @@ response_with command id part =
 abbrev pub is_short : Response → Bool
 is_short r = nat_le (length (text (packet.Response r))) packet_limit
 
--- a response, or 300 where it has a limit and its text passes that
-abbrev pub within_limit : Bool → Response → Result Response ℕ
-within_limit limited r = if limited then (if is_short r then Ok r else Err 300) else Ok r
+-- a response, or 300 where its text passes the limit
+abbrev pub within_limit : Response → Result Response ℕ
+within_limit r = if is_short r then Ok r else Err 300
 
 -- the same of what a command shows
-abbrev pub answered : Bool → Text → Text → Result Part ℕ → Result Response ℕ
-answered limited command id shown =
-    and_then (λ part. within_limit limited (response_with command id part)) shown
+abbrev pub answered : Text → Text → Result Part ℕ → Result Response ℕ
+answered command id shown =
+    and_then (λ part. within_limit (response_with command id part)) shown
 
 -- The response to a command of this name and transaction id, or the code of its refusal. `here` is
 -- the number of the file of the moment, 0 before the first.
 unfoldable pub view_response : Bundle → ℕ → Features → State → Text → Text → Request
     → Result Response ℕ
 view_response bundle here features s command id asked =
-    answered (is_limited asked) command id (part_of bundle here features s asked)
+    answered command id (part_of bundle here features s asked)
 
 -- the code of a refusal
 abbrev pub code_in : {A : Type 0} → Result A ℕ → Option ℕ

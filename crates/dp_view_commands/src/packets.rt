@@ -1,11 +1,10 @@
 //! Responses, and what fits into them.
 
-ghost use Rattle.std.specs.Prelude.{◌≡◌, ◌+◌, ◌≤◌, ◌∷◌, ◌++◌, [], false, true, codes, decimal, length, None, IfOk, IfSome, OnOk};
+ghost use Rattle.std.specs.Prelude.{◌≡◌, ◌+◌, ◌≤◌, ◌∷◌, ◌++◌, [], if◌then◌else◌, codes, decimal, length, Err, Ok, IfOk, OnOk};
 ghost use Rattle.dp_markup.specs.Writing.{attribute_text};
 ghost use Rattle.dp_view.specs.Answers.{AnswersSurely};
-ghost use Rattle.dp_view_commands.specs.Answers.{IsSent};
 ghost use Rattle.dp_view_commands.specs.Views as spec;
-ghost use Rattle.dp_view_commands.specs.inner.Making.{around, Gives, IsPlain};
+ghost use Rattle.dp_view_commands.specs.inner.Making.{around};
 ghost use Rattle.dp_wire.specs.Frames.{packet_limit};
 
 use dp_command::Addressee;
@@ -91,44 +90,29 @@ pub(crate) fn respond(
     })
 }
 
-/// A response whose text fits into a packet.
-pub(crate) fn fitting(response: Response) -> Option<Response>
-    ensures same { IfSome result (λ r. r ≡ response) }
-    ensures short { IfSome result (λ r. spec.is_short response ≡ true) }
-    ensures long { result ≡ None → spec.is_short response ≡ false }
+// A response, or 300 where it is not short.
+fn short_or_refused(response: Response, is_short: bool) -> Result<Response, ViewError>
+    ensures { AnswersSurely (λ r. r) result (if is_short then Ok response else Err 300) }
+{
+    if is_short {
+        Ok(response)
+    } else {
+        Err(ViewError::Code(300))
+    }
+}
+
+/// The response, or 300 where its text passes the limit.
+pub(crate) fn limited(response: Response) -> Result<Response, ViewError>
+    ensures { AnswersSurely (λ r. r) result (spec.within_limit response) }
 {
     let packet = Packet::Response(response);
     let is_short = text_size(&packet) <= u64::from(LIMIT);
     match packet {
-        Packet::Response(response) => { if is_short { Some(response) } else { None } }
-        Packet::Init(_init) => None,
-        Packet::Stream(_bytes) => None,
-        Packet::Notify(_notify) => None,
-        Packet::Proxy(_reply) => None,
-    }
-}
-
-/// A response that has no limit. There is no memory for one that does not fit into a packet.
-pub(crate) fn whole(response: Response) -> Result<Response, ViewError>
-    requires { IsPlain response.body }
-    ensures same { Gives response result }
-    ensures is_sent { IfOk result IsSent }
-{
-    match fitting(response) {
-        Some(response) => Ok(response),
-        None => Err(ViewError::Memory),
-    }
-}
-
-/// The response, or 300 where it does not fit into a packet.
-pub(crate) fn limited(response: Response) -> Result<Response, ViewError>
-    requires { IsPlain response.body }
-    ensures answer { AnswersSurely (λ r. r) result (spec.within_limit true response) }
-    ensures is_sent { IfOk result IsSent }
-{
-    match fitting(response) {
-        Some(response) => Ok(response),
-        None => Err(ViewError::Code(300)),
+        Packet::Response(response) => short_or_refused(response, is_short),
+        Packet::Init(_init) => Err(ViewError::Code(300)),
+        Packet::Stream(_bytes) => Err(ViewError::Code(300)),
+        Packet::Notify(_notify) => Err(ViewError::Code(300)),
+        Packet::Proxy(_reply) => Err(ViewError::Code(300)),
     }
 }
 

@@ -1,11 +1,11 @@
 //! The text of a file.
 
-ghost use Rattle.std.specs.Prelude.{◌≡◌, ◌||◌, false, if◌then◌else◌, option_map, slice_get, Err, None, Some, IfOk, IfSome};
+ghost use Rattle.std.specs.Prelude.{◌≡◌, ◌||◌, if◌then◌else◌, option_map, slice_get, Err, None, Some, IfOk, IfSome};
 ghost use Rattle.dp_packet.specs.Parts.{base64};
-ghost use Rattle.dp_view_commands.specs.Answers.{Answers, IsSent};
+ghost use Rattle.dp_view_commands.specs.Answers.{Answers};
 ghost use Rattle.dp_view_commands.specs.Views as spec;
 
-use crate::packets::{encoded, respond, whole};
+use crate::packets::{encoded, limited, respond};
 use base64::engine::general_purpose::STANDARD;
 use dp_breakpoint_commands::requested_file;
 use dp_command::{Addressee, SourceRange};
@@ -80,12 +80,11 @@ fn lines_response(
     text: &[u8],
     to: &Addressee,
 ) -> Result<Response, ViewError>
-    ensures answer { Answers result (spec.answered false to.now.command to.now.id (spec.lines_part range.now (Some text.now))) }
-    ensures is_sent { IfOk result IsSent }
+    ensures answer { Answers result (spec.answered to.now.command to.now.id (spec.lines_part range.now (Some text.now))) }
 {
     let attributes = encoded(alloc)?;
     let lines = base64_of(alloc, source_lines(text, range.first, range.last))?;
-    whole(respond(alloc, to, attributes, Body::Plain(lines))?)
+    limited(respond(alloc, to, attributes, Body::Plain(lines))?)
 }
 
 // The same of the text of the file that is asked for, if there is one.
@@ -96,9 +95,8 @@ fn file_response(
     range: &SourceRange,
     to: &Addressee,
 ) -> Result<Response, ViewError>
-    ensures answer { Answers result (spec.answered false to.now.command to.now.id
+    ensures answer { Answers result (spec.answered to.now.command to.now.id
         (spec.lines_part range.now (option_map (λ f. f.text) (spec.file_asked bundle.now here range.now.file)))) }
-    ensures is_sent { IfOk result IsSent }
 {
     match text_asked(alloc, bundle, here, &range.file)? {
         Some(text) => lines_response(alloc, range, text, to),
@@ -114,10 +112,9 @@ pub(crate) fn source_response(
     range: &SourceRange,
     to: &Addressee,
 ) -> Result<Response, ViewError>
-    ensures answer { Answers result (spec.answered false to.now.command to.now.id (spec.source_part bundle.now here range.now)) }
+    ensures answer { Answers result (spec.answered to.now.command to.now.id (spec.source_part bundle.now here range.now)) }
     ensures at_once { IfSome (if spec.is_zero range.now.first || spec.is_zero range.now.last then Some 3 else None)
         (λ code. result ≡ Err (ViewError.Code code)) }
-    ensures is_sent { IfOk result IsSent }
 {
     if is_zero(range.first) || is_zero(range.last) {
         return Err(ViewError::Code(3));

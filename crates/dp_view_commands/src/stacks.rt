@@ -1,13 +1,13 @@
 //! The stack, and the contexts by their names.
 
-ghost use Rattle.std.specs.Prelude.{◌≡◌, [], false, Err, Ok, IfOk, IfSome};
+ghost use Rattle.std.specs.Prelude.{◌≡◌, [], Err, Ok, IfOk, IfSome};
 ghost use Rattle.dp_packet.specs.declared.packet.Body.TheVariants as body;
 ghost use Rattle.dp_view.specs.Places.{contexts as all_contexts};
 ghost use Rattle.dp_view.specs.Stacks.{stack_at};
-ghost use Rattle.dp_view_commands.specs.Answers.{Answers, IsSent};
+ghost use Rattle.dp_view_commands.specs.Answers.{Answers};
 ghost use Rattle.dp_view_commands.specs.Views as spec;
 
-use crate::packets::{none, number, respond, whole};
+use crate::packets::{limited, none, number, respond};
 use dp_command::Addressee;
 use dp_packet::{Body, Response};
 use dp_state::State;
@@ -21,11 +21,10 @@ pub(crate) fn depth_response(
     state: &State,
     to: &Addressee,
 ) -> Result<Response, ViewError>
-    ensures answer { Answers result (spec.answered false to.now.command to.now.id (Ok (spec.depth_part state.now))) }
-    ensures is_sent { IfOk result IsSent }
+    ensures answer { Answers result (spec.answered to.now.command to.now.id (Ok (spec.depth_part state.now))) }
 {
     let attributes = number(alloc, b"depth", state.frames.len() as u64)?;
-    whole(respond(alloc, to, attributes, Body::Nothing)?)
+    limited(respond(alloc, to, attributes, Body::Nothing)?)
 }
 
 /// The lines of the stack.
@@ -36,19 +35,17 @@ pub(crate) fn stack_response(
     level: Option<u32>,
     to: &Addressee,
 ) -> Result<Response, ViewError>
-    ensures answer { Answers result (spec.answered false to.now.command to.now.id (spec.stack_part bundle.now state.now level)) }
+    ensures answer { Answers result (spec.answered to.now.command to.now.id (spec.stack_part bundle.now state.now level)) }
     ensures at_once { IfSome (spec.code_in (stack_at bundle.now state.now level)) (λ code. result ≡ Err (ViewError.Code code)) }
-    ensures is_sent { IfOk result IsSent }
 {
     let lines = stack(alloc, bundle, state, level)?;
-    whole(respond(alloc, to, none(alloc), Body::Stacks(lines))?)
+    limited(respond(alloc, to, none(alloc), Body::Stacks(lines))?)
 }
 
 /// The contexts.
 pub(crate) fn names_response(alloc: Global, to: &Addressee) -> Result<Response, ViewError>
-    ensures answer { Answers result (spec.answered false to.now.command to.now.id (Ok ([], body.Contexts all_contexts))) }
-    ensures is_sent { IfOk result IsSent }
+    ensures answer { Answers result (spec.answered to.now.command to.now.id (Ok ([], body.Contexts all_contexts))) }
 {
     let names = contexts(alloc)?;
-    whole(respond(alloc, to, none(alloc), Body::Contexts(names))?)
+    limited(respond(alloc, to, none(alloc), Body::Contexts(names))?)
 }

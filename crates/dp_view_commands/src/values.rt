@@ -1,16 +1,13 @@
 //! Variables and properties.
 
-ghost use Rattle.std.specs.Prelude.{◌≡◌, ◌≤◌, ◌∷◌, [], true, length, Err, IfOk, IfSome};
+ghost use Rattle.std.specs.Prelude.{◌≡◌, ◌∷◌, [], Err, IfOk, IfSome};
 ghost use Rattle.dp_packet.specs.declared.packet.Body.TheVariants as body;
-ghost use Rattle.dp_packet.specs.declared.packet.Packet.TheVariants as packet;
-ghost use Rattle.dp_packet.specs.Text.{text};
 ghost use Rattle.dp_view.specs.Answers as viewed;
 ghost use Rattle.dp_view.specs.Answers.{AnswersAfter};
 ghost use Rattle.dp_view.specs.Named.{named_path};
-ghost use Rattle.dp_view_commands.specs.Answers.{Answers, IsSent};
+ghost use Rattle.dp_view_commands.specs.Answers.{Answers};
 ghost use Rattle.dp_view_commands.specs.Views as spec;
 ghost use Rattle.dp_view_commands.specs.inner.Making.{Gives};
-ghost use Rattle.dp_wire.specs.Frames.{packet_limit};
 
 use crate::packets::{context_room, limited, none, number, property_room, respond};
 use dp_command::{Addressee, PropertyPlace};
@@ -42,11 +39,8 @@ fn filled(
     attributes: Items<(Bytes, Bytes)>,
     shown: Items<Property>,
 ) -> Result<Response, ViewError>
-    requires { length (text (packet.Response
-        (spec.response_with to.now.command to.now.id (attributes, body.Properties shown)))) ≤ packet_limit }
-    ensures made { Gives
+    ensures { Gives
         (spec.response_with to.now.command to.now.id (attributes, body.Properties shown)) result }
-    ensures is_sent { IfOk result IsSent }
 {
     Ok(respond(alloc, to, attributes, Body::Properties(shown))?)
 }
@@ -58,11 +52,8 @@ fn context_filled(
     id: u32,
     shown: Items<Property>,
 ) -> Result<Response, ViewError>
-    requires { length (text (packet.Response
-        (spec.response_with to.now.command to.now.id (spec.context_attributes id, body.Properties shown)))) ≤ packet_limit }
-    ensures made { Gives
+    ensures { Gives
         (spec.response_with to.now.command to.now.id (spec.context_attributes id, body.Properties shown)) result }
-    ensures is_sent { IfOk result IsSent }
 {
     let attributes = number(alloc, b"context", u64::from(id))?;
     filled(alloc, to, attributes, shown)
@@ -78,9 +69,8 @@ pub(crate) fn context_response(
     id: u32,
     to: &Addressee,
 ) -> Result<Response, ViewError>
-    ensures answer { viewed.Answers (λ r. r) result
-        (spec.answered true to.now.command to.now.id (spec.context_part features.now state.now level id)) }
-    ensures is_sent { IfOk result IsSent }
+    ensures { viewed.Answers (λ r. r) result
+        (spec.answered to.now.command to.now.id (spec.context_part features.now state.now level id)) }
 {
     let p = paging(features, None, 0);
     let room = context_room(to, id);
@@ -101,10 +91,7 @@ fn alone(alloc: Global, made: Property) -> Result<Items<Property>, Memory>
 
 // The response that shows one property.
 fn property_filled(alloc: Global, to: &Addressee, made: Property) -> Result<Response, ViewError>
-    requires { length (text (packet.Response
-        (spec.response_with to.now.command to.now.id ([], body.Properties (made ∷ []))))) ≤ packet_limit }
-    ensures made { Gives (spec.response_with to.now.command to.now.id ([], body.Properties (made ∷ []))) result }
-    ensures is_sent { IfOk result IsSent }
+    ensures { Gives (spec.response_with to.now.command to.now.id ([], body.Properties (made ∷ []))) result }
 {
     let shown = alone(alloc, made)?;
     filled(alloc, to, none(alloc), shown)
@@ -120,10 +107,9 @@ pub(crate) fn property_response(
     most: Option<u32>,
     to: &Addressee,
 ) -> Result<Response, ViewError>
-    ensures answer { AnswersAfter (λ r. r) result
+    ensures { AnswersAfter (λ r. r) result
         (named_path state.now place.now.level place.now.context place.now.name)
-        (spec.answered true to.now.command to.now.id (spec.property_part features.now state.now place.now page most)) }
-    ensures is_sent { IfOk result IsSent }
+        (spec.answered to.now.command to.now.id (spec.property_part features.now state.now place.now page most)) }
 {
     let p = paging(features, most, page);
     let room = property_room(to);
@@ -142,10 +128,9 @@ pub(crate) fn value_response(
     most: Option<u32>,
     to: &Addressee,
 ) -> Result<Response, ViewError>
-    ensures answer { Answers result (spec.answered true to.now.command to.now.id (spec.value_part state.now place.now most)) }
+    ensures answer { Answers result (spec.answered to.now.command to.now.id (spec.value_part state.now place.now most)) }
     ensures at_once { IfSome (spec.code_in (named_path state.now place.now.level place.now.context place.now.name))
         (λ code. result ≡ Err (ViewError.Code code)) }
-    ensures is_sent { IfOk result IsSent }
 {
     let name = place.name.as_slice();
     let most = most.map(u64::from);

@@ -31,7 +31,6 @@ fn look(
     ensures at_once { IfSome
         (refusal_at_once bundle.now here features.now state.now to.now.command to.now.id request.now)
         (λ code. result ≡ Err (ViewError.Code code)) }
-    ensures is_sent { IfOk result IsSent }
 {
     match request {
         Request::StackDepth => depth_response(alloc, state, to),
@@ -56,12 +55,10 @@ fn look(
 /// The response to a command that looks at a program: stack_depth, stack_get, context_names, context_get, property_get,
 /// property_value and source. `here` is the number of the file of the moment, 0 before the first.
 ///
-/// The codes, in their order: of stack_get 301; of context_get 301, 302, and 300 where the text of the response would pass
-/// 16,777,216 bytes; of property_get and property_value 301, 302, and 300 where the name is none, nothing stands there, or the
-/// text would pass that; of source 3 where a line is 0, and 100 where there is no such file. Values are shown as the features
-/// say. What would pass the limit is found before it is made. Another command has 4.
-///
-/// There is no memory for the lines of a stack or a file that do not fit into a packet: no program has such.
+/// The codes, in their order: of stack_get 301; of context_get 301, 302; of property_get and property_value 301, 302, and 300
+/// where the name is none or nothing stands there; of source 3 where a line is 0, and 100 where there is no such file. Then 300
+/// where the text of the response would pass 16,777,216 bytes: of values this is found before anything is made, and no stack
+/// and no file of a program is so long. Values are shown as the features say. Another command has 4.
 pub fn view_response(
     alloc: Global,
     bundle: &Bundle,

@@ -1,6 +1,5 @@
 -- Responses as the code makes them.
 use Rattle.std.specs.Prelude.{◌≡◌, ℕ, [], ◌∷◌, length, Result, Ok, Err, ⊤}
-use Rattle.dp_packet.specs.declared.packet.Body.{Body}
 use Rattle.dp_packet.specs.declared.packet.Body.TheVariants as body
 use Rattle.dp_packet.specs.declared.packet.Packet.TheVariants as packet
 use Rattle.dp_packet.specs.declared.packet.Response.{Response}
@@ -14,11 +13,6 @@ use Rattle.dp_view_commands.specs.Views.{response_with}
 unfoldable pub around : Text → Text → Attributes → ℕ
 around command id attributes =
     length (text (packet.Response (response_with command id (attributes, body.Properties []))))
-
--- what tells no error
-abbrev pub IsPlain : Body → Type 0
-IsPlain (body.Fault code) = ⊥
-IsPlain other = ⊤
 
 -- this response, or want of memory
 abbrev pub Gives : Response → Result Response ViewError → Type 0
