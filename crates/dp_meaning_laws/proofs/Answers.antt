@@ -21,8 +21,8 @@ placed (Err NoFrame) s = (λ h. absurd (cc), λ h. absurd (cc))
 placed (Err NoPlace) s = (λ h. absurd (cc), λ h. absurd (cc))
 
 unplaced : (r : Result State WriteFault) (s : State) → place_answer r ≢ answer.Set → or_unchanged s r ≡ s
-unplaced (Ok t) s no = absurd (no refl)
-unplaced (Err fault) s no = refl
+unplaced (Ok t) s never = absurd (never refl)
+unplaced (Err fault) s never = refl
 
 -- ---- evaluations
 
@@ -31,8 +31,8 @@ given None v s = (λ h. absurd (cc), λ h. absurd (cc))
 given (Some end) v s = (λ h. let same : end.0 ≡ v = cc in rw (sym same) refl, λ h. let same : end ≡ (v, end.1) = cc in ap (λ (p : Value × State). answer.Value p.0) same)
 
 ungiven : (o : Option (Value × State)) (s : State) → ((v : Value) → value_answer o ≢ answer.Value v) → left_by s o ≡ s
-ungiven None s no = refl
-ungiven (Some end) s no = absurd (no end.0 refl)
+ungiven None s never = refl
+ungiven (Some end) s never = absurd (never end.0 refl)
 
 -- ---- writes
 
