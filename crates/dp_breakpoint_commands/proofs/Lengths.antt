@@ -1,26 +1,34 @@
 -- Which breakpoints are listed, by their sizes.
-use Rattle.std.proofs.Common.{◌≡◌, ℕ, suc, ◌+◌, ◌-◌, ◌*◌, ◌≤◌, Bool, true, false, cond, List, [], ◌∷◌, ◌++◌, length, codes, map, take, refl, sym, ap, ◌∙◌, arith, length-append, append_assoc}
-use Rattle.std.specs.Prelude.{nat_le, take_while}
+use Rattle.std.proofs.Common.{◌≡◌, ℕ, suc, ◌+◌, ◌-◌, ◌^◌, ◌<◌, ◌≤◌, Bool, true, false, cond, List, [], ◌∷◌, ◌++◌, length, codes, map, take, refl, sym, ap, subst, ◌∙◌, arith, length-append, append_assoc}
+use Rattle.std.specs.Prelude.{decimal, nat_le, take_while, Result, Ok, Err, IfOk}
 use Rattle.std.specs.List.{prefix_len}
-use Rattle.std.proofs.lemmas.Bool.{leb-true, leb-false}
+use Rattle.std.proofs.lemmas.Bool.{leb-true}
 use Rattle.std.proofs.lemmas.Bool.Decides.{nat_tests}
+use Rattle.std.proofs.lemmas.Fmt.{length-decimal-le}
 use Rattle.dp_break.specs.Passing.{Reached, each_from, reached}
 use Rattle.dp_markup.specs.Writing.{attribute_text, node_text, nodes_text}
-use Rattle.dp_packet.specs.Breakpoints.{breakpoint_node}
+use Rattle.dp_packet.specs.Breakpoints.{breakpoint_node, state_name}
+use Rattle.dp_packet.specs.declared.packet.Body.{Body}
 use Rattle.dp_packet.specs.declared.packet.BreakLine.{BreakLine}
 use Rattle.dp_packet.specs.declared.packet.Packet.{Packet}
 use Rattle.dp_packet.specs.declared.packet.Packet.TheVariants as packet
+use Rattle.dp_packet.specs.declared.packet.Response.{Response}
 use Rattle.dp_packet.specs.Packets.{element_of}
-use Rattle.dp_packet.specs.Parts.{Text, namespace}
+use Rattle.dp_packet.specs.Parts.{Attributes, Text, namespace}
 use Rattle.dp_packet.specs.Text.{text}
 use Rattle.dp_packet.specs.inner.Sizes.{attributes_size}
-use Rattle.dp_packet.proofs.LengthLaws.{attributes_short}
+use Rattle.dp_packet.specs.Sizes.{counted}
+use Rattle.dp_packet.proofs.LengthLaws.{attributes_short, bare_response_short}
 use Rattle.dp_packet.proofs.SizeLaws.{attribute_length, packet_length, written_length}
 use Rattle.dp_wire.specs.Frames.{packet_limit}
-use Rattle.dp_breakpoint_commands.specs.Commands.{lines_fit, lines_response, listed}
+use Rattle.dp_breakpoint_commands.specs.Commands.{bare_response, lines_fit, lines_response, listed, response, set_response}
 use Rattle.dp_breakpoint_commands.specs.inner.Listing.{fitting, line_size}
 
 -- ---- sizes
+
+state_short : (enabled : Bool) → length (state_name enabled) ≤ 8
+state_short true = omega arith
+state_short false = omega arith
 
 abbrev pub lines_size : List BreakLine → ℕ
 lines_size lines = length (nodes_text (map breakpoint_node lines))
@@ -102,6 +110,49 @@ module _ (command id : Text) where
         let e : room + size_with [] ≡ packet_limit = omega (arith, bare_short) in
         let same = ap size_with (listed_are room lines e) in
         omega (arith, same, size_is (fitting room lines), size_is [], fitting_small room lines, e)
+
+    -- what is left for breakpoints, by the sizes of the name and the id
+    pub record IsRoom (for_name for_id : ℕ) : Type 0 where
+      pub name : for_name ≤ 395
+      pub number : for_id ≤ 402
+      pub room : packet_limit - (98 + for_name + for_id) + size_with [] ≡ packet_limit
+
+    pub room_is : (name number : ℕ) → name ≡ counted (length (attribute_text (codes "command", command))) → number ≡ counted (length (attribute_text (codes "transaction_id", id)))
+        → IsRoom name number
+    room_is name number is_name is_number = record {
+      name = omega (arith, is_name, name_short);
+      number = omega (arith, is_number, id_short);
+      room = omega (arith, is_name, is_number, name_short, id_short, bare_size);
+    }
+
+    pub bare_response_fits : length (text (packet.Response (bare_response command id))) ≤ packet_limit
+    bare_response_fits = omega (arith, bare_response_short command id [])
+
+    pub set_response_fits : (enabled : Bool) (number : ℕ) → number < 2 ^ 32 → length (text (packet.Response (set_response command id enabled number))) ≤ packet_limit
+    set_response_fits enabled number small =
+        let digits = length-decimal-le 10 number (omega arith) (omega (arith, small)) (omega (arith, small)) in
+        omega (arith, bare_response_short command id ((codes "state", state_name enabled) ∷ (codes "id", decimal number) ∷ []), digits, state_short enabled)
+
+    -- one breakpoint that is short
+    pub one_short : (line : BreakLine) → lines_size (line ∷ []) ≤ 40000 → size_with (line ∷ []) ≤ packet_limit
+    one_short line short = omega (arith, size_is (line ∷ []), size_is [], bare_short, short)
+
+-- ---- responses that were made
+
+-- one that was made fits where the one that was asked for does
+pub made_fits : {E : Type 0} (command id : Text) (what : Body) (attributes asked : Attributes) (made : Result Response E) → IfOk made (λ r. r ≡ response command id attributes what)
+    → attributes ≡ asked → length (text (packet.Response (response command id asked what))) ≤ packet_limit → IfOk made (λ r. length (text (packet.Response r)) ≤ packet_limit)
+made_fits command id what attributes asked (Ok r) is same fits =
+    subst (λ (x : Response). length (text (packet.Response x)) ≤ packet_limit) (sym (is ∙ ap (λ (a : Attributes). response command id a what) same)) fits
+made_fits command id what attributes asked (Err e) is same fits = tt
+
+pub lines_made_fit : {E : Type 0} (command id : Text) (lines asked : List BreakLine) (made : Result Response E) → IfOk made (λ r. r ≡ lines_response command id lines)
+    → lines ≡ asked → length (text (packet.Response (lines_response command id asked))) ≤ packet_limit → IfOk made (λ r. length (text (packet.Response r)) ≤ packet_limit)
+lines_made_fit command id lines asked (Ok r) is same fits =
+    subst (λ (x : Response). length (text (packet.Response x)) ≤ packet_limit) (sym (is ∙ ap (lines_response command id) same)) fits
+lines_made_fit command id lines asked (Err e) is same fits = tt
+
+-- ---- lines that are put
 
 -- one line more that was put
 pub put_line : (past lines more : List BreakLine) (left room : ℕ) (line : BreakLine) (rest : List BreakLine) → past ++ fitting left lines ≡ fitting room more → lines ≡ line ∷ rest → line_size line ≤ left

@@ -1,2 +1,4 @@
 pub mod Refusing
 pub mod Uris
+pub mod Lengths
+pub mod Shown

@@ -67,6 +67,13 @@ unfolding refusal
 file_refused bundle set (Code code) words h = later_code (word_tests set) (file_tests bundle set.file) words ∙ h
 file_refused bundle set Memory words h = tt
 
+-- the same where no memory is wanted
+pub file_only : (bundle : Bundle) (set : BreakpointSet) (e : BreakpointError) → first_code (word_tests set) ≡ None
+    → IsCode (first_code (file_tests bundle set.file)) e → IsCode (refusal bundle set) e
+unfolding refusal
+file_only bundle set (Code code) words h = later_code (word_tests set) (file_tests bundle set.file) words ∙ h
+file_only bundle set Memory words h = absurd h
+
 -- ---- what is accepted
 
 -- the first test does not hold, and none of the others does
@@ -173,4 +180,4 @@ request_sound bundle here set e h = record {
 }
 
 -- what a breakpoint_set command is answered
-pub ruleset refusing = (accepted, words_refused, words_only, file_refused, request_sound)
+pub ruleset refusing = (accepted, words_refused, words_only, file_refused, file_only, request_sound)

@@ -5,7 +5,6 @@ ghost use Rattle.dp_break.specs.Changes.{held_as, with_change, without};
 ghost use Rattle.dp_breakpoint_commands.specs.Answers.{IsCause};
 ghost use Rattle.dp_breakpoint_commands.specs.Changing.{change};
 ghost use Rattle.dp_breakpoint_commands.specs.Commands as spec;
-ghost use Rattle.dp_breakpoint_commands.specs.Showing.{breakpoint_line as line_of};
 ghost use Rattle.dp_packet.specs.declared.packet.Packet.TheVariants as packet;
 ghost use Rattle.dp_packet.specs.Packets.{HasMessage};
 ghost use Rattle.dp_packet.specs.Text.{text};
@@ -14,10 +13,9 @@ ghost use Rattle.dp_wire.specs.Frames.{packet_limit};
 
 use crate::changing::breakpoint_change;
 use crate::errors::BreakpointError;
-use crate::listing::listed_lines;
-use crate::responses::{bare_response, lines_response, set_response};
+use crate::listing::{list_response, one_response};
+use crate::responses::{bare_response, set_response};
 use crate::setting::breakpoint_request;
-use crate::showing::breakpoint_line;
 use dp_break::Breaks;
 use dp_command::{Addressee, BreakpointAction, BreakpointSet, BreakpointUpdate, Request};
 use dp_packet::Response;
@@ -44,6 +42,7 @@ fn set_breakpoint(
         → IfSome (spec.set_refusal bundle.now here breaks.old set) (λ code.
         result ≡ Err (BreakpointError.Code code)) }
     ensures unchanged { (code : ℕ) → result ≡ Err (BreakpointError.Code code) → breaks.new ≡ breaks.old }
+    ensures short { IfOk result (λ r. length (text (packet.Response r)) ≤ packet_limit) }
 {
     let request = breakpoint_request(alloc, bundle, here, set)?;
     let enabled = request.enabled;
@@ -67,12 +66,10 @@ fn get_breakpoint(
     ensures surely { IfSome (spec.id_refusal breaks.now id) (λ code. result ≡ Err (BreakpointError.Code code)) }
     ensures short { IfOk result (λ r. length (text (packet.Response r)) ≤ packet_limit) }
 {
-    let Some(breakpoint) = breaks.get(id) else {
-        return Err(BreakpointError::Code(205));
-    };
-    let mut lines = Vec::new(alloc);
-    lines.push(breakpoint_line(alloc, bundle, breakpoint)?)?;
-    Ok(lines_response(alloc, to, lines)?)
+    match breaks.get(id) {
+        Some(breakpoint) => Ok(one_response(alloc, bundle, to, breakpoint)?),
+        None => Err(BreakpointError::Code(205)),
+    }
 }
 
 /// Takes out the breakpoint of this id.
@@ -88,6 +85,7 @@ fn remove_breakpoint(
     ensures refused { IfErr result (IsCause (spec.id_refusal breaks.old id)) }
     ensures surely { IfSome (spec.id_refusal breaks.old id) (λ code. result ≡ Err (BreakpointError.Code code)) }
     ensures unchanged { (code : ℕ) → result ≡ Err (BreakpointError.Code code) → breaks.new ≡ breaks.old }
+    ensures short { IfOk result (λ r. length (text (packet.Response r)) ≤ packet_limit) }
 {
     if !breaks.remove(id) {
         return Err(BreakpointError::Code(205));
@@ -135,6 +133,7 @@ fn update_breakpoint(
     ensures surely { IfSome (spec.update_refusal bundle.now breaks.old update.now) (λ code.
         result ≡ Err (BreakpointError.Code code)) }
     ensures unchanged { (code : ℕ) → result ≡ Err (BreakpointError.Code code) → breaks.new ≡ breaks.old }
+    ensures short { IfOk result (λ r. length (text (packet.Response r)) ≤ packet_limit) }
 {
     let Some(breakpoint) = breaks.get(update.id) else {
         return Err(BreakpointError::Code(205));
@@ -142,22 +141,6 @@ fn update_breakpoint(
     let change = breakpoint_change(breakpoint.kind, update)?;
     breaks.update(bundle, update.id, change)?;
     Ok(bare_response(alloc, to)?)
-}
-
-/// Lists the breakpoints.
-fn list_breakpoints(
-    alloc: Global,
-    bundle: &Bundle,
-    to: &Addressee,
-    breaks: &Breaks,
-) -> Result<Response, BreakpointError>
-    ensures response { IfOk result (λ r. r ≡ spec.lines_response to.now.command to.now.id
-        (spec.listed to.now.command to.now.id (map (line_of bundle.now) breaks.now.held))) }
-    ensures memory { IfErr result (λ e. e ≡ BreakpointError.Memory) }
-    ensures short { IfOk result (λ r. length (text (packet.Response r)) ≤ packet_limit) }
-{
-    let lines = listed_lines(alloc, bundle, to, breaks.list())?;
-    Ok(lines_response(alloc, to, lines)?)
 }
 
 /// Does what a breakpoint command asks for, at a moment in the file of this number, and answers it. DBGp 1.0, "breakpoint_set",
@@ -199,7 +182,7 @@ pub fn answer_breakpoints(
         Request::BreakpointUpdate(update) => {
             update_breakpoint(alloc, bundle, to, &update, breaks)
         }
-        Request::BreakpointList => list_breakpoints(alloc, bundle, to, breaks),
+        Request::BreakpointList => Ok(list_response(alloc, bundle, to, breaks.list())?),
         _ => Err(BreakpointError::Code(4)),
     }
 }

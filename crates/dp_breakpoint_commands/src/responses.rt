@@ -1,8 +1,11 @@
 //! The responses to breakpoint commands.
 
-ghost use Rattle.std.specs.Prelude.{◌≡◌, ◌∷◌, [], decimal, IfOk};
+ghost use Rattle.std.specs.Prelude.{◌≡◌, ◌≤◌, ◌∷◌, [], codes, decimal, length, IfOk};
 ghost use Rattle.dp_breakpoint_commands.specs.Commands as spec;
 ghost use Rattle.dp_packet.specs.Breakpoints as breakpoints;
+ghost use Rattle.dp_packet.specs.declared.packet.Packet.TheVariants as packet;
+ghost use Rattle.dp_packet.specs.Text.{text};
+ghost use Rattle.dp_wire.specs.Frames.{packet_limit};
 
 use dp_command::Addressee;
 use dp_packet::{Body, BreakLine, Response};
@@ -52,23 +55,34 @@ fn response(
 
 /// A response that says nothing but that the command is done.
 pub(crate) fn bare_response(alloc: Global, to: &Addressee) -> Result<Response, Memory>
-    ensures { IfOk result (λ r. r ≡ spec.bare_response to.now.command to.now.id) }
+    ensures value { IfOk result (λ r. r ≡ spec.bare_response to.now.command to.now.id) }
+    ensures short { IfOk result (λ r. length (text (packet.Response r)) ≤ packet_limit) }
 {
     response(alloc, to, Vec::new(alloc), Body::Nothing)
 }
 
-/// The state and the id of a new breakpoint.
+// The state and the id of a new breakpoint.
+fn set_attributes(alloc: Global, enabled: bool, id: u32) -> Result<Vec<(Bytes, Bytes)>, Memory>
+    ensures { IfOk result (λ attributes. attributes.items
+        ≡ (codes "state", breakpoints.state_name enabled) ∷ (codes "id", decimal id) ∷ []) }
+{
+    let mut attributes = Vec::new(alloc);
+    attributes.push(pair(alloc, b"state", state_name(enabled))?)?;
+    attributes.push(number_pair(alloc, b"id", id)?)?;
+    Ok(attributes)
+}
+
+/// A response with the state and the id of a new breakpoint.
 pub(crate) fn set_response(
     alloc: Global,
     to: &Addressee,
     enabled: bool,
     id: u32,
 ) -> Result<Response, Memory>
-    ensures { IfOk result (λ r. r ≡ spec.set_response to.now.command to.now.id enabled id) }
+    ensures value { IfOk result (λ r. r ≡ spec.set_response to.now.command to.now.id enabled id) }
+    ensures short { IfOk result (λ r. length (text (packet.Response r)) ≤ packet_limit) }
 {
-    let mut attributes = Vec::new(alloc);
-    attributes.push(pair(alloc, b"state", state_name(enabled))?)?;
-    attributes.push(number_pair(alloc, b"id", id)?)?;
+    let attributes = set_attributes(alloc, enabled, id)?;
     response(alloc, to, attributes, Body::Nothing)
 }
 

@@ -2,6 +2,7 @@
 
 ghost use Rattle.std.specs.Prelude.{◌≡◌, true, is_some, IfOk, OnErr, option_and_then};
 ghost use Rattle.dp_breakpoint_commands.specs.Showing as spec;
+ghost use Rattle.dp_breakpoint_commands.specs.inner.Numbers.{HasNumbers};
 
 use dp_break::Breakpoint;
 use dp_packet::{BreakLine, file_uri};
@@ -53,4 +54,16 @@ pub fn breakpoint_line(alloc: Global, bundle: &Bundle, b: &Breakpoint) -> Result
         temporary: b.temporary,
         expression: copy_of(&b.expression)?,
     })
+}
+
+/// What the types of a breakpoint's numbers say.
+pub(crate) fn read_numbers(b: &Breakpoint)
+    ensures { HasNumbers b.now }
+{
+    let _id = b.id;
+    let _hits = b.hits;
+    let _hit_value = b.hit_value;
+    if let Some(line) = b.line {
+        let _line = line;
+    }
 }
