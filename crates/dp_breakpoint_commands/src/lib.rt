@@ -17,6 +17,6 @@ pub use changing::breakpoint_change;
 pub use dp_value::Memory;
 pub use errors::BreakpointError;
 pub use files::requested_file;
-pub use laws::file_uris_are_read_back;
+pub use laws::{file_uris_are_read_back, refusals_have_messages};
 pub use setting::breakpoint_request;
 pub use showing::breakpoint_line;
