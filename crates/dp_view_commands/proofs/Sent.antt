@@ -1,5 +1,5 @@
 -- Of each view: its response is sent as a packet and tells no error, or its code has a message.
-use Rattle.std.proofs.Common.{◌≡◌, ◌≢◌, ℕ, ◌≤◌, ◌<◌, Bool, true, false, cond, Option, Some, None, nat_le, nat_lt, length, refl, subst, arith}
+use Rattle.std.proofs.Common.{◌≡◌, ◌≢◌, ℕ, ◌<◌, Bool, true, false, cond, Option, Some, None, nat_lt, length, refl, subst, arith}
 use Rattle.std.specs.Prelude.{◌||◌, ok_or, option_map, Result, Ok, Err, IfOk}
 use Rattle.std.proofs.lemmas.Bool.{leb-true}
 use Rattle.dp_command.specs.declared.command.Request.{Request}

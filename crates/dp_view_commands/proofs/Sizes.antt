@@ -1,6 +1,6 @@
 -- How long responses are.
-use Rattle.std.proofs.Common.{◌≡◌, ◌≢◌, ℕ, ◌+◌, ◌*◌, ◌≤◌, true, List, [], ◌∷◌, length, codes, refl, arith}
-use Rattle.dp_markup.specs.Escaping.{escaped, escaped_all}
+use Rattle.std.proofs.Common.{◌≡◌, ℕ, ◌+◌, ◌*◌, ◌≤◌, List, [], ◌∷◌, length, codes, arith}
+use Rattle.dp_markup.specs.Escaping.{escaped}
 use Rattle.dp_markup.specs.Writing.{attribute_text, nodes_text}
 use Rattle.dp_packet.specs.declared.packet.Body.{Body}
 use Rattle.dp_packet.specs.declared.packet.Body.TheVariants as body

@@ -12,8 +12,16 @@ use dp_command::Addressee;
 use dp_packet::{Body, Response};
 use dp_state::State;
 use dp_tree::Bundle;
+use dp_value::{Bytes, Items, Memory};
 use dp_view::{ViewError, contexts, stack};
 use std::alloc::Global;
+
+// The number of frames as an attribute.
+fn depth_attributes(alloc: Global, state: &State) -> Result<Items<(Bytes, Bytes)>, Memory>
+    ensures { IfOk result (λ made. (made, body.Nothing) ≡ spec.depth_part state.now) }
+{
+    number(alloc, b"depth", state.frames.len() as u64)
+}
 
 /// The number of frames.
 pub(crate) fn depth_response(
@@ -23,7 +31,7 @@ pub(crate) fn depth_response(
 ) -> Result<Response, ViewError>
     ensures answer { Answers result (spec.answered to.now.command to.now.id (Ok (spec.depth_part state.now))) }
 {
-    let attributes = number(alloc, b"depth", state.frames.len() as u64)?;
+    let attributes = depth_attributes(alloc, state)?;
     limited(respond(alloc, to, attributes, Body::Nothing)?)
 }
 

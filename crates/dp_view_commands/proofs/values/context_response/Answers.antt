@@ -1,12 +1,11 @@
-use Rattle.std.proofs.Common.{◌≡◌, ℕ, List, sym, subst, ap, ◌∙◌}
-use Rattle.std.specs.Prelude.{Result, Ok, Err, None}
+use Rattle.std.proofs.Common.{◌≡◌, ℕ, List, subst}
+use Rattle.std.specs.Prelude.{Ok, None}
 use Rattle.dp_packet.specs.declared.packet.Body.TheVariants as body
 use Rattle.dp_packet.specs.declared.property.Property.{Property}
-use Rattle.dp_view.specs.declared.error.ViewError.{ViewError}
 use Rattle.dp_view.specs.declared.paging.Paging.{Paging}
-use Rattle.dp_view.specs.Answers.{Refuses, and_then}
+use Rattle.dp_view.specs.Answers.{Refuses}
 use Rattle.dp_view.specs.Properties.{context_at}
-use Rattle.dp_view_limits.specs.Limits.{limited_context, properties_size, within}
+use Rattle.dp_view_limits.specs.Limits.{limited_context, properties_size}
 use Rattle.dp_view_commands.specs.Views.{Part, context_attributes, paging}
 use Rattle.dp_view_commands.specs.inner.Making.{around}
 use Rattle.dp_view_commands.proofs.Limited.{made_answers, refused_answers}

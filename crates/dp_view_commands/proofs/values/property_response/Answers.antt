@@ -1,8 +1,7 @@
-use Rattle.std.proofs.Common.{◌≡◌, ℕ, [], ◌∷◌, sym, subst, ap, ◌∙◌}
-use Rattle.std.specs.Prelude.{Result, Ok, Err}
+use Rattle.std.proofs.Common.{◌≡◌, [], ◌∷◌, subst}
+use Rattle.std.specs.Prelude.{Ok, Err}
 use Rattle.dp_packet.specs.declared.packet.Body.TheVariants as body
 use Rattle.dp_packet.specs.declared.property.Property.{Property}
-use Rattle.dp_state.specs.declared.moments.Path.{Path}
 use Rattle.dp_view.specs.declared.paging.Paging.{Paging}
 use Rattle.dp_view.specs.Answers.{AnswersAfter}
 use Rattle.dp_view.specs.Named.{named_path, named_property}
