@@ -45,7 +45,8 @@ abbrev pub with_new : Breakpoint → Table → Table
 with_new b t = record { held = t.held ++ b ∷ []; next = t.next + 1 }
 
 -- a request is accepted, and gets this id
-pub record Adds (bundle : Bundle) (before : Table) (r : BreakRequest) (id : ℕ) (after : Table) : Type 0 where
+pub record Adds (bundle : Bundle) (before : Table) (r : BreakRequest) (id : ℕ)
+    (after : Table) : Type 0 where
   pub accepted : request_refusal bundle before r ≡ None
   pub numbered : id ≡ before.next
   pub held : after ≡ with_new (asked before.next (tree_of r.expression) r) before

@@ -1,5 +1,5 @@
--- When a breakpoint hits, and when one that hits stops the program: DBGp 1.0, "Breakpoints". That a hit is counted only
--- where the expression is true is this engine's own.
+-- When a breakpoint hits, and when one that hits stops the program: DBGp 1.0, "Breakpoints". That a
+-- hit is counted only where the expression is true is this engine's own.
 use Rattle.std.specs.Prelude.{ℕ, ◌%◌, ◌==◌, nat_le, Bool, true, false, ◌&&◌, ◌||◌, if◌then◌else◌, List, Option, Some, None, is_some}
 use Rattle.std.specs.Option.{option_map_or}
 use Rattle.std.specs.Str.{str_eq_ignore_ascii_case}
@@ -63,13 +63,16 @@ is_named_by given name = false
 abbrev pub is_place_of : Breakpoint → Moment → Bool
 is_place_of b moment =
     awaits b.kind moment.kind && is_met_by b.file moment.file
-    && (if is_of_function b.kind then is_named_by b.function moment.function else is_met_by b.line moment.line)
+    && (if is_of_function b.kind then is_named_by b.function moment.function
+    else is_met_by b.line moment.line)
 
 -- ---- hits
 
--- it is enabled, its place matches, and its expression is missing or true in the state of the moment
+-- it is enabled, its place matches, and its expression is missing or true in the state of the
+-- moment
 abbrev pub hits : Bundle → Moment × State → Breakpoint → Bool
-hits bundle at b = b.enabled && is_place_of b at.0 && option_map_or (λ e. is_true_in bundle e at.1) b.parsed true
+hits bundle at b =
+    b.enabled && is_place_of b at.0 && option_map_or (λ e. is_true_in bundle e at.1) b.parsed true
 
 -- whether it hits there depends on its expression
 abbrev pub asks_expression : Moment → Breakpoint → Bool

@@ -1,5 +1,5 @@
--- Why a breakpoint is refused, by the codes of DBGp 1.0, "Error Codes": 3, 200, 202, 203, 205 and 207. Which case has which
--- code, and their order, are this engine's own.
+-- Why a breakpoint is refused, by the codes of DBGp 1.0, "Error Codes": 3, 200, 202, 203, 205 and
+-- 207. Which case has which code, and their order, are this engine's own.
 use Rattle.std.specs.Prelude.{◌≡◌, ℕ, ◌==◌, nat_le, nat_lt, Bool, false, ◌&&◌, ◌||◌, if◌then◌else◌, length, slice_get, Option, Some, None, is_some, Result, Ok, Err, ⊤}
 use Rattle.std.specs.Option.{option_map_or, option_or}
 use Rattle.dp_tree.specs.declared.bundle.Bundle.{Bundle}
@@ -48,11 +48,13 @@ code_if holds code = if holds then Some code else None
 
 -- the first of the codes 200, 202, 203 and 207 whose test holds
 abbrev pub request_refusal : Bundle → Table → BreakRequest → Option ℕ
-request_refusal bundle t r = option_or (place_refusal bundle t r) (code_if (has_no_tree r.expression) 207)
+request_refusal bundle t r =
+    option_or (place_refusal bundle t r) (code_if (has_no_tree r.expression) 207)
 
 -- the same, where it needs no look at what an expression says
 abbrev pub plain_refusal : Bundle → Table → BreakRequest → Option ℕ
-plain_refusal bundle t r = option_or (place_refusal bundle t r) (code_if (is_too_long r.expression) 207)
+plain_refusal bundle t r =
+    option_or (place_refusal bundle t r) (code_if (is_too_long r.expression) 207)
 
 -- why a request is not accepted: it is refused, or memory runs out
 abbrev pub IsCause : Option ℕ → BreakError → Type 0
@@ -64,7 +66,8 @@ IsCause refusal error.Memory = ⊤
 -- a line is given to a breakpoint on a function: 3; else that of the line
 abbrev pub change_refusal : Bundle → BreakChange → Breakpoint → Option ℕ
 change_refusal bundle c b =
-    if is_of_function b.kind && is_some c.line then Some 3 else asked_line_refusal bundle b.file c.line
+    if is_of_function b.kind && is_some c.line then Some 3
+    else asked_line_refusal bundle b.file c.line
 
 -- there is no such breakpoint: 205
 abbrev pub update_refusal : Bundle → BreakChange → Option Breakpoint → Option ℕ

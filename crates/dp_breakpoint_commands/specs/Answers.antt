@@ -1,4 +1,5 @@
--- What a command is answered where it asks for nothing that can be done: a refusal, by the codes of DBGp 1.0, "Error Codes".
+-- What a command is answered where it asks for nothing that can be done: a refusal, by the codes of
+-- DBGp 1.0, "Error Codes".
 use Rattle.std.specs.Prelude.{◌≡◌, ℕ, Option, Some, None, Result, Ok, Err, ⊤}
 use Rattle.dp_break.specs.declared.errors.BreakError.{BreakError}
 use Rattle.dp_break.specs.declared.errors.BreakError.TheVariants as held

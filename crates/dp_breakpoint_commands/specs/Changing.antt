@@ -1,5 +1,5 @@
--- The change that a breakpoint_update command asks for, and why it is refused: DBGp 1.0, "breakpoint_update". Which case has which
--- code, and their order, are this engine's own.
+-- The change that a breakpoint_update command asks for, and why it is refused: DBGp 1.0,
+-- "breakpoint_update". Which case has which code, and their order, are this engine's own.
 use Rattle.std.specs.Prelude.{◌&&◌, List, [], ◌∷◌, is_some}
 use Rattle.dp_break.specs.Hits.{is_of_function}
 use Rattle.dp_break.specs.declared.breakpoint.BreakChange.{BreakChange}

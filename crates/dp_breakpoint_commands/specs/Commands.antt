@@ -1,5 +1,6 @@
--- What the breakpoint commands do with the breakpoints that are held, why one is refused, and what is answered: DBGp 1.0,
--- "breakpoint_set", "breakpoint_get", "breakpoint_update", "breakpoint_remove", "breakpoint_list".
+-- What the breakpoint commands do with the breakpoints that are held, why one is refused, and what
+-- is answered: DBGp 1.0, "breakpoint_set", "breakpoint_get", "breakpoint_update",
+-- "breakpoint_remove", "breakpoint_list".
 use Rattle.std.specs.Prelude.{ℕ, nat_le, Bool, true, false, ◌||◌, List, [], ◌∷◌, ◌++◌, length, map, take_while, Option, Some, None, is_none, is_some, unwrap_or, codes, decimal}
 use Rattle.std.specs.Option.{option_map_or, option_or}
 use Rattle.dp_break.specs.declared.breakpoint.Breakpoint.{Breakpoint}
@@ -33,10 +34,12 @@ use Rattle.dp_breakpoint_commands.specs.Words.{meant, state_named}
 
 -- ---- refusals
 
--- a new breakpoint, asked for at a moment in this file: by its words and its file, then by what is held, its line and expression
+-- a new breakpoint, asked for at a moment in this file: by its words and its file, then by what is
+-- held, its line and expression
 abbrev pub set_refusal : Bundle → ℕ → Table → BreakpointSet → Option ℕ
 set_refusal bundle here t set =
-    option_or (setting.refusal bundle set) (request_refusal bundle t (setting.request bundle here set))
+    option_or (setting.refusal bundle set)
+    (request_refusal bundle t (setting.request bundle here set))
 
 -- there is no breakpoint of this id: 205
 abbrev pub id_refusal : Table → ℕ → Option ℕ
@@ -51,7 +54,8 @@ abbrev pub update_refusal : Bundle → Table → BreakpointUpdate → Option ℕ
 update_refusal bundle t update =
     option_map_or (change_refused bundle update) (held_as t.held update.id) (Some 205)
 
--- the code with which a command is refused at a moment in this file, if it is; one that is no breakpoint command is none here
+-- the code with which a command is refused at a moment in this file, if it is; one that is no
+-- breakpoint command is none here
 abbrev pub breakpoint_refusal : Bundle → ℕ → Table → Request → Option ℕ
 breakpoint_refusal bundle here t (request.BreakpointSet set) = set_refusal bundle here t set
 breakpoint_refusal bundle here t (request.Breakpoint action id) = id_refusal t id
@@ -79,7 +83,8 @@ acted_on Remove id t = without id t
 abbrev pub breakpoint_table : Bundle → ℕ → Request → Table → Table
 breakpoint_table bundle here (request.BreakpointSet set) t = set_table bundle here set t
 breakpoint_table bundle here (request.Breakpoint action id) t = acted_on action id t
-breakpoint_table bundle here (request.BreakpointUpdate update) t = with_change update.id (change update) t
+breakpoint_table bundle here (request.BreakpointUpdate update) t =
+    with_change update.id (change update) t
 breakpoint_table bundle here other t = t
 
 -- ---- responses
@@ -95,19 +100,22 @@ bare_response command id = response command id [] body.Nothing
 -- the state and the id of a new breakpoint
 abbrev pub set_response : Text → Text → Bool → ℕ → Response
 set_response command id enabled number =
-    response command id ((codes "state", state_name enabled) ∷ (codes "id", decimal number) ∷ []) body.Nothing
+    response command id ((codes "state", state_name enabled) ∷ (codes "id", decimal number) ∷ [])
+    body.Nothing
 
 abbrev pub lines_response : Text → Text → List BreakLine → Response
 lines_response command id lines = response command id [] (body.Breakpoints lines)
 
 -- these breakpoints fit in a packet
 abbrev pub lines_fit : Text → Text → List BreakLine → Bool
-lines_fit command id lines = nat_le (length (text (packet.Response (lines_response command id lines)))) packet_limit
+lines_fit command id lines =
+    nat_le (length (text (packet.Response (lines_response command id lines)))) packet_limit
 
 -- the first of these breakpoints, up to the one with which they would not fit
 abbrev pub listed : Text → Text → List BreakLine → List BreakLine
 listed command id lines =
-    map (λ line. line.here) (take_while (λ line. lines_fit command id (line.past ++ line.here ∷ [])) (each_in lines))
+    map (λ line. line.here) (take_while (λ line. lines_fit command id (line.past ++ line.here ∷ []))
+    (each_in lines))
 
 -- a breakpoint that was found
 abbrev pub found_line : Bundle → Option Breakpoint → List BreakLine

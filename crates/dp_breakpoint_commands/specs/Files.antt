@@ -1,5 +1,5 @@
--- The file of a program that a value of `-f` names. DBGp 1.0, "File paths", names files by URIs. That a bare name does too, and
--- that one leading `/` does not count, is this engine's own.
+-- The file of a program that a value of `-f` names. DBGp 1.0, "File paths", names files by URIs.
+-- That a bare name does too, and that one leading `/` does not count, is this engine's own.
 use Rattle.std.specs.Prelude.{ℕ, nat_eq, Bool, if◌then◌else◌, List, length, drop, codes, Option, position}
 use Rattle.std.specs.List.{starts_with}
 use Rattle.std.specs.Str.{bytes_eq}
@@ -15,7 +15,8 @@ uri_front = codes "file:///"
 abbrev pub is_uri : List ℕ → Bool
 is_uri value = starts_with nat_eq value uri_front
 
--- the name in a value: behind `file:///` with its percent escapes decoded, and else the value as it is
+-- the name in a value: behind `file:///` with its percent escapes decoded, and else the value as it
+-- is
 unfoldable pub name_in : List ℕ → List ℕ
 name_in value =
     if is_uri value then percent_decode (drop (length uri_front) value) else value

@@ -1,5 +1,5 @@
--- The breakpoint that a breakpoint_set command asks for, and why it is refused: DBGp 1.0, "breakpoint_set". Which case has which
--- code, and their order, are this engine's own.
+-- The breakpoint that a breakpoint_set command asks for, and why it is refused: DBGp 1.0,
+-- "breakpoint_set". Which case has which code, and their order, are this engine's own.
 use Rattle.std.specs.Prelude.{ℕ, Bool, true, false, ◌&&◌, ◌||◌, if◌then◌else◌, List, [], ◌∷◌, ◌++◌, Option, is_some, is_none, unwrap_or}
 use Rattle.std.specs.Option.{option_map_or}
 use Rattle.dp_break.specs.Hits.{is_of_function}
@@ -25,7 +25,8 @@ lacks_part Conditional set = is_none set.expression
 -- a line of a function, a function of a line, or an exception
 abbrev pub has_part_too_many : BreakKind → BreakpointSet → Bool
 has_part_too_many kind set =
-    (if is_of_function kind then is_some set.line else is_some set.function) || is_some set.exception
+    (if is_of_function kind then is_some set.line else is_some set.function)
+    || is_some set.exception
 
 -- the line is no number, or the hit rule or the flag is none
 abbrev pub has_malformed_part : BreakpointSet → Bool
@@ -61,8 +62,8 @@ refusal bundle set = first_code (own_tests bundle set)
 
 -- ---- requests
 
--- The breakpoint that a command asks for at a moment in this file. Of a command that is not refused each word has its meaning;
--- what stands for one that is missing is said here for all.
+-- The breakpoint that a command asks for at a moment in this file. Of a command that is not refused
+-- each word has its meaning; what stands for one that is missing is said here for all.
 abbrev pub request : Bundle → ℕ → BreakpointSet → BreakRequest
 request bundle here set =
     let kind = unwrap_or (kind_named set.kind) Line in

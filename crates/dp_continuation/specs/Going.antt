@@ -1,5 +1,5 @@
--- Where a program comes to that goes on past a moment, and what is held of breakpoints then. The mode
--- is the test by which the command stops.
+-- Where a program comes to that goes on past a moment, and what is held of breakpoints then. The
+-- mode is the test by which the command stops.
 use Rattle.std.specs.Prelude.{◌≡◌, ℕ, Bool, List, Option, Some, None}
 use Rattle.dp_break.specs.declared.breakpoint.Breakpoint.{Breakpoint}
 use Rattle.dp_break.specs.Passing.{held_after, passed, stop_above}
@@ -14,7 +14,8 @@ use Rattle.dp_continuation.specs.declared.arrival.Arrival.TheVariants.{Moment, E
 use Rattle.dp_continuation.specs.Stops.{depth_of}
 
 -- the moment past n at which it stops, if it stops
-abbrev pub stop_past : (AnyMoment → Bool) → Bundle → ℕ → List NumberedWrite → List Breakpoint → ℕ → Option ℕ
+abbrev pub stop_past : (AnyMoment → Bool) → Bundle → ℕ → List NumberedWrite → List Breakpoint → ℕ
+    → Option ℕ
 stop_past mode bundle bound writes held n =
     stop_above mode bundle held n (program_trace bundle bound writes).moments
 
@@ -22,7 +23,10 @@ stop_past mode bundle bound writes held n =
 abbrev pub table_past : (AnyMoment → Bool) → Bundle → ℕ → List NumberedWrite → Table → ℕ → Table
 table_past mode bundle bound writes t n =
     let stop = stop_past mode bundle bound writes t.held n in
-    record t { held = held_after bundle (passed n stop (program_trace bundle bound writes).moments) t.held }
+    record t {
+      held = held_after bundle (passed n stop (program_trace bundle bound writes).moments)
+          t.held;
+    }
 
 -- where a program has come to that stops at this moment, or at none
 abbrev pub Arrives : Bundle → ℕ → List NumberedWrite → Option ℕ → Arrival → Type 0

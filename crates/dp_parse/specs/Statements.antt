@@ -253,7 +253,8 @@ pub record Depth : Type 0 where
 abbrev pub IsStatement : Depth → Rule Body
 IsStatement depth =
     OnItsLine (AnyStatement depth.bodies 0
-    (IsExpression depth.expressions) (IsPlace depth.expressions) (body_at depth.expressions depth.bodies))
+    (IsExpression depth.expressions) (IsPlace depth.expressions)
+    (body_at depth.expressions depth.bodies))
 
 -- ---- files
 

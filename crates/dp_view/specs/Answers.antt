@@ -1,5 +1,6 @@
--- What a view answers: what a state shows, or the code of the error response. DBGp 1.0, "Error Codes": 300 is that there is
--- no such property, 301 that there is no such level of the stack, 302 that there is no such context.
+-- What a view answers: what a state shows, or the code of the error response. DBGp 1.0, "Error
+-- Codes": 300 is that there is no such property, 301 that there is no such level of the stack, 302
+-- that there is no such context.
 use Rattle.std.specs.Prelude.{◌≡◌, ℕ, Result, Ok, Err, IsOk}
 use Rattle.dp_view.specs.declared.error.ViewError.{ViewError}
 use Rattle.dp_view.specs.declared.error.ViewError.TheVariants.{Code, Memory}
@@ -9,7 +10,8 @@ abbrev pub and_then : {A B : Type 0} → (A → Result B ℕ) → Result A ℕ �
 and_then view (Ok a) = view a
 and_then view (Err code) = Err code
 
--- A call is refused with the code that is asked for. Memory may run out only where something is shown.
+-- A call is refused with the code that is asked for. Memory may run out only where something is
+-- shown.
 abbrev pub Refuses : {Y : Type 0} → ViewError → Result Y ℕ → Type 0
 Refuses (Code code) asked = asked ≡ Err code
 Refuses Memory asked = IsOk asked
@@ -29,7 +31,8 @@ AnswersSurely view (Ok x) asked = asked ≡ Ok (view x)
 AnswersSurely view (Err e) asked = RefusesSurely e asked
 
 -- The same of a call that looks for something first: memory may run out only where that is there.
-abbrev pub AnswersAfter : {X Y Z : Type 0} → (X → Y) → Result X ViewError → Result Z ℕ → Result Y ℕ → Type 0
+abbrev pub AnswersAfter : {X Y Z : Type 0} → (X → Y) → Result X ViewError → Result Z ℕ → Result Y ℕ
+    → Type 0
 AnswersAfter view (Ok x) first asked = asked ≡ Ok (view x)
 AnswersAfter view (Err (Code code)) first asked = asked ≡ Err code
 AnswersAfter view (Err Memory) first asked = IsOk first

@@ -1,5 +1,5 @@
--- The names of properties that are read: DBGp 1.0, "Properties, variables and values", on `fullname`. Single quotes, the missing
--- `$` and the escapes are this engine's own.
+-- The names of properties that are read: DBGp 1.0, "Properties, variables and values", on
+-- `fullname`. Single quotes, the missing `$` and the escapes are this engine's own.
 use Rattle.std.specs.Prelude.{◌≡◌, ℕ, ℤ, ◌≤◌, true, Bool, not, ◌&&◌, ◌⊎◌, ◌==◌, if◌then◌else◌, List, [], ◌∷◌, ◌++◌, length, codes, Option, Some, None}
 use Rattle.std.specs.List.{AllByRecursion}
 use Rattle.dp_lexer.specs.Pieces.{IsName, longest_name}
@@ -14,7 +14,8 @@ abbrev pub Rule : Type 1
 Rule = List ℕ → Type 0
 
 -- the one part and then the other
-pub record Joined (first_rule : List ℕ → Type 0) (second_rule : List ℕ → Type 0) (bytes : List ℕ) : Type 0 where
+pub record Joined (first_rule : List ℕ → Type 0) (second_rule : List ℕ → Type 0)
+    (bytes : List ℕ) : Type 0 where
   pub front : List ℕ
   pub back : List ℕ
   pub whole : bytes ≡ front ++ back
@@ -56,22 +57,26 @@ is_plain quote b = not (b == quote) && not (b == 92) && not (b == 0)
 -- what a backslash and this byte stand for: `\"`, `\\`, `\0`, and `\'` between single quotes
 abbrev pub pair_of : ℕ → ℕ → Option ℕ
 pair_of quote c =
-    if c == 34 then Some 34 else if c == 92 then Some 92 else if c == 48 then Some 0 else if c == quote then Some quote else None
+    if c == 34 then Some 34 else if c == 92 then Some 92 else if c == 48 then Some 0
+    else if c == quote then Some quote else None
 
 -- a byte between quotes, as itself or as a pair
 abbrev pub Within : ℕ → ℕ → Rule
 Within quote b bytes =
-    ((is_plain quote b ≡ true) × (bytes ≡ b ∷ [])) ⊎ ((c : ℕ) × (pair_of quote c ≡ Some b) × (bytes ≡ 92 ∷ c ∷ []))
+    ((is_plain quote b ≡ true) × (bytes ≡ b ∷ []))
+    ⊎ ((c : ℕ) × (pair_of quote c ≡ Some b) × (bytes ≡ 92 ∷ c ∷ []))
 
 -- a text between quotes
 abbrev pub Quoted : ℕ → List ℕ → Rule
 Quoted quote value = Mark (quote ∷ []) >> Repeated (Within quote) value >> Mark (quote ∷ [])
 
--- what may stand between brackets for a key: an integer of 64 bits in its shortest form, or a text between quotes, which becomes a key as an index does
+-- what may stand between brackets for a key: an integer of 64 bits in its shortest form, or a text
+-- between quotes, which becomes a key as an index does
 abbrev pub Inner : Key → Rule
 Inner key bytes =
     ((n : ℤ) × (int_of_text bytes ≡ Some n) × (key ≡ Int n))
-    ⊎ ((quote : ℕ) × (value : List ℕ) × IsQuote quote × Quoted quote value bytes × (key ≡ key_of_text value))
+    ⊎ ((quote : ℕ) × (value : List ℕ) × IsQuote quote × Quoted quote value bytes
+    × (key ≡ key_of_text value))
 
 abbrev pub Index : Key → Rule
 Index key = Mark (codes "[") >> Inner key >> Mark (codes "]")

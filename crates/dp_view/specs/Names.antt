@@ -1,5 +1,5 @@
--- The names of properties: DBGp 1.0, "Properties, variables and values", on `name` and `fullname`. The escapes of a key are
--- this engine's own.
+-- The names of properties: DBGp 1.0, "Properties, variables and values", on `name` and `fullname`.
+-- The escapes of a key are this engine's own.
 use Rattle.std.specs.Prelude.{ℕ, ℤ, ◌-◌, length, slice_get, List, [], ◌∷◌, ◌++◌, codes, Option, option_map}
 use Rattle.std.specs.Fmt.{signed_decimal}
 use Rattle.std.specs.List.{flat_map}
@@ -34,7 +34,8 @@ index_of (Text bytes) = text_index bytes
 abbrev pub last_key : Path → Option Key
 last_key path = slice_get path.keys (length path.keys - 1)
 
--- what a user calls what stands at a path: the text of the last key, or the variable where there is no key
+-- what a user calls what stands at a path: the text of the last key, or the variable where there is
+-- no key
 abbrev pub own_name : Path → List ℕ
 own_name path = option_map_or key_text (last_key path) (variable_name path.name)
 

@@ -1,5 +1,5 @@
--- Properties that stand in others. Each of them, however deep, is what is shown of a path of its own, so that the full name
--- that it shows asks for it.
+-- Properties that stand in others. Each of them, however deep, is what is shown of a path of its
+-- own, so that the full name that it shows asks for it.
 use Rattle.std.specs.Prelude.{◌≡◌, ℕ, zero, suc, ◌-◌, List, [], ◌∷◌, ◌++◌, length, slice_get, Option, Some, option_and_then, Ok}
 use Rattle.dp_packet.specs.declared.property.Property.{Property}
 use Rattle.dp_packet.specs.declared.property.Shape.{Shape}
@@ -33,8 +33,10 @@ deeper (suc n) p = record p { depth = p.depth - suc n; page = 0 }
 abbrev pub with_keys : Path → List Key → Path
 with_keys path keys = record path { keys = path.keys ++ keys }
 
--- a property so many levels below that of a path is what is shown of the path that goes on by as many keys
-pub record IsOfPath (s : State) (level id : ℕ) (path : Path) (p : Paging) (levels : ℕ) (q : Property) : Type 0 where
+-- a property so many levels below that of a path is what is shown of the path that goes on by as
+-- many keys
+pub record IsOfPath (s : State) (level id : ℕ) (path : Path) (p : Paging) (levels : ℕ)
+    (q : Property) : Type 0 where
   pub keys : List Key
   pub as_many : length keys ≡ levels
   pub shown : property_at s level id (with_keys path keys) (deeper levels p) ≡ Ok q
@@ -42,7 +44,8 @@ pub record IsOfPath (s : State) (level id : ℕ) (path : Path) (p : Paging) (lev
 -- so is each property at and below this one, which is shown of a path
 abbrev pub HasPaths : State → ℕ → ℕ → Path → Paging → Property → Type 0
 HasPaths s level id path p made =
-    (places : List ℕ) (q : Property) → below places made ≡ Some q → IsOfPath s level id path p (length places) q
+    (places : List ℕ) (q : Property) → below places made ≡ Some q
+    → IsOfPath s level id path p (length places) q
 
 -- a property is shown of a variable
 pub record IsOfVariable (s : State) (level id : ℕ) (p : Paging) (q : Property) : Type 0 where

@@ -1,4 +1,5 @@
--- What stands where in a state: the variables of the contexts at a level, and the values in them. DBGp 1.0, "Contexts".
+-- What stands where in a state: the variables of the contexts at a level, and the values in them.
+-- DBGp 1.0, "Contexts".
 use Rattle.std.specs.Prelude.{ℕ, ◌==◌, nat_lt, if◌then◌else◌, List, [], ◌∷◌, length, codes, Option, Some, None, ok_or, option_and_then, Result, Err}
 use Rattle.dp_state.specs.declared.moments.Path.{Path}
 use Rattle.dp_state.specs.declared.state.State.{State}
@@ -20,8 +21,8 @@ abbrev pub variables_of : State → ℕ → ℕ → Option Variables
 variables_of s level id =
     if id == 0 then Some (variables_at s level) else if id == 1 then Some s.globals else None
 
--- The same, or the code of a refusal: 301 where the level is not below the number of frames, else 302 where there is no
--- such context.
+-- The same, or the code of a refusal: 301 where the level is not below the number of frames, else
+-- 302 where there is no such context.
 abbrev pub shown_variables : State → ℕ → ℕ → Result Variables ℕ
 shown_variables s level id =
     if nat_lt level (length s.frames) then ok_or (variables_of s level id) 302 else Err 301
@@ -36,12 +37,16 @@ abbrev pub value_under : List Key → Data → Option Data
 value_under [] d = Some d
 value_under (key ∷ keys) d = option_and_then (value_under keys) (entry_of key d)
 
--- what stands at a path among variables; one that is bound has the value of the global variable of its name
+-- what stands at a path among variables; one that is bound has the value of the global variable of
+-- its name
 abbrev pub value_among : Variables → Path → Variables → Option Data
 value_among globals path variables =
-    option_and_then (λ value. value_under path.keys (data_of value)) (value_in globals variables path.name)
+    option_and_then (λ value. value_under path.keys (data_of value))
+    (value_in globals variables path.name)
 
--- what stands at a path in a context at a level, or the code of a refusal: 301, 302, and 300 where nothing stands there
+-- what stands at a path in a context at a level, or the code of a refusal: 301, 302, and 300 where
+-- nothing stands there
 abbrev pub value_at : State → ℕ → ℕ → Path → Result Data ℕ
 value_at s level id path =
-    and_then (λ variables. ok_or (value_among s.globals path variables) 300) (shown_variables s level id)
+    and_then (λ variables. ok_or (value_among s.globals path variables) 300)
+    (shown_variables s level id)

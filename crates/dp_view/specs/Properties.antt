@@ -24,19 +24,21 @@ use Rattle.dp_view.specs.Places.{shown_variables, value_at}
 abbrev pub page_of : {A : Type 0} → ℕ → ℕ → List A → List A
 page_of page size entries = take size (drop (page * size) entries)
 
--- What is shown of a value. A text has its whole length and its first bytes; an array has the number of all its entries, and
--- what `nest` shows of those of this page.
+-- What is shown of a value. A text has its whole length and its first bytes; an array has the
+-- number of all its entries, and what `nest` shows of those of this page.
 abbrev pub shape_of : Paging → ℕ → (List (Key × Data) → List Property) → Data → Shape
 shape_of p page nest null = shape.Null
 shape_of p page nest (boolean b) = shape.Bool b
 shape_of p page nest (integer n) = shape.Int n
 shape_of p page nest (text bytes) = shape.Text (length bytes) (take p.bytes bytes)
 shape_of p page nest (array es largest) =
-    shape.Array (length (pairs_of es)) page p.children (nest (page_of page p.children (pairs_of es)))
+    shape.Array (length (pairs_of es)) page p.children
+    (nest (page_of page p.children (pairs_of es)))
 
--- the property of an entry of an array with this full name; `nest` shows the entries of one that is an array, of which
--- page 0 is shown
-abbrev pub entry_property : Paging → (Option (List ℕ) → List (Key × Data) → List Property) → Option (List ℕ)
+-- the property of an entry of an array with this full name; `nest` shows the entries of one that is
+-- an array, of which page 0 is shown
+abbrev pub entry_property : Paging → (Option (List ℕ) → List (Key × Data) → List Property)
+    → Option (List ℕ)
     → Key × Data → Property
 entry_property p nest full e = record {
   name = Some (key_text e.0);
@@ -44,12 +46,14 @@ entry_property p nest full e = record {
   shape = shape_of p 0 (nest (entry_name full e.0)) e.1;
 }
 
--- what is shown of the entries of an array with this full name, where so many levels are left: with none left no entry
+-- what is shown of the entries of an array with this full name, where so many levels are left: with
+-- none left no entry
 abbrev pub nested : Paging → ℕ → Option (List ℕ) → List (Key × Data) → List Property
 nested p zero full entries = []
 nested p (suc levels) full entries = map (entry_property p (nested p levels) full) entries
 
--- the property of a value with these names: an array shows the page that is asked for, and arrays nest as deep as asked
+-- the property of a value with these names: an array shows the page that is asked for, and arrays
+-- nest as deep as asked
 abbrev pub property_of : Paging → Option (List ℕ) → Option (List ℕ) → Data → Property
 property_of p name full d = record {
   name = name;
@@ -75,22 +79,27 @@ path_property path p d = property_of p (Some (own_name path)) (Some (full_name p
 
 -- the same of what stands there in a context at a level, or the code of a refusal
 abbrev pub property_at : State → ℕ → ℕ → Path → Paging → Result Property ℕ
-property_at s level id path p = and_then (λ d. Ok (path_property path p d)) (value_at s level id path)
+property_at s level id path p =
+    and_then (λ d. Ok (path_property path p d)) (value_at s level id path)
 
 -- the path of a variable
 abbrev pub variable_path : List ℕ → Path
 variable_path name = record { name = name; keys = [] }
 
--- the value of a variable; one that is bound has that of the global variable of its name, if there is one
+-- the value of a variable; one that is bound has that of the global variable of its name, if there
+-- is one
 abbrev pub variable_value : Variables → List ℕ × Slot → Option Value
 variable_value globals v = value_through (Some v.1) (value_held (slot_of globals v.0))
 
 -- what is shown of a variable: what stands at its path, if it has a value
 abbrev pub variable_shown : Paging → Variables → List ℕ × Slot → List Property
 variable_shown p globals v =
-    option_map_or (λ value. path_property (variable_path v.0) p (data_of value) ∷ []) (variable_value globals v) []
+    option_map_or (λ value. path_property (variable_path v.0) p (data_of value) ∷ [])
+    (variable_value globals v) []
 
--- what a context at a level shows: its variables in the order of their first assignment, or the code of a refusal
+-- what a context at a level shows: its variables in the order of their first assignment, or the
+-- code of a refusal
 abbrev pub context_at : State → ℕ → ℕ → Paging → Result (List Property) ℕ
 context_at s level id p =
-    and_then (λ variables. Ok (flat_map (variable_shown p s.globals) variables)) (shown_variables s level id)
+    and_then (λ variables. Ok (flat_map (variable_shown p s.globals) variables))
+    (shown_variables s level id)

@@ -1,5 +1,6 @@
--- The path that bytes name, as it is found from left to right. A part is its value and the bytes behind it, or none. By
--- `names_have_one_path` it is the one path that they spell by the grammar, so nothing here need be believed.
+-- The path that bytes name, as it is found from left to right. A part is its value and the bytes
+-- behind it, or none. By `names_have_one_path` it is the one path that they spell by the grammar,
+-- so nothing here need be believed.
 use Rattle.std.specs.Prelude.{ℕ, zero, suc, ◌&&◌, ◌||◌, ◌==◌, nat_le, Bool, if◌then◌else◌, List, [], ◌∷◌, length, take, drop, Option, Some, None}
 use Rattle.std.specs.List.{prefix_len}
 use Rattle.dp_lexer.specs.Bytes.{is_digit, is_start, is_part, begins}
@@ -35,14 +36,18 @@ without_dollar [] = []
 without_dollar (b ∷ rest) = if b == 36 then rest else b ∷ rest
 
 unfoldable pub name_at : List ℕ → Option (List ℕ × List ℕ)
-name_at bytes = if begins is_start bytes && nat_le (prefix_len is_part bytes) longest_name then Some (run_at is_part bytes) else None
+name_at bytes =
+    if begins is_start bytes
+    && nat_le (prefix_len is_part bytes) longest_name then Some (run_at is_part bytes) else None
 
 -- items one after the other, as long as there is one; their count has a bound
-abbrev pub onward : {A : Type 0} → Option A → List ℕ → (List ℕ → Option (List A × List ℕ)) → Option (List A × List ℕ)
+abbrev pub onward : {A : Type 0} → Option A → List ℕ → (List ℕ → Option (List A × List ℕ))
+    → Option (List A × List ℕ)
 onward None rest next = Some ([], rest)
 onward (Some item) rest next = next rest >>= λ more. Some (item ∷ more.0, more.1)
 
-unfoldable pub items_at : {A : Type 0} → (List ℕ → Option (Option A × List ℕ)) → ℕ → List ℕ → Option (List A × List ℕ)
+unfoldable pub items_at : {A : Type 0} → (List ℕ → Option (Option A × List ℕ)) → ℕ → List ℕ
+    → Option (List A × List ℕ)
 items_at step zero bytes = Some ([], bytes)
 items_at step (suc n) bytes = step bytes >>= λ found. onward found.0 found.1 (items_at step n)
 
@@ -54,7 +59,9 @@ pair_at quote (c ∷ rest) = pair_of quote c >>= λ b. Some (Some b, rest)
 -- a byte between quotes, where none is at the closing quote and at the end
 unfoldable pub byte_at : ℕ → List ℕ → Option (Option ℕ × List ℕ)
 byte_at quote [] = Some (None, [])
-byte_at quote (b ∷ rest) = if b == quote then Some (None, b ∷ rest) else if b == 92 then pair_at quote rest else if b == 0 then None else Some (Some b, rest)
+byte_at quote (b ∷ rest) =
+    if b == quote then Some (None, b ∷ rest) else if b == 92 then pair_at quote rest else if b == 0
+    then None else Some (Some b, rest)
 
 -- the key whose opening quote stands before these bytes
 unfoldable pub quoted_at : ℕ → List ℕ → Option (Key × List ℕ)
@@ -64,7 +71,9 @@ quoted_at quote bytes = do
   Some (key_of_text value.0, rest)
 
 unfoldable pub int_at : List ℕ → Option (Key × List ℕ)
-int_at bytes = int_of_text (run_at is_int_byte bytes).0 >>= λ n. Some (a_key.Int n, (run_at is_int_byte bytes).1)
+int_at bytes =
+    int_of_text (run_at is_int_byte bytes).0
+    >>= λ n. Some (a_key.Int n, (run_at is_int_byte bytes).1)
 
 -- the key whose opening bracket stands before these bytes
 unfoldable pub key_at : List ℕ → Option (Key × List ℕ)
@@ -84,7 +93,9 @@ index_at (b ∷ bytes) = do
 
 -- the keys of indices up to the end
 unfoldable pub keys_at : List ℕ → Option (List Key)
-keys_at bytes = items_at index_at (length bytes) bytes >>= λ found. if length found.1 == 0 then Some found.0 else None
+keys_at bytes =
+    items_at index_at (length bytes) bytes >>= λ found. if length found.1 == 0 then Some found.0
+    else None
 
 -- the path that bytes name
 unfoldable pub path_at : List ℕ → Option Path

@@ -31,14 +31,17 @@ stack_line bundle level frame = record {
 -- the lines of frames, of which the first is at this level
 abbrev pub lines_from : Bundle → ℕ → List Frame → List StackLine
 lines_from bundle level [] = []
-lines_from bundle level (frame ∷ frames) = stack_line bundle level frame ∷ lines_from bundle (suc level) frames
+lines_from bundle level (frame ∷ frames) =
+    stack_line bundle level frame ∷ lines_from bundle (suc level) frames
 
 -- the frames, the top one first
 abbrev pub levels : State → List Frame
 levels s = reverse s.frames
 
--- the whole stack, or the line of one level, or the code of a refusal: 301 where there is no such level
+-- the whole stack, or the line of one level, or the code of a refusal: 301 where there is no such
+-- level
 abbrev pub stack_at : Bundle → State → Option ℕ → Result (List StackLine) ℕ
 stack_at bundle s None = Ok (lines_from bundle 0 (levels s))
 stack_at bundle s (Some level) =
-    ok_or (option_map (λ frame. stack_line bundle level frame ∷ []) (slice_get (levels s) level)) 301
+    ok_or (option_map (λ frame. stack_line bundle level frame ∷ []) (slice_get (levels s) level))
+    301

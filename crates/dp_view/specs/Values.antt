@@ -1,5 +1,6 @@
--- What property_value shows of a value: DBGp 1.0, "property_value". Its response has the type, and of a text its whole length;
--- the text of the response is the value, of a text its first bytes in base64, and nothing of an array.
+-- What property_value shows of a value: DBGp 1.0, "property_value". Its response has the type, and
+-- of a text its whole length; the text of the response is the value, of a text its first bytes in
+-- base64, and nothing of an array.
 use Rattle.std.specs.Prelude.{ℕ, List, [], codes, length, take, Option, Some, None}
 use Rattle.std.specs.Fmt.{signed_decimal}
 use Rattle.dp_packet.specs.Parts.{Text, Attributes, base64, flag}

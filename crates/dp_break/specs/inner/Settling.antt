@@ -26,4 +26,5 @@ settled (mark ∷ marks) (b ∷ held) = settled_one mark b ++ settled marks held
 abbrev pub some_settled_stops : List Bool → List Breakpoint → Bool
 some_settled_stops [] held = false
 some_settled_stops (mark ∷ marks) [] = false
-some_settled_stops (mark ∷ marks) (b ∷ held) = mark && stops_once_more b || some_settled_stops marks held
+some_settled_stops (mark ∷ marks) (b ∷ held) =
+    mark && stops_once_more b || some_settled_stops marks held

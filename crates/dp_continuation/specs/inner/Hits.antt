@@ -28,14 +28,16 @@ left_in mode bundle held at =
     else On at.0.number
 
 -- What is found by going on past n is found by going on from what comes of the next such moment.
-abbrev pub IsNext : (Moment → Bool) → Bundle → ℕ → List NumberedWrite → ℕ → Table → Table → Next → Type 0
+abbrev pub IsNext : (Moment → Bool) → Bundle → ℕ → List NumberedWrite → ℕ → Table → Table → Next
+    → Type 0
 IsNext mode bundle bound writes n before after (On number) =
     let moments = (program_trace bundle bound writes).moments in
     (n < number) × (number ≤ length moments) × (after.next ≡ before.next)
     × (found mode bundle before.held n (drop n moments)
     ≡ found mode bundle after.held number (drop number moments))
 IsNext mode bundle bound writes n before after (Come a) =
-    let end = found mode bundle before.held n (drop n (program_trace bundle bound writes).moments) in
+    let end = found mode bundle before.held n (drop n (program_trace bundle bound writes).moments)
+    in
     (after ≡ record before { held = end.1 }) × Arrives bundle bound writes end.0 a
 
 -- the state of a program that has come to a stop or to its end is one of this bundle

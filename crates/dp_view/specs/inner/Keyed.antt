@@ -19,7 +19,8 @@ pairs_in d = []
 
 -- it holds of the values from one position up to another
 abbrev pub HoldsWithin : (Data → Type 0) → List (Key × Data) → ℕ → ℕ → Type 0
-HoldsWithin P pairs start end = (k : ℕ) (e : Key × Data) → start ≤ k → k < end → slice_get pairs k ≡ Some e → P e.1
+HoldsWithin P pairs start end =
+    (k : ℕ) (e : Key × Data) → start ≤ k → k < end → slice_get pairs k ≡ Some e → P e.1
 
 -- it holds of the values on a page
 abbrev pub HoldsOn : (Data → Type 0) → List (Key × Data) → ℕ → ℕ → Type 0
@@ -29,7 +30,8 @@ HoldsOn P pairs page size = HoldsWithin P pairs (page * size) (page * size + siz
 abbrev pub IsKeyed : ℕ → ℕ → ℕ → Data → Type 0
 IsKeyed size page zero d = Unit {0}
 IsKeyed size page (suc levels) d =
-    IsDistinct key_eq (keys_of (pairs_in d)) × HoldsOn (IsKeyed size 0 levels) (pairs_in d) page size
+    IsDistinct key_eq (keys_of (pairs_in d))
+    × HoldsOn (IsKeyed size 0 levels) (pairs_in d) page size
 
 -- so are those on a page of these pairs
 abbrev pub AreKeyed : ℕ → ℕ → ℕ → List (Key × Data) → Type 0
@@ -39,8 +41,10 @@ AreKeyed size page (suc levels) pairs = HoldsOn (IsKeyed size 0 levels) pairs pa
 -- so is the value of the variable at a position, if it has one
 abbrev pub VariableIsKeyed : Paging → Variables → Variables → ℕ → Type 0
 VariableIsKeyed p globals variables at = (v : List ℕ × Slot) (value : Value)
-    → slice_get variables at ≡ Some v → variable_value globals v ≡ Some value → IsKeyed p.children p.page p.depth (data_of value)
+    → slice_get variables at ≡ Some v → variable_value globals v ≡ Some value
+    → IsKeyed p.children p.page p.depth (data_of value)
 
 -- so are those of all before a position
 abbrev pub VariablesAreKeyed : Paging → Variables → Variables → ℕ → Type 0
-VariablesAreKeyed p globals variables end = (k : ℕ) → k < end → VariableIsKeyed p globals variables k
+VariablesAreKeyed p globals variables end =
+    (k : ℕ) → k < end → VariableIsKeyed p globals variables k

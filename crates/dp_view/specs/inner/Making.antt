@@ -26,7 +26,8 @@ properties_at p levels full entries at =
 
 -- that of the variable at a position, if there is one
 abbrev pub variables_at : Paging → Variables → Variables → ℕ → List Property
-variables_at p globals variables at = option_map_or (variable_shown p globals) (slice_get variables at) []
+variables_at p globals variables at =
+    option_map_or (variable_shown p globals) (slice_get variables at) []
 
 -- the line of a frame at a level, if there is one
 abbrev pub line_of : Bundle → ℕ → Option Frame → List StackLine

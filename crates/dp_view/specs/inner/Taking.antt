@@ -1,4 +1,5 @@
--- What the code finds of a name: in a first pass, without memory, what stands behind items, and in a second one the items.
+-- What the code finds of a name: in a first pass, without memory, what stands behind items, and in
+-- a second one the items.
 use Rattle.std.specs.Prelude.{ℕ, zero, suc, Bool, List, [], ◌∷◌, length, Option, Some, None}
 use Rattle.std.specs.Option.{option_map_or}
 use Rattle.dp_lexer.specs.Bytes.{is_part}
@@ -17,22 +18,27 @@ test_of a_sort.Name = is_part
 test_of a_sort.Int = is_int_byte
 
 -- what stands behind the items up to one that ends them, or none where one cannot be read
-abbrev pub skipped_on : {A : Type 0} → Option A → List ℕ → (List ℕ → Option (List ℕ)) → Option (List ℕ)
+abbrev pub skipped_on : {A : Type 0} → Option A → List ℕ → (List ℕ → Option (List ℕ))
+    → Option (List ℕ)
 skipped_on None rest next = Some rest
 skipped_on (Some item) rest next = next rest
 
-unfoldable pub behind_items : {A : Type 0} → (List ℕ → Option (Option A × List ℕ)) → ℕ → List ℕ → Option (List ℕ)
+unfoldable pub behind_items : {A : Type 0} → (List ℕ → Option (Option A × List ℕ)) → ℕ → List ℕ
+    → Option (List ℕ)
 behind_items step zero bytes = Some bytes
-behind_items step (suc n) bytes = step bytes >>= λ found. skipped_on found.0 found.1 (behind_items step n)
+behind_items step (suc n) bytes =
+    step bytes >>= λ found. skipped_on found.0 found.1 (behind_items step n)
 
 -- the items up to one that ends them or cannot be read
 abbrev pub taken_on : {A : Type 0} → Option A → List ℕ → (List ℕ → List A) → List A
 taken_on None rest next = []
 taken_on (Some item) rest next = item ∷ next rest
 
-unfoldable pub items_taken : {A : Type 0} → (List ℕ → Option (Option A × List ℕ)) → ℕ → List ℕ → List A
+unfoldable pub items_taken : {A : Type 0} → (List ℕ → Option (Option A × List ℕ)) → ℕ → List ℕ
+    → List A
 items_taken step zero bytes = []
-items_taken step (suc n) bytes = option_map_or (λ found. taken_on found.0 found.1 (items_taken step n)) (step bytes) []
+items_taken step (suc n) bytes =
+    option_map_or (λ found. taken_on found.0 found.1 (items_taken step n)) (step bytes) []
 
 -- the bytes between quotes, behind the opening one
 abbrev pub text_taken : ℕ → List ℕ → List ℕ
