@@ -1,5 +1,5 @@
 -- The tree of an expression as a function of bytes is the one that they spell.
-use Rattle.std.proofs.Common.{◌≡◌, ◌≢◌, ℕ, List, [], Option, Some, None, Result, Ok, Err, IfOk, MatchResult, refl, sym, ap, ◌∙◌}
+use Rattle.std.proofs.Common.{◌≡◌, ◌≢◌, ℕ, List, Option, Some, None, Result, Ok, Err, IfOk, MatchResult, refl, ap, ◌∙◌}
 use Rattle.dp_lexer.specs.declared.token.Token.{Token}
 use Rattle.dp_lexer.specs.ExpressionTokens.{expression_tokens}
 use Rattle.dp_lexer.specs.Tokens.{AreTokens}
@@ -49,5 +49,5 @@ none_told bytes why only some = go (expression_in bytes) refl
 -- what a call answers that finds what these tokens of the bytes spell, and nothing else but want of memory
 pub told_by : (bytes : List ℕ) (ts : List Token) → AreTokens bytes ts → (r : Result Expression ParseError) → IfOk r (λ e. SpellsExpression limits.expressions ts e)
     → ((e : Expression) → IsExpressionText bytes e → MatchResult r (λ other. other ≡ e) (λ why. why ≡ error.Memory)) → Told (expression_in bytes) r
-told_by bytes ts are (Ok e) found only = spelled_told bytes e (record { tokens = ts; are_tokens = are; spelled = found })
-told_by bytes ts are (Err why) found only = none_told bytes why only
+told_by bytes ts are (Ok e) h only = spelled_told bytes e (record { tokens = ts; are_tokens = are; spelled = h })
+told_by bytes ts are (Err why) h only = none_told bytes why only

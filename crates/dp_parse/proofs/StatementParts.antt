@@ -19,7 +19,7 @@ use Rattle.dp_rules.specs.Lists.{NextItem}
 use Rattle.dp_rules.specs.inner.ReadingLists.{plain_items, some_items, any_plain_items}
 use Rattle.dp_expressions.specs.Grammar.{IsExpression, IsPlace}
 use Rattle.dp_expressions.specs.inner.Reading.{begins_expression, reading, reading_place}
-use Rattle.dp_parse.specs.Statements.{Depth, whole, binding, Bound, GlobalRule, Empty, Perform, Echo, Test, Loops, MaybeUpTo, Return, Unset, ExitValue, Exit, body_at}
+use Rattle.dp_parse.specs.Statements.{Depth, whole, binding, Bound, GlobalRule, Empty, Perform, Echo, Test, Loops, Return, Unset, Exit, body_at}
 use Rattle.dp_parse.specs.Statements as grammar_of
 use Rattle.dp_parse.specs.inner.ReadingStatements.{empty, bound_rest, bound, global_rule, exit_word, perform, echo, head_test, levels, loops_rule, break_rule, continue_rule, maybe_up_to, return_rule, unset, exit_value, exit}
 use Rattle.dp_rules.proofs.Signs.{not_true, placed, mark_alone, mark_fails, mark_apart}

@@ -8,7 +8,7 @@ use Rattle.dp_rules.specs.declared.sign.Sign.TheVariants as sign
 use Rattle.dp_tree.specs.declared.tree.StatementKind.TheVariants as tree
 use Rattle.dp_rules.specs.Signs.{sign_of, is}
 use Rattle.dp_expressions.specs.inner.Reading.{begins_expression}
-use Rattle.dp_parse.specs.Statements.{Depth, Arms, ended, whole, with_arm, stated, Bodies, Empty, ElseIf, Bound, GlobalRule, Perform, Echo, Block, Test, ArmRule, NextArm, Otherwise, If, LoopBody, While, DoWhile, For, Foreach, Loops, Return, Unset, Exit, AnyStatement, body_at, Braced, HeadBody}
+use Rattle.dp_parse.specs.Statements.{Depth, whole, stated, Empty, ElseIf, GlobalRule, Perform, Echo, Block, If, While, DoWhile, For, Foreach, Loops, Return, Unset, Exit, AnyStatement, body_at, Braced, HeadBody}
 use Rattle.dp_parse.specs.Statements as grammar
 use Rattle.dp_rules.proofs.Signs.{or_left, or_right, mark_passes, mark_apart, same_is}
 use Rattle.dp_rules.proofs.Answers.{Rules, JoinedAt, EitherAt, MarkAt, MadeAt, WhenAt, OnLineAt, StartsIn, mark_starts, joined_starts, either_starts, made_starts, when_starts, nests_starts, online_starts, starts_in_more, WithoutAt, without_starts}
