@@ -1,5 +1,5 @@
 -- Calls and included files by how many frames more can be on the stack, and names that are bound.
-use Rattle.std.proofs.Common.{◌≡◌, ℕ, zero, suc, ◌-◌, Bool, true, false, if◌then◌else◌, List, Result, Ok, Err, refl, sym, ap, subst, arith}
+use Rattle.std.proofs.Common.{◌≡◌, ℕ, zero, suc, ◌-◌, List, Result, Ok, Err, refl, sym, ap, subst, arith}
 use Rattle.dp_tree.specs.declared.bundle.Bundle.{Bundle}
 use Rattle.dp_state.specs.declared.moments.FatalKind.TheVariants.{TooDeep}
 use Rattle.dp_state.specs.declared.state.State.{State}
@@ -16,9 +16,8 @@ use Rattle.dp_meaning.specs.Expressions.{evaluations}
 use Rattle.dp_meaning.specs.Loops.{do_turns, turns}
 use Rattle.dp_meaning.specs.Programs.{file_run, function_run, left_file, setting_of, statements_of}
 use Rattle.dp_meaning.specs.Run.{Run, Done, and_then, fatal, taken}
-use Rattle.dp_meaning.specs.Setting.{Setting, Part}
-use Rattle.dp_meaning.specs.Statements.{body_run, branch, for_turns}
-use Rattle.dp_meaning.specs.Values.{holds}
+use Rattle.dp_meaning.specs.Setting.{Part}
+use Rattle.dp_meaning.specs.Statements.{body_run, for_turns}
 use Rattle.dp_meaning.proofs.Drives.{breaks_off}
 
 module _ (bundle : Bundle) (bound depth : ℕ) where
@@ -97,14 +96,6 @@ module _ (bundle : Bundle) (bound depth : ℕ) where
       go : (depth : ℕ) → (depth ≡ 0 → ⊥) → (setting_of bundle bound depth).include file s ≡ file_run file (setting_of bundle bound (depth - 1)) s
       go zero differs = absurd (differs refl)
       go (suc depth) differs = let e : suc depth - 1 ≡ depth = omega arith in rw e refl
-
--- an arm whose test holds, or does not
-module _ {rules : Rules} {x : Result Signal Halt} {t : State} (body otherwise : Part Signal) (setting : Setting) (v : Value) (s : State) where
-  pub branch-on : holds v ≡ true → Evaluates rules (body setting s) x t → Evaluates rules (branch body otherwise setting v s) x t
-  branch-on h e = subst (λ (b : Bool). Evaluates rules (if b then body setting s else otherwise setting s) x t) (sym h) e
-
-  pub branch-off : holds v ≡ false → Evaluates rules (otherwise setting s) x t → Evaluates rules (branch body otherwise setting v s) x t
-  branch-off h e = subst (λ (b : Bool). Evaluates rules (if b then body setting s else otherwise setting s) x t) (sym h) e
 
 -- a step that gives nothing, as a statement
 abbrev as_next : Reached Unit → Reached Signal

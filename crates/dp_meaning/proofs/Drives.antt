@@ -13,6 +13,8 @@ use Rattle.dp_meaning.specs.declared.halt.Halt.{Halt}
 use Rattle.dp_meaning.specs.declared.halt.Halt.TheVariants.{Memory, Finished, Stopped}
 use Rattle.dp_meaning.specs.inner.Drive.{Rules, Reached, Gives, Ends, Stops, drive, Meets, Evaluates, moment_run}
 use Rattle.dp_meaning.specs.Run.{Run, Done, Over, At, and_then}
+use Rattle.dp_meaning.specs.Values.{holds}
+use Rattle.dp_value.specs.declared.value.Value.{Value}
 use Rattle.dp_meaning.specs.Trace.{moment_of}
 use Rattle.dp_meaning.proofs.Runs.{and_then-assoc}
 use Rattle.dp_meaning.specs.Writes.{arrived, written}
@@ -79,6 +81,18 @@ module _ {A B C : Type 0} {rules : Rules} where
   pub joined_on : {b : B} {s t : State} (r : Run A) (f : A → State → Run B) (next : B → State → Run C) {x : Result C Halt}
       → Evaluates rules (and_then r f) (Ok b) s → Evaluates rules (next b s) x t → Evaluates rules (and_then r (λ a u. and_then (f a u) next)) x t
   joined_on {b} {s} {t} r f next {x} e k = subst (λ z. Evaluates rules z x t) (and_then-assoc r f next) (goes_on next e k)
+
+-- a part whose value is only tested, and what follows
+module _ {C : Type 0} {rules : Rules} (r : Run Value) (next : Bool → State → Run C) where
+  pub tested_off : {h : Halt} {s : State} → Evaluates rules (and_then r (λ v u. Done (holds v) u)) (Err h) s
+      → Evaluates rules (and_then r (λ v u. next (holds v) u)) (Err h) s
+  unfolding and_then
+  tested_off e = joined_off r (λ v u. Done (holds v) u) next e
+
+  pub tested_on : {b : Bool} {s t : State} {x : Result C Halt} → Evaluates rules (and_then r (λ v u. Done (holds v) u)) (Ok b) s
+      → Evaluates rules (next b s) x t → Evaluates rules (and_then r (λ v u. next (holds v) u)) x t
+  unfolding and_then
+  tested_on e k = joined_on r (λ v u. Done (holds v) u) next e k
 
 -- a moment, and what follows
 module _ {B : Type 0} {rules : Rules} where

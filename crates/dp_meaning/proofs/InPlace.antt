@@ -1,5 +1,5 @@
 -- Variables that are read in their place.
-use Rattle.std.proofs.Common.{◌≡◌, ℕ, true, List, [], ◌∷◌, Result, Ok, sym, ap, ◌∙◌, subst}
+use Rattle.std.proofs.Common.{◌≡◌, ℕ, true, List, [], ◌∷◌, Result, Ok, refl, sym, ap, ◌∙◌, subst}
 use Rattle.dp_state.specs.declared.moments.Outcome.TheVariants.{Fatal}
 use Rattle.dp_state.specs.declared.state.State.{State}
 use Rattle.dp_state.specs.States.{file_of, line_of}
@@ -12,13 +12,21 @@ use Rattle.dp_value.specs.Data.{Data}
 use Rattle.dp_value.specs.Value.{data_of}
 use Rattle.dp_meaning.specs.declared.halt.Halt.{Halt}
 use Rattle.dp_meaning.specs.inner.Drive.{Rules, Gives, Ends, drive, Evaluates}
-use Rattle.dp_meaning.specs.Expressions.{entry_run, evaluation, evaluations, expression_run}
+use Rattle.dp_meaning.specs.declared.in_place.Reading.{Reading}
+use Rattle.dp_meaning.specs.declared.in_place.Reading.TheVariants.{Plain, Found}
+use Rattle.dp_meaning.specs.Expressions.{entry_run, evaluation, evaluations, expression_run, plain}
+use Rattle.dp_meaning.specs.inner.Evaluation.{base_run}
 use Rattle.dp_meaning.specs.Places.{variable}
-use Rattle.dp_meaning.specs.Setting.{Setting}
+use Rattle.dp_meaning.specs.Setting.{Part, Setting}
 use Rattle.dp_meaning.specs.Values.{value_run}
 use Rattle.dp_meaning.proofs.Drives.{gives, goes_on}
 use Rattle.dp_meaning.proofs.Layers.{run-Variable}
 use Rattle.dp_meaning.proofs.PureLaws.{IsPlain, Given, Faulty, plain-pure}
+
+-- an expression that is read in one way alone
+pub base-plain : (reading : Reading) (run : Part Value) → base_run reading (plain run) ≡ run
+base-plain Plain run = refl
+base-plain Found run = refl
 
 module _ (rules : Rules) (setting : Setting) where
   -- an index that changes nothing leaves the state as it is

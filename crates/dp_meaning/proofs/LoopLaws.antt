@@ -16,7 +16,7 @@ use Rattle.dp_meaning.specs.inner.Evaluation.{turn_of}
 use Rattle.dp_meaning.specs.Loops.{turn_over, last_holds, turns, do_turns, bind, each_run}
 use Rattle.dp_meaning.specs.Run.{Run, Done, At, and_then}
 use Rattle.dp_meaning.specs.Values.{holds}
-use Rattle.dp_meaning.proofs.Drives.{gives, breaks_off, goes_on, passes, stops_at}
+use Rattle.dp_meaning.proofs.Drives.{gives, breaks_off, goes_on, passes, stops_at, tested_off, tested_on}
 
 -- ---- after a body
 
@@ -127,16 +127,20 @@ module _ (rules : Rules) (n line : ℕ) (test : State → Run Value) (body : Sta
       do-stops u h e = rw do-is (goes_on _ ran (rw (turn-on g _ t on) (stops_at e)))
 
       module _ (u : State) (at : Evaluates rules (moment_run Place line t) (Ok tt) u) where
-        pub do-test-breaks : (v : State) (h : Halt) → Evaluates rules (test u) (Err h) v → Evaluates rules (do_turns n line test body s) (Err h) v
-        do-test-breaks v h e = rw do-is (goes_on _ ran (rw (turn-on g _ t on) (passes at (breaks_off _ e))))
+        abbrev more-turns : Bool → State → Run Signal
+        more-turns b w = if b then do_turns (n - 1) line test body w else Done Next w
 
-        module _ (tested : Value) (v : State) (ev : Evaluates rules (test u) (Ok tested) v) where
-          pub do-end : holds tested ≡ false → Evaluates rules (do_turns n line test body s) (Ok Next) v
-          do-end z = rw do-is (goes_on _ ran (rw (turn-on g _ t on) (passes at (goes_on _ ev (rw z gives)))))
+        pub do-test-breaks : (v : State) (h : Halt) → Evaluates rules (and_then (test u) (λ tested w. Done (holds tested) w)) (Err h) v
+            → Evaluates rules (do_turns n line test body s) (Err h) v
+        do-test-breaks v h e = rw do-is (goes_on _ ran (rw (turn-on g _ t on) (passes at (tested_off (test u) more-turns e))))
 
-          pub do-goes-on : holds tested ≡ true → (x : Result Signal Halt) (w : State) → Evaluates rules (do_turns (n - 1) line test body v) x w
+        module _ (tested : Bool) (v : State) (ev : Evaluates rules (and_then (test u) (λ tested w. Done (holds tested) w)) (Ok tested) v) where
+          pub do-end : tested ≡ false → Evaluates rules (do_turns n line test body s) (Ok Next) v
+          do-end z = rw do-is (goes_on _ ran (rw (turn-on g _ t on) (passes at (tested_on (test u) more-turns ev (rw z gives)))))
+
+          pub do-goes-on : tested ≡ true → (x : Result Signal Halt) (w : State) → Evaluates rules (do_turns (n - 1) line test body v) x w
               → Evaluates rules (do_turns n line test body s) x w
-          do-goes-on z x w e = rw do-is (goes_on _ ran (rw (turn-on g _ t on) (passes at (goes_on _ ev (rw z e)))))
+          do-goes-on z x w e = rw do-is (goes_on _ ran (rw (turn-on g _ t on) (passes at (tested_on (test u) more-turns ev (rw z e)))))
 
 -- ---- `foreach`
 

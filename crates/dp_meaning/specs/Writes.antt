@@ -29,12 +29,14 @@ place_or_fault (Err kind) = Err NoPlace
 -- the context 0 is that of the frame at a level, the context 1 that of the lowest frame: the global variables
 abbrev pub in_context : ℕ → ℕ → Path → Value → State → Result State WriteFault
 in_context zero level path value s = place_or_fault (assigned level path.name (given_keys path.keys) false value s)
-in_context (suc zero) level path value s = place_or_fault (assigned (length s.frames - 1) path.name (given_keys path.keys) false value s)
+in_context (suc zero) level path value s =
+    place_or_fault (assigned (length s.frames - 1) path.name (given_keys path.keys) false value s)
 in_context (suc (suc context)) level path value s = Err NoPlace
 
 -- what a write of a place leaves
 abbrev pub with_place : ℕ → ℕ → Path → Value → State → Result State WriteFault
-with_place level context path value s = if nat_lt level (length s.frames) then in_context context level path value s else Err NoFrame
+with_place level context path value s =
+    if nat_lt level (length s.frames) then in_context context level path value s else Err NoFrame
 
 -- what a write of a place answers
 abbrev pub place_answer : Result State WriteFault → WriteAnswer

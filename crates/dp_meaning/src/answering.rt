@@ -46,7 +46,8 @@ fn evaluate_in(
 ) -> Result<WriteAnswer, Memory>
     ensures { IfOk result (λ answer. answer ≡ value_answer (evaluated (evaluation_setting bundle.now) e.now state.now)) }
 {
-    let (value, _after) = evaluation(alloc, bundle, e, state)?;
+    let (value, after) = evaluation(alloc, bundle, e, state)?;
+    drop(after);
     Ok(answered(value))
 }
 
@@ -110,7 +111,9 @@ fn keyed_in(
     ensures { IfOk result (λ answer. answer ≡ place_answer (place_or_fault (assigned level name.now keys.now false value.now state.now))) }
 {
     let mut copy = variable_at(level, name, state)?;
-    try_write(alloc, &mut copy, keys, value)
+    let answer = try_write(alloc, &mut copy, keys, value);
+    drop(copy);
+    answer
 }
 
 /// Writes a value under keys, where it can be written.

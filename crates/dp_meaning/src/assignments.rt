@@ -79,7 +79,9 @@ impl<O: Outside> Evaluator<'_, O> {
         ensures { Evaluates (O.rules self.now.outside.now) (compound_under op name.now (evaluation right.now) indices.now (goes_by self.now) state.old) result state.new }
     {
         let old = read_place(self.alloc, name, indices, state)?;
-        self.compound_from(op, name, indices, &old, right, state)
+        let answer = self.compound_from(op, name, indices, &old, right, state);
+        drop(old);
+        answer
     }
 
     /// A compound assignment whose old value is read.
@@ -96,7 +98,9 @@ impl<O: Outside> Evaluator<'_, O> {
         ensures { Evaluates (O.rules self.now.outside.now) (compound_from op name.now (evaluation right.now) indices.now old.now (goes_by self.now) state.old) result state.new }
     {
         let value = self.expression(right, state)?;
-        combine(self.alloc, op, name, indices, old, &value, state)
+        let answer = combine(self.alloc, op, name, indices, old, &value, state);
+        drop(value);
+        answer
     }
 
     /// `place ??= right`
@@ -160,7 +164,9 @@ impl<O: Outside> Evaluator<'_, O> {
     {
         for place in places {
             let found = self.found_at(place, state)?;
-            if is_missing(&found) {
+            let missing = is_missing(&found);
+            drop(found);
+            if missing {
                 return Ok(Value::Bool(false));
             }
         }

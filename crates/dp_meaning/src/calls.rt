@@ -12,6 +12,7 @@ use crate::faults::fatal;
 use crate::halt::Halt;
 use crate::in_place::{builtin_in_place, only_variable};
 use crate::outside::Outside;
+use crate::signal::Signal;
 use dp_operations::builtin;
 use dp_state::{FatalKind, MomentKind, State};
 use dp_tree::{Expression, Function, Inclusion};
@@ -23,7 +24,7 @@ impl<O: Outside> Evaluator<'_, O> {
     ghost use Rattle.dp_meaning.specs.inner.Drive.{Evaluates};
     ghost use Rattle.dp_meaning.specs.inner.Evaluation.{goes_by};
     ghost use Rattle.dp_meaning.specs.Expressions.{evaluations};
-    ghost use Rattle.dp_meaning.specs.Programs.{file_run, function_run};
+    ghost use Rattle.dp_meaning.specs.Programs.{file_run, function_run, leaving};
     ghost use Rattle.dp_meaning.specs.inner.Sizes.{body_size, frame_size};
 
     /// A call of what a name calls.
@@ -105,6 +106,13 @@ impl<O: Outside> Evaluator<'_, O> {
         self.outside
             .at_moment(MomentKind::Enter, function.line, state)?;
         let signal = self.body(function.body.as_slice(), state)?;
+        self.leave(signal, state)
+    }
+
+    /// The end of a call whose body is done.
+    fn leave(&self, signal: Signal, state: &mut State) -> Result<Value, Halt>
+        ensures { Evaluates (O.rules self.now.outside.now) (leaving signal state.old) result state.new }
+    {
         let line = state.line();
         self.outside.at_moment(MomentKind::Leave, line, state)?;
         state.leave();

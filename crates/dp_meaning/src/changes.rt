@@ -83,7 +83,13 @@ fn ordered(order: Order, old: Value, new: Value) -> Value
     ensures { result ≡ stepped order old new }
 {
     match order {
-        Order::StepFirst => new,
-        Order::ValueFirst => old,
+        Order::StepFirst => {
+            drop(old);
+            new
+        }
+        Order::ValueFirst => {
+            drop(new);
+            old
+        }
     }
 }

@@ -70,7 +70,10 @@ pub(crate) fn returned(none: Value, signal: Signal) -> Value
     ensures { result ≡ value_returned none signal }
 {
     match signal {
-        Signal::Return(value) => value,
+        Signal::Return(value) => {
+            drop(none);
+            value
+        }
         Signal::Next => none,
         Signal::Break(_) => none,
         Signal::Continue(_) => none,

@@ -5,6 +5,7 @@
 use crate::answers::value_of;
 use crate::evaluator::Evaluator;
 use crate::halt::Halt;
+use crate::in_place::Reading;
 use crate::operands::{text_value, variable_value};
 use crate::outside::Outside;
 use dp_operations::unary;
@@ -32,6 +33,7 @@ impl<O: Outside> Evaluator<'_, O> {
             Expression::Call(name, arguments) => self.named(name, arguments.as_slice(), state),
             Expression::Isset(places) => self.isset(places.as_slice(), state),
             Expression::Index(base, indices) => self.index(
+                Reading::Plain,
                 base.as_ref(),
                 indices.as_slice(),
                 state,
@@ -63,7 +65,8 @@ impl<O: Outside> Evaluator<'_, O> {
         ensures { Evaluates (O.rules self.now.outside.now) ((expression_run e.now).found (goes_by self.now) state.old) result state.new }
     {
         match e {
-            Expression::Index(base, indices) => self.found_index(
+            Expression::Index(base, indices) => self.index(
+                Reading::Found,
                 base.as_ref(),
                 indices.as_slice(),
                 state,
@@ -90,7 +93,9 @@ impl<O: Outside> Evaluator<'_, O> {
         ensures { Evaluates (O.rules self.now.outside.now) (operated op (expression_run operand.now) (goes_by self.now) state.old) result state.new }
     {
         let value = self.expression(operand, state)?;
-        value_of(unary(op, &value), state)
+        let answer = value_of(unary(op, &value), state);
+        drop(value);
+        answer
     }
 
     /// The value of an `include` or a `require`.
@@ -99,6 +104,8 @@ impl<O: Outside> Evaluator<'_, O> {
         ensures { Evaluates (O.rules self.now.outside.now) (included how (expression_run file.now) (goes_by self.now) state.old) result state.new }
     {
         let value = self.expression(file, state)?;
-        self.include(how, &value, state)
+        let answer = self.include(how, &value, state);
+        drop(value);
+        answer
     }
 }

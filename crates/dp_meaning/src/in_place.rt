@@ -5,9 +5,9 @@ ghost use Rattle.dp_tree.specs.Purity.{is_pure as pure};
 ghost use Rattle.dp_tree.specs.declared.tree.Expression.TheVariants as tree;
 ghost use Rattle.dp_value.specs.Value.{data_of};
 ghost use Rattle.dp_operations.specs.Builtins.{builtin_of};
-ghost use Rattle.dp_operations.specs.Indexing.{indexed, looked_up};
+ghost use Rattle.dp_operations.specs.Answers.{Answers};
 ghost use Rattle.dp_meaning.specs.inner.Drive.{Evaluates, Rules};
-ghost use Rattle.dp_meaning.specs.inner.Evaluation.{IsEntry};
+ghost use Rattle.dp_meaning.specs.inner.Evaluation.{IsEntry, entries_by};
 ghost use Rattle.dp_meaning.specs.Places.{variable as value_named};
 ghost use Rattle.dp_meaning.specs.Values.{builtin_run, value_run};
 
@@ -16,7 +16,7 @@ use crate::halt::Halt;
 use dp_operations::{builtin, find, index};
 use dp_state::State;
 use dp_tree::{Expression, is_pure};
-use dp_value::{Builtin, Bytes, Value};
+use dp_value::{Builtin, Bytes, Value, ValueError};
 use std::alloc::Global;
 use std::slice;
 
@@ -49,33 +49,41 @@ fn pure_entry<'a>(name: &'a Bytes, indices: &'a [Expression]) -> Option<Entry<'a
     Some(Entry { name, index, rest })
 }
 
-/// The entry of a variable under an index.
-pub(crate) fn entry_in_place(
+/// How entries are read: as values, or as isset finds them.
+#[derive(Clone, Copy)]
+pub(crate) enum Reading {
+    Plain,
+    Found,
+}
+
+/// The entry of a value under an index.
+pub(crate) fn look(
     alloc: Global,
-    name: &Bytes,
+    reading: Reading,
+    value: &Value,
     at: &Value,
-    state: &State,
-) -> Result<Value, Halt>
-    ensures { (rules : Rules) → Evaluates rules (value_run (indexed (data_of (value_named name.now state.now)) (data_of at.now)) state.now) result state.now }
+) -> Result<Value, ValueError>
+    ensures { Answers result (entries_by reading (data_of value.now) (data_of at.now)) }
 {
-    match state.read(name) {
-        Some(value) => value_of(index(alloc, value, at), state),
-        None => value_of(index(alloc, &Value::Null, at), state),
+    match reading {
+        Reading::Plain => index(alloc, value, at),
+        Reading::Found => find(alloc, value, at),
     }
 }
 
-/// The entry of a variable under an index, as isset finds it.
-pub(crate) fn found_in_place(
+/// The entry of a variable under an index.
+pub(crate) fn entry_in_place(
     alloc: Global,
+    reading: Reading,
     name: &Bytes,
     at: &Value,
     state: &State,
 ) -> Result<Value, Halt>
-    ensures { (rules : Rules) → Evaluates rules (value_run (looked_up (data_of (value_named name.now state.now)) (data_of at.now)) state.now) result state.now }
+    ensures { (rules : Rules) → Evaluates rules (value_run (entries_by reading (data_of (value_named name.now state.now)) (data_of at.now)) state.now) result state.now }
 {
     match state.read(name) {
-        Some(value) => value_of(find(alloc, value, at), state),
-        None => value_of(find(alloc, &Value::Null, at), state),
+        Some(value) => value_of(look(alloc, reading, value, at), state),
+        None => value_of(look(alloc, reading, &Value::Null, at), state),
     }
 }
 

@@ -27,7 +27,10 @@ pub(crate) fn pushed(
     let mut longer = array;
     match write_at(alloc, &mut longer, &[], true, value) {
         Ok(()) => Ok(longer),
-        Err(why) => Err(fault(Fault::from(why), state)),
+        Err(why) => {
+            drop(longer);
+            Err(fault(Fault::from(why), state))
+        }
     }
 }
 
@@ -58,6 +61,9 @@ fn put_under(
     let mut longer = array;
     match write_at(alloc, &mut longer, slice::from_ref(key), false, value) {
         Ok(()) => Ok(longer),
-        Err(why) => Err(fault(Fault::from(why), state)),
+        Err(why) => {
+            drop(longer);
+            Err(fault(Fault::from(why), state))
+        }
     }
 }

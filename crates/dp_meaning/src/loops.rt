@@ -10,12 +10,12 @@ use crate::signal::Signal;
 use crate::turning::{Turn, last_holds, turn_over};
 use dp_state::{Outcome, State};
 use dp_tree::{Binding, Expression, Statement};
-use dp_value::{Value, truthy};
+use dp_value::Value;
 
 impl<O: Outside> Evaluator<'_, O> {
     ghost use Rattle.dp_meaning.specs.inner.Drive.{Evaluates};
-    ghost use Rattle.dp_meaning.specs.inner.Evaluation.{goes_by};
-    ghost use Rattle.dp_meaning.specs.Expressions.{evaluation, evaluations};
+    ghost use Rattle.dp_meaning.specs.inner.Evaluation.{for_part, foreach_part, goes_by};
+    ghost use Rattle.dp_meaning.specs.Expressions.{evaluation, evaluations, expression_run};
     ghost use Rattle.dp_meaning.specs.Loops.{do_turns, each_run, entries, turns};
     ghost use Rattle.dp_meaning.specs.Statements.{statement_run};
 
@@ -46,6 +46,23 @@ impl<O: Outside> Evaluator<'_, O> {
         Err(Halt::Finished(Outcome::Bound))
     }
 
+    /// A `for`, from its first expressions on.
+    #[cycle(evaluate)]
+    pub(crate) fn for_turns(
+        &self,
+        line: u32,
+        before: &[Expression],
+        tests: &[Expression],
+        after: &[Expression],
+        body: &Statement,
+        state: &mut State,
+    ) -> Result<Signal, Halt>
+        ensures { Evaluates (O.rules self.now.outside.now) (for_part line before.now tests.now after.now (statement_run body.now) (goes_by self.now) state.old) result state.new }
+    {
+        let _values = self.values(before, state)?;
+        self.turns(line, tests, after, body, state)
+    }
+
     /// The turns of a `do`.
     #[cycle(evaluate)]
     pub(crate) fn do_turns(
@@ -63,17 +80,35 @@ impl<O: Outside> Evaluator<'_, O> {
                 Turn::Out(signal) => return Ok(signal),
             }
             self.place(line, state)?;
-            let value = self.expression(test, state)?;
-            if !truthy(&value) {
+            let holds = self.holds(test, state)?;
+            if !holds {
                 return Ok(Signal::Next);
             }
         }
         Err(Halt::Finished(Outcome::Bound))
     }
 
+    /// A `foreach`, from its subject on.
+    #[cycle(evaluate)]
+    pub(crate) fn foreach(
+        &self,
+        line: u32,
+        binding: &Binding,
+        subject: &Expression,
+        body: &Statement,
+        state: &mut State,
+    ) -> Result<Signal, Halt>
+        ensures { Evaluates (O.rules self.now.outside.now) (foreach_part line binding.now (expression_run subject.now) (statement_run body.now) (goes_by self.now) state.old) result state.new }
+    {
+        let subject = self.expression(subject, state)?;
+        let answer = self.each(line, binding, &subject, body, state);
+        drop(subject);
+        answer
+    }
+
     /// The turns of a `foreach`.
     #[cycle(evaluate)]
-    pub(crate) fn each(
+    fn each(
         &self,
         line: u32,
         binding: &Binding,

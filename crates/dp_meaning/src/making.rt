@@ -1,6 +1,6 @@
 //! The writes of a moment.
 
-ghost use Rattle.std.specs.Prelude.{◌≡◌, false, option_map, Err, IfOk, OnOk, OnErr};
+ghost use Rattle.std.specs.Prelude.{◌≡◌, false, if◌then◌else◌, option_map, Err, IfOk, OnOk, OnErr};
 ghost use Rattle.dp_meaning.specs.declared.halt.Halt.TheVariants as halt;
 ghost use Rattle.dp_state.specs.Places.{assigned, given_keys as all_given};
 ghost use Rattle.dp_meaning.specs.inner.Drive.{ComesTo, IsHeld, drive, quiet};
@@ -15,6 +15,7 @@ use dp_state::{FRAME_LIMIT, Fault, Path, State};
 use dp_tree::{Bundle, Expression};
 use dp_value::{Bytes, Key, Memory, Value};
 use std::alloc::Global;
+use std::mem;
 
 /// How many moments an evaluation may have.
 pub(crate) const EVALUATION_LIMIT: u64 = 10_000;
@@ -129,10 +130,21 @@ fn evaluate(alloc: Global, bundle: &Bundle, e: &Expression, state: &mut State) -
     ensures err { OnErr result (result ≡ Err halt.Memory) }
 {
     let (value, after) = evaluation(alloc, bundle, e, state)?;
-    if value.is_some() {
-        *state = after;
-    }
+    let holds = value.is_some();
+    drop(value);
+    keep(holds, after, state);
     Ok(())
+}
+
+/// Keeps what an evaluation left, where it held.
+fn keep(holds: bool, after: State, state: &mut State)
+    ensures { state.new ≡ (if holds then after else state.old) }
+{
+    if holds {
+        drop(mem::replace(state, after));
+    } else {
+        drop(after);
+    }
 }
 
 /// The value of an expression in the top frame, where it holds, and the state that its evaluation leaves.

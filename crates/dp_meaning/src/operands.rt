@@ -35,6 +35,7 @@ pub(crate) fn present(value: Value) -> Option<Value>
     ensures { result ≡ present_of value }
 {
     if is_missing(&value) {
+        drop(value);
         return None;
     }
     Some(value)
@@ -47,5 +48,14 @@ pub(crate) fn kept(value: Value) -> Option<Value>
     if truthy(&value) {
         return Some(value);
     }
+    drop(value);
     None
+}
+
+/// A value or a halt in the place of an old value.
+pub(crate) fn renewed(old: Value, next: Result<Value, Halt>) -> Result<Value, Halt>
+    ensures { result ≡ next }
+{
+    drop(old);
+    next
 }

@@ -5,7 +5,7 @@
 use crate::answers::value_of;
 use crate::evaluator::Evaluator;
 use crate::halt::Halt;
-use crate::operands::{kept, present};
+use crate::operands::{kept, present, renewed};
 use crate::outside::Outside;
 use dp_operations::binary;
 use dp_state::State;
@@ -16,7 +16,7 @@ impl<O: Outside> Evaluator<'_, O> {
     ghost use Rattle.std.specs.Prelude.{map, option_map};
     ghost use Rattle.dp_tree.specs.declared.tree.Operator.TheVariants.{Of};
     ghost use Rattle.dp_meaning.specs.inner.Drive.{Evaluates};
-    ghost use Rattle.dp_meaning.specs.inner.Evaluation.{goes_by};
+    ghost use Rattle.dp_meaning.specs.inner.Evaluation.{goes_by, held_part};
     ghost use Rattle.dp_meaning.specs.Expressions.{chained, choice, coalesced, conditional, expression_run, link_run, links_run, operator_run, tested};
 
     /// The value of operands that are joined from left to right.
@@ -40,7 +40,8 @@ impl<O: Outside> Evaluator<'_, O> {
     {
         let mut value = first;
         for link in links {
-            value = self.link(&value, link, state)?;
+            let next = self.link(&value, link, state);
+            value = renewed(value, next)?;
         }
         Ok(value)
     }
@@ -72,8 +73,19 @@ impl<O: Outside> Evaluator<'_, O> {
     fn truth(&self, operand: &Expression, state: &mut State) -> Result<Value, Halt>
         ensures { Evaluates (O.rules self.now.outside.now) (tested (expression_run operand.now) (goes_by self.now) state.old) result state.new }
     {
-        let value = self.expression(operand, state)?;
-        Ok(Value::Bool(truthy(&value)))
+        let holds = self.holds(operand, state)?;
+        Ok(Value::Bool(holds))
+    }
+
+    /// Whether an expression holds.
+    #[cycle(evaluate)]
+    pub(crate) fn holds(&self, e: &Expression, state: &mut State) -> Result<bool, Halt>
+        ensures { Evaluates (O.rules self.now.outside.now) (held_part (expression_run e.now) (goes_by self.now) state.old) result state.new }
+    {
+        let value = self.expression(e, state)?;
+        let holds = truthy(&value);
+        drop(value);
+        Ok(holds)
     }
 
     /// The value of an operator with two operands, of which the left one is evaluated.
@@ -88,7 +100,9 @@ impl<O: Outside> Evaluator<'_, O> {
         ensures { Evaluates (O.rules self.now.outside.now) (operator_run (Of op) (expression_run operand.now) left.now (goes_by self.now) state.old) result state.new }
     {
         let right = self.expression(operand, state)?;
-        value_of(binary(self.alloc, op, left, &right), state)
+        let answer = value_of(binary(self.alloc, op, left, &right), state);
+        drop(right);
+        answer
     }
 
     /// `a ?? b`
@@ -138,7 +152,10 @@ impl<O: Outside> Evaluator<'_, O> {
     {
         match middle {
             None => Ok(test),
-            Some(middle) => self.expression(middle.as_ref(), state),
+            Some(middle) => {
+                drop(test);
+                self.expression(middle.as_ref(), state)
+            }
         }
     }
 }

@@ -90,7 +90,10 @@ fn halt_of(body: Result<Signal, Halt>) -> Halt
     ensures { result ≡ halt_after body }
 {
     match body {
-        Ok(_signal) => Halt::Finished(Outcome::Done),
+        Ok(signal) => {
+            drop(signal);
+            Halt::Finished(Outcome::Done)
+        }
         Err(halt) => halt,
     }
 }
@@ -102,6 +105,9 @@ fn stop_at(halt: Halt, state: State) -> Result<Stop, Memory>
     match halt {
         Halt::Finished(outcome) => Ok(Stop::Ended(outcome, state)),
         Halt::Stopped(moment) => Ok(Stop::At(moment, state)),
-        Halt::Memory => Err(Memory),
+        Halt::Memory => {
+            drop(state);
+            Err(Memory)
+        }
     }
 }

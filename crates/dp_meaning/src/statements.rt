@@ -11,13 +11,13 @@ use crate::places::unset_place;
 use crate::signal::Signal;
 use dp_state::{Outcome, State};
 use dp_tree::{Arm, Boxed, Expression, Place, Statement, StatementKind};
-use dp_value::{Value, truthy};
+use dp_value::Value;
 use std::slice;
 
 impl<O: Outside> Evaluator<'_, O> {
     ghost use Rattle.std.specs.Prelude.{map, option_map, ◌≡◌};
     ghost use Rattle.dp_meaning.specs.inner.Drive.{Evaluates};
-    ghost use Rattle.dp_meaning.specs.inner.Evaluation.{goes_by};
+    ghost use Rattle.dp_meaning.specs.inner.Evaluation.{evaluated_part, goes_by, printed_part};
     ghost use Rattle.dp_meaning.specs.Expressions.{expression_run, place_run};
     ghost use Rattle.dp_meaning.specs.Places.{unset_run};
     ghost use Rattle.dp_meaning.specs.Run.{Done};
@@ -55,8 +55,7 @@ impl<O: Outside> Evaluator<'_, O> {
         match kind {
             StatementKind::Expression(e) => {
                 self.place(line, state)?;
-                let _value = self.expression(e, state)?;
-                Ok(Signal::Next)
+                self.evaluated(e, state)
             }
             StatementKind::Echo(operands) => {
                 self.place(line, state)?;
@@ -82,9 +81,9 @@ impl<O: Outside> Evaluator<'_, O> {
                 body,
             } => {
                 self.place(line, state)?;
-                let _values = self.values(before.as_slice(), state)?;
-                self.turns(
+                self.for_turns(
                     line,
+                    before.as_slice(),
                     tests.as_slice(),
                     after.as_slice(),
                     body.as_ref(),
@@ -97,8 +96,7 @@ impl<O: Outside> Evaluator<'_, O> {
                 body,
             } => {
                 self.place(line, state)?;
-                let subject = self.expression(subject, state)?;
-                self.each(line, binding, &subject, body.as_ref(), state)
+                self.foreach(line, binding, subject, body.as_ref(), state)
             }
             StatementKind::Break(loops) => {
                 self.place(line, state)?;
@@ -129,16 +127,36 @@ impl<O: Outside> Evaluator<'_, O> {
         }
     }
 
+    /// An expression as a statement.
+    #[cycle(evaluate)]
+    fn evaluated(&self, e: &Expression, state: &mut State) -> Result<Signal, Halt>
+        ensures { Evaluates (O.rules self.now.outside.now) (evaluated_part (expression_run e.now) (goes_by self.now) state.old) result state.new }
+    {
+        let value = self.expression(e, state)?;
+        drop(value);
+        Ok(Signal::Next)
+    }
+
     /// `echo`
     #[cycle(evaluate)]
     fn echo(&self, operands: &[Expression], state: &mut State) -> Result<Signal, Halt>
         ensures { Evaluates (O.rules self.now.outside.now) (echoes (map expression_run operands.now) (goes_by self.now) state.old) result state.new }
     {
         for operand in operands {
-            let value = self.expression(operand, state)?;
-            print_value(self.alloc, &value, state)?;
+            self.print(operand, state)?;
         }
         Ok(Signal::Next)
+    }
+
+    /// One operand of an `echo`.
+    #[cycle(evaluate)]
+    fn print(&self, e: &Expression, state: &mut State) -> Result<(), Halt>
+        ensures { Evaluates (O.rules self.now.outside.now) (printed_part (expression_run e.now) (goes_by self.now) state.old) result state.new }
+    {
+        let value = self.expression(e, state)?;
+        let answer = print_value(self.alloc, &value, state);
+        drop(value);
+        answer
     }
 
     /// The arms of an `if`, and what is done where no test holds.
@@ -153,8 +171,8 @@ impl<O: Outside> Evaluator<'_, O> {
     {
         for arm in arms {
             self.place(arm.line, state)?;
-            let value = self.expression(&arm.test, state)?;
-            if truthy(&value) {
+            let holds = self.holds(&arm.test, state)?;
+            if holds {
                 return self.statement(&arm.body, state);
             }
         }
@@ -199,7 +217,9 @@ impl<O: Outside> Evaluator<'_, O> {
             None => Err(Halt::Finished(Outcome::Exit(0))),
             Some(e) => {
                 let value = self.expression(e, state)?;
-                exit_value(&value, state)
+                let answer = exit_value(&value, state);
+                drop(value);
+                answer
             }
         }
     }

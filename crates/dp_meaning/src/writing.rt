@@ -1,3 +1,5 @@
+//! Writes from outside, and what they answer.
+
 use dp_state::Path;
 use dp_tree::Expression;
 use dp_value::Value;

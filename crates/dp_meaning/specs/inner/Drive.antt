@@ -1,4 +1,4 @@
--- A run up to a moment at which it stops. Private to the evaluator: `trace` says the same without a stop.
+-- A run up to a moment at which it stops: `trace` says the same without a stop.
 use Rattle.std.specs.Prelude.{◌≡◌, ℕ, ◌+◌, nat_lt, nat_eq, Bool, false, if◌then◌else◌, [], Option, Some, None, Result, Ok, Err}
 use Rattle.dp_value.specs.declared.value.Value.{Value}
 use Rattle.dp_state.specs.declared.moments.Moment.{Moment}
@@ -68,7 +68,7 @@ Meets (Err Memory) s reached = Unit {0}
 Meets (Err (Finished o)) s reached = reached ≡ Ends o s
 Meets (Err (Stopped moment)) s reached = reached ≡ Stops moment s
 
--- the evaluator's answer is what the run gives, with the state that it leaves. Want of memory says nothing
+-- the evaluator's answer is what the run gives, with the state that it leaves; want of memory says nothing
 pub record Evaluates {A : Type 0} (rules : Rules) (run : Run A) (result : Result A Halt) (s : State) : Type 0 where
   pub meets : Meets result s (drive rules run)
 

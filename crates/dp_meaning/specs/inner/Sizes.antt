@@ -1,5 +1,5 @@
--- How large the parts of a program are. The evaluator's recursion ends by it: a part is larger than its parts, and a frame of a bundle is larger than
--- each body in it.
+-- How large the parts of a program are. The evaluator's recursion ends by it: a part is larger than
+-- its parts, and a frame of a bundle is larger than each body in it.
 use Rattle.std.specs.Prelude.{ℕ, ◌+◌, ◌*◌, List, [], ◌∷◌, Option, map}
 use Rattle.std.specs.Option.{option_map_or}
 use denote.Param.Weighed.{most}
@@ -37,14 +37,15 @@ abbrev pub arm_layer : Arm-F ℕ ℕ ℕ → ℕ
 arm_layer arm = expression_size arm.test + arm.body + 1
 
 abbrev pub kind_layer : StatementKind-F ℕ ℕ ℕ → ℕ
-kind_layer (StatementKind-F.Expression e) = expression_size e + 1
+kind_layer (StatementKind-F.Expression e) = expression_size e + 2
 kind_layer (StatementKind-F.Echo operands) = expressions_size operands + 2
 kind_layer (StatementKind-F.Block statements) = sizes_sum statements + 1
 kind_layer StatementKind-F.Empty = 1
 kind_layer (StatementKind-F.If arms otherwise) = sizes_sum arms + option_map_or (λ n. n) otherwise 0 + 2
 kind_layer (StatementKind-F.While test body) = expressions_size (test ∷ []) + body + 8
 kind_layer (StatementKind-F.DoWhile body end test) = expression_size test + body + 4
-kind_layer (StatementKind-F.For before tests after body) = expressions_size before + expressions_size tests + expressions_size after + body + 4
+kind_layer (StatementKind-F.For before tests after body) =
+    expressions_size before + expressions_size tests + expressions_size after + body + 4
 kind_layer (StatementKind-F.Foreach subject binding body) = expression_size subject + body + 4
 kind_layer (StatementKind-F.Break loops) = 1
 kind_layer (StatementKind-F.Continue loop) = 1
@@ -73,7 +74,8 @@ functions_size (f ∷ fs) = body_size f.body + functions_size fs
 
 abbrev pub files_size : List BundleFile → ℕ
 files_size [] = 3
-files_size (file ∷ files) = body_size file.tree.body + functions_size file.tree.functions + files_size files
+files_size (file ∷ files) =
+    body_size file.tree.body + functions_size file.tree.functions + files_size files
 
 unfoldable pub frame_size : Bundle → ℕ
 frame_size bundle = files_size bundle.files

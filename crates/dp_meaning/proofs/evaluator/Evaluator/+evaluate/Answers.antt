@@ -1,22 +1,23 @@
 -- What the evaluator answers is what its parts give, one after another.
 use Rattle.std.proofs.Common.{◌≡◌, ◌+◌, ◌-◌, ◌≤◌, List, [], ◌∷◌, map, drop, length, rules, sym, ap, ◌∙◌, add-one, arith}
-use Rattle.std.specs.Prelude.{option_map}
+use Rattle.std.specs.Prelude.{if◌then◌else◌, option_map}
 use Rattle.std.proofs.Math.ListN.{drop_of_length-le}
 use Rattle.std.proofs.lemmas.Int.{to_z-of_z}
 use denote.Param.Weighed.{most}
 use mir.Syntax.{w64}
 use mir.Val.{SFits}
 use Rattle.dp_tree.specs.declared.tree.Arm.{Arm}
-use Rattle.dp_operations.specs.Indexing.{indexed, looked_up}
 use Rattle.dp_tree.specs.declared.tree.Expression.{Expression, size-Expression as nesting}
 use Rattle.dp_tree.specs.declared.tree.Place.{Place, size-Place}
-use Rattle.dp_meaning.specs.inner.Evaluation.{callee_of, goes_by}
+use Rattle.dp_meaning.specs.inner.Evaluation.{callee_of, entries_by, goes_by}
 use Rattle.dp_meaning.specs.Expressions.{evaluation, evaluations}
 use Rattle.dp_meaning.specs.inner.Sizes.{arm_size, body_size, expressions_size, kind_size, sizes_sum, statement_size}
-use Rattle.dp_meaning.specs.Statements.{arm_run, arms_run, statement_run}
-use Rattle.dp_meaning.proofs.CallLaws.{bounded-do, bounded-turns, branch-off, branch-on, call-is, file-is, next-off, runs-for, setting-bundle, suc-call, suc-include, then-next, zero-call, zero-include}
-use Rattle.dp_meaning.proofs.Drives.{breaks_off, ends, exits, gives, goes_on, joined_off, joined_on, passes, stops_at}
-use Rattle.dp_meaning.proofs.InPlace.{one-variable, reads-in-place}
+use Rattle.dp_meaning.specs.Run.{Done}
+use Rattle.dp_meaning.specs.Statements.{arm_run, arms_run, print_run, statement_run}
+use Rattle.dp_value.specs.declared.value.Value.TheVariants as variant
+use Rattle.dp_meaning.proofs.CallLaws.{bounded-do, bounded-turns, call-is, file-is, next-off, runs-for, setting-bundle, suc-call, suc-include, then-next, zero-call, zero-include}
+use Rattle.dp_meaning.proofs.Drives.{breaks_off, ends, exits, gives, goes_on, joined_off, joined_on, passes, stops_at, tested_off, tested_on}
+use Rattle.dp_meaning.proofs.InPlace.{base-plain, one-variable, reads-in-place}
 use Rattle.dp_meaning.proofs.Layers.{found-plain, kind-Block, kind-Break, kind-Continue, kind-DoWhile, kind-Echo, kind-Empty, kind-Exit, kind-Expression, kind-For, kind-Foreach, kind-Global, kind-If, kind-Return, kind-Unset, kind-While, run-arm, run-Array, run-Assign, run-Bool, run-Call, run-Chain, run-Coalesce, run-CoalesceAssign, run-Compound, run-Conditional, run-Include, run-Index, run-Isset, run-item-None, run-item-Some, run-link, run-Null, run-Number, run-place, run-Push, run-statement, run-Step, run-Text, run-Unary, run-Variable}
 use Rattle.dp_meaning.proofs.ListLaws.{front, front-at, values-all, values-break, values-first, values-more}
 use Rattle.dp_meaning.proofs.LoopLaws.{bind-breaks, body-breaks, body-out, do-body-breaks, do-body-out, do-end, do-goes-on, do-stops, do-test-breaks, each-body-breaks, each-goes-on, each-out, each-stops, next-breaks, test-breaks, turn-goes-on, turn-stops, turns-end}
@@ -92,7 +93,7 @@ pub expression-returns-in-Push : goal.expression-returns-in-Push
 expression-returns-in-Push g t c = rw (c.in-Push.is, run-Push) (rw c.as_ref-in-Push.ensures at c.assign-in-Push.ensures)
 
 pub found-returns-in-Index : goal.found-returns-in-Index
-found-returns-in-Index g t c = rw (c.in-Index.is, run-Index) (rw (c.as_ref.ensures, c.as_slice.ensures) at c.found_index.ensures)
+found-returns-in-Index g t c = rw (c.in-Index.is, run-Index) (rw (c.as_ref.ensures, c.as_slice.ensures) at c.index.ensures)
 
 pub found-returns-in_default : goal.found-returns-in_default
 found-returns-in_default g t c = rw (found-plain c.args.e.now c.in_default.not-Index) c.expression.ensures
@@ -118,22 +119,22 @@ pub unary-returns-in_err-value : goal.unary-returns-in_err-value
 unary-returns-in_err-value g t c = exits _ _ c.from_residual.ensures.1 (breaks_off _ c.in_err-value.ensures)
 
 pub unary-returns : goal.unary-returns
-unary-returns g t c = goes_on _ c.in_ok-value.ensures (c.value_of.ensures _ (gives-answers _ _ c.unary.ensures) _)
+unary-returns g t c = goes_on _ c.in_ok-value.ensures (c.value_of-answer.ensures _ (gives-answers _ _ c.unary.ensures) _)
 
 pub inclusion-returns-in_err-value : goal.inclusion-returns-in_err-value
 inclusion-returns-in_err-value g t c = exits _ _ c.from_residual.ensures.1 (breaks_off _ c.in_err-value.ensures)
 
 pub inclusion-returns : goal.inclusion-returns
-inclusion-returns g t c = goes_on _ c.in_ok-value.ensures c.include.ensures
+inclusion-returns g t c = goes_on _ c.in_ok-value.ensures c.include-answer.ensures
 
 pub index-returns-in_err-value-in-Some : goal.index-returns-in_err-value-in-Some
 index-returns-in_err-value-in-Some g t c =
-    exits _ _ c.from_residual.ensures.1 (rw (c.in-Some.ensures.base_is, c.in-Some.ensures.indices_are, run-Variable) (goes_on _ gives
+    exits _ _ c.from_residual.ensures.1 (rw (c.in-Some.ensures.base_is, c.in-Some.ensures.indices_are, run-Variable, base-plain) (goes_on _ gives
     (joined_off _ _ _ c.in_err-value-in-Some.ensures)))
 
 pub index-returns-in_ok-value-in-Some : goal.index-returns-in_ok-value-in-Some
 index-returns-in_ok-value-in-Some g t c =
-    rw (c.in-Some.ensures.base_is, c.in-Some.ensures.indices_are, run-Variable) (goes_on _ gives
+    rw (c.in-Some.ensures.base_is, c.in-Some.ensures.indices_are, run-Variable, base-plain) (goes_on _ gives
     (joined_on _ _ _ c.in_ok-value-in-Some.ensures c.under.ensures))
 
 pub index-returns-in_err-value-in-None : goal.index-returns-in_err-value-in-None
@@ -152,89 +153,39 @@ index-variable_entry-requires g t c =
 pub index-under-requires : goal.index-under-requires
 index-under-requires g t c = λ κs h. (omega (arith, ap (λ (es : List Expression). most nesting es) c.in-Some.ensures.indices_are, c.decreases), h)
 
-pub found_index-returns-in_err-value-in-Some : goal.found_index-returns-in_err-value-in-Some
-found_index-returns-in_err-value-in-Some g t c =
-    exits _ _ c.from_residual.ensures.1 (rw (c.in-Some.ensures.base_is, c.in-Some.ensures.indices_are, run-Variable) (goes_on _ gives
-    (joined_off _ _ _ c.in_err-value-in-Some.ensures)))
-
-pub found_index-returns-in_ok-value-in-Some : goal.found_index-returns-in_ok-value-in-Some
-found_index-returns-in_ok-value-in-Some g t c =
-    rw (c.in-Some.ensures.base_is, c.in-Some.ensures.indices_are, run-Variable) (goes_on _ gives
-    (joined_on _ _ _ c.in_ok-value-in-Some.ensures c.found_under.ensures))
-
-pub found_index-returns-in_err-value-in-None : goal.found_index-returns-in_err-value-in-None
-found_index-returns-in_err-value-in-None g t c =
-    exits _ _ c.from_residual-in_err-value-in-None.ensures.1 (breaks_off _ c.in_err-value-in-None.ensures)
-
-pub found_index-returns-in_ok-value-in-None : goal.found_index-returns-in_ok-value-in-None
-found_index-returns-in_ok-value-in-None g t c = goes_on _ c.in_ok-value-in-None.ensures c.found_under-in-None.ensures
-
-pub found_index-found_variable_entry-requires : goal.found_index-found_variable_entry-requires
-found_index-found_variable_entry-requires g t c =
-    λ κs h. (
-      omega (arith, ap (λ (es : List Expression). most nesting es) c.in-Some.ensures.indices_are, c.decreases),
-      (h, c.in-Some.ensures.index_is_pure),
-    )
-
-pub found_index-found_under-requires : goal.found_index-found_under-requires
-found_index-found_under-requires g t c =
-    λ κs h. (omega (arith, ap (λ (es : List Expression). most nesting es) c.in-Some.ensures.indices_are, c.decreases), h)
-
 pub variable_entry-returns-in_err-at : goal.variable_entry-returns-in_err-at
 variable_entry-returns-in_err-at g t c = exits _ _ c.from_residual.ensures.1 (breaks_off _ c.in_err-at.ensures)
 
 pub variable_entry-returns : goal.variable_entry-returns
 variable_entry-returns g t c =
     reads-in-place (g.O.Outside.rules c.args.self.now.outside.now)
-    (goes_by c.args.self.now) indexed c.args.name.now c.args.e.now c.requires c.args.state.now _ _ _ c.in_ok-at.ensures
-    (c.entry_in_place.ensures (g.O.Outside.rules c.args.self.now.outside.now))
+    (goes_by c.args.self.now) (entries_by c.args.reading) c.args.name.now c.args.e.now c.requires c.args.state.now _ _ _ c.in_ok-at.ensures
+    (c.entry_in_place-answer.ensures (g.O.Outside.rules c.args.self.now.outside.now))
 
-pub found_variable_entry-returns-in_err-at : goal.found_variable_entry-returns-in_err-at
-found_variable_entry-returns-in_err-at g t c = exits _ _ c.from_residual.ensures.1 (breaks_off _ c.in_err-at.ensures)
+pub base-returns-in-Plain : goal.base-returns-in-Plain
+base-returns-in-Plain g t c = rw c.in-Plain.is c.expression.ensures
 
-pub found_variable_entry-returns : goal.found_variable_entry-returns
-found_variable_entry-returns g t c =
-    reads-in-place (g.O.Outside.rules c.args.self.now.outside.now)
-    (goes_by c.args.self.now) looked_up c.args.name.now c.args.e.now c.requires c.args.state.now _ _ _ c.in_ok-at.ensures
-    (c.found_in_place.ensures (g.O.Outside.rules c.args.self.now.outside.now))
+pub base-returns-in-Found : goal.base-returns-in-Found
+base-returns-in-Found g t c = rw c.in-Found.is c.found.ensures
 
 pub under-returns-in_err-value : goal.under-returns-in_err-value
 under-returns-in_err-value g t c =
     exits _ _ c.from_residual.ensures.1 (c.loop-e.invariant _ _ (rw (front _ c.loop-e.e-index c.e-item.result c.loop-e-test.true c.e-item.is)
-    (joined_off _ _ _ c.in_err-value.ensures)))
+    (joined_off _ _ _ (rw (sym c.in_err-value.ensures) at c.entry-next.ensures))))
 
 pub under-loop-e-preserved : goal.under-loop-e-preserved
 under-loop-e-preserved g t c =
     λ x u e. c.loop-e.invariant x u (rw (front _ c.loop-e.e-index c.e-item.result c.loop-e-test.true c.e-item.is)
-    (joined_on _ _ _ c.in_ok-value.ensures e))
+    (joined_on _ _ _ (rw (sym c.in_ok-value.ensures) at c.entry-next.ensures) e))
 
 pub under-returns : goal.under-returns
 under-returns g t c = c.loop-e.invariant _ _ (rw (drop_of_length-le c.args.indices.now c.loop-e-test.false) gives)
-
-pub found_under-returns-in_err-value : goal.found_under-returns-in_err-value
-found_under-returns-in_err-value g t c =
-    exits _ _ c.from_residual.ensures.1 (c.loop-e.invariant _ _ (rw (front _ c.loop-e.e-index c.e-item.result c.loop-e-test.true c.e-item.is)
-    (joined_off _ _ _ c.in_err-value.ensures)))
-
-pub found_under-loop-e-preserved : goal.found_under-loop-e-preserved
-found_under-loop-e-preserved g t c =
-    λ x u e. c.loop-e.invariant x u (rw (front _ c.loop-e.e-index c.e-item.result c.loop-e-test.true c.e-item.is)
-    (joined_on _ _ _ c.in_ok-value.ensures e))
-
-pub found_under-returns : goal.found_under-returns
-found_under-returns g t c = c.loop-e.invariant _ _ (rw (drop_of_length-le c.args.indices.now c.loop-e-test.false) gives)
 
 pub entry-returns-in_err-at : goal.entry-returns-in_err-at
 entry-returns-in_err-at g t c = exits _ _ c.from_residual.ensures.1 (breaks_off _ c.in_err-at.ensures)
 
 pub entry-returns : goal.entry-returns
-entry-returns g t c = goes_on _ c.in_ok-at.ensures (c.value_of.ensures _ c.index.ensures _)
-
-pub found_entry-returns-in_err-at : goal.found_entry-returns-in_err-at
-found_entry-returns-in_err-at g t c = exits _ _ c.from_residual.ensures.1 (breaks_off _ c.in_err-at.ensures)
-
-pub found_entry-returns : goal.found_entry-returns
-found_entry-returns g t c = goes_on _ c.in_ok-at.ensures (c.value_of.ensures _ c.find.ensures _)
+entry-returns g t c = goes_on _ c.in_ok-at.ensures (c.value_of-answer.ensures _ c.look.ensures _)
 
 pub array-returns-in_err-array : goal.array-returns-in_err-array
 array-returns-in_err-array g t c =
@@ -282,12 +233,12 @@ chain-returns g t c = goes_on _ c.in_ok-value.ensures c.links.ensures
 pub links-returns-in_err-value : goal.links-returns-in_err-value
 links-returns-in_err-value g t c =
     exits _ _ c.from_residual.ensures.1 (c.loop-link.invariant _ _ (rw
-    (front _ c.loop-link.link-index c.link-item.result c.loop-link-test.true c.link-item.is) (breaks_off _ c.in_err-value.ensures)))
+    (front _ c.loop-link.link-index c.link-item.result c.loop-link-test.true c.link-item.is) (breaks_off _ (rw (sym c.in_err-value.ensures) at c.link-next.ensures))))
 
 pub links-loop-link-preserved : goal.links-loop-link-preserved
 links-loop-link-preserved g t c =
     λ x u e. c.loop-link.invariant x u (rw (front _ c.loop-link.link-index c.link-item.result c.loop-link-test.true c.link-item.is)
-    (goes_on _ c.in_ok-value.ensures e))
+    (goes_on _ (rw (sym c.in_ok-value.ensures) at c.link-next.ensures) e))
 
 pub links-returns : goal.links-returns
 links-returns g t c = c.loop-link.invariant _ _ (rw (drop_of_length-le c.args.links.now c.loop-link-test.false) gives)
@@ -307,17 +258,23 @@ link-returns-else-not-truthy g t c = rw (run-link, c.in-And.is, sym c.truthy-in-
 pub link-returns-in-Of : goal.link-returns-in-Of
 link-returns-in-Of g t c = rw (run-link, c.in-Of.is) c.joined.ensures
 
-pub truth-returns-in_err-value : goal.truth-returns-in_err-value
-truth-returns-in_err-value g t c = exits _ _ c.from_residual.ensures.1 (breaks_off _ c.in_err-value.ensures)
+pub truth-returns-in_err-holds : goal.truth-returns-in_err-holds
+truth-returns-in_err-holds g t c = exits _ _ c.from_residual.ensures.1 (tested_off _ (λ b u. Done (variant.Bool b) u) c.in_err-holds.ensures)
 
 pub truth-returns : goal.truth-returns
-truth-returns g t c = goes_on _ c.in_ok-value.ensures (rw c.truthy.ensures gives)
+truth-returns g t c = tested_on _ (λ b u. Done (variant.Bool b) u) c.in_ok-holds.ensures gives
+
+pub holds-returns-in_err-value : goal.holds-returns-in_err-value
+holds-returns-in_err-value g t c = exits _ _ c.from_residual.ensures.1 (breaks_off _ c.in_err-value.ensures)
+
+pub holds-returns : goal.holds-returns
+holds-returns g t c = goes_on _ c.in_ok-value.ensures (rw c.truthy-holds.ensures gives)
 
 pub joined-returns-in_err-right : goal.joined-returns-in_err-right
 joined-returns-in_err-right g t c = exits _ _ c.from_residual.ensures.1 (breaks_off _ c.in_err-right.ensures)
 
 pub joined-returns : goal.joined-returns
-joined-returns g t c = goes_on _ c.in_ok-right.ensures (c.value_of.ensures _ c.binary.ensures _)
+joined-returns g t c = goes_on _ c.in_ok-right.ensures (c.value_of-answer.ensures _ c.binary.ensures _)
 
 pub coalesce-returns-in_err-value : goal.coalesce-returns-in_err-value
 coalesce-returns-in_err-value g t c = exits _ _ c.from_residual.ensures.1 (breaks_off _ c.in_err-value.ensures)
@@ -398,13 +355,13 @@ pub compound_under-returns-in_err-old : goal.compound_under-returns-in_err-old
 compound_under-returns-in_err-old g t c = exits _ _ c.from_residual.ensures.1 (breaks_off _ (c.in_err-old.ensures _))
 
 pub compound_under-returns : goal.compound_under-returns
-compound_under-returns g t c = goes_on _ (c.in_ok-old.ensures _) c.compound_from.ensures
+compound_under-returns g t c = goes_on _ (c.in_ok-old.ensures _) c.compound_from-answer.ensures
 
 pub compound_from-returns-in_err-value : goal.compound_from-returns-in_err-value
 compound_from-returns-in_err-value g t c = exits _ _ c.from_residual.ensures.1 (breaks_off _ c.in_err-value.ensures)
 
 pub compound_from-returns : goal.compound_from-returns
-compound_from-returns g t c = goes_on _ c.in_ok-value.ensures (c.combine.ensures _)
+compound_from-returns g t c = goes_on _ c.in_ok-value.ensures (c.combine-answer.ensures _)
 
 pub coalesce_under-returns-in_err-old : goal.coalesce_under-returns-in_err-old
 coalesce_under-returns-in_err-old g t c = exits _ _ c.from_residual.ensures.1 (breaks_off _ (c.in_err-old.ensures _))
@@ -422,18 +379,24 @@ isset-returns-in_err-found g t c =
     exits _ _ c.from_residual.ensures.1 (c.loop-place.invariant _ _ (rw
     (front _ c.loop-place.place-index c.place-item.result c.loop-place-test.true c.place-item.is) (joined_off _ _ _ c.in_err-found.ensures)))
 
-pub isset-returns-then-is_missing : goal.isset-returns-then-is_missing
-isset-returns-then-is_missing g t c =
+pub isset-returns-then-missing : goal.isset-returns-then-missing
+isset-returns-then-missing g t c =
     c.loop-place.invariant _ _ (rw (front _ c.loop-place.place-index c.place-item.result c.loop-place-test.true c.place-item.is)
-    (joined_on _ _ _ c.in_ok-found.ensures (rw (sym c.is_missing.ensures ∙ c.if-is_missing.true) gives)))
+    (joined_on _ _ _ c.in_ok-found.ensures (rw (sym c.is_missing-missing.ensures ∙ c.if-missing.true) gives)))
 
 pub isset-loop-place-preserved : goal.isset-loop-place-preserved
 isset-loop-place-preserved g t c =
     λ x u e. c.loop-place.invariant x u (rw (front _ c.loop-place.place-index c.place-item.result c.loop-place-test.true c.place-item.is)
-    (joined_on _ _ _ c.in_ok-found.ensures (rw (sym c.is_missing.ensures ∙ c.if-is_missing.false) e)))
+    (joined_on _ _ _ c.in_ok-found.ensures (rw (sym c.is_missing-missing.ensures ∙ c.if-missing.false) e)))
 
 pub isset-returns : goal.isset-returns
 isset-returns g t c = c.loop-place.invariant _ _ (rw (drop_of_length-le c.args.places.now c.loop-place-test.false) gives)
+
+pub print-returns-in_err-value : goal.print-returns-in_err-value
+print-returns-in_err-value g t c = exits _ _ c.from_residual.ensures.1 (breaks_off _ c.in_err-value.ensures)
+
+pub print-returns : goal.print-returns
+print-returns g t c = goes_on _ c.in_ok-value.ensures (c.print_value-answer.ensures _)
 
 pub unset-returns-in_err-indices : goal.unset-returns-in_err-indices
 unset-returns-in_err-indices g t c =
@@ -522,15 +485,10 @@ function-returns-in_err-signal g t c =
     exits _ _ c.from_residual-in_err-signal.ensures.1 (goes_on _ (c.in_ok-enter_call.ensures _) (passes c.in_ok-at_moment.ensures (breaks_off _
     (rw c.as_slice.ensures at c.in_err-signal.ensures))))
 
-pub function-returns-in_err-at_moment-2 : goal.function-returns-in_err-at_moment-2
-function-returns-in_err-at_moment-2 g t c =
-    exits _ _ c.from_residual-in_err-at_moment-2.ensures.1 (goes_on _ (c.in_ok-enter_call.ensures _) (passes c.in_ok-at_moment.ensures (goes_on _
-    (rw c.as_slice.ensures at c.in_ok-signal.ensures) (stops_at (rw c.line-line.ensures at c.in_err-at_moment-2.ensures)))))
-
 pub function-returns : goal.function-returns
 function-returns g t c =
     goes_on _ (c.in_ok-enter_call.ensures _) (passes c.in_ok-at_moment.ensures (goes_on _ (rw c.as_slice.ensures at c.in_ok-signal.ensures)
-    (passes (rw c.line-line.ensures at c.in_ok-at_moment-2.ensures) (rw (c.leave.ensures, c.returned.ensures) gives))))
+    c.leave.ensures))
 
 pub include-returns-in-None : goal.include-returns-in-None
 include-returns-in-None g t c =
@@ -613,14 +571,9 @@ pub kind-returns-in_err-place-in-Expression : goal.kind-returns-in_err-place-in-
 kind-returns-in_err-place-in-Expression g t c =
     exits _ _ c.from_residual.ensures.1 (rw (c.in-Expression.is, kind-Expression) (stops_at c.in_err-place-in-Expression.ensures))
 
-pub kind-returns-in_err-_value-in-Expression : goal.kind-returns-in_err-_value-in-Expression
-kind-returns-in_err-_value-in-Expression g t c =
-    exits _ _ c.from_residual-in_err-_value-in-Expression.ensures.1 (rw (c.in-Expression.is, kind-Expression)
-    (passes c.in_ok-place-in-Expression.ensures (breaks_off _ c.in_err-_value-in-Expression.ensures)))
-
-pub kind-returns-in_ok-_value-in-Expression : goal.kind-returns-in_ok-_value-in-Expression
-kind-returns-in_ok-_value-in-Expression g t c =
-    rw (c.in-Expression.is, kind-Expression) (passes c.in_ok-place-in-Expression.ensures (goes_on _ c.in_ok-_value-in-Expression.ensures gives))
+pub kind-returns-in_ok-place-in-Expression : goal.kind-returns-in_ok-place-in-Expression
+kind-returns-in_ok-place-in-Expression g t c =
+    rw (c.in-Expression.is, kind-Expression) (passes c.in_ok-place-in-Expression.ensures c.evaluated.ensures)
 
 pub kind-returns-in_err-place-in-Echo : goal.kind-returns-in_err-place-in-Echo
 kind-returns-in_err-place-in-Echo g t c =
@@ -663,31 +616,18 @@ pub kind-returns-in_err-place-in-For : goal.kind-returns-in_err-place-in-For
 kind-returns-in_err-place-in-For g t c =
     exits _ _ c.from_residual-in_err-place-in-For.ensures.1 (rw (c.in-For.is, kind-For) (stops_at c.in_err-place-in-For.ensures))
 
-pub kind-returns-in_err-_values-in-For : goal.kind-returns-in_err-_values-in-For
-kind-returns-in_err-_values-in-For g t c =
-    exits _ _ c.from_residual-in_err-_values-in-For.ensures.1 (rw (c.in-For.is, kind-For) (passes c.in_ok-place-in-For.ensures (breaks_off _
-    (rw c.as_slice-in-For.ensures at c.in_err-_values-in-For.ensures))))
-
-pub kind-returns-in_ok-_values-in-For : goal.kind-returns-in_ok-_values-in-For
-kind-returns-in_ok-_values-in-For g t c =
-    rw (c.in-For.is, kind-For) (passes c.in_ok-place-in-For.ensures (goes_on _ (rw c.as_slice-in-For.ensures at c.in_ok-_values-in-For.ensures)
-    (runs-for c.args.self.now.bundle.now c.args.self.now.bound c.args.self.now.depth c.args.line (statement_run c.in-For.body
-    (goes_by c.args.self.now)) c.values.new.state c.in-For.tests c.in-For.after (statement_run c.in-For.body) []
-    (rw (c.as_slice-in-For-2.ensures, c.as_slice-in-For-3.ensures, c.as_ref-in-For.ensures) at c.turns-in-For.ensures))))
+pub kind-returns-in_ok-place-in-For : goal.kind-returns-in_ok-place-in-For
+kind-returns-in_ok-place-in-For g t c =
+    rw (c.in-For.is, kind-For) (passes c.in_ok-place-in-For.ensures
+    (rw (c.as_slice-in-For.ensures, c.as_slice-in-For-2.ensures, c.as_slice-in-For-3.ensures, c.as_ref-in-For.ensures) at c.for_turns.ensures))
 
 pub kind-returns-in_err-place-in-Foreach : goal.kind-returns-in_err-place-in-Foreach
 kind-returns-in_err-place-in-Foreach g t c =
     exits _ _ c.from_residual-in_err-place-in-Foreach.ensures.1 (rw (c.in-Foreach.is, kind-Foreach) (stops_at c.in_err-place-in-Foreach.ensures))
 
-pub kind-returns-in_err-subject-in-Foreach : goal.kind-returns-in_err-subject-in-Foreach
-kind-returns-in_err-subject-in-Foreach g t c =
-    exits _ _ c.from_residual-in_err-subject-in-Foreach.ensures.1 (rw (c.in-Foreach.is, kind-Foreach) (passes c.in_ok-place-in-Foreach.ensures
-    (breaks_off _ c.in_err-subject-in-Foreach.ensures)))
-
-pub kind-returns-in_ok-subject-in-Foreach : goal.kind-returns-in_ok-subject-in-Foreach
-kind-returns-in_ok-subject-in-Foreach g t c =
-    rw (c.in-Foreach.is, kind-Foreach) (passes c.in_ok-place-in-Foreach.ensures (goes_on _ c.in_ok-subject-in-Foreach.ensures
-    (rw c.as_ref-in-Foreach.ensures at c.each.ensures)))
+pub kind-returns-in_ok-place-in-Foreach : goal.kind-returns-in_ok-place-in-Foreach
+kind-returns-in_ok-place-in-Foreach g t c =
+    rw (c.in-Foreach.is, kind-Foreach) (passes c.in_ok-place-in-Foreach.ensures (rw c.as_ref-in-Foreach.ensures at c.foreach.ensures))
 
 pub kind-returns-in_err-place-in-Break : goal.kind-returns-in_err-place-in-Break
 kind-returns-in_err-place-in-Break g t c =
@@ -746,22 +686,37 @@ kind-returns-in_err-place-in-Exit g t c =
 pub kind-returns-in_ok-place-in-Exit : goal.kind-returns-in_ok-place-in-Exit
 kind-returns-in_ok-place-in-Exit g t c = rw (c.in-Exit.is, kind-Exit) (passes c.in_ok-place-in-Exit.ensures c.exit.ensures)
 
-pub echo-returns-in_err-value : goal.echo-returns-in_err-value
-echo-returns-in_err-value g t c =
+pub evaluated-returns-in_err-value : goal.evaluated-returns-in_err-value
+evaluated-returns-in_err-value g t c = exits _ _ c.from_residual.ensures.1 (breaks_off _ c.in_err-value.ensures)
+
+pub evaluated-returns : goal.evaluated-returns
+evaluated-returns g t c = goes_on _ c.in_ok-value.ensures gives
+
+pub for_turns-returns-in_err-_values : goal.for_turns-returns-in_err-_values
+for_turns-returns-in_err-_values g t c = exits _ _ c.from_residual.ensures.1 (breaks_off _ c.in_err-_values.ensures)
+
+pub for_turns-returns : goal.for_turns-returns
+for_turns-returns g t c =
+    goes_on _ c.in_ok-_values.ensures (runs-for c.args.self.now.bundle.now c.args.self.now.bound c.args.self.now.depth c.args.line
+    (statement_run c.args.body.now (goes_by c.args.self.now)) c.values.new.state c.args.tests.now c.args.after.now (statement_run c.args.body.now) []
+    c.turns.ensures)
+
+pub foreach-returns-in_err-subject : goal.foreach-returns-in_err-subject
+foreach-returns-in_err-subject g t c = exits _ _ c.from_residual.ensures.1 (breaks_off _ c.in_err-subject.ensures)
+
+pub foreach-returns : goal.foreach-returns
+foreach-returns g t c = goes_on _ c.in_ok-subject.ensures c.each-answer.ensures
+
+pub echo-returns-in_err-print : goal.echo-returns-in_err-print
+echo-returns-in_err-print g t c =
     exits _ _ c.from_residual.ensures.1 (c.loop-operand.invariant _ _ (rw
     (front _ c.loop-operand.operand-index c.operand-item.result c.loop-operand-test.true c.operand-item.is)
-    (breaks_off _ c.in_err-value.ensures)))
-
-pub echo-returns-in_err-print_value : goal.echo-returns-in_err-print_value
-echo-returns-in_err-print_value g t c =
-    exits _ _ c.from_residual-in_err-print_value.ensures.1 (c.loop-operand.invariant _ _ (rw
-    (front _ c.loop-operand.operand-index c.operand-item.result c.loop-operand-test.true c.operand-item.is) (goes_on _ c.in_ok-value.ensures
-    (breaks_off _ (c.in_err-print_value.ensures _)))))
+    (joined_off _ print_run _ c.in_err-print.ensures)))
 
 pub echo-loop-operand-preserved : goal.echo-loop-operand-preserved
 echo-loop-operand-preserved g t c =
     λ x u e. c.loop-operand.invariant x u (rw (front _ c.loop-operand.operand-index c.operand-item.result c.loop-operand-test.true
-    c.operand-item.is) (goes_on _ c.in_ok-value.ensures (goes_on _ (c.in_ok-print_value.ensures _) e)))
+    c.operand-item.is) (joined_on _ print_run _ c.in_ok-print.ensures e))
 
 pub echo-returns : goal.echo-returns
 echo-returns g t c = c.loop-operand.invariant _ _ (rw (drop_of_length-le c.args.operands.now c.loop-operand-test.false) gives)
@@ -771,25 +726,24 @@ arms-returns-in_err-place g t c =
     exits _ _ c.from_residual.ensures.1 (c.loop-arm.invariant _ _ (rw
     (front _ c.loop-arm.arm-index c.arm-item.result c.loop-arm-test.true c.arm-item.is, run-arm) (stops_at c.in_err-place.ensures)))
 
-pub arms-returns-in_err-value : goal.arms-returns-in_err-value
-arms-returns-in_err-value g t c =
-    exits _ _ c.from_residual-in_err-value.ensures.1 (c.loop-arm.invariant _ _ (rw
+pub arms-returns-in_err-holds : goal.arms-returns-in_err-holds
+arms-returns-in_err-holds g t c =
+    exits _ _ c.from_residual-in_err-holds.ensures.1 (c.loop-arm.invariant _ _ (rw
     (front _ c.loop-arm.arm-index c.arm-item.result c.loop-arm-test.true c.arm-item.is, run-arm) (passes c.in_ok-place.ensures
-    (breaks_off _ c.in_err-value.ensures))))
+    (tested_off _ (λ b u. if b then statement_run c.arm-item.result.body (goes_by c.args.self.now) u else arms_run
+    (map arm_run (drop (c.loop-arm.arm-index + 1) c.args.arms.now)) (option_map statement_run c.args.otherwise.now) (goes_by c.args.self.now) u) c.in_err-holds.ensures))))
 
-pub arms-returns-then-truthy : goal.arms-returns-then-truthy
-arms-returns-then-truthy g t c =
+pub arms-returns-then-holds : goal.arms-returns-then-holds
+arms-returns-then-holds g t c =
     c.loop-arm.invariant _ _ (rw (front _ c.loop-arm.arm-index c.arm-item.result c.loop-arm-test.true c.arm-item.is, run-arm)
-    (passes c.in_ok-place.ensures (goes_on _ c.in_ok-value.ensures (branch-on (statement_run c.arm-item.result.body) (arms_run
-    (map arm_run (drop (c.loop-arm.arm-index + 1) c.args.arms.now)) (option_map statement_run c.args.otherwise.now)) (goes_by c.args.self.now) c.in_ok-value.value _
-    (sym c.truthy.ensures ∙ c.if-truthy.true) c.statement.ensures))))
+    (passes c.in_ok-place.ensures (tested_on _ (λ b u. if b then statement_run c.arm-item.result.body (goes_by c.args.self.now) u else arms_run
+    (map arm_run (drop (c.loop-arm.arm-index + 1) c.args.arms.now)) (option_map statement_run c.args.otherwise.now) (goes_by c.args.self.now) u) c.in_ok-holds.ensures (rw c.if-holds.true c.statement.ensures))))
 
 pub arms-loop-arm-preserved : goal.arms-loop-arm-preserved
 arms-loop-arm-preserved g t c =
     λ x u e. c.loop-arm.invariant x u (rw (front _ c.loop-arm.arm-index c.arm-item.result c.loop-arm-test.true c.arm-item.is, run-arm)
-    (passes c.in_ok-place.ensures (goes_on _ c.in_ok-value.ensures (branch-off (statement_run c.arm-item.result.body) (arms_run
-    (map arm_run (drop (c.loop-arm.arm-index + 1) c.args.arms.now)) (option_map statement_run c.args.otherwise.now)) (goes_by c.args.self.now) c.in_ok-value.value _
-    (sym c.truthy.ensures ∙ c.if-truthy.false) e))))
+    (passes c.in_ok-place.ensures (tested_on _ (λ b u. if b then statement_run c.arm-item.result.body (goes_by c.args.self.now) u else arms_run
+    (map arm_run (drop (c.loop-arm.arm-index + 1) c.args.arms.now)) (option_map statement_run c.args.otherwise.now) (goes_by c.args.self.now) u) c.in_ok-holds.ensures (rw c.if-holds.false e))))
 
 pub arms-returns-in-None : goal.arms-returns-in-None
 arms-returns-in-None g t c = c.loop-arm.invariant _ _ (rw (drop_of_length-le c.args.arms.now c.loop-arm-test.false, c.in-None.is) gives)
@@ -816,7 +770,7 @@ pub exit-returns-in_err-value-in-Some : goal.exit-returns-in_err-value-in-Some
 exit-returns-in_err-value-in-Some g t c = exits _ _ c.from_residual.ensures.1 (rw c.in-Some.is (breaks_off _ c.in_err-value-in-Some.ensures))
 
 pub exit-returns-in_ok-value-in-Some : goal.exit-returns-in_ok-value-in-Some
-exit-returns-in_ok-value-in-Some g t c = rw c.in-Some.is (goes_on _ c.in_ok-value-in-Some.ensures (c.exit_value.ensures _))
+exit-returns-in_ok-value-in-Some g t c = rw c.in-Some.is (goes_on _ c.in_ok-value-in-Some.ensures (c.exit_value-answer.ensures _))
 
 pub turns-returns-in_err-place : goal.turns-returns-in_err-place
 turns-returns-in_err-place g t c =
@@ -893,26 +847,26 @@ do_turns-returns-in_err-place g t c =
     (statement_run c.args.body.now (goes_by c.args.self.now)) (omega arith) _ _ _ c.in_ok-statement.ensures
     (sym c.turn_over.ensures ∙ c.in-On.is) _ _ c.in_err-place.ensures))
 
-pub do_turns-returns-in_err-value : goal.do_turns-returns-in_err-value
-do_turns-returns-in_err-value g t c =
-    exits _ _ c.from_residual-in_err-value.ensures.1 (c.loop-turn.invariant _ _ (do-test-breaks _
+pub do_turns-returns-in_err-holds : goal.do_turns-returns-in_err-holds
+do_turns-returns-in_err-holds g t c =
+    exits _ _ c.from_residual-in_err-holds.ensures.1 (c.loop-turn.invariant _ _ (do-test-breaks _
     (c.args.self.now.bound - c.loop-turn._turn) c.args.line (evaluation c.args.test.now (goes_by c.args.self.now))
     (statement_run c.args.body.now (goes_by c.args.self.now)) (omega arith) _ _ _ c.in_ok-statement.ensures
-    (sym c.turn_over.ensures ∙ c.in-On.is) _ c.in_ok-place.ensures _ _ c.in_err-value.ensures))
+    (sym c.turn_over.ensures ∙ c.in-On.is) _ c.in_ok-place.ensures _ _ c.in_err-holds.ensures))
 
-pub do_turns-returns-then-not-truthy : goal.do_turns-returns-then-not-truthy
-do_turns-returns-then-not-truthy g t c =
+pub do_turns-returns-then-not-holds : goal.do_turns-returns-then-not-holds
+do_turns-returns-then-not-holds g t c =
     c.loop-turn.invariant _ _ (do-end _ (c.args.self.now.bound - c.loop-turn._turn) c.args.line (evaluation c.args.test.now
     (goes_by c.args.self.now)) (statement_run c.args.body.now (goes_by c.args.self.now)) (omega arith) _ _ _ c.in_ok-statement.ensures
-    (sym c.turn_over.ensures ∙ c.in-On.is) _ c.in_ok-place.ensures _ _ c.in_ok-value.ensures (sym c.truthy.ensures ∙ c.if-not-truthy.true))
+    (sym c.turn_over.ensures ∙ c.in-On.is) _ c.in_ok-place.ensures _ _ c.in_ok-holds.ensures c.if-not-holds.true)
 
 pub do_turns-loop-turn-preserved : goal.do_turns-loop-turn-preserved
 do_turns-loop-turn-preserved g t c =
     λ x u e. let n : c.args.self.now.bound - (c.loop-turn._turn + 1) ≡ c.args.self.now.bound - c.loop-turn._turn - 1 = omega arith in
     c.loop-turn.invariant x u (do-goes-on _ (c.args.self.now.bound - c.loop-turn._turn) c.args.line (evaluation c.args.test.now
     (goes_by c.args.self.now)) (statement_run c.args.body.now (goes_by c.args.self.now)) (omega arith) _ _ _ c.in_ok-statement.ensures
-    (sym c.turn_over.ensures ∙ c.in-On.is) _ c.in_ok-place.ensures _ _ c.in_ok-value.ensures
-    (sym c.truthy.ensures ∙ c.if-not-truthy.false) x u (rw n at e))
+    (sym c.turn_over.ensures ∙ c.in-On.is) _ c.in_ok-place.ensures _ _ c.in_ok-holds.ensures
+    c.if-not-holds.false x u (rw n at e))
 
 pub do_turns-returns : goal.do_turns-returns
 do_turns-returns g t c = let n : c.args.self.now.bound - c.loop-turn._turn ≡ 0 = omega arith in c.loop-turn.invariant _ _ (rw n ends)
@@ -957,8 +911,8 @@ each-returns g t c =
     let h : length c.in-Array.array.pairs ≤ c.loop-at.at = omega (arith, c.len-at-end.ensures.len) in c.loop-at.invariant _ _ (rw
     (drop_of_length-le c.in-Array.array.pairs h) gives)
 
-pub kind-expression-requires : goal.kind-expression-requires
-kind-expression-requires g t c = λ κs h. (omega (arith, ap kind_size c.in-Expression.is ∙ size-Expression _, c.decreases), h)
+pub kind-evaluated-requires : goal.kind-evaluated-requires
+kind-evaluated-requires g t c = λ κs h. (omega (arith, ap kind_size c.in-Expression.is ∙ size-Expression _, c.decreases), h)
 
 pub kind-echo-requires : goal.kind-echo-requires
 kind-echo-requires g t c = λ κs h. (omega (arith, ap kind_size c.in-Echo.is ∙ size-Echo _, ap expressions_size c.as_slice.ensures, c.decreases), h)
@@ -1006,27 +960,14 @@ kind-do_turns-requires g t c =
       h,
     )
 
-pub kind-values-requires : goal.kind-values-requires
-kind-values-requires g t c =
+pub kind-for_turns-requires : goal.kind-for_turns-requires
+kind-for_turns-requires g t c =
     λ κs h. (
       omega (
         arith,
         ap kind_size c.in-For.is ∙ size-For c.in-For.before c.in-For.tests c.in-For.after c.in-For.body,
-        ap expressions_size
-            c.as_slice-in-For.ensures,
-        c.decreases,
-      ),
-      h,
-    )
-
-pub kind-turns-requires-in-For : goal.kind-turns-requires-in-For
-kind-turns-requires-in-For g t c =
-    λ κs h. (
-      omega (
-        arith,
-        ap kind_size c.in-For.is ∙ size-For c.in-For.before c.in-For.tests c.in-For.after c.in-For.body,
-        ap expressions_size
-            c.as_slice-in-For-2.ensures,
+        ap expressions_size c.as_slice-in-For.ensures,
+        ap expressions_size c.as_slice-in-For-2.ensures,
         ap expressions_size c.as_slice-in-For-3.ensures,
         ap statement_size c.as_ref-in-For.ensures,
         c.decreases,
@@ -1034,18 +975,13 @@ kind-turns-requires-in-For g t c =
       h,
     )
 
-pub kind-expression-requires-in-Foreach : goal.kind-expression-requires-in-Foreach
-kind-expression-requires-in-Foreach g t c =
-    λ κs h. (omega (arith, ap kind_size c.in-Foreach.is ∙ size-Foreach c.in-Foreach.subject c.in-Foreach.binding c.in-Foreach.body, c.decreases), h)
-
-pub kind-each-requires : goal.kind-each-requires
-kind-each-requires g t c =
+pub kind-foreach-requires : goal.kind-foreach-requires
+kind-foreach-requires g t c =
     λ κs h. (
       omega (
         arith,
         ap kind_size c.in-Foreach.is ∙ size-Foreach c.in-Foreach.subject c.in-Foreach.binding c.in-Foreach.body,
-        ap
-            statement_size c.as_ref-in-Foreach.ensures,
+        ap statement_size c.as_ref-in-Foreach.ensures,
         c.decreases,
       ),
       h,
@@ -1085,8 +1021,8 @@ body-statement-requires g t c =
       h,
     )
 
-pub arms-expression-requires : goal.arms-expression-requires
-arms-expression-requires g t c =
+pub arms-holds-requires : goal.arms-holds-requires
+arms-holds-requires g t c =
     λ κs h. (
       omega (
         arith,

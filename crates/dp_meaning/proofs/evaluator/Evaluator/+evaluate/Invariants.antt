@@ -3,7 +3,6 @@ use Rattle.std.proofs.Common.{◌+◌, ◌-◌, ◌*◌, max, List, map, drop, R
 use Rattle.std.specs.Prelude.{option_map}
 use Rattle.std.specs.Option.{option_map_or}
 use denote.Param.Weighed.{most}
-use Rattle.dp_operations.specs.Indexing.{indexed, looked_up}
 use Rattle.dp_state.specs.declared.state.State.{State}
 use Rattle.dp_tree.specs.declared.tree.Expression.{size-Expression}
 use Rattle.dp_tree.specs.declared.tree.Item.{size-Item}
@@ -15,7 +14,7 @@ use Rattle.dp_value.specs.Table.{empty}
 use Rattle.dp_meaning.specs.declared.halt.Halt.{Halt}
 use Rattle.dp_meaning.specs.declared.signal.Signal.{Signal}
 use Rattle.dp_meaning.specs.inner.Drive.{Evaluates}
-use Rattle.dp_meaning.specs.inner.Evaluation.{goes_by}
+use Rattle.dp_meaning.specs.inner.Evaluation.{entries_by, goes_by}
 use Rattle.dp_meaning.specs.Expressions.{evaluation, evaluations, expression_run, indices_run, item_run_of, items_run, link_run, links_run, place_run}
 use Rattle.dp_meaning.specs.Loops.{do_turns, each_run, entries, turns}
 use Rattle.dp_meaning.specs.Places.{isset_run, unset_run}
@@ -37,6 +36,9 @@ decreases-assign g l = l.self.now.depth * frame_size l.self.now.bundle.now + (4 
 
 abbrev pub decreases-assign_under : goal.decreases-assign_under
 decreases-assign_under g l = l.self.now.depth * frame_size l.self.now.bundle.now + (4 * size-Expression l.right.now + 1)
+
+abbrev pub decreases-base : goal.decreases-base
+decreases-base g l = l.self.now.depth * frame_size l.self.now.bundle.now + (expression_size l.e.now + 2)
 
 abbrev pub decreases-body : goal.decreases-body
 decreases-body g l = l.self.now.depth * frame_size l.self.now.bundle.now + body_size l.statements.now
@@ -78,7 +80,7 @@ decreases-conditional g l = l.self.now.depth * frame_size l.self.now.bundle.now 
     (option_map_or size-Expression l.middle.now 0) (size-Expression l.otherwise.now)) + 3)
 
 abbrev pub decreases-do_turns : goal.decreases-do_turns
-decreases-do_turns g l = l.self.now.depth * frame_size l.self.now.bundle.now + (expression_size l.test.now + statement_size l.body.now + 1)
+decreases-do_turns g l = l.self.now.depth * frame_size l.self.now.bundle.now + (expression_size l.test.now + statement_size l.body.now + 2)
 
 abbrev pub decreases-each : goal.decreases-each
 decreases-each g l = l.self.now.depth * frame_size l.self.now.bundle.now + (statement_size l.body.now + 1)
@@ -88,6 +90,16 @@ decreases-echo g l = l.self.now.depth * frame_size l.self.now.bundle.now + (expr
 
 abbrev pub decreases-entry : goal.decreases-entry
 decreases-entry g l = l.self.now.depth * frame_size l.self.now.bundle.now + (4 * size-Expression l.e.now + 1)
+
+abbrev pub decreases-evaluated : goal.decreases-evaluated
+decreases-evaluated g l = l.self.now.depth * frame_size l.self.now.bundle.now + (expression_size l.e.now + 1)
+
+abbrev pub decreases-for_turns : goal.decreases-for_turns
+decreases-for_turns g l = l.self.now.depth * frame_size l.self.now.bundle.now +
+    (expressions_size l.before.now + expressions_size l.tests.now + expressions_size l.after.now + statement_size l.body.now + 2)
+
+abbrev pub decreases-foreach : goal.decreases-foreach
+decreases-foreach g l = l.self.now.depth * frame_size l.self.now.bundle.now + (expression_size l.subject.now + statement_size l.body.now + 2)
 
 abbrev pub decreases-exit : goal.decreases-exit
 decreases-exit g l = l.self.now.depth * frame_size l.self.now.bundle.now + (optional_size l.value.now + 3)
@@ -104,21 +116,14 @@ decreases-found g l = l.self.now.depth * frame_size l.self.now.bundle.now + (exp
 abbrev pub decreases-found_at : goal.decreases-found_at
 decreases-found_at g l = l.self.now.depth * frame_size l.self.now.bundle.now + (4 * size-Place l.place.now + 2)
 
-abbrev pub decreases-found_entry : goal.decreases-found_entry
-decreases-found_entry g l = l.self.now.depth * frame_size l.self.now.bundle.now + (4 * size-Expression l.e.now + 1)
-
-abbrev pub decreases-found_index : goal.decreases-found_index
-decreases-found_index g l = l.self.now.depth * frame_size l.self.now.bundle.now + (4 * max (size-Expression l.base.now)
-    (most size-Expression l.indices.now) + 3)
-
-abbrev pub decreases-found_under : goal.decreases-found_under
-decreases-found_under g l = l.self.now.depth * frame_size l.self.now.bundle.now + (4 * most size-Expression l.indices.now + 2)
-
-abbrev pub decreases-found_variable_entry : goal.decreases-found_variable_entry
-decreases-found_variable_entry g l = l.self.now.depth * frame_size l.self.now.bundle.now + (4 * size-Expression l.e.now + 1)
-
 abbrev pub decreases-function : goal.decreases-function
 decreases-function g l = l.self.now.depth * frame_size l.self.now.bundle.now + (body_size l.function.now.body + 1)
+
+abbrev pub decreases-holds : goal.decreases-holds
+decreases-holds g l = l.self.now.depth * frame_size l.self.now.bundle.now + (4 * size-Expression l.e.now + 1)
+
+abbrev pub decreases-print : goal.decreases-print
+decreases-print g l = l.self.now.depth * frame_size l.self.now.bundle.now + (4 * size-Expression l.e.now + 1)
 
 abbrev pub decreases-include : goal.decreases-include
 decreases-include g l = l.self.now.depth * frame_size l.self.now.bundle.now + 1
@@ -173,7 +178,7 @@ abbrev pub decreases-step : goal.decreases-step
 decreases-step g l = l.self.now.depth * frame_size l.self.now.bundle.now + (4 * size-Place l.place.now + 3)
 
 abbrev pub decreases-truth : goal.decreases-truth
-decreases-truth g l = l.self.now.depth * frame_size l.self.now.bundle.now + (4 * size-Expression l.operand.now + 1)
+decreases-truth g l = l.self.now.depth * frame_size l.self.now.bundle.now + (4 * size-Expression l.operand.now + 2)
 
 abbrev pub decreases-turns : goal.decreases-turns
 decreases-turns g l = l.self.now.depth * frame_size l.self.now.bundle.now +
@@ -261,13 +266,6 @@ invariant-each-loop-at g l = (x : Result Signal Halt) (t : State)
 
 abbrev pub invariant-under-loop-e : goal.invariant-under-loop-e
 invariant-under-loop-e g l = (x : Result Value Halt) (t : State)
-    → Evaluates (g.O.Outside.rules l.self.outside.now) (indices_run indexed (map expression_run (drop l.e-index l.indices)) l.value
+    → Evaluates (g.O.Outside.rules l.self.outside.now) (indices_run (entries_by l.reading) (map expression_run (drop l.e-index l.indices)) l.value
     (goes_by l.self) l.state) x t
-    → Evaluates (g.O.Outside.rules l.self.outside.now) (indices_run indexed (map expression_run l.indices) l.fn.base (goes_by l.self) l.fn.state) x t
-
-abbrev pub invariant-found_under-loop-e : goal.invariant-found_under-loop-e
-invariant-found_under-loop-e g l = (x : Result Value Halt) (t : State)
-    → Evaluates (g.O.Outside.rules l.self.outside.now) (indices_run looked_up (map expression_run (drop l.e-index l.indices)) l.value
-    (goes_by l.self) l.state) x t
-    → Evaluates (g.O.Outside.rules l.self.outside.now) (indices_run looked_up (map expression_run l.indices) l.fn.base
-    (goes_by l.self) l.fn.state) x t
+    → Evaluates (g.O.Outside.rules l.self.outside.now) (indices_run (entries_by l.reading) (map expression_run l.indices) l.fn.base (goes_by l.self) l.fn.state) x t
