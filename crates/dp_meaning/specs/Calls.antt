@@ -27,7 +27,8 @@ pub data Callee : Type 0 where
   Declared : ℕ → Function → Callee
 
 abbrev pub declared_callee : Bundle → FunctionRef → Option Callee
-declared_callee bundle reference = option_map_or (λ f. Some (Declared reference.file f)) (function_at bundle reference) None
+declared_callee bundle reference =
+    option_map_or (λ f. Some (Declared reference.file f)) (function_at bundle reference) None
 
 -- a built-in function has its name alone, and another one has it where it is declared
 abbrev pub callee : Bundle → List ℕ → State → Option Callee
@@ -42,7 +43,8 @@ callee_run (Declared file f) values setting s = setting.call file f values s
 -- a call: the name is looked up, then the arguments are evaluated
 abbrev pub call_run : Option Callee → Part (List Value) → Part Value
 call_run None arguments setting s = fatal NoFunction s
-call_run (Some c) arguments setting s = arguments setting s >>= λ values t. callee_run c values setting t
+call_run (Some c) arguments setting s =
+    arguments setting s >>= λ values t. callee_run c values setting t
 
 -- the file of this number, if there is one
 abbrev pub inclusion_run : Inclusion → Option ℕ → Part Value
@@ -52,4 +54,5 @@ inclusion_run how (Some file) setting s = setting.include file s
 
 -- `include` and `require` of the file whose name is the text of a value
 abbrev pub include_run : Inclusion → Value → Part Value
-include_run how v setting s = inclusion_run how (file_named setting.bundle (text_of (data_of v))) setting s
+include_run how v setting s =
+    inclusion_run how (file_named setting.bundle (text_of (data_of v))) setting s

@@ -1,5 +1,5 @@
--- What loops do. Each turn of one but `foreach` has a moment, so a loop of more turns than a run may have moments is over by the bound.
--- Source: the PHP manual, "Control Structures".
+-- What loops do. Each turn of one but `foreach` has a moment, so a loop of more turns than a run
+-- may have moments is over by the bound. Source: the PHP manual, "Control Structures".
 use Rattle.std.specs.Prelude.{ℕ, zero, suc, ◌-◌, nat_le, Bool, true, false, if◌then◌else◌, List, [], ◌∷◌, length, slice_get, Option, Some, None}
 use Rattle.std.specs.Option.{option_map_or}
 use Rattle.dp_value.specs.declared.key.Key.{Key}
@@ -28,8 +28,10 @@ turn_over (Return v) next s = Done (Return v) s
 abbrev pub last_holds : List Value → Bool
 last_holds values = option_map_or holds (slice_get values (length values - 1)) true
 
--- `while` and `for`: at most so many turns, each with a moment before its test, and with what comes after its body
-abbrev pub turns : ℕ → ℕ → (State → Run (List Value)) → (State → Run (List Value)) → (State → Run Signal) → State → Run Signal
+-- `while` and `for`: at most so many turns, each with a moment before its test, and with what comes
+-- after its body
+abbrev pub turns : ℕ → ℕ → (State → Run (List Value)) → (State → Run (List Value))
+    → (State → Run Signal) → State → Run Signal
 turns zero line test next body s = Over Bound s
 turns (suc n) line test next body s =
     At Place line s (λ t. test t >>= λ values u.
@@ -42,7 +44,8 @@ abbrev pub do_turns : ℕ → ℕ → (State → Run Value) → (State → Run S
 do_turns zero line test body s = Over Bound s
 do_turns (suc n) line test body s =
     body s >>= λ g t. turn_over g
-    (λ u. At Place line u (λ v. test v >>= λ tested w. if holds tested then do_turns n line test body w else Done Next w)) t
+    (λ u. At Place line u (λ v. test v >>= λ tested w.
+    if holds tested then do_turns n line test body w else Done Next w)) t
 
 -- the entries that a `foreach` walks
 abbrev pub entries : Value → List (Key × Data)
@@ -62,10 +65,12 @@ bind_key (Some name) key s = bind_name name (value_of (data_of_key key)) s
 
 -- an entry is bound: its value, then its key
 abbrev pub bind : Binding → Key × Data → State → Run Unit
-bind binding entry s = bind_name binding.value (value_of entry.1) s >>= λ _ t. bind_key binding.key entry.0 t
+bind binding entry s =
+    bind_name binding.value (value_of entry.1) s >>= λ _ t. bind_key binding.key entry.0 t
 
 -- `foreach`: a turn for each entry, with a moment before it is bound
 abbrev pub each_run : ℕ → Binding → List (Key × Data) → (State → Run Signal) → State → Run Signal
 each_run line binding [] body s = Done Next s
 each_run line binding (entry ∷ more) body s =
-    At Place line s (λ t. bind binding entry t >>= λ _ u. body u >>= λ g v. turn_over g (each_run line binding more body) v)
+    At Place line s (λ t. bind binding entry t >>= λ _ u. body u
+    >>= λ g v. turn_over g (each_run line binding more body) v)

@@ -35,20 +35,23 @@ leaving g s = At Leave (line_of s) s (left_call g)
 -- A call: its parameters are set, then it enters, on the line of `function`.
 abbrev pub function_run : ℕ → Function → List Value → Part Value
 function_run file f values setting s =
-    taken (called file f values s) s >>= λ _ t. At Enter f.line t (λ u. body_run f.body setting u >>= leaving)
+    taken (called file f values s) s
+    >>= λ _ t. At Enter f.line t (λ u. body_run f.body setting u >>= leaving)
 
 -- the statements of the file of this number
 abbrev pub statements_of : Bundle → ℕ → List Statement
 statements_of bundle file = option_map_or (λ f. f.tree.body) (slice_get bundle.files file) []
 
--- what is left of an included file that is done: its frame goes, and it gives what its body gave, or 1
+-- what is left of an included file that is done: its frame goes, and it gives what its body gave,
+-- or 1
 abbrev pub left_file : Signal → State → Run Value
 left_file g s = Done (returned (Int (pos 1)) g) (left s)
 
 -- an included file: its functions are declared, then it runs
 abbrev pub file_run : ℕ → Part Value
 file_run file setting s =
-    taken (included setting.bundle file s) s >>= λ _ t. body_run (statements_of setting.bundle file) setting t >>= left_file
+    taken (included setting.bundle file s) s
+    >>= λ _ t. body_run (statements_of setting.bundle file) setting t >>= left_file
 
 -- what parts go by, where so many frames more can be on the stack
 unfoldable pub setting_of : Bundle → ℕ → ℕ → Setting
@@ -67,4 +70,5 @@ setting_of bundle bound (suc depth) = record {
 
 -- the whole program: its main file, from the opening state
 unfoldable pub program_run : Bundle → ℕ → Run Signal
-program_run bundle bound = body_run (statements_of bundle 0) (setting_of bundle bound frame_limit) (opening bundle)
+program_run bundle bound =
+    body_run (statements_of bundle 0) (setting_of bundle bound frame_limit) (opening bundle)

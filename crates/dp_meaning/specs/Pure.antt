@@ -9,7 +9,9 @@ use Rattle.dp_meaning.specs.Expressions.{evaluation}
 use Rattle.dp_meaning.specs.Run.{Done, fatal}
 use Rattle.dp_meaning.specs.Writes.{evaluation_setting}
 
--- its evaluation in a state gives this value, or is fatal, at once, with no moment, and leaves the state as it is
+-- its evaluation in a state gives this value, or is fatal, at once, with no moment, and leaves the
+-- state as it is
 abbrev pub IsValueIn : Bundle → Expression → State → Option Value → Type 0
 IsValueIn bundle e s (Some v) = evaluation e (evaluation_setting bundle) s ≡ Done v s
-IsValueIn bundle e s None = (kind : FatalKind) × (evaluation e (evaluation_setting bundle) s ≡ fatal kind s)
+IsValueIn bundle e s None =
+    (kind : FatalKind) × (evaluation e (evaluation_setting bundle) s ≡ fatal kind s)

@@ -1,4 +1,5 @@
--- What a program does, moment by moment. At a moment the state may be changed from outside, so what follows is a function of the state.
+-- What a program does, moment by moment. At a moment the state may be changed from outside, so what
+-- follows is a function of the state.
 use Rattle.std.specs.Prelude.{ℕ, Result, Ok, Err}
 use Rattle.dp_state.specs.declared.moments.FatalKind.{FatalKind}
 use Rattle.dp_state.specs.declared.moments.MomentKind.{MomentKind}

@@ -115,8 +115,11 @@ abbrev pub branch : Part Signal → Part Signal → Setting → Value → State 
 branch body otherwise setting v s = if holds v then body setting s else otherwise setting s
 
 -- of a `for`: its turns
-abbrev pub for_turns : ℕ → List Expression → List Expression → Part Signal → Setting → List Value → State → Run Signal
-for_turns line tests after body setting before s = turns setting.bound line (evaluations tests setting) (evaluations after setting) (body setting) s
+abbrev pub for_turns : ℕ → List Expression → List Expression → Part Signal → Setting → List Value
+    → State → Run Signal
+for_turns line tests after body setting before s =
+    turns setting.bound line (evaluations tests setting) (evaluations after setting)
+    (body setting) s
 
 -- of a `foreach`, by its subject: its turns
 abbrev pub each_turns : ℕ → Binding → Part Signal → Setting → Value → State → Run Signal
@@ -133,25 +136,33 @@ arm_layer arm otherwise setting s =
     placed arm.line s (λ t. evaluation arm.test setting t >>= branch arm.body otherwise setting)
 
 abbrev pub kind_layer : StatementKind-F KindRun ArmRun (Part Signal) → KindRun
-kind_layer (StatementKind-F.Expression e) line setting s = placed line s (λ t. evaluation e setting t >>= then_next)
-kind_layer (StatementKind-F.Echo operands) line setting s = placed line s (λ t. echoes (map expression_run operands) setting t)
+kind_layer (StatementKind-F.Expression e) line setting s =
+    placed line s (λ t. evaluation e setting t >>= then_next)
+kind_layer (StatementKind-F.Echo operands) line setting s =
+    placed line s (λ t. echoes (map expression_run operands) setting t)
 kind_layer (StatementKind-F.Block statements) line setting s = sequence statements setting s
 kind_layer StatementKind-F.Empty line setting s = Done Next s
 kind_layer (StatementKind-F.If arms otherwise) line setting s = arms_run arms otherwise setting s
 kind_layer (StatementKind-F.While test body) line setting s =
-    turns setting.bound line (evaluations (test ∷ []) setting) (evaluations [] setting) (body setting) s
-kind_layer (StatementKind-F.DoWhile body end test) line setting s = do_turns setting.bound end (evaluation test setting) (body setting) s
+    turns setting.bound line (evaluations (test ∷ []) setting) (evaluations [] setting)
+    (body setting) s
+kind_layer (StatementKind-F.DoWhile body end test) line setting s =
+    do_turns setting.bound end (evaluation test setting) (body setting) s
 kind_layer (StatementKind-F.For before tests after body) line setting s =
     placed line s (λ t. evaluations before setting t >>= for_turns line tests after body setting)
 kind_layer (StatementKind-F.Foreach subject binding body) line setting s =
     placed line s (λ t. evaluation subject setting t >>= each_turns line binding body setting)
 kind_layer (StatementKind-F.Break loops) line setting s = placed line s (λ t. Done (Break loops) t)
-kind_layer (StatementKind-F.Continue loop) line setting s = placed line s (λ t. Done (Continue loop) t)
-kind_layer (StatementKind-F.Return value) line setting s = placed line s (λ t. return_run value setting t)
-kind_layer (StatementKind-F.Global names) line setting s = placed line s (λ t. Done Next (with_globals names t))
+kind_layer (StatementKind-F.Continue loop) line setting s =
+    placed line s (λ t. Done (Continue loop) t)
+kind_layer (StatementKind-F.Return value) line setting s =
+    placed line s (λ t. return_run value setting t)
+kind_layer (StatementKind-F.Global names) line setting s =
+    placed line s (λ t. Done Next (with_globals names t))
 kind_layer (StatementKind-F.Unset places) line setting s =
     placed line s (λ t. unset_run (map place_run places) setting t >>= then_next)
-kind_layer (StatementKind-F.Exit value) line setting s = placed line s (λ t. end_run value setting t)
+kind_layer (StatementKind-F.Exit value) line setting s =
+    placed line s (λ t. end_run value setting t)
 
 -- ---- whole trees
 

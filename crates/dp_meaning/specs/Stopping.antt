@@ -20,17 +20,20 @@ abbrev pub above : ℕ → (Moment → State → Bool) → Moment → State → 
 above number test moment s = nat_lt number moment.number && test moment s
 
 -- the first of these moments at which a test holds, with the state after its writes
-abbrev pub first_at : (Moment → State → Bool) → Writes → List (Moment × State) → Option (Moment × State)
+abbrev pub first_at : (Moment → State → Bool) → Writes → List (Moment × State)
+    → Option (Moment × State)
 first_at test writes [] = None
 first_at test writes (p ∷ ps) =
-    if test p.0 (written writes p.0.number p.1) then Some (p.0, written writes p.0.number p.1) else first_at test writes ps
+    if test p.0 (written writes p.0.number p.1) then Some (p.0, written writes p.0.number p.1)
+    else first_at test writes ps
 
 -- at a moment that was found, or else at the end of the trace
 abbrev pub stop_of : {A : Type 0} → Trace A → Option (Moment × State) → Stop
 stop_of t None = stop.Ended (outcome_of t.end) t.state
 stop_of t (Some p) = stop.At p.0 p.1
 
--- the least moment above a number at which a test holds in the state after its writes, and else the end
+-- the least moment above a number at which a test holds in the state after its writes, and else the
+-- end
 abbrev pub first_stop : {A : Type 0} → Trace A → Writes → ℕ → (Moment → State → Bool) → Stop
 first_stop t writes number test = stop_of t (first_at (above number test) writes t.moments)
 

@@ -63,13 +63,15 @@ pub record Trace (A : Type 0) : Type 0 where
 abbrev pub with_moment : {A : Type 0} → Moment → State → Trace A → Trace A
 with_moment moment s t = record { moments = (moment, s) ∷ t.moments; end = t.end; state = t.state }
 
--- At a moment its line is set, it is counted, and the writes of its number are made. The moment beyond the bound does not come.
+-- At a moment its line is set, it is counted, and the writes of its number are made. The moment
+-- beyond the bound does not come.
 abbrev pub trace : {A : Type 0} → ℕ → Writes → Run A → Trace A
 trace bound writes (Done a s) = record { moments = []; end = Gave a; state = s }
 trace bound writes (Over o s) = record { moments = []; end = Ended o; state = s }
 trace bound writes (At kind line s go) =
     if nat_lt s.moments bound
-    then with_moment (moment_of kind (arrived line s)) (arrived line s) (trace bound writes (go (written writes (s.moments + 1) (arrived line s))))
+    then with_moment (moment_of kind (arrived line s)) (arrived line s)
+    (trace bound writes (go (written writes (s.moments + 1) (arrived line s))))
     else record { moments = []; end = Ended way.Bound; state = s }
 
 -- how a program ends: what a return of its main file gives ends it as its last statement does
@@ -91,7 +93,8 @@ program_trace bundle bound writes = trace bound (writes_of bundle writes) (progr
 abbrev pub now : Bundle → ℕ → List NumberedWrite → ℕ → Option State
 now bundle bound writes zero = Some (opening bundle)
 now bundle bound writes (suc n) =
-    option_map (λ p. written (writes_of bundle writes) (suc n) p.1) (moment_at (program_trace bundle bound writes) (suc n))
+    option_map (λ p. written (writes_of bundle writes) (suc n) p.1)
+    (moment_at (program_trace bundle bound writes) (suc n))
 
 abbrev pub outcome : Bundle → ℕ → List NumberedWrite → Outcome
 outcome bundle bound writes = outcome_of (program_trace bundle bound writes).end
@@ -105,5 +108,6 @@ plain bundle bound = program_trace bundle bound []
 
 -- the moment of a number where the trace has it, with the state after its writes, and else the end
 abbrev pub IsStop : {A : Type 0} → Trace A → Writes → ℕ → Stop → Type 0
-IsStop t writes n (stop.At moment s) = (before : State) × (moment_at t n ≡ Some (moment, before)) × (s ≡ written writes n before)
+IsStop t writes n (stop.At moment s) =
+    (before : State) × (moment_at t n ≡ Some (moment, before)) × (s ≡ written writes n before)
 IsStop t writes n (stop.Ended o s) = (moment_at t n ≡ None) × (o ≡ outcome_of t.end) × (s ≡ t.state)

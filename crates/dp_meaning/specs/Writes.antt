@@ -26,9 +26,11 @@ abbrev pub place_or_fault : Result State FatalKind → Result State WriteFault
 place_or_fault (Ok s) = Ok s
 place_or_fault (Err kind) = Err NoPlace
 
--- the context 0 is that of the frame at a level, the context 1 that of the lowest frame: the global variables
+-- the context 0 is that of the frame at a level, the context 1 that of the lowest frame: the global
+-- variables
 abbrev pub in_context : ℕ → ℕ → Path → Value → State → Result State WriteFault
-in_context zero level path value s = place_or_fault (assigned level path.name (given_keys path.keys) false value s)
+in_context zero level path value s =
+    place_or_fault (assigned level path.name (given_keys path.keys) false value s)
 in_context (suc zero) level path value s =
     place_or_fault (assigned (length s.frames - 1) path.name (given_keys path.keys) false value s)
 in_context (suc (suc context)) level path value s = Err NoPlace
@@ -54,20 +56,24 @@ evaluation_limit = 10000
 abbrev pub arrived : ℕ → State → State
 arrived line s = counted (on_line line s)
 
--- a run by itself, at whose moments nothing is written: what it gives, unless it ends the program or passes the bound
+-- a run by itself, at whose moments nothing is written: what it gives, unless it ends the program
+-- or passes the bound
 abbrev pub alone : {A : Type 0} → ℕ → Run A → Option (A × State)
 alone bound (Done a s) = Some (a, s)
 alone bound (Over outcome s) = None
-alone bound (At kind line s go) = if nat_lt s.moments bound then alone bound (go (arrived line s)) else None
+alone bound (At kind line s go) =
+    if nat_lt s.moments bound then alone bound (go (arrived line s)) else None
 
 -- with the number of moments of before
 abbrev pub recounted : ℕ → Option (Value × State) → Option (Value × State)
 recounted moments None = None
 recounted moments (Some end) = Some (end.0, record end.1 { moments = moments })
 
--- an evaluation in the top frame: its value and what it leaves, where it holds. Its moments are counted apart
+-- an evaluation in the top frame: its value and what it leaves, where it holds. Its moments are
+-- counted apart
 abbrev pub evaluated : Setting → Expression → State → Option (Value × State)
-evaluated setting e s = recounted s.moments (alone evaluation_limit (evaluation e setting (record s { moments = 0 })))
+evaluated setting e s =
+    recounted s.moments (alone evaluation_limit (evaluation e setting (record s { moments = 0 })))
 
 -- what an evaluation answers
 abbrev pub value_answer : Option (Value × State) → WriteAnswer
@@ -89,17 +95,20 @@ left_by s None = s
 left_by s (Some end) = end.1
 
 abbrev pub one_write : Setting → Write → State → State
-one_write setting (Place level context path value) s = or_unchanged s (with_place level context path value s)
+one_write setting (Place level context path value) s =
+    or_unchanged s (with_place level context path value s)
 one_write setting (Evaluate e) s = left_by s (evaluated setting e s)
 
 -- what one write answers in a state
 abbrev pub answer_in : Setting → Write → State → WriteAnswer
-answer_in setting (Place level context path value) s = place_answer (with_place level context path value s)
+answer_in setting (Place level context path value) s =
+    place_answer (with_place level context path value s)
 answer_in setting (Evaluate e) s = value_answer (evaluated setting e s)
 
 abbrev pub written_by : Setting → List NumberedWrite → ℕ → State → State
 written_by setting [] n s = s
-written_by setting (w ∷ ws) n s = written_by setting ws n (if nat_eq w.moment n then one_write setting w.write s else s)
+written_by setting (w ∷ ws) n s =
+    written_by setting ws n (if nat_eq w.moment n then one_write setting w.write s else s)
 
 -- numbered writes, and what their evaluations go by
 pub record Writes : Type 0 where

@@ -1,3 +1,5 @@
+//! Why a run breaks off.
+
 use dp_state::{Moment, Outcome};
 use dp_value::Memory;
 use std::alloc::AllocFailed;

@@ -1,3 +1,5 @@
+//! How statements end.
+
 use dp_value::Value;
 
 /// How a statement ends.

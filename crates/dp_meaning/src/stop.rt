@@ -1,3 +1,5 @@
+//! Where runs stop.
+
 use dp_state::{Moment, Outcome, State};
 
 /// Where a run of a program stopped.

@@ -6,4 +6,6 @@ use Rattle.dp_tree.specs.declared.bundle.BundleFile.{BundleFile}
 
 -- the file of this number has code on this line
 abbrev pub HasCode : Bundle → ℕ → ℕ → Type 0
-HasCode bundle file line = (f : BundleFile) × (slice_get bundle.files file ≡ Some f) × (has_line (file_lines f.tree) line ≡ true)
+HasCode bundle file line =
+    (f : BundleFile) × (slice_get bundle.files file ≡ Some f)
+    × (has_line (file_lines f.tree) line ≡ true)

@@ -13,6 +13,8 @@ of_number n (w ∷ ws) = if nat_eq w.moment n then w ∷ of_number n ws else of_
 abbrev pub AgreeBelow : ℕ → List NumberedWrite → List NumberedWrite → Type 0
 AgreeBelow n ws vs = (k : ℕ) → k < n → of_number k ws ≡ of_number k vs
 
--- the moments up to the n-th, each with the state in which it comes before its own writes, are the same
+-- the moments up to the n-th, each with the state in which it comes before its own writes, are the
+-- same
 abbrev pub SameUpTo : Bundle → ℕ → ℕ → List NumberedWrite → List NumberedWrite → Type 0
-SameUpTo bundle bound n ws vs = take n (program_trace bundle bound ws).moments ≡ take n (program_trace bundle bound vs).moments
+SameUpTo bundle bound n ws vs =
+    take n (program_trace bundle bound ws).moments ≡ take n (program_trace bundle bound vs).moments

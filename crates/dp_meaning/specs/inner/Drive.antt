@@ -34,7 +34,8 @@ at_number number moment s = nat_eq moment.number number
 
 -- no writes, and no stop
 abbrev pub quiet : ℕ → Rules
-quiet bound = record { bound = bound; halts = nowhere; writes = writes_of (record { files = [] }) [] }
+quiet bound =
+    record { bound = bound; halts = nowhere; writes = writes_of (record { files = [] }) [] }
 
 -- how far a run came: it gave something, the program was over, or it came to the stop
 pub data Reached (A : Type 0) : Type 0 where
@@ -49,8 +50,10 @@ drive rules (Over o s) = Ends o s
 drive rules (At kind line s go) =
     if nat_lt s.moments rules.bound
     then (
-    if rules.halts (moment_of kind (arrived line s)) (written rules.writes (s.moments + 1) (arrived line s))
-    then Stops (moment_of kind (arrived line s)) (written rules.writes (s.moments + 1) (arrived line s))
+    if rules.halts (moment_of kind (arrived line s))
+    (written rules.writes (s.moments + 1) (arrived line s))
+    then Stops (moment_of kind (arrived line s)) (written rules.writes (s.moments + 1)
+    (arrived line s))
     else drive rules (go (written rules.writes (s.moments + 1) (arrived line s)))
     )
     else Ends Bound s
@@ -68,8 +71,10 @@ Meets (Err Memory) s reached = Unit {0}
 Meets (Err (Finished o)) s reached = reached ≡ Ends o s
 Meets (Err (Stopped moment)) s reached = reached ≡ Stops moment s
 
--- the evaluator's answer is what the run gives, with the state that it leaves; want of memory says nothing
-pub record Evaluates {A : Type 0} (rules : Rules) (run : Run A) (result : Result A Halt) (s : State) : Type 0 where
+-- the evaluator's answer is what the run gives, with the state that it leaves; want of memory says
+-- nothing
+pub record Evaluates {A : Type 0} (rules : Rules) (run : Run A) (result : Result A Halt)
+    (s : State) : Type 0 where
   pub meets : Meets result s (drive rules run)
 
 -- a moment by itself

@@ -41,7 +41,8 @@ kind_layer (StatementKind-F.Expression e) = expression_size e + 2
 kind_layer (StatementKind-F.Echo operands) = expressions_size operands + 2
 kind_layer (StatementKind-F.Block statements) = sizes_sum statements + 1
 kind_layer StatementKind-F.Empty = 1
-kind_layer (StatementKind-F.If arms otherwise) = sizes_sum arms + option_map_or (λ n. n) otherwise 0 + 2
+kind_layer (StatementKind-F.If arms otherwise) =
+    sizes_sum arms + option_map_or (λ n. n) otherwise 0 + 2
 kind_layer (StatementKind-F.While test body) = expressions_size (test ∷ []) + body + 8
 kind_layer (StatementKind-F.DoWhile body end test) = expression_size test + body + 4
 kind_layer (StatementKind-F.For before tests after body) =
