@@ -1,5 +1,5 @@
 -- What is sent: the first packet, and the answers to commands.
-use Rattle.std.proofs.Common.{◌≡◌, ℕ, ◌≤◌, List, [], ◌∷◌, ◌++◌, length, Option, sym, ap, subst, ◌∙◌}
+use Rattle.std.proofs.Common.{◌≡◌, ℕ, ◌≤◌, List, [], ◌∷◌, ◌++◌, drop, length, Option, sym, ap, subst, ◌∙◌}
 use Rattle.std.specs.Prelude.{Result, Ok, Err, IfOk}
 use Rattle.dp_tree.specs.declared.bundle.Bundle.{Bundle}
 use Rattle.dp_command.specs.declared.command.StreamMode.{StreamMode}
@@ -20,10 +20,11 @@ use Rattle.dp_engine.specs.declared.turns.Turn.{Turn as Made}
 use Rattle.dp_engine.specs.Answers.{answer, to_ide, to_program, turn, turn_of}
 use Rattle.dp_engine.specs.Refusals.{refusal_of_line}
 use Rattle.dp_engine.specs.Responses.{init_text, main_name, response_text}
-use Rattle.dp_engine.specs.Session.{State, written_between}
+use Rattle.dp_engine.specs.Session.{State, output_so_far, written_between}
 use Rattle.dp_engine.specs.inner.Sizes.{Fits}
-use Rattle.dp_engine.specs.inner.Turns.{IsTurn, given}
+use Rattle.dp_engine.specs.inner.Turns.{HasOwnBreaks, IsTurn, given}
 use Rattle.dp_engine.proofs.Fitting.{init_fits}
+use Rattle.dp_engine.proofs.Watching.{breaks_apart}
 
 -- ---- the first packet
 
@@ -56,39 +57,48 @@ response_fits r (Err e) fits is = tt
 
 -- ---- answers
 
+-- where only the breakpoints have changed, what is written since is the same
+written_since : (before state next : State) → HasOwnBreaks before state → written_between state next ≡ written_between before next
+written_since before state next kept =
+    ap (λ (s : State). drop (length (output_so_far s)) (output_so_far next)) kept
+    ∙ ap (λ (o : List ℕ). drop (length o) (output_so_far next)) (sym (breaks_apart before.phase before state.breaks))
+
 -- where no output goes to the IDE
-given_is : (state : State) (bytes : List ℕ) (made : Made) → state.stdout ≡ Disable → IsTurn (turn state bytes) state made → given made state ≡ answer state bytes
+given_is : (before state : State) (bytes : List ℕ) (made : Made) → HasOwnBreaks before state → before.stdout ≡ Disable → IsTurn (turn before bytes) state made
+    → given made state ≡ answer before bytes
 unfolding answer
-given_is state bytes made quiet t = turned ∙ (λ i. kept (sym quiet i)) where
+given_is before state bytes made own quiet t = turned ∙ (λ i. kept (sym quiet i)) where
   next : State
-  next = (turn state bytes).next
+  next = (turn before bytes).next
 
   kept : StreamMode → Reply State SessionEnd
   kept mode = record {
-    packets = to_ide mode (written_between state next) ++ response_text (turn state bytes).response ∷ [];
-    program = to_program mode (written_between state next);
+    packets = to_ide mode (written_between before next) ++ response_text (turn before bytes).response ∷ [];
+    program = to_program mode (written_between before next);
     state = next;
-    ended = (turn state bytes).ended;
+    ended = (turn before bytes).ended;
   }
 
   turned : given made state ≡ kept Disable
   turned = λ i. record {
     packets = t.text i ∷ [];
-    program = ap (written_between state) t.next i;
+    program = (ap (written_between state) t.next ∙ written_since before state next own) i;
     state = t.next i;
     ended = t.ended i;
   }
 
-turn_read : (state : State) (bytes : List ℕ) (line : Option Line) (made : Made) → line ≡ line_of bytes → IsTurn (turn_of line (refusal_of_line state line) state) state made
-    → IsTurn (turn state bytes) state made
+turn_read : (before state : State) (bytes : List ℕ) (line : Option Line) (made : Made) → line ≡ line_of bytes → IsTurn (turn_of line (refusal_of_line before line) before) state made
+    → IsTurn (turn before bytes) state made
 unfolding turn
-turn_read state bytes line made is t = subst (λ (l : Option Line). IsTurn (turn_of l (refusal_of_line state l) state) state made) is t
+turn_read before state bytes line made is t = subst (λ (l : Option Line). IsTurn (turn_of l (refusal_of_line before l) before) state made) is t
 
 answered_by : {E : Type 0} (made : Result (Answer SessionEnd) E) (next : State) (a b : Reply State SessionEnd) → a ≡ b → IfOk made (λ x. reply_of x next ≡ a) → IfOk made (λ x. reply_of x next ≡ b)
 answered_by (Ok x) next a b same is = is ∙ same
 answered_by (Err e) next a b same is = tt
 
-pub answered : {E : Type 0} (state next : State) (bytes : List ℕ) (line : Option Line) (made : Made) (reply : Result (Answer SessionEnd) E) → state.stdout ≡ Disable → line ≡ line_of bytes
-    → IsTurn (turn_of line (refusal_of_line state line) state) state made → IfOk reply (λ x. reply_of x next ≡ given made state) → IfOk reply (λ x. reply_of x next ≡ answer state bytes)
-answered state next bytes line made reply quiet is t told =
-    answered_by reply next (given made state) (answer state bytes) (given_is state bytes made quiet (turn_read state bytes line made is t)) told
+pub answered : {E : Type 0} (before state next : State) (bytes : List ℕ) (line : Option Line) (made : Made) (reply : Result (Answer SessionEnd) E) → HasOwnBreaks before state → state.stdout ≡ Disable
+    → line ≡ line_of bytes → IsTurn (turn_of line (refusal_of_line before line) before) state made
+    → IfOk reply (λ x. reply_of x next ≡ given made state) → IfOk reply (λ x. reply_of x next ≡ answer before bytes)
+answered before state next bytes line made reply own quiet is t told =
+    let before_quiet : before.stdout ≡ Disable = sym (ap (λ (s : State). s.stdout) own) ∙ quiet in
+    answered_by reply next (given made state) (answer before bytes) (given_is before state bytes made own before_quiet (turn_read before state bytes line made is t)) told

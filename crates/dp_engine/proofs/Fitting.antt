@@ -1,10 +1,12 @@
 -- Every response of a session fits a packet, where its line is short enough.
 use Rattle.std.proofs.Common.{◌≡◌, ℕ, ◌*◌, ◌≤◌, ◌<◌, Bool, true, false, cond, List, [], ◌∷◌, codes, length, Option, Some, None, refl, sym, ap, subst, ◌∙◌, arith, eqb}
-use Rattle.std.specs.Prelude.{option_map, unwrap_or, Result, Ok, Err, IfOk, IfSome}
+use Rattle.std.specs.Prelude.{All, map, option_map, slice_get, unwrap_or, Result, Ok, Err, IfOk, IfSome}
 use Rattle.std.specs.List.{AllByRecursion, find}
 use Rattle.std.specs.Option.{option_map_or}
 use Rattle.std.proofs.lemmas.Fmt.{length-decimal-le}
 use Rattle.dp_tree.specs.declared.bundle.Bundle.{Bundle}
+use Rattle.dp_tree.specs.declared.bundle.BundleFile.{BundleFile}
+use Rattle.dp_tree.specs.FileNames.{AreFileNames, IsFileName}
 use Rattle.dp_command.specs.declared.command.Command.{Command}
 use Rattle.dp_command.specs.declared.line.Line.{Line}
 use Rattle.dp_command.specs.declared.names.CommandName.{CommandName}
@@ -27,9 +29,18 @@ use Rattle.dp_packet.specs.Parts.{Attributes, Text}
 use Rattle.dp_packet.proofs.LengthLaws.{bare_response_short, fault_short, init_short, packet_short, packet_some, text_short, uri_short, written_short}
 use Rattle.dp_packet.specs.Uris.{file_uri}
 use Rattle.dp_wire.specs.Frames.{IsPacketText, command_limit}
-use Rattle.dp_engine.specs.Refusals.{own_tests, refusal_of_line, row_tests, tests}
+use Rattle.dp_breakpoint_commands.specs.Commands.{breakpoint_refusal}
+use Rattle.dp_features.specs.Features.{Features}
+use Rattle.dp_state.specs.declared.state.State.{State as ProgramState}
+use Rattle.dp_view_commands.specs.Views.{code_in, view_refusal}
+use Rattle.dp_engine.specs.Refusals.{own_tests, refusal_of_line, row_tests, session_tests, tests, tests_for, tests_on}
 use Rattle.dp_engine.specs.Responses.{init_text, main_name, fault_response, feature_response, response, response_text, set_response, status_attributes, status_response}
-use Rattle.dp_engine.specs.Session.{State}
+use Rattle.dp_engine.specs.declared.sides.Side.{Side}
+use Rattle.dp_engine.specs.declared.sides.Side.TheVariants.{Session, Breakpoints, Program}
+use Rattle.dp_engine.specs.Session.{State, here, program_of}
+use Rattle.dp_engine.specs.Sides.{side_of}
+use Rattle.dp_breakpoint_commands.proofs.Codes.{refusal_known}
+use Rattle.dp_view_commands.proofs.Sent.{code as shows_code}
 use Rattle.dp_engine.specs.inner.Sizes.{Fits, IsCode, IsShort, IsShortRequest}
 
 -- ---- messages
@@ -110,13 +121,34 @@ first_is_code (test ∷ all) code h e = cases test.0 e (first_is_code all code h
 is_code : (code : ℕ) → is_some_text (message_of code) ≡ true → code < 1000 → IsCode code
 is_code code p q = (p, q)
 
-own_codes : (state : State) (r : Request) → HaveCodes (own_tests state r)
-own_codes state (FeatureSet name value) = (is_code 900 refl (omega arith), (is_code 3 refl (omega arith), tt))
-own_codes state r = tt
+session_codes : (r : Request) → HaveCodes (session_tests r)
+session_codes (FeatureSet name value) = (is_code 900 refl (omega arith), (is_code 3 refl (omega arith), tt))
+session_codes r = tt
+
+for_codes : (found : Option ℕ) → ((code : ℕ) → found ≡ Some code → IsCode code) → HaveCodes (tests_for found)
+for_codes None h = tt
+for_codes (Some code) h = (h code refl, tt)
+
+refused_view : (made : Result Response ℕ) (code : ℕ) → code_in made ≡ Some code → made ≡ Err code
+refused_view (Ok r) code e = absurd cc
+refused_view (Err k) code e = let same : k ≡ code = cc in ap (λ (c : ℕ). Err c) same
+
+view_codes : (bundle : Bundle) (file : ℕ) (features : Features) (program : ProgramState) (command id : Text) (r : Request) (code : ℕ) → view_refusal bundle file features program command id r ≡ Some code → IsCode code
+unfolding view_refusal
+view_codes bundle file features program command id r code e = shows_code bundle file features program command id r code (refused_view _ code e)
+
+own_codes : (state : State) (command id : Text) (r : Request) → HaveCodes (own_tests state command id r)
+own_codes state command id r = on (side_of r) where
+  on : (side : Side) → HaveCodes (tests_on side state command id r)
+  on Session = session_codes r
+  on Breakpoints = for_codes (breakpoint_refusal state.bundle (here state) state.breaks r) (refusal_known state.bundle (here state) state.breaks r)
+  on Program =
+      for_codes (view_refusal state.bundle (here state) state.features (program_of state) command id r)
+      (λ code e. view_codes state.bundle (here state) state.features (program_of state) command id r code e)
 
 row_codes : (state : State) (line : Line) (name : Option CommandName) → HaveCodes (option_map_or (row_tests state line) name [])
 row_codes state line None = tt
-row_codes state line (Some name) = (is_code 3 refl (omega arith), own_codes state (request_of name line))
+row_codes state line (Some name) = (is_code 3 refl (omega arith), own_codes state line.name (id_of line) (request_of name line))
 
 pub refusal_is_code : (state : State) (line : Option Line) (code : ℕ) → refusal_of_line state line ≡ Some code → IsCode code
 refusal_is_code state None code e = let same : 1 ≡ code = cc in subst IsCode same (is_code 1 refl (omega arith))
@@ -147,7 +179,7 @@ given_short letter (o ∷ options) most h = cases (eqb o.0 letter) (given_short 
   cases true later = h.0
   cases false later = later
 
-request_short : (line : Line) (name : CommandName) → IsShort line → IsShortRequest (request_of name line)
+pub request_short : (line : Line) (name : CommandName) → IsShort line → IsShortRequest (request_of name line)
 unfolding request_of
 request_short line name.FeatureGet h = given_short letter.n line.options command_limit h.values
 request_short line name.FeatureSet h = given_short letter.n line.options command_limit h.values
@@ -160,6 +192,13 @@ command_short line command h e = cases (name_of line.name) e where
   cases (Some name) e = let same : request_of name line ≡ command.request = cc in subst IsShortRequest same (request_short line name h)
 
 -- ---- the first packet
+
+-- the name of the main file of a program whose files have names of files
+pub main_short : (bundle : Bundle) → AreFileNames (map (λ f. f.name) bundle.files) → length (main_name bundle) ≤ 255
+main_short bundle names = by bundle.files names.named where
+  by : (files : List BundleFile) → All IsFileName (map (λ f. f.name) files) → length (option_map_or (λ file. file.name) (slice_get files 0) []) ≤ 255
+  by [] all = omega arith
+  by (file ∷ files) all = (all 0 file.name (omega arith)).short
 
 pub init_fits : (bundle : Bundle) (key : List ℕ) → length key ≤ 128 → length (main_name bundle) ≤ 255 → IsPacketText (init_text bundle key)
 unfolding init_text

@@ -1,8 +1,5 @@
-pub mod Stopping
 pub mod Refusing
 pub mod Growing
-pub mod Numbers
-pub mod Arriving
 pub mod Fitting
 pub mod Outputs
 pub mod Watching

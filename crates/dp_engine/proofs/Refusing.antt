@@ -1,7 +1,20 @@
 -- A response is an error exactly where the command is refused, and with that code.
-use Rattle.std.proofs.Common.{◌≡◌, ℕ, Bool, true, false, not, List, [], ◌∷◌, ◌++◌, length, drop, Option, Some, None, refl, sym, ap, subst, ◌∙◌, arith}
-use Rattle.std.specs.Prelude.{option_map, Result, Ok, Err, IfOk}
+use Rattle.std.proofs.Common.{◌≡◌, ◌≢◌, ℕ, Bool, true, false, not, List, [], ◌∷◌, ◌++◌, length, drop, Option, Some, None, refl, sym, ap, subst, ◌∙◌, arith}
+use Rattle.std.specs.Prelude.{if◌then◌else◌, nat_le, option_map, Result, Ok, Err, IfOk}
+use Rattle.std.specs.Option.{option_map_or}
 use Rattle.std.proofs.lemmas.List.{drop_all}
+use Rattle.dp_view_commands.specs.Views.{code_in, view_refusal, view_response}
+use Rattle.dp_view_commands.proofs.Sent.{sent as shows}
+use Rattle.dp_packet.specs.declared.packet.Body.{Body}
+use Rattle.dp_packet.specs.declared.packet.Body.TheVariants as body
+use Rattle.dp_packet.specs.declared.packet.Response.{Response}
+use Rattle.dp_command.specs.declared.command.Request.{Request}
+use Rattle.dp_command.specs.declared.command.Request.TheVariants as request
+use Rattle.dp_command.specs.declared.command.BreakpointAction.TheVariants.{Get, Remove}
+use Rattle.dp_break.specs.Tables.{Table}
+use Rattle.dp_breakpoint_commands.specs.Commands.{breakpoint_response}
+use Rattle.dp_tree.specs.declared.bundle.Bundle.{Bundle}
+use Rattle.dp_wire.specs.Frames.{packet_limit}
 use Rattle.dp_command.specs.declared.command.Continuation.{Continuation}
 use Rattle.dp_command.specs.declared.command.Continuation.TheVariants as continuation
 use Rattle.dp_command.specs.declared.command.StreamMode.{StreamMode}
@@ -12,25 +25,32 @@ use Rattle.dp_command.specs.declared.names.CommandName.TheVariants.{Status, Feat
 use Rattle.dp_command.specs.Commands.{request_of}
 use Rattle.dp_command.specs.Lines.{line_of}
 use Rattle.dp_command.specs.Names.{name_of}
-use Rattle.dp_command.specs.Refusals.{id_of}
+use Rattle.dp_command.specs.Refusals.{fits_row, id_of}
 use Rattle.dp_command.specs.Tests.{Test, first_code}
 use Rattle.dp_engine.specs.declared.states.Phase.{Phase}
 use Rattle.dp_engine.specs.declared.states.Phase.TheVariants.{Starting, Break, Stopping}
 use Rattle.dp_serving.specs.declared.responder.Answer.{Answer}
 use Rattle.dp_serving.specs.Folds.{reply_of}
 use Rattle.dp_engine.specs.declared.session.SessionEnd.{SessionEnd}
-use Rattle.dp_engine.specs.Answers.{Turn, answer, asked, command_in, continued, id_in, performed, refused, sent, to_ide, to_program, turn, turn_of}
+use Rattle.dp_engine.specs.Answers.{Turn, answer, asked, command_in, continued, done_on, id_in, in_packet, refused, response_in, sent, session_done, shown, to_ide, to_program, turn, turn_of}
 use Rattle.dp_engine.specs.Refused.{IsAnsweredBy, error_alone}
-use Rattle.dp_engine.specs.Refusals.{of_command, tests, refusal, refusal_of_line}
-use Rattle.dp_engine.specs.Responses.{fault_in, response_text, value_body}
-use Rattle.dp_engine.specs.Session.{State, output_so_far, written_between}
-use Rattle.dp_engine.specs.States.{is_built}
+use Rattle.dp_engine.specs.Refusals.{of_command, own_tests, row_tests, tests, tests_for, tests_on, refusal, refusal_of_line}
+use Rattle.dp_engine.specs.Responses.{fault_in, response, response_text, value_body}
+use Rattle.dp_engine.specs.declared.sides.Side.{Side}
+use Rattle.dp_engine.specs.declared.sides.Side.TheVariants.{Session, Breakpoints, Program}
+use Rattle.dp_engine.specs.Session.{State, here, output_so_far, program_of, written_between}
+use Rattle.dp_engine.specs.Sides.{side_of}
+use Rattle.dp_engine.specs.States.{allows, is_built}
 use Rattle.dp_packet.specs.Parts.{Text}
 
 -- the first test does not hold
 pub passed : (holds : Bool) (code : ℕ) (more : List Test) → first_code ((holds, code) ∷ more) ≡ None → (holds ≡ false) × (first_code more ≡ None)
 passed true code more e = absurd cc
 passed false code more e = (refl, e)
+
+pub first_for : (code : Option ℕ) → first_code (tests_for code) ≡ code
+first_for None = refl
+first_for (Some code) = refl
 
 -- the code of the error that a turn answers, if it answers one
 abbrev pub fault_of : Turn → Option ℕ
@@ -45,34 +65,72 @@ continued_none command id mode Starting state = refl
 continued_none command id mode Break state = refl
 continued_none command id mode Stopping state = refl
 
--- what is built is done
-done : (command id : Text) (name : CommandName) (line : Line) (state : State) → is_built name ≡ true → fault_of (performed command id (request_of name line) state) ≡ None
+none_in : (what : Body) → ((code : ℕ) → what ≢ body.Fault code) → fault_in what ≡ None
+none_in (body.Fault code) h = absurd (h code refl)
+none_in what h = refl
+
+-- what is answered from the session, by its name, is done
+session_none : (command id : Text) (name : CommandName) (line : Line) (state : State) → is_built name ≡ true → side_of (request_of name line) ≡ Session
+    → fault_of (session_done command id (request_of name line) state) ≡ None
 unfolding request_of
-done command id Status line state b = refl
-done command id FeatureGet line state b = value_is_none _
-done command id FeatureSet line state b = refl
-done command id Run line state b = continued_none command id continuation.Run state.phase state
-done command id StepInto line state b = continued_none command id continuation.StepInto state.phase state
-done command id StepOver line state b = continued_none command id continuation.StepOver state.phase state
-done command id StepOut line state b = continued_none command id continuation.StepOut state.phase state
-done command id Stop line state b = refl
-done command id Detach line state b = refl
-done command id BreakpointSet line state b = absurd cc
-done command id BreakpointGet line state b = absurd cc
-done command id BreakpointRemove line state b = absurd cc
-done command id BreakpointUpdate line state b = absurd cc
-done command id BreakpointList line state b = absurd cc
-done command id StackDepth line state b = absurd cc
-done command id StackGet line state b = absurd cc
-done command id ContextNames line state b = absurd cc
-done command id ContextGet line state b = absurd cc
-done command id PropertyGet line state b = absurd cc
-done command id PropertyValue line state b = absurd cc
-done command id PropertySet line state b = absurd cc
-done command id Source line state b = absurd cc
-done command id Stdout line state b = absurd cc
-done command id Stderr line state b = absurd cc
-done command id Eval line state b = absurd cc
+session_none command id Status line state b s = refl
+session_none command id FeatureGet line state b s = value_is_none _
+session_none command id FeatureSet line state b s = refl
+session_none command id Run line state b s = continued_none command id continuation.Run state.phase state
+session_none command id StepInto line state b s = continued_none command id continuation.StepInto state.phase state
+session_none command id StepOver line state b s = continued_none command id continuation.StepOver state.phase state
+session_none command id StepOut line state b s = continued_none command id continuation.StepOut state.phase state
+session_none command id Stop line state b s = refl
+session_none command id Detach line state b s = refl
+session_none command id PropertySet line state b s = absurd cc
+session_none command id Stdout line state b s = absurd cc
+session_none command id Stderr line state b s = absurd cc
+session_none command id Eval line state b s = absurd cc
+session_none command id BreakpointSet line state b s = absurd cc
+session_none command id BreakpointGet line state b s = absurd cc
+session_none command id BreakpointRemove line state b s = absurd cc
+session_none command id BreakpointUpdate line state b s = absurd cc
+session_none command id BreakpointList line state b s = absurd cc
+session_none command id StackDepth line state b s = absurd cc
+session_none command id StackGet line state b s = absurd cc
+session_none command id ContextNames line state b s = absurd cc
+session_none command id ContextGet line state b s = absurd cc
+session_none command id PropertyGet line state b s = absurd cc
+session_none command id PropertyValue line state b s = absurd cc
+session_none command id Source line state b s = absurd cc
+
+-- what is shown is no error where the request is not refused
+shown_none : (command id : Text) (r : Request) (state : State) → view_refusal state.bundle (here state) state.features (program_of state) command id r ≡ None
+    → fault_of (shown command id r state) ≡ None
+unfolding view_refusal
+shown_none command id r state e = by (view_response state.bundle (here state) state.features (program_of state) command id r) refl e where
+  by : (made : Result Response ℕ) → view_response state.bundle (here state) state.features (program_of state) command id r ≡ made → code_in made ≡ None → fault_in (response_in command id made).body ≡ None
+  by (Ok response) is e = none_in response.body (shows state.bundle (here state) state.features (program_of state) command id r response is).no_error
+  by (Err code) is e = absurd cc
+
+-- a response to breakpoint commands is no error
+breakpoint_none : (bundle : Bundle) (command id : Text) (t : Table) (r : Request) → fault_in (breakpoint_response bundle command id t r).body ≡ None
+breakpoint_none bundle command id t (request.BreakpointSet set) = refl
+breakpoint_none bundle command id t (request.Breakpoint Get number) = refl
+breakpoint_none bundle command id t (request.Breakpoint Remove number) = refl
+breakpoint_none bundle command id t request.BreakpointList = refl
+breakpoint_none bundle command id t other = refl
+
+in_packet_none : (command id : Text) (r : Response) → fault_in r.body ≡ None → fault_in (in_packet command id r).body ≡ None
+in_packet_none command id r e = by (nat_le (length (response_text r)) packet_limit) where
+  by : (b : Bool) → fault_in (if b then r else response command id [] body.Nothing).body ≡ None
+  by true = e
+  by false = refl
+
+-- what is built is done
+done : (command id : Text) (name : CommandName) (line : Line) (state : State) → is_built name ≡ true → (side : Side) → side_of (request_of name line) ≡ side
+    → first_code (tests_on side state command id (request_of name line)) ≡ None → fault_of (done_on side command id (request_of name line) state) ≡ None
+done command id name line state b Session s e = session_none command id name line state b s
+done command id name line state b Breakpoints s e =
+    in_packet_none command id _ (breakpoint_none state.bundle command id state.breaks (request_of name line))
+done command id name line state b Program s e =
+    shown_none command id (request_of name line) state
+    (sym (first_for (view_refusal state.bundle (here state) state.features (program_of state) command id (request_of name line))) ∙ e)
 
 not_false : (b : Bool) → not b ≡ false → b ≡ true
 not_false true h = refl
@@ -83,23 +141,26 @@ abbrev pub later_tests : ℕ → State → Line → List Test
 later_tests count state line = drop count (tests state line)
 
 -- the fourth test of a line is on its name
-pub built : (state : State) (line : Line) → first_code (tests state line) ≡ None → of_command is_built (name_of line.name) ≡ true
+pub built : (state : State) (line : Line) → first_code (tests state line) ≡ None
+    → (of_command is_built (name_of line.name) ≡ true) × (first_code (option_map_or (row_tests state line) (name_of line.name) []) ≡ None)
 built state line e =
     let name = of_command is_built (name_of line.name) in
     let admitted = passed _ _ (later_tests 1 state line) e in
     let named = passed _ _ (later_tests 2 state line) admitted.1 in
     let numbered = passed _ _ (later_tests 3 state line) named.1 in
-    not_false name (passed (not name) 4 (later_tests 4 state line) numbered.1).0
+    let known = passed (not name) 4 (later_tests 4 state line) numbered.1 in
+    (not_false name known.0, (passed (not (of_command (allows state.phase) (name_of line.name))) 5 (later_tests 5 state line) known.1).1)
 
-accepted : (command id : Text) (state : State) (line : Line) (name : Option CommandName) → of_command is_built name ≡ true
-    → fault_of (asked command id (option_map (λ n. record { id = id_of line; request = request_of n line }) name) state) ≡ None
-accepted command id state line None b = absurd cc
-accepted command id state line (Some name) b = done command (id_of line) name line state b
+accepted : (state : State) (line : Line) (name : Option CommandName) → of_command is_built name ≡ true
+    → first_code (option_map_or (row_tests state line) name []) ≡ None
+    → fault_of (asked line.name (id_of line) (option_map (λ n. record { id = id_of line; request = request_of n line }) name) state) ≡ None
+accepted state line None b e = absurd cc
+accepted state line (Some name) b e = done line.name (id_of line) name line state b (side_of (request_of name line)) refl (passed (not (fits_row name line)) 3 (own_tests state line.name (id_of line) (request_of name line)) e).1
 
 turn_cases : (line : Option Line) (state : State) (code : Option ℕ) → refusal_of_line state line ≡ code → fault_of (turn_of line code state) ≡ code
 turn_cases line state (Some code) e = refl
 turn_cases None state None e = absurd cc
-turn_cases (Some line) state None e = accepted line.name (id_of line) state line (name_of line.name) (built state line e)
+turn_cases (Some line) state None e = let b = built state line e in accepted state line (name_of line.name) b.0 b.1
 
 pub refused_exactly : (state : State) (bytes : List ℕ) → fault_of (turn state bytes) ≡ refusal state bytes
 unfolding turn refusal

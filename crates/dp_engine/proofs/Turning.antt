@@ -1,38 +1,60 @@
 -- Turns as the code makes them.
-use Rattle.std.proofs.Common.{◌≡◌, ℕ, Bool, true, false, cond, not, List, [], ◌∷◌, drop, Option, Some, None, Result, Ok, Err, refl, sym, ap, subst, ◌∙◌}
-use Rattle.std.specs.Prelude.{codes, option_map, IfOk}
+use Rattle.std.proofs.Common.{arith, ◌≡◌, ℕ, ◌<◌, ◌≤◌, Bool, true, false, cond, not, List, [], ◌∷◌, drop, length, Option, Some, None, Result, Ok, Err, refl, sym, ap, subst, ◌∙◌}
+use Rattle.std.specs.Prelude.{codes, if◌then◌else◌, map, option_map, unwrap_or, IfOk, IsFalse, IsTrue, MatchResult}
 use Rattle.std.specs.Option.{option_map_or}
-use Rattle.dp_wire.specs.Frames.{IsPacketText}
+use Rattle.std.proofs.lemmas.Bool.{le-leb}
+use Rattle.std.proofs.lemmas.List.{length-map}
+use Rattle.dp_wire.specs.Frames.{IsPacketText, packet_limit}
 use Rattle.dp_tree.specs.declared.bundle.Bundle.{Bundle}
+use Rattle.dp_tree.specs.FileNames.{AreFileNames}
+use Rattle.dp_break.specs.Tables.{Table}
+use Rattle.dp_breakpoint_commands.specs.Commands.{breakpoint_refusal, breakpoint_response, breakpoint_table}
 use Rattle.dp_command.specs.declared.command.Continuation.{Continuation}
 use Rattle.dp_command.specs.declared.command.Command.{Command}
+use Rattle.dp_command.specs.declared.command.Request.{Request}
 use Rattle.dp_command.specs.declared.errors.CommandError.{CommandError}
 use Rattle.dp_command.specs.declared.errors.CommandError.TheVariants.{Code, Memory}
-use Rattle.dp_command.specs.Commands.{command_as, command_of}
+use Rattle.dp_command.specs.declared.errors.Refusal.{Refusal}
+use Rattle.dp_command.specs.declared.errors.Refusal.TheVariants.{Duplicate, Unimplemented, NoId}
+use Rattle.dp_command.specs.Commands.{command_as, command_of, request_of}
 use Rattle.dp_command.specs.Tests.{Test, first_code}
 use Rattle.dp_command.specs.declared.line.Line.{Line}
 use Rattle.dp_command.specs.declared.names.CommandName.{CommandName}
 use Rattle.dp_command.specs.Names.{name_of}
-use Rattle.dp_command.specs.Refusals.{admission_refusal, code_of, coded, holds_of, id_of}
-use Rattle.dp_command.specs.declared.errors.Refusal.{Refusal}
-use Rattle.dp_command.specs.declared.errors.Refusal.TheVariants.{Duplicate, Unimplemented, NoId}
+use Rattle.dp_command.specs.Refusals.{admission_refusal, code_of, coded, fits_row, holds_of, id_of}
+use Rattle.dp_continuation.specs.declared.arrival.Arrival.{Arrival}
+use Rattle.dp_continuation.specs.declared.arrival.Arrival.TheVariants.{Moment, End}
+use Rattle.dp_continuation.specs.Going.{Arrives, program_in, stop_past, table_past}
+use Rattle.dp_continuation.specs.Stops.{stops}
 use Rattle.dp_features.specs.Features.{Features}
-use Rattle.dp_meaning.specs.Trace.{plain}
+use Rattle.dp_packet.specs.declared.packet.Response.{Response}
+use Rattle.dp_packet.specs.declared.packet.Body.TheVariants as body
+use Rattle.dp_packet.specs.declared.packet.Packet.TheVariants as packet
+use Rattle.dp_packet.specs.Packets.{HasMessage}
 use Rattle.dp_packet.specs.Parts.{Text}
+use Rattle.dp_packet.specs.Text.{text}
 use Rattle.dp_state.specs.declared.moments.Outcome.{Outcome}
-use Rattle.dp_engine.specs.declared.arrivals.Arrival.{Arrival}
-use Rattle.dp_engine.specs.declared.arrivals.Arrival.TheVariants.{Moment, End}
+use Rattle.dp_state.specs.declared.state.State.{State as Program_state}
+use Rattle.dp_state.proofs.Kept.{of-opening}
+use Rattle.dp_state.specs.States.{IsOf, file_of, opening as first_state}
+use Rattle.dp_view_commands.specs.Views.{code_in, view_refusal, view_response}
+use Rattle.dp_engine.specs.declared.sides.Side.{Side}
+use Rattle.dp_engine.specs.declared.sides.Side.TheVariants.{Breakpoints, Program}
 use Rattle.dp_engine.specs.declared.states.Standing.{Standing}
-use Rattle.dp_engine.specs.declared.turns.Step.TheVariants.{Come}
+use Rattle.dp_engine.specs.declared.states.Standing.TheVariants.{Starting, Break, Stopping}
+use Rattle.dp_engine.specs.declared.turns.Step.{Step}
+use Rattle.dp_engine.specs.declared.turns.Step.TheVariants.{Stay, Come}
 use Rattle.dp_engine.specs.declared.turns.Turn.{Turn as Made}
-use Rattle.dp_engine.specs.Answers.{Turn, advanced, asked, goes_on, moved, performed, refused, state_response, turn_of}
-use Rattle.dp_engine.specs.Refusals.{of_command, refusal_of_line, row_tests, tests}
-use Rattle.dp_engine.specs.Responses.{response_text, status_response}
-use Rattle.dp_engine.specs.Session.{State, stop_of}
-use Rattle.dp_engine.specs.inner.Standing.{Arrives, IsDeep, known, phase_of, reason_at, standing_in}
+use Rattle.dp_engine.specs.Answers.{Turn, advanced, asked, at_end, at_stop, breakpoints_done, done_on, goes_on, in_packet, moved, performed, refused, response_in, shown, state_response, turn_of}
+use Rattle.dp_engine.specs.Refusals.{of_command, own_tests, refusal_of_line, row_tests, tests, tests_on}
+use Rattle.dp_engine.specs.Responses.{response as response_of, response_text, status_response}
+use Rattle.dp_engine.specs.Session.{State, breaks_of, here, program_of, stop_of}
+use Rattle.dp_engine.specs.Sides.{side_of}
+use Rattle.dp_engine.specs.inner.Sizes.{Fits}
+use Rattle.dp_engine.specs.inner.Standing.{IsAt, IsDeep, known, phase_of, reason_at, standing_in}
 use Rattle.dp_engine.specs.States.{allows, is_built, phase_name, reason_name, reason_of}
-use Rattle.dp_engine.specs.Stops.{stop_above, stops}
-use Rattle.dp_engine.specs.inner.Turns.{Asks, AsksRow, IsTurn}
+use Rattle.dp_engine.proofs.Refusing.{first_for}
+use Rattle.dp_engine.specs.inner.Turns.{Asks, IsTurn, Leads, Tells, after, answered, answered_by}
 
 -- ---- what a line asks for
 
@@ -68,12 +90,27 @@ pub unadmitted : (state : State) (line : Line) (refusal : Refusal) → admission
 unadmitted state line refusal h =
     first_admission (holds_of line Duplicate) (holds_of line Unimplemented) (holds_of line NoId) (drop 3 (tests state line)) refusal h
 
-pub asks_row : (state : State) (line : Line) (name : CommandName) (result : Result Command CommandError) → admission_refusal line ≡ None → name_of line.name ≡ Some name
-    → is_built name ≡ true → allows state.phase name ≡ true → AsksRow state line name result → Asks state line result
-asks_row state line name (Ok command) h n b a row =
-    (admitted state line name h n b a ∙ row.0, ap (option_map (command_as line)) n ∙ ap (λ (c : Command). Some c) (sym row.1))
-asks_row state line name (Err (Code code)) h n b a row = admitted state line name h n b a ∙ row
-asks_row state line name (Err Memory) h n b a row = tt
+-- what is read of its row, after which only a refusal of its own is left
+pub read_asks : (state : State) (line : Line) (name : CommandName) (result : Result Command CommandError) → admission_refusal line ≡ None → name_of line.name ≡ Some name
+    → is_built name ≡ true → allows state.phase name ≡ true → (IsFalse (fits_row name line) → result ≡ Err (Code 3))
+    → (IsTrue (fits_row name line) → MatchResult result (λ command. command ≡ command_as line name) (λ e. e ≡ Memory)) → Asks state line result
+read_asks state line name result h n b a unfit fit = by (fits_row name line) refl where
+  own : Text → List Test
+  own id = own_tests state line.name id (request_of name line)
+
+  left : (fits : Bool) → fits_row name line ≡ fits → refusal_of_line state (Some line) ≡ first_code ((not fits, 3) ∷ own (id_of line))
+  left fits e = admitted state line name h n b a ∙ ap (λ (f : Bool). first_code ((not f, 3) ∷ own (id_of line))) e
+
+  made : (r : Result Command CommandError) → refusal_of_line state (Some line) ≡ first_code (own (id_of line)) → MatchResult r (λ command. command ≡ command_as line name) (λ e. e ≡ Memory)
+      → Asks state line r
+  made (Ok command) e m =
+      (e ∙ ap (λ (c : Command). first_code (own_tests state line.name (id_of line) c.request)) (sym m), ap (option_map (command_as line)) n ∙ ap (λ (c : Command). Some c) (sym m))
+  made (Err (Code code)) e m = absurd cc
+  made (Err Memory) e m = tt
+
+  by : (fits : Bool) → fits_row name line ≡ fits → Asks state line result
+  by true e = made result (left true e) (fit e)
+  by false e = subst (Asks state line) (sym (unfit e)) (left false e)
 
 -- ---- what a line leads to
 
@@ -86,52 +123,158 @@ id_is line command e = cases (name_of line.name) e where
 same_turn : {E : Type 0} (state : State) (a b : Turn) (made : Result Made E) → a ≡ b → IfOk made (IsTurn a state) → IfOk made (IsTurn b state)
 same_turn state a b made e h = subst (λ (t : Turn). IfOk made (IsTurn t state)) e h
 
-pub turn_accepted : {E : Type 0} (state : State) (line : Line) (command : Command) (name id : Text) (made : Result Made E) → name ≡ line.name → id ≡ id_of line
-    → (refusal_of_line state (Some line) ≡ None) × (command_of line ≡ Some command)
-    → IfOk made (IsTurn (performed name id command.request state) state) → IfOk made (IsTurn (turn_of (Some line) (refusal_of_line state (Some line)) state) state)
-turn_accepted state line command name id made n i e h =
-    same_turn state _ _ made
-    ((λ k. performed (n k) ((i ∙ sym (id_is line command e.1)) k) command.request state)
-    ∙ ap (λ (c : Option Command). asked line.name (id_of line) c state) (sym e.1)
-    ∙ ap (λ (code : Option ℕ). turn_of (Some line) code state) (sym e.0)) h
+pub turn_accepted : {E : Type 0} (state next : State) (line : Line) (command : Command) (name id : Text) (made : Result Made E) → name ≡ line.name → id ≡ id_of line
+    → Asks state line (Ok command)
+    → IfOk made (IsTurn (answered name id command.request state) next) → IfOk made (IsTurn (turn_of (Some line) (refusal_of_line state (Some line)) state) next)
+turn_accepted state next line command name id made n i e h =
+    same_turn next _ _ made
+    ((λ k. answered (n k) (i k) command.request state) ∙ by (first_code (own_tests state line.name (id_of line) command.request))
+    ∙ ap (λ (code : Option ℕ). turn_of (Some line) code state) (sym e.0)) h where
+      by : (code : Option ℕ) → answered_by code line.name (id_of line) command.request state ≡ turn_of (Some line) code state
+      by (Some code) = refl
+      by None = ap (λ (x : Text). performed line.name x command.request state) (sym (id_is line command e.1)) ∙ ap (λ (c : Option Command). asked line.name (id_of line) c state) (sym e.1)
 
-pub turn_refused : {E : Type 0} (state : State) (line : Line) (code : ℕ) (name id : Text) (made : Result Made E) → name ≡ line.name → id ≡ id_of line
+pub turn_refused : {E : Type 0} (state next : State) (line : Line) (code : ℕ) (name id : Text) (made : Result Made E) → name ≡ line.name → id ≡ id_of line
     → refusal_of_line state (Some line) ≡ Some code
-    → IfOk made (IsTurn (refused name id code state) state) → IfOk made (IsTurn (turn_of (Some line) (refusal_of_line state (Some line)) state) state)
-turn_refused state line code name id made n i e h =
-    same_turn state _ _ made ((λ k. refused (n k) (i k) code state) ∙ ap (λ (c : Option ℕ). turn_of (Some line) c state) (sym e)) h
+    → IfOk made (IsTurn (refused name id code state) next) → IfOk made (IsTurn (turn_of (Some line) (refusal_of_line state (Some line)) state) next)
+turn_refused state next line code name id made n i e h =
+    same_turn next _ _ made ((λ k. refused (n k) (i k) code state) ∙ ap (λ (c : Option ℕ). turn_of (Some line) c state) (sym e)) h
 
 -- ---- turns
 
-module _ (bundle : Bundle) (bound moment : ℕ) (standing : Standing) (features : Features) where
-  abbrev state : State
-  state = known bundle bound moment standing features
+-- a text after which nothing more changes
+abbrev pub staying : Text → Made
+staying text = record { text = text; step = Stay; ended = None }
 
-  advances_by : (command id : Text) (mode : Continuation) (line : Text) (a : Arrival) → line ≡ response_text (status_response command id (phase_name (phase_of (standing_in a))) (reason_name (reason_at (standing_in a))))
-      → Arrives bundle bound (stop_of mode state) a → IsPacketText line → IsTurn (advanced command id mode state) state (record { text = line; step = Come a; ended = None })
-  advances_by command id mode line (Moment number deep program) is h fits = record {
-    text = is ∙ ap (λ (o : Option ℕ). response_text (advanced_to command id o).response) (sym h.0);
-    next = ap (moved state) (sym h.0);
+pub own_refused : {E : Type 0} (state next : State) (name id : Text) (r : Request) (code : ℕ) (made : Result Made E) → first_code (own_tests state name id r) ≡ Some code
+    → next ≡ state → IfOk made (IsTurn (refused name id code next) next) → IfOk made (IsTurn (answered name id r state) next)
+own_refused state next name id r code made e n h =
+    same_turn next _ _ made (ap (refused name id code) n ∙ ap (λ (c : Option ℕ). answered_by c name id r state) (sym e)) h
+
+-- the tests of a request of breakpoints, and of one that looks at the program
+pub breakpoint_first : (state : State) (name id : Text) (r : Request) → side_of r ≡ Breakpoints
+    → first_code (own_tests state name id r) ≡ breakpoint_refusal state.bundle (here state) state.breaks r
+breakpoint_first state name id r e = ap (λ (s : Side). first_code (tests_on s state name id r)) e ∙ first_for (breakpoint_refusal state.bundle (here state) state.breaks r)
+
+pub view_first : (state : State) (name id : Text) (r : Request) → side_of r ≡ Program
+    → first_code (own_tests state name id r) ≡ view_refusal state.bundle (here state) state.features (program_of state) name id r
+view_first state name id r e =
+    ap (λ (s : Side). first_code (tests_on s state name id r)) e ∙ first_for (view_refusal state.bundle (here state) state.features (program_of state) name id r)
+
+told : (asked : Turn) (next : State) (response : Response) (made : Made) → Tells response made → response ≡ asked.response → next ≡ asked.next → asked.ended ≡ None → IsTurn asked next made
+told asked next response made t r n e = record {
+  text = t.text ∙ ap response_text r;
+  next = ap (λ (s : Step). after s next) t.stays ∙ n;
+  ended = t.goes_on ∙ sym e;
+  leads = subst (λ (s : Step). Leads s next) (sym t.stays) tt;
+  is_text = t.is_text;
+}
+
+all_told : {E : Type 0} (asked : Turn) (next : State) (response : Response) (made : Result Made E) → IfOk made (Tells response) → response ≡ asked.response → next ≡ asked.next → asked.ended ≡ None
+    → IfOk made (IsTurn asked next)
+all_told asked next response (Ok made) t r n e = told asked next response made t r n e
+all_told asked next response (Err e) t r n f = tt
+
+-- a program whose files have names has a file
+pub has_files : (bundle : Bundle) → AreFileNames (map (λ f. f.name) bundle.files) → 0 < length bundle.files
+has_files bundle names = omega (arith, names.some, length-map bundle.files (λ f. f.name))
+
+-- its opening state is of it
+pub opened : (bundle : Bundle) (program : Program_state) → AreFileNames (map (λ f. f.name) bundle.files) → program ≡ first_state bundle → IsOf bundle program
+opened bundle program names is = subst (IsOf bundle) (sym is) (of-opening bundle (has_files bundle names))
+
+-- a response that fits a packet
+pub fits_known : (r : Response) → HasMessage (packet.Response r) → length (text (packet.Response r)) ≤ packet_limit → Fits r
+unfolding response_text
+fits_known r known short = record { known = known; short = short }
+
+in_packet_is : (name id : Text) (r : Response) → length (text (packet.Response r)) ≤ packet_limit → r ≡ in_packet name id r
+unfolding response_text
+in_packet_is name id r short =
+    ap (λ (b : Bool). if b then r else response_of name id [] body.Nothing) (sym (le-leb (length (text (packet.Response r))) packet_limit short))
+
+-- a request of breakpoints that is not refused
+pub breakpoints_told : {E : Type 0} (state next : State) (name id : Text) (r : Request) (response : Response) (made : Result Made E) → side_of r ≡ Breakpoints
+    → breakpoint_refusal state.bundle (here state) state.breaks r ≡ None → response ≡ breakpoint_response state.bundle name id state.breaks r
+    → length (text (packet.Response response)) ≤ packet_limit
+    → next ≡ record state { breaks = breakpoint_table state.bundle (here state) r state.breaks } → IfOk made (Tells response) → IfOk made (IsTurn (answered name id r state) next)
+breakpoints_told state next name id r response made side e is short n t =
+    same_turn next _ _ made
+    (sym (ap (λ (c : Option ℕ). answered_by c name id r state) (breakpoint_first state name id r side ∙ e) ∙ ap (λ (s : Side). done_on s name id r state) side))
+    (all_told (breakpoints_done name id r state) next response made t (in_packet_is name id response short ∙ ap (in_packet name id) is) n refl)
+
+-- what is shown of the program
+pub view_told : {E : Type 0} (state : State) (name id : Text) (r : Request) (response : Response) (made : Result Made E) → side_of r ≡ Program
+    → view_response state.bundle (here state) state.features (program_of state) name id r ≡ Ok response → IfOk made (Tells response) → IfOk made (IsTurn (answered name id r state) state)
+unfolding view_refusal
+view_told state name id r response made side e t =
+    same_turn state _ _ made
+    (sym (ap (λ (c : Option ℕ). answered_by c name id r state) (view_first state name id r side ∙ ap code_in e) ∙ ap (λ (s : Side). done_on s name id r state) side))
+    (all_told (shown name id r state) state response made t (ap (response_in name id) (sym e)) refl refl)
+
+pub view_refused : (state : State) (name id : Text) (r : Request) (code : ℕ) → side_of r ≡ Program
+    → view_response state.bundle (here state) state.features (program_of state) name id r ≡ Err code → first_code (own_tests state name id r) ≡ Some code
+unfolding view_refusal
+view_refused state name id r code side e = view_first state name id r side ∙ ap code_in e
+
+module _ (bundle : Bundle) (bound moment : ℕ) (standing : Standing) (features : Features) (breaks : Table) where
+  abbrev state : State
+  state = known bundle bound moment standing features breaks
+
+  -- its program is the one that is kept
+  pub program_is : (program : Program_state) → IsAt standing bundle bound moment program → program_of state ≡ program
+  program_is program h = by standing h where
+    by : (s : Standing) → IsAt s bundle bound moment program → program_of (known bundle bound moment s features breaks) ≡ program
+    by Starting h = ap (λ (o : Option Program_state). unwrap_or o (first_state bundle)) h
+    by Break h = ap (λ (o : Option Program_state). unwrap_or o (first_state bundle)) h
+    by (Stopping end) h = sym h.1
+
+  -- so what is shown of it is what is shown of that
+  pub view_is : (program : Program_state) (file : ℕ) (command id : Text) (r : Request) → IsAt standing bundle bound moment program → file ≡ file_of program
+      → view_response bundle (here state) features (program_of state) command id r ≡ view_response bundle file features program command id r
+  view_is program file command id r h f =
+      ap (λ (p : Program_state). view_response bundle (file_of p) features p command id r) (program_is program h)
+      ∙ ap (λ (n : ℕ). view_response bundle n features program command id r) (sym f)
+
+  -- and what is done with its breakpoints is done where it stands
+  pub breakpoints_are_told : {E : Type 0} (program : Program_state) (file : ℕ) (left : Table) (command id : Text) (r : Request) (response : Response) (made : Result Made E) → IsAt standing bundle bound moment program
+      → file ≡ file_of program → side_of r ≡ Breakpoints → breakpoint_refusal bundle file breaks r ≡ None → response ≡ breakpoint_response bundle command id breaks r
+      → length (text (packet.Response response)) ≤ packet_limit → left ≡ breakpoint_table bundle file r breaks → IfOk made (Tells response)
+      → IfOk made (IsTurn (answered command id r state) (record state { breaks = left }))
+  breakpoints_are_told program file left command id r response made h f side e is short n t =
+      let there : here state ≡ file = ap file_of (program_is program h) ∙ sym f in
+      breakpoints_told state (record state { breaks = left }) command id r response made side (ap (λ (k : ℕ). breakpoint_refusal bundle k breaks r) there ∙ e) is short
+      (ap (λ (l : Table). record state { breaks = l }) (n ∙ ap (λ (k : ℕ). breakpoint_table bundle k r breaks) (sym there))) t
+
+  advances_by : (command id : Text) (mode : Continuation) (line : Text) (a : Arrival) (after : Table) → line ≡ response_text (status_response command id (phase_name (phase_of (standing_in a))) (reason_name (reason_at (standing_in a))))
+      → Arrives bundle bound [] (stop_of mode state) a → IsOf bundle (program_in a) → after ≡ breaks_of mode state → IsPacketText line
+      → IsTurn (advanced command id mode state) (record state { breaks = after }) (record { text = line; step = Come a; ended = None })
+  advances_by command id mode line (Moment number deep program) after is h of left fits = record {
+    text = is ∙ ap (λ (o : Option ℕ). response_text (advanced_to o).response) (sym h.0);
+    next = ap (λ (t : Table). at_stop (record state { breaks = t }) number) left ∙ ap (moved (record state { breaks = breaks_of mode state })) (sym h.0);
     ended = refl;
-    leads = (refl, h.1, h.2);
+    leads = ((refl, h.1, h.2), of);
     is_text = fits;
   } where
-    advanced_to : Text → Text → Option ℕ → Turn
-    advanced_to command id o = let next = moved state o in goes_on (state_response command id next) next
-  advances_by command id mode line (End end program) is h fits = record {
-    text = is ∙ ap (λ (o : Outcome). response_text (status_response command id (codes "stopping") (reason_name (reason_of o)))) h.1 ∙ ap (λ (o : Option ℕ). response_text (advanced_to command id o).response) (sym h.0);
-    next = ap (moved state) (sym h.0);
+    advanced_to : Option ℕ → Turn
+    advanced_to o = let next = moved (record state { breaks = breaks_of mode state }) o in goes_on (state_response command id next) next
+  advances_by command id mode line (End end program) after is h of left fits = record {
+    text = is ∙ ap (λ (o : Outcome). response_text (status_response command id (codes "stopping") (reason_name (reason_of o)))) h.1 ∙ ap (λ (o : Option ℕ). response_text (advanced_to o).response) (sym h.0);
+    next = ap (λ (t : Table). at_end (record state { breaks = t })) left ∙ ap (moved (record state { breaks = breaks_of mode state })) (sym h.0);
     ended = refl;
-    leads = (refl, h.1, h.2);
+    leads = ((refl, h.1, h.2), of);
     is_text = fits;
   } where
-    advanced_to : Text → Text → Option ℕ → Turn
-    advanced_to command id o = let next = moved state o in goes_on (state_response command id next) next
+    advanced_to : Option ℕ → Turn
+    advanced_to o = let next = moved (record state { breaks = breaks_of mode state }) o in goes_on (state_response command id next) next
 
   -- the program goes on
-  pub advances : (depth : ℕ) (command id : Text) (mode : Continuation) (arrival : Arrival) (line : Text) → IsDeep bundle bound moment depth
-      → Arrives bundle bound (stop_above (stops mode depth) moment (plain bundle bound).moments) arrival
+  pub advances : (depth : ℕ) (command id : Text) (mode : Continuation) (arrival : Arrival) (line : Text) (after : Table) → IsDeep bundle bound moment depth
+      → Arrives bundle bound [] (stop_past (stops mode depth) bundle bound [] breaks.held moment) arrival → IsOf bundle (program_in arrival)
+      → after ≡ table_past (stops mode depth) bundle bound [] breaks moment
       → line ≡ response_text (status_response command id (phase_name (phase_of (standing_in arrival))) (reason_name (reason_at (standing_in arrival))))
-      → IsPacketText line → IsTurn (advanced command id mode state) state (record { text = line; step = Come arrival; ended = None })
-  advances depth command id mode arrival line deep arrives is fits =
-      advances_by command id mode line arrival is (subst (λ (d : ℕ). Arrives bundle bound (stop_above (stops mode d) moment (plain bundle bound).moments) arrival) deep arrives) fits
+      → IsPacketText line → IsTurn (advanced command id mode state) (record state { breaks = after }) (record { text = line; step = Come arrival; ended = None })
+  advances depth command id mode arrival line after deep arrives of left is fits =
+      advances_by command id mode line arrival after is
+      (subst (λ (d : ℕ). Arrives bundle bound [] (stop_past (stops mode d) bundle bound [] breaks.held moment) arrival) deep arrives) of
+      (left ∙ ap (λ (d : ℕ). table_past (stops mode d) bundle bound [] breaks moment) deep) fits

@@ -17,30 +17,35 @@ use Rattle.dp_command.specs.Commands.{command_of}
 use Rattle.dp_command.specs.Lines.{line_of}
 use Rattle.dp_features.specs.Features.{Features}
 use Rattle.dp_meaning.specs.declared.writing.NumberedWrite.{NumberedWrite}
-use Rattle.dp_meaning.specs.Trace.{moment_at, now, outcome, output, plain, program_trace}
+use Rattle.dp_meaning.specs.Trace.{now, outcome, output, plain, program_trace}
 use Rattle.dp_packet.specs.Parts.{Text}
 use Rattle.dp_serving.specs.Folds.{Reply, unless_ended, followed, replies}
 use Rattle.dp_state.specs.declared.moments.Moment.{Moment}
-use Rattle.dp_state.specs.declared.state.State.{State as Program}
+use Rattle.dp_break.specs.Tables.{Table}
+use Rattle.dp_state.specs.declared.state.State.{State as ProgramState}
 use Rattle.dp_wire.specs.Frames.{commands_in}
 use Rattle.dp_engine.specs.declared.session.SessionEnd.{SessionEnd}
 use Rattle.dp_engine.specs.declared.session.SessionEnd.TheVariants.{Finished, Killed, Detached}
 use Rattle.dp_engine.specs.declared.states.Phase.{Phase}
 use Rattle.dp_engine.specs.declared.states.Phase.TheVariants.{Starting, Break, Stopping}
-use Rattle.dp_engine.specs.Answers.{answer, asked, at_end, at_stop, continued, moved, performed, to_program, turn, turn_of}
+use Rattle.dp_engine.specs.Answers.{answer, asked, at_end, at_stop, continued, done_on, gone_on, moved, session_done, to_program, turn, turn_of}
 use Rattle.dp_engine.specs.Refusals.{refusal_of_line}
 use Rattle.dp_engine.specs.Served.{Begins, IsRunWith, NeverRedirects, UnlessEnded, all_output, answers, ending, ending_after, own, rest_after, writes, writing}
-use Rattle.dp_engine.specs.Session.{State, opening, outcome_of, output_by, output_so_far, stop_of, trace_of, unwritten, whole_output, written_between}
-use Rattle.dp_engine.specs.Stops.{depth_of, stops}
+use Rattle.dp_engine.specs.declared.sides.Side.{Side}
+use Rattle.dp_engine.specs.declared.sides.Side.TheVariants.{Session, Breakpoints, Program}
+use Rattle.dp_engine.specs.Session.{State, breaks_of, depth_at, opening, outcome_of, output_by, output_so_far, stop_of, trace_of, unwritten, whole_output, written_between}
+use Rattle.dp_engine.specs.Sides.{side_of}
+use Rattle.dp_continuation.specs.Stops.{stops}
 use Rattle.dp_engine.proofs.Outputs.{begins_same, stays_written}
-use Rattle.dp_engine.proofs.Stopping.{stop_is_there}
+use Rattle.dp_continuation.proofs.Stopping.{stop_is_there}
 
--- ---- what a turn does to a session: nothing, it sets features, or the program goes on
+-- ---- what a turn does to a session: nothing, it sets features or breakpoints, or the program goes on
 
 pub data Moves (state : State) : State → Type 0 where
   stays : Moves state state
   sets : (features : Features) → Moves state (record state { features = features })
-  goes : (mode : Continuation) → state.phase ≢ Stopping → Moves state (moved state (stop_of mode state))
+  holds : (breaks : Table) → Moves state (record state { breaks = breaks })
+  goes : (mode : Continuation) → state.phase ≢ Stopping → Moves state (gone_on mode state)
 
 not_stopping : (phase other : Phase) → other ≢ Stopping → phase ≡ other → phase ≢ Stopping
 not_stopping phase other n e f = n (sym e ∙ f)
@@ -50,15 +55,20 @@ continued_moves command id mode Starting state e = goes mode (not_stopping state
 continued_moves command id mode Break state e = goes mode (not_stopping state.phase Break (λ f. cc) e)
 continued_moves command id mode Stopping state e = stays
 
-performed_moves : (command id : Text) (r : Request) (state : State) → Moves state (performed command id r state).next
-performed_moves command id (request.FeatureSet name value) state = sets _
-performed_moves command id (request.Continue mode) state = continued_moves command id mode state.phase state refl
-performed_moves command id (request.Finish Stop) state = stays
-performed_moves command id (request.Finish Detach) state = stays
-performed_moves command id r state = stays
+session_moves : (command id : Text) (r : Request) (state : State) → Moves state (session_done command id r state).next
+session_moves command id (request.FeatureSet name value) state = sets _
+session_moves command id (request.Continue mode) state = continued_moves command id mode state.phase state refl
+session_moves command id (request.Finish Stop) state = stays
+session_moves command id (request.Finish Detach) state = stays
+session_moves command id r state = stays
+
+done_moves : (side : Side) (command id : Text) (r : Request) (state : State) → Moves state (done_on side command id r state).next
+done_moves Session command id r state = session_moves command id r state
+done_moves Breakpoints command id r state = holds _
+done_moves Program command id r state = stays
 
 asked_moves : (command id : Text) (c : Option Command) (state : State) → Moves state (asked command id c state).next
-asked_moves command id (Some c) state = performed_moves command c.id c.request state
+asked_moves command id (Some c) state = done_moves (side_of c.request) command c.id c.request state
 asked_moves command id None state = stays
 
 turn_of_moves : (line : Option Line) (code : Option ℕ) (state : State) → Moves state (turn_of line code state).next
@@ -94,6 +104,12 @@ pub features_apart : (phase : Phase) (state : State) (features : Features) → o
 features_apart Starting state features = refl
 features_apart Break state features = refl
 features_apart Stopping state features = refl
+
+-- so do breakpoints
+pub breaks_apart : (phase : Phase) (state : State) (breaks : Table) → output_by phase state ≡ output_by phase (record state { breaks = breaks })
+breaks_apart Starting state breaks = refl
+breaks_apart Break state breaks = refl
+breaks_apart Stopping state breaks = refl
 
 -- ---- where output goes is no matter of what the session knows
 
@@ -144,7 +160,7 @@ module _ (bundle : Bundle) (bound : ℕ) where
   -- where the program stands: before its first moment, at a moment, or at its end
   abbrev IsPlaced : Phase → ℕ → Type 0
   IsPlaced Starting moment = moment ≡ 0
-  IsPlaced Break moment = (k : ℕ) × (p : Moment × Program) × (moment ≡ k + 1) × (slice_get (plain bundle bound).moments k ≡ Some p)
+  IsPlaced Break moment = (k : ℕ) × (p : Moment × ProgramState) × (moment ≡ k + 1) × (slice_get (plain bundle bound).moments k ≡ Some p)
   IsPlaced Stopping moment = Unit {0}
 
   record IsPlain (state : State) : Type 0 where
@@ -158,8 +174,8 @@ module _ (bundle : Bundle) (bound : ℕ) where
   plain_output = output bundle bound []
 
   -- the session's values, without writes
-  at_values : (state : State) → IsPlain state → (moment : ℕ) → option_map_or (λ (s : Program). s.output) (now state.bundle state.bound state.writes moment) [] ≡ option_map_or (λ (s : Program). s.output) (now bundle bound [] moment) []
-  at_values state h moment = λ i. option_map_or (λ (s : Program). s.output) (now (h.of i) (h.within i) (h.no_writes i) moment) []
+  at_values : (state : State) → IsPlain state → (moment : ℕ) → option_map_or (λ (s : ProgramState). s.output) (now state.bundle state.bound state.writes moment) [] ≡ option_map_or (λ (s : ProgramState). s.output) (now bundle bound [] moment) []
+  at_values state h moment = λ i. option_map_or (λ (s : ProgramState). s.output) (now (h.of i) (h.within i) (h.no_writes i) moment) []
 
   whole_is : (state : State) → IsPlain state → whole_output state ≡ plain_output
   whole_is state h = λ i. output (h.of i) (h.within i) (h.no_writes i)
@@ -168,19 +184,19 @@ module _ (bundle : Bundle) (bound : ℕ) where
   outcome_is state h = λ i. outcome (h.of i) (h.within i) (h.no_writes i)
 
   -- the output at a moment
-  output_past : (k : ℕ) (p : Moment × Program) → slice_get (plain bundle bound).moments k ≡ Some p → option_map_or (λ (s : Program). s.output) (now bundle bound [] (k + 1)) [] ≡ p.1.output
+  output_past : (k : ℕ) (p : Moment × ProgramState) → slice_get (plain bundle bound).moments k ≡ Some p → option_map_or (λ (s : ProgramState). s.output) (now bundle bound [] (k + 1)) [] ≡ p.1.output
   output_past k p is =
-      ap (λ (n : ℕ). option_map_or (λ (s : Program). s.output) (now bundle bound [] n) []) (add-one k)
-      ∙ ap (λ (o : Option (Moment × Program)). option_map_or (λ (s : Program). s.output) (option_map (λ (m : Moment × Program). m.1) o) []) is
+      ap (λ (n : ℕ). option_map_or (λ (s : ProgramState). s.output) (now bundle bound [] n) []) (add-one k)
+      ∙ ap (λ (o : Option (Moment × ProgramState)). option_map_or (λ (s : ProgramState). s.output) (option_map (λ (m : Moment × ProgramState). m.1) o) []) is
 
   so_far_begins : (phase : Phase) (state : State) → IsPlain state → IsPlaced phase state.moment → Begins (output_by phase state) plain_output
   so_far_begins Starting state h placed =
-      subst (λ (o : List ℕ). Begins o plain_output) (sym (at_values state h state.moment ∙ ap (λ (n : ℕ). option_map_or (λ (s : Program). s.output) (now bundle bound [] n) []) placed)) (begins_none plain_output)
+      subst (λ (o : List ℕ). Begins o plain_output) (sym (at_values state h state.moment ∙ ap (λ (n : ℕ). option_map_or (λ (s : ProgramState). s.output) (now bundle bound [] n) []) placed)) (begins_none plain_output)
   so_far_begins Break state h placed =
       let k = placed.0 in
       let p = placed.1 in
       subst (λ (o : List ℕ). Begins o plain_output)
-      (sym (at_values state h state.moment ∙ ap (λ (n : ℕ). option_map_or (λ (s : Program). s.output) (now bundle bound [] n) []) placed.2 ∙ output_past k p placed.3))
+      (sym (at_values state h state.moment ∙ ap (λ (n : ℕ). option_map_or (λ (s : ProgramState). s.output) (now bundle bound [] n) []) placed.2 ∙ output_past k p placed.3))
       (stays_written bundle bound k p placed.3).end
   so_far_begins Stopping state h placed = subst (λ (o : List ℕ). Begins o plain_output) (sym (whole_is state h)) (begins_same plain_output)
 
@@ -190,18 +206,18 @@ module _ (bundle : Bundle) (bound : ℕ) where
   trace_is state h = λ i. (program_trace (h.of i) (h.within i) (h.no_writes i)).moments
 
   -- the output at the moment at which the program stops
-  stopped_output : (state : State) → IsPlain state → (k : ℕ) (m : Moment × Program) (j : ℕ) → j ≡ k + 1 → slice_get (plain bundle bound).moments k ≡ Some m → output_so_far (at_stop state j) ≡ m.1.output
+  stopped_output : (state : State) → IsPlain state → (k : ℕ) (m : Moment × ProgramState) (j : ℕ) → j ≡ k + 1 → slice_get (plain bundle bound).moments k ≡ Some m → output_so_far (at_stop state j) ≡ m.1.output
   stopped_output state h k m j e is =
-      at_values state h j ∙ ap (λ (n : ℕ). option_map_or (λ (s : Program). s.output) (now bundle bound [] n) []) e ∙ output_past k m is
+      at_values state h j ∙ ap (λ (n : ℕ). option_map_or (λ (s : ProgramState). s.output) (now bundle bound [] n) []) e ∙ output_past k m is
 
-  later_begins : (phase : Phase) (state : State) → IsPlain state → phase ≢ Stopping → IsPlaced phase state.moment → (k : ℕ) (m : Moment × Program) → state.moment ≤ k
+  later_begins : (phase : Phase) (state : State) → IsPlain state → phase ≢ Stopping → IsPlaced phase state.moment → (k : ℕ) (m : Moment × ProgramState) → state.moment ≤ k
       → slice_get (plain bundle bound).moments k ≡ Some m → Begins (output_by phase state) m.1.output
   later_begins Starting state h not_over placed k m late is =
-      subst (λ (o : List ℕ). Begins o m.1.output) (sym (at_values state h state.moment ∙ ap (λ (n : ℕ). option_map_or (λ (s : Program). s.output) (now bundle bound [] n) []) placed)) (begins_none m.1.output)
+      subst (λ (o : List ℕ). Begins o m.1.output) (sym (at_values state h state.moment ∙ ap (λ (n : ℕ). option_map_or (λ (s : ProgramState). s.output) (now bundle bound [] n) []) placed)) (begins_none m.1.output)
   later_begins Break state h not_over placed k m late is =
       let p = placed.1 in
       subst (λ (o : List ℕ). Begins o m.1.output)
-      (sym (at_values state h state.moment ∙ ap (λ (n : ℕ). option_map_or (λ (s : Program). s.output) (now bundle bound [] n) []) placed.2 ∙ output_past placed.0 p placed.3))
+      (sym (at_values state h state.moment ∙ ap (λ (n : ℕ). option_map_or (λ (s : ProgramState). s.output) (now bundle bound [] n) []) placed.2 ∙ output_past placed.0 p placed.3))
       ((stays_written bundle bound placed.0 p placed.3).later k m is (omega (arith, late, placed.2)))
   later_begins Stopping state h not_over placed k m late is = absurd (not_over refl)
 
@@ -217,8 +233,8 @@ module _ (bundle : Bundle) (bound : ℕ) where
 
   stopped_grows : (state : State) → IsPlain state → state.phase ≢ Stopping → (mode : Continuation) (j : ℕ) → stop_of mode state ≡ Some j → Grows state (at_stop state j)
   stopped_grows state h not_over mode j e =
-      let there = stop_is_there (stops mode (depth_of (moment_at (trace_of state) state.moment))) state.moment (trace_of state).moments j e in
-      let is : slice_get (plain bundle bound).moments there.0 ≡ Some there.1 = ap (λ (l : List (Moment × Program)). slice_get l there.0) (sym (trace_is state h)) ∙ there.4 in
+      let there = stop_is_there (stops mode (depth_at state)) state.bundle state.breaks.held state.moment (trace_of state).moments j e in
+      let is : slice_get (plain bundle bound).moments there.0 ≡ Some there.1 = ap (λ (l : List (Moment × ProgramState)). slice_get l there.0) (sym (trace_is state h)) ∙ there.4 in
       record {
         is_plain = record { of = h.of; within = h.within; no_writes = h.no_writes; no_stream = h.no_stream; placed = (there.0, there.1, there.2, is) };
         begins = subst (Begins (output_so_far state)) (sym (stopped_output state h there.0 there.1 j there.2 is)) (later_begins state.phase state h not_over h.placed there.0 there.1 there.3 is);
@@ -228,13 +244,25 @@ module _ (bundle : Bundle) (bound : ℕ) where
   moved_grows state h not_over mode None e = ended_grows state h
   moved_grows state h not_over mode (Some j) e = stopped_grows state h not_over mode j e
 
+  -- with other breakpoints
+  with_breaks : (state next : State) (breaks : Table) → Grows state next → Grows state (record next { breaks = breaks })
+  with_breaks state next breaks g = record {
+    is_plain = record { of = g.is_plain.of; within = g.is_plain.within; no_writes = g.is_plain.no_writes; no_stream = g.is_plain.no_stream; placed = g.is_plain.placed };
+    begins = subst (Begins (output_so_far state)) (breaks_apart next.phase next breaks) g.begins;
+  }
+
+  gone_grows : (state : State) → (mode : Continuation) (stop : Option ℕ) → Grows state (moved state stop) → Grows state (moved (record state { breaks = breaks_of mode state }) stop)
+  gone_grows state mode None g = with_breaks state (at_end state) (breaks_of mode state) g
+  gone_grows state mode (Some j) g = with_breaks state (at_stop state j) (breaks_of mode state) g
+
   move_grows : (state next : State) → IsPlain state → Moves state next → Grows state next
   move_grows state _ h stays = record { is_plain = h; begins = begins_same (output_so_far state) }
   move_grows state _ h (sets features) = record {
     is_plain = record { of = h.of; within = h.within; no_writes = h.no_writes; no_stream = h.no_stream; placed = h.placed };
     begins = subst (Begins (output_so_far state)) (features_apart state.phase state features) (begins_same (output_so_far state));
   }
-  move_grows state _ h (goes mode not_over) = moved_grows state h not_over mode (stop_of mode state) refl
+  move_grows state _ h (holds breaks) = with_breaks state state breaks (record { is_plain = h; begins = begins_same (output_so_far state) })
+  move_grows state _ h (goes mode not_over) = gone_grows state mode (stop_of mode state) (moved_grows state h not_over mode (stop_of mode state) refl)
 
   -- ---- over all commands
 

@@ -1,6 +1,6 @@
 -- What the engine sends, served alone, is whole packets: each text of a session, whatever bytes come, is one of a packet.
-use Rattle.std.proofs.Common.{◌≡◌, ℕ, ◌≤◌, Bool, true, false, if◌then◌else◌, List, [], ◌∷◌, ◌++◌, length, Option, Some, None, refl, sym, ap, subst, ◌∙◌, arith, append_assoc, decimal, nat_le}
-use Rattle.std.specs.Prelude.{◌&&◌, cond, option_and_then, option_map, IfSome}
+use Rattle.std.proofs.Common.{◌≡◌, ℕ, ◌≤◌, Bool, true, false, not, if◌then◌else◌, List, [], ◌∷◌, ◌++◌, length, Option, Some, None, refl, sym, ap, subst, ◌∙◌, arith, append_assoc, decimal, nat_le}
+use Rattle.std.specs.Prelude.{◌&&◌, cond, option_and_then, option_map, IfSome, Result, Ok, Err}
 use Rattle.std.specs.List.{AllByRecursion, flat_map}
 use Rattle.std.specs.Option.{option_map_or}
 use Rattle.std.specs.Str.Parse.{digits_value}
@@ -8,7 +8,11 @@ use Rattle.std.proofs.lemmas.Bool.{leb-true}
 use Rattle.std.proofs.lemmas.Fmt.{length-decimal-le}
 use Rattle.dp_value.specs.Decimals.{decimal_in, is_decimal}
 use Rattle.dp_tree.specs.declared.bundle.Bundle.{Bundle}
-use Rattle.dp_command.specs.declared.command.Command.{Command}
+use Rattle.dp_breakpoint_commands.specs.Commands.{breakpoint_response}
+use Rattle.dp_command.specs.declared.command.BreakpointAction.TheVariants.{Get, Remove}
+use Rattle.dp_command.specs.Tests.{first_code}
+use Rattle.dp_packet.specs.declared.packet.Response.{Response}
+use Rattle.dp_view_commands.specs.Views.{view_response}
 use Rattle.dp_command.specs.declared.command.Continuation.{Continuation}
 use Rattle.dp_command.specs.declared.command.Finish.TheVariants.{Stop, Detach}
 use Rattle.dp_command.specs.declared.command.Request.{Request}
@@ -17,12 +21,12 @@ use Rattle.dp_command.specs.declared.command.StreamMode.{StreamMode}
 use Rattle.dp_command.specs.declared.command.StreamMode.TheVariants.{Disable}
 use Rattle.dp_command.specs.declared.line.Line.{Line}
 use Rattle.dp_command.specs.declared.names.CommandName.{CommandName}
-use Rattle.dp_command.specs.Commands.{command_of, command_as}
+use Rattle.dp_command.specs.Commands.{command_as, request_of}
 use Rattle.dp_command.specs.Letters as letter
 use Rattle.dp_command.specs.Lines.{line_of}
 use Rattle.dp_command.specs.Names.{name_of}
 use Rattle.dp_command.specs.Options.{given}
-use Rattle.dp_command.specs.Refusals.{id_of, is_id, id_in as id_from}
+use Rattle.dp_command.specs.Refusals.{fits_row, id_of, is_id, id_in as id_from}
 use Rattle.dp_command.proofs.Decoded.{back_is, front_is}
 use Rattle.dp_command.proofs.LineLaws.{line_found}
 use Rattle.dp_command.proofs.Short.{values_short}
@@ -31,9 +35,12 @@ use Rattle.dp_features.specs.declared.feature.Feature.TheVariants.{Encoding, Mul
 use Rattle.dp_features.specs.Features.{Features, feature_named, number_in, number_of, setting_named, value_of, with_number}
 use Rattle.dp_packet.specs.Parts.{Text, flag}
 use Rattle.dp_packet.specs.declared.packet.Packet.TheVariants as packet
-use Rattle.dp_packet.proofs.LengthLaws.{packet_some}
+use Rattle.dp_packet.proofs.LengthLaws.{bare_response_short, packet_some}
 use Rattle.dp_serving.specs.Folds.{Reply, unless_ended, replies}
-use Rattle.dp_wire.specs.Frames.{IsCommand, IsPacketText, command_frame, command_limit, commands_in, packet_frame, packets_in, rest_of}
+use Rattle.dp_packet.specs.declared.packet.Body.TheVariants as body
+use Rattle.dp_packet.specs.Packets.{HasMessage}
+use Rattle.dp_packet.specs.Text.{text}
+use Rattle.dp_wire.specs.Frames.{IsCommand, IsPacketText, packet_limit, command_frame, command_limit, commands_in, packet_frame, packets_in, rest_of}
 use Rattle.dp_wire.proofs.PacketLaws.{packets-first}
 use Rattle.dp_wire.proofs.SplitLaws.{commands_split}
 use Rattle.dp_engine.specs.declared.session.SessionEnd.{SessionEnd}
@@ -41,14 +48,19 @@ use Rattle.dp_engine.specs.declared.states.Phase.{Phase}
 use Rattle.dp_engine.specs.declared.states.Phase.TheVariants.{Starting, Break, Stopping}
 use Rattle.dp_engine.specs.declared.states.Reason.{Reason}
 use Rattle.dp_engine.specs.declared.states.Reason.TheVariants as reason
-use Rattle.dp_engine.specs.Answers.{Turn, answer, asked, command_in, continued, feature_told, id_in, moved, performed, set_by, state_response, to_ide, turn, turn_of}
-use Rattle.dp_engine.specs.Refusals.{of_command, refusal_of_line}
-use Rattle.dp_engine.specs.Responses.{init_text, main_name, response_text}
+use Rattle.dp_engine.specs.declared.sides.Side.{Side}
+use Rattle.dp_engine.specs.declared.sides.Side.TheVariants.{Session, Breakpoints, Program}
+use Rattle.dp_engine.specs.Answers.{Turn, answer, asked, command_in, continued, done_on, feature_told, gone_on, id_in, in_packet, moved, response_in, session_done, set_by, state_response, to_ide, turn, turn_of}
+use Rattle.dp_engine.specs.Refusals.{of_command, own_tests, refusal_of_line, row_tests, tests_on}
+use Rattle.dp_engine.specs.Sides.{side_of}
+use Rattle.dp_engine.specs.Responses.{init_text, main_name, response, response_text}
 use Rattle.dp_engine.specs.Served.{AreBytes, alone, answers}
-use Rattle.dp_engine.specs.Session.{State, opening, stop_of, written_between}
+use Rattle.dp_engine.specs.Session.{State, breaks_of, here, opening, program_of, stop_of, written_between}
 use Rattle.dp_engine.specs.inner.Sizes.{Fits, IsShort, IsShortLine, IsShortRequest}
 use Rattle.dp_engine.specs.States.{is_built, phase_name, reason_name}
-use Rattle.dp_engine.proofs.Fitting.{command_short, fault_fits, feature_fits_if, init_fits, refusal_is_code, set_fits, status_fits}
+use Rattle.dp_engine.proofs.Fitting.{fault_fits, feature_fits_if, init_fits, refusal_is_code, request_short, set_fits, status_fits}
+use Rattle.dp_view_commands.proofs.Sent.{code as shows_code, sent as shows}
+use Rattle.dp_engine.proofs.Refusing.{built, passed}
 
 -- ---- lines
 
@@ -197,16 +209,18 @@ record IsGood (t : Turn) : Type 0 where
   next : IsUsual t.next
 
 module _ (command id : Text) (p : length command ≤ 64) (q : length id ≤ 64) (state : State) (h : IsUsual state) where
-  moved_usual : (stop : Option ℕ) → IsUsual (moved state stop)
-  moved_usual None = record { quiet = h.quiet; small = h.small }
-  moved_usual (Some n) = record { quiet = h.quiet; small = h.small }
+  gone_usual : (mode : Continuation) → IsUsual (gone_on mode state)
+  gone_usual mode = by (stop_of mode state) where
+    by : (stop : Option ℕ) → IsUsual (moved (record state { breaks = breaks_of mode state }) stop)
+    by None = record { quiet = h.quiet; small = h.small }
+    by (Some n) = record { quiet = h.quiet; small = h.small }
 
   tells : (s : State) → Fits (state_response command id s)
   tells s = status_fits command id p q (phase_name s.phase) (reason_name s.reason) (phase_short s.phase) (reason_short s.reason)
 
   continued_good : (mode : Continuation) (phase : Phase) → IsGood (continued command id mode phase state)
-  continued_good mode Starting = record { fits = tells (moved state (stop_of mode state)); next = moved_usual (stop_of mode state) }
-  continued_good mode Break = record { fits = tells (moved state (stop_of mode state)); next = moved_usual (stop_of mode state) }
+  continued_good mode Starting = record { fits = tells (gone_on mode state); next = gone_usual mode }
+  continued_good mode Break = record { fits = tells (gone_on mode state); next = gone_usual mode }
   continued_good mode Stopping = record { fits = status_fits command id p q _ _ (omega arith) (omega arith); next = h }
 
   told_good : (name : Text) → length name ≤ 1048576 → Fits (feature_told command id name state)
@@ -214,26 +228,50 @@ module _ (command id : Text) (p : length command ≤ 64) (q : length id ≤ 64) 
       feature_fits_if command id p q name _ _ few (flag_short (option_map_or (λ feature. true) (feature_named name) (of_command is_built (name_of name))))
       (told_short state.features (feature_named name) h.small)
 
-  performed_good : (r : Request) → IsShortRequest r → IsGood (performed command id r state)
-  performed_good request.Status few = record { fits = tells state; next = h }
-  performed_good (request.FeatureGet name) few = record { fits = told_good name few; next = h }
-  performed_good (request.FeatureSet name value) few = record {
+  session_good : (r : Request) → IsShortRequest r → IsGood (session_done command id r state)
+  session_good request.Status few = record { fits = tells state; next = h }
+  session_good (request.FeatureGet name) few = record { fits = told_good name few; next = h }
+  session_good (request.FeatureSet name value) few = record {
     fits = set_fits command id p q name few;
     next = record { quiet = h.quiet; small = set_small state.features name value h.small };
   }
-  performed_good (request.Continue mode) few = continued_good mode state.phase
-  performed_good (request.Finish Stop) few = record { fits = status_fits command id p q _ _ (omega arith) (omega arith); next = h }
-  performed_good (request.Finish Detach) few = record { fits = status_fits command id p q _ _ (omega arith) (omega arith); next = h }
-  performed_good r few = record { fits = fault_fits command id p q 4 (refl, omega arith); next = h }
+  session_good (request.Continue mode) few = continued_good mode state.phase
+  session_good (request.Finish Stop) few = record { fits = status_fits command id p q _ _ (omega arith) (omega arith); next = h }
+  session_good (request.Finish Detach) few = record { fits = status_fits command id p q _ _ (omega arith) (omega arith); next = h }
+  session_good r few = record { fits = fault_fits command id p q 4 (refl, omega arith); next = h }
+
+  -- a response to a breakpoint command
+  breakpoint_known : (r : Request) → HasMessage (packet.Response (breakpoint_response state.bundle command id state.breaks r))
+  breakpoint_known (request.BreakpointSet set) = refl
+  breakpoint_known (request.Breakpoint Get number) = refl
+  breakpoint_known (request.Breakpoint Remove number) = refl
+  breakpoint_known request.BreakpointList = refl
+  breakpoint_known other = refl
+
+  in_packet_fits : (r : Response) → HasMessage (packet.Response r) → Fits (in_packet command id r)
+  unfolding response_text
+  in_packet_fits r known = by (nat_le (length (text (packet.Response r))) packet_limit) refl where
+    by : (b : Bool) → nat_le (length (text (packet.Response r))) packet_limit ≡ b → Fits (if b then r else response command id [] body.Nothing)
+    by true e = record { known = known; short = leb-true (length (text (packet.Response r))) packet_limit e }
+    by false e = record { known = refl; short = omega (arith, bare_response_short command id []) }
+
+  shown_fits : (r : Request) → (made : Result Response ℕ) → view_response state.bundle (here state) state.features (program_of state) command id r ≡ made → Fits (response_in command id made)
+  unfolding response_text
+  shown_fits r (Ok response) e =
+      let sent = shows state.bundle (here state) state.features (program_of state) command id r response e in record { known = sent.known; short = sent.short }
+  shown_fits r (Err code) e = fault_fits command id p q code (shows_code state.bundle (here state) state.features (program_of state) command id r code e)
+
+  done_good : (side : Side) (r : Request) → first_code (tests_on side state command id r) ≡ None → IsShortRequest r → IsGood (done_on side command id r state)
+  done_good Session r e few = session_good r few
+  done_good Breakpoints r e few = record { fits = in_packet_fits _ (breakpoint_known r); next = record { quiet = h.quiet; small = h.small } }
+  done_good Program r e few = record { fits = shown_fits r _ refl; next = h }
 
 module _ (state : State) (h : IsUsual state) where
-  asked_good : (line : Line) → IsShort line → (c : Option Command) → command_of line ≡ c → IsGood (asked line.name (id_of line) c state)
-  asked_good line few None e = record { fits = fault_fits line.name (id_of line) few.name (line_id_short (Some line)) 4 (refl, omega arith); next = h }
-  asked_good line few (Some c) e =
-      performed_good line.name c.id few.name (id_is_short (name_of line.name) c e) state h c.request (command_short line c few e) where
-        id_is_short : (name : Option CommandName) (c : Command) → option_map (command_as line) name ≡ Some c → length c.id ≤ 64
-        id_is_short None c e = absurd cc
-        id_is_short (Some name) c e = let same : id_of line ≡ c.id = cc in subst (λ (i : Text). length i ≤ 64) same (line_id_short (Some line))
+  asked_good : (line : Line) → IsShort line → (name : Option CommandName) → first_code (option_map_or (row_tests state line) name []) ≡ None
+      → ((n : CommandName) → name ≡ Some n → IsShortRequest (request_of n line)) → IsGood (asked line.name (id_of line) (option_map (command_as line) name) state)
+  asked_good line few None e short = record { fits = fault_fits line.name (id_of line) few.name (line_id_short (Some line)) 4 (refl, omega arith); next = h }
+  asked_good line few (Some name) e short =
+      done_good line.name (id_of line) few.name (line_id_short (Some line)) state h (side_of (request_of name line)) (request_of name line) (passed (not (fits_row name line)) 3 (own_tests state line.name (id_of line) (request_of name line)) e).1 (short name refl)
 
   turn_good : (line : Option Line) → IsShortLine line → (code : Option ℕ) → refusal_of_line state line ≡ code → IsGood (turn_of line code state)
   turn_good line few (Some code) e = record {
@@ -241,7 +279,7 @@ module _ (state : State) (h : IsUsual state) where
     next = h;
   }
   turn_good None few None e = absurd cc
-  turn_good (Some line) few None e = asked_good line few (command_of line) refl
+  turn_good (Some line) few None e = asked_good line few (name_of line.name) (built state line e).1 (λ name n. request_short line name few)
 
   is_good : (bytes : List ℕ) → IsSpoken bytes → IsGood (turn state bytes)
   unfolding turn

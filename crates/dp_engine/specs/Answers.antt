@@ -1,7 +1,8 @@
 -- What one command leads to in a session: DBGp 1.0, "status", "Options and Configuration",
 -- "Continuation Commands".
-use Rattle.std.specs.Prelude.{ℕ, true, List, [], ◌∷◌, ◌++◌, Option, Some, None, option_map, option_and_then, codes}
+use Rattle.std.specs.Prelude.{ℕ, nat_le, true, if◌then◌else◌, List, length, [], ◌∷◌, ◌++◌, Option, Some, None, Result, Ok, Err, option_map, option_and_then, codes}
 use Rattle.std.specs.Option.{option_map_or}
+use Rattle.dp_breakpoint_commands.specs.Commands.{breakpoint_response, breakpoint_table}
 use Rattle.dp_command.specs.declared.command.Command.{Command}
 use Rattle.dp_command.specs.declared.command.Continuation.{Continuation}
 use Rattle.dp_command.specs.declared.command.Finish.TheVariants.{Stop, Detach}
@@ -16,17 +17,23 @@ use Rattle.dp_command.specs.Names.{name_of}
 use Rattle.dp_command.specs.Refusals.{id_of}
 use Rattle.dp_features.specs.declared.feature.Feature.{Feature}
 use Rattle.dp_features.specs.Features.{Features, feature_named, setting_named, value_of, with_setting}
+use Rattle.dp_packet.specs.declared.packet.Body.TheVariants as body
 use Rattle.dp_packet.specs.declared.packet.Response.{Response}
 use Rattle.dp_packet.specs.Parts.{Text, flag}
 use Rattle.dp_serving.specs.Folds.{Reply}
+use Rattle.dp_view_commands.specs.Views.{view_response}
+use Rattle.dp_wire.specs.Frames.{packet_limit}
 use Rattle.dp_engine.specs.declared.session.SessionEnd.{SessionEnd}
 use Rattle.dp_engine.specs.declared.session.SessionEnd.TheVariants.{Finished, Killed, Detached}
+use Rattle.dp_engine.specs.declared.sides.Side.{Side}
+use Rattle.dp_engine.specs.declared.sides.Side.TheVariants.{Session, Breakpoints, Program}
 use Rattle.dp_engine.specs.declared.states.Phase.{Phase}
 use Rattle.dp_engine.specs.declared.states.Phase.TheVariants.{Starting, Break, Stopping}
 use Rattle.dp_engine.specs.declared.states.Reason.TheVariants as reason
 use Rattle.dp_engine.specs.Refusals.{refusal_of_line, of_command}
-use Rattle.dp_engine.specs.Responses.{response_text, status_response, feature_response, set_response, fault_response, streams}
-use Rattle.dp_engine.specs.Session.{State, outcome_of, stop_of, written_between}
+use Rattle.dp_engine.specs.Responses.{response, response_text, status_response, feature_response, set_response, fault_response, streams}
+use Rattle.dp_engine.specs.Session.{State, breaks_of, here, outcome_of, program_of, stop_of, written_between}
+use Rattle.dp_engine.specs.Sides.{side_of}
 use Rattle.dp_engine.specs.States.{phase_name, reason_name, reason_of, is_built}
 
 -- What a command leads to: its response, what the session knows then, and how it has ended, if it
@@ -63,9 +70,13 @@ state_response command id state =
 abbrev pub stopped_response : Text → Text → Response
 stopped_response command id = status_response command id (codes "stopped") (codes "ok")
 
+-- the same, with the breakpoints that are held then
+abbrev pub gone_on : Continuation → State → State
+gone_on mode state = moved (record state { breaks = breaks_of mode state }) (stop_of mode state)
+
 abbrev pub advanced : Text → Text → Continuation → State → Turn
 advanced command id mode state =
-    let next = moved state (stop_of mode state) in goes_on (state_response command id next) next
+    let next = gone_on mode state in goes_on (state_response command id next) next
 
 -- once the program has ended, going on ends the session
 abbrev pub continued : Text → Text → Continuation → Phase → State → Turn
@@ -120,22 +131,60 @@ feature_put command id name value state =
     goes_on (set_response command id name)
     (record state { features = set_by (setting_named name value) state.features })
 
+-- ---- breakpoints, and a look at the program
+
+-- a response, if a packet has room for it; one to a breakpoint command always finds room
+abbrev pub in_packet : Text → Text → Response → Response
+in_packet command id r =
+    if nat_le (length (response_text r)) packet_limit then r
+    else response command id [] body.Nothing
+
+-- the breakpoints are as the command makes them
+abbrev pub breakpoints_done : Text → Text → Request → State → Turn
+breakpoints_done command id r state =
+    goes_on
+    (in_packet command id (breakpoint_response state.bundle command id state.breaks r))
+    (record state { breaks = breakpoint_table state.bundle (here state) r state.breaks })
+
+-- what is shown, or why it is not
+abbrev pub response_in : Text → Text → Result Response ℕ → Response
+response_in command id (Ok shown) = shown
+response_in command id (Err code) = fault_response command id code
+
+-- nothing changes
+abbrev pub shown : Text → Text → Request → State → Turn
+shown command id r state =
+    goes_on
+    (response_in command id
+    (view_response state.bundle (here state) state.features (program_of state) command id r))
+    state
+
 -- ---- commands
 
 -- a refused command changes nothing
 abbrev pub refused : Text → Text → ℕ → State → Turn
 refused command id code state = goes_on (fault_response command id code) state
 
--- what a command of this name and id asks for is done; what is not built is refused before
-abbrev pub performed : Text → Text → Request → State → Turn
-performed command id request.Status state = goes_on (state_response command id state) state
-performed command id (request.FeatureGet name) state =
+-- what is answered from the session is done; what is not built is refused before
+abbrev pub session_done : Text → Text → Request → State → Turn
+session_done command id request.Status state = goes_on (state_response command id state) state
+session_done command id (request.FeatureGet name) state =
     goes_on (feature_told command id name state) state
-performed command id (request.FeatureSet name value) state = feature_put command id name value state
-performed command id (request.Continue mode) state = continued command id mode state.phase state
-performed command id (request.Finish Stop) state = stopped command id state
-performed command id (request.Finish Detach) state = detached command id state
-performed command id other state = refused command id 4 state
+session_done command id (request.FeatureSet name value) state =
+    feature_put command id name value state
+session_done command id (request.Continue mode) state = continued command id mode state.phase state
+session_done command id (request.Finish Stop) state = stopped command id state
+session_done command id (request.Finish Detach) state = detached command id state
+session_done command id other state = refused command id 4 state
+
+abbrev pub done_on : Side → Text → Text → Request → State → Turn
+done_on Session command id r state = session_done command id r state
+done_on Breakpoints command id r state = breakpoints_done command id r state
+done_on Program command id r state = shown command id r state
+
+-- what a command of this name and id asks for is done
+abbrev pub performed : Text → Text → Request → State → Turn
+performed command id r state = done_on (side_of r) command id r state
 
 -- the name that a response repeats; empty where the bytes spell no line
 abbrev pub command_in : Option Line → Text

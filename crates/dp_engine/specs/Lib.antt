@@ -1,4 +1,4 @@
-pub mod Stops
+pub mod Sides
 pub mod States
 pub mod Session
 pub mod Responses

@@ -1,7 +1,8 @@
 -- Why a command is refused in a session: the codes of DBGp 1.0, "Errors". Which case gives which
 -- code, and their order, are this engine's own.
-use Rattle.std.specs.Prelude.{ℕ, Bool, false, not, List, [], ◌∷◌, Option, Some, None, is_none}
+use Rattle.std.specs.Prelude.{ℕ, Bool, true, false, not, List, [], ◌∷◌, Option, Some, None, is_none}
 use Rattle.std.specs.Option.{option_map_or}
+use Rattle.dp_breakpoint_commands.specs.Commands.{breakpoint_refusal}
 use Rattle.dp_command.specs.declared.line.Line.{Line}
 use Rattle.dp_command.specs.declared.names.CommandName.{CommandName}
 use Rattle.dp_command.specs.declared.command.Request.{Request}
@@ -9,27 +10,51 @@ use Rattle.dp_command.specs.declared.command.Request.TheVariants as request
 use Rattle.dp_command.specs.Commands.{request_of}
 use Rattle.dp_command.specs.Lines.{line_of}
 use Rattle.dp_command.specs.Names.{name_of}
-use Rattle.dp_command.specs.Refusals.{coded, fits_row}
+use Rattle.dp_command.specs.Refusals.{coded, fits_row, id_of}
 use Rattle.dp_command.specs.declared.errors.Refusal.TheVariants.{Duplicate, Unimplemented, NoId}
 use Rattle.dp_command.specs.Tests.{Test, first_code}
 use Rattle.dp_features.specs.Features.{is_other_encoding, setting_named}
-use Rattle.dp_engine.specs.Session.{State}
+use Rattle.dp_packet.specs.Parts.{Text}
+use Rattle.dp_view_commands.specs.Views.{view_refusal}
+use Rattle.dp_engine.specs.declared.sides.Side.{Side}
+use Rattle.dp_engine.specs.declared.sides.Side.TheVariants.{Session, Breakpoints, Program}
+use Rattle.dp_engine.specs.Session.{State, here, program_of}
+use Rattle.dp_engine.specs.Sides.{side_of}
 use Rattle.dp_engine.specs.States.{allows, is_built}
 
 -- it holds of the command that this name names; of no command it does not
 abbrev pub of_command : (CommandName → Bool) → Option CommandName → Bool
 of_command test name = option_map_or test name false
 
--- the tests that a command has for itself, by what it asks for
-abbrev pub own_tests : State → Request → List Test
-own_tests state (request.FeatureSet name value) =
+-- a code that was found by a definition of its own is that of a test that holds
+abbrev pub tests_for : Option ℕ → List Test
+tests_for None = []
+tests_for (Some code) = (true, code) ∷ []
+
+-- the tests of a request that is answered from the session
+abbrev pub session_tests : Request → List Test
+session_tests (request.FeatureSet name value) =
     (is_other_encoding name value, 900) ∷ (is_none (setting_named name value), 3) ∷ []
-own_tests state request = []
+session_tests other = []
+
+abbrev pub tests_on : Side → State → Text → Text → Request → List Test
+tests_on Session state command id r = session_tests r
+tests_on Breakpoints state command id r =
+    tests_for (breakpoint_refusal state.bundle (here state) state.breaks r)
+tests_on Program state command id r =
+    tests_for
+    (view_refusal state.bundle (here state) state.features (program_of state) command id r)
+
+-- The tests that a command has for itself, by what it asks for. What it shows may be too long for a
+-- packet, so its name and id have a part.
+abbrev pub own_tests : State → Text → Text → Request → List Test
+own_tests state command id r = tests_on (side_of r) state command id r
 
 -- the tests of the row of a command, and its own
 abbrev pub row_tests : State → Line → CommandName → List Test
 row_tests state line name =
-    (not (fits_row name line), 3) ∷ own_tests state (request_of name line)
+    (not (fits_row name line), 3)
+    ∷ own_tests state line.name (id_of line) (request_of name line)
 
 -- the tests of a line in a session, in their order: the first three are those in which neither the
 -- session nor the row of the command has a part

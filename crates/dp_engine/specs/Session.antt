@@ -1,24 +1,28 @@
 -- What a session of the engine with one IDE knows.
-use Rattle.std.specs.Prelude.{ℕ, List, [], length, drop, Option}
+use Rattle.std.specs.Prelude.{ℕ, List, [], length, drop, Option, unwrap_or}
 use Rattle.std.specs.Option.{option_map_or}
 use Rattle.dp_tree.specs.declared.bundle.Bundle.{Bundle}
+use Rattle.dp_break.specs.Tables.{Table, empty}
 use Rattle.dp_command.specs.declared.command.Continuation.{Continuation}
 use Rattle.dp_command.specs.declared.command.StreamMode.{StreamMode}
 use Rattle.dp_command.specs.declared.command.StreamMode.TheVariants.{Disable}
+use Rattle.dp_continuation.specs.Going.{stop_past, table_past}
+use Rattle.dp_continuation.specs.Stops.{depth_of, stops}
 use Rattle.dp_features.specs.Features.{Features, defaults}
 use Rattle.dp_meaning.specs.declared.signal.Signal.{Signal}
 use Rattle.dp_meaning.specs.declared.writing.NumberedWrite.{NumberedWrite}
 use Rattle.dp_meaning.specs.Trace.{Trace, moment_at, now, outcome, output, program_trace}
 use Rattle.dp_state.specs.declared.moments.Outcome.{Outcome}
+use Rattle.dp_state.specs.declared.state.State.{State as Program}
+use Rattle.dp_state.specs.States.{file_of, opening as first_state}
 use Rattle.dp_engine.specs.declared.states.Phase.{Phase}
 use Rattle.dp_engine.specs.declared.states.Phase.TheVariants.{Starting, Break, Stopping}
 use Rattle.dp_engine.specs.declared.states.Reason.{Reason}
 use Rattle.dp_engine.specs.declared.states.Reason.TheVariants as reason
-use Rattle.dp_engine.specs.Stops.{stops, stop_above, depth_of}
 
 -- The program and the bound of its moments, the writes that were accepted, the number of the
--- current moment (0 before the first), the state and the reason last given, the features, and where
--- output goes.
+-- current moment (0 before the first), the state and the reason last given, the features, where
+-- output goes, and the breakpoints that are held.
 pub record State : Type 0 where
   pub bundle : Bundle
   pub bound : ℕ
@@ -28,6 +32,7 @@ pub record State : Type 0 where
   pub reason : Reason
   pub features : Features
   pub stdout : StreamMode
+  pub breaks : Table
 
 -- what it begins with
 abbrev pub opening : Bundle → ℕ → State
@@ -40,6 +45,7 @@ opening bundle bound = record {
   reason = reason.Ok;
   features = defaults;
   stdout = Disable;
+  breaks = empty;
 }
 
 -- ---- the program's run, with the writes
@@ -76,8 +82,39 @@ written_between state next = drop (length (output_so_far state)) (output_so_far 
 abbrev pub unwritten : State → List ℕ
 unwritten state = drop (length (output_so_far state)) (whole_output state)
 
+-- ---- going on
+
+-- the depth at the current moment
+abbrev pub depth_at : State → ℕ
+depth_at state = depth_of (moment_at (trace_of state) state.moment)
+
 -- the moment at which the program stops when it goes on from here, if it stops
 abbrev pub stop_of : Continuation → State → Option ℕ
 stop_of mode state =
-    let t = trace_of state in
-    stop_above (stops mode (depth_of (moment_at t state.moment))) state.moment t.moments
+    stop_past (stops mode (depth_at state)) state.bundle state.bound state.writes state.breaks.held
+    state.moment
+
+-- the breakpoints that are held then, with their hits
+abbrev pub breaks_of : Continuation → State → Table
+breaks_of mode state =
+    table_past (stops mode (depth_at state)) state.bundle state.bound state.writes state.breaks
+    state.moment
+
+-- ---- the program's state
+
+-- at the current moment
+abbrev pub program_at : State → Program
+program_at state =
+    unwrap_or (now state.bundle state.bound state.writes state.moment) (first_state state.bundle)
+
+abbrev pub program_by : Phase → State → Program
+program_by Starting state = program_at state
+program_by Break state = program_at state
+program_by Stopping state = (trace_of state).state
+
+abbrev pub program_of : State → Program
+program_of state = program_by state.phase state
+
+-- the number of the file of its top frame
+abbrev pub here : State → ℕ
+here state = file_of (program_of state)

@@ -70,13 +70,8 @@ allows phase Eval = at_moment phase
 
 -- the commands that are built; each other answers as one that is not known
 abbrev pub is_built : CommandName → Bool
-is_built Status = true
-is_built FeatureGet = true
-is_built FeatureSet = true
-is_built Run = true
-is_built StepInto = true
-is_built StepOver = true
-is_built StepOut = true
-is_built Stop = true
-is_built Detach = true
-is_built name = false
+is_built PropertySet = false
+is_built Stdout = false
+is_built Stderr = false
+is_built Eval = false
+is_built name = true

@@ -1,12 +1,12 @@
 //! One session of the engine with an IDE, and serving it over a link.
 #![tactic(auto)]
 
-mod arrivals;
 mod laws;
 mod refusals;
 mod responses;
 mod serving;
 mod session;
+mod sides;
 mod states;
 mod steps;
 mod turns;

@@ -2,17 +2,16 @@
 ghost use Rattle.std.specs.Prelude.{◌≡◌, ◌∷◌, [], is_none};
 ghost use Rattle.dp_command.specs.Tests.{first_code};
 ghost use Rattle.dp_features.specs.Features.{is_other_encoding, setting_named};
-ghost use Rattle.dp_engine.specs.Refusals.{own_tests};
-ghost use Rattle.dp_engine.specs.inner.Turns.{Asks, AsksRow};
+ghost use Rattle.dp_engine.specs.inner.Turns.{Asks};
 
 use crate::session::Session;
 use crate::states::is_built as built;
-use dp_command::{Command, CommandError, CommandName, Line, Request};
+use dp_command::{Command, CommandError, CommandName, Line};
 use dp_features::Setting;
 use std::alloc::Global;
 
-/// Why a feature is not set to a value.
-fn feature_refusal(name: &[u8], value: &[u8]) -> Option<u16>
+/// Why a feature is not set to a value. Takes no memory.
+pub fn feature_refusal(name: &[u8], value: &[u8]) -> Option<u16>
     ensures { result ≡ first_code ((is_other_encoding name.now value.now, 900)
         ∷ (is_none (setting_named name.now value.now), 3) ∷ []) }
 {
@@ -26,35 +25,9 @@ fn feature_refusal(name: &[u8], value: &[u8]) -> Option<u16>
 }
 
 impl<'a> Session<'a> {
-    /// The code of the first test that a command has for itself and that holds. Takes no memory.
-    fn own_refusal(&self, request: &Request) -> Option<u16>
-        ensures { result ≡ first_code (own_tests self.now request.now) }
-    {
-        match request {
-            Request::FeatureSet { name, value } => {
-                feature_refusal(name.as_slice(), value.as_slice())
-            }
-            _ => None,
-        }
-    }
-
-    /// What a line asks for that may stand in its row, or why it is refused.
-    fn ask_row(
-        &self,
-        alloc: Global,
-        line: &Line,
-        name: CommandName,
-    ) -> Result<Command, CommandError>
-        ensures { AsksRow self.now line.now name result }
-    {
-        let command = Command::read(alloc, line, name)?;
-        match self.own_refusal(&command.request) {
-            Some(code) => Err(CommandError::Code(code)),
-            None => Ok(command),
-        }
-    }
-
-    /// What a line asks for, or the code of its first refusal. What is tested before its row takes no memory.
+    /// What a line asks for, or the code of the first refusal that is none of the command's own. What is tested before its
+    /// row takes no memory.
+    #[tactic(auto, using(crate::proofs::Turning::read_asks, crate::proofs::Turning::unadmitted))]
     pub(crate) fn ask(&self, alloc: Global, line: &Line) -> Result<Command, CommandError>
         ensures { Asks self.now line.now result }
     {
@@ -68,6 +41,6 @@ impl<'a> Session<'a> {
         if !self.standing.phase().allows(name) {
             return Err(CommandError::Code(5));
         }
-        self.ask_row(alloc, line, name)
+        Command::read(alloc, line, name)
     }
 }

@@ -1,17 +1,20 @@
 //! One session of the engine with an IDE.
-ghost use Rattle.std.specs.Prelude.{◌≡◌, ◌≤◌, ◌∷◌, [], drop, length, IfOk};
+ghost use Rattle.std.specs.Prelude.{◌≡◌, ◌≤◌, ◌∷◌, [], drop, length, map, IfOk};
 ghost use Rattle.std.specs.List.{AllByRecursion};
 ghost use Rattle.dp_wire.specs.Frames.{IsCommand, IsPacketText};
 ghost use Rattle.dp_engine.specs.Responses.{init_text, main_name};
 ghost use Rattle.dp_engine.specs.inner.Sizes.{IsShortLine};
 ghost use Rattle.dp_command.specs.declared.command.StreamMode.TheVariants.{Disable};
 ghost use Rattle.dp_command.specs.Lines.{line_of};
+ghost use Rattle.dp_continuation.specs.Going.{program_in};
+ghost use Rattle.dp_tree.specs.FileNames.{AreFileNames};
 
-use crate::arrivals::{Arrival, run_out};
 use crate::states::Standing;
 use crate::steps::Steps;
 use crate::turns::{Step, Turn};
+use dp_break::Breaks;
 use dp_command::{Line, LineError, read_line};
+use dp_continuation::{Arrival, run_out};
 use dp_features::Features;
 use dp_packet::{Init, Packet, file_uri, text_of};
 use dp_serving::Responder;
@@ -50,25 +53,31 @@ pub struct Session<'a> {
     pub(crate) features: Features,
     /// The program's state at the moment, and the last one after its end.
     pub(crate) program: State,
+    pub(crate) breaks: Breaks,
     pub(crate) alloc: Global,
 }
 
 impl<'a> Model for Session<'a> {
     ghost use Rattle.std.specs.Coded.{codes};
+    ghost use Rattle.std.specs.Prelude.{map};
+    ghost use Rattle.dp_break.specs.Tables.{table_code};
+    ghost use Rattle.dp_state.specs.States.{IsOf};
+    ghost use Rattle.dp_tree.specs.FileNames.{AreFileNames};
     ghost use Rattle.dp_tree.specs.contracts.bundle.Bundle as bundle_type;
     ghost use Rattle.dp_meaning.specs.contracts.writing.NumberedWrite as write_type;
     ghost use Rattle.dp_engine.specs.Session.{State as Known};
 
     ghost Value = { Known };
 
-    ghost coded = { Prim.hlevel (codes, bundle_type.the_row.coded, write_type.the_row.coded) };
+    ghost coded = { Prim.hlevel (codes, bundle_type.the_row.coded, write_type.the_row.coded, table_code) };
 
     ghost use Rattle.dp_engine.specs.inner.Standing.{known, IsAt, IsDeep};
 
-    ghost view = { λ s. known s.bundle.now s.bound s.moment s.standing s.features };
+    ghost view = { λ s. known s.bundle.now s.bound s.moment s.standing s.features s.breaks };
 
     ghost invariant = { λ s. IsAt s.standing s.bundle.now s.bound s.moment s.program
-        × IsDeep s.bundle.now s.bound s.moment s.depth };
+        × IsDeep s.bundle.now s.bound s.moment s.depth
+        × AreFileNames (map (λ f. f.name) s.bundle.now.files) × IsOf s.bundle.now s.program };
 }
 
 /// The line that the bytes spell, if they spell one.
@@ -105,7 +114,8 @@ impl<'a> Session<'a> {
 
     /// A session over a program that may have so many moments, in the state starting, and the text of its first packet.
     ///
-    /// The key has at most 128 bytes, the name of the main file at most 255.
+    /// The key has at most 128 bytes, and the files of the program have names of files.
+    #[tactic(auto, using(crate::proofs::Fitting::main_short, crate::proofs::Turning::opened))]
     pub fn begin(
         alloc: Global,
         bundle: &'a Bundle,
@@ -113,7 +123,7 @@ impl<'a> Session<'a> {
         bound: u64,
     ) -> Result<(Session<'a>, Bytes), Memory>
         requires key { length key.now ≤ 128 }
-        requires name { length (main_name bundle.now) ≤ 255 }
+        requires names { AreFileNames (map (λ f. f.name) bundle.now.files) }
         ensures opening { IfOk result (λ begun. begun.0 ≡ opening bundle.now bound) }
         ensures text { IfOk result (λ begun. begun.1 ≡ init_text bundle.now key.now) }
         ensures is_text { IfOk result (λ begun. IsPacketText begun.1) }
@@ -128,6 +138,7 @@ impl<'a> Session<'a> {
             standing: Standing::Starting,
             features: Features::new(),
             program,
+            breaks: Breaks::new(alloc),
             alloc,
         };
         Ok((session, init))
@@ -186,7 +197,7 @@ impl<'a> Session<'a> {
         ensures { result.now ≡ output_so_far (after step.now self.now) }
     {
         match step {
-            Step::Come(arrival) => arrival.output(),
+            Step::Come(arrival) => output(arrival),
             Step::Set(_) => self.program.output.as_slice(),
             Step::Stay => self.program.output.as_slice(),
         }
@@ -251,10 +262,20 @@ impl<'a> Session<'a> {
         if let Standing::Stopping(outcome) = self.standing {
             return Ok((Bytes::of(Vec::new(self.alloc)), outcome));
         }
-        let (outcome, program) = run_out(self.alloc, self.bundle, self.bound)?;
+        let (outcome, program) = run_out(self.alloc, self.bundle, &[], self.bound)?;
         let before = self.program.output.len();
         let rest = Bytes::from_slice(self.alloc, tail(program.output.as_slice(), before))?;
         Ok((rest, outcome))
+    }
+}
+
+/// What a program has written where it has come to.
+fn output(arrival: &Arrival) -> &[u8]
+    ensures { result.now ≡ (program_in arrival.now).output }
+{
+    match arrival {
+        Arrival::Moment { program, .. } => program.output.as_slice(),
+        Arrival::End { program, .. } => program.output.as_slice(),
     }
 }
 

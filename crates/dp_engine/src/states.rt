@@ -1,9 +1,10 @@
 //! The states of a session, their reasons, and which commands they allow.
 ghost use Rattle.std.specs.Prelude.{◌≡◌, ◌≤◌, length};
-ghost use Rattle.dp_engine.specs.inner.Standing.{phase_of, reason_at};
+ghost use Rattle.dp_engine.specs.inner.Standing.{phase_of, reason_at, standing_in};
 ghost use Rattle.dp_engine.specs.States as spec;
 
 use dp_command::CommandName;
+use dp_continuation::Arrival;
 use dp_state::Outcome;
 
 /// The state of a session: DBGp 1.0, "status".
@@ -36,6 +37,16 @@ pub enum Standing {
 }
 
 impl Standing {
+    /// How a session stands where its program has come to.
+    pub fn at(arrival: &Arrival) -> Standing
+        ensures { result ≡ standing_in arrival.now }
+    {
+        match arrival {
+            Arrival::Moment { .. } => Standing::Break,
+            Arrival::End { outcome, .. } => Standing::Stopping(*outcome),
+        }
+    }
+
     pub fn phase(self) -> Phase
         ensures { result ≡ phase_of self }
     {
@@ -161,15 +172,10 @@ pub fn is_built(name: CommandName) -> bool
     ensures { result ≡ spec.is_built name }
 {
     match name {
-        CommandName::Status => true,
-        CommandName::FeatureGet => true,
-        CommandName::FeatureSet => true,
-        CommandName::Run => true,
-        CommandName::StepInto => true,
-        CommandName::StepOver => true,
-        CommandName::StepOut => true,
-        CommandName::Stop => true,
-        CommandName::Detach => true,
-        _ => false,
+        CommandName::PropertySet => false,
+        CommandName::Stdout => false,
+        CommandName::Stderr => false,
+        CommandName::Eval => false,
+        _ => true,
     }
 }

@@ -1,21 +1,26 @@
 //! What commands lead to.
-ghost use Rattle.std.specs.Prelude.{◌≡◌, ◌≤◌, length, IfOk, None, Some};
+ghost use Rattle.std.specs.Prelude.{◌≡◌, ◌≤◌, length, IfOk, None, OnOk, Some};
 ghost use Rattle.dp_command.specs.Names.{name_of};
 ghost use Rattle.dp_features.specs.Features.{feature_named};
 ghost use Rattle.dp_packet.specs.Parts.{flag};
 ghost use Rattle.dp_engine.specs.Refusals.{of_command, refusal_of_line};
 ghost use Rattle.dp_engine.specs.States.{is_built};
-ghost use Rattle.dp_engine.specs.inner.Sizes.{IsCode, IsShort, IsShortLine, IsShortRequest};
+ghost use Rattle.dp_engine.specs.Sides.{side_of};
+ghost use Rattle.dp_engine.specs.inner.Sizes.{Fits, IsCode, IsShort, IsShortLine, IsShortRequest};
+ghost use Rattle.dp_engine.specs.inner.Turns.{Tells};
 
-use crate::arrivals::{Arrival, go_on};
+use crate::refusals::feature_refusal;
 use crate::responses;
 use crate::session::{Session, SessionEnd};
+use crate::sides::Side;
 use crate::states::{Standing, is_built as built};
-use dp_command::{
-    Addressee, Command, CommandError, CommandName, Continuation, Finish, Line, Request,
-};
+use dp_breakpoint_commands::{BreakpointError, answer_breakpoints};
+use dp_command::{Addressee, CommandError, CommandName, Continuation, Finish, Line, Request};
+use dp_continuation::{Arrival, go_on};
 use dp_features::{Feature, Features, Setting};
+use dp_packet::Response;
 use dp_value::{Bytes, Memory};
+use dp_view_commands::{ViewError, view_response};
 use std::alloc::Global;
 
 /// What one command leads to, before anything has changed.
@@ -51,12 +56,13 @@ fn stay(text: Bytes) -> Turn
 
 impl<'a> Session<'a> {
     ghost use Rattle.dp_engine.specs.Answers as spec;
-    ghost use Rattle.dp_engine.specs.inner.Turns.{IsTurn};
+    ghost use Rattle.dp_engine.specs.inner.Turns.{answered, HasOwnBreaks, IsTurn};
 
     /// What a line leads to, or bytes that spell no line.
-    pub(crate) fn turn(&self, alloc: Global, line: Option<Line>) -> Result<Turn, Memory>
+    pub(crate) fn turn(&mut self, alloc: Global, line: Option<Line>) -> Result<Turn, Memory>
         requires { IsShortLine line }
-        ensures { IfOk result (IsTurn (spec.turn_of line (refusal_of_line self.now line) self.now) self.now) }
+        ensures turn { IfOk result (IsTurn (spec.turn_of line (refusal_of_line self.old line) self.old) self.new) }
+        ensures kept { OnOk result (HasOwnBreaks self.old self.new) }
     {
         match line {
             Some(line) => self.turn_on(alloc, &line),
@@ -65,13 +71,14 @@ impl<'a> Session<'a> {
     }
 
     /// What a line leads to.
-    fn turn_on(&self, alloc: Global, line: &Line) -> Result<Turn, Memory>
+    fn turn_on(&mut self, alloc: Global, line: &Line) -> Result<Turn, Memory>
         requires { IsShort line.now }
-        ensures { IfOk result (IsTurn (spec.turn_of (Some line.now) (refusal_of_line self.now (Some line.now)) self.now) self.now) }
+        ensures turn { IfOk result (IsTurn (spec.turn_of (Some line.now) (refusal_of_line self.old (Some line.now)) self.old) self.new) }
+        ensures kept { OnOk result (HasOwnBreaks self.old self.new) }
     {
         let to = Addressee::of(alloc, line)?;
         match self.ask(alloc, line) {
-            Ok(command) => self.perform(alloc, &to, &command),
+            Ok(command) => self.perform(alloc, &to, command.request),
             Err(CommandError::Code(code)) => self.refuse(alloc, &to, code),
             Err(CommandError::Memory) => Err(Memory),
         }
@@ -87,12 +94,32 @@ impl<'a> Session<'a> {
         Ok(stay(text))
     }
 
-    /// What a command that is not refused leads to.
-    fn perform(&self, alloc: Global, to: &Addressee, command: &Command) -> Result<Turn, Memory>
-        requires { IsShortRequest command.now.request }
-        ensures { IfOk result (IsTurn (spec.performed to.now.command to.now.id command.now.request self.now) self.now) }
+    /// What a request leads to.
+    fn perform(&mut self, alloc: Global, to: &Addressee, request: Request) -> Result<Turn, Memory>
+        requires { IsShortRequest request }
+        ensures turn { IfOk result (IsTurn (answered to.now.command to.now.id request self.old) self.new) }
+        ensures kept { OnOk result (HasOwnBreaks self.old self.new) }
     {
-        match &command.request {
+        match Side::of(&request) {
+            Side::Session => self.perform_here(alloc, to, &request),
+            Side::Breakpoints => self.perform_on_breakpoints(alloc, to, request),
+            Side::Program => self.show(alloc, to, &request),
+        }
+    }
+
+    /// What a request leads to that is answered from the session.
+    fn perform_here(
+        &mut self,
+        alloc: Global,
+        to: &Addressee,
+        request: &Request,
+    ) -> Result<Turn, Memory>
+        requires short { IsShortRequest request.now }
+        requires side { side_of request.now ≡ Side.Session }
+        ensures turn { IfOk result (IsTurn (answered to.now.command to.now.id request.now self.old) self.new) }
+        ensures kept { OnOk result (HasOwnBreaks self.old self.new) }
+    {
+        match request {
             Request::Status => self.tell_status(alloc, to),
             Request::FeatureGet { name: feature } => {
                 self.tell_feature(alloc, to, feature.as_slice())
@@ -100,10 +127,51 @@ impl<'a> Session<'a> {
             Request::FeatureSet {
                 name: feature,
                 value,
-            } => self.set_feature(alloc, to, feature.as_slice(), value.as_slice()),
+            } => self.put_feature(alloc, to, feature.as_slice(), value.as_slice()),
             Request::Continue(mode) => self.go_on(alloc, to, *mode),
             Request::Finish(finish) => self.finish_by(alloc, to, *finish),
             _ => self.refuse(alloc, to, 4),
+        }
+    }
+
+    /// What a breakpoint command leads to. The breakpoints are changed at once.
+    fn perform_on_breakpoints(
+        &mut self,
+        alloc: Global,
+        to: &Addressee,
+        request: Request,
+    ) -> Result<Turn, Memory>
+        requires { side_of request ≡ Side.Breakpoints }
+        ensures turn { IfOk result (IsTurn (answered to.now.command to.now.id request self.old) self.new) }
+        ensures kept { OnOk result (HasOwnBreaks self.old self.new) }
+    {
+        let file = self.program.file();
+        match answer_breakpoints(alloc, self.bundle, file, to, request, &mut self.breaks) {
+            Ok(response) => tell(alloc, response),
+            Err(BreakpointError::Code(code)) => self.refuse(alloc, to, code),
+            Err(BreakpointError::Memory) => Err(Memory),
+        }
+    }
+
+    /// What is shown of the program, or why it is not.
+    fn show(&self, alloc: Global, to: &Addressee, request: &Request) -> Result<Turn, Memory>
+        requires { side_of request.now ≡ Side.Program }
+        ensures { IfOk result (IsTurn (answered to.now.command to.now.id request.now self.now) self.now) }
+    {
+        let file = self.program.file();
+        let shown = view_response(
+            alloc,
+            self.bundle,
+            file,
+            &self.features,
+            &self.program,
+            to,
+            request,
+        );
+        match shown {
+            Ok(response) => tell(alloc, response),
+            Err(ViewError::Code(code)) => self.refuse(alloc, to, code),
+            Err(ViewError::Memory) => Err(Memory),
         }
     }
 
@@ -159,6 +227,23 @@ impl<'a> Session<'a> {
         Ok(stay(text))
     }
 
+    /// Sets a feature to a value, if it can have it.
+    fn put_feature(
+        &self,
+        alloc: Global,
+        to: &Addressee,
+        feature: &[u8],
+        value: &[u8],
+    ) -> Result<Turn, Memory>
+        requires feature { length feature.now ≤ 1048576 }
+        ensures { IfOk result (IsTurn (answered to.now.command to.now.id (Request.FeatureSet feature.now value.now) self.now) self.now) }
+    {
+        match feature_refusal(feature, value) {
+            Some(code) => self.refuse(alloc, to, code),
+            None => self.set_feature(alloc, to, feature, value),
+        }
+    }
+
     /// Sets a feature to a value that it can have.
     fn set_feature(
         &self,
@@ -184,8 +269,9 @@ impl<'a> Session<'a> {
     }
 
     /// A continuation. Once the program has ended it ends the session.
-    fn go_on(&self, alloc: Global, to: &Addressee, mode: Continuation) -> Result<Turn, Memory>
-        ensures { IfOk result (IsTurn (spec.continued to.now.command to.now.id mode self.now.phase self.now) self.now) }
+    fn go_on(&mut self, alloc: Global, to: &Addressee, mode: Continuation) -> Result<Turn, Memory>
+        ensures turn { IfOk result (IsTurn (spec.continued to.now.command to.now.id mode self.old.phase self.old) self.new) }
+        ensures kept { OnOk result (HasOwnBreaks self.old self.new) }
     {
         match self.standing {
             Standing::Starting => self.advance(alloc, to, mode),
@@ -194,20 +280,24 @@ impl<'a> Session<'a> {
         }
     }
 
-    /// Goes on to the next stop or to the end.
-    fn advance(&self, alloc: Global, to: &Addressee, mode: Continuation) -> Result<Turn, Memory>
-        ensures { IfOk result (IsTurn (spec.advanced to.now.command to.now.id mode self.now) self.now) }
+    /// Goes on to the next stop or to the end. The hits on the way are counted at once.
+    fn advance(&mut self, alloc: Global, to: &Addressee, mode: Continuation) -> Result<Turn, Memory>
+        ensures turn { IfOk result (IsTurn (spec.advanced to.now.command to.now.id mode self.old) self.new) }
+        ensures kept { OnOk result (HasOwnBreaks self.old self.new) }
     {
         let arrival = go_on(
             alloc,
             self.bundle,
+            &[],
             self.bound,
             self.moment,
             self.depth,
             mode,
+            &mut self.breaks,
         )?;
-        let status = arrival.standing().phase().name();
-        let reason = arrival.standing().reason().name();
+        let standing = Standing::at(&arrival);
+        let status = standing.phase().name();
+        let reason = standing.reason().name();
         let response = responses::status(alloc, to, status, reason)?;
         let text = responses::text(alloc, response)?;
         Ok(Turn {
@@ -250,6 +340,15 @@ impl<'a> Session<'a> {
             Standing::Stopping(outcome) => SessionEnd::Finished(outcome),
         }
     }
+}
+
+/// The text of a response after which nothing has changed.
+fn tell(alloc: Global, response: Response) -> Result<Turn, Memory>
+    requires { Fits response }
+    ensures { IfOk result (Tells response) }
+{
+    let text = responses::text(alloc, response)?;
+    Ok(stay(text))
 }
 
 /// A text after which the session has ended.

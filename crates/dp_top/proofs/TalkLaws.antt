@@ -1,10 +1,10 @@
 -- What serving a session came to decides the end of `talk`.
-use Rattle.std.proofs.Common.{◌≡◌, ◌≤◌, ℕ, List, [], ◌∷◌, length, map, get_or, Option, None, Some, Result, Ok, Err, refl, sym, ap, ◌∙◌, subst, inl, inr, arith}
-use Rattle.std.specs.Prelude.{IfOk, IfErr, MatchResult, slice_get}
-use Rattle.std.specs.Option.{option_map_or}
+use Rattle.std.proofs.Common.{◌≡◌, ◌≤◌, ℕ, List, [], ◌∷◌, map, Option, None, Some, Result, Ok, Err, refl, sym, ap, ◌∙◌, subst, inl, inr, arith, String, string_bytes, Global}
+use Rattle.std.specs.Prelude.{IfOk, IfErr, MatchResult}
 use Rattle.dp_outside.specs.Changes.{Change, IsUntouched}
 use Rattle.dp_tree.specs.declared.bundle.Bundle.{Bundle}
 use Rattle.dp_tree.specs.declared.bundle.BundleFile.{BundleFile}
+use Rattle.dp_tree.specs.FileNames.{AreFileNames}
 use Rattle.dp_bundle.specs.declared.errors.BundleError.{BundleError}
 use Rattle.dp_engine.specs.declared.serving.ServeEnd.{ServeEnd}
 use Rattle.dp_engine.specs.declared.serving.ServeEnd.TheVariants.{Stopped, Detached, LinkEnd, ReadFault, WriteFault, OutFault, BadCommandFrame, ByteLimit, Memory}
@@ -13,7 +13,6 @@ use Rattle.dp_engine.specs.declared.session.SessionEnd.{SessionEnd}
 use Rattle.dp_engine.specs.declared.session.SessionEnd.TheVariants.{Finished, Killed, Detached as gone}
 use Rattle.dp_engine.specs.Served.{ending_after}
 use Rattle.dp_engine.specs.Serving.{Serves, ServesTo}
-use Rattle.dp_engine.specs.Responses.{main_name}
 use Rattle.dp_engine.specs.Session.{State, outcome_of}
 use Rattle.dp_meaning.proofs.Exits.{exit_small}
 use Rattle.dp_run.specs.declared.error.RunError.{RunError}
@@ -30,6 +29,7 @@ use Rattle.dp_top.specs.Runs.{IsProgramTold, IsRunTold}
 use Rattle.dp_top.specs.inner.Held.{IsHeld}
 use Rattle.dp_top.specs.Talk.{Talks, TalkFails, Told, end_told, ended, judged, judged_by, unnamed}
 use Rattle.dp_top.specs.inner.Sessions.{ServedSo, UnservedSo, told_in}
+use Rattle.dp_top.proofs.NameLaws.{names_of}
 use Rattle.dp_top.proofs.RunTold.{IsGood}
 
 -- ---- what is told
@@ -133,10 +133,7 @@ pub held_served : (asked : Result Bundle BundleError) (program : Bundle) (result
 held_served (Ok made) program result before after held good = good made before after
 held_served (Err e) program result before after held good = absurd held
 
--- the name of the main file is no longer than a name may be
-pub main_short : (program : Bundle) (names : List (List ℕ)) → map (λ (f : BundleFile). f.name) program.files ≡ names → AreFileWords names → length (main_name program) ≤ 255
-main_short program names named files = by program.files named where
-  by : (made : List BundleFile) → map (λ (f : BundleFile). f.name) made ≡ names → length (option_map_or (λ (f : BundleFile). f.name) (slice_get made 0) []) ≤ 255
-  by [] e = omega arith
-  by (f ∷ rest) e =
-      subst (λ (l : List (List ℕ)). length (get_or l 0 f.name) ≤ 255) (sym e) ((files.named 0 f.name (omega (arith, files.some))).is_name.short)
+-- the files of a program that was made of the files of these words have their names, which are names of files
+pub are_named : (words : List (String Global)) (program : Bundle) → map (λ (f : BundleFile). f.name) program.files ≡ map string_bytes words → AreFileWords (map string_bytes words)
+    → AreFileNames (map (λ (f : BundleFile). f.name) program.files)
+are_named words program named files = subst AreFileNames (sym named) (names_of words files)

@@ -56,7 +56,7 @@ fn judge<'a>(program: Program<'a>, served: Served) -> Result<u8, Refused<'a>>
 }
 
 /// Serves one session over a program, with a ledger for its steps.
-#[tactic(auto, using(crate::proofs::TalkLaws::main_short, crate::proofs::TalkLaws::small_served))]
+#[tactic(auto, using(crate::proofs::TalkLaws::are_named, crate::proofs::TalkLaws::small_served))]
 fn serve_program<'a, S: Source, K: Sink, E: Sink, L: Ledger>(
     alloc: Global,
     request: Talk<'a>,

@@ -1,12 +1,14 @@
 -- What a session keeps of its program's run, and how that stands for what the session knows.
 use Rattle.std.specs.Prelude.{◌≡◌, ℕ, List, [], Option, Some, None}
+use Rattle.dp_break.specs.Tables.{Table}
 use Rattle.dp_tree.specs.declared.bundle.Bundle.{Bundle}
 use Rattle.dp_command.specs.declared.command.StreamMode.TheVariants.{Disable}
 use Rattle.dp_features.specs.Features.{Features}
 use Rattle.dp_meaning.specs.Trace.{moment_at, now, outcome, plain}
 use Rattle.dp_state.specs.declared.state.State.{State as Program}
-use Rattle.dp_engine.specs.declared.arrivals.Arrival.{Arrival}
-use Rattle.dp_engine.specs.declared.arrivals.Arrival.TheVariants.{Moment, End}
+use Rattle.dp_continuation.specs.declared.arrival.Arrival.{Arrival}
+use Rattle.dp_continuation.specs.declared.arrival.Arrival.TheVariants.{Moment, End}
+use Rattle.dp_continuation.specs.Stops.{depth_of}
 use Rattle.dp_engine.specs.declared.states.Phase.{Phase}
 use Rattle.dp_engine.specs.declared.states.Phase.TheVariants as phase
 use Rattle.dp_engine.specs.declared.states.Reason.{Reason}
@@ -15,7 +17,6 @@ use Rattle.dp_engine.specs.declared.states.Standing.{Standing}
 use Rattle.dp_engine.specs.declared.states.Standing.TheVariants.{Starting, Break, Stopping}
 use Rattle.dp_engine.specs.Session.{State}
 use Rattle.dp_engine.specs.States.{reason_of}
-use Rattle.dp_engine.specs.Stops.{depth_of}
 
 abbrev pub phase_of : Standing → Phase
 phase_of Starting = phase.Starting
@@ -28,8 +29,8 @@ reason_at Break = reason.Ok
 reason_at (Stopping end) = reason_of end
 
 -- what a session knows
-abbrev pub known : Bundle → ℕ → ℕ → Standing → Features → State
-known bundle bound moment standing features = record {
+abbrev pub known : Bundle → ℕ → ℕ → Standing → Features → Table → State
+known bundle bound moment standing features breaks = record {
   bundle = bundle;
   bound = bound;
   writes = [];
@@ -38,6 +39,7 @@ known bundle bound moment standing features = record {
   reason = reason_at standing;
   features = features;
   stdout = Disable;
+  breaks = breaks;
 }
 
 -- the program's state is that of the moment, and at the end the last one
@@ -51,19 +53,7 @@ IsAt (Stopping end) bundle bound moment program =
 abbrev pub IsDeep : Bundle → ℕ → ℕ → ℕ → Type 0
 IsDeep bundle bound moment depth = depth ≡ depth_of (moment_at (plain bundle bound) moment)
 
--- how a session stands where a program has come to, and what the program has written by then
+-- how a session stands where a program has come to
 abbrev pub standing_in : Arrival → Standing
 standing_in (Moment number depth program) = Break
 standing_in (End end program) = Stopping end
-
-abbrev pub output_in : Arrival → List ℕ
-output_in (Moment number depth program) = program.output
-output_in (End end program) = program.output
-
--- where a program comes to that stops at this moment, or at none
-abbrev pub Arrives : Bundle → ℕ → Option ℕ → Arrival → Type 0
-Arrives bundle bound stop (Moment number depth program) =
-    (stop ≡ Some number)
-    × (now bundle bound [] number ≡ Some program) × IsDeep bundle bound number depth
-Arrives bundle bound stop (End end program) =
-    (stop ≡ None) × (end ≡ outcome bundle bound []) × (program ≡ (plain bundle bound).state)

@@ -4,22 +4,26 @@ use Rattle.dp_command.specs.declared.command.Command.{Command}
 use Rattle.dp_command.specs.declared.errors.CommandError.{CommandError}
 use Rattle.dp_command.specs.declared.errors.CommandError.TheVariants.{Code, Memory}
 use Rattle.dp_command.specs.declared.line.Line.{Line}
-use Rattle.dp_command.specs.declared.names.CommandName.{CommandName}
-use Rattle.dp_command.specs.Commands.{command_as, command_of}
+use Rattle.dp_command.specs.declared.command.Request.{Request}
+use Rattle.dp_command.specs.Commands.{command_of}
+use Rattle.dp_command.specs.Refusals.{id_of}
+use Rattle.dp_packet.specs.declared.packet.Response.{Response}
+use Rattle.dp_packet.specs.Parts.{Text}
+use Rattle.dp_state.specs.States.{IsOf}
 use Rattle.dp_command.specs.Tests.{first_code}
 use Rattle.dp_serving.specs.Folds.{Reply}
 use Rattle.dp_wire.specs.Frames.{IsPacketText}
-use Rattle.dp_engine.specs.declared.arrivals.Arrival.{Arrival}
-use Rattle.dp_engine.specs.declared.arrivals.Arrival.TheVariants.{Moment, End}
+use Rattle.dp_continuation.specs.declared.arrival.Arrival.{Arrival}
+use Rattle.dp_continuation.specs.declared.arrival.Arrival.TheVariants.{Moment, End}
+use Rattle.dp_continuation.specs.Going.{Arrives, program_in}
 use Rattle.dp_engine.specs.declared.session.SessionEnd.{SessionEnd}
 use Rattle.dp_engine.specs.declared.turns.Step.{Step}
 use Rattle.dp_engine.specs.declared.turns.Step.TheVariants.{Stay, Set, Come}
 use Rattle.dp_engine.specs.declared.turns.Turn.{Turn as Made}
-use Rattle.dp_engine.specs.Answers.{Turn, at_end, at_stop}
-use Rattle.dp_engine.specs.Refusals.{refusal_of_line, row_tests}
+use Rattle.dp_engine.specs.Answers.{Turn, at_end, at_stop, performed, refused}
+use Rattle.dp_engine.specs.Refusals.{own_tests, refusal_of_line}
 use Rattle.dp_engine.specs.Responses.{response_text}
 use Rattle.dp_engine.specs.Session.{State, written_between}
-use Rattle.dp_engine.specs.inner.Standing.{Arrives}
 
 -- what the session knows once it has come there
 abbrev pub come : Arrival → State → State
@@ -41,7 +45,13 @@ stop_in (End end program) = None
 abbrev pub Leads : Step → State → Type 0
 Leads Stay state = Unit {0}
 Leads (Set features) state = Unit {0}
-Leads (Come arrival) state = Arrives state.bundle state.bound (stop_in arrival) arrival
+Leads (Come arrival) state =
+    Arrives state.bundle state.bound state.writes (stop_in arrival) arrival
+    × IsOf state.bundle (program_in arrival)
+
+-- only the breakpoints have changed
+abbrev pub HasOwnBreaks : State → State → Type 0
+HasOwnBreaks before state = state ≡ record before { breaks = state.breaks }
 
 pub record IsTurn (asked : Turn) (state : State) (made : Made) : Type 0 where
   pub text : made.text ≡ response_text asked.response
@@ -49,6 +59,13 @@ pub record IsTurn (asked : Turn) (state : State) (made : Made) : Type 0 where
   pub ended : made.ended ≡ asked.ended
   pub leads : Leads made.step state
   pub is_text : IsPacketText made.text
+
+-- a turn after which nothing more changes, and which tells this response
+pub record Tells (response : Response) (made : Made) : Type 0 where
+  pub text : made.text ≡ response_text response
+  pub is_text : IsPacketText made.text
+  pub stays : made.step ≡ Stay
+  pub goes_on : made.ended ≡ None
 
 -- what is sent of it, and what the session knows then
 abbrev pub given : Made → State → Reply State SessionEnd
@@ -59,16 +76,20 @@ given made state = record {
   ended = made.ended;
 }
 
--- what a line asks for, or why it is refused
+-- what a command asks for is done, if it has no refusal of its own
+abbrev pub answered_by : Option ℕ → Text → Text → Request → State → Turn
+answered_by (Some code) command id r state = refused command id code state
+answered_by None command id r state = performed command id r state
+
+abbrev pub answered : Text → Text → Request → State → Turn
+answered command id r state =
+    answered_by (first_code (own_tests state command id r)) command id r state
+
+-- what a line asks for that has at most a refusal of its own, or why it is refused
 abbrev pub Asks : State → Line → Result Command CommandError → Type 0
 Asks state line (Ok command) =
-    (refusal_of_line state (Some line) ≡ None) × (command_of line ≡ Some command)
+    (refusal_of_line state (Some line)
+    ≡ first_code (own_tests state line.name (id_of line) command.request))
+    × (command_of line ≡ Some command)
 Asks state line (Err (Code code)) = refusal_of_line state (Some line) ≡ Some code
 Asks state line (Err Memory) = Unit {0}
-
--- the same, of a line that no test before that of its row refuses
-abbrev pub AsksRow : State → Line → CommandName → Result Command CommandError → Type 0
-AsksRow state line name (Ok command) =
-    (first_code (row_tests state line name) ≡ None) × (command ≡ command_as line name)
-AsksRow state line name (Err (Code code)) = first_code (row_tests state line name) ≡ Some code
-AsksRow state line name (Err Memory) = Unit {0}

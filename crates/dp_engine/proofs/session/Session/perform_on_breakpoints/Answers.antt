@@ -1,0 +1,21 @@
+use Rattle.std.proofs.Common.{rules, ◌≡◌, Some}
+use Rattle.dp_breakpoint_commands.specs.Commands.{breakpoint_refusal}
+use Rattle.dp_breakpoint_commands.proofs.Codes.{refusal_known}
+use Rattle.dp_engine.proofs.Turning.{breakpoints_are_told, fits_known}
+use Rattle.dp_engine.proofs.session.Session.perform_on_breakpoints.Goals as goal
+
+pub tell-requires : goal.tell-requires
+tell-requires c = fits_known c.in-Ok.response c.in-Ok.ensures.known c.in-Ok.ensures.short
+
+pub refuse-requires : goal.refuse-requires
+refuse-requires c =
+    let s = c.self.inside in
+    let refused : breakpoint_refusal s.bundle.now c.file-file.result s.breaks c.args.request ≡ Some c.in-Err-Code.code = search rules in
+    refusal_known s.bundle.now c.file-file.result s.breaks c.args.request c.in-Err-Code.code refused
+
+pub returns-in-Ok-clause-turn : goal.returns-in-Ok-clause-turn
+returns-in-Ok-clause-turn c =
+    let s = c.self.inside in
+    rw (← c.self.view_is) (breakpoints_are_told s.bundle.now s.bound s.moment s.standing s.features s.breaks s.program c.file-file.result c.answer_breakpoints.new.breaks
+    c.args.to.now.command c.args.to.now.id c.args.request c.in-Ok.response c.tell.result c.self.invariant.0 c.file-file.ensures c.requires c.in-Ok.ensures.accepted
+    c.in-Ok.ensures.response c.in-Ok.ensures.short c.in-Ok.ensures.table c.tell.ensures)
