@@ -1,13 +1,17 @@
 -- The first of the tests of a breakpoint_set command, and what an accepted one asks for.
-use Rattle.std.proofs.Common.{◌≡◌, ℕ, ◌<◌, Bool, true, false, not, ◌&&◌, ◌||◌, if◌then◌else◌, List, [], ◌∷◌, ◌++◌, length, Option, Some, None, is_some, is_none, refl, ◌∙◌}
-use Rattle.std.specs.Prelude.{option_map, position, unwrap_or}
-use Rattle.std.specs.Option.{option_map_or}
+use Rattle.std.proofs.Common.{◌≡◌, ℕ, ◌<◌, sym, ap, subst, Bool, true, false, not, ◌&&◌, ◌||◌, if◌then◌else◌, List, [], ◌∷◌, ◌++◌, length, Option, Some, None, is_some, is_none, refl, ◌∙◌}
+use Rattle.std.specs.Prelude.{option_map, position, unwrap_or, IfSome, IsErrAnd, Result, Ok, Err}
+use Rattle.std.specs.Option.{option_map_or, option_or}
 use Rattle.std.specs.List.{find}
 use Rattle.std.specs.Str.{bytes_eq}
 use Rattle.std.proofs.lemmas.List.Quantifiers.{position-Some}
 use Rattle.dp_break.specs.Changes.{IsRequest}
 use Rattle.dp_break.specs.Hits.{is_of_function}
-use Rattle.dp_break.specs.Tables.{has_parts}
+use Rattle.dp_break.specs.declared.breakpoint.BreakRequest.{BreakRequest}
+use Rattle.dp_break.specs.declared.errors.BreakError.{BreakError}
+use Rattle.dp_break.specs.declared.errors.BreakError.TheVariants as held
+use Rattle.dp_break.specs.Refusals.{plain_refusal}
+use Rattle.dp_break.specs.Tables.{Table, has_parts}
 use Rattle.dp_tree.specs.declared.bundle.Bundle.{Bundle}
 use Rattle.dp_tree.specs.declared.bundle.BundleFile.{BundleFile}
 use Rattle.dp_command.specs.declared.command.BreakpointSet.{BreakpointSet}
@@ -18,7 +22,8 @@ use Rattle.dp_breakpoint_commands.specs.declared.errors.BreakpointError.{Breakpo
 use Rattle.dp_breakpoint_commands.specs.declared.errors.BreakpointError.TheVariants.{Code, Memory}
 use Rattle.dp_breakpoint_commands.specs.Files.{file_like, name_in, requested_file}
 use Rattle.dp_breakpoint_commands.specs.Setting.{file_tests, has_malformed_part, has_part_too_many, lacks_part, of_kind, refusal, request, word_tests}
-use Rattle.dp_breakpoint_commands.specs.Answers.{IsCause, IsCode}
+use Rattle.dp_breakpoint_commands.specs.Answers.{IsCause, IsCode, error_of}
+use Rattle.dp_breakpoint_commands.specs.Commands.{plain_set_refusal}
 use Rattle.dp_command.specs.Tests.{Test, first_code}
 use Rattle.dp_breakpoint_commands.specs.Words.{has_no_meaning, kind_named, meant, number_in, state_named}
 
@@ -181,3 +186,38 @@ request_sound bundle here set e h = record {
 
 -- what a breakpoint_set command is answered
 pub ruleset refusing = (accepted, words_refused, words_only, file_refused, file_only, request_sound)
+
+-- ---- what is held refuses
+
+abbrev pub held_id : ℕ → Result ℕ BreakError
+held_id id = Ok id
+
+abbrev pub not_held : BreakError → Result ℕ BreakError
+not_held e = Err e
+
+abbrev failed : {A : Type 0} → BreakpointError → Result A BreakpointError
+failed e = Err e
+
+-- a request that what is held accepts is refused by no plain test
+pub plain_passed : {A : Type 0} (bundle : Bundle) (here : ℕ) (t : Table) (set : BreakpointSet) (r : BreakRequest) (id : ℕ) → refusal bundle set ≡ None → r ≡ request bundle here set
+    → IfSome (plain_refusal bundle t r) (λ code. held_id id ≡ Err (held.Code code)) → (result : Result A BreakpointError) → IfSome (plain_set_refusal bundle here t set) (λ code. result ≡ Err (Code code))
+plain_passed {A} bundle here t set r id free is h result =
+    subst (λ (o : Option ℕ). IfSome (option_or o (plain_refusal bundle t (request bundle here set))) (λ code. result ≡ Err (Code code))) (sym free)
+    (by (plain_refusal bundle t (request bundle here set)) (subst (λ (x : BreakRequest). IfSome (plain_refusal bundle t x) (λ code. held_id id ≡ Err (held.Code code))) is h)) where
+      by : (o : Option ℕ) → IfSome o (λ code. held_id id ≡ Err (held.Code code)) → IfSome o (λ code. result ≡ Err (Code code))
+      by None h = tt
+      by (Some code) h = absurd cc
+
+-- one that a plain test refuses is refused so
+pub plain_told : {A : Type 0} (bundle : Bundle) (here : ℕ) (t : Table) (set : BreakpointSet) (r : BreakRequest) (e : BreakError) → refusal bundle set ≡ None → r ≡ request bundle here set
+    → IfSome (plain_refusal bundle t r) (λ code. not_held e ≡ Err (held.Code code)) → (result : Result A BreakpointError) → IsErrAnd result (λ x. x ≡ error_of e)
+    → IfSome (plain_set_refusal bundle here t set) (λ code. result ≡ Err (Code code))
+plain_told bundle here t set r e free is h (Ok a) told = absurd told
+plain_told {A} bundle here t set r e free is h (Err x) told =
+    subst (λ (o : Option ℕ). IfSome (option_or o (plain_refusal bundle t (request bundle here set))) (λ code. failed {A = A} x ≡ Err (Code code))) (sym free)
+    (by (plain_refusal bundle t (request bundle here set)) (subst (λ (y : BreakRequest). IfSome (plain_refusal bundle t y) (λ code. not_held e ≡ Err (held.Code code))) is h)) where
+      by : (o : Option ℕ) → IfSome o (λ code. not_held e ≡ Err (held.Code code)) → IfSome o (λ code. failed {A = A} x ≡ Err (Code code))
+      by None h = tt
+      by (Some code) h =
+          let same : e ≡ held.Code code = cc in
+          ap (λ (y : BreakpointError). failed {A = A} y) (told ∙ ap error_of same)

@@ -1,13 +1,13 @@
 -- What the breakpoint commands do with the breakpoints that are held, why one is refused, and what
 -- is answered: DBGp 1.0, "breakpoint_set", "breakpoint_get", "breakpoint_update",
 -- "breakpoint_remove", "breakpoint_list".
-use Rattle.std.specs.Prelude.{ℕ, nat_le, Bool, true, false, ◌||◌, List, [], ◌∷◌, ◌++◌, length, map, take_while, Option, Some, None, is_none, is_some, unwrap_or, codes, decimal}
+use Rattle.std.specs.Prelude.{ℕ, nat_le, Bool, true, false, List, [], ◌∷◌, ◌++◌, length, map, take_while, Option, Some, None, is_none, unwrap_or, codes, decimal}
 use Rattle.std.specs.Option.{option_map_or, option_or}
 use Rattle.dp_break.specs.declared.breakpoint.Breakpoint.{Breakpoint}
 use Rattle.dp_break.specs.Changes.{asked, held_as, with_change, with_new, without}
 use Rattle.dp_break.specs.Conditions.{tree_of}
 use Rattle.dp_break.specs.Passing.{each_in}
-use Rattle.dp_break.specs.Refusals.{change_refusal, code_if, request_refusal}
+use Rattle.dp_break.specs.Refusals.{change_refusal, code_if, plain_refusal, request_refusal}
 use Rattle.dp_break.specs.Tables.{Table}
 use Rattle.dp_command.specs.declared.command.BreakpointAction.{BreakpointAction}
 use Rattle.dp_command.specs.declared.command.BreakpointAction.TheVariants.{Get, Remove}
@@ -63,11 +63,21 @@ breakpoint_refusal bundle here t (request.BreakpointUpdate update) = update_refu
 breakpoint_refusal bundle here t request.BreakpointList = None
 breakpoint_refusal bundle here t other = Some 4
 
--- a refusal may need memory: to decode the URI of a file, or to read an expression
-abbrev pub wants_memory : Request → Bool
-wants_memory (request.BreakpointSet set) =
-    option_map_or is_uri set.file false || is_some set.expression
-wants_memory other = false
+-- the same, where it needs no look at what an expression says
+abbrev pub plain_set_refusal : Bundle → ℕ → Table → BreakpointSet → Option ℕ
+plain_set_refusal bundle here t set =
+    option_or (setting.refusal bundle set) (plain_refusal bundle t
+    (setting.request bundle here set))
+
+abbrev pub plain_breakpoint_refusal : Bundle → ℕ → Table → Request → Option ℕ
+plain_breakpoint_refusal bundle here t (request.BreakpointSet set) =
+    plain_set_refusal bundle here t set
+plain_breakpoint_refusal bundle here t other = breakpoint_refusal bundle here t other
+
+-- a file is named by its URI, which is to be decoded
+abbrev pub names_uri : Request → Bool
+names_uri (request.BreakpointSet set) = option_map_or is_uri set.file false
+names_uri other = false
 
 -- ---- what is held
 

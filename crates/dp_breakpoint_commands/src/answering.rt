@@ -38,8 +38,8 @@ fn set_breakpoint(
     ensures accepted { OnOk result (spec.set_refusal bundle.now here breaks.old set ≡ None) }
     ensures table { OnOk result (breaks.new ≡ spec.set_table bundle.now here set breaks.old) }
     ensures refused { IfErr result (IsCause (spec.set_refusal bundle.now here breaks.old set)) }
-    ensures surely { spec.wants_memory (Request.BreakpointSet set) ≡ false
-        → IfSome (spec.set_refusal bundle.now here breaks.old set) (λ code.
+    ensures surely { spec.names_uri (Request.BreakpointSet set) ≡ false
+        → IfSome (spec.plain_set_refusal bundle.now here breaks.old set) (λ code.
         result ≡ Err (BreakpointError.Code code)) }
     ensures unchanged { (code : ℕ) → result ≡ Err (BreakpointError.Code code) → breaks.new ≡ breaks.old }
     ensures short { IfOk result (λ r. length (text (packet.Response r)) ≤ packet_limit) }
@@ -165,9 +165,9 @@ pub fn answer_breakpoints(
     ensures accepted { OnOk result (spec.breakpoint_refusal bundle.now here breaks.old request ≡ None) }
     ensures table { OnOk result (breaks.new ≡ spec.breakpoint_table bundle.now here request breaks.old) }
     ensures refused { IfErr result (IsCause (spec.breakpoint_refusal bundle.now here breaks.old request)) }
-    // Only a URI that is decoded and an expression that is read make want of memory come before a refusal.
-    ensures surely { spec.wants_memory request ≡ false
-        → IfSome (spec.breakpoint_refusal bundle.now here breaks.old request) (λ code.
+    // Want of memory comes before a refusal only where a URI is to be decoded, or an expression is to be read.
+    ensures surely { spec.names_uri request ≡ false
+        → IfSome (spec.plain_breakpoint_refusal bundle.now here breaks.old request) (λ code.
         result ≡ Err (BreakpointError.Code code)) }
     ensures unchanged { (code : ℕ) → result ≡ Err (BreakpointError.Code code) → breaks.new ≡ breaks.old }
     // A packet can be made of it.
