@@ -1,5 +1,5 @@
 -- What is told of files and of the end of a run, by what the files are.
-use Rattle.std.proofs.Common.{◌≡◌, ◌≢◌, ℕ, ◌+◌, ◌≤◌, false, List, Result, Ok, Err, length, take, refl, sym, ap, ◌∙◌, subst, inl, inr, arith}
+use Rattle.std.proofs.Common.{◌≡◌, ◌≢◌, ℕ, ◌+◌, false, List, Result, Ok, Err, length, take, refl, sym, ap, ◌∙◌, subst, inl, inr, arith}
 use Rattle.std.specs.Prelude.{⊤, Some}
 use Rattle.std.proofs.lemmas.List.{take_all}
 use Rattle.dp_outside.specs.Telling.{grown}

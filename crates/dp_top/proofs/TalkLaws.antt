@@ -1,7 +1,7 @@
 -- What serving a session came to decides the end of `talk`.
 use Rattle.std.proofs.Common.{◌≡◌, ◌≤◌, ℕ, List, [], ◌∷◌, map, Option, None, Some, Result, Ok, Err, refl, sym, ap, ◌∙◌, subst, inl, inr, arith, String, string_bytes, Global}
 use Rattle.std.specs.Prelude.{IfOk, IfErr, MatchResult}
-use Rattle.dp_outside.specs.Changes.{Change, IsUntouched}
+use Rattle.dp_outside.specs.Changes.{Change}
 use Rattle.dp_tree.specs.declared.bundle.Bundle.{Bundle}
 use Rattle.dp_tree.specs.declared.bundle.BundleFile.{BundleFile}
 use Rattle.dp_tree.specs.FileNames.{AreFileNames}
@@ -17,7 +17,7 @@ use Rattle.dp_engine.specs.Session.{State, outcome_of}
 use Rattle.dp_meaning.proofs.Exits.{exit_small}
 use Rattle.dp_run.specs.declared.error.RunError.{RunError}
 use Rattle.dp_run.specs.declared.error.ProgramError.{ProgramError}
-use Rattle.dp_run.specs.Programs.{Files, IsHeld as IsRunHeld, Make, NoProgram}
+use Rattle.dp_run.specs.Programs.{IsHeld as IsRunHeld, Make, NoProgram}
 use Rattle.dp_run.specs.Runs.{judged as judged_end}
 use Rattle.dp_state.specs.declared.moments.Outcome.{Outcome}
 use Rattle.dp_state.specs.declared.moments.Outcome.TheVariants as way
@@ -27,7 +27,8 @@ use Rattle.dp_top.specs.declared.failures.Refused.{Refused}
 use Rattle.dp_top.specs.CommandLine.{AreFileWords, Ask}
 use Rattle.dp_top.specs.Runs.{IsProgramTold, IsRunTold}
 use Rattle.dp_top.specs.inner.Held.{IsHeld}
-use Rattle.dp_top.specs.Talk.{Talks, TalkFails, Told, end_told, ended, judged, judged_by, unnamed}
+use Rattle.dp_top.specs.Seen.{Seen, changed}
+use Rattle.dp_top.specs.Talk.{AreIdle, Talks, TalkFails, Told, end_told, ended, judged, judged_by, unnamed}
 use Rattle.dp_top.specs.inner.Sessions.{ServedSo, UnservedSo, told_in}
 use Rattle.dp_top.proofs.NameLaws.{names_of}
 use Rattle.dp_top.proofs.RunTold.{IsGood}
@@ -116,17 +117,18 @@ module _ (ask : Ask) (served : Served) (program : Bundle) (key : List ℕ) (inpu
 
 -- ---- a session over the program of the files
 
-module _ (files : Files) (before after : ℕ) (key : List ℕ) (ask : Ask) (input out err : Change) where
-  pub program_served : (program : Bundle) → Make files ask.names (Ok program) → (result : Result ℕ Refused)
-      → MatchResult result (λ status. ServedSo status program key ask input out err) (λ why. UnservedSo why.failure why.name.now program key ask input out err)
-      → MatchResult result (λ status. Talks status files key ask input out err) (λ why. TalkFails why.failure why.name.now files before after key ask input out err)
+module _ (key : List ℕ) (ask : Ask) (old new : Seen) where
+  pub program_served : (program : Bundle) → Make old.shelf.files ask.names (Ok program) → (result : Result ℕ Refused)
+      → MatchResult result (λ status. ServedSo status program key ask (changed old.input new.input) (changed old.out new.out) (changed old.err new.err))
+      (λ why. UnservedSo why.failure why.name.now program key ask (changed old.input new.input) (changed old.out new.out) (changed old.err new.err))
+      → MatchResult result (λ status. Talks status key ask old new) (λ why. TalkFails why.failure why.name.now key ask old new)
   program_served program made (Ok status) h = record { served = h.served; is = record { program = program; made = made; serves = h.serves }; told = h.told }
   program_served program made (Err why) (inl memory) = inl (memory.0, inl memory.1)
   program_served program made (Err why) (inr h) = inr (inr (record { served = h.served; is = record { program = program; made = made; serves = h.serves }; told = h.told }))
 
-  pub none_served : (refused : Refused) (why : ProgramError) → NoProgram why files before after ask.names → IsProgramTold refused.failure refused.name.now ask why
-      → IsUntouched input → IsUntouched out → IsUntouched err → TalkFails refused.failure refused.name.now files before after key ask input out err
-  none_served refused why caused told i o e = inr (inl (record { cause = why; caused = caused; told = told; idle = record { input_stays = i; out_stays = o; err_stays = e } }))
+  pub none_served : (refused : Refused) (why : ProgramError) → NoProgram why old.shelf.files old.shelf.faults new.shelf.faults ask.names
+      → IsProgramTold refused.failure refused.name.now ask why → AreIdle old new → TalkFails refused.failure refused.name.now key ask old new
+  none_served refused why caused told idle = inr (inl (record { cause = why; caused = caused; told = told; idle = idle }))
 
 pub held_served : (asked : Result Bundle BundleError) (program : Bundle) (result : Result ℕ Refused) (before after : ℕ) → IsRunHeld {A = Bundle} asked (Ok program) before after
     → ((made : Bundle) (b a : ℕ) → IsHeld (Ok made) result b a) → IsHeld asked result before after

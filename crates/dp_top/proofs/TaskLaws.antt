@@ -26,9 +26,10 @@ use Rattle.dp_top.specs.declared.failures.Refused.{Refused}
 use Rattle.dp_top.specs.CommandLine.{Ask, IsRun, IsTalk, Task, run, talk, show, Asks, ask_in, ask_of}
 use Rattle.dp_top.specs.Failures.{status_of, line_of, Says}
 use Rattle.dp_top.specs.Runs.{IsFetched, RunFails, failure_of as failure_told, program_failure}
-use Rattle.dp_top.specs.inner.Held.{IsBadSource, IsHeld}
+use Rattle.dp_top.specs.inner.Held.{AreHeld, IsBadSource}
+use Rattle.dp_top.specs.Seen.{NoneRose, Seen, Stream, changed}
 use Rattle.dp_top.specs.Talk.{EndsSo, TalkFails, Told, ended, judged_by}
-use Rattle.dp_top.specs.Tasks.{failure_of, ShowCaused, Does, Caused, Fails, NoneRose}
+use Rattle.dp_top.specs.Tasks.{failure_of, ShowCaused, Does, Caused, Fails, before_line}
 use Rattle.dp_top.proofs.RunTold.{IsGood, bad_source}
 
 abbrev asked_for : ℕ → List (List ℕ) → Ask
@@ -101,43 +102,26 @@ memory_name (talk key ask) name = name
 memory_name show name = name
 
 -- want of memory once a session was served, or there was none
-talk_starved : (failed : Failure) (name : List ℕ) (files : Files) (before after : ℕ) (key : List ℕ) (ask : Ask) (input out err : Change) → TalkFails failed name files before after key ask input out err
-    → TalkFails failure.Memory name files before after key ask input out err
-talk_starved failed name files before after key ask input out err (inl memory) = inl (refl, memory.1)
-talk_starved failed name files before after key ask input out err (inr (inl u)) = inl (refl, inl u.idle)
-talk_starved failed name files before after key ask input out err (inr (inr h)) = inl (refl, inr (h.served, h.is))
+talk_starved : (failed : Failure) (name key : List ℕ) (ask : Ask) (old new : Seen) → TalkFails failed name key ask old new → TalkFails failure.Memory name key ask old new
+talk_starved failed name key ask old new (inl memory) = inl (refl, memory.1)
+talk_starved failed name key ask old new (inr (inl u)) = inl (refl, inl u.idle)
+talk_starved failed name key ask old new (inr (inr h)) = inl (refl, inr (h.served, h.is))
 
 -- want of memory may come in place of any failure
-memory_instead : (failed : Failure) (name : List ℕ) (task : Task) (files : Files) (before after : ℕ) (input out err : Change) → Caused failed name task files before after input out err
-    → Caused failure.Memory (memory_name task name) task files before after input out err
-memory_instead failed name (run ask) files before after input out err h = (record { why = h.0.why; caused = h.0.caused; told = inr (refl, refl) }, h.1, h.2)
-memory_instead failed name (talk key ask) files before after input out err h = talk_starved failed name files before after key ask input out err h
-memory_instead failed name show files before after input out err h = (h.0, show_cut failed input out h.1, h.2)
+memory_instead : (failed : Failure) (name : List ℕ) (task : Task) (old new : Seen) → Caused failed name task old new → Caused failure.Memory (memory_name task name) task old new
+memory_instead failed name (run ask) old new h = (record { why = h.0.why; caused = h.0.caused; told = inr (refl, refl) }, h.1, h.2)
+memory_instead failed name (talk key ask) old new h = talk_starved failed name key ask old new h
+memory_instead failed name show old new h = (h.0, show_cut failed _ _ h.1, h.2)
 
 -- the failure is told, or there is no memory for its line
-pub fails_told : (status : ℕ) (words : List (List ℕ)) (files : Files) (before after : ℕ) (task : Task) (name : List ℕ) (input out : Change) (told0 told1 told2 : Option (List ℕ)) (faults0 faults1 faults2 : ℕ)
-    (failed : Failure) → Asks words task
-    → Caused failed name task files before after input out (record { told_before = told0; told = told1; faults_before = faults0; faults = faults1 })
-    → faults1 ≤ faults2
-    → ((status ≡ status_of failed) × Says (record { told_before = told1; told = told2; faults_before = faults1; faults = faults2 }) (line_of failed name))
-    ⊎ ((status ≡ 209) × Says (record { told_before = told1; told = told2; faults_before = faults1; faults = faults2 }) (codes "out of memory\n"))
-    → Fails status words files before after input out (record { told_before = told0; told = told2; faults_before = faults0; faults = faults2 })
-fails_told status words files before after task name input out told0 told1 told2 faults0 faults1 faults2 failed asks caused later (inl told) = record {
-  task = task;
-  asks = asks;
-  failure = failed;
-  name = name;
-  is_status = told.0;
-  told = record { between = told1; faults_between = faults1; first = caused; later = later; says = told.1 };
-}
-fails_told status words files before after task name input out told0 told1 told2 faults0 faults1 faults2 failed asks caused later (inr told) = record {
-  task = task;
-  asks = asks;
-  failure = failure.Memory;
-  name = memory_name task name;
-  is_status = told.0;
-  told = record { between = told1; faults_between = faults1; first = memory_instead failed name task files before after input out _ caused; later = later; says = told.1 };
-}
+pub fails_told : (status : ℕ) (words : List (List ℕ)) (task : Task) (name : List ℕ) (old new : Seen) (err : Stream) (failed : Failure) → Asks words task
+    → Caused failed name task old (before_line new err) → err.faults ≤ new.err.faults
+    → ((status ≡ status_of failed) × Says (changed err new.err) (line_of failed name)) ⊎ ((status ≡ 209) × Says (changed err new.err) (codes "out of memory\n"))
+    → Fails status words old new
+fails_told status words task name old new err failed asks caused later (inl told) =
+    record { task = task; asks = asks; failure = failed; name = name; is_status = told.0; err = err; caused = caused; later = later; says = told.1 }
+fails_told status words task name old new err failed asks caused later (inr told) =
+    record { task = task; asks = asks; failure = failure.Memory; name = memory_name task name; is_status = told.0; err = err; caused = memory_instead failed name task old _ caused; later = later; says = told.1 }
 
 -- a failure's status is above 200
 above : (failed : Failure) → 200 < status_of failed
@@ -158,15 +142,9 @@ pub told_above : (status : ℕ) (failed : Failure) (A B : Type 0) → ((status �
 told_above status failed A B (inl told) = omega (arith, told.0, above failed)
 told_above status failed A B (inr told) = omega (arith, told.0)
 
--- what the object did before the line was said
-abbrev before_line : Change → Option (List ℕ) → ℕ → Change
-before_line err between faults = record { told_before = err.told_before; told = between; faults_before = err.faults_before; faults = faults }
-
 -- the failure's cause, of the task that is asked for
-caused_of : (status : ℕ) (words : List (List ℕ)) (files : Files) (before after : ℕ) (input out err : Change) (f : Fails status words files before after input out err)
-    → (task : Task) → Asks words task → Caused f.failure f.name task files before after input out (before_line err f.told.between f.told.faults_between)
-caused_of status words files before after input out err f task asks =
-    subst (λ (t : Task). Caused f.failure f.name t files before after input out (before_line err f.told.between f.told.faults_between)) (one_task words f.task task f.asks asks) f.told.first
+caused_of : (status : ℕ) (words : List (List ℕ)) (old new : Seen) (f : Fails status words old new) → (task : Task) → Asks words task → Caused f.failure f.name task old (before_line new f.err)
+caused_of status words old new f task asks = subst (λ (t : Task). Caused f.failure f.name t old (before_line new f.err)) (one_task words f.task task f.asks asks) f.caused
 
 -- files that are not told as bad, on a shelf that did not fail, make a program unless memory runs out
 no_program : (failed : Failure) (files : Files) (before after : ℕ) (names : List (List ℕ)) → IsGood failed → (Rose before after → ⊥) → (why : ProgramError)
@@ -181,13 +159,12 @@ no_program failed files before after names good shelf none.Memory caused told = 
 -- ---- `talk`
 
 -- where no count rose and the files are not told as bad, what fails is a packet, the program's end, a stop or memory
-module _ (failed : Failure) (name : List ℕ) (files : Files) (before after : ℕ) (key : List ℕ) (ask : Ask) (input out err : Change) (good : IsGood failed)
-    (shelf : Rose before after → ⊥) (taken : Rose input.faults_before input.faults → ⊥) (sent : Rose out.faults_before out.faults → ⊥) (put : Rose err.faults_before err.faults → ⊥) where
+module _ (failed : Failure) (name key : List ℕ) (ask : Ask) (old new : Seen) (good : IsGood failed) (none : NoneRose old new) where
   abbrev IsTalkEnd : Failure → Type 0
   IsTalkEnd f = (status_of f ≡ 207) ⊎ (status_of f ≡ 210) ⊎ (status_of f ≡ 255) ⊎ (status_of f ≡ 209)
 
-  unserved : (why : ProgramError) → NoProgram why files before after ask.names → failed ≡ program_failure why → IsTalkEnd failed
-  unserved why caused told = inr (inr (inr (no_program failed files before after ask.names good shelf why caused told)))
+  unserved : (why : ProgramError) → NoProgram why old.shelf.files old.shelf.faults new.shelf.faults ask.names → failed ≡ program_failure why → IsTalkEnd failed
+  unserved why caused told = inr (inr (inr (no_program failed _ _ _ ask.names good none.shelf why caused told)))
 
   abbrev failure_in : Told → Failure
   failure_in (Ok status) = failure.Memory
@@ -200,50 +177,52 @@ module _ (failed : Failure) (name : List ℕ) (files : Files) (before after : �
   by_outcome (Some (way.Fatal kind file line)) e = let same : failure.Fatal kind line ≡ failed = ap failure_in e in inr (inr (inl (sym (ap status_of same))))
   by_outcome (Some way.Bound) e = let same : failure.Bound ask.bound ≡ failed = ap failure_in e in inr (inr (inl (sym (ap status_of same))))
 
-  module _ (h : EndsSo failed name files key ask input out err) where
-    read_fault : (ended_by : Option SessionEnd) (rest read : List ℕ) → h.served.end ≡ serve.ReadFault → EndsBy h.served.end ended_by rest read input → Rose input.faults_before input.faults
-    read_fault ended_by rest read is ends = (subst (λ (e : ServeEnd). EndsBy e ended_by rest read input) is ends).2
+  module _ (h : EndsSo failed name key ask old new) where
+    read_fault : (ended_by : Option SessionEnd) (rest read : List ℕ) → h.served.end ≡ serve.ReadFault → EndsBy h.served.end ended_by rest read (changed old.input new.input) → Rose old.input.faults new.input.faults
+    read_fault ended_by rest read is ends = (subst (λ (e : ServeEnd). EndsBy e ended_by rest read (changed old.input new.input)) is ends).2
 
     abbrev IsCutShort : Type 0
-    IsCutShort = IsCut h.served h.is.program ask.bound key input out err
+    IsCutShort = IsCut h.served h.is.program ask.bound key (changed old.input new.input) (changed old.out new.out) (changed old.err new.err)
 
-    cut_by : (e : ServeEnd) → h.served.end ≡ e → (cut : IsCutShort) → CutBy e h.served.outcome h.is.program ask.bound cut.taken out err
-    cut_by e is cut = subst (λ (e : ServeEnd). CutBy e h.served.outcome h.is.program ask.bound cut.taken out err) is cut.by
+    cut_by : (e : ServeEnd) → h.served.end ≡ e → (cut : IsCutShort) → CutBy e h.served.outcome h.is.program ask.bound cut.taken (changed old.out new.out) (changed old.err new.err)
+    cut_by e is cut = subst (λ (e : ServeEnd). CutBy e h.served.outcome h.is.program ask.bound cut.taken (changed old.out new.out) (changed old.err new.err)) is cut.by
 
-    write_fault : h.served.end ≡ serve.WriteFault → IsCutShort → Rose out.faults_before out.faults
+    write_fault : h.served.end ≡ serve.WriteFault → IsCutShort → Rose old.out.faults new.out.faults
     write_fault is cut = (cut_by serve.WriteFault is cut).0
 
-    out_fault : h.served.end ≡ serve.OutFault → IsCutShort → Rose err.faults_before err.faults
+    out_fault : h.served.end ≡ serve.OutFault → IsCutShort → Rose old.err.faults new.err.faults
     out_fault is cut = (cut_by serve.OutFault is cut).0
 
-    by_end : (e : ServeEnd) → h.served.end ≡ e → ServesTo e h.served h.is.program ask.bound key input out err → judged_by ask h.served.outcome e ≡ Err (failed, name) → IsTalkEnd failed
+    by_end : (e : ServeEnd) → h.served.end ≡ e → ServesTo e h.served h.is.program ask.bound key (changed old.input new.input) (changed old.out new.out) (changed old.err new.err) → judged_by ask h.served.outcome e ≡ Err (failed, name) → IsTalkEnd failed
     by_end serve.Stopped is s e = by_outcome h.served.outcome e
     by_end serve.Detached is s e = by_outcome h.served.outcome e
     by_end serve.LinkEnd is s e = by_outcome h.served.outcome e
-    by_end serve.ReadFault is s e = absurd (taken (read_fault _ _ _ is s.ends))
-    by_end serve.WriteFault is s e = absurd (sent (write_fault is s))
-    by_end serve.OutFault is s e = absurd (put (out_fault is s))
+    by_end serve.ReadFault is s e = absurd (none.input_not (read_fault _ _ _ is s.ends))
+    by_end serve.WriteFault is s e = absurd (none.out_not (write_fault is s))
+    by_end serve.OutFault is s e = absurd (none.err_not (out_fault is s))
     by_end (serve.BadCommandFrame offset) is s e = let same : failure.Packet offset ≡ failed = ap failure_in e in inl (sym (ap status_of same))
     by_end serve.ByteLimit is s e = let same : failure.Packet 4294967295 ≡ failed = ap failure_in e in inl (sym (ap status_of same))
     by_end serve.Memory is s e = let same : failure.Memory ≡ failed = ap failure_in e in inr (inr (inr (sym (ap status_of same))))
 
-  talk_end : TalkFails failed name files before after key ask input out err → IsTalkEnd failed
+  talk_end : TalkFails failed name key ask old new → IsTalkEnd failed
   talk_end (inl memory) = inr (inr (inr (ap status_of memory.0)))
   talk_end (inr (inl u)) = unserved u.cause u.caused u.told.0
   talk_end (inr (inr h)) = by_end h h.served.end refl h.is.serves h.told
 
+-- what the files of the program that is asked for make decides whether it fails by a bad source
+abbrev IsNoBadTask : Task → Refused → Seen → Seen → Type 0
+IsNoBadTask task refused old new = (ask : Ask) → ask_in task ≡ Some ask → AreHeld {A = ℕ} ask (Err refused) old new
+
 -- the same of the call's answer
-pub complete_talk_told : (status : ℕ) (words : List (List ℕ)) (files : Files) (before after : ℕ) (task : Task) (input out err : Change) (refused : Refused) (A B : Type 0) → Asks words task
-    → Caused refused.failure refused.name.now task files before after input out err
-    → ((ask : Ask) (asked : Result Bundle BundleError) → ask_in task ≡ Some ask → Holds files ask.names asked → IsHeld {A = ℕ} asked (Err refused) before after)
+pub complete_talk_told : (status : ℕ) (words : List (List ℕ)) (task : Task) (old new : Seen) (refused : Refused) (A B : Type 0) → Asks words task
+    → Caused refused.failure refused.name.now task old new → IsNoBadTask task refused old new
     → ((status ≡ status_of refused.failure) × A) ⊎ ((status ≡ 209) × B)
-    → (key : List ℕ) (ask : Ask) (program : Bundle) → IsTalk words key ask → Holds files ask.names (Ok program)
-    → (Rose before after → ⊥) → (Rose input.faults_before input.faults → ⊥) → (Rose out.faults_before out.faults → ⊥) → (Rose err.faults_before err.faults → ⊥)
+    → (key : List ℕ) (ask : Ask) (program : Bundle) → IsTalk words key ask → Holds old.shelf.files ask.names (Ok program) → NoneRose old new
     → (status ≤ 199) ⊎ (status ≡ 207) ⊎ (status ≡ 210) ⊎ (status ≡ 255) ⊎ (status ≡ 209)
-complete_talk_told status words files before after task input out err refused A B asks caused held told key ask program is holds shelf taken sent put =
+complete_talk_told status words task old new refused A B asks caused held told key ask program is holds none =
     let same = one_task words task (talk key ask) asks is in
-    let fails = subst (λ (t : Task). Caused refused.failure refused.name.now t files before after input out err) same caused in
-    by told (talk_end refused.failure refused.name.now files before after key ask input out err (held ask (Ok program) (ap ask_in same) holds) shelf taken sent put fails) where
+    let fails = subst (λ (t : Task). Caused refused.failure refused.name.now t old new) same caused in
+    by told (talk_end refused.failure refused.name.now key ask old new ((held ask (ap ask_in same)).by_files (Ok program) holds) none fails) where
       by : ((status ≡ status_of refused.failure) × A) ⊎ ((status ≡ 209) × B)
           → (status_of refused.failure ≡ 207) ⊎ (status_of refused.failure ≡ 210) ⊎ (status_of refused.failure ≡ 255) ⊎ (status_of refused.failure ≡ 209)
           → (status ≤ 199) ⊎ (status ≡ 207) ⊎ (status ≡ 210) ⊎ (status ≡ 255) ⊎ (status ≡ 209)
@@ -256,31 +235,29 @@ complete_talk_told status words files before after task input out err refused A 
 -- ---- `run`
 
 -- where no count rose and the files are not told as bad, what fails is the program's end or memory
-module _ (failed : Failure) (files : Files) (before after : ℕ) (ask : Ask) (out : Change) (good : IsGood failed) (shelf : Rose before after → ⊥) (put : Rose out.faults_before out.faults → ⊥) where
+module _ (failed : Failure) (ask : Ask) (old new : Seen) (good : IsGood failed) (none : NoneRose old new) where
   abbrev IsEnd : Failure → Type 0
   IsEnd f = (status_of f ≡ 255) ⊎ (status_of f ≡ 209)
 
-  by_why : (why : RunError) → RunCaused why files before after ask.names ask.bound out → failed ≡ failure_told ask.bound why → IsEnd failed
-  by_why (end.Program why) caused told = inr (no_program failed files before after ask.names good shelf why caused.0 told)
+  by_why : (why : RunError) → RunCaused why old.shelf.files old.shelf.faults new.shelf.faults ask.names ask.bound (changed old.out new.out) → failed ≡ failure_told ask.bound why → IsEnd failed
+  by_why (end.Program why) caused told = inr (no_program failed _ _ _ ask.names good none.shelf why caused.0 told)
   by_why (end.Fatal kind file line) caused told = inl (ap status_of told)
   by_why end.Bound caused told = inl (ap status_of told)
-  by_why end.OutFault caused told = absurd (put caused.1)
+  by_why end.OutFault caused told = absurd (none.out_not caused.1)
   by_why end.Memory caused told = inr (ap status_of told)
 
-  by_told : (name : List ℕ) → RunFails failed name files before after ask out → IsEnd failed
+  by_told : (name : List ℕ) → RunFails failed name old.shelf.files old.shelf.faults new.shelf.faults ask (changed old.out new.out) → IsEnd failed
   by_told name fails = ⊎_elim (λ t. by_why fails.why fails.caused t.0) (λ starved. inr (ap status_of starved.0)) fails.told
 
-pub complete_run_told : (status : ℕ) (words : List (List ℕ)) (files : Files) (before after : ℕ) (task : Task) (input out err : Change) (refused : Refused) (A B : Type 0) → Asks words task
-    → Caused refused.failure refused.name.now task files before after input out err
-    → ((ask : Ask) (asked : Result Bundle BundleError) → ask_in task ≡ Some ask → Holds files ask.names asked → IsHeld {A = ℕ} asked (Err refused) before after)
+pub complete_run_told : (status : ℕ) (words : List (List ℕ)) (task : Task) (old new : Seen) (refused : Refused) (A B : Type 0) → Asks words task
+    → Caused refused.failure refused.name.now task old new → IsNoBadTask task refused old new
     → ((status ≡ status_of refused.failure) × A) ⊎ ((status ≡ 209) × B)
-    → (ask : Ask) (program : Bundle) → IsRun words ask → Holds files ask.names (Ok program) → (Rose before after → ⊥) → (Rose out.faults_before out.faults → ⊥)
+    → (ask : Ask) (program : Bundle) → IsRun words ask → Holds old.shelf.files ask.names (Ok program) → NoneRose old new
     → (status ≤ 199) ⊎ (status ≡ 255) ⊎ (status ≡ 209)
-complete_run_told status words files before after task input out err refused A B asks caused held told ask program is holds shelf put =
+complete_run_told status words task old new refused A B asks caused held told ask program is holds none =
     let same = one_task words task (run ask) asks is in
-    let fails : RunFails refused.failure refused.name.now files before after ask out =
-    (subst (λ (t : Task). Caused refused.failure refused.name.now t files before after input out err) same caused).0 in
-    by told (by_told refused.failure files before after ask out (held ask (Ok program) (ap ask_in same) holds) shelf put refused.name.now fails) where
+    let fails = (subst (λ (t : Task). Caused refused.failure refused.name.now t old new) same caused).0 in
+    by told (by_told refused.failure ask old new ((held ask (ap ask_in same)).by_files (Ok program) holds) none refused.name.now fails) where
       by : ((status ≡ status_of refused.failure) × A) ⊎ ((status ≡ 209) × B) → (status_of refused.failure ≡ 255) ⊎ (status_of refused.failure ≡ 209)
           → (status ≤ 199) ⊎ (status ≡ 255) ⊎ (status ≡ 209)
       by (inr t) end = inr (inr t.0)
@@ -317,11 +294,11 @@ show_fails (failure.Fatal kind line) input out i o h = absurd h
 show_fails (failure.Bound steps) input out i o h = absurd h
 show_fails failure.NoFile input out i o h = absurd h
 
-pub complete_show_fails : (status : ℕ) (words : List (List ℕ)) (files : Files) (before after : ℕ) (input out err : Change) → Fails status words files before after input out err
-    → Asks words show → NoneRose before after input out err → (status ≡ 0) ⊎ (status ≡ 206) ⊎ (status ≡ 207) ⊎ (status ≡ 209)
-complete_show_fails status words files before after input out err f asks none =
-    let caused = caused_of status words files before after input out err f show asks in
-    by (show_fails f.failure input out none.input_not none.out_not caused.1) where
+pub complete_show_fails : (status : ℕ) (words : List (List ℕ)) (old new : Seen) → Fails status words old new
+    → Asks words show → NoneRose old new → (status ≡ 0) ⊎ (status ≡ 206) ⊎ (status ≡ 207) ⊎ (status ≡ 209)
+complete_show_fails status words old new f asks none =
+    let caused = caused_of status words old new f show asks in
+    by (show_fails f.failure _ _ none.input_not none.out_not caused.1) where
       by : (status_of f.failure ≡ 206) ⊎ (status_of f.failure ≡ 207) ⊎ (status_of f.failure ≡ 209) → (status ≡ 0) ⊎ (status ≡ 206) ⊎ (status ≡ 207) ⊎ (status ≡ 209)
       by (inl e) = inr (inl (f.is_status ∙ e))
       by (inr (inl e)) = inr (inr (inl (f.is_status ∙ e)))
@@ -332,8 +309,8 @@ pub asks_show : (words : List (List ℕ)) (task : Task) → Asks words task → 
 asks_show words task asks other = one_task words task show asks other
 
 -- what was shown well has the status 0
-pub shows_well : (status : ℕ) (words : List (List ℕ)) (files : Files) (task : Task) (input out err : Change) → Asks words task → Does status task files input out err → Asks words show → status ≡ 0
-shows_well status words files task input out err asks does is = (subst (λ (t : Task). Does status t files input out err) (one_task words task show asks is) does).0
+pub shows_well : (status : ℕ) (words : List (List ℕ)) (task : Task) (old new : Seen) → Asks words task → Does status task old new → Asks words show → status ≡ 0
+shows_well status words task old new asks does is = (subst (λ (t : Task). Does status t old new) (one_task words task show asks is) does).0
 
 -- what was fetched for the task that is asked for
 pub asks_fetched : (words : List (List ℕ)) (task other : Task) (before after : FetchedTold) → Asks words task → IsFetched (ask_in task) before after → Asks words other → IsFetched (ask_in other) before after

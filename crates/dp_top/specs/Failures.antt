@@ -1,5 +1,5 @@
 -- What is told of a failure: a status, and a line on the error output.
-use Rattle.std.specs.Prelude.{◌⊎◌, ℕ, ◌≤◌, List, ◌++◌, codes, Option}
+use Rattle.std.specs.Prelude.{◌⊎◌, ℕ, List, ◌++◌, codes}
 use Rattle.std.specs.Fmt.{decimal}
 use Rattle.std.specs.Io.KnownBytes.{Appends}
 use Rattle.dp_outside.specs.Causes.{Rose}
@@ -65,11 +65,3 @@ line_of Memory name = codes "out of memory\n"
 -- the line was put, or the put failed and a front of it stands there
 abbrev pub Says : Change → List ℕ → Type 0
 Says err line = Appends err.told_before err.told line ⊎ (Rose err.faults_before err.faults × AppendsFront err.told_before err.told line)
-
--- the object first changed so, and then the line was said
-pub record ThenSays (err : Change) (First : Change → Type 0) (line : List ℕ) : Type 0 where
-  pub between : Option (List ℕ)
-  pub faults_between : ℕ
-  pub first : First (record { told_before = err.told_before; told = between; faults_before = err.faults_before; faults = faults_between })
-  pub later : faults_between ≤ err.faults
-  pub says : Says (record { told_before = between; told = err.told; faults_before = faults_between; faults = err.faults }) line

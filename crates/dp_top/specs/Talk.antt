@@ -8,7 +8,7 @@ use Rattle.dp_engine.specs.declared.serving.Served.{Served}
 use Rattle.dp_engine.specs.Serving.{Serves}
 use Rattle.dp_run.specs.declared.error.RunError.{RunError}
 use Rattle.dp_run.specs.declared.error.ProgramError.{ProgramError}
-use Rattle.dp_run.specs.Programs.{Files, Make, NoProgram}
+use Rattle.dp_run.specs.Programs.{Make, NoProgram}
 use Rattle.dp_run.specs.Runs.{judged as judged_end}
 use Rattle.dp_serving.specs.Serving.{byte_limit}
 use Rattle.dp_state.specs.declared.moments.Outcome.{Outcome}
@@ -16,6 +16,7 @@ use Rattle.dp_top.specs.declared.failures.Failure.{Failure}
 use Rattle.dp_top.specs.declared.failures.Failure.TheVariants as failure
 use Rattle.dp_top.specs.CommandLine.{Ask}
 use Rattle.dp_top.specs.Runs.{IsProgramTold, failure_of, name_told}
+use Rattle.dp_top.specs.Seen.{Seen, changed}
 
 -- ---- what is told of an end
 
@@ -54,15 +55,16 @@ judged ask served = judged_by ask served.outcome served.end
 -- ---- what it does
 
 -- the session of this key over the program was served so
-pub record IsServed (served : Served) (files : Files) (key : List ℕ) (ask : Ask) (input out err : Change) : Type 0 where
+pub record IsServed (served : Served) (key : List ℕ) (ask : Ask) (old new : Seen) : Type 0 where
   pub program : Bundle
-  pub made : Make files ask.names (Ok program)
-  pub serves : Serves served program ask.bound key input out err
+  pub made : Make old.shelf.files ask.names (Ok program)
+  pub serves : Serves served program ask.bound key
+      (changed old.input new.input) (changed old.out new.out) (changed old.err new.err)
 
 -- it went well, with this status; the program's own output goes to `err`
-pub record Talks (status : ℕ) (files : Files) (key : List ℕ) (ask : Ask) (input out err : Change) : Type 0 where
+pub record Talks (status : ℕ) (key : List ℕ) (ask : Ask) (old new : Seen) : Type 0 where
   pub served : Served
-  pub is : IsServed served files key ask input out err
+  pub is : IsServed served key ask old new
   pub told : judged ask served ≡ Ok status
 
 -- nothing was read or written
@@ -71,24 +73,30 @@ pub record IsIdle (input out err : Change) : Type 0 where
   pub out_stays : IsUntouched out
   pub err_stays : IsUntouched err
 
+abbrev pub AreIdle : Seen → Seen → Type 0
+AreIdle old new =
+    IsIdle (changed old.input new.input) (changed old.out new.out) (changed old.err new.err)
+
 -- there is no program
-pub record IsUnserved (why : Failure) (name : List ℕ) (files : Files) (before after : ℕ) (ask : Ask) (input out err : Change) : Type 0 where
+pub record IsUnserved (why : Failure) (name : List ℕ) (ask : Ask) (old new : Seen) : Type 0 where
   pub cause : ProgramError
-  pub caused : NoProgram cause files before after ask.names
+  pub caused : NoProgram cause old.shelf.files old.shelf.faults new.shelf.faults ask.names
   pub told : IsProgramTold why name ask cause
-  pub idle : IsIdle input out err
+  pub idle : AreIdle old new
 
 -- The session was served, and its end is this failure. What `out` and `err` have taken then is said with each end of serving.
-pub record EndsSo (why : Failure) (name : List ℕ) (files : Files) (key : List ℕ) (ask : Ask) (input out err : Change) : Type 0 where
+pub record EndsSo (why : Failure) (name key : List ℕ) (ask : Ask) (old new : Seen) : Type 0 where
   pub served : Served
-  pub is : IsServed served files key ask input out err
+  pub is : IsServed served key ask old new
   pub told : judged ask served ≡ Err (why, name)
 
 -- memory ran out before the session began, or once it was served, to whatever end
-abbrev pub IsStarved : Files → List ℕ → Ask → Change → Change → Change → Type 0
-IsStarved files key ask input out err = IsIdle input out err ⊎ ((served : Served) × IsServed served files key ask input out err)
+abbrev pub IsStarved : List ℕ → Ask → Seen → Seen → Type 0
+IsStarved key ask old new =
+    AreIdle old new ⊎ ((served : Served) × IsServed served key ask old new)
 
 -- why it failed
-abbrev pub TalkFails : Failure → List ℕ → Files → ℕ → ℕ → List ℕ → Ask → Change → Change → Change → Type 0
-TalkFails why name files before after key ask input out err =
-    ((why ≡ failure.Memory) × IsStarved files key ask input out err) ⊎ IsUnserved why name files before after ask input out err ⊎ EndsSo why name files key ask input out err
+abbrev pub TalkFails : Failure → List ℕ → List ℕ → Ask → Seen → Seen → Type 0
+TalkFails why name key ask old new =
+    ((why ≡ failure.Memory) × IsStarved key ask old new)
+    ⊎ IsUnserved why name ask old new ⊎ EndsSo why name key ask old new

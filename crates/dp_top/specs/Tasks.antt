@@ -1,6 +1,5 @@
 -- The answers of the top call: what each task does, and why it fails.
-use Rattle.std.specs.Prelude.{◌≡◌, ℕ, List, [], Ok, Err}
-use Rattle.dp_outside.specs.Causes.{Rose}
+use Rattle.std.specs.Prelude.{◌≡◌, ℕ, ◌≤◌, List, [], Ok, Err}
 use Rattle.dp_outside.specs.Changes.{Change, IsUntouched}
 use Rattle.dp_show.specs.declared.error.ShowError.{ShowError}
 use Rattle.dp_show.specs.declared.error.ShowError.TheVariants as ends
@@ -8,10 +7,10 @@ use Rattle.dp_show.specs.Shows.{Shows, Ends}
 use Rattle.dp_top.specs.declared.failures.Failure.{Failure}
 use Rattle.dp_top.specs.declared.failures.Failure.TheVariants.{TooLong, Source, ShelfFailed, NoFile, Fatal, Bound, Output, PeerEnd, Packet, Network, Stopped, Memory}
 use Rattle.dp_top.specs.CommandLine.{Task, run, talk, show, Asks}
-use Rattle.dp_top.specs.Failures.{status_of, line_of, ThenSays}
-use Rattle.dp_run.specs.Programs.{Files}
+use Rattle.dp_top.specs.Failures.{status_of, line_of, Says}
 use Rattle.dp_run.specs.Runs.{Runs}
 use Rattle.dp_top.specs.Runs.{RunFails}
+use Rattle.dp_top.specs.Seen.{Seen, Stream, changed}
 use Rattle.dp_top.specs.Talk.{Talks, TalkFails}
 
 -- ---- `show`
@@ -41,38 +40,50 @@ ShowCaused NoFile input out = ⊥
 
 -- ---- each task
 
+abbrev pub IsStill : Stream → Stream → Type 0
+IsStill old new = IsUntouched (changed old new)
+
 -- it went well, with this status
-abbrev pub Does : ℕ → Task → Files → Change → Change → Change → Type 0
-Does status (run ask) files input out err = Runs status files ask.names ask.bound out × IsUntouched input × IsUntouched err
-Does status (talk key ask) files input out err = Talks status files key ask input out err
-Does status show files input out err = (status ≡ 0) × Shows (Ok tt) input out × IsUntouched err
+abbrev pub Does : ℕ → Task → Seen → Seen → Type 0
+Does status (run ask) old new =
+    Runs status old.shelf.files ask.names ask.bound (changed old.out new.out)
+    × IsStill old.input new.input × IsStill old.err new.err
+Does status (talk key ask) old new = Talks status key ask old new
+Does status show old new =
+    (status ≡ 0) × Shows (Ok tt) (changed old.input new.input) (changed old.out new.out)
+    × IsStill old.err new.err
 
 -- why it failed; the name is that of the file that the failure is of, else nothing
-abbrev pub Caused : Failure → List ℕ → Task → Files → ℕ → ℕ → Change → Change → Change → Type 0
-Caused failure name (run ask) files before after input out err = RunFails failure name files before after ask out × IsUntouched input × IsUntouched err
-Caused failure name (talk key ask) files before after input out err = TalkFails failure name files before after key ask input out err
-Caused failure name show files before after input out err = (name ≡ []) × ShowCaused failure input out × IsUntouched err
+abbrev pub Caused : Failure → List ℕ → Task → Seen → Seen → Type 0
+Caused failure name (run ask) old new =
+    RunFails failure name old.shelf.files old.shelf.faults new.shelf.faults ask
+    (changed old.out new.out)
+    × IsStill old.input new.input × IsStill old.err new.err
+Caused failure name (talk key ask) old new = TalkFails failure name key ask old new
+Caused failure name show old new =
+    (name ≡ []) × ShowCaused failure (changed old.input new.input) (changed old.out new.out)
+    × IsStill old.err new.err
 
 -- ---- the answers
 
--- A status is that of a failure: it has its cause, and its line is said.
-pub record Fails (status : ℕ) (words : List (List ℕ)) (files : Files) (before after : ℕ) (input out err : Change) : Type 0 where
+-- these objects before a line was put on the error output, which was this then
+abbrev pub before_line : Seen → Stream → Seen
+before_line new err = record { shelf = new.shelf; input = new.input; out = new.out; err = err }
+
+-- A status is that of a failure: it has its cause, and then its line is said.
+pub record Fails (status : ℕ) (words : List (List ℕ)) (old new : Seen) : Type 0 where
   pub task : Task
   pub asks : Asks words task
   pub failure : Failure
   pub name : List ℕ
   pub is_status : status ≡ status_of failure
-  pub told : ThenSays err (Caused failure name task files before after input out) (line_of failure name)
+  pub err : Stream
+  pub caused : Caused failure name task old (before_line new err)
+  pub later : err.faults ≤ new.err.faults
+  pub says : Says (changed err new.err) (line_of failure name)
 
 -- The words are in their grammar, and what they ask for went well, with this status.
-pub record IsDone (status : ℕ) (words : List (List ℕ)) (files : Files) (input out err : Change) : Type 0 where
+pub record IsDone (status : ℕ) (words : List (List ℕ)) (old new : Seen) : Type 0 where
   pub task : Task
   pub asks : Asks words task
-  pub does : Does status task files input out err
-
--- no count of faults rose
-pub record NoneRose (before after : ℕ) (input out err : Change) : Type 0 where
-  pub shelf : Rose before after → ⊥
-  pub input_not : Rose input.faults_before input.faults → ⊥
-  pub out_not : Rose out.faults_before out.faults → ⊥
-  pub err_not : Rose err.faults_before err.faults → ⊥
+  pub does : Does status task old new

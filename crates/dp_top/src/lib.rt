@@ -5,6 +5,7 @@ mod command_line;
 mod commands;
 mod failures;
 mod names;
+mod objects;
 mod run;
 mod talk;
 mod top_call;

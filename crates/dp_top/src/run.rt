@@ -53,12 +53,12 @@ fn program_name<'a>(names: &'a [String], why: &ProgramError) -> &'a [u8]
 }
 
 /// What is told of files that make no program.
-pub fn told_of_files<'a>(program: Program<'a>, why: &ProgramError) -> Refused<'a>
-    ensures { IsProgramTold result.failure result.name.now (ask_told program.entry) why.now }
+pub fn told_of_files<'a>(program: Program<'a>, why: ProgramError) -> Refused<'a>
+    ensures { IsProgramTold result.failure result.name.now (ask_told program.entry) why }
 {
     Refused {
-        failure: program_failure(why),
-        name: program_name(program.files, why),
+        failure: program_failure(&why),
+        name: program_name(program.files, &why),
     }
 }
 

@@ -1,18 +1,18 @@
 //! The command `talk`: one session over the program's own input and output.
-ghost use Rattle.std.specs.Prelude.{◌≡◌, ◌<◌, ◌≤◌, ℕ, Ok, map, Some, IfOk, Result, MatchResult};
+ghost use Rattle.std.specs.Prelude.{◌≡◌, ◌<◌, ◌≤◌, ℕ, Ok, map, Some, IfOk, MatchResult};
 ghost use Rattle.dp_outside.specs.Changes.{change};
 ghost use Rattle.dp_tree.specs.declared.bundle.Bundle.{Bundle as Made};
-ghost use Rattle.dp_bundle.specs.declared.errors.BundleError.{BundleError as Unmade};
-ghost use Rattle.dp_run.specs.Programs.{Holds};
 ghost use Rattle.dp_top.specs.CommandLine.{IsSession};
 ghost use Rattle.dp_top.specs.inner.Commands.{ask_told};
 ghost use Rattle.dp_top.specs.Runs.{IsFetched};
-ghost use Rattle.dp_top.specs.inner.Held.{IsHeld};
+ghost use Rattle.dp_top.specs.inner.Held.{AreHeld, IsHeld};
+ghost use Rattle.dp_top.specs.inner.Kept.{GoesOn};
 ghost use Rattle.dp_top.specs.Talk.{Talks, TalkFails, ended, judged};
 ghost use Rattle.dp_top.specs.inner.Sessions.{ServedSo, UnservedSo, told_in};
 
 use crate::command_line::{Program, Talk};
 use crate::failures::{Failure, Refused};
+use crate::objects::Objects;
 use crate::run::{told, told_of_files};
 use dp_engine::{ServeEnd, Served, Session, Steps, serve};
 use dp_outside::{Shelf, Sink, Source};
@@ -95,41 +95,37 @@ fn serve_program<'a, S: Source, K: Sink, E: Sink, L: Ledger>(
 }
 
 /// Serves one session with `input` and `out` as the link; the program's own output goes to `err`.
-pub fn talk<'a, H: Shelf, S: Source, K: Sink, E: Sink>(
+pub(crate) fn talk<'a, H: Shelf, S: Source, K: Sink, E: Sink>(
     alloc: Global,
     request: Talk<'a>,
-    shelf: &mut H,
-    input: &mut S,
-    out: &mut K,
-    err: &mut E,
+    objects: &mut Objects<H, S, K, E>,
 ) -> Result<u8, Refused<'a>>
     requires { IsSession request.key.now (ask_told request.program) }
     ensures ends { MatchResult result
-        (λ status. Talks status (H.files shelf.old) request.entry.key.now (ask_told request.entry.program)
-        (change S.left S.faults input.old input.new) (change K.taken K.faults out.old out.new)
-        (change E.taken E.faults err.old err.new))
-        (λ why. TalkFails why.failure why.name.now (H.files shelf.old) (H.faults shelf.old) (H.faults shelf.new)
-        request.entry.key.now (ask_told request.entry.program)
-        (change S.left S.faults input.old input.new) (change K.taken K.faults out.old out.new)
-        (change E.taken E.faults err.old err.new)) }
+        (λ status. Talks status request.entry.key.now (ask_told request.entry.program)
+        objects.old.seen objects.new.seen)
+        (λ why. TalkFails why.failure why.name.now request.entry.key.now (ask_told request.entry.program)
+        objects.old.seen objects.new.seen) }
     ensures status { IfOk result (λ status. status ≤ 199) }
     // Files that make a program are no bad source, and those that make none are one, unless the shelf failed.
-    ensures held { (asked : Result Made Unmade) → Holds (H.files shelf.old) (ask_told request.entry.program).names asked
-        → IsHeld asked result (H.faults shelf.old) (H.faults shelf.new) }
-    ensures fetched { IsFetched (Some (ask_told request.entry.program)) (H.fetched shelf.old) (H.fetched shelf.new) }
-    ensures files { H.files shelf.new ≡ H.files shelf.old }
-
-    ensures shelf_later { H.faults shelf.old ≤ H.faults shelf.new }
-    ensures input_later { S.faults input.old ≤ S.faults input.new }
-    ensures out_later { K.faults out.old ≤ K.faults out.new }
-    ensures err_later { E.faults err.old ≤ E.faults err.new }
+    ensures held { AreHeld (ask_told request.entry.program) result objects.old.seen objects.new.seen }
+    ensures fetched { IsFetched (Some (ask_told request.entry.program)) objects.old.seen.shelf.fetched objects.new.seen.shelf.fetched }
+    ensures goes_on { GoesOn objects.old objects.new }
 {
-    match fetch_program(alloc, request.program.files, shelf) {
+    match fetch_program(alloc, request.program.files, objects.shelf) {
         Ok(bundle) => {
             // Nobody asks for the steps.
             let blank = Blank::new(1);
-            serve_program::<S, K, E, Brand>(alloc, request, &bundle, input, out, err, blank)
+            serve_program::<S, K, E, Brand>(
+                alloc,
+                request,
+                &bundle,
+                objects.input,
+                objects.out,
+                objects.err,
+                blank,
+            )
         }
-        Err(why) => Err(told_of_files(request.program, &why)),
+        Err(why) => Err(told_of_files(request.program, why)),
     }
 }

@@ -8,10 +8,11 @@ ghost use Rattle.dp_top.specs.CommandLine.{Ask, IsRun, IsTalk, Task, Asks, ask_i
 ghost use Rattle.dp_top.specs.Failures.{Says};
 ghost use Rattle.dp_run.specs.Programs.{Holds};
 ghost use Rattle.dp_top.specs.Runs.{IsFetched};
-ghost use Rattle.dp_top.specs.Tasks.{IsDone, Fails, NoneRose};
+ghost use Rattle.dp_top.specs.Seen.{NoneRose, seen};
+ghost use Rattle.dp_top.specs.Tasks.{IsDone, Fails};
 
 use crate::command_line::read_words;
-use crate::commands::carry_out;
+use crate::commands::carry_out_on;
 use crate::failures::{report, say};
 use dp_outside::{Net, Shelf, Sink, Source, Spawner};
 use std::alloc::Global;
@@ -57,25 +58,25 @@ pub fn top<R: Wait + Sync, H: Shelf, S: Source, K: Sink, E: Sink, N: Net, P: Spa
     ensures usage_shelf { result ≡ 200 → H.faults shelf.new ≡ H.faults shelf.old }
     ensures usage_fetched { result ≡ 200 → H.fetched shelf.new ≡ H.fetched shelf.old }
 
-    ensures done { result ≤ 199 → IsDone result (map string_bytes words.now) (H.files shelf.old)
-        (change S.left S.faults input.old input.new) (change K.taken K.faults out.old out.new)
-        (change E.taken E.faults err.old err.new) }
-    ensures fails { 200 < result → Fails result (map string_bytes words.now) (H.files shelf.old)
-        (H.faults shelf.old) (H.faults shelf.new) (change S.left S.faults input.old input.new)
-        (change K.taken K.faults out.old out.new) (change E.taken E.faults err.old err.new) }
+    ensures done { result ≤ 199 → IsDone result (map string_bytes words.now)
+        (seen H.Shelf S.Source K.Sink E.Sink shelf.old input.old out.old err.old)
+        (seen H.Shelf S.Source K.Sink E.Sink shelf.new input.new out.new err.new) }
+    ensures fails { 200 < result → Fails result (map string_bytes words.now)
+        (seen H.Shelf S.Source K.Sink E.Sink shelf.old input.old out.old err.old)
+        (seen H.Shelf S.Source K.Sink E.Sink shelf.new input.new out.new err.new) }
 
     // Where the shelf tells the files, they make a program, and no count rose, it is run to its end, and all that it wrote
     // is put.
     ensures complete_run { (ask : Ask) (program : Bundle) → IsRun (map string_bytes words.now) ask
         → Holds (H.files shelf.old) ask.names (Ok program)
-        → NoneRose (H.faults shelf.old) (H.faults shelf.new) (change S.left S.faults input.old input.new)
-        (change K.taken K.faults out.old out.new) (change E.taken E.faults err.old err.new)
+        → NoneRose (seen H.Shelf S.Source K.Sink E.Sink shelf.old input.old out.old err.old)
+        (seen H.Shelf S.Source K.Sink E.Sink shelf.new input.new out.new err.new)
         → (result ≤ 199) ⊎ (result ≡ 255) ⊎ (result ≡ 209) }
     // Likewise the session is served whole, or what is no command is told.
     ensures complete_talk { (key : List ℕ) (ask : Ask) (program : Bundle) → IsTalk (map string_bytes words.now) key ask
         → Holds (H.files shelf.old) ask.names (Ok program)
-        → NoneRose (H.faults shelf.old) (H.faults shelf.new) (change S.left S.faults input.old input.new)
-        (change K.taken K.faults out.old out.new) (change E.taken E.faults err.old err.new)
+        → NoneRose (seen H.Shelf S.Source K.Sink E.Sink shelf.old input.old out.old err.old)
+        (seen H.Shelf S.Source K.Sink E.Sink shelf.new input.new out.new err.new)
         → (result ≤ 199) ⊎ (result ≡ 207) ⊎ (result ≡ 210) ⊎ (result ≡ 255) ⊎ (result ≡ 209) }
     // Where they make none, that is told, unless the shelf fails first.
     ensures refused { (task : Task) (ask : Ask) (why : BundleError) → Asks (map string_bytes words.now) task → ask_in task ≡ Some ask
@@ -83,8 +84,8 @@ pub fn top<R: Wait + Sync, H: Shelf, S: Source, K: Sink, E: Sink, N: Net, P: Spa
         → (result ≡ 201) ⊎ (result ≡ 209) ⊎ Rose (H.faults shelf.old) (H.faults shelf.new) }
     // Where no count rose, every packet is shown, or the input ended inside one, or what is no packet is told.
     ensures complete_show { Asks (map string_bytes words.now) Task.show
-        → NoneRose (H.faults shelf.old) (H.faults shelf.new) (change S.left S.faults input.old input.new)
-        (change K.taken K.faults out.old out.new) (change E.taken E.faults err.old err.new)
+        → NoneRose (seen H.Shelf S.Source K.Sink E.Sink shelf.old input.old out.old err.old)
+        (seen H.Shelf S.Source K.Sink E.Sink shelf.new input.new out.new err.new)
         → (result ≡ 0) ⊎ (result ≡ 206) ⊎ (result ≡ 207) ⊎ (result ≡ 209) }
 
     ensures show_shelf { Asks (map string_bytes words.now) Task.show → H.faults shelf.new ≡ H.faults shelf.old }
@@ -104,7 +105,7 @@ pub fn top<R: Wait + Sync, H: Shelf, S: Source, K: Sink, E: Sink, N: Net, P: Spa
             say(err, b"usage\n");
             200
         }
-        Some(command) => match carry_out(alloc, command, shelf, input, out, err) {
+        Some(command) => match carry_out_on(alloc, command, shelf, input, out, err) {
             Ok(status) => status,
             Err(refused) => report(alloc, refused.failure, refused.name, err),
         },

@@ -6,7 +6,10 @@ use Rattle.dp_bundle.specs.declared.errors.BundleError.{BundleError}
 use Rattle.dp_top.specs.declared.failures.Failure.{Failure}
 use Rattle.dp_top.specs.declared.failures.Failure.TheVariants.{NoFile, Memory}
 use Rattle.dp_top.specs.declared.failures.Refused.{Refused}
+use Rattle.dp_run.specs.Programs.{Holds}
+use Rattle.dp_top.specs.CommandLine.{Ask}
 use Rattle.dp_top.specs.Failures.{status_of}
+use Rattle.dp_top.specs.Seen.{Seen}
 
 -- it is told as a bad source, or memory ran out
 abbrev pub IsBadSource : Failure → Type 0
@@ -16,3 +19,8 @@ IsBadSource failure = (status_of failure ≡ 201) ⊎ (failure ≡ Memory)
 abbrev pub IsHeld : {A : Type 0} → Result Bundle BundleError → Result A Refused → ℕ → ℕ → Type 0
 IsHeld (Ok program) result before after = IfErr result (λ why. (status_of why.failure ≢ 201) × (why.failure ≢ NoFile))
 IsHeld (Err e) result before after = MatchResult result (λ _. ⊥) (λ why. IsBadSource why.failure ⊎ Rose before after)
+
+-- likewise where the shelf tells the files of the program
+pub record AreHeld {A : Type 0} (ask : Ask) (result : Result A Refused) (old new : Seen) : Type 0 where
+  pub by_files : (asked : Result Bundle BundleError) → Holds old.shelf.files ask.names asked
+      → IsHeld asked result old.shelf.faults new.shelf.faults

@@ -26,29 +26,31 @@ returns-in-Err-clause-done g c = λ low. let above = told_above c.report.result 
 
 pub returns-in-Err-clause-fails : goal.returns-in-Err-clause-fails
 returns-in-Err-clause-fails g c = λ some.
-    fails_told c.report.result _ _ _ _ (task_of c.in-Some.command) c.in-Err.refused.name.now _ _ _ _ _ _ _ _
+    fails_told c.report.result _ (task_of c.in-Some.command) c.in-Err.refused.name.now _ _ _
     c.in-Err.refused.failure c.in-Some.ensures.found c.in-Err.ensures.ends c.report.ensures.later c.report.ensures.told
 
 pub returns-in-Err-clause-complete_talk : goal.returns-in-Err-clause-complete_talk
 returns-in-Err-clause-complete_talk g c = λ key ask program is held none.
-    complete_talk_told c.report.result _ _ _ _ (task_of c.in-Some.command) _ _ _ c.in-Err.refused _ _ c.in-Some.ensures.found c.in-Err.ensures.ends c.in-Err.ensures.held c.report.ensures.told
-    key ask program is held none.shelf none.input_not none.out_not (λ rose. none.err_not (omega (arith, rose, c.report.ensures.later)))
+    complete_talk_told c.report.result _ (task_of c.in-Some.command) _ _ c.in-Err.refused _ _ c.in-Some.ensures.found c.in-Err.ensures.ends c.in-Err.ensures.held c.report.ensures.told
+    key ask program is held
+    (record { shelf = none.shelf; input_not = none.input_not; out_not = none.out_not; err_not = λ rose. none.err_not (omega (arith, rose, c.report.ensures.later)) })
 
 pub returns-in-Err-clause-complete_show : goal.returns-in-Err-clause-complete_show
 returns-in-Err-clause-complete_show g c =
-    complete_show_fails c.report.result _ _ _ _ _ _ _
-    (fails_told c.report.result _ _ _ _ (task_of c.in-Some.command) c.in-Err.refused.name.now _ _ _ _ _ _ _ _
+    complete_show_fails c.report.result _ _ _
+    (fails_told c.report.result _ (task_of c.in-Some.command) c.in-Err.refused.name.now _ _ _
     c.in-Err.refused.failure c.in-Some.ensures.found c.in-Err.ensures.ends c.report.ensures.later c.report.ensures.told)
 
 pub returns-in-Err-clause-complete_run : goal.returns-in-Err-clause-complete_run
 returns-in-Err-clause-complete_run g c = λ ask program is held none.
-    complete_run_told c.report.result _ _ _ _ (task_of c.in-Some.command) _ _ _ c.in-Err.refused _ _ c.in-Some.ensures.found c.in-Err.ensures.ends c.in-Err.ensures.held c.report.ensures.told
-    ask program is held none.shelf none.out_not
+    complete_run_told c.report.result _ (task_of c.in-Some.command) _ _ c.in-Err.refused _ _ c.in-Some.ensures.found c.in-Err.ensures.ends c.in-Err.ensures.held c.report.ensures.told
+    ask program is held
+    (record { shelf = none.shelf; input_not = none.input_not; out_not = none.out_not; err_not = λ rose. none.err_not (omega (arith, rose, c.report.ensures.later)) })
 
 pub returns-in-Err-clause-refused : goal.returns-in-Err-clause-refused
 returns-in-Err-clause-refused g c = λ task ask why asks is held.
     refused_told c.report.result _ _ c.in-Err.refused.failure _ _ c.report.ensures.told
-    (c.in-Err.ensures.held ask (Err why) (asks_program _ (task_of c.in-Some.command) task ask c.in-Some.ensures.found asks is) held)
+    ((c.in-Err.ensures.held ask (asks_program _ (task_of c.in-Some.command) task ask c.in-Some.ensures.found asks is)).by_files (Err why) held)
 
 pub returns-in-Err-clause-show_shelf : goal.returns-in-Err-clause-show_shelf
 returns-in-Err-clause-show_shelf g c = λ asks. c.in-Err.ensures.show_shelf (asks_show _ (task_of c.in-Some.command) c.in-Some.ensures.found asks)
@@ -64,11 +66,11 @@ pub returns-in-Ok-clause-complete_talk : goal.returns-in-Ok-clause-complete_talk
 returns-in-Ok-clause-complete_talk g c = λ key ask program is held none. inl c.in-Ok.ensures.status
 
 pub returns-in-Ok-clause-complete_show : goal.returns-in-Ok-clause-complete_show
-returns-in-Ok-clause-complete_show g c = λ asks none. inl (shows_well _ _ _ (task_of c.in-Some.command) _ _ _ c.in-Some.ensures.found c.in-Ok.ensures.ends asks)
+returns-in-Ok-clause-complete_show g c = λ asks none. inl (shows_well _ _ (task_of c.in-Some.command) _ _ c.in-Some.ensures.found c.in-Ok.ensures.ends asks)
 
 pub returns-in-Ok-clause-refused : goal.returns-in-Ok-clause-refused
 returns-in-Ok-clause-refused g c = λ task ask why asks is held.
-    absurd (c.in-Ok.ensures.held ask (Err why) (asks_program _ (task_of c.in-Some.command) task ask c.in-Some.ensures.found asks is) held)
+    absurd ((c.in-Ok.ensures.held ask (asks_program _ (task_of c.in-Some.command) task ask c.in-Some.ensures.found asks is)).by_files (Err why) held)
 
 pub returns-in-Ok-clause-show_shelf : goal.returns-in-Ok-clause-show_shelf
 returns-in-Ok-clause-show_shelf g c = λ asks. c.in-Ok.ensures.show_shelf (asks_show _ (task_of c.in-Some.command) c.in-Some.ensures.found asks)

@@ -1,0 +1,49 @@
+-- What the objects of the outside that `top` is lent tell, and how often each has failed.
+use Rattle.std.specs.Prelude.{ℕ, List, Option}
+use Rattle.dp_outside.specs.Causes.{Rose}
+use Rattle.dp_outside.specs.Changes.{Change}
+use Rattle.dp_outside.specs.declared.shelves.Shelf as shelf_of
+use Rattle.dp_outside.specs.declared.sinks.Sink as sink_of
+use Rattle.dp_outside.specs.declared.sources.Source as source_of
+use Rattle.dp_run.specs.Programs.{Files, Told}
+
+-- the bytes that a source still gives or that a sink has taken, where it tells them
+pub record Stream : Type 0 where
+  pub told : Option (List ℕ)
+  pub faults : ℕ
+
+pub record Shelf : Type 0 where
+  pub files : Files
+  pub fetched : Told
+  pub faults : ℕ
+
+pub record Seen : Type 0 where
+  pub shelf : Shelf
+  pub input : Stream
+  pub out : Stream
+  pub err : Stream
+
+abbrev pub seen : {H S K E : Type 0}
+    → shelf_of.Ghosts H → source_of.Ghosts S → sink_of.Ghosts K → sink_of.Ghosts E → H → S → K → E → Seen
+seen h s k e shelf input out err = record {
+  shelf = record { files = h.files shelf; fetched = h.fetched shelf; faults = h.faults shelf };
+  input = record { told = s.left input; faults = s.faults input };
+  out = record { told = k.taken out; faults = k.faults out };
+  err = record { told = e.taken err; faults = e.faults err };
+}
+
+-- what became of a source or a sink
+abbrev pub changed : Stream → Stream → Change
+changed old new = record {
+  told_before = old.told;
+  told = new.told;
+  faults_before = old.faults;
+  faults = new.faults;
+}
+
+-- no count of faults rose
+pub record NoneRose (old new : Seen) : Type 0 where
+  pub shelf : Rose old.shelf.faults new.shelf.faults → ⊥
+  pub input_not : Rose old.input.faults new.input.faults → ⊥
+  pub out_not : Rose old.out.faults new.out.faults → ⊥
+  pub err_not : Rose old.err.faults new.err.faults → ⊥
