@@ -2,8 +2,6 @@
 use Rattle.std.proofs.Common.{◌≡◌, ℕ, ◌≤◌, List, [], ◌∷◌, ◌++◌, drop, length, Option, sym, ap, subst, ◌∙◌}
 use Rattle.std.specs.Prelude.{Result, Ok, Err, IfOk}
 use Rattle.dp_tree.specs.declared.bundle.Bundle.{Bundle}
-use Rattle.dp_command.specs.declared.command.StreamMode.{StreamMode}
-use Rattle.dp_command.specs.declared.command.StreamMode.TheVariants.{Disable}
 use Rattle.dp_command.specs.declared.line.Line.{Line}
 use Rattle.dp_command.specs.Lines.{line_of}
 use Rattle.dp_packet.specs.declared.packet.Packet.TheVariants as packet
@@ -22,7 +20,7 @@ use Rattle.dp_engine.specs.Refusals.{refusal_of_line}
 use Rattle.dp_engine.specs.Responses.{init_text, main_name, response_text}
 use Rattle.dp_engine.specs.Session.{State, output_so_far, written_between}
 use Rattle.dp_engine.specs.inner.Sizes.{Fits}
-use Rattle.dp_engine.specs.inner.Turns.{HasOwnBreaks, IsTurn, given}
+use Rattle.dp_engine.specs.inner.Turns.{HasOwnBreaks, IsTurn, after, given}
 use Rattle.dp_engine.proofs.Fitting.{init_fits}
 use Rattle.dp_engine.proofs.Watching.{breaks_apart}
 
@@ -63,29 +61,18 @@ written_since before state next kept =
     ap (λ (s : State). drop (length (output_so_far s)) (output_so_far next)) kept
     ∙ ap (λ (o : List ℕ). drop (length o) (output_so_far next)) (sym (breaks_apart before.phase before state.breaks))
 
--- where no output goes to the IDE
-given_is : (before state : State) (bytes : List ℕ) (made : Made) → HasOwnBreaks before state → before.stdout ≡ Disable → IsTurn (turn before bytes) state made
-    → given made state ≡ answer before bytes
+-- what is sent of a turn is what is sent of the one that is asked for
+given_is : (before state : State) (bytes : List ℕ) (made : Made) → HasOwnBreaks before state → IsTurn (turn before bytes) state made → given made state ≡ answer before bytes
 unfolding answer
-given_is before state bytes made own quiet t = turned ∙ (λ i. kept (sym quiet i)) where
-  next : State
-  next = (turn before bytes).next
-
-  kept : StreamMode → Reply State SessionEnd
-  kept mode = record {
-    packets = to_ide mode (written_between before next) ++ response_text (turn before bytes).response ∷ [];
-    program = to_program mode (written_between before next);
-    state = next;
-    ended = (turn before bytes).ended;
-  }
-
-  turned : given made state ≡ kept Disable
-  turned = λ i. record {
-    packets = t.text i ∷ [];
-    program = (ap (written_between state) t.next ∙ written_since before state next own) i;
-    state = t.next i;
-    ended = t.ended i;
-  }
+given_is before state bytes made own t =
+    let mode : state.stdout ≡ before.stdout = ap (λ (s : State). s.stdout) own in
+    let written : written_between state (after made.step state) ≡ written_between before (turn before bytes).next =
+    ap (written_between state) t.next ∙ written_since before state (turn before bytes).next own in λ i. record {
+      packets = to_ide (mode i) (written i) ++ t.text i ∷ [];
+      program = to_program (mode i) (written i);
+      state = t.next i;
+      ended = t.ended i;
+    }
 
 turn_read : (before state : State) (bytes : List ℕ) (line : Option Line) (made : Made) → line ≡ line_of bytes → IsTurn (turn_of line (refusal_of_line before line) before) state made
     → IsTurn (turn before bytes) state made
@@ -96,9 +83,8 @@ answered_by : {E : Type 0} (made : Result (Answer SessionEnd) E) (next : State) 
 answered_by (Ok x) next a b same is = is ∙ same
 answered_by (Err e) next a b same is = tt
 
-pub answered : {E : Type 0} (before state next : State) (bytes : List ℕ) (line : Option Line) (made : Made) (reply : Result (Answer SessionEnd) E) → HasOwnBreaks before state → state.stdout ≡ Disable
+pub answered : {E : Type 0} (before state next : State) (bytes : List ℕ) (line : Option Line) (made : Made) (reply : Result (Answer SessionEnd) E) → HasOwnBreaks before state
     → line ≡ line_of bytes → IsTurn (turn_of line (refusal_of_line before line) before) state made
     → IfOk reply (λ x. reply_of x next ≡ given made state) → IfOk reply (λ x. reply_of x next ≡ answer before bytes)
-answered before state next bytes line made reply own quiet is t told =
-    let before_quiet : before.stdout ≡ Disable = sym (ap (λ (s : State). s.stdout) own) ∙ quiet in
-    answered_by reply next (given made state) (answer before bytes) (given_is before state bytes made own before_quiet (turn_read before state bytes line made is t)) told
+answered before state next bytes line made reply own is t told =
+    answered_by reply next (given made state) (answer before bytes) (given_is before state bytes made own (turn_read before state bytes line made is t)) told

@@ -34,7 +34,7 @@ use Rattle.dp_features.specs.Features.{Features}
 use Rattle.dp_state.specs.declared.state.State.{State as ProgramState}
 use Rattle.dp_view_commands.specs.Views.{code_in, view_refusal}
 use Rattle.dp_engine.specs.Refusals.{own_tests, refusal_of_line, row_tests, session_tests, tests, tests_for, tests_on}
-use Rattle.dp_engine.specs.Responses.{init_text, main_name, fault_response, feature_response, response, response_text, set_response, status_attributes, status_response}
+use Rattle.dp_engine.specs.Responses.{init_text, main_name, fault_response, feature_response, response, response_text, set_response, success_response, status_attributes, status_response}
 use Rattle.dp_engine.specs.declared.sides.Side.{Side}
 use Rattle.dp_engine.specs.declared.sides.Side.TheVariants.{Session, Breakpoints, Program}
 use Rattle.dp_engine.specs.Session.{State, here, program_of}
@@ -68,6 +68,11 @@ module _ (command id : Text) (short_name : length command ≤ 64) (short_id : le
   unfolding response_text
   set_fits feature p =
       record { known = refl; short = omega (arith, bare_response_short command id ((codes "feature", feature) ∷ (codes "success", codes "1") ∷ [])) }
+
+  pub success_fits : (success : Bool) → Fits (success_response command id success)
+  unfolding response_text
+  success_fits true = record { known = refl; short = omega (arith, bare_response_short command id ((codes "success", codes "1") ∷ [])) }
+  success_fits false = record { known = refl; short = omega (arith, bare_response_short command id ((codes "success", codes "0") ∷ [])) }
 
   abbrev pub IsShortValue : Option Text → Type 0
   IsShortValue None = Unit {0}

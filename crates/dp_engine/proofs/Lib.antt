@@ -2,6 +2,7 @@ pub mod Refusing
 pub mod Growing
 pub mod Fitting
 pub mod Outputs
+pub mod Streaming
 pub mod Watching
 pub mod Whole
 pub mod ServingLaws

@@ -11,6 +11,7 @@ use Rattle.dp_break.specs.Tables.{Table}
 use Rattle.dp_breakpoint_commands.specs.Commands.{breakpoint_refusal, breakpoint_response, breakpoint_table}
 use Rattle.dp_command.specs.declared.command.Continuation.{Continuation}
 use Rattle.dp_command.specs.declared.command.Command.{Command}
+use Rattle.dp_command.specs.declared.command.StreamMode.{StreamMode}
 use Rattle.dp_command.specs.declared.command.Request.{Request}
 use Rattle.dp_command.specs.declared.errors.CommandError.{CommandError}
 use Rattle.dp_command.specs.declared.errors.CommandError.TheVariants.{Code, Memory}
@@ -217,14 +218,14 @@ pub view_refused : (state : State) (name id : Text) (r : Request) (code : ℕ) �
 unfolding view_refusal
 view_refused state name id r code side e = view_first state name id r side ∙ ap code_in e
 
-module _ (bundle : Bundle) (bound moment : ℕ) (standing : Standing) (features : Features) (breaks : Table) where
+module _ (bundle : Bundle) (bound moment : ℕ) (standing : Standing) (features : Features) (stdout : StreamMode) (breaks : Table) where
   abbrev state : State
-  state = known bundle bound moment standing features breaks
+  state = known bundle bound moment standing features stdout breaks
 
   -- its program is the one that is kept
   pub program_is : (program : Program_state) → IsAt standing bundle bound moment program → program_of state ≡ program
   program_is program h = by standing h where
-    by : (s : Standing) → IsAt s bundle bound moment program → program_of (known bundle bound moment s features breaks) ≡ program
+    by : (s : Standing) → IsAt s bundle bound moment program → program_of (known bundle bound moment s features stdout breaks) ≡ program
     by Starting h = ap (λ (o : Option Program_state). unwrap_or o (first_state bundle)) h
     by Break h = ap (λ (o : Option Program_state). unwrap_or o (first_state bundle)) h
     by (Stopping end) h = sym h.1

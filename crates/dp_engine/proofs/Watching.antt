@@ -10,6 +10,7 @@ use Rattle.dp_command.specs.declared.command.Continuation.{Continuation}
 use Rattle.dp_command.specs.declared.command.Finish.TheVariants.{Stop, Detach}
 use Rattle.dp_command.specs.declared.command.Request.{Request}
 use Rattle.dp_command.specs.declared.command.Request.TheVariants as request
+use Rattle.dp_command.specs.declared.command.Stream.TheVariants.{Stdout, Stderr}
 use Rattle.dp_command.specs.declared.command.StreamMode.{StreamMode}
 use Rattle.dp_command.specs.declared.command.StreamMode.TheVariants.{Disable, Copy, Redirect}
 use Rattle.dp_command.specs.declared.line.Line.{Line}
@@ -44,6 +45,7 @@ use Rattle.dp_continuation.proofs.Stopping.{stop_is_there}
 pub data Moves (state : State) : State → Type 0 where
   stays : Moves state state
   sets : (features : Features) → Moves state (record state { features = features })
+  directs : (mode : StreamMode) → Moves state (record state { stdout = mode })
   holds : (breaks : Table) → Moves state (record state { breaks = breaks })
   goes : (mode : Continuation) → state.phase ≢ Stopping → Moves state (gone_on mode state)
 
@@ -60,6 +62,8 @@ session_moves command id (request.FeatureSet name value) state = sets _
 session_moves command id (request.Continue mode) state = continued_moves command id mode state.phase state refl
 session_moves command id (request.Finish Stop) state = stays
 session_moves command id (request.Finish Detach) state = stays
+session_moves command id (request.Redirect Stdout mode) state = directs mode
+session_moves command id (request.Redirect Stderr mode) state = stays
 session_moves command id r state = stays
 
 done_moves : (side : Side) (command id : Text) (r : Request) (state : State) → Moves state (done_on side command id r state).next
@@ -104,6 +108,12 @@ pub features_apart : (phase : Phase) (state : State) (features : Features) → o
 features_apart Starting state features = refl
 features_apart Break state features = refl
 features_apart Stopping state features = refl
+
+-- so does where it goes
+pub modes_apart : (phase : Phase) (state : State) (mode : StreamMode) → output_by phase state ≡ output_by phase (record state { stdout = mode })
+modes_apart Starting state mode = refl
+modes_apart Break state mode = refl
+modes_apart Stopping state mode = refl
 
 -- so do breakpoints
 pub breaks_apart : (phase : Phase) (state : State) (breaks : Table) → output_by phase state ≡ output_by phase (record state { breaks = breaks })
@@ -167,7 +177,6 @@ module _ (bundle : Bundle) (bound : ℕ) where
     of : state.bundle ≡ bundle
     within : state.bound ≡ bound
     no_writes : state.writes ≡ []
-    no_stream : state.stdout ≡ Disable
     placed : IsPlaced state.phase state.moment
 
   abbrev plain_output : List ℕ
@@ -227,7 +236,7 @@ module _ (bundle : Bundle) (bound : ℕ) where
 
   ended_grows : (state : State) → IsPlain state → Grows state (at_end state)
   ended_grows state h = record {
-    is_plain = record { of = h.of; within = h.within; no_writes = h.no_writes; no_stream = h.no_stream; placed = tt };
+    is_plain = record { of = h.of; within = h.within; no_writes = h.no_writes; placed = tt };
     begins = subst (Begins (output_so_far state)) (sym (whole_is state h)) (so_far_begins state.phase state h h.placed);
   }
 
@@ -236,7 +245,7 @@ module _ (bundle : Bundle) (bound : ℕ) where
       let there = stop_is_there (stops mode (depth_at state)) state.bundle state.breaks.held state.moment (trace_of state).moments j e in
       let is : slice_get (plain bundle bound).moments there.0 ≡ Some there.1 = ap (λ (l : List (Moment × ProgramState)). slice_get l there.0) (sym (trace_is state h)) ∙ there.4 in
       record {
-        is_plain = record { of = h.of; within = h.within; no_writes = h.no_writes; no_stream = h.no_stream; placed = (there.0, there.1, there.2, is) };
+        is_plain = record { of = h.of; within = h.within; no_writes = h.no_writes; placed = (there.0, there.1, there.2, is) };
         begins = subst (Begins (output_so_far state)) (sym (stopped_output state h there.0 there.1 j there.2 is)) (later_begins state.phase state h not_over h.placed there.0 there.1 there.3 is);
       }
 
@@ -247,7 +256,7 @@ module _ (bundle : Bundle) (bound : ℕ) where
   -- with other breakpoints
   with_breaks : (state next : State) (breaks : Table) → Grows state next → Grows state (record next { breaks = breaks })
   with_breaks state next breaks g = record {
-    is_plain = record { of = g.is_plain.of; within = g.is_plain.within; no_writes = g.is_plain.no_writes; no_stream = g.is_plain.no_stream; placed = g.is_plain.placed };
+    is_plain = record { of = g.is_plain.of; within = g.is_plain.within; no_writes = g.is_plain.no_writes; placed = g.is_plain.placed };
     begins = subst (Begins (output_so_far state)) (breaks_apart next.phase next breaks) g.begins;
   }
 
@@ -258,8 +267,12 @@ module _ (bundle : Bundle) (bound : ℕ) where
   move_grows : (state next : State) → IsPlain state → Moves state next → Grows state next
   move_grows state _ h stays = record { is_plain = h; begins = begins_same (output_so_far state) }
   move_grows state _ h (sets features) = record {
-    is_plain = record { of = h.of; within = h.within; no_writes = h.no_writes; no_stream = h.no_stream; placed = h.placed };
+    is_plain = record { of = h.of; within = h.within; no_writes = h.no_writes; placed = h.placed };
     begins = subst (Begins (output_so_far state)) (features_apart state.phase state features) (begins_same (output_so_far state));
+  }
+  move_grows state _ h (directs mode) = record {
+    is_plain = record { of = h.of; within = h.within; no_writes = h.no_writes; placed = h.placed };
+    begins = subst (Begins (output_so_far state)) (modes_apart state.phase state mode) (begins_same (output_so_far state));
   }
   move_grows state _ h (holds breaks) = with_breaks state state breaks (record { is_plain = h; begins = begins_same (output_so_far state) })
   move_grows state _ h (goes mode not_over) = gone_grows state mode (stop_of mode state) (moved_grows state h not_over mode (stop_of mode state) refl)
@@ -299,7 +312,7 @@ module _ (bundle : Bundle) (bound : ℕ) where
       followed_shows state (writing state line) (replies writing (answer state line).state lines) first (replies_show (answer state line).state lines first.is_plain)
 
   opening_plain : IsPlain (opening bundle bound)
-  opening_plain = record { of = refl; within = refl; no_writes = refl; no_stream = refl; placed = refl }
+  opening_plain = record { of = refl; within = refl; no_writes = refl; placed = refl }
 
   -- the program goes on to its end
   goes_on_whole : (state : State) (r : Reply State SessionEnd) → output_so_far state ≡ [] → Shows state r → r.program ++ unwritten r.state ≡ plain_output

@@ -17,8 +17,7 @@ use Rattle.dp_command.specs.declared.command.Continuation.{Continuation}
 use Rattle.dp_command.specs.declared.command.Finish.TheVariants.{Stop, Detach}
 use Rattle.dp_command.specs.declared.command.Request.{Request}
 use Rattle.dp_command.specs.declared.command.Request.TheVariants as request
-use Rattle.dp_command.specs.declared.command.StreamMode.{StreamMode}
-use Rattle.dp_command.specs.declared.command.StreamMode.TheVariants.{Disable}
+use Rattle.dp_command.specs.declared.command.Stream.TheVariants.{Stdout, Stderr}
 use Rattle.dp_command.specs.declared.line.Line.{Line}
 use Rattle.dp_command.specs.declared.names.CommandName.{CommandName}
 use Rattle.dp_command.specs.Commands.{command_as, request_of}
@@ -50,7 +49,7 @@ use Rattle.dp_engine.specs.declared.states.Reason.{Reason}
 use Rattle.dp_engine.specs.declared.states.Reason.TheVariants as reason
 use Rattle.dp_engine.specs.declared.sides.Side.{Side}
 use Rattle.dp_engine.specs.declared.sides.Side.TheVariants.{Session, Breakpoints, Program}
-use Rattle.dp_engine.specs.Answers.{Turn, answer, asked, command_in, continued, done_on, feature_told, gone_on, id_in, in_packet, moved, response_in, session_done, set_by, state_response, to_ide, turn, turn_of}
+use Rattle.dp_engine.specs.Answers.{Turn, answer, asked, command_in, continued, done_on, feature_told, gone_on, id_in, in_packet, moved, response_in, session_done, set_by, state_response, turn, turn_of}
 use Rattle.dp_engine.specs.Refusals.{of_command, own_tests, refusal_of_line, row_tests, tests_on}
 use Rattle.dp_engine.specs.Sides.{side_of}
 use Rattle.dp_engine.specs.Responses.{init_text, main_name, response, response_text}
@@ -58,7 +57,8 @@ use Rattle.dp_engine.specs.Served.{AreBytes, alone, answers}
 use Rattle.dp_engine.specs.Session.{State, breaks_of, here, opening, program_of, stop_of, written_between}
 use Rattle.dp_engine.specs.inner.Sizes.{Fits, IsShort, IsShortLine, IsShortRequest}
 use Rattle.dp_engine.specs.States.{is_built, phase_name, reason_name}
-use Rattle.dp_engine.proofs.Fitting.{fault_fits, feature_fits_if, init_fits, refusal_is_code, request_short, set_fits, status_fits}
+use Rattle.dp_engine.proofs.Fitting.{fault_fits, feature_fits_if, init_fits, refusal_is_code, request_short, set_fits, status_fits, success_fits}
+use Rattle.dp_engine.proofs.Streaming.{both_texts, sent_texts}
 use Rattle.dp_view_commands.proofs.Sent.{code as shows_code, sent as shows}
 use Rattle.dp_engine.proofs.Refusing.{built, passed}
 
@@ -198,9 +198,8 @@ reason_short reason.Ok = omega arith
 reason_short reason.Error = omega arith
 reason_short reason.Aborted = omega arith
 
--- what a session is in, as far as sizes go: nothing goes to the IDE, and its features are short
+-- what a session is in, as far as sizes go: its features are short
 record IsUsual (state : State) : Type 0 where
-  quiet : state.stdout ≡ Disable
   small : AreSmall state.features
 
 -- the turn sends a text of a packet, and leaves the session as it is in that
@@ -212,8 +211,8 @@ module _ (command id : Text) (p : length command ≤ 64) (q : length id ≤ 64) 
   gone_usual : (mode : Continuation) → IsUsual (gone_on mode state)
   gone_usual mode = by (stop_of mode state) where
     by : (stop : Option ℕ) → IsUsual (moved (record state { breaks = breaks_of mode state }) stop)
-    by None = record { quiet = h.quiet; small = h.small }
-    by (Some n) = record { quiet = h.quiet; small = h.small }
+    by None = record { small = h.small }
+    by (Some n) = record { small = h.small }
 
   tells : (s : State) → Fits (state_response command id s)
   tells s = status_fits command id p q (phase_name s.phase) (reason_name s.reason) (phase_short s.phase) (reason_short s.reason)
@@ -233,11 +232,13 @@ module _ (command id : Text) (p : length command ≤ 64) (q : length id ≤ 64) 
   session_good (request.FeatureGet name) few = record { fits = told_good name few; next = h }
   session_good (request.FeatureSet name value) few = record {
     fits = set_fits command id p q name few;
-    next = record { quiet = h.quiet; small = set_small state.features name value h.small };
+    next = record { small = set_small state.features name value h.small };
   }
   session_good (request.Continue mode) few = continued_good mode state.phase
   session_good (request.Finish Stop) few = record { fits = status_fits command id p q _ _ (omega arith) (omega arith); next = h }
   session_good (request.Finish Detach) few = record { fits = status_fits command id p q _ _ (omega arith) (omega arith); next = h }
+  session_good (request.Redirect Stdout mode) few = record { fits = success_fits command id p q true; next = record { small = h.small } }
+  session_good (request.Redirect Stderr mode) few = record { fits = success_fits command id p q false; next = h }
   session_good r few = record { fits = fault_fits command id p q 4 (refl, omega arith); next = h }
 
   -- a response to a breakpoint command
@@ -263,7 +264,7 @@ module _ (command id : Text) (p : length command ≤ 64) (q : length id ≤ 64) 
 
   done_good : (side : Side) (r : Request) → first_code (tests_on side state command id r) ≡ None → IsShortRequest r → IsGood (done_on side command id r state)
   done_good Session r e few = session_good r few
-  done_good Breakpoints r e few = record { fits = in_packet_fits _ (breakpoint_known r); next = record { quiet = h.quiet; small = h.small } }
+  done_good Breakpoints r e few = record { fits = in_packet_fits _ (breakpoint_known r); next = record { small = h.small } }
   done_good Program r e few = record { fits = shown_fits r _ refl; next = h }
 
 module _ (state : State) (h : IsUsual state) where
@@ -295,19 +296,12 @@ record SendsPackets (r : Reply State SessionEnd) : Type 0 where
   texts : AllByRecursion IsPacketText r.packets
   usual : IsUsual r.state
 
-both_texts : (a b : List Text) → AllByRecursion IsPacketText a → AllByRecursion IsPacketText b → AllByRecursion IsPacketText (a ++ b)
-both_texts [] b h k = k
-both_texts (t ∷ a) b h k = (h.0, both_texts a b h.1 k)
-
-quiet_texts : (mode : StreamMode) (output last : List ℕ) → mode ≡ Disable → IsPacketText last → AllByRecursion IsPacketText (to_ide mode output ++ last ∷ [])
-quiet_texts mode output last e h = subst (λ (m : StreamMode). AllByRecursion IsPacketText (to_ide m output ++ last ∷ [])) (sym e) (h, tt)
-
 answer_sends : (state : State) (bytes : List ℕ) → IsUsual state → IsSpoken bytes → SendsPackets (answer state bytes)
 unfolding answer
 answer_sends state bytes h spoken =
     let good = is_good state h bytes spoken in
     record {
-      texts = quiet_texts state.stdout (written_between state (turn state bytes).next) (response_text (turn state bytes).response) h.quiet (fits_packet (turn state bytes) good.fits);
+      texts = sent_texts state.stdout (written_between state (turn state bytes).next) (response_text (turn state bytes).response) (fits_packet (turn state bytes) good.fits);
       usual = good.next;
     }
 
@@ -326,7 +320,6 @@ replies_send state (line ∷ lines) h each = cases (answer state line).ended fir
 
 opening_usual : (bundle : Bundle) (bound : ℕ) → IsUsual (opening bundle bound)
 opening_usual bundle bound = record {
-  quiet = refl;
   small = record { multiple_sessions = omega arith; max_children = omega arith; max_data = omega arith; max_depth = omega arith; show_hidden = omega arith; notify_ok = omega arith };
 }
 

@@ -1,6 +1,6 @@
 -- What one command leads to in a session: DBGp 1.0, "status", "Options and Configuration",
 -- "Continuation Commands".
-use Rattle.std.specs.Prelude.{ℕ, nat_le, true, if◌then◌else◌, List, length, [], ◌∷◌, ◌++◌, Option, Some, None, Result, Ok, Err, option_map, option_and_then, codes}
+use Rattle.std.specs.Prelude.{ℕ, nat_le, true, false, if◌then◌else◌, List, length, [], ◌∷◌, ◌++◌, Option, Some, None, Result, Ok, Err, option_map, option_and_then, codes}
 use Rattle.std.specs.Option.{option_map_or}
 use Rattle.dp_breakpoint_commands.specs.Commands.{breakpoint_response, breakpoint_table}
 use Rattle.dp_command.specs.declared.command.Command.{Command}
@@ -8,6 +8,8 @@ use Rattle.dp_command.specs.declared.command.Continuation.{Continuation}
 use Rattle.dp_command.specs.declared.command.Finish.TheVariants.{Stop, Detach}
 use Rattle.dp_command.specs.declared.command.Request.{Request}
 use Rattle.dp_command.specs.declared.command.Request.TheVariants as request
+use Rattle.dp_command.specs.declared.command.Stream.{Stream}
+use Rattle.dp_command.specs.declared.command.Stream.TheVariants.{Stdout, Stderr}
 use Rattle.dp_command.specs.declared.command.StreamMode.{StreamMode}
 use Rattle.dp_command.specs.declared.command.StreamMode.TheVariants.{Disable, Copy, Redirect}
 use Rattle.dp_command.specs.declared.line.Line.{Line}
@@ -31,7 +33,7 @@ use Rattle.dp_engine.specs.declared.states.Phase.{Phase}
 use Rattle.dp_engine.specs.declared.states.Phase.TheVariants.{Starting, Break, Stopping}
 use Rattle.dp_engine.specs.declared.states.Reason.TheVariants as reason
 use Rattle.dp_engine.specs.Refusals.{refusal_of_line, of_command}
-use Rattle.dp_engine.specs.Responses.{response, response_text, status_response, feature_response, set_response, fault_response, streams}
+use Rattle.dp_engine.specs.Responses.{response, response_text, status_response, feature_response, set_response, success_response, fault_response, streams}
 use Rattle.dp_engine.specs.Session.{State, breaks_of, here, outcome_of, program_of, stop_of, written_between}
 use Rattle.dp_engine.specs.Sides.{side_of}
 use Rattle.dp_engine.specs.States.{phase_name, reason_name, reason_of, is_built}
@@ -131,6 +133,15 @@ feature_put command id name value state =
     goes_on (set_response command id name)
     (record state { features = set_by (setting_named name value) state.features })
 
+-- ---- where output goes
+
+-- The program's output goes where it is told to, from the next command on. Nothing goes to its
+-- stderr, and no command changes that.
+abbrev pub redirected : Text → Text → Stream → StreamMode → State → Turn
+redirected command id Stdout mode state =
+    goes_on (success_response command id true) (record state { stdout = mode })
+redirected command id Stderr mode state = goes_on (success_response command id false) state
+
 -- ---- breakpoints, and a look at the program
 
 -- a response, if a packet has room for it; one to a breakpoint command always finds room
@@ -175,6 +186,8 @@ session_done command id (request.FeatureSet name value) state =
 session_done command id (request.Continue mode) state = continued command id mode state.phase state
 session_done command id (request.Finish Stop) state = stopped command id state
 session_done command id (request.Finish Detach) state = detached command id state
+session_done command id (request.Redirect stream mode) state =
+    redirected command id stream mode state
 session_done command id other state = refused command id 4 state
 
 abbrev pub done_on : Side → Text → Text → Request → State → Turn

@@ -1,14 +1,14 @@
 -- What a session sends: its first packet, responses, and the program's output. DBGp 1.0, "Init
 -- Packet", "Response Format", "stdout, stderr". Which attributes stand in a response and in what
 -- order is this engine's own.
-use Rattle.std.specs.Prelude.{ℕ, zero, suc, List, [], ◌∷◌, ◌+◌, ◌-◌, ◌/◌, length, take, drop, map, Option, Some, None, codes, slice_get}
+use Rattle.std.specs.Prelude.{ℕ, Bool, zero, suc, List, [], ◌∷◌, ◌+◌, ◌-◌, ◌/◌, length, take, drop, map, Option, Some, None, codes, slice_get}
 use Rattle.std.specs.Option.{option_map_or}
 use Rattle.dp_tree.specs.declared.bundle.Bundle.{Bundle}
 use Rattle.dp_packet.specs.declared.packet.Body.{Body}
 use Rattle.dp_packet.specs.declared.packet.Body.TheVariants as body
 use Rattle.dp_packet.specs.declared.packet.Packet.TheVariants as packet
 use Rattle.dp_packet.specs.declared.packet.Response.{Response}
-use Rattle.dp_packet.specs.Parts.{Text, Attributes}
+use Rattle.dp_packet.specs.Parts.{Text, Attributes, flag}
 use Rattle.dp_packet.specs.Text.{text}
 use Rattle.dp_packet.specs.Uris.{file_uri}
 
@@ -53,6 +53,11 @@ abbrev pub set_response : Text → Text → Text → Response
 set_response command id feature =
     response command id
     ((codes "feature", feature) ∷ (codes "success", codes "1") ∷ []) body.Nothing
+
+-- a command that succeeds or does not
+abbrev pub success_response : Text → Text → Bool → Response
+success_response command id success =
+    response command id ((codes "success", flag success) ∷ []) body.Nothing
 
 -- an error with this code
 abbrev pub fault_response : Text → Text → ℕ → Response

@@ -71,7 +71,5 @@ allows phase Eval = at_moment phase
 -- the commands that are built; each other answers as one that is not known
 abbrev pub is_built : CommandName → Bool
 is_built PropertySet = false
-is_built Stdout = false
-is_built Stderr = false
 is_built Eval = false
 is_built name = true

@@ -9,6 +9,7 @@ mod session;
 mod sides;
 mod states;
 mod steps;
+mod streams;
 mod turns;
 
 pub use dp_value::Memory;

@@ -1,6 +1,7 @@
 //! The packets that a session sends.
-ghost use Rattle.std.specs.Prelude.{◌≡◌, ◌≤◌, ◌∷◌, [], length, IfOk, IfSome};
+ghost use Rattle.std.specs.Prelude.{◌≡◌, ◌≤◌, ◌∷◌, [], codes, length, IfOk, IfSome};
 ghost use Rattle.dp_wire.specs.Frames.{IsPacketText};
+ghost use Rattle.dp_packet.specs.Parts.{flag as flag_text};
 ghost use Rattle.dp_engine.specs.Responses as spec;
 ghost use Rattle.dp_engine.specs.inner.Sizes.{Fits, IsCode};
 
@@ -112,6 +113,32 @@ pub fn feature_set(alloc: Global, to: &Addressee, feature: &[u8]) -> Result<Resp
 {
     let attributes = pairs(alloc, (b"feature", feature), (b"success", b"1"))?;
     response(alloc, to, attributes, Body::Nothing)
+}
+
+/// Whether a command succeeds, as an attribute.
+fn success_attributes(alloc: Global, success: bool) -> Result<Items<(Bytes, Bytes)>, Memory>
+    ensures { IfOk result (λ pairs. pairs ≡ (codes "success", flag_text success) ∷ []) }
+{
+    let mut attributes = Vec::new(alloc);
+    attributes.push(pair(alloc, b"success", flag(success))?)?;
+    Ok(Items::of(attributes))
+}
+
+/// A command that succeeds or does not.
+pub fn success(alloc: Global, to: &Addressee, success: bool) -> Result<Response, Memory>
+    ensures value { IfOk result (λ r. r ≡ spec.success_response to.now.command to.now.id success) }
+    ensures fits { IfOk result Fits }
+{
+    let attributes = success_attributes(alloc, success)?;
+    response(alloc, to, attributes, Body::Nothing)
+}
+
+/// How it is told whether something is so.
+pub fn flag(holds: bool) -> &'static [u8]
+    ensures text { result.now ≡ flag_text holds }
+    ensures short { length result.now ≤ 16 }
+{
+    if holds { b"1" } else { b"0" }
 }
 
 /// An error with this code.

@@ -1,19 +1,19 @@
 //! One session of the engine with an IDE.
-ghost use Rattle.std.specs.Prelude.{◌≡◌, ◌≤◌, ◌∷◌, [], drop, length, map, IfOk};
+ghost use Rattle.std.specs.Prelude.{◌≡◌, ◌≤◌, ◌∷◌, ◌++◌, [], drop, length, map, IfOk};
 ghost use Rattle.std.specs.List.{AllByRecursion};
 ghost use Rattle.dp_wire.specs.Frames.{IsCommand, IsPacketText};
 ghost use Rattle.dp_engine.specs.Responses.{init_text, main_name};
 ghost use Rattle.dp_engine.specs.inner.Sizes.{IsShortLine};
-ghost use Rattle.dp_command.specs.declared.command.StreamMode.TheVariants.{Disable};
 ghost use Rattle.dp_command.specs.Lines.{line_of};
 ghost use Rattle.dp_continuation.specs.Going.{program_in};
 ghost use Rattle.dp_tree.specs.FileNames.{AreFileNames};
 
 use crate::states::Standing;
 use crate::steps::Steps;
+use crate::streams::{to_ide, to_program};
 use crate::turns::{Step, Turn};
 use dp_break::Breaks;
-use dp_command::{Line, LineError, read_line};
+use dp_command::{Line, LineError, StreamMode, read_line};
 use dp_continuation::{Arrival, run_out};
 use dp_features::Features;
 use dp_packet::{Init, Packet, file_uri, text_of};
@@ -51,6 +51,7 @@ pub struct Session<'a> {
     pub(crate) depth: u32,
     pub(crate) standing: Standing,
     pub(crate) features: Features,
+    pub(crate) stdout: StreamMode,
     /// The program's state at the moment, and the last one after its end.
     pub(crate) program: State,
     pub(crate) breaks: Breaks,
@@ -73,7 +74,7 @@ impl<'a> Model for Session<'a> {
 
     ghost use Rattle.dp_engine.specs.inner.Standing.{known, IsAt, IsDeep};
 
-    ghost view = { λ s. known s.bundle.now s.bound s.moment s.standing s.features s.breaks };
+    ghost view = { λ s. known s.bundle.now s.bound s.moment s.standing s.features s.stdout s.breaks };
 
     ghost invariant = { λ s. IsAt s.standing s.bundle.now s.bound s.moment s.program
         × IsDeep s.bundle.now s.bound s.moment s.depth
@@ -137,6 +138,7 @@ impl<'a> Session<'a> {
             depth: 1,
             standing: Standing::Starting,
             features: Features::new(),
+            stdout: StreamMode::Disable,
             program,
             breaks: Breaks::new(alloc),
             alloc,
@@ -178,11 +180,9 @@ impl<'a> Session<'a> {
         requires is_text { IsPacketText turn.text }
         ensures ok { IfOk result (λ answer. reply_of answer self.new ≡ given turn self.old) }
         ensures are_texts { IfOk result (λ answer. AllByRecursion IsPacketText answer.packets) }
-        ensures quiet { self.old.stdout ≡ Disable }
     {
         let Turn { text, step, ended } = turn;
-        let program = self.written(alloc, &step)?;
-        let packets = alone(alloc, text)?;
+        let (packets, program) = self.sent(alloc, &step, text)?;
         self.take(step);
         Ok(Answer {
             packets,
@@ -199,19 +199,34 @@ impl<'a> Session<'a> {
         match step {
             Step::Come(arrival) => output(arrival),
             Step::Set(_) => self.program.output.as_slice(),
+            Step::Redirect(_) => self.program.output.as_slice(),
             Step::Stay => self.program.output.as_slice(),
         }
     }
 
     /// What the program writes in a step.
-    fn written(&self, alloc: Global, step: &Step) -> Result<Bytes, Memory>
+    fn written<'b>(&'b self, step: &'b Step) -> &'b [u8]
         requires { Leads step.now self.now }
-        ensures text { IfOk result (λ text. text ≡ written_between self.now (after step.now self.now)) }
-        // None of it goes to the IDE.
-        ensures quiet { self.now.stdout ≡ Disable }
+        ensures { result.now ≡ written_between self.now (after step.now self.now) }
     {
         let before = self.program.output.len();
-        Bytes::from_slice(alloc, tail(self.output_after(step), before))
+        tail(self.output_after(step), before)
+    }
+
+    /// What goes to the IDE of a step with this text of a response, and what goes to the program's own output.
+    fn sent(&self, alloc: Global, step: &Step, text: Bytes) -> Result<(Items<Bytes>, Bytes), Memory>
+        requires leads { Leads step.now self.now }
+        requires is_text { IsPacketText text }
+        ensures packets { IfOk result (λ sent. sent.0
+            ≡ spec.to_ide self.now.stdout (written_between self.now (after step.now self.now)) ++ text ∷ []) }
+        ensures are_texts { IfOk result (λ sent. AllByRecursion IsPacketText sent.0) }
+        ensures program { IfOk result (λ sent. sent.1
+            ≡ spec.to_program self.now.stdout (written_between self.now (after step.now self.now))) }
+    {
+        let written = self.written(step);
+        let packets = to_ide(alloc, self.stdout, written, text)?;
+        let program = to_program(alloc, self.stdout, written)?;
+        Ok((packets, program))
     }
 
     /// Comes to where the program has come to.
@@ -246,6 +261,9 @@ impl<'a> Session<'a> {
         if let Step::Set(features) = &step {
             self.features = *features;
         }
+        if let Step::Redirect(mode) = &step {
+            self.stdout = *mode;
+        }
         if let Step::Come(arrival) = step {
             self.come(arrival);
         }
@@ -277,15 +295,6 @@ fn output(arrival: &Arrival) -> &[u8]
         Arrival::Moment { program, .. } => program.output.as_slice(),
         Arrival::End { program, .. } => program.output.as_slice(),
     }
-}
-
-/// A text alone.
-fn alone(alloc: Global, text: Bytes) -> Result<Items<Bytes>, Memory>
-    ensures { IfOk result (λ texts. texts ≡ text ∷ []) }
-{
-    let mut texts = Vec::new(alloc);
-    texts.push(text)?;
-    Ok(Items::of(texts))
 }
 
 /// The text of the packet that opens a session.

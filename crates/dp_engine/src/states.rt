@@ -173,8 +173,6 @@ pub fn is_built(name: CommandName) -> bool
 {
     match name {
         CommandName::PropertySet => false,
-        CommandName::Stdout => false,
-        CommandName::Stderr => false,
         CommandName::Eval => false,
         _ => true,
     }

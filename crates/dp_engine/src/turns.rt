@@ -15,7 +15,9 @@ use crate::session::{Session, SessionEnd};
 use crate::sides::Side;
 use crate::states::{Standing, is_built as built};
 use dp_breakpoint_commands::{BreakpointError, answer_breakpoints};
-use dp_command::{Addressee, CommandError, CommandName, Continuation, Finish, Line, Request};
+use dp_command::{
+    Addressee, CommandError, CommandName, Continuation, Finish, Line, Request, Stream, StreamMode,
+};
 use dp_continuation::{Arrival, go_on};
 use dp_features::{Feature, Features, Setting};
 use dp_packet::Response;
@@ -39,6 +41,8 @@ pub enum Step {
     Stay,
     /// Its features.
     Set(Features),
+    /// Where output goes.
+    Redirect(StreamMode),
     /// Where the program stands.
     Come(Arrival),
 }
@@ -130,6 +134,7 @@ impl<'a> Session<'a> {
             } => self.put_feature(alloc, to, feature.as_slice(), value.as_slice()),
             Request::Continue(mode) => self.go_on(alloc, to, *mode),
             Request::Finish(finish) => self.finish_by(alloc, to, *finish),
+            Request::Redirect { stream, mode } => self.redirect(alloc, to, *stream, *mode),
             _ => self.refuse(alloc, to, 4),
         }
     }
@@ -268,6 +273,40 @@ impl<'a> Session<'a> {
         })
     }
 
+    /// Tells where output goes.
+    fn redirect(
+        &self,
+        alloc: Global,
+        to: &Addressee,
+        stream: Stream,
+        mode: StreamMode,
+    ) -> Result<Turn, Memory>
+        ensures { IfOk result (IsTurn (spec.redirected to.now.command to.now.id stream mode self.now) self.now) }
+    {
+        match stream {
+            Stream::Stdout => self.redirect_output(alloc, to, mode),
+            Stream::Stderr => tell(alloc, responses::success(alloc, to, false)?),
+        }
+    }
+
+    /// The program's output goes there from now on.
+    fn redirect_output(
+        &self,
+        alloc: Global,
+        to: &Addressee,
+        mode: StreamMode,
+    ) -> Result<Turn, Memory>
+        ensures { IfOk result (IsTurn (spec.redirected to.now.command to.now.id Stream.Stdout mode self.now) self.now) }
+    {
+        let response = responses::success(alloc, to, true)?;
+        let text = responses::text(alloc, response)?;
+        Ok(Turn {
+            text,
+            step: Step::Redirect(mode),
+            ended: None,
+        })
+    }
+
     /// A continuation. Once the program has ended it ends the session.
     fn go_on(&mut self, alloc: Global, to: &Addressee, mode: Continuation) -> Result<Turn, Memory>
         ensures turn { IfOk result (IsTurn (spec.continued to.now.command to.now.id mode self.old.phase self.old) self.new) }
@@ -367,7 +406,7 @@ fn supported(name: &[u8]) -> &'static [u8]
     ensures text { result.now ≡ flag (of_command is_built (name_of name.now)) }
     ensures short { length result.now ≤ 16 }
 {
-    if is_command(name) { b"1" } else { b"0" }
+    responses::flag(is_command(name))
 }
 
 /// Whether a built command has this name.

@@ -2,7 +2,7 @@
 use Rattle.std.specs.Prelude.{◌≡◌, ℕ, List, [], Option, Some, None}
 use Rattle.dp_break.specs.Tables.{Table}
 use Rattle.dp_tree.specs.declared.bundle.Bundle.{Bundle}
-use Rattle.dp_command.specs.declared.command.StreamMode.TheVariants.{Disable}
+use Rattle.dp_command.specs.declared.command.StreamMode.{StreamMode}
 use Rattle.dp_features.specs.Features.{Features}
 use Rattle.dp_meaning.specs.Trace.{moment_at, now, outcome, plain}
 use Rattle.dp_state.specs.declared.state.State.{State as Program}
@@ -29,8 +29,8 @@ reason_at Break = reason.Ok
 reason_at (Stopping end) = reason_of end
 
 -- what a session knows
-abbrev pub known : Bundle → ℕ → ℕ → Standing → Features → Table → State
-known bundle bound moment standing features breaks = record {
+abbrev pub known : Bundle → ℕ → ℕ → Standing → Features → StreamMode → Table → State
+known bundle bound moment standing features stdout breaks = record {
   bundle = bundle;
   bound = bound;
   writes = [];
@@ -38,7 +38,7 @@ known bundle bound moment standing features breaks = record {
   phase = phase_of standing;
   reason = reason_at standing;
   features = features;
-  stdout = Disable;
+  stdout = stdout;
   breaks = breaks;
 }
 

@@ -1,5 +1,5 @@
 -- A turn as the code makes it, before anything has changed.
-use Rattle.std.specs.Prelude.{◌≡◌, ℕ, [], ◌∷◌, Option, Some, None, Result, Ok, Err}
+use Rattle.std.specs.Prelude.{◌≡◌, ℕ, [], ◌∷◌, ◌++◌, Option, Some, None, Result, Ok, Err}
 use Rattle.dp_command.specs.declared.command.Command.{Command}
 use Rattle.dp_command.specs.declared.errors.CommandError.{CommandError}
 use Rattle.dp_command.specs.declared.errors.CommandError.TheVariants.{Code, Memory}
@@ -18,9 +18,9 @@ use Rattle.dp_continuation.specs.declared.arrival.Arrival.TheVariants.{Moment, E
 use Rattle.dp_continuation.specs.Going.{Arrives, program_in}
 use Rattle.dp_engine.specs.declared.session.SessionEnd.{SessionEnd}
 use Rattle.dp_engine.specs.declared.turns.Step.{Step}
-use Rattle.dp_engine.specs.declared.turns.Step.TheVariants.{Stay, Set, Come}
+use Rattle.dp_engine.specs.declared.turns.Step.TheVariants.{Stay, Set, Redirect, Come}
 use Rattle.dp_engine.specs.declared.turns.Turn.{Turn as Made}
-use Rattle.dp_engine.specs.Answers.{Turn, at_end, at_stop, performed, refused}
+use Rattle.dp_engine.specs.Answers.{Turn, at_end, at_stop, performed, refused, to_ide, to_program}
 use Rattle.dp_engine.specs.Refusals.{own_tests, refusal_of_line}
 use Rattle.dp_engine.specs.Responses.{response_text}
 use Rattle.dp_engine.specs.Session.{State, written_between}
@@ -34,6 +34,7 @@ come (End end program) state = at_end state
 abbrev pub after : Step → State → State
 after Stay state = state
 after (Set features) state = record state { features = features }
+after (Redirect mode) state = record state { stdout = mode }
 after (Come arrival) state = come arrival state
 
 -- where the program stops, by where it has come to
@@ -45,6 +46,7 @@ stop_in (End end program) = None
 abbrev pub Leads : Step → State → Type 0
 Leads Stay state = Unit {0}
 Leads (Set features) state = Unit {0}
+Leads (Redirect mode) state = Unit {0}
 Leads (Come arrival) state =
     Arrives state.bundle state.bound state.writes (stop_in arrival) arrival
     × IsOf state.bundle (program_in arrival)
@@ -70,8 +72,9 @@ pub record Tells (response : Response) (made : Made) : Type 0 where
 -- what is sent of it, and what the session knows then
 abbrev pub given : Made → State → Reply State SessionEnd
 given made state = record {
-  packets = made.text ∷ [];
-  program = written_between state (after made.step state);
+  packets =
+      to_ide state.stdout (written_between state (after made.step state)) ++ made.text ∷ [];
+  program = to_program state.stdout (written_between state (after made.step state));
   state = after made.step state;
   ended = made.ended;
 }

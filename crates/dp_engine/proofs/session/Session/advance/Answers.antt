@@ -16,5 +16,5 @@ returns-clause-turn c =
     let told =
     c.in_ok-text.ensures.value ∙ ap response_text c.in_ok-response.ensures.value ∙ ap (λ t. response_text (status_response command id t c.name-reason.result.now)) status
     ∙ ap (λ t. response_text (status_response command id (phase_name (phase_of (standing_in arrival))) t)) reason in
-    rw (← c.self.view_is) (advances s.bundle.now s.bound s.moment s.standing s.features s.breaks s.depth command id c.args.mode arrival c.in_ok-text.text c.go_on.new.breaks
+    rw (← c.self.view_is) (advances s.bundle.now s.bound s.moment s.standing s.features s.stdout s.breaks s.depth command id c.args.mode arrival c.in_ok-text.text c.go_on.new.breaks
     c.self.invariant.1 c.in_ok-arrival.ensures.arrival (c.in_ok-arrival.ensures.of (has_files s.bundle.now c.self.invariant.2)) c.in_ok-arrival.ensures.breaks told c.in_ok-text.ensures.is_text)

@@ -16,6 +16,6 @@ refuse-requires c =
 pub returns-in-Ok-clause-turn : goal.returns-in-Ok-clause-turn
 returns-in-Ok-clause-turn c =
     let s = c.self.inside in
-    rw (← c.self.view_is) (breakpoints_are_told s.bundle.now s.bound s.moment s.standing s.features s.breaks s.program c.file-file.result c.answer_breakpoints.new.breaks
+    rw (← c.self.view_is) (breakpoints_are_told s.bundle.now s.bound s.moment s.standing s.features s.stdout s.breaks s.program c.file-file.result c.answer_breakpoints.new.breaks
     c.args.to.now.command c.args.to.now.id c.args.request c.in-Ok.response c.tell.result c.self.invariant.0 c.file-file.ensures c.requires c.in-Ok.ensures.accepted
     c.in-Ok.ensures.response c.in-Ok.ensures.short c.in-Ok.ensures.table c.tell.ensures)
