@@ -5,7 +5,7 @@ use Rattle.std.specs.declared.option.Option.{Option}
 use Rattle.std.specs.Io.KnownBytes.{Appends, Consumes, IsAtEnd, Keeps}
 use Rattle.std.proofs.KnownBytes.{Appends-kept}
 use Rattle.dp_outside.specs.Streams.{AppendsFront}
-use Rattle.dp_adapters.specs.Transfers.{Fronts}
+use Rattle.dp_adapters.specs.inner.Transfers.{Fronts}
 
 -- what was written is a front of the bytes
 pub front_written : (a b : Option (List ℕ)) (bytes done rest : List ℕ) → bytes ≡ done ++ rest → Appends a b done → AppendsFront a b bytes

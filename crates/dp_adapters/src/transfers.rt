@@ -3,7 +3,7 @@ ghost use Rattle.std.specs.Prelude.{◌≡◌, ◌+◌, ◌<◌, ◌≤◌, leng
 ghost use Rattle.std.specs.Io.{ReadsAtMost};
 ghost use Rattle.std.specs.Io.KnownBytes.{ReadConsumes, WriteAppends};
 ghost use Rattle.dp_outside.specs.Streams.{PutAppends};
-ghost use Rattle.dp_adapters.specs.Transfers.{Fronts};
+ghost use Rattle.dp_adapters.specs.inner.Transfers.{Fronts};
 
 use dp_outside::{Failed, ShelfError};
 use std::alloc::Global;

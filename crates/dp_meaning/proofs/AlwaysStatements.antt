@@ -24,7 +24,8 @@ use Rattle.dp_meaning.specs.Expressions.{expression_run, evaluation, place_run}
 use Rattle.dp_meaning.specs.Loops.{entries}
 use Rattle.dp_meaning.specs.Run.{Run}
 use Rattle.dp_meaning.specs.Setting.{Part}
-use Rattle.dp_meaning.specs.Statements.{KindRun, ArmRun, go_on, sequence, echoes, arms_run, with_globals, status_of, exit_with, exit_run, return_run, end_run, kind_layer, arm_layer, statement_layer, kind_run, arm_run, statement_run, body_run}
+use Rattle.dp_meaning.specs.Statements.{KindRun, ArmRun, go_on, sequence, echoes, arms_run, with_globals, status_of, exit_with, exit_run, return_run, end_run, kind_layer, arm_layer, statement_layer, statement_run, body_run}
+use Rattle.dp_meaning.specs.inner.Parts.{kind_run, arm_run}
 use Rattle.dp_meaning.specs.Values.{holds}
 use Rattle.dp_meaning.proofs.Always.{Each, each-images, Always, IsKept, Keeps, KeepsPart, Keeps-and_then, Always-if, Always-taken}
 use Rattle.dp_meaning.proofs.AlwaysExpressions.{Keeps-expression, Keeps-evaluations, Keeps-place}

@@ -24,7 +24,9 @@ use Rattle.dp_tree.specs.declared.tree.Operator.{Operator}
 use Rattle.dp_tree.specs.declared.tree.Operator.TheVariants.{Or, And, Of}
 use Rattle.dp_tree.specs.declared.tree.Place.{Place, map-Place, roll-Place}
 use Rattle.dp_tree.specs.Purity as purity
-use Rattle.dp_meaning.specs.Expressions.{ExpressionRun, ItemRun, LinkRun, values_run, indices_run, links_run, items_run, operator_run, item_run, coalesced, choice, conditional, place_layer, item_layer, link_layer, expression_layer, expression_run, place_run, item_run_of, link_run, evaluation}
+use Rattle.dp_tree.specs.inner.Parts as inside
+use Rattle.dp_meaning.specs.Expressions.{ExpressionRun, ItemRun, LinkRun, values_run, indices_run, links_run, items_run, operator_run, item_run, coalesced, choice, conditional, place_layer, item_layer, link_layer, expression_layer, expression_run, place_run, evaluation}
+use Rattle.dp_meaning.specs.inner.Parts.{item_run_of, link_run}
 use Rattle.dp_meaning.specs.Places.{PlaceRun, isset_run, variable}
 use Rattle.dp_meaning.specs.Run.{Run, Done, and_then, fatal}
 use Rattle.dp_meaning.specs.Setting.{Setting, Part}
@@ -128,13 +130,13 @@ abbrev Good : Expression → Type 0
 Good e = purity.is_pure e ≡ true → PlainExpression (expression_run e)
 
 abbrev GoodItem : Item → Type 0
-GoodItem item = purity.item_is_pure item ≡ true → PlainFrom (item_run_of item)
+GoodItem item = inside.item_is_pure item ≡ true → PlainFrom (item_run_of item)
 
 abbrev GoodLink : Link → Type 0
-GoodLink link = purity.link_is_pure link ≡ true → PlainFrom (link_run link)
+GoodLink link = inside.link_is_pure link ≡ true → PlainFrom (link_run link)
 
 abbrev GoodPlace : Place → Type 0
-GoodPlace place = purity.place_is_pure place ≡ true → PlainPlace (place_run place)
+GoodPlace place = inside.place_is_pure place ≡ true → PlainPlace (place_run place)
 
 abbrev WithExpression : Type 0
 WithExpression = (e : Expression) × Good e
@@ -161,7 +163,7 @@ abbrev runs : Whole → Expression-F ExpressionRun ItemRun LinkRun PlaceRun
 runs x = map-Expression Expression Item Link Place ExpressionRun ItemRun LinkRun PlaceRun expression_run item_run_of link_run place_run x
 
 abbrev tests : Whole → Expression-F Bool Bool Bool Bool
-tests x = map-Expression Expression Item Link Place Bool Bool Bool Bool purity.is_pure purity.item_is_pure purity.link_is_pure purity.place_is_pure x
+tests x = map-Expression Expression Item Link Place Bool Bool Bool Bool purity.is_pure inside.item_is_pure inside.link_is_pure inside.place_is_pure x
 
 plain-choice : (o : Option ExpressionRun) (v : Value) → ((e : ExpressionRun) → o ≡ Some e → PlainExpression e) → PlainPart (choice o v)
 plain-choice None v keep setting s = Given v refl
@@ -182,9 +184,9 @@ plain-layer (Expression-F.Number m) pure = (λ setting s. Given _ refl, λ setti
 plain-layer (Expression-F.Text bytes) pure = (λ setting s. Given _ refl, λ setting s. Given _ refl)
 plain-layer (Expression-F.Variable name) pure = (λ setting s. Given _ refl, λ setting s. Given _ refl)
 plain-layer (Expression-F.Array items) pure =
-    let k = plain-items _ (each-pure purity.item_is_pure item_run_of PlainFrom items pure) (value.Array empty) in (k, k)
+    let k = plain-items _ (each-pure inside.item_is_pure item_run_of PlainFrom items pure) (value.Array empty) in (k, k)
 plain-layer (Expression-F.Call name arguments) pure = absurd (cc)
-plain-layer (Expression-F.Isset places) pure = let k = plain-isset _ (each-pure purity.place_is_pure place_run PlainPlace places pure) in (k, k)
+plain-layer (Expression-F.Isset places) pure = let k = plain-isset _ (each-pure inside.place_is_pure place_run PlainPlace places pure) in (k, k)
 plain-layer (Expression-F.Index base indices) pure =
     let h = both-true (purity.is_pure base.0) _ pure in
     let each = each-pure purity.is_pure expression_run PlainExpression indices h.1 in
@@ -201,7 +203,7 @@ plain-layer (Expression-F.Chain first links) pure =
     let k : PlainPart (λ setting s. and_then ((expression_run first.0).value setting s) (λ v t. links_run (map link_run (map
     (λ e. e.0) links)) v setting t)) =
     λ setting s. plain-then s _ _ ((first.1 h.0).0 setting s) (λ v. plain-links _
-    (each-pure purity.link_is_pure link_run PlainFrom links h.1) v setting s) in (k, k)
+    (each-pure inside.link_is_pure link_run PlainFrom links h.1) v setting s) in (k, k)
 plain-layer (Expression-F.Coalesce left right) pure =
     let h = both-true (purity.is_pure left.0) (purity.is_pure right.0) pure in
     let k = plain-coalesced (expression_run left.0) (expression_run right.0) (left.1 h.0) (right.1 h.1) in (k, k)
@@ -225,8 +227,8 @@ parts-item y = map-Item WithExpression WithItem WithLink WithPlace Expression It
 
 plain-item-layer : (key : Option WithExpression) (item : WithExpression)
     → (let y : Item-F WithExpression WithItem WithLink WithPlace = record { key = key; value = item } in
-    purity.item_layer (map-Item Expression Item Link Place Bool Bool Bool Bool purity.is_pure purity.item_is_pure purity.link_is_pure
-    purity.place_is_pure (parts-item y)) ≡ true
+    purity.item_layer (map-Item Expression Item Link Place Bool Bool Bool Bool purity.is_pure inside.item_is_pure inside.link_is_pure
+    inside.place_is_pure (parts-item y)) ≡ true
     → PlainFrom (item_layer (map-Item Expression Item Link Place ExpressionRun ItemRun LinkRun PlaceRun expression_run item_run_of link_run
     place_run (parts-item y))))
 plain-item-layer None item pure = plain-item (expression_run item.0) (item.1 (both-true true (purity.is_pure item.0) pure).1)

@@ -25,7 +25,8 @@ use Rattle.dp_meaning.specs.declared.halt.Halt.{Halt}
 use Rattle.dp_meaning.specs.Loops.{bind, bind_key, bind_name}
 use Rattle.dp_meaning.specs.inner.Drive.{Gives as Reaches, Rules, Evaluates, drive, halt_of, settled_of}
 use Rattle.dp_meaning.specs.Run.{Done, and_then, fatal, taken}
-use Rattle.dp_meaning.specs.Values.{builtin_run, holds, is_missing, kept_of, present_of, value_run, write_run}
+use Rattle.dp_meaning.specs.Values.{builtin_run, holds, is_missing, value_run, write_run}
+use Rattle.dp_meaning.specs.inner.Parts.{kept_of, present_of}
 use Rattle.dp_meaning.proofs.Drives.{gives, ends, wants_memory, breaks_off, goes_on}
 
 module _ (rules : Rules) (s : State) where

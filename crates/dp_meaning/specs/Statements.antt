@@ -169,12 +169,6 @@ kind_layer (StatementKind-F.Exit value) line setting s =
 unfoldable pub statement_run : Statement → Part Signal
 statement_run = fold-Statement KindRun ArmRun (Part Signal) kind_layer arm_layer statement_layer
 
-unfoldable pub kind_run : StatementKind → KindRun
-kind_run = fold-StatementKind KindRun ArmRun (Part Signal) kind_layer arm_layer statement_layer
-
-unfoldable pub arm_run : Arm → ArmRun
-arm_run = fold-Arm KindRun ArmRun (Part Signal) kind_layer arm_layer statement_layer
-
 -- the statements of a function or a file
 abbrev pub body_run : List Statement → Part Signal
 body_run statements = sequence (map statement_run statements)

@@ -1,5 +1,5 @@
 -- What tables of values leave of a run: a value, or a fatal fault.
-use Rattle.std.specs.Prelude.{Bool, if◌then◌else◌, Option, Some, None, Result, Ok, Err}
+use Rattle.std.specs.Prelude.{Bool, Result, Ok, Err}
 use Rattle.dp_value.specs.declared.error.CallError.{CallError}
 use Rattle.dp_value.specs.declared.error.ValueError.{ValueError}
 use Rattle.dp_value.specs.declared.error.WriteError.{WriteError}
@@ -32,11 +32,3 @@ holds v = is_true (data_of v)
 
 abbrev pub is_missing : Value → Bool
 is_missing v = is_null (data_of v)
-
--- a value that is not null
-abbrev pub present_of : Value → Option Value
-present_of v = if is_missing v then None else Some v
-
--- a value that holds
-abbrev pub kept_of : Value → Option Value
-kept_of v = if holds v then Some v else None

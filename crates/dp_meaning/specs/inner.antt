@@ -4,3 +4,4 @@ pub mod Answering
 pub mod Drive
 pub mod Evaluation
 pub mod Sizes
+pub mod Parts

@@ -8,7 +8,7 @@ ghost use Rattle.dp_value.specs.declared.value.Value.TheVariants as variant;
 ghost use Rattle.dp_meaning.specs.inner.Drive.{Evaluates, Rules};
 ghost use Rattle.dp_meaning.specs.Places.{variable as value_named};
 ghost use Rattle.dp_meaning.specs.Run.{Done};
-ghost use Rattle.dp_meaning.specs.Values.{kept_of, present_of};
+ghost use Rattle.dp_meaning.specs.inner.Parts.{kept_of, present_of};
 
 use crate::answers::is_missing;
 use crate::halt::Halt;

@@ -17,7 +17,8 @@ impl<O: Outside> Evaluator<'_, O> {
     ghost use Rattle.dp_tree.specs.declared.tree.Operator.TheVariants.{Of};
     ghost use Rattle.dp_meaning.specs.inner.Drive.{Evaluates};
     ghost use Rattle.dp_meaning.specs.inner.Evaluation.{goes_by, held_part};
-    ghost use Rattle.dp_meaning.specs.Expressions.{chained, choice, coalesced, conditional, expression_run, link_run, links_run, operator_run, tested};
+    ghost use Rattle.dp_meaning.specs.Expressions.{chained, choice, coalesced, conditional, expression_run, links_run, operator_run, tested};
+    ghost use Rattle.dp_meaning.specs.inner.Parts.{link_run};
 
     /// The value of operands that are joined from left to right.
     #[cycle(evaluate)]

@@ -4,7 +4,8 @@ use Rattle.std.proofs.lemmas.Bool.Decides.{nat_tests}
 use Rattle.std.specs.List.{flat_map}
 use Rattle.std.specs.Prelude.{nat_le}
 use Rattle.dp_tree.specs.CodeLines as lines
-use Rattle.dp_tree.specs.CodeLines.{Lines, LinesFrom, lines_of, kind_lines, arm_lines, body_lines}
+use Rattle.dp_tree.specs.CodeLines.{Lines, LinesFrom, lines_of, body_lines}
+use Rattle.dp_tree.specs.inner.Parts.{kind_lines, arm_lines}
 use Rattle.dp_tree.specs.declared.bundle.Bundle.{Bundle}
 use Rattle.dp_value.specs.declared.value.Value.{Value}
 use Rattle.dp_value.specs.declared.value.Value.TheVariants as value
@@ -29,7 +30,8 @@ use Rattle.dp_meaning.specs.Loops.{do_turns, entries, turn_over, turns}
 use Rattle.dp_meaning.specs.Places.{unset_run}
 use Rattle.dp_meaning.specs.Run.{Run, Done, Over, At, and_then, taken}
 use Rattle.dp_meaning.specs.Setting.{Setting, Part}
-use Rattle.dp_meaning.specs.Statements.{KindRun, ArmRun, go_on, placed, sequence, echoes, arms_run, with_globals, status_of, exit_with, exit_run, return_run, end_run, kind_layer, arm_layer, statement_layer, kind_run, arm_run, statement_run, body_run}
+use Rattle.dp_meaning.specs.Statements.{KindRun, ArmRun, go_on, placed, sequence, echoes, arms_run, with_globals, status_of, exit_with, exit_run, return_run, end_run, kind_layer, arm_layer, statement_layer, statement_run, body_run}
+use Rattle.dp_meaning.specs.inner.Parts.{kind_run, arm_run}
 use Rattle.dp_meaning.specs.Values.{holds}
 use Rattle.dp_meaning_laws.proofs.Alike.{Alike, AreAlike, Facts, IsKept, Keeps, KeepsPart, Keeps-and_then, Alike-if, Alike-taken}
 use Rattle.dp_meaning_laws.proofs.Each.{Each, each-left, each-right}

@@ -9,7 +9,8 @@ use Rattle.dp_tree.specs.declared.tree.Statement.{Statement}
 use Rattle.dp_tree.specs.declared.tree.StatementKind.TheFolds.{fold-roll-StatementKind}
 use Rattle.dp_tree.specs.declared.tree.StatementKind.TheOpen.{StatementKind-F}
 use Rattle.dp_tree.specs.declared.tree.StatementKind.TheVariants as tree
-use Rattle.dp_tree.specs.CodeLines.{Lines, LinesFrom, statement_layer, kind_layer, arm_layer, lines_of, arm_lines, kind_lines, body_lines, has_line}
+use Rattle.dp_tree.specs.CodeLines.{Lines, LinesFrom, statement_layer, kind_layer, arm_layer, lines_of, body_lines, has_line}
+use Rattle.dp_tree.specs.inner.Parts.{arm_lines, kind_lines}
 
 -- a line stands in two lists together
 pub has_both : (a b : Lines) (line : ℕ) → has_line (a ++ b) line ≡ (has_line a line || has_line b line)

@@ -9,7 +9,8 @@ use Rattle.dp_tree.specs.declared.tree.Expression.{Expression}
 use Rattle.dp_tree.specs.declared.tree.Expression.TheFolds.{fold-roll-Expression, fold_out-Place}
 use Rattle.dp_tree.specs.declared.tree.Expression.TheOpen.{Expression-F}
 use Rattle.dp_tree.specs.declared.tree.Expression.TheVariants as tree
-use Rattle.dp_tree.specs.Purity.{all_pure, place_layer, item_layer, link_layer, expression_layer, is_pure, place_is_pure, item_is_pure, link_is_pure}
+use Rattle.dp_tree.specs.Purity.{all_pure, place_layer, item_layer, link_layer, expression_layer, is_pure}
+use Rattle.dp_tree.specs.inner.Parts.{place_is_pure, item_is_pure, link_is_pure}
 
 parts : {A : Type 0} (f : A → Bool) (all : List A) → all_pure (map f all) ≡ list_all f all
 parts f all = list_all-map (λ part. part) f all

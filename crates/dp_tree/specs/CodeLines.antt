@@ -4,8 +4,6 @@ use Rattle.std.specs.Option.{option_map_or}
 use Rattle.std.specs.List.{list_any, flat_map}
 use Rattle.dp_tree.specs.declared.tree.Statement.{Statement, fold-Statement}
 use Rattle.dp_tree.specs.declared.tree.StatementKind.TheOpen.{Statement-F, StatementKind-F, Arm-F}
-use Rattle.dp_tree.specs.declared.tree.StatementKind.{StatementKind, fold-StatementKind}
-use Rattle.dp_tree.specs.declared.tree.Arm.{Arm, fold-Arm}
 use Rattle.dp_tree.specs.declared.tree.Function.{Function}
 use Rattle.dp_tree.specs.declared.tree.File.{File}
 
@@ -45,12 +43,6 @@ arm_layer arm = arm.line ∷ arm.body
 
 abbrev pub lines_of : Statement → Lines
 lines_of = fold-Statement LinesFrom Lines Lines kind_layer arm_layer statement_layer
-
-abbrev pub kind_lines : StatementKind → LinesFrom
-kind_lines = fold-StatementKind LinesFrom Lines Lines kind_layer arm_layer statement_layer
-
-abbrev pub arm_lines : Arm → Lines
-arm_lines = fold-Arm LinesFrom Lines Lines kind_layer arm_layer statement_layer
 
 abbrev pub body_lines : List Statement → Lines
 body_lines all = flat_map lines_of all

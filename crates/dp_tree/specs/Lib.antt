@@ -5,3 +5,4 @@ pub mod Purity
 pub mod CodeLines
 pub mod Files
 pub mod FileNames
+pub mod inner

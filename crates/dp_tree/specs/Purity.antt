@@ -3,10 +3,7 @@
 use Rattle.std.specs.Prelude.{Bool, true, false, ◌&&◌, List}
 use Rattle.std.specs.Option.{option_map_or}
 use Rattle.std.specs.List.{list_all}
-use Rattle.dp_tree.specs.declared.tree.Place.{Place, fold-Place}
 use Rattle.dp_tree.specs.declared.tree.Expression.TheOpen.{Place-F, Item-F, Link-F, Expression-F}
-use Rattle.dp_tree.specs.declared.tree.Item.{Item, fold-Item}
-use Rattle.dp_tree.specs.declared.tree.Link.{Link, fold-Link}
 use Rattle.dp_tree.specs.declared.tree.Expression.{Expression, fold-Expression}
 
 -- each layer of a tree, where it is known of the parts whether they are pure
@@ -47,12 +44,3 @@ expression_layer (Expression-F.Push to from) = false
 
 abbrev pub is_pure : Expression → Bool
 is_pure = fold-Expression Bool Bool Bool Bool expression_layer item_layer link_layer place_layer
-
-abbrev pub place_is_pure : Place → Bool
-place_is_pure = fold-Place Bool Bool Bool Bool expression_layer item_layer link_layer place_layer
-
-abbrev pub item_is_pure : Item → Bool
-item_is_pure = fold-Item Bool Bool Bool Bool expression_layer item_layer link_layer place_layer
-
-abbrev pub link_is_pure : Link → Bool
-link_is_pure = fold-Link Bool Bool Bool Bool expression_layer item_layer link_layer place_layer

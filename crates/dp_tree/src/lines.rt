@@ -5,6 +5,7 @@ ghost use Rattle.std.specs.Option.{option_map_or};
 ghost use Rattle.std.specs.List.{flat_map};
 ghost use Rattle.dp_tree.specs.declared.tree.Function.{Function};
 ghost use Rattle.dp_tree.specs.CodeLines as lines;
+ghost use Rattle.dp_tree.specs.inner.Parts as parts;
 
 use crate::boxed::Boxed;
 use crate::tree::{Arm, File, Function, Statement, StatementKind};
@@ -56,7 +57,7 @@ fn statement_has(statement: &Statement, line: u32) -> bool
 #[cycle(lines)]
 #[tactic(auto, using(crate::proofs::TreeLines::has_both, crate::proofs::TreeLines::block_lines, crate::proofs::TreeLines::if_lines, crate::proofs::TreeLines::do_lines))]
 fn kind_has(kind: &StatementKind, first: u32, line: u32) -> bool
-    ensures { result ≡ lines.has_line (lines.kind_lines kind.now first) line }
+    ensures { result ≡ lines.has_line (parts.kind_lines kind.now first) line }
 {
     match kind {
         StatementKind::Empty => false,
@@ -106,7 +107,7 @@ fn otherwise_has(otherwise: &Option<Boxed<Statement>>, line: u32) -> bool
 #[cycle(lines)]
 #[tactic(auto, using(crate::proofs::TreeLines::has_both))]
 fn arms_have(arms: &[Arm], line: u32) -> bool
-    ensures { result ≡ lines.has_line (flat_map lines.arm_lines arms.now) line }
+    ensures { result ≡ lines.has_line (flat_map parts.arm_lines arms.now) line }
 {
     for arm in arms {
         if arm.line == line {

@@ -4,6 +4,7 @@ ghost use Rattle.std.specs.Prelude.{◌≡◌, true};
 ghost use Rattle.std.specs.Option.{option_map_or};
 ghost use Rattle.std.specs.List.{list_all};
 ghost use Rattle.dp_tree.specs.Purity as purity;
+ghost use Rattle.dp_tree.specs.inner.Parts as parts;
 
 use crate::boxed::Boxed;
 use crate::tree::{Expression, Item, Link, Place};
@@ -64,7 +65,7 @@ fn all_pure(all: &[Expression]) -> bool
 
 #[cycle(purity)]
 fn items_are_pure(all: &[Item]) -> bool
-    ensures { result ≡ list_all purity.item_is_pure all.now }
+    ensures { result ≡ list_all parts.item_is_pure all.now }
 {
     for item in all {
         if !item_is_pure(item) {
@@ -76,7 +77,7 @@ fn items_are_pure(all: &[Item]) -> bool
 
 #[cycle(purity)]
 fn item_is_pure(item: &Item) -> bool
-    ensures { result ≡ purity.item_is_pure item.now }
+    ensures { result ≡ parts.item_is_pure item.now }
 {
     match &item.key {
         Some(key) => is_pure(key) && is_pure(&item.value),
@@ -86,7 +87,7 @@ fn item_is_pure(item: &Item) -> bool
 
 #[cycle(purity)]
 fn places_are_pure(all: &[Place]) -> bool
-    ensures { result ≡ list_all purity.place_is_pure all.now }
+    ensures { result ≡ list_all parts.place_is_pure all.now }
 {
     for place in all {
         if !place_is_pure(place) {
@@ -99,14 +100,14 @@ fn places_are_pure(all: &[Place]) -> bool
 #[cycle(purity)]
 #[tactic(auto, using(crate::proofs::TreePurity::place_pure))]
 fn place_is_pure(place: &Place) -> bool
-    ensures { result ≡ purity.place_is_pure place.now }
+    ensures { result ≡ parts.place_is_pure place.now }
 {
     all_pure(place.indices.as_slice())
 }
 
 #[cycle(purity)]
 fn links_are_pure(all: &[Link]) -> bool
-    ensures { result ≡ list_all purity.link_is_pure all.now }
+    ensures { result ≡ list_all parts.link_is_pure all.now }
 {
     for link in all {
         if !is_pure(&link.operand) {

@@ -1,6 +1,7 @@
 use Rattle.std.proofs.Common.{◌≡◌, drop}
 use Rattle.std.specs.List.{flat_map}
-use Rattle.dp_tree.specs.CodeLines.{arm_lines, body_lines, has_line}
+use Rattle.dp_tree.specs.CodeLines.{body_lines, has_line}
+use Rattle.dp_tree.specs.inner.Parts.{arm_lines}
 use Rattle.dp_tree.proofs.lines.+lines.Given as goal
 
 abbrev pub invariant-arms_have-loop-arm : goal.invariant-arms_have-loop-arm

@@ -1,6 +1,7 @@
 use Rattle.std.proofs.Common.{◌≡◌, drop}
 use Rattle.std.specs.List.{list_all}
-use Rattle.dp_tree.specs.Purity.{is_pure, item_is_pure, link_is_pure, place_is_pure}
+use Rattle.dp_tree.specs.Purity.{is_pure}
+use Rattle.dp_tree.specs.inner.Parts.{item_is_pure, link_is_pure, place_is_pure}
 use Rattle.dp_tree.proofs.purity.+purity.Given as goal
 
 abbrev pub invariant-all_pure-loop-e : goal.invariant-all_pure-loop-e

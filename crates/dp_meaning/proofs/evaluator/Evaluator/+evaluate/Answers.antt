@@ -13,7 +13,8 @@ use Rattle.dp_meaning.specs.inner.Evaluation.{callee_of, entries_by, goes_by}
 use Rattle.dp_meaning.specs.Expressions.{evaluation, evaluations}
 use Rattle.dp_meaning.specs.inner.Sizes.{arm_size, body_size, expressions_size, kind_size, sizes_sum, statement_size}
 use Rattle.dp_meaning.specs.Run.{Done}
-use Rattle.dp_meaning.specs.Statements.{arm_run, arms_run, print_run, statement_run}
+use Rattle.dp_meaning.specs.Statements.{arms_run, print_run, statement_run}
+use Rattle.dp_meaning.specs.inner.Parts.{arm_run}
 use Rattle.dp_value.specs.declared.value.Value.TheVariants as variant
 use Rattle.dp_meaning.proofs.CallLaws.{bounded-do, bounded-turns, call-is, file-is, next-off, runs-for, setting-bundle, suc-call, suc-include, then-next, zero-call, zero-include}
 use Rattle.dp_meaning.proofs.Drives.{breaks_off, ends, exits, gives, goes_on, joined_off, joined_on, passes, stops_at, tested_off, tested_on}
