@@ -38,6 +38,7 @@ mod written;
 
 pub use answering::write_in;
 pub use halt::Halt;
+pub use making::evaluation;
 pub use running::{run_to, run_until};
 pub use signal::Signal;
 pub use stop::Stop;

@@ -147,8 +147,10 @@ fn keep(holds: bool, after: State, state: &mut State)
     }
 }
 
-/// The value of an expression in the top frame, where it holds, and the state that its evaluation leaves.
-pub(crate) fn evaluation(
+/// The value of an expression in the top frame of a state, where it holds, and the state that its evaluation leaves; the
+/// state itself stays as it is. It does not hold where it is fatal, ends the program or has more than 10,000 moments.
+/// Copies the state.
+pub fn evaluation(
     alloc: Global,
     bundle: &Bundle,
     e: &Expression,
