@@ -1,10 +1,8 @@
 -- The first of the tests of a breakpoint_set command, and what an accepted one asks for.
 use Rattle.std.proofs.Common.{◌≡◌, ℕ, ◌<◌, sym, ap, subst, Bool, true, false, not, ◌&&◌, ◌||◌, if◌then◌else◌, List, [], ◌∷◌, ◌++◌, length, Option, Some, None, is_some, is_none, refl, ◌∙◌}
-use Rattle.std.specs.Prelude.{option_map, position, unwrap_or, IfSome, IsErrAnd, Result, Ok, Err}
+use Rattle.std.specs.Prelude.{option_map, unwrap_or, IfSome, IsErrAnd, Result, Ok, Err}
 use Rattle.std.specs.Option.{option_map_or, option_or}
 use Rattle.std.specs.List.{find}
-use Rattle.std.specs.Str.{bytes_eq}
-use Rattle.std.proofs.lemmas.List.Quantifiers.{position-Some}
 use Rattle.dp_break.specs.Changes.{IsRequest}
 use Rattle.dp_break.specs.Hits.{is_of_function}
 use Rattle.dp_break.specs.declared.breakpoint.BreakRequest.{BreakRequest}
@@ -13,14 +11,13 @@ use Rattle.dp_break.specs.declared.errors.BreakError.TheVariants as held
 use Rattle.dp_break.specs.Refusals.{plain_refusal}
 use Rattle.dp_break.specs.Tables.{Table, has_parts}
 use Rattle.dp_tree.specs.declared.bundle.Bundle.{Bundle}
-use Rattle.dp_tree.specs.declared.bundle.BundleFile.{BundleFile}
 use Rattle.dp_command.specs.declared.command.BreakpointSet.{BreakpointSet}
 use Rattle.dp_packet.specs.declared.packet.BreakKind.{BreakKind}
 use Rattle.dp_packet.specs.declared.packet.BreakKind.TheVariants.{Line, Call, Return, Conditional}
-use Rattle.dp_value.specs.Names.{without_slash}
 use Rattle.dp_breakpoint_commands.specs.declared.errors.BreakpointError.{BreakpointError}
 use Rattle.dp_breakpoint_commands.specs.declared.errors.BreakpointError.TheVariants.{Code, Memory}
-use Rattle.dp_breakpoint_commands.specs.Files.{file_like, name_in, requested_file}
+use Rattle.dp_file_uris.specs.Files.{name_in, requested_file}
+use Rattle.dp_file_uris.proofs.Finding.{like_below}
 use Rattle.dp_breakpoint_commands.specs.Setting.{file_tests, has_malformed_part, has_part_too_many, lacks_part, of_kind, refusal, request, word_tests}
 use Rattle.dp_breakpoint_commands.specs.Answers.{IsCause, IsCode, error_of}
 use Rattle.dp_breakpoint_commands.specs.Commands.{plain_set_refusal}
@@ -110,22 +107,12 @@ each_passed set e =
 
 -- ---- files
 
--- a file that is found is one of them
-found_below : (name : List ℕ) (files : List BundleFile) (number : ℕ) → position (λ file. bytes_eq (without_slash file.name) (without_slash name)) files ≡ Some number → number < length files
-found_below name [] number h = absurd cc
-found_below name (f ∷ files) number h = (position-Some (λ file. bytes_eq (without_slash file.name) (without_slash name)) (f ∷ files) number f h).0
-
-pub like_below : (bundle : Bundle) (name : List ℕ) (number : ℕ) → file_like bundle name ≡ Some number → number < length bundle.files
-unfolding file_like
-like_below bundle name number h = found_below name bundle.files number h
-
 file_below : (bundle : Bundle) (here : ℕ) (value : Option (List ℕ)) → here < length bundle.files → unwrap_or (meant (requested_file bundle) value) here < length bundle.files
-unfolding file_like
 file_below bundle here None h = h
 file_below bundle here (Some value) h = by (requested_file bundle value) refl where
   by : (found : Option ℕ) → requested_file bundle value ≡ found → unwrap_or found here < length bundle.files
   by None e = h
-  by (Some number) e = found_below (name_in value) bundle.files number e
+  by (Some number) e = like_below bundle (name_in value) number e
 
 -- ---- parts
 

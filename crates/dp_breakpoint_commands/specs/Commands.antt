@@ -27,7 +27,7 @@ use Rattle.dp_packet.specs.Text.{text}
 use Rattle.dp_tree.specs.declared.bundle.Bundle.{Bundle}
 use Rattle.dp_wire.specs.Frames.{packet_limit}
 use Rattle.dp_breakpoint_commands.specs.Changing.{change, change_tests}
-use Rattle.dp_breakpoint_commands.specs.Files.{is_uri}
+use Rattle.dp_file_uris.specs.Files.{is_uri}
 use Rattle.dp_breakpoint_commands.specs.Setting as setting
 use Rattle.dp_breakpoint_commands.specs.Showing.{breakpoint_line}
 use Rattle.dp_breakpoint_commands.specs.Words.{meant, state_named}

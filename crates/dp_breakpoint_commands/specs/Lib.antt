@@ -1,5 +1,4 @@
 -- What the breakpoint commands ask of a program.
-pub mod Files
 pub mod Words
 pub mod Answers
 pub mod Setting

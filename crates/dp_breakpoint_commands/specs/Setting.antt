@@ -9,7 +9,7 @@ use Rattle.dp_command.specs.declared.command.BreakpointSet.{BreakpointSet}
 use Rattle.dp_packet.specs.declared.packet.BreakKind.{BreakKind}
 use Rattle.dp_packet.specs.declared.packet.BreakKind.TheVariants.{Line, Call, Return, Conditional}
 use Rattle.dp_packet.specs.declared.packet.HitRule.TheVariants.{AtLeast}
-use Rattle.dp_breakpoint_commands.specs.Files.{requested_file}
+use Rattle.dp_file_uris.specs.Files.{requested_file}
 use Rattle.dp_command.specs.Tests.{Test, first_code}
 use Rattle.dp_breakpoint_commands.specs.Words.{kind_named, rule_named, state_named, flag_named, number_in, has_no_meaning, meant}
 

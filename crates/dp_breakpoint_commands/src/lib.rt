@@ -1,10 +1,9 @@
-//! The breakpoint commands: what they ask of a program, the files that they name, how breakpoints are shown, and the answers.
+//! The breakpoint commands: what they ask of a program, how breakpoints are shown, and the answers.
 #![tactic(auto)]
 
 mod answering;
 mod changing;
 mod errors;
-mod files;
 mod laws;
 mod listing;
 mod responses;
@@ -16,7 +15,6 @@ pub use answering::answer_breakpoints;
 pub use changing::breakpoint_change;
 pub use dp_value::Memory;
 pub use errors::BreakpointError;
-pub use files::requested_file;
-pub use laws::{file_uris_are_read_back, refusals_have_messages};
+pub use laws::refusals_have_messages;
 pub use setting::breakpoint_request;
 pub use showing::breakpoint_line;

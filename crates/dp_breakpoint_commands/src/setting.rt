@@ -6,15 +6,15 @@ ghost use Rattle.dp_breakpoint_commands.specs.Setting as spec;
 ghost use Rattle.dp_breakpoint_commands.specs.Answers.{IsCause, IsCode};
 ghost use Rattle.dp_breakpoint_commands.specs.inner.Meant as inner;
 ghost use Rattle.dp_command.specs.Tests.{first_code};
-ghost use Rattle.dp_breakpoint_commands.specs.Files.{is_uri, requested_file as named_file};
+ghost use Rattle.dp_file_uris.specs.Files.{is_uri, requested_file as named_file};
 ghost use Rattle.dp_breakpoint_commands.specs.Words.{meant};
 ghost use Rattle.dp_break.specs.Changes.{IsRequest};
 
 use crate::errors::BreakpointError;
-use crate::files::requested_file;
 use crate::words::{flag_given, kind_named, number_given, rule_given, state_given};
 use dp_break::{BreakKind, BreakRequest, HitRule, is_of_function};
 use dp_command::BreakpointSet;
+use dp_file_uris::requested_file;
 use dp_tree::Bundle;
 use dp_value::Bytes;
 use std::alloc::Global;

@@ -34,7 +34,8 @@ pub record IsFileWord (word : List ℕ) : Type 0 where
 
 -- ---- the words behind a command
 
--- how many moments a program may have where the words do not say it, and the most that they may ask for
+-- how many moments a program may have where the words do not say it, and the most that they may ask
+-- for
 abbrev pub default_bound : ℕ
 default_bound = 1000000
 
@@ -57,18 +58,22 @@ pub record Ask : Type 0 where
 
 abbrev pub with_bound : List (List ℕ) → Option Ask
 with_bound [] = None
-with_bound (number ∷ names) = option_map (λ bound. record { bound = bound; names = names }) (bound_of number)
+with_bound (number ∷ names) =
+    option_map (λ bound. record { bound = bound; names = names }) (bound_of number)
 
 -- the words are the names, behind `--bound N` or without it
 abbrev pub ask_of : List (List ℕ) → Option Ask
 ask_of [] = Some (record { bound = default_bound; names = [] })
 ask_of (word ∷ words) =
-    if bytes_eq word (codes "--bound") then with_bound words else Some (record { bound = default_bound; names = word ∷ words })
+    if bytes_eq word (codes "--bound") then with_bound words
+    else Some (record { bound = default_bound; names = word ∷ words })
 
 -- whether no two names are the same without one leading `/` of each
 abbrev pub are_apart : List (List ℕ) → Bool
 are_apart [] = true
-are_apart (name ∷ names) = list_all (λ other. not (bytes_eq (without_slash name) (without_slash other))) names && are_apart names
+are_apart (name ∷ names) =
+    list_all (λ other. not (bytes_eq (without_slash name) (without_slash other))) names
+    && are_apart names
 
 -- the names of a program's files: 1 to the most, apart also without one leading `/`
 pub record AreFileWords (names : List (List ℕ)) : Type 0 where

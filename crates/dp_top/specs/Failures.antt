@@ -45,7 +45,9 @@ kind_name kinds.OutputFull = codes "OutputFull"
 
 -- the line on a fatal fault: its name, the file, and the line there
 abbrev pub fatal_line : List ℕ → List ℕ → ℕ → List ℕ
-fatal_line kind name line = codes "fatal " ++ kind ++ codes " in " ++ name ++ codes " on line " ++ decimal line ++ codes "\n"
+fatal_line kind name line =
+    codes "fatal " ++ kind ++ codes " in " ++ name ++ codes " on line " ++ decimal line
+    ++ codes "\n"
 
 -- the line on the error output
 abbrev pub line_of : Failure → List ℕ → List ℕ
@@ -64,4 +66,6 @@ line_of Memory name = codes "out of memory\n"
 
 -- the line was put, or the put failed and a front of it stands there
 abbrev pub Says : Change → List ℕ → Type 0
-Says err line = Appends err.told_before err.told line ⊎ (Rose err.faults_before err.faults × AppendsFront err.told_before err.told line)
+Says err line =
+    Appends err.told_before err.told line
+    ⊎ (Rose err.faults_before err.faults × AppendsFront err.told_before err.told line)

@@ -36,10 +36,11 @@ program_name names (none.Source file why) = name_at names file
 program_name names none.Memory = []
 
 abbrev pub IsProgramTold : Failure → List ℕ → Ask → ProgramError → Type 0
-IsProgramTold failure name ask why = (failure ≡ program_failure why) × (name ≡ program_name ask.names why)
+IsProgramTold failure name ask why =
+    (failure ≡ program_failure why) × (name ≡ program_name ask.names why)
 
--- Only files of a program that is asked for are fetched, each once, in the order of its names: all, or the first of them.
--- Where no program is asked for nothing is fetched.
+-- Only files of a program that is asked for are fetched, each once, in the order of its names: all,
+-- or the first of them. Where no program is asked for nothing is fetched.
 abbrev pub IsFetched : Option Ask → Told → Told → Type 0
 IsFetched None before after = after ≡ before
 IsFetched (Some ask) before after = (count : ℕ) × (after ≡ grown before (take count ask.names))
@@ -63,14 +64,17 @@ name_told names run.OutFault = []
 name_told names run.Memory = []
 
 abbrev pub IsRunTold : Failure → List ℕ → Ask → RunError → Type 0
-IsRunTold failure name ask why = (failure ≡ failure_of ask.bound why) × (name ≡ name_told ask.names why)
+IsRunTold failure name ask why =
+    (failure ≡ failure_of ask.bound why) × (name ≡ name_told ask.names why)
 
 -- it is told so, or memory ran out for its line
 abbrev pub IsToldOrStarved : Failure → List ℕ → Ask → RunError → Type 0
-IsToldOrStarved failure name ask why = IsRunTold failure name ask why ⊎ ((failure ≡ Memory) × (name ≡ []))
+IsToldOrStarved failure name ask why =
+    IsRunTold failure name ask why ⊎ ((failure ≡ Memory) × (name ≡ []))
 
 -- why the run failed, as it is told
-pub record RunFails (failure : Failure) (name : List ℕ) (files : Files) (before after : ℕ) (ask : Ask) (out : Change) : Type 0 where
+pub record RunFails (failure : Failure) (name : List ℕ) (files : Files) (before after : ℕ)
+    (ask : Ask) (out : Change) : Type 0 where
   pub why : RunError
   pub caused : RunCaused why files before after ask.names ask.bound out
   pub told : IsToldOrStarved failure name ask why

@@ -24,7 +24,8 @@ pub record Seen : Type 0 where
   pub err : Stream
 
 abbrev pub seen : {H S K E : Type 0}
-    → shelf_of.Ghosts H → source_of.Ghosts S → sink_of.Ghosts K → sink_of.Ghosts E → H → S → K → E → Seen
+    → shelf_of.Ghosts H → source_of.Ghosts S → sink_of.Ghosts K → sink_of.Ghosts E → H → S → K → E
+    → Seen
 seen h s k e shelf input out err = record {
   shelf = record { files = h.files shelf; fetched = h.fetched shelf; faults = h.faults shelf };
   input = record { told = s.left input; faults = s.faults input };

@@ -10,7 +10,8 @@ use Rattle.dp_top.specs.declared.failures.Failure.TheVariants.{Source, Memory}
 use Rattle.dp_top.specs.declared.failures.Reason.{Reason}
 use Rattle.dp_top.specs.declared.failures.Reason.TheVariants.{BadByte, OpenString, OpenComment, WideNumber, Unexpected, TooDeep, DoubleFunction}
 
--- The failure that a refusal is: its reason, and its offset or token. A function that is declared twice has neither.
+-- The failure that a refusal is: its reason, and its offset or token. A function that is declared
+-- twice has neither.
 abbrev pub failure_of : ParseError → Failure
 failure_of (error.Lex (lex.BadByte offset)) = Source BadByte offset
 failure_of (error.Lex (lex.OpenString offset)) = Source OpenString offset
@@ -40,4 +41,5 @@ reason_name DoubleFunction = codes "DoubleFunction"
 
 -- the line on the error output: the name of the file, the reason, and its number
 abbrev pub bad_source : List ℕ → List ℕ → ℕ → List ℕ
-bad_source name reason number = codes "bad source " ++ name ++ codes " " ++ reason ++ codes " " ++ decimal number ++ codes "\n"
+bad_source name reason number =
+    codes "bad source " ++ name ++ codes " " ++ reason ++ codes " " ++ decimal number ++ codes "\n"

@@ -84,7 +84,8 @@ pub record IsUnserved (why : Failure) (name : List ℕ) (ask : Ask) (old new : S
   pub told : IsProgramTold why name ask cause
   pub idle : AreIdle old new
 
--- The session was served, and its end is this failure. What `out` and `err` have taken then is said with each end of serving.
+-- The session was served, and its end is this failure. What `out` and `err` have taken then is said
+-- with each end of serving.
 pub record EndsSo (why : Failure) (name key : List ℕ) (ask : Ask) (old new : Seen) : Type 0 where
   pub served : Served
   pub is : IsServed served key ask old new

@@ -7,8 +7,8 @@ ghost use Rattle.dp_view_commands.specs.Views as spec;
 
 use crate::packets::{encoded, limited, respond};
 use base64::engine::general_purpose::STANDARD;
-use dp_breakpoint_commands::requested_file;
 use dp_command::{Addressee, SourceRange};
+use dp_file_uris::requested_file;
 use dp_packet::{Body, Response};
 use dp_tree::Bundle;
 use dp_value::{Bytes, Memory};

@@ -15,12 +15,16 @@ use Rattle.dp_top.specs.Seen.{Seen}
 abbrev pub IsBadSource : Failure → Type 0
 IsBadSource failure = (status_of failure ≡ 201) ⊎ (failure ≡ Memory)
 
--- files that make a program are no bad source, and those that make none are one, unless the shelf failed
+-- files that make a program are no bad source, and those that make none are one, unless the shelf
+-- failed
 abbrev pub IsHeld : {A : Type 0} → Result Bundle BundleError → Result A Refused → ℕ → ℕ → Type 0
-IsHeld (Ok program) result before after = IfErr result (λ why. (status_of why.failure ≢ 201) × (why.failure ≢ NoFile))
-IsHeld (Err e) result before after = MatchResult result (λ _. ⊥) (λ why. IsBadSource why.failure ⊎ Rose before after)
+IsHeld (Ok program) result before after =
+    IfErr result (λ why. (status_of why.failure ≢ 201) × (why.failure ≢ NoFile))
+IsHeld (Err e) result before after =
+    MatchResult result (λ _. ⊥) (λ why. IsBadSource why.failure ⊎ Rose before after)
 
 -- likewise where the shelf tells the files of the program
-pub record AreHeld {A : Type 0} (ask : Ask) (result : Result A Refused) (old new : Seen) : Type 0 where
+pub record AreHeld {A : Type 0} (ask : Ask) (result : Result A Refused)
+    (old new : Seen) : Type 0 where
   pub by_files : (asked : Result Bundle BundleError) → Holds old.shelf.files ask.names asked
       → IsHeld asked result old.shelf.faults new.shelf.faults

@@ -16,16 +16,19 @@ told_in (Ok status) = Ok status
 told_in (Err why) = Err (why.failure, why.name.now)
 
 -- a session over this program went well, with this status
-pub record ServedSo (status : ℕ) (program : Bundle) (key : List ℕ) (ask : Ask) (input out err : Change) : Type 0 where
+pub record ServedSo (status : ℕ) (program : Bundle) (key : List ℕ) (ask : Ask)
+    (input out err : Change) : Type 0 where
   pub served : Served
   pub serves : Serves served program ask.bound key input out err
   pub told : judged ask served ≡ Ok status
 
-pub record EndedSo (why : Failure) (name : List ℕ) (program : Bundle) (key : List ℕ) (ask : Ask) (input out err : Change) : Type 0 where
+pub record EndedSo (why : Failure) (name : List ℕ) (program : Bundle) (key : List ℕ) (ask : Ask)
+    (input out err : Change) : Type 0 where
   pub served : Served
   pub serves : Serves served program ask.bound key input out err
   pub told : judged ask served ≡ Err (why, name)
 
 -- one failed so, or memory ran out before it began
 abbrev pub UnservedSo : Failure → List ℕ → Bundle → List ℕ → Ask → Change → Change → Change → Type 0
-UnservedSo why name program key ask input out err = ((why ≡ failure.Memory) × IsIdle input out err) ⊎ EndedSo why name program key ask input out err
+UnservedSo why name program key ask input out err =
+    ((why ≡ failure.Memory) × IsIdle input out err) ⊎ EndedSo why name program key ask input out err

@@ -1,6 +1,6 @@
 use Rattle.std.proofs.Common.{arith, sym}
-use Rattle.dp_breakpoint_commands.proofs.Refusing.{like_below}
-use Rattle.dp_breakpoint_commands.proofs.files.file_number.Goals as goal
+use Rattle.dp_file_uris.proofs.Finding.{like_below}
+use Rattle.dp_file_uris.proofs.files.file_number.Goals as goal
 
 pub returns-in-Err-clause-memory : goal.returns-in-Err-clause-memory
 returns-in-Err-clause-memory c =

@@ -1,7 +1,7 @@
 //! The file that a value of `-f` names.
 
 ghost use Rattle.std.specs.Prelude.{◌≡◌, ◌<◌, ◌⊎◌, true, length, IfOk, OnErr};
-ghost use Rattle.dp_breakpoint_commands.specs.Files as spec;
+ghost use Rattle.dp_file_uris.specs.Files as spec;
 ghost use Rattle.percent_encoding.specs.Percent.{percent_decode as decoded_path};
 
 use dp_tree::Bundle;

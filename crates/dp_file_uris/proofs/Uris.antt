@@ -16,7 +16,7 @@ use Rattle.dp_tree.specs.FileNames.{AreFileNames}
 use Rattle.dp_value.specs.declared.key.Key.TheVariants.{Text}
 use Rattle.dp_value.specs.Names.{without_slash}
 use Rattle.dp_value.proofs.KeyLemmas.{key_eq_equivalence}
-use Rattle.dp_breakpoint_commands.specs.Files.{file_like, name_in, requested_file}
+use Rattle.dp_file_uris.specs.Files.{file_like, name_in, requested_file}
 
 -- ---- names
 

@@ -1,0 +1,2 @@
+-- The files of a program by their names.
+pub mod Files

@@ -1,0 +1,9 @@
+//! The files of a program by their names: what a value of `-f` names, and that the URIs which packets show are read back.
+#![tactic(auto)]
+
+mod files;
+mod laws;
+
+pub use dp_value::Memory;
+pub use files::requested_file;
+pub use laws::file_uris_are_read_back;
