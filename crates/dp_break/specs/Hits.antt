@@ -5,8 +5,8 @@ use Rattle.std.specs.Option.{option_map_or}
 use Rattle.std.specs.Str.{str_eq_ignore_ascii_case}
 use Rattle.dp_tree.specs.declared.bundle.Bundle.{Bundle}
 use Rattle.dp_meaning.specs.Expressions.{evaluation}
-use Rattle.dp_meaning.specs.Run.{Run, Done, Over, At}
-use Rattle.dp_meaning.specs.Values.{holds}
+use Rattle.dp_actions.specs.Run.{Run, Done, Over, At}
+use Rattle.dp_actions.specs.Values.{holds}
 use Rattle.dp_meaning.specs.Writes.{evaluation_setting}
 use Rattle.dp_packet.specs.declared.packet.BreakKind.{BreakKind}
 use Rattle.dp_packet.specs.declared.packet.BreakKind.TheVariants.{Line, Call, Return, Conditional}

@@ -8,7 +8,7 @@ ghost use Rattle.dp_break.specs.Hits.{hits, is_true_in};
 ghost use Rattle.dp_break.specs.Passing.{Moments, found, held_after, one_stops, passed, stop_above};
 ghost use Rattle.dp_tree.specs.declared.bundle.Bundle.{Bundle};
 ghost use Rattle.dp_meaning.specs.Pure.{IsValueIn};
-ghost use Rattle.dp_meaning.specs.Values.{holds};
+ghost use Rattle.dp_actions.specs.Values.{holds};
 ghost use Rattle.dp_state.specs.declared.moments.Moment.{Moment};
 ghost use Rattle.dp_state.specs.declared.state.State.{State};
 ghost use Rattle.dp_tree.specs.declared.tree.Expression.{Expression};

@@ -12,7 +12,7 @@ use Rattle.dp_tree.specs.declared.bundle.Bundle.{Bundle}
 use Rattle.dp_state.specs.declared.moments.Moment.{Moment}
 use Rattle.dp_state.specs.declared.state.State.{State}
 use Rattle.dp_meaning.specs.declared.writing.NumberedWrite.{NumberedWrite}
-use Rattle.dp_meaning.specs.Setting.{Setting}
+use Rattle.dp_actions.specs.Setting.{Setting}
 use Rattle.dp_meaning.specs.Stopping.{above, first_at}
 use Rattle.dp_meaning.specs.Writes.{Writes, one_write, written, written_by}
 use Rattle.dp_continuation.specs.inner.Hits.{is_told}

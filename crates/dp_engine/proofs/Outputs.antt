@@ -26,7 +26,7 @@ use Rattle.dp_state.specs.States.{entered, frame_limit, owner_at, printed, read_
 use Rattle.dp_state.specs.Variables.{Variables, with_slot, without}
 use Rattle.dp_tree.specs.declared.tree.Function.{Function}
 use Rattle.dp_meaning.specs.Programs.{program_run}
-use Rattle.dp_meaning.specs.Run.{Run, Done, Over, At}
+use Rattle.dp_actions.specs.Run.{Run, Done, Over, At}
 use Rattle.dp_meaning.specs.Trace.{Trace, Ended, moment_of, plain, program_trace, trace, with_moment}
 use Rattle.dp_meaning.specs.Writes.{arrived, writes_of}
 use Rattle.dp_meaning.proofs.Always.{Always, IsKept}

@@ -6,14 +6,14 @@ use Rattle.dp_state.specs.declared.moments.Outcome.TheVariants.{Bound}
 use Rattle.dp_state.specs.declared.state.State.{State}
 use Rattle.dp_tree.specs.declared.tree.Expression.{Expression}
 use Rattle.dp_value.specs.declared.value.Value.{Value}
-use Rattle.dp_meaning.specs.declared.halt.Halt.{Halt}
-use Rattle.dp_meaning.specs.declared.signal.Signal.{Signal}
+use Rattle.dp_actions.specs.declared.halt.Halt.{Halt}
+use Rattle.dp_actions.specs.declared.signal.Signal.{Signal}
 use Rattle.dp_meaning.specs.declared.stop.Stop.{Stop}
-use Rattle.dp_meaning.specs.declared.halt.Halt.TheVariants.{Memory, Finished, Stopped}
+use Rattle.dp_actions.specs.declared.halt.Halt.TheVariants.{Memory, Finished, Stopped}
 use Rattle.dp_meaning.specs.inner.Drive.{Rules, Reached, Gives, Ends, Stops, drive, nowhere, Meets, IsHeld, ComesTo, IsStopAt, halt_after, stopped}
 use Rattle.dp_meaning.specs.Expressions.{evaluation}
-use Rattle.dp_meaning.specs.Run.{Run, Done, Over, At}
-use Rattle.dp_meaning.specs.Setting.{Setting}
+use Rattle.dp_actions.specs.Run.{Run, Done, Over, At}
+use Rattle.dp_actions.specs.Setting.{Setting}
 use Rattle.dp_meaning.specs.Trace.{moment_of}
 use Rattle.dp_meaning.specs.Writes.{alone, arrived, evaluated, evaluation_limit, recounted, written}
 

@@ -16,9 +16,9 @@ use Rattle.dp_state.specs.Functions.{called, included}
 use Rattle.dp_state.specs.Places.{assigned, unset, with_global}
 use Rattle.dp_state.specs.States.{printed, left}
 use Rattle.dp_tree.specs.declared.tree.Function.{Function}
-use Rattle.dp_meaning.specs.Run.{Run, Done, Over, At, and_then, taken}
-use Rattle.dp_meaning.specs.Setting.{Setting, Part}
-use Rattle.dp_meaning.specs.Values.{value_run, builtin_run, write_run}
+use Rattle.dp_actions.specs.Run.{Run, Done, Over, At, and_then, taken}
+use Rattle.dp_actions.specs.Setting.{Setting, Part}
+use Rattle.dp_actions.specs.Values.{value_run, builtin_run, write_run}
 
 -- a fact of each element
 abbrev pub Each : {X : Type 0} → (X → Type 0) → List X → Type 0

@@ -19,8 +19,8 @@ use Rattle.dp_tree.specs.declared.tree.Function.{Function}
 use Rattle.dp_tree.specs.declared.tree.Inclusion.{Inclusion}
 use Rattle.dp_tree.specs.declared.tree.Inclusion.TheVariants.{Include, Require}
 use Rattle.dp_tree.specs.Builtins.{builtin_of as builtin_named}
-use Rattle.dp_meaning.specs.Calls.{Callee, BuiltIn, Declared, callee, declared_callee, callee_run, call_run, inclusion_run, include_run}
-use Rattle.dp_meaning.specs.Setting.{Setting, Part}
+use Rattle.dp_actions.specs.Calls.{Callee, BuiltIn, Declared, callee, declared_callee, callee_run, call_run, inclusion_run, include_run}
+use Rattle.dp_actions.specs.Setting.{Setting, Part}
 use Rattle.dp_meaning.proofs.Always.{IsKeptBy, Keeps, KeepsPart, Keeps-and_then, Keeps-builtin}
 
 -- ---- files that are found stand in the bundle

@@ -8,11 +8,11 @@ use Rattle.dp_value.specs.Data.{Data, data_of_key}
 use Rattle.dp_value.specs.Value.{value_of}
 use Rattle.dp_state.specs.declared.state.State.{State}
 use Rattle.dp_tree.specs.declared.tree.Binding.{Binding}
-use Rattle.dp_meaning.specs.declared.signal.Signal.{Signal}
-use Rattle.dp_meaning.specs.declared.signal.Signal.TheVariants.{Next, Break, Continue, Return}
-use Rattle.dp_meaning.specs.Loops.{turn_over, last_holds, turns, do_turns, bind_name, bind_key, bind, each_run}
-use Rattle.dp_meaning.specs.Run.{Run, Done}
-use Rattle.dp_meaning.specs.Values.{holds}
+use Rattle.dp_actions.specs.declared.signal.Signal.{Signal}
+use Rattle.dp_actions.specs.declared.signal.Signal.TheVariants.{Next, Break, Continue, Return}
+use Rattle.dp_actions.specs.Loops.{turn_over, last_holds, turns, do_turns, bind_name, bind_key, bind, each_run}
+use Rattle.dp_actions.specs.Run.{Run, Done}
+use Rattle.dp_actions.specs.Values.{holds}
 use Rattle.dp_meaning.proofs.Always.{IsKept, Keeps, Keeps-and_then, Always-if, Always-taken}
 
 module _ {D : Type 0} (P : D → ℕ → State → Type 0) where

@@ -12,10 +12,10 @@ use Rattle.dp_operations.specs.Unary.{unary_of}
 use Rattle.dp_state.specs.declared.state.State.{State}
 use Rattle.dp_state.specs.Places.{keys_of_indices}
 use Rattle.dp_tree.specs.declared.tree.Order.{Order}
-use Rattle.dp_meaning.specs.Places.{PlaceRun, variable, read_run, found_run, assign_run, assignment, compound, coalescing, step, isset_run, unset_run}
-use Rattle.dp_meaning.specs.Run.{Done}
-use Rattle.dp_meaning.specs.Setting.{Part}
-use Rattle.dp_meaning.specs.Values.{is_missing}
+use Rattle.dp_actions.specs.Places.{PlaceRun, variable, read_run, found_run, assign_run, assignment, compound, coalescing, step, isset_run, unset_run}
+use Rattle.dp_actions.specs.Run.{Done}
+use Rattle.dp_actions.specs.Setting.{Part}
+use Rattle.dp_actions.specs.Values.{is_missing}
 use Rattle.dp_meaning.proofs.Always.{Each, IsKept, Keeps, KeepsPart, Keeps-and_then, Keeps-value, Always-if, Always-taken}
 
 module _ {D : Type 0} (P : D → ℕ → State → Type 0) (bundle : Bundle) (kept : IsKept P bundle) where

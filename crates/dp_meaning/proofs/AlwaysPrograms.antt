@@ -6,8 +6,9 @@ use Rattle.dp_state.specs.declared.state.State.{State}
 use Rattle.dp_state.specs.Functions.{called, included}
 use Rattle.dp_state.specs.States.{frame_limit, opening}
 use Rattle.dp_tree.specs.declared.tree.Function.{Function}
-use Rattle.dp_meaning.specs.Programs.{function_run, file_run, statements_of, setting_of, program_run}
-use Rattle.dp_meaning.specs.Setting.{Setting}
+use Rattle.dp_meaning.specs.Programs.{function_run, file_run, setting_of, program_run}
+use Rattle.dp_actions.specs.Bodies.{statements_of}
+use Rattle.dp_actions.specs.Setting.{Setting}
 use Rattle.dp_meaning.proofs.Always.{Always, IsKept, IsKeptBy, Keeps, Always-and_then, Always-taken}
 use Rattle.dp_meaning.proofs.AlwaysStatements.{Keeps-body}
 

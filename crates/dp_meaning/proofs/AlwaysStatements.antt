@@ -18,15 +18,16 @@ use Rattle.dp_tree.specs.declared.tree.Statement.{Statement, map-Statement, roll
 use Rattle.dp_tree.specs.declared.tree.StatementKind.{StatementKind, map-StatementKind, roll-StatementKind}
 use Rattle.dp_tree.specs.declared.tree.StatementKind.TheFolds.{fold-roll-Statement, fold-roll-StatementKind, fold-roll-Arm}
 use Rattle.dp_tree.specs.declared.tree.StatementKind.TheOpen.{Statement-F, StatementKind-F, Arm-F}
-use Rattle.dp_meaning.specs.declared.signal.Signal.{Signal}
-use Rattle.dp_meaning.specs.declared.signal.Signal.TheVariants.{Next, Break, Continue, Return}
+use Rattle.dp_actions.specs.declared.signal.Signal.{Signal}
+use Rattle.dp_actions.specs.declared.signal.Signal.TheVariants.{Next, Break, Continue, Return}
 use Rattle.dp_meaning.specs.Expressions.{expression_run, evaluation, place_run}
-use Rattle.dp_meaning.specs.Loops.{entries}
-use Rattle.dp_meaning.specs.Run.{Run}
-use Rattle.dp_meaning.specs.Setting.{Part}
-use Rattle.dp_meaning.specs.Statements.{KindRun, ArmRun, go_on, sequence, echoes, arms_run, with_globals, status_of, exit_with, exit_run, return_run, end_run, kind_layer, arm_layer, statement_layer, statement_run, body_run}
+use Rattle.dp_actions.specs.Loops.{entries}
+use Rattle.dp_actions.specs.Run.{Run}
+use Rattle.dp_actions.specs.Setting.{Part}
+use Rattle.dp_meaning.specs.Statements.{KindRun, ArmRun, go_on, sequence, echoes, arms_run, return_run, end_run, kind_layer, arm_layer, statement_layer, statement_run, body_run}
+use Rattle.dp_actions.specs.Effects.{with_globals, status_of, exit_with, exit_run}
 use Rattle.dp_meaning.specs.inner.Parts.{kind_run, arm_run}
-use Rattle.dp_meaning.specs.Values.{holds}
+use Rattle.dp_actions.specs.Values.{holds}
 use Rattle.dp_meaning.proofs.Always.{Each, each-images, Always, IsKept, Keeps, KeepsPart, Keeps-and_then, Always-if, Always-taken}
 use Rattle.dp_meaning.proofs.AlwaysExpressions.{Keeps-expression, Keeps-evaluations, Keeps-place}
 use Rattle.dp_meaning.proofs.AlwaysLoops.{Keeps-turns, Keeps-do_turns, Keeps-each}

@@ -7,16 +7,17 @@ use Rattle.dp_tree.specs.declared.tree.Expression.{Expression}
 use Rattle.dp_tree.specs.declared.tree.Function.{Function}
 use Rattle.dp_value.specs.declared.value.Value.{Value}
 use Rattle.dp_state.specs.Functions.{included}
-use Rattle.dp_meaning.specs.declared.halt.Halt.{Halt}
-use Rattle.dp_meaning.specs.declared.signal.Signal.{Signal}
-use Rattle.dp_meaning.specs.declared.signal.Signal.TheVariants.{Next}
+use Rattle.dp_actions.specs.declared.halt.Halt.{Halt}
+use Rattle.dp_actions.specs.declared.signal.Signal.{Signal}
+use Rattle.dp_actions.specs.declared.signal.Signal.TheVariants.{Next}
 use Rattle.dp_meaning.specs.inner.Drive.{Rules, Reached, Gives, Ends, Stops, Evaluates}
-use Rattle.dp_meaning.specs.Calls.{call_run, callee}
+use Rattle.dp_actions.specs.Calls.{call_run, callee}
 use Rattle.dp_meaning.specs.Expressions.{evaluations}
-use Rattle.dp_meaning.specs.Loops.{do_turns, turns}
-use Rattle.dp_meaning.specs.Programs.{file_run, function_run, left_file, setting_of, statements_of}
-use Rattle.dp_meaning.specs.Run.{Run, Done, and_then, fatal, taken}
-use Rattle.dp_meaning.specs.Setting.{Part}
+use Rattle.dp_actions.specs.Loops.{do_turns, turns}
+use Rattle.dp_meaning.specs.Programs.{file_run, function_run, left_file, setting_of}
+use Rattle.dp_actions.specs.Bodies.{statements_of}
+use Rattle.dp_actions.specs.Run.{Run, Done, and_then, fatal, taken}
+use Rattle.dp_actions.specs.Setting.{Part}
 use Rattle.dp_meaning.specs.Statements.{body_run, for_turns}
 use Rattle.dp_meaning.proofs.Drives.{breaks_off}
 

@@ -9,14 +9,15 @@ use Rattle.dp_state.specs.declared.moments.MomentKind.{MomentKind}
 use Rattle.dp_state.specs.declared.moments.Outcome.{Outcome}
 use Rattle.dp_state.specs.declared.moments.Outcome.TheVariants.{Bound}
 use Rattle.dp_state.specs.declared.state.State.{State}
-use Rattle.dp_meaning.specs.declared.halt.Halt.{Halt}
-use Rattle.dp_meaning.specs.declared.halt.Halt.TheVariants.{Memory, Finished, Stopped}
+use Rattle.dp_actions.specs.declared.halt.Halt.{Halt}
+use Rattle.dp_actions.specs.declared.halt.Halt.TheVariants.{Memory, Finished, Stopped}
 use Rattle.dp_meaning.specs.inner.Drive.{Rules, Reached, Gives, Ends, Stops, drive, Meets, Evaluates, moment_run}
-use Rattle.dp_meaning.specs.Run.{Run, Done, Over, At, and_then}
-use Rattle.dp_meaning.specs.Values.{holds}
+use Rattle.dp_actions.specs.AtOnce.{AtOnce, Leaves}
+use Rattle.dp_actions.specs.Run.{Run, Done, Over, At, and_then}
+use Rattle.dp_actions.specs.Values.{holds}
 use Rattle.dp_value.specs.declared.value.Value.{Value}
 use Rattle.dp_meaning.specs.Trace.{moment_of}
-use Rattle.dp_meaning.proofs.Runs.{and_then-assoc}
+use Rattle.dp_actions.proofs.Runs.{and_then-assoc}
 use Rattle.dp_meaning.specs.Writes.{arrived, written}
 
 -- goes on from where the first part came
@@ -52,6 +53,17 @@ module _ {A : Type 0} {rules : Rules} where
 
   pub wants_memory : {r : Run A} {s : State} → Evaluates rules r (Err Memory) s
   wants_memory = record { meets = tt }
+
+-- what is done at once, by the rules of any run
+module _ {A : Type 0} {rules : Rules} where
+  meets-at_once : (run : Run A) (result : Result A Halt) (s : State) → Leaves run result s → Meets result s (drive rules run)
+  meets-at_once run (Ok a) s l = ap (drive rules) l
+  meets-at_once run (Err Memory) s l = tt
+  meets-at_once run (Err (Finished o)) s l = ap (drive rules) l
+  meets-at_once run (Err (Stopped moment)) s l = absurd l
+
+  pub at_once : {run : Run A} {result : Result A Halt} {s : State} → AtOnce run result s → Evaluates rules run result s
+  at_once {run} {result} {s} e = record { meets = meets-at_once run result s e.leaves }
 
 -- the first part breaks off
 off : {A B : Type 0} (rules : Rules) (h : Halt) (s : State) (r : Run A) (next : A → State → Run B)

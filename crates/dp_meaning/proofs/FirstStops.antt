@@ -8,7 +8,7 @@ use Rattle.dp_state.specs.declared.state.State.{State}
 use Rattle.dp_meaning.specs.declared.writing.NumberedWrite.{NumberedWrite}
 use Rattle.dp_meaning.specs.inner.Drive.{Rules, Ends, Stops, drive, stopped}
 use Rattle.dp_meaning.specs.Programs.{program_run}
-use Rattle.dp_meaning.specs.Run.{Run, Done, Over, At}
+use Rattle.dp_actions.specs.Run.{Run, Done, Over, At}
 use Rattle.dp_meaning.specs.Stopping.{above, first_at, first_stop, stop_of}
 use Rattle.dp_meaning.specs.Trace.{Ended, Trace, moment_of, program_trace, trace, with_moment}
 use Rattle.dp_meaning.specs.Writes.{arrived, written, writes_of}

@@ -1,4 +1,3 @@
-pub mod Runs
 pub mod Drives
 pub mod Always
 pub mod AlwaysPlaces
@@ -14,7 +13,6 @@ pub mod FirstStops
 pub mod Alone
 pub mod AnswerLaws
 pub mod Layers
-pub mod Tails
 pub mod SizeLaws
 pub mod ListLaws
 pub mod LoopLaws

@@ -3,13 +3,13 @@ use Rattle.std.proofs.Common.{◌≡◌, ℕ, zero, suc, ◌+◌, ◌<◌, List,
 use Rattle.dp_state.specs.declared.state.State.{State}
 use Rattle.dp_tree.specs.declared.tree.Expression.{Expression}
 use Rattle.dp_value.specs.declared.value.Value.{Value}
-use Rattle.dp_meaning.specs.declared.halt.Halt.{Halt}
+use Rattle.dp_actions.specs.declared.halt.Halt.{Halt}
 use Rattle.dp_meaning.specs.inner.Drive.{Rules, Evaluates}
 use Rattle.dp_meaning.specs.Expressions.{evaluation, evaluations}
-use Rattle.dp_meaning.specs.Run.{Run, Done, and_then}
-use Rattle.dp_meaning.specs.Setting.{Setting}
+use Rattle.dp_actions.specs.Run.{Run, Done, and_then}
+use Rattle.dp_actions.specs.Setting.{Setting}
 use Rattle.dp_meaning.proofs.Drives.{gives, breaks_off, goes_on}
-use Rattle.dp_meaning.proofs.Runs.{and_then-assoc, and_then-Done}
+use Rattle.dp_actions.proofs.Runs.{and_then-assoc, and_then-Done}
 
 -- the elements from one on
 pub front : {X : Type 0} (xs : List X) (i : ℕ) (x : X) → i < length xs → x ≡ get_or xs i x → drop i xs ≡ x ∷ drop (i + 1) xs

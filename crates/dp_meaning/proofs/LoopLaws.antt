@@ -7,15 +7,14 @@ use Rattle.dp_tree.specs.declared.tree.Binding.{Binding}
 use Rattle.dp_value.specs.declared.key.Key.{Key}
 use Rattle.dp_value.specs.declared.value.Value.{Value}
 use Rattle.dp_value.specs.Data.{Data}
-use Rattle.dp_meaning.specs.declared.halt.Halt.{Halt}
-use Rattle.dp_meaning.specs.declared.turning.Turn.TheVariants as turn
-use Rattle.dp_meaning.specs.declared.signal.Signal.{Signal}
-use Rattle.dp_meaning.specs.declared.signal.Signal.TheVariants.{Next, Break, Continue, Return}
+use Rattle.dp_actions.specs.declared.halt.Halt.{Halt}
+use Rattle.dp_actions.specs.declared.turning.Turn.TheVariants as turn
+use Rattle.dp_actions.specs.declared.signal.Signal.{Signal}
+use Rattle.dp_actions.specs.declared.signal.Signal.TheVariants.{Next, Break, Continue, Return}
 use Rattle.dp_meaning.specs.inner.Drive.{Rules, Evaluates, moment_run}
-use Rattle.dp_meaning.specs.inner.Evaluation.{turn_of}
-use Rattle.dp_meaning.specs.Loops.{turn_over, last_holds, turns, do_turns, bind, each_run}
-use Rattle.dp_meaning.specs.Run.{Run, Done, At, and_then}
-use Rattle.dp_meaning.specs.Values.{holds}
+use Rattle.dp_actions.specs.Loops.{turn_of, turn_over, last_holds, turns, do_turns, bind, each_run}
+use Rattle.dp_actions.specs.Run.{Run, Done, At, and_then}
+use Rattle.dp_actions.specs.Values.{holds}
 use Rattle.dp_meaning.proofs.Drives.{gives, breaks_off, goes_on, passes, stops_at, tested_off, tested_on}
 
 -- ---- after a body

@@ -22,7 +22,7 @@ use Rattle.dp_state.specs.States.{entered, frame_limit, owner_at, printed, read_
 use Rattle.dp_state.specs.Variables.{Variables, with_slot, without}
 use Rattle.dp_tree.specs.declared.tree.Function.{Function}
 use Rattle.dp_meaning.specs.Programs.{program_run, setting_of}
-use Rattle.dp_meaning.specs.Run.{Run}
+use Rattle.dp_actions.specs.Run.{Run}
 use Rattle.dp_meaning.proofs.Always.{Always, IsKept, IsKeptBy}
 use Rattle.dp_meaning.proofs.AlwaysPrograms.{Always-program, Keeps-setting}
 

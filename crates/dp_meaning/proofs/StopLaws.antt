@@ -11,7 +11,7 @@ use Rattle.dp_meaning.specs.declared.stop.Stop.TheVariants as stop
 use Rattle.dp_meaning.specs.declared.writing.NumberedWrite.{NumberedWrite}
 use Rattle.dp_meaning.specs.inner.Drive.{Rules, Ends, Stops, at_number, drive, stopped}
 use Rattle.dp_meaning.specs.Programs.{program_run}
-use Rattle.dp_meaning.specs.Run.{Run, Done, Over, At}
+use Rattle.dp_actions.specs.Run.{Run, Done, Over, At}
 use Rattle.dp_meaning.specs.Trace.{Ended, IsStop, Trace, moment_at, moment_of, outcome_of, program_trace, trace, with_moment}
 use Rattle.dp_meaning.specs.Writes.{Writes, arrived, written, writes_of}
 use Rattle.dp_meaning.proofs.Steady.{IsSteady, steady-program}

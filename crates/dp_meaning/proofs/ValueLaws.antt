@@ -8,7 +8,7 @@ use Rattle.dp_value.specs.declared.value.Value.{Value}
 use Rattle.dp_meaning.specs.inner.Drive.{Rules, ComesTo, drive}
 use Rattle.dp_meaning.specs.Expressions.{evaluation}
 use Rattle.dp_meaning.specs.Pure.{IsValueIn}
-use Rattle.dp_meaning.specs.Run.{Run}
+use Rattle.dp_actions.specs.Run.{Run}
 use Rattle.dp_meaning.specs.Writes.{evaluation_setting}
 use Rattle.dp_meaning.proofs.PureLaws.{IsPlain, Given, Faulty, plain-pure}
 

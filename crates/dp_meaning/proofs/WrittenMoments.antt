@@ -10,7 +10,7 @@ use Rattle.dp_meaning.specs.declared.writing.NumberedWrite.{NumberedWrite}
 use Rattle.dp_meaning.specs.declared.writing.Write.{Write}
 use Rattle.dp_meaning.specs.declared.writing.Write.TheVariants.{Place, Evaluate}
 use Rattle.dp_meaning.specs.Expressions.{evaluation}
-use Rattle.dp_meaning.specs.Setting.{Setting}
+use Rattle.dp_actions.specs.Setting.{Setting}
 use Rattle.dp_meaning.specs.declared.writing.WriteFault.{WriteFault}
 use Rattle.dp_meaning.specs.declared.writing.WriteFault.TheVariants.{NoFrame}
 use Rattle.dp_meaning.specs.Writes.{Writes, alone, evaluation_limit, in_context, left_by, one_write, or_unchanged, place_or_fault, recounted, with_place, written, written_by}

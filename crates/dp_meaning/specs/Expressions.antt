@@ -18,11 +18,11 @@ use Rattle.dp_tree.specs.declared.tree.Operator.{Operator}
 use Rattle.dp_tree.specs.declared.tree.Operator.TheVariants.{Or, And, Of}
 use Rattle.dp_tree.specs.declared.tree.Place.{Place, fold-Place}
 use Rattle.dp_state.specs.Places.{keys_of_indices}
-use Rattle.dp_meaning.specs.Calls.{call_run, callee, include_run}
-use Rattle.dp_meaning.specs.Places.{PlaceRun, variable, assignment, compound, coalescing, step, isset_run}
-use Rattle.dp_meaning.specs.Run.{Done, ◌>>=◌}
-use Rattle.dp_meaning.specs.Setting.{Part}
-use Rattle.dp_meaning.specs.Values.{value_run, write_run, holds, is_missing}
+use Rattle.dp_actions.specs.Calls.{call_run, callee, include_run}
+use Rattle.dp_actions.specs.Places.{PlaceRun, variable, assignment, compound, coalescing, step, isset_run}
+use Rattle.dp_actions.specs.Run.{Done, ◌>>=◌}
+use Rattle.dp_actions.specs.Setting.{Part}
+use Rattle.dp_actions.specs.Values.{value_run, write_run, holds, is_missing}
 
 -- An expression: its value, and its value to the left of `??`, where an entry is read as isset
 -- finds it.

@@ -1,10 +1,4 @@
-pub mod Run
-pub mod Values
-pub mod Setting
-pub mod Places
-pub mod Calls
 pub mod Expressions
-pub mod Loops
 pub mod Statements
 pub mod Programs
 pub mod Writes

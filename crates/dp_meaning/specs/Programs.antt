@@ -1,8 +1,6 @@
 -- What calls of functions and included files do, and whole programs.
-use Rattle.std.specs.Prelude.{ℕ, zero, suc, pos, List, [], slice_get}
-use Rattle.std.specs.Option.{option_map_or}
+use Rattle.std.specs.Prelude.{ℕ, zero, suc, pos, List}
 use Rattle.dp_tree.specs.declared.tree.Function.{Function}
-use Rattle.dp_tree.specs.declared.tree.Statement.{Statement}
 use Rattle.dp_tree.specs.declared.bundle.Bundle.{Bundle}
 use Rattle.dp_state.specs.declared.moments.FatalKind.TheVariants.{TooDeep}
 use Rattle.dp_state.specs.declared.moments.MomentKind.TheVariants.{Enter, Leave}
@@ -11,18 +9,11 @@ use Rattle.dp_state.specs.Functions.{called, included}
 use Rattle.dp_state.specs.States.{frame_limit, left, line_of, opening}
 use Rattle.dp_value.specs.declared.value.Value.{Value}
 use Rattle.dp_value.specs.declared.value.Value.TheVariants.{Null, Int}
-use Rattle.dp_meaning.specs.declared.signal.Signal.{Signal}
-use Rattle.dp_meaning.specs.declared.signal.Signal.TheVariants.{Next, Break, Continue, Return}
-use Rattle.dp_meaning.specs.Run.{Run, Done, At, fatal, taken, ◌>>=◌}
-use Rattle.dp_meaning.specs.Setting.{Setting, Part}
+use Rattle.dp_actions.specs.declared.signal.Signal.{Signal}
+use Rattle.dp_actions.specs.Bodies.{returned, statements_of}
+use Rattle.dp_actions.specs.Run.{Run, Done, At, fatal, taken, ◌>>=◌}
+use Rattle.dp_actions.specs.Setting.{Setting, Part}
 use Rattle.dp_meaning.specs.Statements.{body_run}
-
--- what a body gives: its return value, or this where it has none
-abbrev pub returned : Value → Signal → Value
-returned none Next = none
-returned none (Break loops) = none
-returned none (Continue loop) = none
-returned none (Return v) = v
 
 -- what is left of a call that has left: its frame goes, and it gives what its body gave, or null
 abbrev pub left_call : Signal → State → Run Value
@@ -37,10 +28,6 @@ abbrev pub function_run : ℕ → Function → List Value → Part Value
 function_run file f values setting s =
     taken (called file f values s) s
     >>= λ _ t. At Enter f.line t (λ u. body_run f.body setting u >>= leaving)
-
--- the statements of the file of this number
-abbrev pub statements_of : Bundle → ℕ → List Statement
-statements_of bundle file = option_map_or (λ f. f.tree.body) (slice_get bundle.files file) []
 
 -- what is left of an included file that is done: its frame goes, and it gives what its body gave,
 -- or 1

@@ -6,7 +6,7 @@ use Rattle.dp_state.specs.declared.state.State.{State}
 use Rattle.dp_tree.specs.declared.tree.Expression.{Expression}
 use Rattle.dp_value.specs.declared.value.Value.{Value}
 use Rattle.dp_meaning.specs.Expressions.{evaluation}
-use Rattle.dp_meaning.specs.Run.{Done, fatal}
+use Rattle.dp_actions.specs.Run.{Done, fatal}
 use Rattle.dp_meaning.specs.Writes.{evaluation_setting}
 
 -- its evaluation in a state gives this value, or is fatal, at once, with no moment, and leaves the

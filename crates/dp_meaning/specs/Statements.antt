@@ -1,30 +1,24 @@
 -- What statements do. Source: the PHP manual, "Control Structures".
-use Rattle.std.specs.Prelude.{ℕ, ℤ, pos, negsuc, nat_le, if◌then◌else◌, List, [], ◌∷◌, map, Option, Some, None}
+use Rattle.std.specs.Prelude.{ℕ, if◌then◌else◌, List, [], ◌∷◌, map, Option, Some, None}
 use Rattle.dp_value.specs.declared.value.Value.{Value}
-use Rattle.dp_value.specs.declared.value.Value.TheVariants.{Null, Bool, Int, Text, Array}
-use Rattle.dp_value.specs.Value.{data_of}
-use Rattle.dp_operations.specs.Text.{text_of}
-use Rattle.dp_tree.specs.declared.tree.Arm.{Arm, fold-Arm}
+use Rattle.dp_value.specs.declared.value.Value.TheVariants.{Null}
 use Rattle.dp_tree.specs.declared.tree.Binding.{Binding}
 use Rattle.dp_tree.specs.declared.tree.Expression.{Expression}
 use Rattle.dp_tree.specs.declared.tree.Place.{Place}
 use Rattle.dp_tree.specs.declared.tree.Statement.{Statement, fold-Statement}
-use Rattle.dp_tree.specs.declared.tree.StatementKind.{StatementKind, fold-StatementKind}
 use Rattle.dp_tree.specs.declared.tree.StatementKind.TheOpen.{Statement-F, StatementKind-F, Arm-F}
-use Rattle.dp_state.specs.declared.moments.FatalKind.TheVariants.{Unsupported}
 use Rattle.dp_state.specs.declared.moments.MomentKind.TheVariants as moment
 use Rattle.dp_state.specs.declared.moments.Outcome.TheVariants.{Exit}
 use Rattle.dp_state.specs.declared.state.State.{State}
-use Rattle.dp_state.specs.Places.{with_global}
-use Rattle.dp_state.specs.States.{printed}
-use Rattle.dp_meaning.specs.declared.signal.Signal.{Signal}
-use Rattle.dp_meaning.specs.declared.signal.Signal.TheVariants.{Next, Break, Continue, Return}
+use Rattle.dp_actions.specs.declared.signal.Signal.{Signal}
+use Rattle.dp_actions.specs.declared.signal.Signal.TheVariants.{Next, Break, Continue, Return}
 use Rattle.dp_meaning.specs.Expressions.{ExpressionRun, expression_run, evaluation, evaluations, place_run}
-use Rattle.dp_meaning.specs.Loops.{turns, do_turns, each_run, entries}
-use Rattle.dp_meaning.specs.Places.{unset_run}
-use Rattle.dp_meaning.specs.Run.{Run, Done, Over, At, fatal, taken, ◌>>=◌}
-use Rattle.dp_meaning.specs.Setting.{Setting, Part}
-use Rattle.dp_meaning.specs.Values.{holds}
+use Rattle.dp_actions.specs.Effects.{exit_run, print_run, with_globals}
+use Rattle.dp_actions.specs.Loops.{turns, do_turns, each_run, entries}
+use Rattle.dp_actions.specs.Places.{unset_run}
+use Rattle.dp_actions.specs.Run.{Run, Done, Over, At, ◌>>=◌}
+use Rattle.dp_actions.specs.Setting.{Setting, Part}
+use Rattle.dp_actions.specs.Values.{holds}
 
 -- what a statement does has its moments from the line of its first token on
 abbrev pub KindRun : Type 0
@@ -50,10 +44,6 @@ abbrev pub sequence : List (Part Signal) → Part Signal
 sequence [] setting s = Done Next s
 sequence (first ∷ rest) setting s = first setting s >>= λ g t. go_on g (sequence rest setting) t
 
--- the text of a value is written
-abbrev pub print_run : Value → State → Run Unit
-print_run v s = taken (printed (text_of (data_of v)) s) s
-
 -- an operand of `echo` is written, and then come the others
 abbrev pub echoed : (State → Run Signal) → Value → State → Run Signal
 echoed rest v s = print_run v s >>= λ _ t. rest t
@@ -68,27 +58,6 @@ abbrev pub arms_run : List ArmRun → Option (Part Signal) → Part Signal
 arms_run [] None setting s = Done Next s
 arms_run [] (Some otherwise) setting s = otherwise setting s
 arms_run (arm ∷ arms) otherwise setting s = arm (arms_run arms otherwise) setting s
-
-abbrev pub with_globals : List (List ℕ) → State → State
-with_globals [] s = s
-with_globals (name ∷ names) s = with_globals names (with_global name s)
-
--- the status that an integer is: one from 0 to 199
-abbrev pub status_of : ℤ → Option ℕ
-status_of (pos n) = if nat_le n 199 then Some n else None
-status_of (negsuc n) = None
-
-abbrev pub exit_with : Option ℕ → State → Run Signal
-exit_with None s = fatal Unsupported s
-exit_with (Some status) s = Over (Exit status) s
-
--- `exit` with a value: an integer is the status; a text is written, and the status is 0
-abbrev pub exit_run : Value → State → Run Signal
-exit_run Null s = fatal Unsupported s
-exit_run (Bool b) s = fatal Unsupported s
-exit_run (Int n) s = exit_with (status_of n) s
-exit_run (Text bytes) s = taken (printed bytes s) s >>= λ _ t. Over (Exit 0) t
-exit_run (Array t) s = fatal Unsupported s
 
 -- out of the function or the file, with a value
 abbrev pub returning : Value → State → Run Signal

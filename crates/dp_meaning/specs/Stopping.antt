@@ -4,7 +4,7 @@ use Rattle.dp_state.specs.declared.moments.Moment.{Moment}
 use Rattle.dp_state.specs.declared.state.State.{State}
 use Rattle.dp_meaning.specs.declared.stop.Stop.{Stop}
 use Rattle.dp_meaning.specs.declared.stop.Stop.TheVariants as stop
-use Rattle.dp_meaning.specs.Run.{Run, Done, Over, At}
+use Rattle.dp_actions.specs.Run.{Run, Done, Over, At}
 use Rattle.dp_meaning.specs.Trace.{Trace, outcome_of}
 use Rattle.dp_meaning.specs.Writes.{Writes, arrived, written}
 

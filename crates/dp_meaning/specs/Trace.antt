@@ -11,12 +11,12 @@ use Rattle.dp_state.specs.declared.state.FrameKind.{FrameKind}
 use Rattle.dp_state.specs.declared.state.FrameKind.TheVariants.{Main, Called, Included}
 use Rattle.dp_state.specs.declared.state.State.{State}
 use Rattle.dp_state.specs.States.{file_of, line_of, opening, top_frame}
-use Rattle.dp_meaning.specs.declared.signal.Signal.{Signal}
+use Rattle.dp_actions.specs.declared.signal.Signal.{Signal}
 use Rattle.dp_meaning.specs.declared.stop.Stop.{Stop}
 use Rattle.dp_meaning.specs.declared.stop.Stop.TheVariants as stop
 use Rattle.dp_meaning.specs.declared.writing.NumberedWrite.{NumberedWrite}
 use Rattle.dp_meaning.specs.Programs.{program_run}
-use Rattle.dp_meaning.specs.Run.{Run, Done, Over, At}
+use Rattle.dp_actions.specs.Run.{Run, Done, Over, At}
 use Rattle.dp_meaning.specs.Writes.{Writes, arrived, written, writes_of}
 
 -- ---- moments

@@ -17,8 +17,8 @@ use Rattle.dp_meaning.specs.declared.writing.WriteFault.{WriteFault}
 use Rattle.dp_meaning.specs.declared.writing.WriteFault.TheVariants.{NoFrame, NoPlace}
 use Rattle.dp_meaning.specs.Expressions.{evaluation}
 use Rattle.dp_meaning.specs.Programs.{setting_of}
-use Rattle.dp_meaning.specs.Run.{Run, Done, Over, At}
-use Rattle.dp_meaning.specs.Setting.{Setting}
+use Rattle.dp_actions.specs.Run.{Run, Done, Over, At}
+use Rattle.dp_actions.specs.Setting.{Setting}
 
 -- ---- places
 

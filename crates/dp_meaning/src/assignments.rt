@@ -2,13 +2,11 @@
 
 #![tactic(auto, using(crate::proofs::Drives::evaluating))]
 
-use crate::answers::is_missing;
-use crate::changes::{combine, step_place};
 use crate::evaluator::Evaluator;
-use crate::halt::Halt;
-use crate::operands::present;
 use crate::outside::Outside;
-use crate::places::{assign_place, found_place, read_place};
+use dp_actions::{
+    Halt, assign_place, combine, found_place, is_missing, present, read_place, step_place,
+};
 use dp_state::State;
 use dp_tree::{Expression, Order, Place};
 use dp_value::{BinaryOp, Bytes, UnaryOp, Value};
@@ -18,7 +16,7 @@ impl<O: Outside> Evaluator<'_, O> {
     ghost use Rattle.dp_meaning.specs.inner.Drive.{Evaluates};
     ghost use Rattle.dp_meaning.specs.inner.Evaluation.{goes_by};
     ghost use Rattle.dp_meaning.specs.Expressions.{evaluation, place_run};
-    ghost use Rattle.dp_meaning.specs.Places.{assigned_under, assignment, coalescing, coalescing_under, compound, compound_from, compound_under, found_at, isset_run, step};
+    ghost use Rattle.dp_actions.specs.Places.{assigned_under, assignment, coalescing, coalescing_under, compound, compound_from, compound_under, found_at, isset_run, step};
 
     /// `place = right`, or `place[] = right`
     #[cycle(evaluate)]

@@ -2,25 +2,20 @@
 
 #![tactic(auto, using(crate::proofs::Drives::evaluating))]
 
-use crate::answers::builtin_value;
-use crate::callees::{Callee, look_up};
-use crate::entering::{
-    enter_call, enter_file, file_named_by, not_included, returned, statements_of,
-};
 use crate::evaluator::Evaluator;
-use crate::faults::fatal;
-use crate::halt::Halt;
-use crate::in_place::{builtin_in_place, only_variable};
 use crate::outside::Outside;
-use crate::signal::Signal;
+use dp_actions::{
+    Callee, Halt, Signal, builtin_in_place, builtin_value, enter_call, enter_file, fatal,
+    file_named_by, look_up, not_included, only_variable, returned, statements_of,
+};
 use dp_operations::builtin;
 use dp_state::{FatalKind, MomentKind, State};
 use dp_tree::{Expression, Function, Inclusion};
 use dp_value::{Builtin, Bytes, Items, Value};
 
 impl<O: Outside> Evaluator<'_, O> {
-    ghost use Rattle.std.specs.Prelude.{◌+◌, ◌<◌, map, Some};
-    ghost use Rattle.dp_meaning.specs.Calls.{BuiltIn, call_run, callee as callee_named, include_run};
+    ghost use Rattle.std.specs.Prelude.{◌+◌, ◌<◌, Some};
+    ghost use Rattle.dp_actions.specs.Calls.{BuiltIn, call_run, callee as callee_named, include_run};
     ghost use Rattle.dp_meaning.specs.inner.Drive.{Evaluates};
     ghost use Rattle.dp_meaning.specs.inner.Evaluation.{goes_by};
     ghost use Rattle.dp_meaning.specs.Expressions.{evaluations};

@@ -1,7 +1,7 @@
 //! The evaluator: it does what the meaning says, moment by moment.
 
-use crate::halt::Halt;
 use crate::outside::Outside;
+use dp_actions::Halt;
 use dp_state::{MomentKind, State};
 use dp_tree::Bundle;
 use std::alloc::Global;

@@ -2,12 +2,9 @@
 
 #![tactic(auto, using(crate::proofs::Drives::evaluating))]
 
-use crate::answers::value_of;
 use crate::evaluator::Evaluator;
-use crate::halt::Halt;
-use crate::in_place::Reading;
-use crate::operands::{text_value, variable_value};
 use crate::outside::Outside;
+use dp_actions::{Halt, Reading, text_value, value_of, variable_value};
 use dp_operations::unary;
 use dp_state::State;
 use dp_tree::{Expression, Inclusion};

@@ -2,12 +2,9 @@
 
 #![tactic(auto, using(crate::proofs::Drives::evaluating))]
 
-use crate::answers::value_of;
 use crate::evaluator::Evaluator;
-use crate::halt::Halt;
-use crate::in_place::{Reading, entry_in_place, entry_of, look};
-use crate::operands::renewed;
 use crate::outside::Outside;
+use dp_actions::{Halt, Reading, entry_in_place, entry_of, look, renewed, value_of};
 use dp_state::State;
 use dp_tree::Expression;
 use dp_value::{Bytes, Value};
@@ -16,9 +13,10 @@ impl<O: Outside> Evaluator<'_, O> {
     ghost use Rattle.std.specs.Prelude.{◌≡◌, map, true};
     ghost use Rattle.dp_tree.specs.Purity.{is_pure};
     ghost use Rattle.dp_meaning.specs.inner.Drive.{Evaluates};
-    ghost use Rattle.dp_meaning.specs.inner.Evaluation.{base_run, entries_by, entry_under, goes_by};
+    ghost use Rattle.dp_meaning.specs.inner.Evaluation.{base_run, entry_under, goes_by};
+    ghost use Rattle.dp_actions.specs.InPlace.{entries_by};
     ghost use Rattle.dp_meaning.specs.Expressions.{entry_run, expression_run, indices_run};
-    ghost use Rattle.dp_meaning.specs.Places.{variable};
+    ghost use Rattle.dp_actions.specs.Places.{variable};
 
     /// The value of an expression under indices. A variable whose first index changes nothing is read in its place.
     #[cycle(evaluate)]

@@ -3,9 +3,8 @@
 #![tactic(auto, using(crate::proofs::Drives::evaluating))]
 
 use crate::evaluator::Evaluator;
-use crate::halt::Halt;
-use crate::items::{pushed, put};
 use crate::outside::Outside;
+use dp_actions::{Halt, pushed, put};
 use dp_state::State;
 use dp_tree::{Expression, Item};
 use dp_value::{PhpArray, Value};

@@ -2,12 +2,9 @@
 
 #![tactic(auto, using(crate::proofs::Drives::evaluating))]
 
-use crate::binding::bind_entry;
 use crate::evaluator::Evaluator;
-use crate::halt::Halt;
 use crate::outside::Outside;
-use crate::signal::Signal;
-use crate::turning::{Turn, last_holds, turn_over};
+use dp_actions::{Halt, Signal, Turn, bind_entry, last_holds, turn_over};
 use dp_state::{Outcome, State};
 use dp_tree::{Binding, Expression, Statement};
 use dp_value::Value;
@@ -16,7 +13,7 @@ impl<O: Outside> Evaluator<'_, O> {
     ghost use Rattle.dp_meaning.specs.inner.Drive.{Evaluates};
     ghost use Rattle.dp_meaning.specs.inner.Evaluation.{for_part, foreach_part, goes_by};
     ghost use Rattle.dp_meaning.specs.Expressions.{evaluation, evaluations, expression_run};
-    ghost use Rattle.dp_meaning.specs.Loops.{do_turns, each_run, entries, turns};
+    ghost use Rattle.dp_actions.specs.Loops.{do_turns, each_run, entries, turns};
     ghost use Rattle.dp_meaning.specs.Statements.{statement_run};
 
     /// The turns of a `while` or a `for`.

@@ -1,16 +1,16 @@
 //! The writes of a moment.
 
 ghost use Rattle.std.specs.Prelude.{◌≡◌, false, if◌then◌else◌, option_map, Err, IfOk, OnOk, OnErr};
-ghost use Rattle.dp_meaning.specs.declared.halt.Halt.TheVariants as halt;
+ghost use Rattle.dp_actions.specs.declared.halt.Halt.TheVariants as halt;
 ghost use Rattle.dp_state.specs.Places.{assigned, given_keys as all_given};
 ghost use Rattle.dp_meaning.specs.inner.Drive.{ComesTo, IsHeld, drive, quiet};
 ghost use Rattle.dp_meaning.specs.Expressions.{evaluation as expression_value};
 ghost use Rattle.dp_meaning.specs.Writes.{evaluated, evaluation_limit, evaluation_setting, left_by, one_write, or_unchanged, place_or_fault, with_place, written_by};
 
 use crate::evaluator::Evaluator;
-use crate::halt::Halt;
 use crate::quiet::Quiet;
 use crate::writing::{NumberedWrite, Write};
+use dp_actions::Halt;
 use dp_state::{FRAME_LIMIT, Fault, Path, State};
 use dp_tree::{Bundle, Expression};
 use dp_value::{Bytes, Key, Memory, Value};

@@ -2,11 +2,9 @@
 
 #![tactic(auto, using(crate::proofs::Drives::evaluating))]
 
-use crate::answers::value_of;
 use crate::evaluator::Evaluator;
-use crate::halt::Halt;
-use crate::operands::{kept, present, renewed};
 use crate::outside::Outside;
+use dp_actions::{Halt, kept, present, renewed, value_of};
 use dp_operations::binary;
 use dp_state::State;
 use dp_tree::{Boxed, Expression, Link, Operator};

@@ -1,6 +1,6 @@
 //! What the outside does at the moments of a run.
 
-use crate::halt::Halt;
+use dp_actions::Halt;
 use dp_state::{MomentKind, State};
 
 /// What happens at a moment.

@@ -1,7 +1,7 @@
 //! Moments at which nothing is done.
 
-use crate::halt::Halt;
 use crate::outside::Outside;
+use dp_actions::Halt;
 use dp_state::{MomentKind, Outcome, State};
 
 /// A bound alone: nothing is written, and nothing stops the run before it.

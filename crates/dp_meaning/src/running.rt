@@ -8,16 +8,14 @@ ghost use Rattle.dp_meaning.specs.Stopping.{first_stop, state_of};
 ghost use Rattle.dp_meaning.specs.Trace.{IsStop, program_trace};
 ghost use Rattle.dp_meaning.specs.Writes.{writes_of};
 
-use crate::entering::statements_of;
 use crate::evaluator::Evaluator;
-use crate::halt::Halt;
 use crate::outside::Outside;
-use crate::signal::Signal;
 use crate::stop::Stop;
 use crate::stops::Stops;
 use crate::watched::Watched;
 use crate::writing::NumberedWrite;
 use crate::written::Written;
+use dp_actions::{Halt, Signal, statements_of};
 use dp_state::{FRAME_LIMIT, Outcome, State};
 use dp_tree::Bundle;
 use dp_value::Memory;

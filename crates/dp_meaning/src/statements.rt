@@ -2,25 +2,20 @@
 
 #![tactic(auto, using(crate::proofs::Drives::evaluating))]
 
-use crate::answers::{exit_value, print_value};
-use crate::binding::bind_all;
 use crate::evaluator::Evaluator;
-use crate::halt::Halt;
 use crate::outside::Outside;
-use crate::places::unset_place;
-use crate::signal::Signal;
+use dp_actions::{Halt, Signal, bind_all, exit_value, print_value, unset_place};
 use dp_state::{Outcome, State};
 use dp_tree::{Arm, Boxed, Expression, Place, Statement, StatementKind};
 use dp_value::Value;
 use std::slice;
 
 impl<O: Outside> Evaluator<'_, O> {
-    ghost use Rattle.std.specs.Prelude.{map, option_map, ◌≡◌};
+    ghost use Rattle.std.specs.Prelude.{map, option_map};
     ghost use Rattle.dp_meaning.specs.inner.Drive.{Evaluates};
     ghost use Rattle.dp_meaning.specs.inner.Evaluation.{evaluated_part, goes_by, printed_part};
     ghost use Rattle.dp_meaning.specs.Expressions.{expression_run, place_run};
-    ghost use Rattle.dp_meaning.specs.Places.{unset_run};
-    ghost use Rattle.dp_meaning.specs.Run.{Done};
+    ghost use Rattle.dp_actions.specs.Places.{unset_run};
     ghost use Rattle.dp_meaning.specs.Statements.{arms_run, body_run, echoes, end_run, return_run, statement_run};
     ghost use Rattle.dp_meaning.specs.inner.Parts.{arm_run, kind_run};
 

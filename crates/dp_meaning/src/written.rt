@@ -1,10 +1,10 @@
 //! Moments at which writes are made, up to a stop.
 
-use crate::halt::Halt;
 use crate::making::write_all;
 use crate::moments::moment_of;
 use crate::outside::Outside;
 use crate::writing::NumberedWrite;
+use dp_actions::Halt;
 use dp_state::{MomentKind, Outcome, State};
 use dp_tree::Bundle;
 use std::alloc::Global;

@@ -21,9 +21,9 @@ use Rattle.dp_state.specs.declared.state.State.{State}
 use Rattle.dp_state.specs.Functions.{called, included}
 use Rattle.dp_state.specs.Places.{assigned, unset, with_global}
 use Rattle.dp_state.specs.States.{printed, left}
-use Rattle.dp_meaning.specs.Run.{Run, Done, Over, At, and_then, fatal, taken}
-use Rattle.dp_meaning.specs.Setting.{Setting, Part}
-use Rattle.dp_meaning.specs.Values.{value_run, builtin_run, write_run}
+use Rattle.dp_actions.specs.Run.{Run, Done, Over, At, and_then, fatal, taken}
+use Rattle.dp_actions.specs.Setting.{Setting, Part}
+use Rattle.dp_actions.specs.Values.{value_run, builtin_run, write_run}
 use Rattle.dp_meaning_laws.proofs.Each.{Each}
 
 -- what is true along a run whose frames are told by a D

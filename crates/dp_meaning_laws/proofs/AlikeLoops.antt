@@ -10,11 +10,11 @@ use Rattle.dp_state.specs.declared.moments.MomentKind.TheVariants.{Place}
 use Rattle.dp_state.specs.declared.moments.Outcome.TheVariants as way
 use Rattle.dp_state.specs.declared.state.State.{State}
 use Rattle.dp_tree.specs.declared.tree.Binding.{Binding}
-use Rattle.dp_meaning.specs.declared.signal.Signal.{Signal}
-use Rattle.dp_meaning.specs.declared.signal.Signal.TheVariants.{Next, Break, Continue, Return}
-use Rattle.dp_meaning.specs.Loops.{turn_over, last_holds, turns, do_turns, bind_name, bind_key, bind, each_run}
-use Rattle.dp_meaning.specs.Run.{Run, Done, Over, At, and_then}
-use Rattle.dp_meaning.specs.Values.{holds}
+use Rattle.dp_actions.specs.declared.signal.Signal.{Signal}
+use Rattle.dp_actions.specs.declared.signal.Signal.TheVariants.{Next, Break, Continue, Return}
+use Rattle.dp_actions.specs.Loops.{turn_over, last_holds, turns, do_turns, bind_name, bind_key, bind, each_run}
+use Rattle.dp_actions.specs.Run.{Run, Done, Over, At, and_then}
+use Rattle.dp_actions.specs.Values.{holds}
 use Rattle.dp_meaning_laws.proofs.Alike.{Alike, Facts, IsKept, Keeps, Stands, Keeps-and_then, Alike-and_then, Alike-if, Alike-taken}
 
 -- A run that begins with a moment, if it is not over or done at once with nothing changed.

@@ -15,10 +15,10 @@ use Rattle.dp_state.specs.declared.moments.FatalKind.TheVariants.{BadKey}
 use Rattle.dp_state.specs.declared.state.State.{State}
 use Rattle.dp_state.specs.Places.{keys_of_indices}
 use Rattle.dp_tree.specs.declared.tree.Order.{Order}
-use Rattle.dp_meaning.specs.Places.{PlaceRun, variable, read_run, found_run, assign_run, assignment, compound, coalescing, step, stepped, isset_run, unset_run}
-use Rattle.dp_meaning.specs.Run.{Run, Done, fatal, and_then}
-use Rattle.dp_meaning.specs.Setting.{Setting, Part}
-use Rattle.dp_meaning.specs.Values.{is_missing}
+use Rattle.dp_actions.specs.Places.{PlaceRun, variable, read_run, found_run, assign_run, assignment, compound, coalescing, step, stepped, isset_run, unset_run}
+use Rattle.dp_actions.specs.Run.{Run, Done, fatal, and_then}
+use Rattle.dp_actions.specs.Setting.{Setting, Part}
+use Rattle.dp_actions.specs.Values.{is_missing}
 use Rattle.dp_meaning_laws.proofs.Alike.{Facts, IsKept, Keeps, KeepsPart, Keeps-and_then, Keeps-value, Alike-if, Alike-taken}
 use Rattle.dp_meaning_laws.proofs.Each.{Each}
 

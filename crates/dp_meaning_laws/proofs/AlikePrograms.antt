@@ -11,10 +11,11 @@ use Rattle.dp_value.specs.declared.value.Value.TheVariants.{Int}
 use Rattle.dp_state.specs.declared.state.State.{State}
 use Rattle.dp_state.specs.Functions.{called, included}
 use Rattle.dp_state.specs.States.{frame_limit, left, opening}
-use Rattle.dp_meaning.specs.declared.signal.Signal.{Signal}
-use Rattle.dp_meaning.specs.Programs.{function_run, file_run, returned, statements_of, setting_of, program_run}
-use Rattle.dp_meaning.specs.Run.{Run, Done, and_then, taken}
-use Rattle.dp_meaning.specs.Setting.{Setting}
+use Rattle.dp_actions.specs.declared.signal.Signal.{Signal}
+use Rattle.dp_meaning.specs.Programs.{function_run, file_run, setting_of, program_run}
+use Rattle.dp_actions.specs.Bodies.{returned, statements_of}
+use Rattle.dp_actions.specs.Run.{Run, Done, and_then, taken}
+use Rattle.dp_actions.specs.Setting.{Setting}
 use Rattle.dp_meaning.specs.Statements.{body_run}
 use Rattle.dp_meaning_laws.proofs.Alike.{Alike, AreAlike, Facts, IsFunction, IsKept, Keeps, Alike-and_then, Alike-taken}
 use Rattle.dp_meaning_laws.proofs.Each.{Each, each-at, each-left, each-right}

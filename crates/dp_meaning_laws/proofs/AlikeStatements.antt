@@ -23,16 +23,17 @@ use Rattle.dp_tree.specs.declared.tree.Statement.{Statement, map-Statement, roll
 use Rattle.dp_tree.specs.declared.tree.StatementKind.{StatementKind, map-StatementKind, roll-StatementKind}
 use Rattle.dp_tree.specs.declared.tree.StatementKind.TheFolds.{fold-roll-Statement, fold-roll-StatementKind, fold-roll-Arm}
 use Rattle.dp_tree.specs.declared.tree.StatementKind.TheOpen.{Statement-F, StatementKind-F, Arm-F}
-use Rattle.dp_meaning.specs.declared.signal.Signal.{Signal}
-use Rattle.dp_meaning.specs.declared.signal.Signal.TheVariants.{Next, Break, Continue, Return}
+use Rattle.dp_actions.specs.declared.signal.Signal.{Signal}
+use Rattle.dp_actions.specs.declared.signal.Signal.TheVariants.{Next, Break, Continue, Return}
 use Rattle.dp_meaning.specs.Expressions.{ExpressionRun, expression_run, evaluation, evaluations, place_run}
-use Rattle.dp_meaning.specs.Loops.{do_turns, entries, turn_over, turns}
-use Rattle.dp_meaning.specs.Places.{unset_run}
-use Rattle.dp_meaning.specs.Run.{Run, Done, Over, At, and_then, taken}
-use Rattle.dp_meaning.specs.Setting.{Setting, Part}
-use Rattle.dp_meaning.specs.Statements.{KindRun, ArmRun, go_on, placed, sequence, echoes, arms_run, with_globals, status_of, exit_with, exit_run, return_run, end_run, kind_layer, arm_layer, statement_layer, statement_run, body_run}
+use Rattle.dp_actions.specs.Loops.{do_turns, entries, turn_over, turns}
+use Rattle.dp_actions.specs.Places.{unset_run}
+use Rattle.dp_actions.specs.Run.{Run, Done, Over, At, and_then, taken}
+use Rattle.dp_actions.specs.Setting.{Setting, Part}
+use Rattle.dp_meaning.specs.Statements.{KindRun, ArmRun, go_on, placed, sequence, echoes, arms_run, return_run, end_run, kind_layer, arm_layer, statement_layer, statement_run, body_run}
+use Rattle.dp_actions.specs.Effects.{with_globals, status_of, exit_with, exit_run}
 use Rattle.dp_meaning.specs.inner.Parts.{kind_run, arm_run}
-use Rattle.dp_meaning.specs.Values.{holds}
+use Rattle.dp_actions.specs.Values.{holds}
 use Rattle.dp_meaning_laws.proofs.Alike.{Alike, AreAlike, Facts, IsKept, Keeps, KeepsPart, Keeps-and_then, Alike-if, Alike-taken}
 use Rattle.dp_meaning_laws.proofs.Each.{Each, each-left, each-right}
 use Rattle.dp_meaning_laws.proofs.AlikeExpressions.{Keeps-expression, Keeps-evaluations, Keeps-place}

@@ -10,7 +10,7 @@ use Rattle.dp_state.specs.declared.state.State.{State}
 use Rattle.dp_state.specs.Functions.{called, included}
 use Rattle.dp_state.specs.Places.{assigned, unset, with_global}
 use Rattle.dp_state.specs.States.{left, printed}
-use Rattle.dp_meaning.specs.Run.{Run, Done, Over, At}
+use Rattle.dp_actions.specs.Run.{Run, Done, Over, At}
 
 -- how a run of a program can end by itself
 abbrev pub CanEnd : Outcome → Type 0

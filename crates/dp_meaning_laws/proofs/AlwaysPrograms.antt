@@ -6,8 +6,9 @@ use Rattle.dp_state.specs.declared.moments.Outcome.{Outcome}
 use Rattle.dp_state.specs.declared.moments.Outcome.TheVariants as way
 use Rattle.dp_state.specs.declared.state.State.{State}
 use Rattle.dp_state.specs.States.{opening}
-use Rattle.dp_meaning.specs.Programs.{program_run, statements_of}
-use Rattle.dp_meaning.specs.Run.{Run, Done, Over, At}
+use Rattle.dp_meaning.specs.Programs.{program_run}
+use Rattle.dp_actions.specs.Bodies.{statements_of}
+use Rattle.dp_actions.specs.Run.{Run, Done, Over, At}
 use Rattle.dp_meaning_laws.proofs.Alike as alike
 use Rattle.dp_meaning_laws.proofs.Alike.{Alike, Facts, of_states}
 use Rattle.dp_meaning_laws.proofs.AlikePrograms.{Alike-program}

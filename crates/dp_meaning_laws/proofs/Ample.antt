@@ -15,15 +15,16 @@ use Rattle.dp_state.specs.declared.moments.Outcome.TheVariants as way
 use Rattle.dp_state.specs.declared.state.Frame.{Frame}
 use Rattle.dp_state.specs.declared.state.State.{State}
 use Rattle.dp_state.specs.States.{IsOf, frame_limit, opening}
-use Rattle.dp_meaning.specs.declared.signal.Signal.{Signal}
+use Rattle.dp_actions.specs.declared.signal.Signal.{Signal}
 use Rattle.dp_meaning.specs.declared.writing.NumberedWrite.{NumberedWrite}
 use Rattle.dp_meaning.specs.declared.writing.Write.{Write}
 use Rattle.dp_meaning.specs.declared.writing.Write.TheVariants.{Place, Evaluate}
 use Rattle.dp_meaning.specs.Expressions.{evaluation, evaluations}
-use Rattle.dp_meaning.specs.Loops.{do_turns, turns}
-use Rattle.dp_meaning.specs.Programs.{program_run, setting_of, statements_of}
-use Rattle.dp_meaning.specs.Run.{Run, Done, Over, At, and_then}
-use Rattle.dp_meaning.specs.Setting.{Setting}
+use Rattle.dp_actions.specs.Loops.{do_turns, turns}
+use Rattle.dp_meaning.specs.Programs.{program_run, setting_of}
+use Rattle.dp_actions.specs.Bodies.{statements_of}
+use Rattle.dp_actions.specs.Run.{Run, Done, Over, At, and_then}
+use Rattle.dp_actions.specs.Setting.{Setting}
 use Rattle.dp_meaning.specs.Statements.{body_run, statement_run}
 use Rattle.dp_meaning.specs.Trace.{Ended, Trace, moment_of, program_trace, trace, with_moment}
 use Rattle.dp_meaning.specs.Writes.{Writes, alone, arrived, evaluated, evaluation_limit, evaluation_setting, left_by, one_write, recounted, written, written_by, writes_of}
@@ -35,7 +36,7 @@ use Rattle.dp_meaning_laws.proofs.AlikeStatements.{Keeps-body, Keeps-statement, 
 use Rattle.dp_meaning_laws.proofs.Each.{Each, each-all}
 use Rattle.dp_meaning_laws.proofs.Frames.{files_in}
 use Rattle.dp_meaning_laws.proofs.OfBundle.{Anywhere, IsThere, Stack, facts, kept, main_file, nowhere, one-there, recounted-there, there-arrived, there-opening, with_file, written-there}
-use Rattle.dp_meaning.proofs.Runs.{and_then-Done}
+use Rattle.dp_actions.proofs.Runs.{and_then-Done}
 
 module _ (bundle : Bundle) where
   -- a state of the bundle stands somewhere

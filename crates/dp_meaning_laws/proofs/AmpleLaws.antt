@@ -9,14 +9,15 @@ use Rattle.dp_tree.specs.declared.tree.Expression.{Expression}
 use Rattle.dp_tree.specs.declared.tree.Statement.{Statement}
 use Rattle.dp_state.specs.declared.state.State.{State}
 use Rattle.dp_state.specs.States.{frame_limit, opening}
-use Rattle.dp_meaning.specs.declared.signal.Signal.{Signal}
+use Rattle.dp_actions.specs.declared.signal.Signal.{Signal}
 use Rattle.dp_meaning.specs.declared.writing.NumberedWrite.{NumberedWrite}
 use Rattle.dp_meaning.specs.Expressions.{evaluation, evaluations}
 use Rattle.dp_meaning_laws.specs.Limits.{CanStand, IsAmple, SameTraces, trace_by}
-use Rattle.dp_meaning.specs.Loops.{do_turns, turns}
-use Rattle.dp_meaning.specs.Programs.{program_run, setting_of, statements_of}
-use Rattle.dp_meaning.specs.Run.{Run, Done}
-use Rattle.dp_meaning.specs.Setting.{Setting}
+use Rattle.dp_actions.specs.Loops.{do_turns, turns}
+use Rattle.dp_meaning.specs.Programs.{program_run, setting_of}
+use Rattle.dp_actions.specs.Bodies.{statements_of}
+use Rattle.dp_actions.specs.Run.{Run, Done}
+use Rattle.dp_actions.specs.Setting.{Setting}
 use Rattle.dp_meaning.specs.Statements.{body_run, statement_run}
 use Rattle.dp_meaning.specs.Trace.{program_trace, trace}
 use Rattle.dp_meaning.specs.Writes.{Writes, evaluation_limit, evaluation_setting, writes_of}
@@ -27,7 +28,7 @@ use Rattle.dp_meaning_laws.proofs.AlikeLoops.{Alike-do, Alike-turns}
 use Rattle.dp_meaning_laws.proofs.AlikeStatements.{Keeps-body, Keeps-statement, Still-statement}
 use Rattle.dp_meaning_laws.proofs.Ample.{ample, ample-written, anywhere, counting, kept-counting, same-traces, there-is}
 use Rattle.dp_meaning_laws.proofs.OfBundle.{IsThere, Stack, main_file, there-opening}
-use Rattle.dp_meaning.proofs.Runs.{and_then-Done}
+use Rattle.dp_actions.proofs.Runs.{and_then-Done}
 
 -- ---- in the midst of a run
 

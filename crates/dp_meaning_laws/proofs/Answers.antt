@@ -10,7 +10,7 @@ use Rattle.dp_meaning.specs.declared.writing.Write.TheVariants.{Place, Evaluate}
 use Rattle.dp_meaning.specs.declared.writing.WriteAnswer.TheVariants as answer
 use Rattle.dp_meaning.specs.declared.writing.WriteFault.{WriteFault}
 use Rattle.dp_meaning.specs.declared.writing.WriteFault.TheVariants.{NoFrame, NoPlace}
-use Rattle.dp_meaning.specs.Setting.{Setting}
+use Rattle.dp_actions.specs.Setting.{Setting}
 use Rattle.dp_meaning.specs.Writes.{answer_in, evaluated, left_by, one_write, or_unchanged, place_answer, value_answer, with_place}
 
 -- ---- places

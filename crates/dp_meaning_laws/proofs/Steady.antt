@@ -23,7 +23,7 @@ use Rattle.dp_state.specs.States.{entered, frame_limit, opening, output_limit, o
 use Rattle.dp_state.specs.Variables.{Variables, with_slot, without}
 use Rattle.dp_tree.specs.declared.tree.Function.{Function}
 use Rattle.dp_meaning.specs.Programs.{program_run}
-use Rattle.dp_meaning.specs.Run.{Run}
+use Rattle.dp_actions.specs.Run.{Run}
 use Rattle.dp_meaning_laws.proofs.Always.{Always, IsKept}
 use Rattle.dp_meaning_laws.proofs.AlwaysPrograms.{Always-program}
 

@@ -9,12 +9,13 @@ use Rattle.dp_state.specs.declared.moments.MomentKind.{MomentKind}
 use Rattle.dp_state.specs.declared.moments.Outcome.TheVariants as way
 use Rattle.dp_state.specs.declared.state.State.{State}
 use Rattle.dp_state.specs.States.{IsOf}
-use Rattle.dp_meaning.specs.declared.signal.Signal.{Signal}
+use Rattle.dp_actions.specs.declared.signal.Signal.{Signal}
 use Rattle.dp_meaning.specs.declared.stop.Stop.{Stop}
 use Rattle.dp_meaning.specs.declared.stop.Stop.TheVariants as stop
 use Rattle.dp_meaning.specs.declared.writing.NumberedWrite.{NumberedWrite}
-use Rattle.dp_meaning.specs.Programs.{program_run, statements_of}
-use Rattle.dp_meaning.specs.Run.{Run, Done, Over, At}
+use Rattle.dp_meaning.specs.Programs.{program_run}
+use Rattle.dp_actions.specs.Bodies.{statements_of}
+use Rattle.dp_actions.specs.Run.{Run, Done, Over, At}
 use Rattle.dp_meaning.specs.Stopping.{above, first_at, first_stop, state_of, stop_of}
 use Rattle.dp_meaning.specs.Trace.{Ended, IsStop, Trace, moment_of, outcome_of, program_trace, trace, with_moment}
 use Rattle.dp_meaning.specs.Writes.{arrived, written, writes_of}

@@ -10,10 +10,11 @@ use Rattle.dp_state.specs.declared.moments.Outcome.TheVariants as way
 use Rattle.dp_state.specs.declared.state.Frame.{Frame}
 use Rattle.dp_state.specs.declared.state.State.{State}
 use Rattle.dp_state.specs.States.{frame_limit, opening}
-use Rattle.dp_meaning.specs.declared.signal.Signal.{Signal}
-use Rattle.dp_meaning.specs.declared.signal.Signal.TheVariants.{Next}
+use Rattle.dp_actions.specs.declared.signal.Signal.{Signal}
+use Rattle.dp_actions.specs.declared.signal.Signal.TheVariants.{Next}
 use Rattle.dp_meaning.specs.declared.writing.NumberedWrite.{NumberedWrite}
-use Rattle.dp_meaning.specs.Programs.{program_run, setting_of, statements_of}
+use Rattle.dp_meaning.specs.Programs.{program_run, setting_of}
+use Rattle.dp_actions.specs.Bodies.{statements_of}
 use Rattle.dp_meaning.specs.Statements.{body_run}
 use Rattle.dp_meaning.specs.Trace.{Gave, Trace, moment_at, moment_of, now, outcome, outcome_of, program_trace, trace}
 use Rattle.dp_meaning.specs.Writes.{arrived, written, writes_of}

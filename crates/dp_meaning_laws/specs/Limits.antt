@@ -3,11 +3,11 @@ use Rattle.std.specs.Prelude.{◌≡◌, ℕ, ◌+◌, ◌<◌, ◌≤◌, List,
 use Rattle.dp_tree.specs.declared.bundle.Bundle.{Bundle}
 use Rattle.dp_state.specs.declared.state.State.{State}
 use Rattle.dp_state.specs.States.{IsOf, frame_limit, opening}
-use Rattle.dp_meaning.specs.declared.signal.Signal.{Signal}
+use Rattle.dp_actions.specs.declared.signal.Signal.{Signal}
 use Rattle.dp_meaning.specs.declared.writing.NumberedWrite.{NumberedWrite}
-use Rattle.dp_meaning.specs.Programs.{statements_of}
-use Rattle.dp_meaning.specs.Run.{Run, ◌>>=◌}
-use Rattle.dp_meaning.specs.Setting.{Setting}
+use Rattle.dp_actions.specs.Bodies.{statements_of}
+use Rattle.dp_actions.specs.Run.{Run, ◌>>=◌}
+use Rattle.dp_actions.specs.Setting.{Setting}
 use Rattle.dp_meaning.specs.Statements.{body_run}
 use Rattle.dp_meaning.specs.Trace.{Trace, trace}
 use Rattle.dp_meaning.specs.Writes.{Writes, writes_of}

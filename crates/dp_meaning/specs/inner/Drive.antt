@@ -4,17 +4,14 @@ use Rattle.dp_value.specs.declared.value.Value.{Value}
 use Rattle.dp_state.specs.declared.moments.Moment.{Moment}
 use Rattle.dp_state.specs.declared.moments.MomentKind.{MomentKind}
 use Rattle.dp_state.specs.declared.moments.Outcome.{Outcome}
-use Rattle.dp_state.specs.declared.moments.Outcome.TheVariants.{Bound, Fatal, Done as Completed}
-use Rattle.dp_state.specs.declared.state.Fault.{Fault}
-use Rattle.dp_state.specs.declared.state.Fault.TheVariants as fault
+use Rattle.dp_state.specs.declared.moments.Outcome.TheVariants.{Bound, Done as Completed}
 use Rattle.dp_state.specs.declared.state.State.{State}
-use Rattle.dp_state.specs.States.{file_of, line_of}
-use Rattle.dp_meaning.specs.declared.halt.Halt.{Halt}
-use Rattle.dp_meaning.specs.declared.halt.Halt.TheVariants.{Memory, Finished, Stopped}
-use Rattle.dp_meaning.specs.declared.signal.Signal.{Signal}
+use Rattle.dp_actions.specs.declared.halt.Halt.{Halt}
+use Rattle.dp_actions.specs.declared.halt.Halt.TheVariants.{Memory, Finished, Stopped}
+use Rattle.dp_actions.specs.declared.signal.Signal.{Signal}
 use Rattle.dp_meaning.specs.declared.stop.Stop.{Stop}
 use Rattle.dp_meaning.specs.declared.stop.Stop.TheVariants as stop
-use Rattle.dp_meaning.specs.Run.{Run, Done, Over, At}
+use Rattle.dp_actions.specs.Run.{Run, Done, Over, At}
 use Rattle.dp_meaning.specs.Trace.{moment_of}
 use Rattle.dp_meaning.specs.Writes.{Writes, arrived, written, writes_of}
 
@@ -80,16 +77,6 @@ pub record Evaluates {A : Type 0} (rules : Rules) (run : Run A) (result : Result
 -- a moment by itself
 abbrev pub moment_run : MomentKind → ℕ → State → Run Unit
 moment_run kind line s = At kind line s (λ t. Done tt t)
-
--- what a refused step is to the evaluator
-abbrev pub halt_of : Fault → State → Halt
-halt_of (fault.Fatal kind) s = Finished (Fatal kind (file_of s) (line_of s))
-halt_of fault.Memory s = Memory
-
--- what a step is to the evaluator
-abbrev pub settled_of : Result Unit Fault → State → Result Unit Halt
-settled_of (Ok done) s = Ok tt
-settled_of (Err why) s = Err (halt_of why s)
 
 -- ---- evaluations that nothing stops
 

@@ -1,17 +1,14 @@
 -- What the parts of expressions and statements do, and values that are tested.
-use Rattle.std.specs.Prelude.{if◌then◌else◌, Option, Some, None}
-use Rattle.dp_value.specs.declared.value.Value.{Value}
 use Rattle.dp_tree.specs.declared.tree.Arm.{Arm, fold-Arm}
 use Rattle.dp_tree.specs.declared.tree.Item.{Item, fold-Item}
 use Rattle.dp_tree.specs.declared.tree.Link.{Link, fold-Link}
 use Rattle.dp_tree.specs.declared.tree.StatementKind.{StatementKind, fold-StatementKind}
-use Rattle.dp_meaning.specs.declared.signal.Signal.{Signal}
+use Rattle.dp_actions.specs.declared.signal.Signal.{Signal}
 use Rattle.dp_meaning.specs.Expressions as expressions
 use Rattle.dp_meaning.specs.Expressions.{ExpressionRun, ItemRun, LinkRun}
-use Rattle.dp_meaning.specs.Places.{PlaceRun}
-use Rattle.dp_meaning.specs.Setting.{Part}
+use Rattle.dp_actions.specs.Places.{PlaceRun}
+use Rattle.dp_actions.specs.Setting.{Part}
 use Rattle.dp_meaning.specs.Statements.{ArmRun, KindRun, arm_layer, kind_layer, statement_layer}
-use Rattle.dp_meaning.specs.Values.{holds, is_missing}
 
 unfoldable pub item_run_of : Item → ItemRun
 item_run_of =
@@ -28,11 +25,3 @@ kind_run = fold-StatementKind KindRun ArmRun (Part Signal) kind_layer arm_layer 
 
 unfoldable pub arm_run : Arm → ArmRun
 arm_run = fold-Arm KindRun ArmRun (Part Signal) kind_layer arm_layer statement_layer
-
--- a value that is not null
-abbrev pub present_of : Value → Option Value
-present_of v = if is_missing v then None else Some v
-
--- a value that holds
-abbrev pub kept_of : Value → Option Value
-kept_of v = if holds v then Some v else None

@@ -9,21 +9,24 @@ use mir.Val.{SFits}
 use Rattle.dp_tree.specs.declared.tree.Arm.{Arm}
 use Rattle.dp_tree.specs.declared.tree.Expression.{Expression, size-Expression as nesting}
 use Rattle.dp_tree.specs.declared.tree.Place.{Place, size-Place}
-use Rattle.dp_meaning.specs.inner.Evaluation.{callee_of, entries_by, goes_by}
+use Rattle.dp_meaning.specs.inner.Evaluation.{goes_by}
+use Rattle.dp_actions.specs.Calls.{callee_of}
+use Rattle.dp_actions.specs.InPlace.{entries_by}
 use Rattle.dp_meaning.specs.Expressions.{evaluation, evaluations}
 use Rattle.dp_meaning.specs.inner.Sizes.{arm_size, body_size, expressions_size, kind_size, sizes_sum, statement_size}
-use Rattle.dp_meaning.specs.Run.{Done}
-use Rattle.dp_meaning.specs.Statements.{arms_run, print_run, statement_run}
+use Rattle.dp_actions.specs.Run.{Done}
+use Rattle.dp_meaning.specs.Statements.{arms_run, statement_run}
+use Rattle.dp_actions.specs.Effects.{print_run}
 use Rattle.dp_meaning.specs.inner.Parts.{arm_run}
 use Rattle.dp_value.specs.declared.value.Value.TheVariants as variant
 use Rattle.dp_meaning.proofs.CallLaws.{bounded-do, bounded-turns, call-is, file-is, next-off, runs-for, setting-bundle, suc-call, suc-include, then-next, zero-call, zero-include}
-use Rattle.dp_meaning.proofs.Drives.{breaks_off, ends, exits, gives, goes_on, joined_off, joined_on, passes, stops_at, tested_off, tested_on}
+use Rattle.dp_meaning.proofs.Drives.{at_once, breaks_off, ends, exits, gives, goes_on, joined_off, joined_on, passes, stops_at, tested_off, tested_on}
 use Rattle.dp_meaning.proofs.InPlace.{base-plain, one-variable, reads-in-place}
 use Rattle.dp_meaning.proofs.Layers.{found-plain, kind-Block, kind-Break, kind-Continue, kind-DoWhile, kind-Echo, kind-Empty, kind-Exit, kind-Expression, kind-For, kind-Foreach, kind-Global, kind-If, kind-Return, kind-Unset, kind-While, run-arm, run-Array, run-Assign, run-Bool, run-Call, run-Chain, run-Coalesce, run-CoalesceAssign, run-Compound, run-Conditional, run-Include, run-Index, run-Isset, run-item-None, run-item-Some, run-link, run-Null, run-Number, run-place, run-Push, run-statement, run-Step, run-Text, run-Unary, run-Variable}
 use Rattle.dp_meaning.proofs.ListLaws.{front, front-at, values-all, values-break, values-first, values-more}
 use Rattle.dp_meaning.proofs.LoopLaws.{bind-breaks, body-breaks, body-out, do-body-breaks, do-body-out, do-end, do-goes-on, do-stops, do-test-breaks, each-body-breaks, each-goes-on, each-out, each-stops, next-breaks, test-breaks, turn-goes-on, turn-stops, turns-end}
 use Rattle.dp_meaning.proofs.SizeLaws.{frame-callee, frame-file, frame_less, size-arm, size-Block, size-DoWhile, size-Echo, size-Exit, size-Expression, size-For, size-Foreach, size-If, size-in, size-Return, size-some, size-statement, size-Unset, size-While}
-use Rattle.dp_meaning.proofs.Tails.{gives-answers, kept-none, kept-some, present-none, present-some}
+use Rattle.dp_actions.proofs.Tails.{gives-answers, kept-none, kept-some, present-none, present-some}
 use Rattle.dp_meaning.proofs.evaluator.Evaluator.+evaluate.Goals as goal
 
 pub expression-returns-in-Null : goal.expression-returns-in-Null
@@ -37,10 +40,10 @@ expression-returns-in-Number g t c =
     let fits : SFits w64 c.in-Number.n = search rules in rw (c.in-Number.is, run-Number, to_z-of_z w64 c.in-Number.n fits) gives
 
 pub expression-returns-in-Text : goal.expression-returns-in-Text
-expression-returns-in-Text g t c = rw (c.in-Text.is, run-Text) (c.text_value.ensures _ _)
+expression-returns-in-Text g t c = rw (c.in-Text.is, run-Text) (at_once (c.text_value.ensures _))
 
 pub expression-returns-in-Variable : goal.expression-returns-in-Variable
-expression-returns-in-Variable g t c = rw (c.in-Variable.is, run-Variable) (c.variable_value.ensures _)
+expression-returns-in-Variable g t c = rw (c.in-Variable.is, run-Variable) (at_once c.variable_value.ensures)
 
 pub expression-returns-in-Array : goal.expression-returns-in-Array
 expression-returns-in-Array g t c = rw (c.in-Array.is, run-Array) (rw c.as_slice.ensures at c.array.ensures)
@@ -120,7 +123,7 @@ pub unary-returns-in_err-value : goal.unary-returns-in_err-value
 unary-returns-in_err-value g t c = exits _ _ c.from_residual.ensures.1 (breaks_off _ c.in_err-value.ensures)
 
 pub unary-returns : goal.unary-returns
-unary-returns g t c = goes_on _ c.in_ok-value.ensures (c.value_of-answer.ensures _ (gives-answers _ _ c.unary.ensures) _)
+unary-returns g t c = goes_on _ c.in_ok-value.ensures (at_once (c.value_of-answer.ensures _ (gives-answers _ _ c.unary.ensures)))
 
 pub inclusion-returns-in_err-value : goal.inclusion-returns-in_err-value
 inclusion-returns-in_err-value g t c = exits _ _ c.from_residual.ensures.1 (breaks_off _ c.in_err-value.ensures)
@@ -161,7 +164,7 @@ pub variable_entry-returns : goal.variable_entry-returns
 variable_entry-returns g t c =
     reads-in-place (g.O.Outside.rules c.args.self.now.outside.now)
     (goes_by c.args.self.now) (entries_by c.args.reading) c.args.name.now c.args.e.now c.requires c.args.state.now _ _ _ c.in_ok-at.ensures
-    (c.entry_in_place-answer.ensures (g.O.Outside.rules c.args.self.now.outside.now))
+    (at_once c.entry_in_place-answer.ensures)
 
 pub base-returns-in-Plain : goal.base-returns-in-Plain
 base-returns-in-Plain g t c = rw c.in-Plain.is c.expression.ensures
@@ -186,7 +189,7 @@ pub entry-returns-in_err-at : goal.entry-returns-in_err-at
 entry-returns-in_err-at g t c = exits _ _ c.from_residual.ensures.1 (breaks_off _ c.in_err-at.ensures)
 
 pub entry-returns : goal.entry-returns
-entry-returns g t c = goes_on _ c.in_ok-at.ensures (c.value_of-answer.ensures _ c.look.ensures _)
+entry-returns g t c = goes_on _ c.in_ok-at.ensures (at_once (c.value_of-answer.ensures _ c.look.ensures))
 
 pub array-returns-in_err-array : goal.array-returns-in_err-array
 array-returns-in_err-array g t c =
@@ -211,7 +214,7 @@ pub last-returns-in_err-value : goal.last-returns-in_err-value
 last-returns-in_err-value g t c = exits _ _ c.from_residual.ensures.1 (breaks_off _ c.in_err-value.ensures)
 
 pub last-returns : goal.last-returns
-last-returns g t c = goes_on _ c.in_ok-value.ensures (c.pushed.ensures _)
+last-returns g t c = goes_on _ c.in_ok-value.ensures (at_once c.pushed.ensures)
 
 pub keyed-returns-in_err-at : goal.keyed-returns-in_err-at
 keyed-returns-in_err-at g t c = exits _ _ c.from_residual.ensures.1 (breaks_off _ c.in_err-at.ensures)
@@ -223,7 +226,7 @@ pub keyed_by-returns-in_err-value : goal.keyed_by-returns-in_err-value
 keyed_by-returns-in_err-value g t c = exits _ _ c.from_residual.ensures.1 (breaks_off _ c.in_err-value.ensures)
 
 pub keyed_by-returns : goal.keyed_by-returns
-keyed_by-returns g t c = goes_on _ c.in_ok-value.ensures (c.put.ensures _)
+keyed_by-returns g t c = goes_on _ c.in_ok-value.ensures (at_once c.put.ensures)
 
 pub chain-returns-in_err-value : goal.chain-returns-in_err-value
 chain-returns-in_err-value g t c = exits _ _ c.from_residual.ensures.1 (breaks_off _ c.in_err-value.ensures)
@@ -275,7 +278,7 @@ pub joined-returns-in_err-right : goal.joined-returns-in_err-right
 joined-returns-in_err-right g t c = exits _ _ c.from_residual.ensures.1 (breaks_off _ c.in_err-right.ensures)
 
 pub joined-returns : goal.joined-returns
-joined-returns g t c = goes_on _ c.in_ok-right.ensures (c.value_of-answer.ensures _ c.binary.ensures _)
+joined-returns g t c = goes_on _ c.in_ok-right.ensures (at_once (c.value_of-answer.ensures _ c.binary.ensures))
 
 pub coalesce-returns-in_err-value : goal.coalesce-returns-in_err-value
 coalesce-returns-in_err-value g t c = exits _ _ c.from_residual.ensures.1 (breaks_off _ c.in_err-value.ensures)
@@ -334,8 +337,7 @@ step-returns-in_err-indices g t c =
 
 pub step-returns : goal.step-returns
 step-returns g t c =
-    rw run-place (goes_on _ (rw c.as_slice.ensures at c.in_ok-indices.ensures) (rw c.as_slice-2.ensures at (c.step_place.ensures
-    (g.O.Outside.rules c.args.self.now.outside.now))))
+    rw run-place (goes_on _ (rw c.as_slice.ensures at c.in_ok-indices.ensures) (at_once (rw c.as_slice-2.ensures at c.step_place.ensures)))
 
 pub found_at-returns-in_err-indices : goal.found_at-returns-in_err-indices
 found_at-returns-in_err-indices g t c =
@@ -343,37 +345,36 @@ found_at-returns-in_err-indices g t c =
 
 pub found_at-returns : goal.found_at-returns
 found_at-returns g t c =
-    rw run-place (goes_on _ (rw c.as_slice.ensures at c.in_ok-indices.ensures) (rw c.as_slice-2.ensures at (c.found_place.ensures
-    (g.O.Outside.rules c.args.self.now.outside.now))))
+    rw run-place (goes_on _ (rw c.as_slice.ensures at c.in_ok-indices.ensures) (at_once (rw c.as_slice-2.ensures at c.found_place.ensures)))
 
 pub assign_under-returns-in_err-value : goal.assign_under-returns-in_err-value
 assign_under-returns-in_err-value g t c = exits _ _ c.from_residual.ensures.1 (breaks_off _ c.in_err-value.ensures)
 
 pub assign_under-returns : goal.assign_under-returns
-assign_under-returns g t c = goes_on _ c.in_ok-value.ensures (c.assign_place.ensures _)
+assign_under-returns g t c = goes_on _ c.in_ok-value.ensures (at_once c.assign_place.ensures)
 
 pub compound_under-returns-in_err-old : goal.compound_under-returns-in_err-old
-compound_under-returns-in_err-old g t c = exits _ _ c.from_residual.ensures.1 (breaks_off _ (c.in_err-old.ensures _))
+compound_under-returns-in_err-old g t c = exits _ _ c.from_residual.ensures.1 (breaks_off _ (at_once c.in_err-old.ensures))
 
 pub compound_under-returns : goal.compound_under-returns
-compound_under-returns g t c = goes_on _ (c.in_ok-old.ensures _) c.compound_from-answer.ensures
+compound_under-returns g t c = goes_on _ (at_once c.in_ok-old.ensures) c.compound_from-answer.ensures
 
 pub compound_from-returns-in_err-value : goal.compound_from-returns-in_err-value
 compound_from-returns-in_err-value g t c = exits _ _ c.from_residual.ensures.1 (breaks_off _ c.in_err-value.ensures)
 
 pub compound_from-returns : goal.compound_from-returns
-compound_from-returns g t c = goes_on _ c.in_ok-value.ensures (c.combine-answer.ensures _)
+compound_from-returns g t c = goes_on _ c.in_ok-value.ensures (at_once c.combine-answer.ensures)
 
 pub coalesce_under-returns-in_err-old : goal.coalesce_under-returns-in_err-old
-coalesce_under-returns-in_err-old g t c = exits _ _ c.from_residual.ensures.1 (breaks_off _ (c.in_err-old.ensures _))
+coalesce_under-returns-in_err-old g t c = exits _ _ c.from_residual.ensures.1 (breaks_off _ (at_once c.in_err-old.ensures))
 
 pub coalesce_under-returns-in-Some : goal.coalesce_under-returns-in-Some
 coalesce_under-returns-in-Some g t c =
-    let k = present-some _ _ (sym c.present.ensures ∙ c.in-Some.is) in goes_on _ (c.in_ok-old.ensures _) (rw (k.0, k.1) gives)
+    let k = present-some _ _ (sym c.present.ensures ∙ c.in-Some.is) in goes_on _ (at_once c.in_ok-old.ensures) (rw (k.0, k.1) gives)
 
 pub coalesce_under-returns-in-None : goal.coalesce_under-returns-in-None
 coalesce_under-returns-in-None g t c =
-    goes_on _ (c.in_ok-old.ensures _) (rw (present-none _ (sym c.present.ensures ∙ c.in-None.is)) c.assign_under.ensures)
+    goes_on _ (at_once c.in_ok-old.ensures) (rw (present-none _ (sym c.present.ensures ∙ c.in-None.is)) c.assign_under.ensures)
 
 pub isset-returns-in_err-found : goal.isset-returns-in_err-found
 isset-returns-in_err-found g t c =
@@ -397,7 +398,7 @@ pub print-returns-in_err-value : goal.print-returns-in_err-value
 print-returns-in_err-value g t c = exits _ _ c.from_residual.ensures.1 (breaks_off _ c.in_err-value.ensures)
 
 pub print-returns : goal.print-returns
-print-returns g t c = goes_on _ c.in_ok-value.ensures (c.print_value-answer.ensures _)
+print-returns g t c = goes_on _ c.in_ok-value.ensures (at_once c.print_value-answer.ensures)
 
 pub unset-returns-in_err-indices : goal.unset-returns-in_err-indices
 unset-returns-in_err-indices g t c =
@@ -409,16 +410,14 @@ pub unset-returns-in_err-unset_place : goal.unset-returns-in_err-unset_place
 unset-returns-in_err-unset_place g t c =
     exits _ _ c.from_residual-in_err-unset_place.ensures.1 (c.loop-place.invariant _ _ (rw
     (front _ c.loop-place.place-index c.place-item.result c.loop-place-test.true c.place-item.is, run-place) (goes_on _
-    (rw c.as_slice.ensures at c.in_ok-indices.ensures) (breaks_off _ (rw c.as_slice-in-loop-place.ensures at (c.in_err-unset_place.ensures
-    (g.O.Outside.rules c.args.self.now.outside.now)))))))
+    (rw c.as_slice.ensures at c.in_ok-indices.ensures) (breaks_off _ (at_once (rw c.as_slice-in-loop-place.ensures at c.in_err-unset_place.ensures))))))
 
 pub unset-loop-place-preserved : goal.unset-loop-place-preserved
 unset-loop-place-preserved g t c =
     λ x u e. c.loop-place.invariant x u (rw (
       front _ c.loop-place.place-index c.place-item.result c.loop-place-test.true c.place-item.is,
       run-place,
-    ) (goes_on _ (rw c.as_slice.ensures at c.in_ok-indices.ensures) (goes_on _ (rw c.as_slice-in-loop-place.ensures at
-    (c.in_ok-unset_place.ensures (g.O.Outside.rules c.args.self.now.outside.now))) e)))
+    ) (goes_on _ (rw c.as_slice.ensures at c.in_ok-indices.ensures) (goes_on _ (at_once (rw c.as_slice-in-loop-place.ensures at c.in_ok-unset_place.ensures)) e)))
 
 pub unset-returns : goal.unset-returns
 unset-returns g t c = c.loop-place.invariant _ _ (rw (drop_of_length-le c.args.places.now c.loop-place-test.false) gives)
@@ -433,15 +432,14 @@ named-returns-in-Some-BuiltIn g t c =
 pub call_builtin-returns-in-Some : goal.call_builtin-returns-in-Some
 call_builtin-returns-in-Some g t c =
     rw c.in-Some.ensures (goes_on _ (one-variable (g.O.Outside.rules c.args.self.now.outside.now)
-    (goes_by c.args.self.now) c.in-Some.name.now c.args.state.now) (c.builtin_in_place.ensures (g.O.Outside.rules c.args.self.now.outside.now)))
+    (goes_by c.args.self.now) c.in-Some.name.now c.args.state.now) (at_once c.builtin_in_place.ensures))
 
 pub call_builtin-returns-in_err-values-in-None : goal.call_builtin-returns-in_err-values-in-None
 call_builtin-returns-in_err-values-in-None g t c = exits _ _ c.from_residual.ensures.1 (breaks_off _ c.in_err-values-in-None.ensures)
 
 pub call_builtin-returns-in_ok-values-in-None : goal.call_builtin-returns-in_ok-values-in-None
 call_builtin-returns-in_ok-values-in-None g t c =
-    goes_on _ c.in_ok-values-in-None.ensures (rw c.as_slice.ensures at (c.builtin_value.ensures _ c.builtin.ensures
-    (g.O.Outside.rules c.args.self.now.outside.now)))
+    goes_on _ c.in_ok-values-in-None.ensures (at_once (rw c.as_slice.ensures at (c.builtin_value.ensures _ c.builtin.ensures)))
 
 pub named-returns-in_err-values-in-Some-Declared : goal.named-returns-in_err-values-in-Some-Declared
 named-returns-in_err-values-in-Some-Declared g t c =
@@ -475,26 +473,26 @@ pub call-function-requires : goal.call-function-requires
 call-function-requires g t c = λ κs h. (omega (arith, frame_less c.args.self.now.depth _ _ c.if-self-eq0.false c.requires, c.decreases), h)
 
 pub function-returns-in_err-enter_call : goal.function-returns-in_err-enter_call
-function-returns-in_err-enter_call g t c = exits _ _ c.from_residual.ensures.1 (breaks_off _ (c.in_err-enter_call.ensures _))
+function-returns-in_err-enter_call g t c = exits _ _ c.from_residual.ensures.1 (breaks_off _ (at_once c.in_err-enter_call.ensures))
 
 pub function-returns-in_err-at_moment : goal.function-returns-in_err-at_moment
 function-returns-in_err-at_moment g t c =
-    exits _ _ c.from_residual-in_err-at_moment.ensures.1 (goes_on _ (c.in_ok-enter_call.ensures _) (stops_at c.in_err-at_moment.ensures))
+    exits _ _ c.from_residual-in_err-at_moment.ensures.1 (goes_on _ (at_once c.in_ok-enter_call.ensures) (stops_at c.in_err-at_moment.ensures))
 
 pub function-returns-in_err-signal : goal.function-returns-in_err-signal
 function-returns-in_err-signal g t c =
-    exits _ _ c.from_residual-in_err-signal.ensures.1 (goes_on _ (c.in_ok-enter_call.ensures _) (passes c.in_ok-at_moment.ensures (breaks_off _
+    exits _ _ c.from_residual-in_err-signal.ensures.1 (goes_on _ (at_once c.in_ok-enter_call.ensures) (passes c.in_ok-at_moment.ensures (breaks_off _
     (rw c.as_slice.ensures at c.in_err-signal.ensures))))
 
 pub function-returns : goal.function-returns
 function-returns g t c =
-    goes_on _ (c.in_ok-enter_call.ensures _) (passes c.in_ok-at_moment.ensures (goes_on _ (rw c.as_slice.ensures at c.in_ok-signal.ensures)
+    goes_on _ (at_once c.in_ok-enter_call.ensures) (passes c.in_ok-at_moment.ensures (goes_on _ (rw c.as_slice.ensures at c.in_ok-signal.ensures)
     c.leave.ensures))
 
 pub include-returns-in-None : goal.include-returns-in-None
 include-returns-in-None g t c =
     rw (setting-bundle c.args.self.now.bundle.now c.args.self.now.bound c.args.self.now.depth, sym c.in_ok-file_named_by.ensures ∙ c.in-None.is)
-    (c.not_included.ensures _ _)
+    (at_once (c.not_included.ensures _))
 
 pub include-returns-in-Some : goal.include-returns-in-Some
 include-returns-in-Some g t c =
@@ -522,18 +520,18 @@ file-included-requires g t c =
 pub included-returns-in_err-enter_file : goal.included-returns-in_err-enter_file
 included-returns-in_err-enter_file g t c =
     exits _ _ c.from_residual.ensures.1 (rw (file-is c.args.self.now.bundle.now c.args.self.now.bound c.args.self.now.depth c.args.file
-    c.args.state.now) (breaks_off _ (c.in_err-enter_file.ensures _)))
+    c.args.state.now) (breaks_off _ (at_once c.in_err-enter_file.ensures)))
 
 pub included-returns-in_err-signal : goal.included-returns-in_err-signal
 included-returns-in_err-signal g t c =
     exits _ _ c.from_residual-in_err-signal.ensures.1 (rw (file-is c.args.self.now.bundle.now c.args.self.now.bound c.args.self.now.depth
-    c.args.file c.args.state.now) (goes_on _ (c.in_ok-enter_file.ensures _) (breaks_off _
+    c.args.file c.args.state.now) (goes_on _ (at_once c.in_ok-enter_file.ensures) (breaks_off _
     (rw c.statements_of.ensures at c.in_err-signal.ensures))))
 
 pub included-returns : goal.included-returns
 included-returns g t c =
     rw (file-is c.args.self.now.bundle.now c.args.self.now.bound c.args.self.now.depth c.args.file c.args.state.now) (goes_on _
-    (c.in_ok-enter_file.ensures _) (goes_on _ (rw c.statements_of.ensures at c.in_ok-signal.ensures) (rw
+    (at_once c.in_ok-enter_file.ensures) (goes_on _ (rw c.statements_of.ensures at c.in_ok-signal.ensures) (rw
     (c.leave.ensures, c.returned.ensures) gives)))
 
 pub body-returns-in_err-statement : goal.body-returns-in_err-statement
@@ -658,13 +656,12 @@ kind-returns-in_err-place-in-Global g t c =
 
 pub kind-returns-in_ok-bind_all-in-Global : goal.kind-returns-in_ok-bind_all-in-Global
 kind-returns-in_ok-bind_all-in-Global g t c =
-    rw (c.in-Global.is, kind-Global) (passes c.in_ok-place-in-Global.ensures (then-next (rw c.as_slice-in-Global.ensures at
-    (c.in_ok-bind_all-in-Global.ensures (g.O.Outside.rules c.args.self.now.outside.now)))))
+    rw (c.in-Global.is, kind-Global) (passes c.in_ok-place-in-Global.ensures (then-next (at_once (rw c.as_slice-in-Global.ensures at c.in_ok-bind_all-in-Global.ensures))))
 
 pub kind-returns-in_err-bind_all-in-Global : goal.kind-returns-in_err-bind_all-in-Global
 kind-returns-in_err-bind_all-in-Global g t c =
     exits _ _ c.from_residual-in_err-bind_all-in-Global.ensures.1 (rw (c.in-Global.is, kind-Global) (passes c.in_ok-place-in-Global.ensures
-    (next-off (rw c.as_slice-in-Global.ensures at (c.in_err-bind_all-in-Global.ensures (g.O.Outside.rules c.args.self.now.outside.now))))))
+    (next-off (at_once (rw c.as_slice-in-Global.ensures at c.in_err-bind_all-in-Global.ensures)))))
 
 pub kind-returns-in_err-place-in-Unset : goal.kind-returns-in_err-place-in-Unset
 kind-returns-in_err-place-in-Unset g t c =
@@ -771,7 +768,7 @@ pub exit-returns-in_err-value-in-Some : goal.exit-returns-in_err-value-in-Some
 exit-returns-in_err-value-in-Some g t c = exits _ _ c.from_residual.ensures.1 (rw c.in-Some.is (breaks_off _ c.in_err-value-in-Some.ensures))
 
 pub exit-returns-in_ok-value-in-Some : goal.exit-returns-in_ok-value-in-Some
-exit-returns-in_ok-value-in-Some g t c = rw c.in-Some.is (goes_on _ c.in_ok-value-in-Some.ensures (c.exit_value-answer.ensures _))
+exit-returns-in_ok-value-in-Some g t c = rw c.in-Some.is (goes_on _ c.in_ok-value-in-Some.ensures (at_once c.exit_value-answer.ensures))
 
 pub turns-returns-in_err-place : goal.turns-returns-in_err-place
 turns-returns-in_err-place g t c =
@@ -886,26 +883,26 @@ each-returns-in_err-bind_entry g t c =
     let r = front-at c.in-Array.array.pairs c.loop-at.at (omega
     (arith, c.len-at-end.ensures.len)) in exits _ _ c.from_residual-in_err-bind_entry.ensures.1 (c.loop-at.invariant _ _ (rw r.2
     (bind-breaks _ c.args.line c.args.binding.now r.0 _ (statement_run c.args.body.now
-    (goes_by c.args.self.now)) _ _ c.in_ok-place.ensures _ _ (c.in_err-bind_entry.ensures r.0 r.1 _))))
+    (goes_by c.args.self.now)) _ _ c.in_ok-place.ensures _ _ (at_once (c.in_err-bind_entry.ensures r.0 r.1)))))
 
 pub each-returns-in_err-statement : goal.each-returns-in_err-statement
 each-returns-in_err-statement g t c =
     let r = front-at c.in-Array.array.pairs c.loop-at.at (omega
     (arith, c.len-at-end.ensures.len)) in exits _ _ c.from_residual-in_err-statement.ensures.1 (c.loop-at.invariant _ _ (rw r.2
     (each-body-breaks _ c.args.line c.args.binding.now r.0 _ (statement_run c.args.body.now
-    (goes_by c.args.self.now)) _ _ c.in_ok-place.ensures _ (c.in_ok-bind_entry.ensures r.0 r.1 _) _ _ c.in_err-statement.ensures)))
+    (goes_by c.args.self.now)) _ _ c.in_ok-place.ensures _ (at_once (c.in_ok-bind_entry.ensures r.0 r.1)) _ _ c.in_err-statement.ensures)))
 
 pub each-returns-in-Out : goal.each-returns-in-Out
 each-returns-in-Out g t c =
     let r = front-at c.in-Array.array.pairs c.loop-at.at (omega (arith, c.len-at-end.ensures.len)) in c.loop-at.invariant _ _ (rw r.2
     (each-out _ c.args.line c.args.binding.now r.0 _ (statement_run c.args.body.now (goes_by c.args.self.now)) _ _ c.in_ok-place.ensures _
-    (c.in_ok-bind_entry.ensures r.0 r.1 _) _ _ c.in_ok-statement.ensures _ (sym c.turn_over.ensures ∙ c.in-Out.is)))
+    (at_once (c.in_ok-bind_entry.ensures r.0 r.1)) _ _ c.in_ok-statement.ensures _ (sym c.turn_over.ensures ∙ c.in-Out.is)))
 
 pub each-loop-at-preserved : goal.each-loop-at-preserved
 each-loop-at-preserved g t c =
     λ x u e. let r = front-at c.in-Array.array.pairs c.loop-at.at (omega (arith, c.len-at-end.ensures.len)) in c.loop-at.invariant x u (rw r.2
     (each-goes-on _ c.args.line c.args.binding.now r.0 _ (statement_run c.args.body.now (goes_by c.args.self.now)) _ _ c.in_ok-place.ensures _
-    (c.in_ok-bind_entry.ensures r.0 r.1 _) _ _ c.in_ok-statement.ensures (sym c.turn_over.ensures ∙ c.in-On.is) x u (rw add-one at e)))
+    (at_once (c.in_ok-bind_entry.ensures r.0 r.1)) _ _ c.in_ok-statement.ensures (sym c.turn_over.ensures ∙ c.in-On.is) x u (rw add-one at e)))
 
 pub each-returns : goal.each-returns
 each-returns g t c =

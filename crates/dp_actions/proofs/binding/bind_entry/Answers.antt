@@ -1,0 +1,14 @@
+use Rattle.dp_actions.proofs.Acting.{exits}
+use Rattle.dp_actions.proofs.Tails.{bind-breaks-off, bind-goes-on, entry-is}
+use Rattle.dp_actions.proofs.binding.bind_entry.Goals as goal
+
+pub returns-in_err-bind_value-in-Some : goal.returns-in_err-bind_value-in-Some
+returns-in_err-bind_value-in-Some c = λ entry found.
+    let same = entry-is _ _ _ _ _ c.pair.ensures c.in-Some.is found in
+    exits _ _ c.from_residual.ensures.1
+    (bind-breaks-off c.args.binding.now _ _ entry same c.args.state.now _ _ c.in_err-bind_value-in-Some.ensures)
+
+pub returns-in_ok-bind_value-in-Some : goal.returns-in_ok-bind_value-in-Some
+returns-in_ok-bind_value-in-Some c = λ entry found.
+    let same = entry-is _ _ _ _ _ c.pair.ensures c.in-Some.is found in
+    bind-goes-on c.args.binding.now _ _ entry same c.args.state.now _ _ _ c.in_ok-bind_value-in-Some.ensures c.bind_key.ensures

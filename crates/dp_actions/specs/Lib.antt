@@ -1,0 +1,10 @@
+pub mod Run
+pub mod Setting
+pub mod AtOnce
+pub mod Values
+pub mod InPlace
+pub mod Places
+pub mod Calls
+pub mod Bodies
+pub mod Loops
+pub mod Effects

@@ -1,0 +1,95 @@
+//! What is made of the old value of a place.
+
+#![tactic(auto, using(crate::proofs::Acting::acting))]
+
+ghost use Rattle.std.specs.Prelude.{◌≡◌};
+ghost use Rattle.dp_actions.specs.AtOnce.{AtOnce};
+ghost use Rattle.dp_actions.specs.Places.{combined, step_from as from_old, step_under, step_written, stepped};
+
+use crate::answers::value_of;
+use crate::halt::Halt;
+use crate::places::{assign_place, read_place};
+use dp_operations::{binary, unary};
+use dp_state::State;
+use dp_tree::Order;
+use dp_value::{BinaryOp, Bytes, UnaryOp, Value};
+use std::alloc::Global;
+
+/// Writes what an operator makes of an old value and another one.
+pub fn combine(
+    alloc: Global,
+    op: BinaryOp,
+    name: &Bytes,
+    indices: &[Value],
+    old: &Value,
+    value: &Value,
+    state: &mut State,
+) -> Result<Value, Halt>
+    ensures { AtOnce (combined op name.now indices.now old.now value.now state.old) result state.new }
+{
+    let new = value_of(binary(alloc, op, old, value), state)?;
+    assign_place(alloc, name, indices, false, new, state)
+}
+
+/// `++` and `--`
+pub fn step_place(
+    alloc: Global,
+    op: UnaryOp,
+    order: Order,
+    name: &Bytes,
+    indices: &[Value],
+    state: &mut State,
+) -> Result<Value, Halt>
+    ensures { AtOnce (step_under op order name.now indices.now state.old) result state.new }
+{
+    let old = read_place(alloc, name, indices, state)?;
+    step_from(alloc, op, order, name, indices, old, state)
+}
+
+/// A `++` or `--` of an old value.
+fn step_from(
+    alloc: Global,
+    op: UnaryOp,
+    order: Order,
+    name: &Bytes,
+    indices: &[Value],
+    old: Value,
+    state: &mut State,
+) -> Result<Value, Halt>
+    ensures { AtOnce (from_old op order name.now indices.now old state.old) result state.new }
+{
+    let new = value_of(unary(op, &old), state)?;
+    write_step(alloc, order, name, indices, old, new, state)
+}
+
+/// Writes the new value of a `++` or `--`.
+fn write_step(
+    alloc: Global,
+    order: Order,
+    name: &Bytes,
+    indices: &[Value],
+    old: Value,
+    new: Value,
+    state: &mut State,
+) -> Result<Value, Halt>
+    ensures { AtOnce (step_written order name.now indices.now old new state.old) result state.new }
+{
+    let new = assign_place(alloc, name, indices, false, new, state)?;
+    Ok(ordered(order, old, new))
+}
+
+/// The value of a `++` or `--`.
+fn ordered(order: Order, old: Value, new: Value) -> Value
+    ensures { result ≡ stepped order old new }
+{
+    match order {
+        Order::StepFirst => {
+            drop(old);
+            new
+        }
+        Order::ValueFirst => {
+            drop(new);
+            old
+        }
+    }
+}

@@ -1,0 +1,34 @@
+//! What is done once operands are evaluated: values, places, bindings and frames, and what they leave of a run.
+#![tactic(auto)]
+
+mod answers;
+mod binding;
+mod callees;
+mod changes;
+mod entering;
+mod faults;
+mod halt;
+mod in_place;
+mod items;
+mod operands;
+mod places;
+mod signal;
+mod turning;
+
+pub use answers::{builtin_value, exit_value, is_missing, print_value, value_of};
+pub use binding::{bind_all, bind_entry};
+pub use callees::{Callee, look_up};
+pub use changes::{combine, step_place};
+pub use entering::{enter_call, enter_file, file_named_by, not_included, returned, statements_of};
+pub use faults::{fatal, fault, settled};
+pub use halt::Halt;
+pub use in_place::{
+    Entry, Reading, builtin_in_place, entry_in_place, entry_of, look, only_variable,
+};
+pub use items::{pushed, put};
+pub use operands::{kept, present, renewed, text_value, variable_value};
+pub use places::{
+    assign_place, assign_variable, found_place, key_at, read_place, unset_place, variable,
+};
+pub use signal::Signal;
+pub use turning::{Turn, last_holds, turn_over};

@@ -1,0 +1,145 @@
+//! What is done with places whose indices are evaluated.
+
+ghost use Rattle.std.specs.Prelude.{◌≡◌, IfOk};
+ghost use Rattle.dp_value.specs.KeyOf.{key_of_data};
+ghost use Rattle.dp_value.specs.Value.{data_of};
+ghost use Rattle.dp_state.specs.Places.{assigned, keys_of_indices, unset};
+ghost use Rattle.dp_actions.specs.AtOnce.{AtOnce};
+ghost use Rattle.dp_actions.specs.Places.{keyed_write, assign_run, found_run, read_run, variable as value_named};
+ghost use Rattle.dp_actions.specs.Loops.{bind_name};
+ghost use Rattle.dp_actions.specs.Run.{taken};
+
+use crate::answers::value_of;
+use crate::faults::settled;
+use crate::halt::Halt;
+use dp_operations::{find_by, index_by};
+use dp_state::State;
+use dp_value::{Bytes, Key, Memory, Value, ValueError, key_of};
+use std::alloc::Global;
+
+/// The value of a variable of the top frame, null where it is missing.
+pub fn variable(name: &Bytes, state: &State) -> Result<Value, Memory>
+    ensures { IfOk result (λ value. value ≡ value_named name.now state.now) }
+{
+    match state.read(name) {
+        Some(value) => value.try_clone(),
+        None => Ok(Value::Null),
+    }
+}
+
+/// The value of a place.
+pub fn read_place(
+    alloc: Global,
+    name: &Bytes,
+    indices: &[Value],
+    state: &State,
+) -> Result<Value, Halt>
+    ensures { AtOnce (read_run name.now indices.now state.now) result state.now }
+{
+    match state.read(name) {
+        Some(value) => value_of(index_by(alloc, value, indices), state),
+        None => value_of(index_by(alloc, &Value::Null, indices), state),
+    }
+}
+
+/// The value of a place as isset finds it.
+pub fn found_place(
+    alloc: Global,
+    name: &Bytes,
+    indices: &[Value],
+    state: &State,
+) -> Result<Value, Halt>
+    ensures { AtOnce (found_run name.now indices.now state.now) result state.now }
+{
+    match state.read(name) {
+        Some(value) => value_of(find_by(alloc, value, indices), state),
+        None => value_of(find_by(alloc, &Value::Null, indices), state),
+    }
+}
+
+/// Writes a value, or one more entry, and gives the value.
+pub fn assign_place(
+    alloc: Global,
+    name: &Bytes,
+    indices: &[Value],
+    push: bool,
+    value: Value,
+    state: &mut State,
+) -> Result<Value, Halt>
+    ensures { AtOnce (assign_run name.now indices.now push value state.old) result state.new }
+{
+    let keys = keys_of(alloc, indices)?;
+    assign_keyed(name, keys.as_slice(), push, value, state)
+}
+
+/// The same under keys.
+fn assign_keyed(
+    name: &Bytes,
+    keys: &[Option<Key>],
+    push: bool,
+    value: Value,
+    state: &mut State,
+) -> Result<Value, Halt>
+    ensures { AtOnce (keyed_write name.now keys.now push value state.old) result state.new }
+{
+    let copy = value.try_clone()?;
+    write_keyed(name, keys, push, value, state)?;
+    Ok(copy)
+}
+
+/// Writes a value under keys.
+fn write_keyed(
+    name: &Bytes,
+    keys: &[Option<Key>],
+    push: bool,
+    value: Value,
+    state: &mut State,
+) -> Result<(), Halt>
+    ensures { AtOnce (taken (assigned 0 name.now keys.now push value state.old) state.old) result state.new }
+{
+    let step = state.assign(0, name, keys, push, value);
+    settled(step, state)
+}
+
+/// Gives a variable a value.
+pub fn assign_variable(name: &Bytes, value: Value, state: &mut State) -> Result<(), Halt>
+    ensures { AtOnce (bind_name name.now value state.old) result state.new }
+{
+    write_keyed(name, &[], false, value, state)
+}
+
+/// Takes a variable, or an entry of it, away.
+pub fn unset_place(
+    alloc: Global,
+    name: &Bytes,
+    indices: &[Value],
+    state: &mut State,
+) -> Result<(), Halt>
+    ensures { AtOnce (taken (unset name.now (keys_of_indices indices.now) state.old) state.old) result state.new }
+{
+    let keys = keys_of(alloc, indices)?;
+    let step = state.unset(name, keys.as_slice());
+    settled(step, state)
+}
+
+/// The keys that indices become. One that is an array becomes none.
+fn keys_of(alloc: Global, indices: &[Value]) -> Result<Vec<Option<Key>>, Memory>
+    ensures { IfOk result (λ keys. keys.items ≡ keys_of_indices indices.now) }
+{
+    let mut keys = Vec::with_capacity(alloc, indices.len())?;
+    for index in indices {
+        keys.push(key_at(alloc, index)?)?;
+    }
+    Ok(keys)
+}
+
+/// The key that an index becomes.
+pub fn key_at(alloc: Global, index: &Value) -> Result<Option<Key>, Memory>
+    ensures { IfOk result (λ key. key ≡ key_of_data (data_of index.now)) }
+{
+    match key_of(alloc, index) {
+        Ok(key) => Ok(Some(key)),
+        Err(ValueError::BadKey) => Ok(None),
+        Err(_) => Err(Memory),
+    }
+}

@@ -1,6 +1,0 @@
-use Rattle.std.proofs.Common.{◌≡◌, drop}
-use Rattle.dp_meaning.specs.Statements.{with_globals}
-use Rattle.dp_meaning.proofs.binding.bind_all.Given as goal
-
-abbrev pub invariant-loop-name : goal.invariant-loop-name
-invariant-loop-name l = with_globals l.names l.fn.state ≡ with_globals (drop l.name-index l.names) l.state

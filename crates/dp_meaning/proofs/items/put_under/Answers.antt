@@ -1,5 +1,0 @@
-use Rattle.dp_meaning.proofs.Tails.{write-ok}
-use Rattle.dp_meaning.proofs.items.put_under.Goals as goal
-
-pub returns-in-Ok : goal.returns-in-Ok
-returns-in-Ok c = λ rules. write-ok rules _ _ _ (rw c.from_ref.ensures.value at c.in-Ok.ensures.ok)

@@ -1,8 +1,0 @@
-use Rattle.dp_meaning.proofs.Drives.{breaks_off, exits, gives, goes_on}
-use Rattle.dp_meaning.proofs.places.assign_keyed.Goals as goal
-
-pub returns-in_err-write_keyed : goal.returns-in_err-write_keyed
-returns-in_err-write_keyed c = λ rules. exits _ _ c.from_residual-in_err-write_keyed.ensures.1 (breaks_off _ (c.in_err-write_keyed.ensures rules))
-
-pub returns : goal.returns
-returns c = λ rules. goes_on _ (c.in_ok-write_keyed.ensures rules) (rw c.in_ok-copy.ensures gives)
