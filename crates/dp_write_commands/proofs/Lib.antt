@@ -1,0 +1,4 @@
+pub mod Sizes
+pub mod Making
+pub mod Asking
+pub mod Sent

@@ -1,0 +1,4 @@
+pub mod Asked
+pub mod Writing
+pub mod Answers
+pub mod inner
