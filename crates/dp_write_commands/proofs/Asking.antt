@@ -25,6 +25,7 @@ use Rattle.dp_view.specs.declared.error.ViewError.TheVariants.{Code, Memory}
 use Rattle.dp_view.specs.Answers.{AnswersAfter, and_then}
 use Rattle.dp_view.specs.Named.{named_path}
 use Rattle.dp_wire.specs.Frames.{command_limit}
+use Rattle.dp_write_commands.specs.declared.writing.Written.{Written}
 use Rattle.dp_write_commands.specs.Answers.{Answers, refusal_at_once}
 use Rattle.dp_write_commands.specs.Asked.{path_asked, tree_of, value_asked, write_asked, write_at}
 use Rattle.dp_write_commands.specs.Writing.{code_in, responding, write_response}
@@ -44,19 +45,19 @@ pub missing_after : {A B : Type 0} (f : A → Result B ℕ) (first : Result A �
 missing_after f first (Code code) h = ap (and_then f) h
 missing_after f first Memory h = h
 
-abbrev refused : {C : Type 0} → ViewError → Result C ViewError
-refused why = Err why
-
 -- what comes first has no code where something was found
 pub found_at_once : {A B : Type 0} (f : A → Result B ℕ) (first : Result A ℕ) (b : B) (P : ℕ → Type 0) → and_then f first ≡ Ok b → IfSome (code_in first) P
 found_at_once f (Ok a) b P e = tt
 found_at_once f (Err code) b P e = absurd cc
 
 -- and its code is told
-pub told_at_once : {A B C : Type 0} (f : A → Result B ℕ) (first : Result A ℕ) (why : ViewError) → AnswersAfter {X = B} (λ b. b) (Err why) first (and_then f first)
-    → IfSome (code_in first) (λ code. refused {C = C} why ≡ Err (Code code))
+abbrev pub refused : ViewError → Result Written ViewError
+refused why = Err why
+
+pub told_at_once : {A B : Type 0} (f : A → Result B ℕ) (first : Result A ℕ) (why : ViewError) → AnswersAfter {X = B} (λ b. b) (Err why) first (and_then f first)
+    → IfSome (code_in first) (λ code. refused why ≡ Err (Code code))
 told_at_once f (Ok a) why h = tt
-told_at_once f (Err code) (Code other) h = let same : code ≡ other = cc in ap (λ k. Err (Code k)) (sym same)
+told_at_once f (Err code) (Code other) h = let same : code ≡ other = cc in ap (λ k. refused (Code k)) (sym same)
 told_at_once f (Err code) Memory h = absurd cc
 
 -- ---- the tree of a text

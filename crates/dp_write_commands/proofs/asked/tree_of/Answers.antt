@@ -10,5 +10,5 @@ pub returns-in-Err : goal.returns-in-Err
 returns-in-Err c =
     subst (λ e. IsTree c.args.text.now (Err e)) (sym c.no_expression.ensures) (why_none c.args.text.now (omega arith) c.in-Err.why c.in-Err.ensures.told)
 
-pub returns-then-len-gt-COMMAND_LIMIT : goal.returns-then-len-gt-COMMAND_LIMIT
-returns-then-len-gt-COMMAND_LIMIT c = too_long c.args.text.now (omega arith)
+pub returns-then-text-gt-COMMAND_LIMIT : goal.returns-then-text-gt-COMMAND_LIMIT
+returns-then-text-gt-COMMAND_LIMIT c = too_long c.args.text.now (omega arith)

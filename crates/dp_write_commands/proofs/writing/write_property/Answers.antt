@@ -1,7 +1,18 @@
-use Rattle.std.proofs.Common.{sym}
-use Rattle.dp_write_commands.proofs.Asking.{unvalued}
+use Rattle.std.proofs.Common.{◌≡◌, refl, sym}
+use Rattle.std.specs.Prelude.{Err}
+use Rattle.dp_view.specs.declared.error.ViewError.TheVariants.{Code}
+use Rattle.dp_write_commands.specs.inner.Making.{value_of_given}
+use Rattle.dp_write_commands.proofs.Asking.{refused, unvalued, unvalued_at_once, valued_at_once}
 use Rattle.dp_write_commands.proofs.writing.write_property.Goals as goal
 
-pub returns-in-None : goal.returns-in-None
-returns-in-None c =
+pub returns-in-Some-clause-at_once : goal.returns-in-Some-clause-at_once
+returns-in-Some-clause-at_once c =
+    let set = c.args.set.now in
+    valued_at_once c.args.state.now set (value_of_given set.value c.in-Some.given) (λ code. c.place_property.result ≡ Err (Code code)) (sym c.in-Some.ensures) c.place_property.ensures.at_once
+
+pub returns-in-None-clause-answer : goal.returns-in-None-clause-answer
+returns-in-None-clause-answer c =
     unvalued c.args.bundle.now c.args.features.now c.args.state.now c.args.to.now.command c.args.to.now.id c.args.set.now (sym c.in-None.ensures)
+
+pub returns-in-None-clause-at_once : goal.returns-in-None-clause-at_once
+returns-in-None-clause-at_once c = unvalued_at_once c.args.state.now c.args.set.now (λ code. refused (Code 3) ≡ Err (Code code)) (sym c.in-None.ensures) refl
