@@ -1,17 +1,14 @@
 -- A response is sent as a packet and tells no error, and the code of a refusal has a message.
-use Rattle.std.proofs.Common.{◌≡◌, ◌≢◌, ℕ, ◌<◌, ◌≤◌, Bool, true, false, cond, List, [], ◌∷◌, codes, Option, Some, None, nat_lt, nat_le, length, refl, subst, arith}
+use Rattle.std.proofs.Common.{◌≡◌, ℕ, ◌<◌, ◌≤◌, Bool, true, false, cond, [], ◌∷◌, codes, Option, Some, None, nat_lt, nat_le, length, refl, subst, arith}
 use Rattle.std.specs.Prelude.{ok_or, option_map, Result, Ok, Err, IfOk}
 use Rattle.std.proofs.lemmas.Bool.{leb-true}
-use Rattle.dp_command.specs.declared.command.PropertySet.{PropertySet}
 use Rattle.dp_command.specs.declared.command.PropertyPlace.{PropertyPlace}
 use Rattle.dp_command.specs.declared.command.Request.{Request}
 use Rattle.dp_command.specs.declared.command.Request.TheVariants as request
 use Rattle.dp_features.specs.Features.{Features}
-use Rattle.dp_meaning.specs.declared.writing.Write.{Write}
 use Rattle.dp_meaning.specs.declared.writing.WriteAnswer.{WriteAnswer}
 use Rattle.dp_meaning.specs.declared.writing.WriteAnswer.TheVariants as answer
 use Rattle.dp_meaning.specs.Writes.{answer_in, evaluation_setting}
-use Rattle.dp_packet.specs.declared.packet.Body.{Body}
 use Rattle.dp_packet.specs.declared.packet.Body.TheVariants as body
 use Rattle.dp_packet.specs.declared.packet.Packet.TheVariants as packet
 use Rattle.dp_packet.specs.declared.packet.Response.{Response}
@@ -32,7 +29,7 @@ use Rattle.dp_view.specs.Reading.{path_at}
 use Rattle.dp_wire.specs.Frames.{packet_limit}
 use Rattle.dp_write_commands.specs.declared.writing.Written.{Written}
 use Rattle.dp_write_commands.specs.Answers.{Answers, HasKnownCode, IsSent}
-use Rattle.dp_write_commands.specs.Asked.{evaluation_write, is_reserved, path_asked, property_write, tree_of, unreserved, value_asked, write_asked}
+use Rattle.dp_write_commands.specs.Asked.{is_reserved, path_asked, tree_of, unreserved, value_asked, write_asked}
 use Rattle.dp_write_commands.specs.Writing.{responding, response_to, success, value_response, within_limit, write_response}
 
 -- ---- a value of which something holds, or a code that has a message

@@ -1,7 +1,7 @@
 -- The write that property_set or eval asks for, or why it is none: DBGp 1.0, "property_set",
 -- "eval". Which types there are, how their values are spelled, and the order of the codes are this
 -- engine's own.
-use Rattle.std.specs.Prelude.{ℕ, ◌==◌, ◌||◌, nat_le, Bool, true, false, if◌then◌else◌, List, [], ◌∷◌, length, codes, Option, Some, None, ok_or, option_map, Result, Ok, Err}
+use Rattle.std.specs.Prelude.{ℕ, ◌==◌, ◌||◌, nat_le, Bool, true, false, if◌then◌else◌, List, length, codes, Option, Some, None, ok_or, option_map, Result, Ok, Err}
 use Rattle.std.specs.Option.{option_map_or}
 use Rattle.std.specs.Str.{bytes_eq}
 use Rattle.dp_command.specs.declared.command.PropertyPlace.{PropertyPlace}
