@@ -44,7 +44,8 @@ Holds P (Err code) = IsKnown code
 abbrev Any : {A : Type 0} → A → Type 0
 Any a = Unit {0}
 
-then_holds : {A B : Type 0} (Q : B → Type 0) (f : A → Result B ℕ) (r : Result A ℕ) → Holds Any r → ((a : A) → Holds Q (f a)) → Holds Q (and_then f r)
+then_holds : {A B : Type 0} (Q : B → Type 0) (f : A → Result B ℕ) (r : Result A ℕ) → Holds Any r
+    → ((a : A) → Holds Q (f a)) → Holds Q (and_then f r)
 then_holds Q f (Ok a) p q = q a
 then_holds Q f (Err code) p q = p
 
@@ -60,22 +61,27 @@ if_holds P false x y p q = q
 
 variables_hold : (s : State) (level id : ℕ) → Holds Any (shown_variables s level id)
 variables_hold s level id =
-    if_holds Any (nat_lt level (length s.frames)) (ok_or (variables_of s level id) 302) (Err 301) (or_holds (variables_of s level id) 302 (refl, omega arith)) (refl, omega arith)
+    if_holds Any (nat_lt level (length s.frames)) (ok_or (variables_of s level id) 302) (Err 301)
+    (or_holds (variables_of s level id) 302 (refl, omega arith)) (refl, omega arith)
 
 named_holds : (s : State) (level id : ℕ) (name : Text) → Holds Any (named_path s level id name)
-named_holds s level id name = then_holds Any _ (shown_variables s level id) (variables_hold s level id) (λ variables. or_holds (path_at name) 300 (refl, omega arith))
+named_holds s level id name =
+    then_holds Any _ (shown_variables s level id) (variables_hold s level id)
+    (λ variables. or_holds (path_at name) 300 (refl, omega arith))
 
 unreserved_holds : (path : Path) → Holds Any (unreserved path)
 unreserved_holds path = if_holds Any (is_reserved path.name) (Err 300) (Ok path) (refl, omega arith) tt
 
 path_holds : (s : State) (place : PropertyPlace) → Holds Any (path_asked s place)
 path_holds s place =
-    then_holds Any unreserved (named_path s place.level place.context place.name) (named_holds s place.level place.context place.name) unreserved_holds
+    then_holds Any unreserved (named_path s place.level place.context place.name)
+    (named_holds s place.level place.context place.name) unreserved_holds
 
 asked_holds : (s : State) (asked : Request) → Holds Any (write_asked s asked)
 unfolding write_asked
 asked_holds s (request.PropertySet set) =
-    then_holds Any _ (ok_or (value_asked set) 3) (or_holds (value_asked set) 3 (refl, omega arith)) (λ value. then_holds Any _ (path_asked s set.place) (path_holds s set.place) (λ path. tt))
+    then_holds Any _ (ok_or (value_asked set) 3) (or_holds (value_asked set) 3 (refl, omega arith))
+    (λ value. then_holds Any _ (path_asked s set.place) (path_holds s set.place) (λ path. tt))
 asked_holds s (request.Eval text) = or_holds (option_map _ (tree_of text)) 206 (refl, omega arith)
 asked_holds s request.Status = (refl, omega arith)
 asked_holds s (request.FeatureGet name) = (refl, omega arith)
@@ -105,13 +111,21 @@ module _ (command id : Text) (p : length command ≤ 64) (q : length id ≤ 64) 
     no_error = λ code e. cc;
   }
 
-  value_holds : (features : Features) (value : Value) → Holds IsSent (within_limit (value_response features command id value))
+  value_holds : (features : Features) (value : Value)
+      → Holds IsSent (within_limit (value_response features command id value))
   value_holds features value = by (nat_le (length (text (packet.Response r))) packet_limit) refl where
     r : Response
     r = value_response features command id value
 
-    by : (b : Bool) → nat_le (length (text (packet.Response r))) packet_limit ≡ b → Holds IsSent (cond b (Ok r) (Err 206))
-    by true t = record { known = refl; short = leb-true (length (text (packet.Response r))) packet_limit t; no_error = λ code e. cc }
+    by : (b : Bool) → nat_le (length (text (packet.Response r))) packet_limit ≡ b
+        → Holds IsSent (cond b (Ok r) (Err 206))
+    by true t =
+        record {
+          known = refl;
+          short = leb-true (length (text (packet.Response r))) packet_limit t;
+          no_error = λ code e.
+              cc;
+        }
     by false t = (refl, omega arith)
 
   answer_holds : (features : Features) (a : WriteAnswer) → Holds IsSent (response_to features command id a)
@@ -121,24 +135,30 @@ module _ (command id : Text) (p : length command ≤ 64) (q : length id ≤ 64) 
   answer_holds features answer.NoFrame = (refl, omega arith)
   answer_holds features answer.NoPlace = (refl, omega arith)
 
-  response_holds : (bundle : Bundle) (features : Features) (s : State) (asked : Request) → Holds IsSent (write_response bundle features s command id asked)
+  response_holds : (bundle : Bundle) (features : Features) (s : State) (asked : Request)
+      → Holds IsSent (write_response bundle features s command id asked)
   unfolding write_response
   response_holds bundle features s asked =
-      then_holds IsSent (responding bundle features s command id) (write_asked s asked) (asked_holds s asked) (λ w. answer_holds features (answer_in (evaluation_setting bundle) w s))
+      then_holds IsSent (responding bundle features s command id) (write_asked s asked) (asked_holds s asked)
+      (λ w. answer_holds features (answer_in (evaluation_setting bundle) w s))
 
-module _ (bundle : Bundle) (features : Features) (s : State) (command id : Text) (asked : Request) (p : length command ≤ 64) (q : length id ≤ 64) where
+module _ (bundle : Bundle) (features : Features) (s : State) (command id : Text) (asked : Request)
+    (p : length command ≤ 64) (q : length id ≤ 64) where
   pub sent : (r : Response) → write_response bundle features s command id asked ≡ Ok r → IsSent r
   sent r e = subst (Holds IsSent) e (response_holds command id p q bundle features s asked)
 
-  pub code : (k : ℕ) → write_response bundle features s command id asked ≡ Err k → (is_some_text (message_of k) ≡ true) × (k < 1000)
+  pub code : (k : ℕ) → write_response bundle features s command id asked ≡ Err k
+      → (is_some_text (message_of k) ≡ true) × (k < 1000)
   code k e = subst (Holds IsSent) e (response_holds command id p q bundle features s asked)
 
   -- what a call answers
-  pub answer_sent : (after : State) (result : Result Written ViewError) → Answers bundle features s after command id asked result → IfOk result (λ made. IsSent made.response)
+  pub answer_sent : (after : State) (result : Result Written ViewError)
+      → Answers bundle features s after command id asked result → IfOk result (λ made. IsSent made.response)
   answer_sent after (Ok made) is = sent made.response is.response
   answer_sent after (Err why) is = tt
 
-  pub answer_known : (after : State) (result : Result Written ViewError) → Answers bundle features s after command id asked result → HasKnownCode result
+  pub answer_known : (after : State) (result : Result Written ViewError)
+      → Answers bundle features s after command id asked result → HasKnownCode result
   answer_known after (Ok made) is = tt
   answer_known after (Err (Code k)) is = code k is.0
   answer_known after (Err Memory) is = tt

@@ -30,23 +30,48 @@ use Rattle.dp_write_commands.specs.inner.Making.{Finds, Gives, around}
 
 -- ---- sizes
 
-pub attribute_short : (name value : Text) (most : ℕ) → length value ≤ most → length (attribute_text (name, value)) ≤ 4 + length name + 6 * most
-attribute_short name value most short = omega (arith, attribute_length name value, pieces_short 6 escaped escaped_short value, short)
+pub attribute_short : (name value : Text) (most : ℕ) → length value ≤ most
+    → length (attribute_text (name, value)) ≤ 4 + length name + 6 * most
+attribute_short name value most short =
+    omega (arith, attribute_length name value, pieces_short 6 escaped escaped_short value, short)
 
 whole_is : (command id : Text) (b : Body)
-    → length (text (packet.Response (success command id b))) ≡ 110 + attribute_size (codes "command", command) + attribute_size (codes "transaction_id", id) + length (nodes_text (body_nodes b))
+    → length (text (packet.Response (success command id b))) ≡ 110 + attribute_size
+    (codes "command", command) + attribute_size (codes "transaction_id", id) + length (nodes_text (body_nodes b))
 whole_is command id b =
-    let r : Response = success command id b in omega (arith, packet_length (packet.Response r), written_length (response_element r))
+    let r : Response = success command id b in omega (
+      arith,
+      packet_length (packet.Response r),
+      written_length
+          (response_element r),
+    )
 
 pub around_is : (command id : Text)
-    → around command id ≡ 110 + length (attribute_text (codes "command", command)) + length (attribute_text (codes "transaction_id", id))
+    → around command id ≡ 110 + length (attribute_text (codes "command", command)) + length
+    (attribute_text (codes "transaction_id", id))
 unfolding around
-around_is command id = omega (arith, whole_is command id (body.Properties []), attribute_length (codes "command") command, attribute_length (codes "transaction_id") id)
+around_is command id =
+    omega (
+      arith,
+      whole_is command id (body.Properties []),
+      attribute_length (codes "command") command,
+      attribute_length
+          (codes "transaction_id") id,
+    )
 
 -- with a property
-filled_is : (command id : Text) (q : Property) → length (text (packet.Response (success command id (body.Properties (q ∷ []))))) ≡ around command id + property_size q
+filled_is : (command id : Text) (q : Property)
+    → length (text (packet.Response (success command id (body.Properties (q ∷ []))))) ≡ around command id +
+    property_size q
 unfolding around
-filled_is command id q = omega (arith, whole_is command id (body.Properties (q ∷ [])), whole_is command id (body.Properties []), alone_length (property_node q))
+filled_is command id q =
+    omega (
+      arith,
+      whole_is command id (body.Properties (q ∷ [])),
+      whole_is command id (body.Properties []),
+      alone_length
+          (property_node q),
+    )
 
 -- ---- limits
 
@@ -63,7 +88,8 @@ passes r high =
     let no : nat_le (length (text (packet.Response r))) packet_limit ≡ false = grind (arith, nat_tests) in
     ap (λ (b : Bool). cond b (ok_of r) (Err 206)) no
 
-module _ (features : Features) (command id : Text) (value : Value) (room : ℕ) (whole : room + around command id ≡ packet_limit) where
+module _ (features : Features) (command id : Text) (value : Value) (room : ℕ)
+    (whole : room + around command id ≡ packet_limit) where
   abbrev made : Property
   made = shown (paging features) (data_of value)
 
@@ -71,23 +97,30 @@ module _ (features : Features) (command id : Text) (value : Value) (room : ℕ) 
   filled q = success command id (body.Properties (q ∷ []))
 
   -- what is refused for want of room is refused
-  pub refused_is : (code : ℕ) → limited_shown (data_of value) (paging features) room ≡ Err code → Finds {A = Response} (Err (Code 206)) (within_limit (value_response features command id value))
+  pub refused_is : (code : ℕ) → limited_shown (data_of value) (paging features) room ≡ Err code
+      → Finds {A = Response} (Err (Code 206)) (within_limit (value_response features command id value))
   refused_is code e = by (nat_le (property_size made) room) refl e where
-    by : (b : Bool) → nat_le (property_size made) room ≡ b → cond b (ok_of made) (Err 300) ≡ Err code → within_limit (value_response features command id value) ≡ Err 206
+    by : (b : Bool) → nat_le (property_size made) room ≡ b → cond b (ok_of made) (Err 300) ≡ Err code
+        → within_limit (value_response features command id value) ≡ Err 206
     by true t h = absurd cc
     by false t h =
         let long = leb-false (property_size made) room t in
         passes (filled made) (omega (arith, long, whole, filled_is command id made))
 
   -- and what there is room for is shown
-  pub shown_is : (q : Property) (result : Result Response ViewError) → limited_shown (data_of value) (paging features) room ≡ Ok q → Gives (filled q) result
+  pub shown_is : (q : Property) (result : Result Response ViewError)
+      → limited_shown (data_of value) (paging features) room ≡ Ok q → Gives (filled q) result
       → Finds result (within_limit (value_response features command id value))
   shown_is q result e gives = by (nat_le (property_size made) room) refl e where
-    told : (r : Result Response ViewError) → made ≡ q → property_size made ≤ room → Gives (filled q) r → Finds r (within_limit (filled made))
-    told (Ok r) same short is = fits (filled made) (omega (arith, short, whole, filled_is command id made)) ∙ ap (λ (q : Property). ok_of (filled q)) same ∙ ap (λ (r : Response). ok_of r) (sym is)
+    told : (r : Result Response ViewError) → made ≡ q → property_size made ≤ room → Gives (filled q) r
+        → Finds r (within_limit (filled made))
+    told (Ok r) same short is =
+        fits (filled made) (omega (arith, short, whole, filled_is command id made)) ∙ ap
+        (λ (q : Property). ok_of (filled q)) same ∙ ap (λ (r : Response). ok_of r) (sym is)
     told (Err (Code code)) same short is = absurd is
     told (Err Memory) same short is = tt
 
-    by : (b : Bool) → nat_le (property_size made) room ≡ b → cond b (ok_of made) (Err 300) ≡ Ok q → Finds result (within_limit (value_response features command id value))
+    by : (b : Bool) → nat_le (property_size made) room ≡ b → cond b (ok_of made) (Err 300) ≡ Ok q
+        → Finds result (within_limit (value_response features command id value))
     by true t h = let same : made ≡ q = cc in told result same (leb-true (property_size made) room t) gives
     by false t h = absurd cc

@@ -1,5 +1,5 @@
--- What the call of a command that writes answers: what was written and how that is told, or the code
--- of a refusal; or memory runs out.
+-- What the call of a command that writes answers: what was written and how that is told, or the
+-- code of a refusal; or memory runs out.
 use Rattle.std.specs.Prelude.{◌≡◌, ◌≢◌, ℕ, ◌<◌, ◌≤◌, true, length, Option, None, ok_or, Result, Ok, Err, ⊤}
 use Rattle.dp_command.specs.declared.command.Request.{Request}
 use Rattle.dp_command.specs.declared.command.Request.TheVariants as request
@@ -24,8 +24,8 @@ use Rattle.dp_write_commands.specs.Asked.{value_asked, write_asked}
 use Rattle.dp_write_commands.specs.Writing.{code_in, write_response}
 
 -- the write that was asked for was made in the state, and its response is told
-pub record IsWritten (bundle : Bundle) (features : Features) (before after : State) (command id : Text)
-    (asked : Request) (made : Written) : Type 0 where
+pub record IsWritten (bundle : Bundle) (features : Features) (before after : State)
+    (command id : Text) (asked : Request) (made : Written) : Type 0 where
   pub write : write_asked before asked ≡ Ok made.write
   pub response : write_response bundle features before command id asked ≡ Ok made.response
   pub state : after ≡ one_write (evaluation_setting bundle) made.write before

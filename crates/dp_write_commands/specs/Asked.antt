@@ -77,7 +77,8 @@ write_at place value path = write.Place place.level place.context path value
 -- the write of a property: 3 where there is no such value, then the codes of its path
 abbrev pub property_write : State → PropertySet → Result Write ℕ
 property_write s set =
-    and_then (λ value. and_then (λ path. Ok (write_at set.place value path)) (path_asked s set.place))
+    and_then
+    (λ value. and_then (λ path. Ok (write_at set.place value path)) (path_asked s set.place))
     (ok_or (value_asked set) 3)
 
 -- the tree of a text that is an expression; no command has one that is longer

@@ -51,8 +51,8 @@ value_response features command id value =
 abbrev pub within_limit : Response → Result Response ℕ
 within_limit r = if nat_le (length (text (packet.Response r))) packet_limit then Ok r else Err 206
 
--- what is answered to a write that does so: 301 where it has no frame, 300 where it has no place, 206
--- where an evaluation does not hold or its value is too long for a packet
+-- what is answered to a write that does so: 301 where it has no frame, 300 where it has no place,
+-- 206 where an evaluation does not hold or its value is too long for a packet
 abbrev pub response_to : Features → Text → Text → WriteAnswer → Result Response ℕ
 response_to features command id answer.Set = Ok (success command id body.Nothing)
 response_to features command id (answer.Value value) =

@@ -29,7 +29,8 @@ fn put_keyed(
     keys: &[Option<Key>],
     value: &Value,
 ) -> Result<(), ViewError>
-    ensures { Puts (place_or_fault (assigned level path.now.name keys.now false value.now state.old)) state.old state.new result }
+    ensures { Puts (place_or_fault (assigned level path.now.name keys.now false value.now state.old))
+        state.old state.new result }
 {
     let value = value.try_clone()?;
     match state.assign(level, &path.name, keys, false, value) {
@@ -47,7 +48,9 @@ fn put_at(
     path: &Path,
     value: &Value,
 ) -> Result<(), ViewError>
-    ensures { Puts (place_or_fault (assigned level path.now.name (all_given path.now.keys) false value.now state.old)) state.old state.new result }
+    ensures { Puts
+        (place_or_fault (assigned level path.now.name (all_given path.now.keys) false value.now state.old))
+        state.old state.new result }
 {
     let keys = given_keys(alloc, path.keys.as_slice())?;
     put_keyed(state, level, path, keys.as_slice(), value)

@@ -122,7 +122,8 @@ fn put_property(
 ) -> Result<Written, ViewError>
     requires value { asked_value set.now ≡ Some value }
     requires path { asked_path state.old set.now.place ≡ Ok path }
-    ensures { Answers bundle.now features.now state.old state.new to.now.command to.now.id (request.PropertySet set.now) result }
+    ensures { Answers bundle.now features.now state.old state.new to.now.command to.now.id
+        (request.PropertySet set.now) result }
 {
     let level = set.place.level;
     let context = set.place.context;
@@ -151,7 +152,8 @@ fn set_property(
 ) -> Result<Written, ViewError>
     requires given { asked_value set.now ≡ Some (value_of_given set.now.value given) }
     requires path { asked_path state.old set.now.place ≡ Ok path }
-    ensures { Answers bundle.now features.now state.old state.new to.now.command to.now.id (request.PropertySet set.now) result }
+    ensures { Answers bundle.now features.now state.old state.new to.now.command to.now.id
+        (request.PropertySet set.now) result }
 {
     match value_of(alloc, given, set.value.as_slice()) {
         Ok(value) => put_property(alloc, bundle, features, state, to, set, path, value),
@@ -170,8 +172,10 @@ fn place_property(
     given: Given,
 ) -> Result<Written, ViewError>
     requires { asked_value set.now ≡ Some (value_of_given set.now.value given) }
-    ensures answer { Answers bundle.now features.now state.old state.new to.now.command to.now.id (request.PropertySet set.now) result }
-    ensures at_once { IfSome (code_in (named_path state.old set.now.place.level set.now.place.context set.now.place.name))
+    ensures answer { Answers bundle.now features.now state.old state.new to.now.command to.now.id
+        (request.PropertySet set.now) result }
+    ensures at_once { IfSome
+        (code_in (named_path state.old set.now.place.level set.now.place.context set.now.place.name))
         (λ code. result ≡ Err (ViewError.Code code)) }
 {
     match path_asked(alloc, state, &set.place) {
@@ -189,8 +193,10 @@ fn write_property(
     to: &Addressee,
     set: &PropertySet,
 ) -> Result<Written, ViewError>
-    ensures answer { Answers bundle.now features.now state.old state.new to.now.command to.now.id (request.PropertySet set.now) result }
-    ensures at_once { IfSome (refusal_at_once state.old (request.PropertySet set.now)) (λ code. result ≡ Err (ViewError.Code code)) }
+    ensures answer { Answers bundle.now features.now state.old state.new to.now.command to.now.id
+        (request.PropertySet set.now) result }
+    ensures at_once { IfSome (refusal_at_once state.old (request.PropertySet set.now))
+        (λ code. result ≡ Err (ViewError.Code code)) }
 {
     match given_in(set) {
         Some(given) => place_property(alloc, bundle, features, state, to, set, given),
@@ -209,7 +215,8 @@ fn evaluate(
     e: Expression,
 ) -> Result<Written, ViewError>
     requires { spec_tree text.now ≡ Some e }
-    ensures { Answers bundle.now features.now state.old state.new to.now.command to.now.id (request.Eval text.now) result }
+    ensures { Answers bundle.now features.now state.old state.new to.now.command to.now.id
+        (request.Eval text.now) result }
 {
     let made = make_evaluation(alloc, bundle, features, state, to, &e);
     told(made, Write::Evaluate(e))
@@ -224,7 +231,8 @@ fn write_evaluation(
     to: &Addressee,
     text: &[u8],
 ) -> Result<Written, ViewError>
-    ensures { Answers bundle.now features.now state.old state.new to.now.command to.now.id (request.Eval text.now) result }
+    ensures { Answers bundle.now features.now state.old state.new to.now.command to.now.id
+        (request.Eval text.now) result }
 {
     match tree_of(alloc, text) {
         Ok(e) => evaluate(alloc, bundle, features, state, to, text, e),

@@ -8,7 +8,8 @@ returns-in-Ok c = tree_found c.args.text.now (omega arith) c.in-Ok.e c.in-Ok.ens
 
 pub returns-in-Err : goal.returns-in-Err
 returns-in-Err c =
-    subst (λ e. IsTree c.args.text.now (Err e)) (sym c.no_expression.ensures) (why_none c.args.text.now (omega arith) c.in-Err.why c.in-Err.ensures.told)
+    subst (λ e. IsTree c.args.text.now (Err e)) (sym c.no_expression.ensures)
+    (why_none c.args.text.now (omega arith) c.in-Err.why c.in-Err.ensures.told)
 
 pub returns-then-text-gt-COMMAND_LIMIT : goal.returns-then-text-gt-COMMAND_LIMIT
 returns-then-text-gt-COMMAND_LIMIT c = too_long c.args.text.now (omega arith)

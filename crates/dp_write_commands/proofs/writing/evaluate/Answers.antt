@@ -11,6 +11,8 @@ returns c =
     let before = c.args.state.now in
     let command = c.args.to.now.command in
     let id = c.args.to.now.id in
-    subst (Answers c.args.bundle.now c.args.features.now before c.make_evaluation-made.new.state command id (Eval text)) (sym c.told.ensures)
-    (tried c.args.bundle.now c.args.features.now before command id c.make_evaluation-made.new.state (Eval text) (Evaluate c.args.e) c.make_evaluation-made.result
+    subst (Answers c.args.bundle.now c.args.features.now before c.make_evaluation-made.new.state command id (Eval text))
+    (sym c.told.ensures)
+    (tried c.args.bundle.now c.args.features.now before command id c.make_evaluation-made.new.state (Eval text)
+    (Evaluate c.args.e) c.make_evaluation-made.result
     (evaluation_is before text c.args.e c.requires) c.make_evaluation-made.ensures)

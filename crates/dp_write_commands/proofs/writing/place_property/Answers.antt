@@ -10,7 +10,8 @@ use Rattle.dp_write_commands.proofs.writing.place_property.Goals as goal
 pub returns-in-Ok-clause-at_once : goal.returns-in-Ok-clause-at_once
 returns-in-Ok-clause-at_once c =
     let set = c.args.set.now in
-    found_at_once unreserved (named_path c.args.state.now set.place.level set.place.context set.place.name) c.in-Ok.path (λ code. c.set_property.result ≡ Err (Code code)) c.in-Ok.ensures
+    found_at_once unreserved (named_path c.args.state.now set.place.level set.place.context set.place.name) c.in-Ok.path
+    (λ code. c.set_property.result ≡ Err (Code code)) c.in-Ok.ensures
 
 pub returns-in-Err-clause-answer : goal.returns-in-Err-clause-answer
 returns-in-Err-clause-answer c =
@@ -23,4 +24,5 @@ returns-in-Err-clause-answer c =
 pub returns-in-Err-clause-at_once : goal.returns-in-Err-clause-at_once
 returns-in-Err-clause-at_once c =
     let set = c.args.set.now in
-    told_at_once unreserved (named_path c.args.state.now set.place.level set.place.context set.place.name) c.in-Err.why c.in-Err.ensures
+    told_at_once unreserved (named_path c.args.state.now set.place.level set.place.context set.place.name) c.in-Err.why
+    c.in-Err.ensures

@@ -3,4 +3,5 @@ use Rattle.dp_write_commands.proofs.writing.write_evaluation.Goals as goal
 
 pub returns-in-Err : goal.returns-in-Err
 returns-in-Err c =
-    untreed c.args.bundle.now c.args.features.now c.args.state.now c.args.to.now.command c.args.to.now.id c.args.text.now c.in-Err.why c.in-Err.ensures
+    untreed c.args.bundle.now c.args.features.now c.args.state.now c.args.to.now.command c.args.to.now.id
+    c.args.text.now c.in-Err.why c.in-Err.ensures
