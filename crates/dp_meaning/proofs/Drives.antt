@@ -55,15 +55,15 @@ module _ {A : Type 0} {rules : Rules} where
   wants_memory = record { meets = tt }
 
 -- what is done at once, by the rules of any run
-module _ {A : Type 0} {rules : Rules} where
-  meets-at_once : (run : Run A) (result : Result A Halt) (s : State) → Leaves run result s → Meets result s (drive rules run)
-  meets-at_once run (Ok a) s l = ap (drive rules) l
-  meets-at_once run (Err Memory) s l = tt
-  meets-at_once run (Err (Finished o)) s l = ap (drive rules) l
-  meets-at_once run (Err (Stopped moment)) s l = absurd l
+meets-at_once : {A : Type 0} (rules : Rules) (run : Run A) (result : Result A Halt) (s : State) → Leaves run result s
+    → Meets result s (drive rules run)
+meets-at_once rules run (Ok a) s l = ap (drive rules) l
+meets-at_once rules run (Err Memory) s l = tt
+meets-at_once rules run (Err (Finished o)) s l = ap (drive rules) l
+meets-at_once rules run (Err (Stopped moment)) s l = absurd l
 
-  pub at_once : {run : Run A} {result : Result A Halt} {s : State} → AtOnce run result s → Evaluates rules run result s
-  at_once {run} {result} {s} e = record { meets = meets-at_once run result s e.leaves }
+pub at_once : {A : Type 0} {rules : Rules} {run : Run A} {result : Result A Halt} {s : State} → AtOnce run result s → Evaluates rules run result s
+at_once {A} {rules} {run} {result} {s} e = record { meets = meets-at_once rules run result s e.leaves }
 
 -- the first part breaks off
 off : {A B : Type 0} (rules : Rules) (h : Halt) (s : State) (r : Run A) (next : A → State → Run B)
