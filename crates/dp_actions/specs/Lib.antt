@@ -1,6 +1,7 @@
 pub mod Run
 pub mod Setting
 pub mod AtOnce
+pub mod After
 pub mod Values
 pub mod InPlace
 pub mod Places

@@ -1,7 +1,9 @@
 //! What is done once operands are evaluated: values, places, bindings and frames, and what they leave of a run.
 #![tactic(auto)]
 
+mod after;
 mod answers;
+mod appending;
 mod binding;
 mod callees;
 mod changes;
@@ -15,7 +17,12 @@ mod places;
 mod signal;
 mod turning;
 
+pub use after::{
+    then_assign, then_binary, then_combine, then_entry, then_exit, then_found, then_holds,
+    then_next, then_print, then_return, then_signal, then_step, then_truth, then_unary,
+};
 pub use answers::{builtin_value, exit_value, is_missing, print_value, value_of};
+pub use appending::{then_pushed, then_put};
 pub use binding::{bind_all, bind_entry};
 pub use callees::{Callee, look_up};
 pub use changes::{combine, step_place};
@@ -28,7 +35,8 @@ pub use in_place::{
 pub use items::{pushed, put};
 pub use operands::{kept, present, renewed, text_value, variable_value};
 pub use places::{
-    assign_place, assign_variable, found_place, key_at, read_place, unset_place, variable,
+    assign_place, assign_variable, found_place, given_keys, key_at, read_place, unset_place,
+    variable,
 };
 pub use signal::Signal;
 pub use turning::{Turn, last_holds, turn_over};

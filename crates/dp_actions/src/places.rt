@@ -3,7 +3,7 @@
 ghost use Rattle.std.specs.Prelude.{◌≡◌, IfOk};
 ghost use Rattle.dp_value.specs.KeyOf.{key_of_data};
 ghost use Rattle.dp_value.specs.Value.{data_of};
-ghost use Rattle.dp_state.specs.Places.{assigned, keys_of_indices, unset};
+ghost use Rattle.dp_state.specs.Places.{assigned, given_keys as all_given, keys_of_indices, unset};
 ghost use Rattle.dp_actions.specs.AtOnce.{AtOnce};
 ghost use Rattle.dp_actions.specs.Places.{keyed_write, assign_run, found_run, read_run, variable as value_named};
 ghost use Rattle.dp_actions.specs.Loops.{bind_name};
@@ -142,4 +142,15 @@ pub fn key_at(alloc: Global, index: &Value) -> Result<Option<Key>, Memory>
         Err(ValueError::BadKey) => Ok(None),
         Err(_) => Err(Memory),
     }
+}
+
+/// Keys that are there.
+pub fn given_keys(alloc: Global, keys: &[Key]) -> Result<Vec<Option<Key>>, Memory>
+    ensures { IfOk result (λ given. given.items ≡ all_given keys.now) }
+{
+    let mut given = Vec::with_capacity(alloc, keys.len())?;
+    for key in keys {
+        given.push(Some(key.try_clone()?))?;
+    }
+    Ok(given)
 }

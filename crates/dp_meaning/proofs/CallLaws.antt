@@ -1,5 +1,5 @@
 -- Calls and included files by how many frames more can be on the stack, and names that are bound.
-use Rattle.std.proofs.Common.{◌≡◌, ℕ, zero, suc, ◌-◌, List, Result, Ok, Err, refl, sym, ap, subst, arith}
+use Rattle.std.proofs.Common.{◌≡◌, ℕ, zero, suc, ◌-◌, List, Result, refl, sym, ap, subst, arith}
 use Rattle.dp_tree.specs.declared.bundle.Bundle.{Bundle}
 use Rattle.dp_state.specs.declared.moments.FatalKind.TheVariants.{TooDeep}
 use Rattle.dp_state.specs.declared.state.State.{State}
@@ -10,7 +10,7 @@ use Rattle.dp_state.specs.Functions.{included}
 use Rattle.dp_actions.specs.declared.halt.Halt.{Halt}
 use Rattle.dp_actions.specs.declared.signal.Signal.{Signal}
 use Rattle.dp_actions.specs.declared.signal.Signal.TheVariants.{Next}
-use Rattle.dp_meaning.specs.inner.Drive.{Rules, Reached, Gives, Ends, Stops, Evaluates}
+use Rattle.dp_meaning.specs.inner.Drive.{Rules, Evaluates}
 use Rattle.dp_actions.specs.Calls.{call_run, callee}
 use Rattle.dp_meaning.specs.Expressions.{evaluations}
 use Rattle.dp_actions.specs.Loops.{do_turns, turns}
@@ -19,7 +19,6 @@ use Rattle.dp_actions.specs.Bodies.{statements_of}
 use Rattle.dp_actions.specs.Run.{Run, Done, and_then, fatal, taken}
 use Rattle.dp_actions.specs.Setting.{Part}
 use Rattle.dp_meaning.specs.Statements.{body_run, for_turns}
-use Rattle.dp_meaning.proofs.Drives.{breaks_off}
 
 module _ (bundle : Bundle) (bound depth : ℕ) where
   pub setting-bundle : (setting_of bundle bound depth).bundle ≡ bundle
@@ -98,17 +97,8 @@ module _ (bundle : Bundle) (bound depth : ℕ) where
       go zero differs = absurd (differs refl)
       go (suc depth) differs = let e : suc depth - 1 ≡ depth = omega arith in rw e refl
 
--- a step that gives nothing, as a statement
-abbrev as_next : Reached Unit → Reached Signal
-as_next (Gives a s) = Gives Next s
-as_next (Ends o s) = Ends o s
-as_next (Stops m s) = Stops m s
-
-pub then-next : {rules : Rules} {s t : State} → Evaluates {A = Unit} rules (Done tt s) (Ok tt) t → Evaluates rules (Done Next s) (Ok Next) t
-then-next e = record { meets = ap as_next e.meets }
-
--- and one that breaks off
-pub next-off : {rules : Rules} {s t : State} {h : Halt} → Evaluates {A = Unit} rules (Done tt s) (Err h) t
-    → Evaluates {A = Signal} rules (Done Next s) (Err h) t
+-- a step that gives nothing, and the next statement
+pub next-done : {rules : Rules} {s t : State} {x : Result Signal Halt} → Evaluates rules (and_then {A = Unit {0}} (Done tt s) (λ _ u. Done Next u)) x t
+    → Evaluates rules (Done Next s) x t
 unfolding and_then
-next-off e = breaks_off (λ _ u. Done Next u) e
+next-done e = e

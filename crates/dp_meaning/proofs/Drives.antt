@@ -13,6 +13,7 @@ use Rattle.dp_actions.specs.declared.halt.Halt.{Halt}
 use Rattle.dp_actions.specs.declared.halt.Halt.TheVariants.{Memory, Finished, Stopped}
 use Rattle.dp_meaning.specs.inner.Drive.{Rules, Reached, Gives, Ends, Stops, drive, Meets, Evaluates, moment_run}
 use Rattle.dp_actions.specs.AtOnce.{AtOnce, Leaves}
+use Rattle.dp_actions.specs.After.{DoneThen, Then}
 use Rattle.dp_actions.specs.Run.{Run, Done, Over, At, and_then}
 use Rattle.dp_actions.specs.Values.{holds}
 use Rattle.dp_value.specs.declared.value.Value.{Value}
@@ -84,6 +85,16 @@ module _ {A B : Type 0} {rules : Rules} where
     meets = subst (λ z. Meets x t z) (sym (drive-and_then rules r next ∙ ap (λ z. carry rules z next) e.meets)) f.meets;
   }
 
+-- the first part, and what is done at once with what it gives
+module _ {A B : Type 0} (rules : Rules) (r : Run A) (next : A → State → Run B) (s t : State) (x : Result B Halt) where
+  then-by : (operand : Result A Halt) → Evaluates rules r operand s → DoneThen operand next s x t → Evaluates rules (and_then r next) x t
+  then-by (Ok a) e h = goes_on next e (at_once h)
+  then-by (Err why) e h = rw (h.0, h.1) (breaks_off next e)
+
+pub then_on : {A B : Type 0} {rules : Rules} {r : Run A} {next : A → State → Run B} {s t : State} {x : Result B Halt} {operand : Result A Halt}
+    → Evaluates rules r operand s → Then operand next s x t → Evaluates rules (and_then r next) x t
+then_on {A} {B} {rules} {r} {next} {s} {t} {x} {operand} e h = then-by rules r next s t x operand e h.done
+
 -- the first two of three parts, joined
 module _ {A B C : Type 0} {rules : Rules} where
   pub joined_off : {h : Halt} {s : State} (r : Run A) (f : A → State → Run B) (next : B → State → Run C)
@@ -117,6 +128,12 @@ module _ {B : Type 0} {rules : Rules} where
       → Evaluates rules (moment_run kind line s) (Ok tt) t → Evaluates rules (go t) x u → Evaluates rules (At kind line s go) x u
   unfolding and_then
   passes {kind} {line} {s} {t} {u} {go} {x} e f = goes_on (λ _ w. go w) e f
+
+-- a moment, and what is done at once behind it
+pub then_at : {B : Type 0} {rules : Rules} {kind : MomentKind} {line : ℕ} {go : State → Run B} {s t u : State} {x : Result B Halt} {done : Result Unit Halt}
+    → Evaluates rules (moment_run kind line s) done t → Then done (λ _ v. go v) t x u → Evaluates rules (At kind line s go) x u
+unfolding and_then
+then_at {B} {rules} {kind} {line} {go} {s} {t} {u} {x} {done} e h = then-by rules (moment_run kind line s) (λ _ v. go v) t u x done e h.done
 
 -- what the exit of a `?` returns
 pub exits : {B : Type 0} {rules : Rules} {run : Run B} {s : State} (h : Halt) (x : Result B Halt)

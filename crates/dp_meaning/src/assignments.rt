@@ -5,7 +5,8 @@
 use crate::evaluator::Evaluator;
 use crate::outside::Outside;
 use dp_actions::{
-    Halt, assign_place, combine, found_place, is_missing, present, read_place, step_place,
+    Halt, found_place, is_missing, present, read_place, then_assign, then_combine, then_found,
+    then_step,
 };
 use dp_state::State;
 use dp_tree::{Expression, Order, Place};
@@ -16,7 +17,7 @@ impl<O: Outside> Evaluator<'_, O> {
     ghost use Rattle.dp_meaning.specs.inner.Drive.{Evaluates};
     ghost use Rattle.dp_meaning.specs.inner.Evaluation.{goes_by};
     ghost use Rattle.dp_meaning.specs.Expressions.{evaluation, place_run};
-    ghost use Rattle.dp_actions.specs.Places.{assigned_under, assignment, coalescing, coalescing_under, compound, compound_from, compound_under, found_at, isset_run, step};
+    ghost use Rattle.dp_actions.specs.Places.{assignment, coalescing, coalescing_under, compound, compound_under, found_at, isset_run, step};
 
     /// `place = right`, or `place[] = right`
     #[cycle(evaluate)]
@@ -30,23 +31,14 @@ impl<O: Outside> Evaluator<'_, O> {
         ensures { Evaluates (O.rules self.now.outside.now) (assignment push (place_run place.now) (evaluation right.now) (goes_by self.now) state.old) result state.new }
     {
         let indices = self.values(place.indices.as_slice(), state)?;
-        self.assign_under(&place.name, indices.as_slice(), push, right, state)
-    }
-
-    /// An assignment under indices that are evaluated.
-    #[cycle(evaluate)]
-    fn assign_under(
-        &self,
-        name: &Bytes,
-        indices: &[Value],
-        push: bool,
-        right: &Expression,
-        state: &mut State,
-    ) -> Result<Value, Halt>
-        ensures { Evaluates (O.rules self.now.outside.now) (assigned_under push name.now (evaluation right.now) indices.now (goes_by self.now) state.old) result state.new }
-    {
-        let value = self.expression(right, state)?;
-        assign_place(self.alloc, name, indices, push, value, state)
+        then_assign(
+            self.alloc,
+            &place.name,
+            indices.as_slice(),
+            push,
+            self.expression(right, state),
+            state,
+        )
     }
 
     /// `place += right` and its like
@@ -77,27 +69,9 @@ impl<O: Outside> Evaluator<'_, O> {
         ensures { Evaluates (O.rules self.now.outside.now) (compound_under op name.now (evaluation right.now) indices.now (goes_by self.now) state.old) result state.new }
     {
         let old = read_place(self.alloc, name, indices, state)?;
-        let answer = self.compound_from(op, name, indices, &old, right, state);
+        let value = self.expression(right, state);
+        let answer = then_combine(self.alloc, op, name, indices, &old, value, state);
         drop(old);
-        answer
-    }
-
-    /// A compound assignment whose old value is read.
-    #[cycle(evaluate)]
-    fn compound_from(
-        &self,
-        op: BinaryOp,
-        name: &Bytes,
-        indices: &[Value],
-        old: &Value,
-        right: &Expression,
-        state: &mut State,
-    ) -> Result<Value, Halt>
-        ensures { Evaluates (O.rules self.now.outside.now) (compound_from op name.now (evaluation right.now) indices.now old.now (goes_by self.now) state.old) result state.new }
-    {
-        let value = self.expression(right, state)?;
-        let answer = combine(self.alloc, op, name, indices, old, &value, state);
-        drop(value);
         answer
     }
 
@@ -129,7 +103,14 @@ impl<O: Outside> Evaluator<'_, O> {
         let old = found_place(self.alloc, name, indices, state)?;
         match present(old) {
             Some(old) => Ok(old),
-            None => self.assign_under(name, indices, false, right, state),
+            None => then_assign(
+                self.alloc,
+                name,
+                indices,
+                false,
+                self.expression(right, state),
+                state,
+            ),
         }
     }
 
@@ -144,13 +125,12 @@ impl<O: Outside> Evaluator<'_, O> {
     ) -> Result<Value, Halt>
         ensures { Evaluates (O.rules self.now.outside.now) (step op order (place_run place.now) (goes_by self.now) state.old) result state.new }
     {
-        let indices = self.values(place.indices.as_slice(), state)?;
-        step_place(
+        then_step(
             self.alloc,
             op,
             order,
             &place.name,
-            indices.as_slice(),
+            self.values(place.indices.as_slice(), state),
             state,
         )
     }
@@ -176,7 +156,11 @@ impl<O: Outside> Evaluator<'_, O> {
     fn found_at(&self, place: &Place, state: &mut State) -> Result<Value, Halt>
         ensures { Evaluates (O.rules self.now.outside.now) (found_at (place_run place.now) (goes_by self.now) state.old) result state.new }
     {
-        let indices = self.values(place.indices.as_slice(), state)?;
-        found_place(self.alloc, &place.name, indices.as_slice(), state)
+        then_found(
+            self.alloc,
+            &place.name,
+            self.values(place.indices.as_slice(), state),
+            state,
+        )
     }
 }

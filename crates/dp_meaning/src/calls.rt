@@ -109,9 +109,16 @@ impl<O: Outside> Evaluator<'_, O> {
         ensures { Evaluates (O.rules self.now.outside.now) (leaving signal state.old) result state.new }
     {
         let line = state.line();
-        self.outside.at_moment(MomentKind::Leave, line, state)?;
-        state.leave();
-        Ok(returned(Value::Null, signal))
+        match self.outside.at_moment(MomentKind::Leave, line, state) {
+            Ok(()) => {
+                state.leave();
+                Ok(returned(Value::Null, signal))
+            }
+            Err(halt) => {
+                drop(signal);
+                Err(halt)
+            }
+        }
     }
 
     /// `include` or `require` of the file whose name is the text of a value.

@@ -4,16 +4,15 @@
 
 use crate::evaluator::Evaluator;
 use crate::outside::Outside;
-use dp_actions::{Halt, Reading, text_value, value_of, variable_value};
-use dp_operations::unary;
+use dp_actions::{Halt, Reading, text_value, then_unary, variable_value};
 use dp_state::State;
 use dp_tree::{Expression, Inclusion};
-use dp_value::{Items, UnaryOp, Value};
+use dp_value::{Items, Value};
 
 impl<O: Outside> Evaluator<'_, O> {
     ghost use Rattle.dp_meaning.specs.inner.Drive.{Evaluates};
     ghost use Rattle.dp_meaning.specs.inner.Evaluation.{goes_by};
-    ghost use Rattle.dp_meaning.specs.Expressions.{evaluations, expression_run, included, operated};
+    ghost use Rattle.dp_meaning.specs.Expressions.{evaluations, expression_run, included};
 
     /// The value of an expression.
     #[cycle(evaluate)]
@@ -35,7 +34,9 @@ impl<O: Outside> Evaluator<'_, O> {
                 indices.as_slice(),
                 state,
             ),
-            Expression::Unary(op, operand) => self.unary(*op, operand.as_ref(), state),
+            Expression::Unary(op, operand) => {
+                then_unary(*op, self.expression(operand.as_ref(), state), state)
+            }
             Expression::Step(op, order, place) => self.step(*op, *order, place, state),
             Expression::Chain(first, links) => self.chain(first.as_ref(), links.as_slice(), state),
             Expression::Coalesce(left, right) => {
@@ -82,17 +83,6 @@ impl<O: Outside> Evaluator<'_, O> {
             values.push(self.expression(e, state)?)?;
         }
         Ok(Items::of(values))
-    }
-
-    /// The value of an operator with one operand.
-    #[cycle(evaluate)]
-    fn unary(&self, op: UnaryOp, operand: &Expression, state: &mut State) -> Result<Value, Halt>
-        ensures { Evaluates (O.rules self.now.outside.now) (operated op (expression_run operand.now) (goes_by self.now) state.old) result state.new }
-    {
-        let value = self.expression(operand, state)?;
-        let answer = value_of(unary(op, &value), state);
-        drop(value);
-        answer
     }
 
     /// The value of an `include` or a `require`.

@@ -4,7 +4,7 @@
 
 use crate::evaluator::Evaluator;
 use crate::outside::Outside;
-use dp_actions::{Halt, Reading, entry_in_place, entry_of, look, renewed, value_of};
+use dp_actions::{Halt, Reading, entry_in_place, entry_of, renewed, then_entry};
 use dp_state::State;
 use dp_tree::Expression;
 use dp_value::{Bytes, Value};
@@ -65,27 +65,11 @@ impl<O: Outside> Evaluator<'_, O> {
     {
         let mut value = base;
         for e in indices {
-            let next = self.entry(reading, &value, e, state);
+            let at = self.expression(e, state);
+            let next = then_entry(self.alloc, reading, &value, at, state);
             value = renewed(value, next)?;
         }
         Ok(value)
-    }
-
-    /// A value under one index.
-    #[cycle(evaluate)]
-    fn entry(
-        &self,
-        reading: Reading,
-        value: &Value,
-        e: &Expression,
-        state: &mut State,
-    ) -> Result<Value, Halt>
-        ensures { Evaluates (O.rules self.now.outside.now) (entry_run (entries_by reading) (expression_run e.now) value.now (goes_by self.now) state.old) result state.new }
-    {
-        let at = self.expression(e, state)?;
-        let answer = value_of(look(self.alloc, reading, value, &at), state);
-        drop(at);
-        answer
     }
 
     /// The entry of a variable under an index that changes nothing.

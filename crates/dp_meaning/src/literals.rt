@@ -4,18 +4,18 @@
 
 use crate::evaluator::Evaluator;
 use crate::outside::Outside;
-use dp_actions::{Halt, pushed, put};
+use dp_actions::{Halt, then_pushed, then_put};
 use dp_state::State;
 use dp_tree::{Expression, Item};
 use dp_value::{PhpArray, Value};
 
 impl<O: Outside> Evaluator<'_, O> {
-    ghost use Rattle.std.specs.Prelude.{map, Option, Some, None};
+    ghost use Rattle.std.specs.Prelude.{map, Some};
     ghost use Rattle.dp_value.specs.declared.value.Value.TheVariants as variant;
     ghost use Rattle.dp_value.specs.Table.{empty};
     ghost use Rattle.dp_meaning.specs.inner.Drive.{Evaluates};
     ghost use Rattle.dp_meaning.specs.inner.Evaluation.{goes_by};
-    ghost use Rattle.dp_meaning.specs.Expressions.{expression_run, item_run, items_run, keyed_run};
+    ghost use Rattle.dp_meaning.specs.Expressions.{expression_run, item_run, items_run};
     ghost use Rattle.dp_meaning.specs.inner.Parts.{item_run_of};
 
     /// The value of a literal.
@@ -36,18 +36,14 @@ impl<O: Outside> Evaluator<'_, O> {
         ensures { Evaluates (O.rules self.now.outside.now) (item_run_of item.now array (goes_by self.now) state.old) result state.new }
     {
         match &item.key {
-            None => self.last(&item.value, array, state),
+            None => then_pushed(
+                self.alloc,
+                array,
+                self.expression(&item.value, state),
+                state,
+            ),
             Some(key) => self.keyed(key, &item.value, array, state),
         }
-    }
-
-    /// A literal with one item more, behind its last.
-    #[cycle(evaluate)]
-    fn last(&self, item: &Expression, array: Value, state: &mut State) -> Result<Value, Halt>
-        ensures { Evaluates (O.rules self.now.outside.now) (item_run None (expression_run item.now) array (goes_by self.now) state.old) result state.new }
-    {
-        let value = self.expression(item, state)?;
-        pushed(self.alloc, array, value, state)
     }
 
     /// A literal with one item more, under a key.
@@ -61,22 +57,16 @@ impl<O: Outside> Evaluator<'_, O> {
     ) -> Result<Value, Halt>
         ensures { Evaluates (O.rules self.now.outside.now) (item_run (Some (expression_run key.now)) (expression_run item.now) array (goes_by self.now) state.old) result state.new }
     {
-        let at = self.expression(key, state)?;
-        self.keyed_by(&at, item, array, state)
-    }
-
-    /// A literal with one item more, under an index.
-    #[cycle(evaluate)]
-    fn keyed_by(
-        &self,
-        at: &Value,
-        item: &Expression,
-        array: Value,
-        state: &mut State,
-    ) -> Result<Value, Halt>
-        ensures { Evaluates (O.rules self.now.outside.now) (keyed_run at.now (expression_run item.now) array (goes_by self.now) state.old) result state.new }
-    {
-        let value = self.expression(item, state)?;
-        put(self.alloc, array, at, value, state)
+        match self.expression(key, state) {
+            Ok(at) => {
+                let answer = then_put(self.alloc, array, &at, self.expression(item, state), state);
+                drop(at);
+                answer
+            }
+            Err(halt) => {
+                drop(array);
+                Err(halt)
+            }
+        }
     }
 }

@@ -4,7 +4,7 @@
 
 use crate::evaluator::Evaluator;
 use crate::outside::Outside;
-use dp_actions::{Halt, Signal, Turn, bind_entry, last_holds, turn_over};
+use dp_actions::{Halt, Signal, Turn, bind_entry, last_holds, then_holds, turn_over};
 use dp_state::{Outcome, State};
 use dp_tree::{Binding, Expression, Statement};
 use dp_value::Value;
@@ -31,14 +31,17 @@ impl<O: Outside> Evaluator<'_, O> {
         for _turn in 0..self.bound {
             self.place(line, state)?;
             let values = self.values(tests, state)?;
-            if !last_holds(values.as_slice()) {
+            let on = last_holds(values.as_slice());
+            drop(values);
+            if !on {
                 return Ok(Signal::Next);
             }
             match turn_over(self.statement(body, state)?) {
                 Turn::On => {}
                 Turn::Out(signal) => return Ok(signal),
             }
-            let _values = self.values(after, state)?;
+            let done = self.values(after, state)?;
+            drop(done);
         }
         Err(Halt::Finished(Outcome::Bound))
     }
@@ -56,7 +59,8 @@ impl<O: Outside> Evaluator<'_, O> {
     ) -> Result<Signal, Halt>
         ensures { Evaluates (O.rules self.now.outside.now) (for_part line before.now tests.now after.now (statement_run body.now) (goes_by self.now) state.old) result state.new }
     {
-        let _values = self.values(before, state)?;
+        let done = self.values(before, state)?;
+        drop(done);
         self.turns(line, tests, after, body, state)
     }
 
@@ -77,7 +81,7 @@ impl<O: Outside> Evaluator<'_, O> {
                 Turn::Out(signal) => return Ok(signal),
             }
             self.place(line, state)?;
-            let holds = self.holds(test, state)?;
+            let holds = then_holds(self.expression(test, state))?;
             if !holds {
                 return Ok(Signal::Next);
             }

@@ -10,7 +10,7 @@ ghost use Rattle.dp_meaning.specs.Writes.{evaluated, evaluation_limit, evaluatio
 use crate::evaluator::Evaluator;
 use crate::quiet::Quiet;
 use crate::writing::{NumberedWrite, Write};
-use dp_actions::Halt;
+use dp_actions::{Halt, given_keys};
 use dp_state::{FRAME_LIMIT, Fault, Path, State};
 use dp_tree::{Bundle, Expression};
 use dp_value::{Bytes, Key, Memory, Value};
@@ -113,17 +113,6 @@ fn write_keyed(
     }
 }
 
-/// Keys that are there.
-pub(crate) fn given_keys(alloc: Global, keys: &[Key]) -> Result<Vec<Option<Key>>, Memory>
-    ensures { IfOk result (λ given. given.items ≡ all_given keys.now) }
-{
-    let mut given = Vec::with_capacity(alloc, keys.len())?;
-    for key in keys {
-        given.push(Some(key.try_clone()?))?;
-    }
-    Ok(given)
-}
-
 /// Evaluates an expression in the top frame.
 fn evaluate(alloc: Global, bundle: &Bundle, e: &Expression, state: &mut State) -> Result<(), Halt>
     ensures ok { OnOk result (state.new ≡ left_by state.old (evaluated (evaluation_setting bundle.now) e.now state.old)) }
@@ -160,9 +149,16 @@ pub fn evaluation(
 {
     let mut copy = state.try_clone()?;
     copy.moments = 0;
-    let value = quietly(alloc, bundle, e, &mut copy)?;
-    copy.moments = state.moments;
-    Ok((value, copy))
+    match quietly(alloc, bundle, e, &mut copy) {
+        Ok(value) => {
+            copy.moments = state.moments;
+            Ok((value, copy))
+        }
+        Err(refused) => {
+            drop(copy);
+            Err(refused)
+        }
+    }
 }
 
 /// The value of an expression, where it holds, with no writes at its moments.

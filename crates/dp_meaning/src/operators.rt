@@ -4,18 +4,16 @@
 
 use crate::evaluator::Evaluator;
 use crate::outside::Outside;
-use dp_actions::{Halt, kept, present, renewed, value_of};
-use dp_operations::binary;
+use dp_actions::{Halt, kept, present, renewed, then_binary, then_truth};
 use dp_state::State;
 use dp_tree::{Boxed, Expression, Link, Operator};
-use dp_value::{BinaryOp, Value, truthy};
+use dp_value::{Value, truthy};
 
 impl<O: Outside> Evaluator<'_, O> {
     ghost use Rattle.std.specs.Prelude.{map, option_map};
-    ghost use Rattle.dp_tree.specs.declared.tree.Operator.TheVariants.{Of};
     ghost use Rattle.dp_meaning.specs.inner.Drive.{Evaluates};
-    ghost use Rattle.dp_meaning.specs.inner.Evaluation.{goes_by, held_part};
-    ghost use Rattle.dp_meaning.specs.Expressions.{chained, choice, coalesced, conditional, expression_run, links_run, operator_run, tested};
+    ghost use Rattle.dp_meaning.specs.inner.Evaluation.{goes_by};
+    ghost use Rattle.dp_meaning.specs.Expressions.{chained, choice, coalesced, conditional, expression_run, links_run};
     ghost use Rattle.dp_meaning.specs.inner.Parts.{link_run};
 
     /// The value of operands that are joined from left to right.
@@ -55,53 +53,22 @@ impl<O: Outside> Evaluator<'_, O> {
                 if truthy(left) {
                     return Ok(Value::Bool(true));
                 }
-                self.truth(&link.operand, state)
+                then_truth(self.expression(&link.operand, state))
             }
             Operator::And => {
                 if !truthy(left) {
                     return Ok(Value::Bool(false));
                 }
-                self.truth(&link.operand, state)
+                then_truth(self.expression(&link.operand, state))
             }
-            Operator::Of(op) => self.joined(op, left, &link.operand, state),
+            Operator::Of(op) => then_binary(
+                self.alloc,
+                op,
+                left,
+                self.expression(&link.operand, state),
+                state,
+            ),
         }
-    }
-
-    /// Whether the value of an operand is true.
-    #[cycle(evaluate)]
-    fn truth(&self, operand: &Expression, state: &mut State) -> Result<Value, Halt>
-        ensures { Evaluates (O.rules self.now.outside.now) (tested (expression_run operand.now) (goes_by self.now) state.old) result state.new }
-    {
-        let holds = self.holds(operand, state)?;
-        Ok(Value::Bool(holds))
-    }
-
-    /// Whether an expression holds.
-    #[cycle(evaluate)]
-    pub(crate) fn holds(&self, e: &Expression, state: &mut State) -> Result<bool, Halt>
-        ensures { Evaluates (O.rules self.now.outside.now) (held_part (expression_run e.now) (goes_by self.now) state.old) result state.new }
-    {
-        let value = self.expression(e, state)?;
-        let holds = truthy(&value);
-        drop(value);
-        Ok(holds)
-    }
-
-    /// The value of an operator with two operands, of which the left one is evaluated.
-    #[cycle(evaluate)]
-    fn joined(
-        &self,
-        op: BinaryOp,
-        left: &Value,
-        operand: &Expression,
-        state: &mut State,
-    ) -> Result<Value, Halt>
-        ensures { Evaluates (O.rules self.now.outside.now) (operator_run (Of op) (expression_run operand.now) left.now (goes_by self.now) state.old) result state.new }
-    {
-        let right = self.expression(operand, state)?;
-        let answer = value_of(binary(self.alloc, op, left, &right), state);
-        drop(right);
-        answer
     }
 
     /// `a ?? b`

@@ -4,7 +4,10 @@
 
 use crate::evaluator::Evaluator;
 use crate::outside::Outside;
-use dp_actions::{Halt, Signal, bind_all, exit_value, print_value, unset_place};
+use dp_actions::{
+    Halt, Signal, bind_all, then_exit, then_holds, then_next, then_print, then_return, then_signal,
+    unset_place,
+};
 use dp_state::{Outcome, State};
 use dp_tree::{Arm, Boxed, Expression, Place, Statement, StatementKind};
 use dp_value::Value;
@@ -13,11 +16,11 @@ use std::slice;
 impl<O: Outside> Evaluator<'_, O> {
     ghost use Rattle.std.specs.Prelude.{map, option_map};
     ghost use Rattle.dp_meaning.specs.inner.Drive.{Evaluates};
-    ghost use Rattle.dp_meaning.specs.inner.Evaluation.{evaluated_part, goes_by, printed_part};
+    ghost use Rattle.dp_meaning.specs.inner.Evaluation.{goes_by};
     ghost use Rattle.dp_meaning.specs.Expressions.{expression_run, place_run};
     ghost use Rattle.dp_actions.specs.Places.{unset_run};
     ghost use Rattle.dp_meaning.specs.Statements.{arms_run, body_run, echoes, end_run, return_run, statement_run};
-    ghost use Rattle.dp_meaning.specs.inner.Parts.{arm_run, kind_run};
+    ghost use Rattle.dp_meaning.specs.inner.Parts.{arm_run};
 
     /// Statements, one after another.
     #[cycle(evaluate)]
@@ -40,18 +43,11 @@ impl<O: Outside> Evaluator<'_, O> {
     pub(crate) fn statement(&self, statement: &Statement, state: &mut State) -> Result<Signal, Halt>
         ensures { Evaluates (O.rules self.now.outside.now) (statement_run statement.now (goes_by self.now) state.old) result state.new }
     {
-        self.kind(&statement.kind, statement.line, state)
-    }
-
-    /// What a statement does, from this line on.
-    #[cycle(evaluate)]
-    fn kind(&self, kind: &StatementKind, line: u32, state: &mut State) -> Result<Signal, Halt>
-        ensures { Evaluates (O.rules self.now.outside.now) (kind_run kind.now line (goes_by self.now) state.old) result state.new }
-    {
-        match kind {
+        let line = statement.line;
+        match &statement.kind {
             StatementKind::Expression(e) => {
                 self.place(line, state)?;
-                self.evaluated(e, state)
+                then_next(self.expression(e, state))
             }
             StatementKind::Echo(operands) => {
                 self.place(line, state)?;
@@ -95,12 +91,10 @@ impl<O: Outside> Evaluator<'_, O> {
                 self.foreach(line, binding, subject, body.as_ref(), state)
             }
             StatementKind::Break(loops) => {
-                self.place(line, state)?;
-                Ok(Signal::Break(*loops))
+                then_signal(self.place(line, state), Signal::Break(*loops))
             }
             StatementKind::Continue(number) => {
-                self.place(line, state)?;
-                Ok(Signal::Continue(*number))
+                then_signal(self.place(line, state), Signal::Continue(*number))
             }
             StatementKind::Return(value) => {
                 self.place(line, state)?;
@@ -108,13 +102,11 @@ impl<O: Outside> Evaluator<'_, O> {
             }
             StatementKind::Global(names) => {
                 self.place(line, state)?;
-                bind_all(names.as_slice(), state)?;
-                Ok(Signal::Next)
+                then_signal(bind_all(names.as_slice(), state), Signal::Next)
             }
             StatementKind::Unset(places) => {
                 self.place(line, state)?;
-                self.unset(places.as_slice(), state)?;
-                Ok(Signal::Next)
+                then_signal(self.unset(places.as_slice(), state), Signal::Next)
             }
             StatementKind::Exit(value) => {
                 self.place(line, state)?;
@@ -123,36 +115,15 @@ impl<O: Outside> Evaluator<'_, O> {
         }
     }
 
-    /// An expression as a statement.
-    #[cycle(evaluate)]
-    fn evaluated(&self, e: &Expression, state: &mut State) -> Result<Signal, Halt>
-        ensures { Evaluates (O.rules self.now.outside.now) (evaluated_part (expression_run e.now) (goes_by self.now) state.old) result state.new }
-    {
-        let value = self.expression(e, state)?;
-        drop(value);
-        Ok(Signal::Next)
-    }
-
     /// `echo`
     #[cycle(evaluate)]
     fn echo(&self, operands: &[Expression], state: &mut State) -> Result<Signal, Halt>
         ensures { Evaluates (O.rules self.now.outside.now) (echoes (map expression_run operands.now) (goes_by self.now) state.old) result state.new }
     {
         for operand in operands {
-            self.print(operand, state)?;
+            then_print(self.alloc, self.expression(operand, state), state)?;
         }
         Ok(Signal::Next)
-    }
-
-    /// One operand of an `echo`.
-    #[cycle(evaluate)]
-    fn print(&self, e: &Expression, state: &mut State) -> Result<(), Halt>
-        ensures { Evaluates (O.rules self.now.outside.now) (printed_part (expression_run e.now) (goes_by self.now) state.old) result state.new }
-    {
-        let value = self.expression(e, state)?;
-        let answer = print_value(self.alloc, &value, state);
-        drop(value);
-        answer
     }
 
     /// The arms of an `if`, and what is done where no test holds.
@@ -167,7 +138,7 @@ impl<O: Outside> Evaluator<'_, O> {
     {
         for arm in arms {
             self.place(arm.line, state)?;
-            let holds = self.holds(&arm.test, state)?;
+            let holds = then_holds(self.expression(&arm.test, state))?;
             if holds {
                 return self.statement(&arm.body, state);
             }
@@ -185,10 +156,7 @@ impl<O: Outside> Evaluator<'_, O> {
     {
         match value {
             None => Ok(Signal::Return(Value::Null)),
-            Some(e) => {
-                let value = self.expression(e, state)?;
-                Ok(Signal::Return(value))
-            }
+            Some(e) => then_return(self.expression(e, state)),
         }
     }
 
@@ -211,12 +179,7 @@ impl<O: Outside> Evaluator<'_, O> {
     {
         match value {
             None => Err(Halt::Finished(Outcome::Exit(0))),
-            Some(e) => {
-                let value = self.expression(e, state)?;
-                let answer = exit_value(&value, state);
-                drop(value);
-                answer
-            }
+            Some(e) => then_exit(self.expression(e, state), state),
         }
     }
 }

@@ -1,5 +1,5 @@
 -- What an evaluator goes by, as the definitions have it.
-use Rattle.std.specs.Prelude.{ℕ, Bool, List}
+use Rattle.std.specs.Prelude.{ℕ, List}
 use Rattle.dp_value.specs.declared.value.Value.{Value}
 use Rattle.dp_tree.specs.declared.tree.Expression.{Expression}
 use Rattle.dp_tree.specs.declared.tree.Binding.{Binding}
@@ -10,11 +10,9 @@ use Rattle.dp_meaning.specs.Expressions.{ExpressionRun, evaluations, indices_run
 use Rattle.dp_meaning.specs.declared.evaluator.Evaluator.{Evaluator}
 use Rattle.dp_actions.specs.declared.signal.Signal.{Signal}
 use Rattle.dp_meaning.specs.Programs.{setting_of}
-use Rattle.dp_actions.specs.Run.{Done, ◌>>=◌}
+use Rattle.dp_actions.specs.Run.{◌>>=◌}
 use Rattle.dp_actions.specs.Setting.{Setting, Part}
-use Rattle.dp_meaning.specs.Statements.{each_turns, for_turns, then_next}
-use Rattle.dp_actions.specs.Effects.{print_run}
-use Rattle.dp_actions.specs.Values.{holds}
+use Rattle.dp_meaning.specs.Statements.{each_turns, for_turns}
 
 abbrev pub goes_by : {O : Type 0} → Evaluator O → Setting
 goes_by evaluator = setting_of evaluator.bundle.now evaluator.bound evaluator.depth
@@ -31,19 +29,7 @@ abbrev pub entry_under : Reading → ExpressionRun → List ExpressionRun → Pa
 entry_under reading base indices setting s =
     base_run reading base setting s >>= λ v t. indices_run (entries_by reading) indices v setting t
 
--- ---- values that are used at once
-
--- whether an expression holds
-abbrev pub held_part : ExpressionRun → Part Bool
-held_part e setting s = e.value setting s >>= λ v t. Done (holds v) t
-
--- an operand of `echo`
-abbrev pub printed_part : ExpressionRun → Part Unit
-printed_part e setting s = e.value setting s >>= λ v t. print_run v t
-
--- an expression as a statement
-abbrev pub evaluated_part : ExpressionRun → Part Signal
-evaluated_part e setting s = e.value setting s >>= then_next
+-- ---- loops
 
 -- a `for`, from its first expressions on
 abbrev pub for_part : ℕ → List Expression → List Expression → List Expression → Part Signal

@@ -4,7 +4,7 @@ use Rattle.std.proofs.Common.{refl}
 use Rattle.dp_meaning.proofs.Alone.{evaluated-comes}
 use Rattle.dp_meaning.proofs.making.evaluation.Goals as goal
 
-pub returns : goal.returns
-returns c =
+pub returns-in-Ok : goal.returns-in-Ok
+returns-in-Ok c =
     evaluated-comes (quiet evaluation_limit) refl refl refl
-    (evaluation_setting c.args.bundle.now) c.args.e.now c.args.state.now c.in_ok-copy.copy c.in_ok-copy.ensures _ _ c.in_ok-value.ensures
+    (evaluation_setting c.args.bundle.now) c.args.e.now c.args.state.now c.in_ok-copy.copy c.in_ok-copy.ensures _ _ (rw c.in-Ok.is at c.quietly.ensures)

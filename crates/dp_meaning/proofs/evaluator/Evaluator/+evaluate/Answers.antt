@@ -14,19 +14,18 @@ use Rattle.dp_actions.specs.Calls.{callee_of}
 use Rattle.dp_actions.specs.InPlace.{entries_by}
 use Rattle.dp_meaning.specs.Expressions.{evaluation, evaluations}
 use Rattle.dp_meaning.specs.inner.Sizes.{arm_size, body_size, expressions_size, kind_size, sizes_sum, statement_size}
-use Rattle.dp_actions.specs.Run.{Done}
 use Rattle.dp_meaning.specs.Statements.{arms_run, statement_run}
 use Rattle.dp_actions.specs.Effects.{print_run}
 use Rattle.dp_meaning.specs.inner.Parts.{arm_run}
 use Rattle.dp_value.specs.declared.value.Value.TheVariants as variant
-use Rattle.dp_meaning.proofs.CallLaws.{bounded-do, bounded-turns, call-is, file-is, next-off, runs-for, setting-bundle, suc-call, suc-include, then-next, zero-call, zero-include}
-use Rattle.dp_meaning.proofs.Drives.{at_once, breaks_off, ends, exits, gives, goes_on, joined_off, joined_on, passes, stops_at, tested_off, tested_on}
+use Rattle.dp_meaning.proofs.CallLaws.{bounded-do, bounded-turns, call-is, file-is, next-done, runs-for, setting-bundle, suc-call, suc-include, zero-call, zero-include}
+use Rattle.dp_meaning.proofs.Drives.{at_once, breaks_off, ends, exits, gives, goes_on, joined_off, joined_on, passes, stops_at, tested_off, tested_on, then_at, then_on}
 use Rattle.dp_meaning.proofs.InPlace.{base-plain, one-variable, reads-in-place}
 use Rattle.dp_meaning.proofs.Layers.{found-plain, kind-Block, kind-Break, kind-Continue, kind-DoWhile, kind-Echo, kind-Empty, kind-Exit, kind-Expression, kind-For, kind-Foreach, kind-Global, kind-If, kind-Return, kind-Unset, kind-While, run-arm, run-Array, run-Assign, run-Bool, run-Call, run-Chain, run-Coalesce, run-CoalesceAssign, run-Compound, run-Conditional, run-Include, run-Index, run-Isset, run-item-None, run-item-Some, run-link, run-Null, run-Number, run-place, run-Push, run-statement, run-Step, run-Text, run-Unary, run-Variable}
 use Rattle.dp_meaning.proofs.ListLaws.{front, front-at, values-all, values-break, values-first, values-more}
 use Rattle.dp_meaning.proofs.LoopLaws.{bind-breaks, body-breaks, body-out, do-body-breaks, do-body-out, do-end, do-goes-on, do-stops, do-test-breaks, each-body-breaks, each-goes-on, each-out, each-stops, next-breaks, test-breaks, turn-goes-on, turn-stops, turns-end}
 use Rattle.dp_meaning.proofs.SizeLaws.{frame-callee, frame-file, frame_less, size-arm, size-Block, size-DoWhile, size-Echo, size-Exit, size-Expression, size-For, size-Foreach, size-If, size-in, size-Return, size-some, size-statement, size-Unset, size-While}
-use Rattle.dp_actions.proofs.Tails.{gives-answers, kept-none, kept-some, present-none, present-some}
+use Rattle.dp_actions.proofs.Tails.{kept-none, kept-some, present-none, present-some}
 use Rattle.dp_meaning.proofs.evaluator.Evaluator.+evaluate.Goals as goal
 
 pub expression-returns-in-Null : goal.expression-returns-in-Null
@@ -64,7 +63,8 @@ pub expression-returns-in-Index : goal.expression-returns-in-Index
 expression-returns-in-Index g t c = rw (c.in-Index.is, run-Index) (rw (c.as_ref.ensures, c.as_slice-in-Index.ensures) at c.index.ensures)
 
 pub expression-returns-in-Unary : goal.expression-returns-in-Unary
-expression-returns-in-Unary g t c = rw (c.in-Unary.is, run-Unary) (rw c.as_ref-in-Unary.ensures at c.unary.ensures)
+expression-returns-in-Unary g t c =
+    rw (c.in-Unary.is, run-Unary) (then_on (rw c.as_ref-in-Unary.ensures at c.expression.ensures) c.then_unary.ensures)
 
 pub expression-returns-in-Step : goal.expression-returns-in-Step
 expression-returns-in-Step g t c = rw (c.in-Step.is, run-Step) c.step.ensures
@@ -119,12 +119,6 @@ pub values-returns : goal.values-returns
 values-returns g t c =
     c.loop-e.invariant _ _ (rw (drop_of_length-le c.args.all.now c.loop-e-test.false, c.of.ensures) (values-all _ (goes_by c.args.self.now) _ _))
 
-pub unary-returns-in_err-value : goal.unary-returns-in_err-value
-unary-returns-in_err-value g t c = exits _ _ c.from_residual.ensures.1 (breaks_off _ c.in_err-value.ensures)
-
-pub unary-returns : goal.unary-returns
-unary-returns g t c = goes_on _ c.in_ok-value.ensures (at_once (c.value_of-answer.ensures _ (gives-answers _ _ c.unary.ensures)))
-
 pub inclusion-returns-in_err-value : goal.inclusion-returns-in_err-value
 inclusion-returns-in_err-value g t c = exits _ _ c.from_residual.ensures.1 (breaks_off _ c.in_err-value.ensures)
 
@@ -175,21 +169,15 @@ base-returns-in-Found g t c = rw c.in-Found.is c.found.ensures
 pub under-returns-in_err-value : goal.under-returns-in_err-value
 under-returns-in_err-value g t c =
     exits _ _ c.from_residual.ensures.1 (c.loop-e.invariant _ _ (rw (front _ c.loop-e.e-index c.e-item.result c.loop-e-test.true c.e-item.is)
-    (joined_off _ _ _ (rw (sym c.in_err-value.ensures) at c.entry-next.ensures))))
+    (joined_off _ _ _ (then_on c.expression-at.ensures (rw (sym c.in_err-value.ensures) at c.then_entry-next.ensures)))))
 
 pub under-loop-e-preserved : goal.under-loop-e-preserved
 under-loop-e-preserved g t c =
     λ x u e. c.loop-e.invariant x u (rw (front _ c.loop-e.e-index c.e-item.result c.loop-e-test.true c.e-item.is)
-    (joined_on _ _ _ (rw (sym c.in_ok-value.ensures) at c.entry-next.ensures) e))
+    (joined_on _ _ _ (then_on c.expression-at.ensures (rw (sym c.in_ok-value.ensures) at c.then_entry-next.ensures)) e))
 
 pub under-returns : goal.under-returns
 under-returns g t c = c.loop-e.invariant _ _ (rw (drop_of_length-le c.args.indices.now c.loop-e-test.false) gives)
-
-pub entry-returns-in_err-at : goal.entry-returns-in_err-at
-entry-returns-in_err-at g t c = exits _ _ c.from_residual.ensures.1 (breaks_off _ c.in_err-at.ensures)
-
-pub entry-returns : goal.entry-returns
-entry-returns g t c = goes_on _ c.in_ok-at.ensures (at_once (c.value_of-answer.ensures _ c.look.ensures))
 
 pub array-returns-in_err-array : goal.array-returns-in_err-array
 array-returns-in_err-array g t c =
@@ -205,28 +193,17 @@ pub array-returns : goal.array-returns
 array-returns g t c = c.loop-item.invariant _ _ (rw (drop_of_length-le c.args.items.now c.loop-item-test.false) gives)
 
 pub item-returns-in-None : goal.item-returns-in-None
-item-returns-in-None g t c = rw (run-item-None c.args.item.now c.in-None.is) c.last.ensures
+item-returns-in-None g t c = rw (run-item-None c.args.item.now c.in-None.is) (then_on c.expression.ensures c.then_pushed.ensures)
 
 pub item-returns-in-Some : goal.item-returns-in-Some
 item-returns-in-Some g t c = rw (run-item-Some c.args.item.now _ c.in-Some.is) c.keyed.ensures
 
-pub last-returns-in_err-value : goal.last-returns-in_err-value
-last-returns-in_err-value g t c = exits _ _ c.from_residual.ensures.1 (breaks_off _ c.in_err-value.ensures)
+pub keyed-returns-in-Ok : goal.keyed-returns-in-Ok
+keyed-returns-in-Ok g t c =
+    goes_on _ (rw c.in-Ok.is at c.expression.ensures) (then_on c.expression-in-Ok.ensures c.then_put-answer.ensures)
 
-pub last-returns : goal.last-returns
-last-returns g t c = goes_on _ c.in_ok-value.ensures (at_once c.pushed.ensures)
-
-pub keyed-returns-in_err-at : goal.keyed-returns-in_err-at
-keyed-returns-in_err-at g t c = exits _ _ c.from_residual.ensures.1 (breaks_off _ c.in_err-at.ensures)
-
-pub keyed-returns : goal.keyed-returns
-keyed-returns g t c = goes_on _ c.in_ok-at.ensures c.keyed_by.ensures
-
-pub keyed_by-returns-in_err-value : goal.keyed_by-returns-in_err-value
-keyed_by-returns-in_err-value g t c = exits _ _ c.from_residual.ensures.1 (breaks_off _ c.in_err-value.ensures)
-
-pub keyed_by-returns : goal.keyed_by-returns
-keyed_by-returns g t c = goes_on _ c.in_ok-value.ensures (at_once c.put.ensures)
+pub keyed-returns-in-Err : goal.keyed-returns-in-Err
+keyed-returns-in-Err g t c = breaks_off _ (rw c.in-Err.is at c.expression.ensures)
 
 pub chain-returns-in_err-value : goal.chain-returns-in_err-value
 chain-returns-in_err-value g t c = exits _ _ c.from_residual.ensures.1 (breaks_off _ c.in_err-value.ensures)
@@ -251,34 +228,19 @@ pub link-returns-then-truthy : goal.link-returns-then-truthy
 link-returns-then-truthy g t c = rw (run-link, c.in-Or.is, sym c.truthy.ensures ∙ c.if-truthy.true) gives
 
 pub link-returns-else-truthy : goal.link-returns-else-truthy
-link-returns-else-truthy g t c = rw (run-link, c.in-Or.is, sym c.truthy.ensures ∙ c.if-truthy.false) c.truth.ensures
+link-returns-else-truthy g t c =
+    rw (run-link, c.in-Or.is, sym c.truthy.ensures ∙ c.if-truthy.false) (then_on c.expression.ensures (c.then_truth.ensures _))
 
 pub link-returns-then-not-truthy : goal.link-returns-then-not-truthy
 link-returns-then-not-truthy g t c = rw (run-link, c.in-And.is, sym c.truthy-in-And.ensures ∙ c.if-not-truthy.true) gives
 
 pub link-returns-else-not-truthy : goal.link-returns-else-not-truthy
-link-returns-else-not-truthy g t c = rw (run-link, c.in-And.is, sym c.truthy-in-And.ensures ∙ c.if-not-truthy.false) c.truth-in-And.ensures
+link-returns-else-not-truthy g t c =
+    rw (run-link, c.in-And.is, sym c.truthy-in-And.ensures ∙ c.if-not-truthy.false) (then_on c.expression-in-And.ensures
+    (c.then_truth-in-And.ensures _))
 
 pub link-returns-in-Of : goal.link-returns-in-Of
-link-returns-in-Of g t c = rw (run-link, c.in-Of.is) c.joined.ensures
-
-pub truth-returns-in_err-holds : goal.truth-returns-in_err-holds
-truth-returns-in_err-holds g t c = exits _ _ c.from_residual.ensures.1 (tested_off _ (λ b u. Done (variant.Bool b) u) c.in_err-holds.ensures)
-
-pub truth-returns : goal.truth-returns
-truth-returns g t c = tested_on _ (λ b u. Done (variant.Bool b) u) c.in_ok-holds.ensures gives
-
-pub holds-returns-in_err-value : goal.holds-returns-in_err-value
-holds-returns-in_err-value g t c = exits _ _ c.from_residual.ensures.1 (breaks_off _ c.in_err-value.ensures)
-
-pub holds-returns : goal.holds-returns
-holds-returns g t c = goes_on _ c.in_ok-value.ensures (rw c.truthy-holds.ensures gives)
-
-pub joined-returns-in_err-right : goal.joined-returns-in_err-right
-joined-returns-in_err-right g t c = exits _ _ c.from_residual.ensures.1 (breaks_off _ c.in_err-right.ensures)
-
-pub joined-returns : goal.joined-returns
-joined-returns g t c = goes_on _ c.in_ok-right.ensures (at_once (c.value_of-answer.ensures _ c.binary.ensures))
+link-returns-in-Of g t c = rw (run-link, c.in-Of.is) (then_on c.expression-in-Of.ensures c.then_binary.ensures)
 
 pub coalesce-returns-in_err-value : goal.coalesce-returns-in_err-value
 coalesce-returns-in_err-value g t c = exits _ _ c.from_residual.ensures.1 (breaks_off _ c.in_err-value.ensures)
@@ -313,7 +275,8 @@ assign-returns-in_err-indices g t c =
 
 pub assign-returns : goal.assign-returns
 assign-returns g t c =
-    rw run-place (goes_on _ (rw c.as_slice.ensures at c.in_ok-indices.ensures) (rw c.as_slice-2.ensures at c.assign_under.ensures))
+    rw run-place (goes_on _ (rw c.as_slice.ensures at c.in_ok-indices.ensures) (then_on c.expression.ensures
+    (rw c.as_slice-2.ensures at c.then_assign.ensures)))
 
 pub compound-returns-in_err-indices : goal.compound-returns-in_err-indices
 compound-returns-in_err-indices g t c =
@@ -331,39 +294,17 @@ pub coalesce_assign-returns : goal.coalesce_assign-returns
 coalesce_assign-returns g t c =
     rw run-place (goes_on _ (rw c.as_slice.ensures at c.in_ok-indices.ensures) (rw c.as_slice-2.ensures at c.coalesce_under.ensures))
 
-pub step-returns-in_err-indices : goal.step-returns-in_err-indices
-step-returns-in_err-indices g t c =
-    exits _ _ c.from_residual.ensures.1 (rw run-place (breaks_off _ (rw c.as_slice.ensures at c.in_err-indices.ensures)))
-
 pub step-returns : goal.step-returns
-step-returns g t c =
-    rw run-place (goes_on _ (rw c.as_slice.ensures at c.in_ok-indices.ensures) (at_once (rw c.as_slice-2.ensures at c.step_place.ensures)))
-
-pub found_at-returns-in_err-indices : goal.found_at-returns-in_err-indices
-found_at-returns-in_err-indices g t c =
-    exits _ _ c.from_residual.ensures.1 (rw run-place (breaks_off _ (rw c.as_slice.ensures at c.in_err-indices.ensures)))
+step-returns g t c = rw run-place (then_on (rw c.as_slice.ensures at c.values.ensures) c.then_step.ensures)
 
 pub found_at-returns : goal.found_at-returns
-found_at-returns g t c =
-    rw run-place (goes_on _ (rw c.as_slice.ensures at c.in_ok-indices.ensures) (at_once (rw c.as_slice-2.ensures at c.found_place.ensures)))
-
-pub assign_under-returns-in_err-value : goal.assign_under-returns-in_err-value
-assign_under-returns-in_err-value g t c = exits _ _ c.from_residual.ensures.1 (breaks_off _ c.in_err-value.ensures)
-
-pub assign_under-returns : goal.assign_under-returns
-assign_under-returns g t c = goes_on _ c.in_ok-value.ensures (at_once c.assign_place.ensures)
+found_at-returns g t c = rw run-place (then_on (rw c.as_slice.ensures at c.values.ensures) c.then_found.ensures)
 
 pub compound_under-returns-in_err-old : goal.compound_under-returns-in_err-old
 compound_under-returns-in_err-old g t c = exits _ _ c.from_residual.ensures.1 (breaks_off _ (at_once c.in_err-old.ensures))
 
 pub compound_under-returns : goal.compound_under-returns
-compound_under-returns g t c = goes_on _ (at_once c.in_ok-old.ensures) c.compound_from-answer.ensures
-
-pub compound_from-returns-in_err-value : goal.compound_from-returns-in_err-value
-compound_from-returns-in_err-value g t c = exits _ _ c.from_residual.ensures.1 (breaks_off _ c.in_err-value.ensures)
-
-pub compound_from-returns : goal.compound_from-returns
-compound_from-returns g t c = goes_on _ c.in_ok-value.ensures (at_once c.combine-answer.ensures)
+compound_under-returns g t c = goes_on _ (at_once c.in_ok-old.ensures) (then_on c.expression-value.ensures c.then_combine-answer.ensures)
 
 pub coalesce_under-returns-in_err-old : goal.coalesce_under-returns-in_err-old
 coalesce_under-returns-in_err-old g t c = exits _ _ c.from_residual.ensures.1 (breaks_off _ (at_once c.in_err-old.ensures))
@@ -374,7 +315,8 @@ coalesce_under-returns-in-Some g t c =
 
 pub coalesce_under-returns-in-None : goal.coalesce_under-returns-in-None
 coalesce_under-returns-in-None g t c =
-    goes_on _ (at_once c.in_ok-old.ensures) (rw (present-none _ (sym c.present.ensures ∙ c.in-None.is)) c.assign_under.ensures)
+    goes_on _ (at_once c.in_ok-old.ensures) (rw (present-none _ (sym c.present.ensures ∙ c.in-None.is))
+    (then_on c.expression.ensures c.then_assign.ensures))
 
 pub isset-returns-in_err-found : goal.isset-returns-in_err-found
 isset-returns-in_err-found g t c =
@@ -393,12 +335,6 @@ isset-loop-place-preserved g t c =
 
 pub isset-returns : goal.isset-returns
 isset-returns g t c = c.loop-place.invariant _ _ (rw (drop_of_length-le c.args.places.now c.loop-place-test.false) gives)
-
-pub print-returns-in_err-value : goal.print-returns-in_err-value
-print-returns-in_err-value g t c = exits _ _ c.from_residual.ensures.1 (breaks_off _ c.in_err-value.ensures)
-
-pub print-returns : goal.print-returns
-print-returns g t c = goes_on _ c.in_ok-value.ensures (at_once c.print_value-answer.ensures)
 
 pub unset-returns-in_err-indices : goal.unset-returns-in_err-indices
 unset-returns-in_err-indices g t c =
@@ -563,47 +499,46 @@ body-returns-in-Return g t c =
 pub body-returns : goal.body-returns
 body-returns g t c = c.loop-statement.invariant _ _ (rw (drop_of_length-le c.args.statements.now c.loop-statement-test.false) gives)
 
-pub statement-returns : goal.statement-returns
-statement-returns g t c = rw run-statement c.kind.ensures
+pub statement-returns-in_err-place-in-Expression : goal.statement-returns-in_err-place-in-Expression
+statement-returns-in_err-place-in-Expression g t c =
+    exits _ _ c.from_residual.ensures.1 (rw (run-statement, c.in-Expression.is, kind-Expression) (stops_at c.in_err-place-in-Expression.ensures))
 
-pub kind-returns-in_err-place-in-Expression : goal.kind-returns-in_err-place-in-Expression
-kind-returns-in_err-place-in-Expression g t c =
-    exits _ _ c.from_residual.ensures.1 (rw (c.in-Expression.is, kind-Expression) (stops_at c.in_err-place-in-Expression.ensures))
+pub statement-returns-in_ok-place-in-Expression : goal.statement-returns-in_ok-place-in-Expression
+statement-returns-in_ok-place-in-Expression g t c =
+    rw (run-statement, c.in-Expression.is, kind-Expression) (passes c.in_ok-place-in-Expression.ensures (then_on c.expression.ensures (c.then_next.ensures _)))
 
-pub kind-returns-in_ok-place-in-Expression : goal.kind-returns-in_ok-place-in-Expression
-kind-returns-in_ok-place-in-Expression g t c =
-    rw (c.in-Expression.is, kind-Expression) (passes c.in_ok-place-in-Expression.ensures c.evaluated.ensures)
+pub statement-returns-in_err-place-in-Echo : goal.statement-returns-in_err-place-in-Echo
+statement-returns-in_err-place-in-Echo g t c =
+    exits _ _ c.from_residual-in_err-place-in-Echo.ensures.1 (rw (run-statement, c.in-Echo.is, kind-Echo) (stops_at c.in_err-place-in-Echo.ensures))
 
-pub kind-returns-in_err-place-in-Echo : goal.kind-returns-in_err-place-in-Echo
-kind-returns-in_err-place-in-Echo g t c =
-    exits _ _ c.from_residual-in_err-place-in-Echo.ensures.1 (rw (c.in-Echo.is, kind-Echo) (stops_at c.in_err-place-in-Echo.ensures))
+pub statement-returns-in_ok-place-in-Echo : goal.statement-returns-in_ok-place-in-Echo
+statement-returns-in_ok-place-in-Echo g t c =
+    rw (run-statement, c.in-Echo.is, kind-Echo) (passes c.in_ok-place-in-Echo.ensures (rw c.as_slice.ensures at c.echo.ensures))
 
-pub kind-returns-in_ok-place-in-Echo : goal.kind-returns-in_ok-place-in-Echo
-kind-returns-in_ok-place-in-Echo g t c =
-    rw (c.in-Echo.is, kind-Echo) (passes c.in_ok-place-in-Echo.ensures (rw c.as_slice.ensures at c.echo.ensures))
+pub statement-returns-in-Block : goal.statement-returns-in-Block
+statement-returns-in-Block g t c = rw (run-statement, c.in-Block.is, kind-Block) (rw c.as_slice-in-Block.ensures at c.body.ensures)
 
-pub kind-returns-in-Block : goal.kind-returns-in-Block
-kind-returns-in-Block g t c = rw (c.in-Block.is, kind-Block) (rw c.as_slice-in-Block.ensures at c.body.ensures)
+pub statement-returns-in-Empty : goal.statement-returns-in-Empty
+statement-returns-in-Empty g t c = rw (run-statement, c.in-Empty.is, kind-Empty) gives
 
-pub kind-returns-in-Empty : goal.kind-returns-in-Empty
-kind-returns-in-Empty g t c = rw (c.in-Empty.is, kind-Empty) gives
+pub statement-returns-in-If : goal.statement-returns-in-If
+statement-returns-in-If g t c = rw (run-statement, c.in-If.is, kind-If) (rw c.as_slice-in-If.ensures at c.arms.ensures)
 
-pub kind-returns-in-If : goal.kind-returns-in-If
-kind-returns-in-If g t c = rw (c.in-If.is, kind-If) (rw c.as_slice-in-If.ensures at c.arms.ensures)
-
-pub kind-returns-in-While : goal.kind-returns-in-While
-kind-returns-in-While g t c =
+pub statement-returns-in-While : goal.statement-returns-in-While
+statement-returns-in-While g t c =
     rw (
+      run-statement,
       c.in-While.is,
       kind-While,
-      bounded-turns c.args.self.now.bundle.now c.args.self.now.bound c.args.self.now.depth c.args.line
+      bounded-turns c.args.self.now.bundle.now c.args.self.now.bound c.args.self.now.depth c.args.statement.now.line
           (statement_run c.in-While.body (goes_by c.args.self.now)) c.args.state.now (evaluations (c.in-While.test ∷ []) (goes_by c.args.self.now))
           (evaluations [] (goes_by c.args.self.now)),
     ) (rw (c.from_ref.ensures.value, c.as_ref.ensures) at c.turns.ensures)
 
-pub kind-returns-in-DoWhile : goal.kind-returns-in-DoWhile
-kind-returns-in-DoWhile g t c =
+pub statement-returns-in-DoWhile : goal.statement-returns-in-DoWhile
+statement-returns-in-DoWhile g t c =
     rw (
+      run-statement,
       c.in-DoWhile.is,
       kind-DoWhile,
       bounded-do c.args.self.now.bundle.now c.args.self.now.bound c.args.self.now.depth c.in-DoWhile.end
@@ -611,91 +546,69 @@ kind-returns-in-DoWhile g t c =
     )
     (rw c.as_ref-in-DoWhile.ensures at c.do_turns.ensures)
 
-pub kind-returns-in_err-place-in-For : goal.kind-returns-in_err-place-in-For
-kind-returns-in_err-place-in-For g t c =
-    exits _ _ c.from_residual-in_err-place-in-For.ensures.1 (rw (c.in-For.is, kind-For) (stops_at c.in_err-place-in-For.ensures))
+pub statement-returns-in_err-place-in-For : goal.statement-returns-in_err-place-in-For
+statement-returns-in_err-place-in-For g t c =
+    exits _ _ c.from_residual-in_err-place-in-For.ensures.1 (rw (run-statement, c.in-For.is, kind-For) (stops_at c.in_err-place-in-For.ensures))
 
-pub kind-returns-in_ok-place-in-For : goal.kind-returns-in_ok-place-in-For
-kind-returns-in_ok-place-in-For g t c =
-    rw (c.in-For.is, kind-For) (passes c.in_ok-place-in-For.ensures
+pub statement-returns-in_ok-place-in-For : goal.statement-returns-in_ok-place-in-For
+statement-returns-in_ok-place-in-For g t c =
+    rw (run-statement, c.in-For.is, kind-For) (passes c.in_ok-place-in-For.ensures
     (rw (c.as_slice-in-For.ensures, c.as_slice-in-For-2.ensures, c.as_slice-in-For-3.ensures, c.as_ref-in-For.ensures) at c.for_turns.ensures))
 
-pub kind-returns-in_err-place-in-Foreach : goal.kind-returns-in_err-place-in-Foreach
-kind-returns-in_err-place-in-Foreach g t c =
-    exits _ _ c.from_residual-in_err-place-in-Foreach.ensures.1 (rw (c.in-Foreach.is, kind-Foreach) (stops_at c.in_err-place-in-Foreach.ensures))
+pub statement-returns-in_err-place-in-Foreach : goal.statement-returns-in_err-place-in-Foreach
+statement-returns-in_err-place-in-Foreach g t c =
+    exits _ _ c.from_residual-in_err-place-in-Foreach.ensures.1 (rw (run-statement, c.in-Foreach.is, kind-Foreach) (stops_at c.in_err-place-in-Foreach.ensures))
 
-pub kind-returns-in_ok-place-in-Foreach : goal.kind-returns-in_ok-place-in-Foreach
-kind-returns-in_ok-place-in-Foreach g t c =
-    rw (c.in-Foreach.is, kind-Foreach) (passes c.in_ok-place-in-Foreach.ensures (rw c.as_ref-in-Foreach.ensures at c.foreach.ensures))
+pub statement-returns-in_ok-place-in-Foreach : goal.statement-returns-in_ok-place-in-Foreach
+statement-returns-in_ok-place-in-Foreach g t c =
+    rw (run-statement, c.in-Foreach.is, kind-Foreach) (passes c.in_ok-place-in-Foreach.ensures (rw c.as_ref-in-Foreach.ensures at c.foreach.ensures))
 
-pub kind-returns-in_err-place-in-Break : goal.kind-returns-in_err-place-in-Break
-kind-returns-in_err-place-in-Break g t c =
-    exits _ _ c.from_residual-in_err-place-in-Break.ensures.1 (rw (c.in-Break.is, kind-Break) (stops_at c.in_err-place-in-Break.ensures))
+pub statement-returns-in-Break : goal.statement-returns-in-Break
+statement-returns-in-Break g t c =
+    rw (run-statement, c.in-Break.is, kind-Break) (then_at c.place-in-Break.ensures (c.then_signal.ensures _))
 
-pub kind-returns-in_ok-place-in-Break : goal.kind-returns-in_ok-place-in-Break
-kind-returns-in_ok-place-in-Break g t c = rw (c.in-Break.is, kind-Break) (passes c.in_ok-place-in-Break.ensures gives)
+pub statement-returns-in-Continue : goal.statement-returns-in-Continue
+statement-returns-in-Continue g t c =
+    rw (run-statement, c.in-Continue.is, kind-Continue) (then_at c.place-in-Continue.ensures (c.then_signal-in-Continue.ensures _))
 
-pub kind-returns-in_err-place-in-Continue : goal.kind-returns-in_err-place-in-Continue
-kind-returns-in_err-place-in-Continue g t c =
-    exits _ _ c.from_residual-in_err-place-in-Continue.ensures.1 (rw (c.in-Continue.is, kind-Continue)
-    (stops_at c.in_err-place-in-Continue.ensures))
+pub statement-returns-in_err-place-in-Return : goal.statement-returns-in_err-place-in-Return
+statement-returns-in_err-place-in-Return g t c =
+    exits _ _ c.from_residual-in_err-place-in-Return.ensures.1 (rw (run-statement, c.in-Return.is, kind-Return) (stops_at c.in_err-place-in-Return.ensures))
 
-pub kind-returns-in_ok-place-in-Continue : goal.kind-returns-in_ok-place-in-Continue
-kind-returns-in_ok-place-in-Continue g t c = rw (c.in-Continue.is, kind-Continue) (passes c.in_ok-place-in-Continue.ensures gives)
+pub statement-returns-in_ok-place-in-Return : goal.statement-returns-in_ok-place-in-Return
+statement-returns-in_ok-place-in-Return g t c = rw (run-statement, c.in-Return.is, kind-Return) (passes c.in_ok-place-in-Return.ensures c.return_value.ensures)
 
-pub kind-returns-in_err-place-in-Return : goal.kind-returns-in_err-place-in-Return
-kind-returns-in_err-place-in-Return g t c =
-    exits _ _ c.from_residual-in_err-place-in-Return.ensures.1 (rw (c.in-Return.is, kind-Return) (stops_at c.in_err-place-in-Return.ensures))
+pub statement-returns-in_err-place-in-Global : goal.statement-returns-in_err-place-in-Global
+statement-returns-in_err-place-in-Global g t c =
+    exits _ _ c.from_residual-in_err-place-in-Global.ensures.1 (rw (run-statement, c.in-Global.is, kind-Global) (stops_at c.in_err-place-in-Global.ensures))
 
-pub kind-returns-in_ok-place-in-Return : goal.kind-returns-in_ok-place-in-Return
-kind-returns-in_ok-place-in-Return g t c = rw (c.in-Return.is, kind-Return) (passes c.in_ok-place-in-Return.ensures c.return_value.ensures)
+pub statement-returns-in_ok-place-in-Global : goal.statement-returns-in_ok-place-in-Global
+statement-returns-in_ok-place-in-Global g t c =
+    rw (run-statement, c.in-Global.is, kind-Global) (passes c.in_ok-place-in-Global.ensures (next-done (then_on
+    (at_once (rw c.as_slice-in-Global.ensures at c.bind_all.ensures)) (c.then_signal-in-Global.ensures _))))
 
-pub kind-returns-in_err-place-in-Global : goal.kind-returns-in_err-place-in-Global
-kind-returns-in_err-place-in-Global g t c =
-    exits _ _ c.from_residual-in_err-place-in-Global.ensures.1 (rw (c.in-Global.is, kind-Global) (stops_at c.in_err-place-in-Global.ensures))
+pub statement-returns-in_err-place-in-Unset : goal.statement-returns-in_err-place-in-Unset
+statement-returns-in_err-place-in-Unset g t c =
+    exits _ _ c.from_residual-in_err-place-in-Unset.ensures.1 (rw (run-statement, c.in-Unset.is, kind-Unset) (stops_at c.in_err-place-in-Unset.ensures))
 
-pub kind-returns-in_ok-bind_all-in-Global : goal.kind-returns-in_ok-bind_all-in-Global
-kind-returns-in_ok-bind_all-in-Global g t c =
-    rw (c.in-Global.is, kind-Global) (passes c.in_ok-place-in-Global.ensures (then-next (at_once (rw c.as_slice-in-Global.ensures at c.in_ok-bind_all-in-Global.ensures))))
+pub statement-returns-in_ok-place-in-Unset : goal.statement-returns-in_ok-place-in-Unset
+statement-returns-in_ok-place-in-Unset g t c =
+    rw (run-statement, c.in-Unset.is, kind-Unset) (passes c.in_ok-place-in-Unset.ensures (then_on
+    (rw c.as_slice-in-Unset.ensures at c.unset.ensures) (c.then_signal-in-Unset.ensures _)))
 
-pub kind-returns-in_err-bind_all-in-Global : goal.kind-returns-in_err-bind_all-in-Global
-kind-returns-in_err-bind_all-in-Global g t c =
-    exits _ _ c.from_residual-in_err-bind_all-in-Global.ensures.1 (rw (c.in-Global.is, kind-Global) (passes c.in_ok-place-in-Global.ensures
-    (next-off (at_once (rw c.as_slice-in-Global.ensures at c.in_err-bind_all-in-Global.ensures)))))
+pub statement-returns-in_err-place-in-Exit : goal.statement-returns-in_err-place-in-Exit
+statement-returns-in_err-place-in-Exit g t c =
+    exits _ _ c.from_residual-in_err-place-in-Exit.ensures.1 (rw (run-statement, c.in-Exit.is, kind-Exit) (stops_at c.in_err-place-in-Exit.ensures))
 
-pub kind-returns-in_err-place-in-Unset : goal.kind-returns-in_err-place-in-Unset
-kind-returns-in_err-place-in-Unset g t c =
-    exits _ _ c.from_residual-in_err-place-in-Unset.ensures.1 (rw (c.in-Unset.is, kind-Unset) (stops_at c.in_err-place-in-Unset.ensures))
+pub statement-returns-in_ok-place-in-Exit : goal.statement-returns-in_ok-place-in-Exit
+statement-returns-in_ok-place-in-Exit g t c = rw (run-statement, c.in-Exit.is, kind-Exit) (passes c.in_ok-place-in-Exit.ensures c.exit.ensures)
 
-pub kind-returns-in_err-unset-in-Unset : goal.kind-returns-in_err-unset-in-Unset
-kind-returns-in_err-unset-in-Unset g t c =
-    exits _ _ c.from_residual-in_err-unset-in-Unset.ensures.1 (rw (c.in-Unset.is, kind-Unset) (passes c.in_ok-place-in-Unset.ensures (breaks_off _
-    (rw c.as_slice-in-Unset.ensures at c.in_err-unset-in-Unset.ensures))))
-
-pub kind-returns-in_ok-unset-in-Unset : goal.kind-returns-in_ok-unset-in-Unset
-kind-returns-in_ok-unset-in-Unset g t c =
-    rw (c.in-Unset.is, kind-Unset) (passes c.in_ok-place-in-Unset.ensures (goes_on _
-    (rw c.as_slice-in-Unset.ensures at c.in_ok-unset-in-Unset.ensures) gives))
-
-pub kind-returns-in_err-place-in-Exit : goal.kind-returns-in_err-place-in-Exit
-kind-returns-in_err-place-in-Exit g t c =
-    exits _ _ c.from_residual-in_err-place-in-Exit.ensures.1 (rw (c.in-Exit.is, kind-Exit) (stops_at c.in_err-place-in-Exit.ensures))
-
-pub kind-returns-in_ok-place-in-Exit : goal.kind-returns-in_ok-place-in-Exit
-kind-returns-in_ok-place-in-Exit g t c = rw (c.in-Exit.is, kind-Exit) (passes c.in_ok-place-in-Exit.ensures c.exit.ensures)
-
-pub evaluated-returns-in_err-value : goal.evaluated-returns-in_err-value
-evaluated-returns-in_err-value g t c = exits _ _ c.from_residual.ensures.1 (breaks_off _ c.in_err-value.ensures)
-
-pub evaluated-returns : goal.evaluated-returns
-evaluated-returns g t c = goes_on _ c.in_ok-value.ensures gives
-
-pub for_turns-returns-in_err-_values : goal.for_turns-returns-in_err-_values
-for_turns-returns-in_err-_values g t c = exits _ _ c.from_residual.ensures.1 (breaks_off _ c.in_err-_values.ensures)
+pub for_turns-returns-in_err-done : goal.for_turns-returns-in_err-done
+for_turns-returns-in_err-done g t c = exits _ _ c.from_residual.ensures.1 (breaks_off _ c.in_err-done.ensures)
 
 pub for_turns-returns : goal.for_turns-returns
 for_turns-returns g t c =
-    goes_on _ c.in_ok-_values.ensures (runs-for c.args.self.now.bundle.now c.args.self.now.bound c.args.self.now.depth c.args.line
+    goes_on _ c.in_ok-done.ensures (runs-for c.args.self.now.bundle.now c.args.self.now.bound c.args.self.now.depth c.args.line
     (statement_run c.args.body.now (goes_by c.args.self.now)) c.values.new.state c.args.tests.now c.args.after.now (statement_run c.args.body.now) []
     c.turns.ensures)
 
@@ -705,16 +618,16 @@ foreach-returns-in_err-subject g t c = exits _ _ c.from_residual.ensures.1 (brea
 pub foreach-returns : goal.foreach-returns
 foreach-returns g t c = goes_on _ c.in_ok-subject.ensures c.each-answer.ensures
 
-pub echo-returns-in_err-print : goal.echo-returns-in_err-print
-echo-returns-in_err-print g t c =
+pub echo-returns-in_err-then_print : goal.echo-returns-in_err-then_print
+echo-returns-in_err-then_print g t c =
     exits _ _ c.from_residual.ensures.1 (c.loop-operand.invariant _ _ (rw
     (front _ c.loop-operand.operand-index c.operand-item.result c.loop-operand-test.true c.operand-item.is)
-    (joined_off _ print_run _ c.in_err-print.ensures)))
+    (joined_off _ print_run _ (then_on c.expression.ensures c.in_err-then_print.ensures))))
 
 pub echo-loop-operand-preserved : goal.echo-loop-operand-preserved
 echo-loop-operand-preserved g t c =
     λ x u e. c.loop-operand.invariant x u (rw (front _ c.loop-operand.operand-index c.operand-item.result c.loop-operand-test.true
-    c.operand-item.is) (joined_on _ print_run _ c.in_ok-print.ensures e))
+    c.operand-item.is) (joined_on _ print_run _ (then_on c.expression.ensures c.in_ok-then_print.ensures) e))
 
 pub echo-returns : goal.echo-returns
 echo-returns g t c = c.loop-operand.invariant _ _ (rw (drop_of_length-le c.args.operands.now c.loop-operand-test.false) gives)
@@ -729,19 +642,19 @@ arms-returns-in_err-holds g t c =
     exits _ _ c.from_residual-in_err-holds.ensures.1 (c.loop-arm.invariant _ _ (rw
     (front _ c.loop-arm.arm-index c.arm-item.result c.loop-arm-test.true c.arm-item.is, run-arm) (passes c.in_ok-place.ensures
     (tested_off _ (λ b u. if b then statement_run c.arm-item.result.body (goes_by c.args.self.now) u else arms_run
-    (map arm_run (drop (c.loop-arm.arm-index + 1) c.args.arms.now)) (option_map statement_run c.args.otherwise.now) (goes_by c.args.self.now) u) c.in_err-holds.ensures))))
+    (map arm_run (drop (c.loop-arm.arm-index + 1) c.args.arms.now)) (option_map statement_run c.args.otherwise.now) (goes_by c.args.self.now) u) (then_on c.expression.ensures (c.in_err-holds.ensures _))))))
 
 pub arms-returns-then-holds : goal.arms-returns-then-holds
 arms-returns-then-holds g t c =
     c.loop-arm.invariant _ _ (rw (front _ c.loop-arm.arm-index c.arm-item.result c.loop-arm-test.true c.arm-item.is, run-arm)
     (passes c.in_ok-place.ensures (tested_on _ (λ b u. if b then statement_run c.arm-item.result.body (goes_by c.args.self.now) u else arms_run
-    (map arm_run (drop (c.loop-arm.arm-index + 1) c.args.arms.now)) (option_map statement_run c.args.otherwise.now) (goes_by c.args.self.now) u) c.in_ok-holds.ensures (rw c.if-holds.true c.statement.ensures))))
+    (map arm_run (drop (c.loop-arm.arm-index + 1) c.args.arms.now)) (option_map statement_run c.args.otherwise.now) (goes_by c.args.self.now) u) (then_on c.expression.ensures (c.in_ok-holds.ensures _)) (rw c.if-holds.true c.statement.ensures))))
 
 pub arms-loop-arm-preserved : goal.arms-loop-arm-preserved
 arms-loop-arm-preserved g t c =
     λ x u e. c.loop-arm.invariant x u (rw (front _ c.loop-arm.arm-index c.arm-item.result c.loop-arm-test.true c.arm-item.is, run-arm)
     (passes c.in_ok-place.ensures (tested_on _ (λ b u. if b then statement_run c.arm-item.result.body (goes_by c.args.self.now) u else arms_run
-    (map arm_run (drop (c.loop-arm.arm-index + 1) c.args.arms.now)) (option_map statement_run c.args.otherwise.now) (goes_by c.args.self.now) u) c.in_ok-holds.ensures (rw c.if-holds.false e))))
+    (map arm_run (drop (c.loop-arm.arm-index + 1) c.args.arms.now)) (option_map statement_run c.args.otherwise.now) (goes_by c.args.self.now) u) (then_on c.expression.ensures (c.in_ok-holds.ensures _)) (rw c.if-holds.false e))))
 
 pub arms-returns-in-None : goal.arms-returns-in-None
 arms-returns-in-None g t c = c.loop-arm.invariant _ _ (rw (drop_of_length-le c.args.arms.now c.loop-arm-test.false, c.in-None.is) gives)
@@ -754,21 +667,14 @@ arms-returns-in-Some g t c =
 pub return_value-returns-in-None : goal.return_value-returns-in-None
 return_value-returns-in-None g t c = rw c.in-None.is gives
 
-pub return_value-returns-in_err-value-in-Some : goal.return_value-returns-in_err-value-in-Some
-return_value-returns-in_err-value-in-Some g t c =
-    exits _ _ c.from_residual.ensures.1 (rw c.in-Some.is (breaks_off _ c.in_err-value-in-Some.ensures))
-
-pub return_value-returns-in_ok-value-in-Some : goal.return_value-returns-in_ok-value-in-Some
-return_value-returns-in_ok-value-in-Some g t c = rw c.in-Some.is (goes_on _ c.in_ok-value-in-Some.ensures gives)
+pub return_value-returns-in-Some : goal.return_value-returns-in-Some
+return_value-returns-in-Some g t c = rw c.in-Some.is (then_on c.expression.ensures (c.then_return.ensures _))
 
 pub exit-returns-in-None : goal.exit-returns-in-None
 exit-returns-in-None g t c = rw c.in-None.is ends
 
-pub exit-returns-in_err-value-in-Some : goal.exit-returns-in_err-value-in-Some
-exit-returns-in_err-value-in-Some g t c = exits _ _ c.from_residual.ensures.1 (rw c.in-Some.is (breaks_off _ c.in_err-value-in-Some.ensures))
-
-pub exit-returns-in_ok-value-in-Some : goal.exit-returns-in_ok-value-in-Some
-exit-returns-in_ok-value-in-Some g t c = rw c.in-Some.is (goes_on _ c.in_ok-value-in-Some.ensures (at_once c.exit_value-answer.ensures))
+pub exit-returns-in-Some : goal.exit-returns-in-Some
+exit-returns-in-Some g t c = rw c.in-Some.is (then_on c.expression.ensures c.then_exit.ensures)
 
 pub turns-returns-in_err-place : goal.turns-returns-in_err-place
 turns-returns-in_err-place g t c =
@@ -783,12 +689,12 @@ turns-returns-in_err-values g t c =
     (evaluations c.args.after.now (goes_by c.args.self.now)) (statement_run c.args.body.now (goes_by c.args.self.now))
     (omega arith) _ _ c.in_ok-place.ensures _ _ c.in_err-values.ensures))
 
-pub turns-returns-then-not-last_holds : goal.turns-returns-then-not-last_holds
-turns-returns-then-not-last_holds g t c =
+pub turns-returns-then-not-on : goal.turns-returns-then-not-on
+turns-returns-then-not-on g t c =
     c.loop-turn.invariant _ _ (turns-end _ (c.args.self.now.bound - c.loop-turn._turn) c.args.line (evaluations c.args.tests.now
     (goes_by c.args.self.now)) (evaluations c.args.after.now (goes_by c.args.self.now)) (statement_run c.args.body.now
     (goes_by c.args.self.now)) (omega arith) _ _ c.in_ok-place.ensures _ _ c.in_ok-values.ensures (rw c.as_slice.ensures at
-    (sym c.last_holds.ensures ∙ c.if-not-last_holds.true)))
+    (sym c.last_holds-on.ensures ∙ c.if-not-on.true)))
 
 pub turns-returns-in_err-statement : goal.turns-returns-in_err-statement
 turns-returns-in_err-statement g t c =
@@ -796,23 +702,23 @@ turns-returns-in_err-statement g t c =
     (c.args.self.now.bound - c.loop-turn._turn) c.args.line (evaluations c.args.tests.now (goes_by c.args.self.now))
     (evaluations c.args.after.now (goes_by c.args.self.now)) (statement_run c.args.body.now (goes_by c.args.self.now))
     (omega arith) _ _ c.in_ok-place.ensures _ _ c.in_ok-values.ensures (rw c.as_slice.ensures at
-    (sym c.last_holds.ensures ∙ c.if-not-last_holds.false)) _ _ c.in_err-statement.ensures))
+    (sym c.last_holds-on.ensures ∙ c.if-not-on.false)) _ _ c.in_err-statement.ensures))
 
 pub turns-returns-in-Out : goal.turns-returns-in-Out
 turns-returns-in-Out g t c =
     c.loop-turn.invariant _ _ (body-out _ (c.args.self.now.bound - c.loop-turn._turn) c.args.line (evaluations c.args.tests.now
     (goes_by c.args.self.now)) (evaluations c.args.after.now (goes_by c.args.self.now)) (statement_run c.args.body.now
     (goes_by c.args.self.now)) (omega arith) _ _ c.in_ok-place.ensures _ _ c.in_ok-values.ensures (rw c.as_slice.ensures at
-    (sym c.last_holds.ensures ∙ c.if-not-last_holds.false)) _ _ c.in_ok-statement.ensures _ (sym c.turn_over.ensures ∙ c.in-Out.is))
+    (sym c.last_holds-on.ensures ∙ c.if-not-on.false)) _ _ c.in_ok-statement.ensures _ (sym c.turn_over.ensures ∙ c.in-Out.is))
 
-pub turns-returns-in_err-_values : goal.turns-returns-in_err-_values
-turns-returns-in_err-_values g t c =
-    exits _ _ c.from_residual-in_err-_values.ensures.1 (c.loop-turn.invariant _ _ (next-breaks _
+pub turns-returns-in_err-done : goal.turns-returns-in_err-done
+turns-returns-in_err-done g t c =
+    exits _ _ c.from_residual-in_err-done.ensures.1 (c.loop-turn.invariant _ _ (next-breaks _
     (c.args.self.now.bound - c.loop-turn._turn) c.args.line (evaluations c.args.tests.now (goes_by c.args.self.now))
     (evaluations c.args.after.now (goes_by c.args.self.now)) (statement_run c.args.body.now (goes_by c.args.self.now))
     (omega arith) _ _ c.in_ok-place.ensures _ _ c.in_ok-values.ensures (rw c.as_slice.ensures at
-    (sym c.last_holds.ensures ∙ c.if-not-last_holds.false)) _ _ c.in_ok-statement.ensures
-    (sym c.turn_over.ensures ∙ c.in-On.is) _ _ c.in_err-_values.ensures))
+    (sym c.last_holds-on.ensures ∙ c.if-not-on.false)) _ _ c.in_ok-statement.ensures
+    (sym c.turn_over.ensures ∙ c.in-On.is) _ _ c.in_err-done.ensures))
 
 pub turns-loop-turn-preserved : goal.turns-loop-turn-preserved
 turns-loop-turn-preserved g t c =
@@ -820,8 +726,8 @@ turns-loop-turn-preserved g t c =
     c.loop-turn.invariant x u (turn-goes-on _ (c.args.self.now.bound - c.loop-turn._turn) c.args.line (evaluations c.args.tests.now
     (goes_by c.args.self.now)) (evaluations c.args.after.now (goes_by c.args.self.now)) (statement_run c.args.body.now
     (goes_by c.args.self.now)) (omega arith) _ _ c.in_ok-place.ensures _ _ c.in_ok-values.ensures (rw c.as_slice.ensures at
-    (sym c.last_holds.ensures ∙ c.if-not-last_holds.false)) _ _ c.in_ok-statement.ensures
-    (sym c.turn_over.ensures ∙ c.in-On.is) _ _ x u c.in_ok-_values.ensures (rw n at e))
+    (sym c.last_holds-on.ensures ∙ c.if-not-on.false)) _ _ c.in_ok-statement.ensures
+    (sym c.turn_over.ensures ∙ c.in-On.is) _ _ x u c.in_ok-done.ensures (rw n at e))
 
 pub turns-returns : goal.turns-returns
 turns-returns g t c = let n : c.args.self.now.bound - c.loop-turn._turn ≡ 0 = omega arith in c.loop-turn.invariant _ _ (rw n ends)
@@ -850,20 +756,20 @@ do_turns-returns-in_err-holds g t c =
     exits _ _ c.from_residual-in_err-holds.ensures.1 (c.loop-turn.invariant _ _ (do-test-breaks _
     (c.args.self.now.bound - c.loop-turn._turn) c.args.line (evaluation c.args.test.now (goes_by c.args.self.now))
     (statement_run c.args.body.now (goes_by c.args.self.now)) (omega arith) _ _ _ c.in_ok-statement.ensures
-    (sym c.turn_over.ensures ∙ c.in-On.is) _ c.in_ok-place.ensures _ _ c.in_err-holds.ensures))
+    (sym c.turn_over.ensures ∙ c.in-On.is) _ c.in_ok-place.ensures _ _ (then_on c.expression.ensures (c.in_err-holds.ensures _))))
 
 pub do_turns-returns-then-not-holds : goal.do_turns-returns-then-not-holds
 do_turns-returns-then-not-holds g t c =
     c.loop-turn.invariant _ _ (do-end _ (c.args.self.now.bound - c.loop-turn._turn) c.args.line (evaluation c.args.test.now
     (goes_by c.args.self.now)) (statement_run c.args.body.now (goes_by c.args.self.now)) (omega arith) _ _ _ c.in_ok-statement.ensures
-    (sym c.turn_over.ensures ∙ c.in-On.is) _ c.in_ok-place.ensures _ _ c.in_ok-holds.ensures c.if-not-holds.true)
+    (sym c.turn_over.ensures ∙ c.in-On.is) _ c.in_ok-place.ensures _ _ (then_on c.expression.ensures (c.in_ok-holds.ensures _)) c.if-not-holds.true)
 
 pub do_turns-loop-turn-preserved : goal.do_turns-loop-turn-preserved
 do_turns-loop-turn-preserved g t c =
     λ x u e. let n : c.args.self.now.bound - (c.loop-turn._turn + 1) ≡ c.args.self.now.bound - c.loop-turn._turn - 1 = omega arith in
     c.loop-turn.invariant x u (do-goes-on _ (c.args.self.now.bound - c.loop-turn._turn) c.args.line (evaluation c.args.test.now
     (goes_by c.args.self.now)) (statement_run c.args.body.now (goes_by c.args.self.now)) (omega arith) _ _ _ c.in_ok-statement.ensures
-    (sym c.turn_over.ensures ∙ c.in-On.is) _ c.in_ok-place.ensures _ _ c.in_ok-holds.ensures
+    (sym c.turn_over.ensures ∙ c.in-On.is) _ c.in_ok-place.ensures _ _ (then_on c.expression.ensures (c.in_ok-holds.ensures _))
     c.if-not-holds.false x u (rw n at e))
 
 pub do_turns-returns : goal.do_turns-returns
@@ -909,21 +815,22 @@ each-returns g t c =
     let h : length c.in-Array.array.pairs ≤ c.loop-at.at = omega (arith, c.len-at-end.ensures.len) in c.loop-at.invariant _ _ (rw
     (drop_of_length-le c.in-Array.array.pairs h) gives)
 
-pub kind-evaluated-requires : goal.kind-evaluated-requires
-kind-evaluated-requires g t c = λ κs h. (omega (arith, ap kind_size c.in-Expression.is ∙ size-Expression _, c.decreases), h)
+pub statement-expression-requires : goal.statement-expression-requires
+statement-expression-requires g t c = λ κs h. (omega (arith, size-statement c.args.statement.now, ap kind_size c.in-Expression.is ∙ size-Expression _, c.decreases), h)
 
-pub kind-echo-requires : goal.kind-echo-requires
-kind-echo-requires g t c = λ κs h. (omega (arith, ap kind_size c.in-Echo.is ∙ size-Echo _, ap expressions_size c.as_slice.ensures, c.decreases), h)
+pub statement-echo-requires : goal.statement-echo-requires
+statement-echo-requires g t c = λ κs h. (omega (arith, size-statement c.args.statement.now, ap kind_size c.in-Echo.is ∙ size-Echo _, ap expressions_size c.as_slice.ensures, c.decreases), h)
 
-pub kind-body-requires : goal.kind-body-requires
-kind-body-requires g t c =
-    λ κs h. (omega (arith, ap kind_size c.in-Block.is ∙ size-Block _, ap body_size c.as_slice-in-Block.ensures, c.decreases), h)
+pub statement-body-requires : goal.statement-body-requires
+statement-body-requires g t c =
+    λ κs h. (omega (arith, size-statement c.args.statement.now, ap kind_size c.in-Block.is ∙ size-Block _, ap body_size c.as_slice-in-Block.ensures, c.decreases), h)
 
-pub kind-arms-requires : goal.kind-arms-requires
-kind-arms-requires g t c =
+pub statement-arms-requires : goal.statement-arms-requires
+statement-arms-requires g t c =
     λ κs h. (
       omega (
         arith,
+        size-statement c.args.statement.now,
         ap kind_size c.in-If.is ∙ size-If c.in-If.arms c.in-If.otherwise,
         ap (λ (xs : List Arm). sizes_sum
             (map arm_size xs)) c.as_slice-in-If.ensures,
@@ -932,11 +839,12 @@ kind-arms-requires g t c =
       h,
     )
 
-pub kind-turns-requires : goal.kind-turns-requires
-kind-turns-requires g t c =
+pub statement-turns-requires : goal.statement-turns-requires
+statement-turns-requires g t c =
     λ κs h. (
       omega (
         arith,
+        size-statement c.args.statement.now,
         ap kind_size c.in-While.is ∙ size-While c.in-While.test c.in-While.body,
         ap expressions_size c.from_ref.ensures.value,
         ap statement_size c.as_ref.ensures,
@@ -945,11 +853,12 @@ kind-turns-requires g t c =
       h,
     )
 
-pub kind-do_turns-requires : goal.kind-do_turns-requires
-kind-do_turns-requires g t c =
+pub statement-do_turns-requires : goal.statement-do_turns-requires
+statement-do_turns-requires g t c =
     λ κs h. (
       omega (
         arith,
+        size-statement c.args.statement.now,
         ap kind_size c.in-DoWhile.is ∙ size-DoWhile c.in-DoWhile.body c.in-DoWhile.end c.in-DoWhile.test,
         ap statement_size
             c.as_ref-in-DoWhile.ensures,
@@ -958,11 +867,12 @@ kind-do_turns-requires g t c =
       h,
     )
 
-pub kind-for_turns-requires : goal.kind-for_turns-requires
-kind-for_turns-requires g t c =
+pub statement-for_turns-requires : goal.statement-for_turns-requires
+statement-for_turns-requires g t c =
     λ κs h. (
       omega (
         arith,
+        size-statement c.args.statement.now,
         ap kind_size c.in-For.is ∙ size-For c.in-For.before c.in-For.tests c.in-For.after c.in-For.body,
         ap expressions_size c.as_slice-in-For.ensures,
         ap expressions_size c.as_slice-in-For-2.ensures,
@@ -973,11 +883,12 @@ kind-for_turns-requires g t c =
       h,
     )
 
-pub kind-foreach-requires : goal.kind-foreach-requires
-kind-foreach-requires g t c =
+pub statement-foreach-requires : goal.statement-foreach-requires
+statement-foreach-requires g t c =
     λ κs h. (
       omega (
         arith,
+        size-statement c.args.statement.now,
         ap kind_size c.in-Foreach.is ∙ size-Foreach c.in-Foreach.subject c.in-Foreach.binding c.in-Foreach.body,
         ap statement_size c.as_ref-in-Foreach.ensures,
         c.decreases,
@@ -985,14 +896,15 @@ kind-foreach-requires g t c =
       h,
     )
 
-pub kind-return_value-requires : goal.kind-return_value-requires
-kind-return_value-requires g t c = λ κs h. (omega (arith, ap kind_size c.in-Return.is ∙ size-Return _, c.decreases), h)
+pub statement-return_value-requires : goal.statement-return_value-requires
+statement-return_value-requires g t c = λ κs h. (omega (arith, size-statement c.args.statement.now, ap kind_size c.in-Return.is ∙ size-Return _, c.decreases), h)
 
-pub kind-unset-requires : goal.kind-unset-requires
-kind-unset-requires g t c =
+pub statement-unset-requires : goal.statement-unset-requires
+statement-unset-requires g t c =
     λ κs h. (
       omega (
         arith,
+        size-statement c.args.statement.now,
         ap kind_size c.in-Unset.is ∙ size-Unset _,
         ap (λ
             (ps : List Place). most size-Place ps) c.as_slice-in-Unset.ensures,
@@ -1001,11 +913,8 @@ kind-unset-requires g t c =
       h,
     )
 
-pub kind-exit-requires : goal.kind-exit-requires
-kind-exit-requires g t c = λ κs h. (omega (arith, ap kind_size c.in-Exit.is ∙ size-Exit _, c.decreases), h)
-
-pub statement-kind-requires : goal.statement-kind-requires
-statement-kind-requires g t c = λ κs h. (omega (arith, size-statement c.args.statement.now, c.decreases), h)
+pub statement-exit-requires : goal.statement-exit-requires
+statement-exit-requires g t c = λ κs h. (omega (arith, size-statement c.args.statement.now, ap kind_size c.in-Exit.is ∙ size-Exit _, c.decreases), h)
 
 pub body-statement-requires : goal.body-statement-requires
 body-statement-requires g t c =
@@ -1019,8 +928,8 @@ body-statement-requires g t c =
       h,
     )
 
-pub arms-holds-requires : goal.arms-holds-requires
-arms-holds-requires g t c =
+pub arms-expression-requires : goal.arms-expression-requires
+arms-expression-requires g t c =
     λ κs h. (
       omega (
         arith,

@@ -21,7 +21,7 @@ use Rattle.dp_meaning.specs.inner.Parts.{item_run_of, link_run}
 use Rattle.dp_actions.specs.Loops.{do_turns, each_run, entries, turns}
 use Rattle.dp_actions.specs.Places.{isset_run, unset_run}
 use Rattle.dp_actions.specs.Bodies.{statements_of}
-use Rattle.dp_meaning.specs.inner.Sizes.{arm_size, body_size, expression_size, expressions_size, frame_size, kind_size, optional_size, sizes_sum, statement_size}
+use Rattle.dp_meaning.specs.inner.Sizes.{arm_size, body_size, expression_size, expressions_size, frame_size, optional_size, sizes_sum, statement_size}
 use Rattle.dp_meaning.specs.Statements.{arms_run, body_run, echoes, statement_run}
 use Rattle.dp_meaning.specs.inner.Parts.{arm_run}
 use Rattle.dp_meaning.proofs.ListLaws.{more_values}
@@ -36,9 +36,6 @@ decreases-array g l = l.self.now.depth * frame_size l.self.now.bundle.now + (4 *
 
 abbrev pub decreases-assign : goal.decreases-assign
 decreases-assign g l = l.self.now.depth * frame_size l.self.now.bundle.now + (4 * max (size-Place l.place.now) (size-Expression l.right.now) + 3)
-
-abbrev pub decreases-assign_under : goal.decreases-assign_under
-decreases-assign_under g l = l.self.now.depth * frame_size l.self.now.bundle.now + (4 * size-Expression l.right.now + 1)
 
 abbrev pub decreases-base : goal.decreases-base
 decreases-base g l = l.self.now.depth * frame_size l.self.now.bundle.now + (expression_size l.e.now + 2)
@@ -72,9 +69,6 @@ decreases-coalesce_under g l = l.self.now.depth * frame_size l.self.now.bundle.n
 abbrev pub decreases-compound : goal.decreases-compound
 decreases-compound g l = l.self.now.depth * frame_size l.self.now.bundle.now + (4 * max (size-Place l.place.now) (size-Expression l.right.now) + 3)
 
-abbrev pub decreases-compound_from : goal.decreases-compound_from
-decreases-compound_from g l = l.self.now.depth * frame_size l.self.now.bundle.now + (4 * size-Expression l.right.now + 1)
-
 abbrev pub decreases-compound_under : goal.decreases-compound_under
 decreases-compound_under g l = l.self.now.depth * frame_size l.self.now.bundle.now + (4 * size-Expression l.right.now + 2)
 
@@ -90,12 +84,6 @@ decreases-each g l = l.self.now.depth * frame_size l.self.now.bundle.now + (stat
 
 abbrev pub decreases-echo : goal.decreases-echo
 decreases-echo g l = l.self.now.depth * frame_size l.self.now.bundle.now + (expressions_size l.operands.now + 1)
-
-abbrev pub decreases-entry : goal.decreases-entry
-decreases-entry g l = l.self.now.depth * frame_size l.self.now.bundle.now + (4 * size-Expression l.e.now + 1)
-
-abbrev pub decreases-evaluated : goal.decreases-evaluated
-decreases-evaluated g l = l.self.now.depth * frame_size l.self.now.bundle.now + (expression_size l.e.now + 1)
 
 abbrev pub decreases-for_turns : goal.decreases-for_turns
 decreases-for_turns g l = l.self.now.depth * frame_size l.self.now.bundle.now +
@@ -122,12 +110,6 @@ decreases-found_at g l = l.self.now.depth * frame_size l.self.now.bundle.now + (
 abbrev pub decreases-function : goal.decreases-function
 decreases-function g l = l.self.now.depth * frame_size l.self.now.bundle.now + (body_size l.function.now.body + 1)
 
-abbrev pub decreases-holds : goal.decreases-holds
-decreases-holds g l = l.self.now.depth * frame_size l.self.now.bundle.now + (4 * size-Expression l.e.now + 1)
-
-abbrev pub decreases-print : goal.decreases-print
-decreases-print g l = l.self.now.depth * frame_size l.self.now.bundle.now + (4 * size-Expression l.e.now + 1)
-
 abbrev pub decreases-include : goal.decreases-include
 decreases-include g l = l.self.now.depth * frame_size l.self.now.bundle.now + 1
 
@@ -147,20 +129,8 @@ decreases-isset g l = l.self.now.depth * frame_size l.self.now.bundle.now + (4 *
 abbrev pub decreases-item : goal.decreases-item
 decreases-item g l = l.self.now.depth * frame_size l.self.now.bundle.now + (4 * size-Item l.item.now + 1)
 
-abbrev pub decreases-joined : goal.decreases-joined
-decreases-joined g l = l.self.now.depth * frame_size l.self.now.bundle.now + (4 * size-Expression l.operand.now + 1)
-
 abbrev pub decreases-keyed : goal.decreases-keyed
 decreases-keyed g l = l.self.now.depth * frame_size l.self.now.bundle.now + (4 * max (size-Expression l.key.now) (size-Expression l.item.now) + 2)
-
-abbrev pub decreases-keyed_by : goal.decreases-keyed_by
-decreases-keyed_by g l = l.self.now.depth * frame_size l.self.now.bundle.now + (4 * size-Expression l.item.now + 1)
-
-abbrev pub decreases-kind : goal.decreases-kind
-decreases-kind g l = l.self.now.depth * frame_size l.self.now.bundle.now + kind_size l.kind.now
-
-abbrev pub decreases-last : goal.decreases-last
-decreases-last g l = l.self.now.depth * frame_size l.self.now.bundle.now + (4 * size-Expression l.item.now + 1)
 
 abbrev pub decreases-link : goal.decreases-link
 decreases-link g l = l.self.now.depth * frame_size l.self.now.bundle.now + (4 * size-Link l.link.now + 1)
@@ -180,15 +150,9 @@ decreases-statement g l = l.self.now.depth * frame_size l.self.now.bundle.now + 
 abbrev pub decreases-step : goal.decreases-step
 decreases-step g l = l.self.now.depth * frame_size l.self.now.bundle.now + (4 * size-Place l.place.now + 3)
 
-abbrev pub decreases-truth : goal.decreases-truth
-decreases-truth g l = l.self.now.depth * frame_size l.self.now.bundle.now + (4 * size-Expression l.operand.now + 2)
-
 abbrev pub decreases-turns : goal.decreases-turns
 decreases-turns g l = l.self.now.depth * frame_size l.self.now.bundle.now +
     (expressions_size l.tests.now + expressions_size l.after.now + statement_size l.body.now + 1)
-
-abbrev pub decreases-unary : goal.decreases-unary
-decreases-unary g l = l.self.now.depth * frame_size l.self.now.bundle.now + (4 * size-Expression l.operand.now + 1)
 
 abbrev pub decreases-under : goal.decreases-under
 decreases-under g l = l.self.now.depth * frame_size l.self.now.bundle.now + (4 * most size-Expression l.indices.now + 2)

@@ -1,0 +1,9 @@
+use Rattle.std.proofs.Common.{refl}
+use Rattle.dp_actions.proofs.Acting.{gives}
+use Rattle.dp_actions.proofs.after.then_signal.Goals as goal
+
+pub returns-in-Ok : goal.returns-in-Ok
+returns-in-Ok c = λ s. record { done = rw c.in-Ok.is gives }
+
+pub returns-in-Err : goal.returns-in-Err
+returns-in-Err c = λ s. record { done = rw c.in-Err.is (refl, refl) }

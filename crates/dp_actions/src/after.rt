@@ -1,0 +1,251 @@
+//! What is done with what an evaluation answers: nothing where it broke off.
+
+ghost use Rattle.dp_state.specs.declared.state.State.{State as AnyState};
+ghost use Rattle.dp_value.specs.declared.value.Value.TheVariants as variant;
+ghost use Rattle.dp_value.specs.Value.{data_of};
+ghost use Rattle.dp_operations.specs.Binary.{binary_of};
+ghost use Rattle.dp_operations.specs.Unary.{unary_of};
+ghost use Rattle.dp_actions.specs.declared.signal.Signal.TheVariants as way;
+ghost use Rattle.dp_actions.specs.After.{Then};
+ghost use Rattle.dp_actions.specs.Effects.{exit_run, print_run};
+ghost use Rattle.dp_actions.specs.InPlace.{entries_by};
+ghost use Rattle.dp_actions.specs.Places.{assign_run, combined, found_run, step_under};
+ghost use Rattle.dp_actions.specs.Run.{Done};
+ghost use Rattle.dp_actions.specs.Values.{holds, value_run};
+
+use crate::answers::{exit_value, print_value, value_of};
+use crate::changes::{combine, step_place};
+use crate::halt::Halt;
+use crate::in_place::{Reading, look};
+use crate::places::{assign_place, found_place};
+use crate::signal::Signal;
+use dp_operations::{binary, unary};
+use dp_state::State;
+use dp_tree::Order;
+use dp_value::{BinaryOp, Bytes, Items, UnaryOp, Value, truthy};
+use std::alloc::Global;
+
+/// The value of an operator with one operand.
+pub fn then_unary(op: UnaryOp, operand: Result<Value, Halt>, state: &State) -> Result<Value, Halt>
+    ensures { Then operand (λ v s. value_run (unary_of op (data_of v)) s) state.now result state.now }
+{
+    match operand {
+        Ok(value) => {
+            let answer = value_of(unary(op, &value), state);
+            drop(value);
+            answer
+        }
+        Err(halt) => Err(halt),
+    }
+}
+
+/// The value of an operator with two operands.
+pub fn then_binary(
+    alloc: Global,
+    op: BinaryOp,
+    left: &Value,
+    right: Result<Value, Halt>,
+    state: &State,
+) -> Result<Value, Halt>
+    ensures { Then right (λ v s. value_run (binary_of op (data_of left.now) (data_of v)) s) state.now result state.now }
+{
+    match right {
+        Ok(value) => {
+            let answer = value_of(binary(alloc, op, left, &value), state);
+            drop(value);
+            answer
+        }
+        Err(halt) => Err(halt),
+    }
+}
+
+/// The entry of a value under an index.
+pub fn then_entry(
+    alloc: Global,
+    reading: Reading,
+    value: &Value,
+    at: Result<Value, Halt>,
+    state: &State,
+) -> Result<Value, Halt>
+    ensures { Then at (λ i s. value_run (entries_by reading (data_of value.now) (data_of i)) s) state.now result state.now }
+{
+    match at {
+        Ok(at) => {
+            let answer = value_of(look(alloc, reading, value, &at), state);
+            drop(at);
+            answer
+        }
+        Err(halt) => Err(halt),
+    }
+}
+
+/// Whether a value holds.
+pub fn then_holds(value: Result<Value, Halt>) -> Result<bool, Halt>
+    ensures { (s : AnyState) → Then value (λ v t. Done (holds v) t) s result s }
+{
+    match value {
+        Ok(value) => {
+            let holds = truthy(&value);
+            drop(value);
+            Ok(holds)
+        }
+        Err(halt) => Err(halt),
+    }
+}
+
+/// Whether a value holds, as a value.
+pub fn then_truth(value: Result<Value, Halt>) -> Result<Value, Halt>
+    ensures { (s : AnyState) → Then value (λ v t. Done (variant.Bool (holds v)) t) s result s }
+{
+    match value {
+        Ok(value) => {
+            let holds = truthy(&value);
+            drop(value);
+            Ok(Value::Bool(holds))
+        }
+        Err(halt) => Err(halt),
+    }
+}
+
+/// Writes the text of a value.
+pub fn then_print(alloc: Global, value: Result<Value, Halt>, state: &mut State) -> Result<(), Halt>
+    ensures { Then value print_run state.old result state.new }
+{
+    match value {
+        Ok(value) => {
+            let answer = print_value(alloc, &value, state);
+            drop(value);
+            answer
+        }
+        Err(halt) => Err(halt),
+    }
+}
+
+/// Ends the program with a value.
+pub fn then_exit(value: Result<Value, Halt>, state: &mut State) -> Result<Signal, Halt>
+    ensures { Then value exit_run state.old result state.new }
+{
+    match value {
+        Ok(value) => {
+            let answer = exit_value(&value, state);
+            drop(value);
+            answer
+        }
+        Err(halt) => Err(halt),
+    }
+}
+
+/// On with the next statement.
+pub fn then_next(value: Result<Value, Halt>) -> Result<Signal, Halt>
+    ensures { (s : AnyState) → Then value (λ _ t. Done way.Next t) s result s }
+{
+    match value {
+        Ok(value) => {
+            drop(value);
+            Ok(Signal::Next)
+        }
+        Err(halt) => Err(halt),
+    }
+}
+
+/// Out of the function or the file, with a value.
+pub fn then_return(value: Result<Value, Halt>) -> Result<Signal, Halt>
+    ensures { (s : AnyState) → Then value (λ v t. Done (way.Return v) t) s result s }
+{
+    match value {
+        Ok(value) => Ok(Signal::Return(value)),
+        Err(halt) => Err(halt),
+    }
+}
+
+/// A signal, where what came before it is done.
+pub fn then_signal(done: Result<(), Halt>, signal: Signal) -> Result<Signal, Halt>
+    ensures { (s : AnyState) → Then done (λ _ t. Done signal t) s result s }
+{
+    match done {
+        Ok(()) => Ok(signal),
+        Err(halt) => {
+            drop(signal);
+            Err(halt)
+        }
+    }
+}
+
+/// The value of a place as isset finds it.
+pub fn then_found(
+    alloc: Global,
+    name: &Bytes,
+    indices: Result<Items<Value>, Halt>,
+    state: &State,
+) -> Result<Value, Halt>
+    ensures { Then indices (λ values s. found_run name.now values s) state.now result state.now }
+{
+    match indices {
+        Ok(indices) => {
+            let answer = found_place(alloc, name, indices.as_slice(), state);
+            drop(indices);
+            answer
+        }
+        Err(halt) => Err(halt),
+    }
+}
+
+/// `++` and `--`
+pub fn then_step(
+    alloc: Global,
+    op: UnaryOp,
+    order: Order,
+    name: &Bytes,
+    indices: Result<Items<Value>, Halt>,
+    state: &mut State,
+) -> Result<Value, Halt>
+    ensures { Then indices (λ values s. step_under op order name.now values s) state.old result state.new }
+{
+    match indices {
+        Ok(indices) => {
+            let answer = step_place(alloc, op, order, name, indices.as_slice(), state);
+            drop(indices);
+            answer
+        }
+        Err(halt) => Err(halt),
+    }
+}
+
+/// Writes a value, or one more entry, and gives the value.
+pub fn then_assign(
+    alloc: Global,
+    name: &Bytes,
+    indices: &[Value],
+    push: bool,
+    value: Result<Value, Halt>,
+    state: &mut State,
+) -> Result<Value, Halt>
+    ensures { Then value (λ v s. assign_run name.now indices.now push v s) state.old result state.new }
+{
+    match value {
+        Ok(value) => assign_place(alloc, name, indices, push, value, state),
+        Err(halt) => Err(halt),
+    }
+}
+
+/// Writes what an operator makes of an old value and another one.
+pub fn then_combine(
+    alloc: Global,
+    op: BinaryOp,
+    name: &Bytes,
+    indices: &[Value],
+    old: &Value,
+    value: Result<Value, Halt>,
+    state: &mut State,
+) -> Result<Value, Halt>
+    ensures { Then value (λ v s. combined op name.now indices.now old.now v s) state.old result state.new }
+{
+    match value {
+        Ok(value) => {
+            let answer = combine(alloc, op, name, indices, old, &value, state);
+            drop(value);
+            answer
+        }
+        Err(halt) => Err(halt),
+    }
+}
