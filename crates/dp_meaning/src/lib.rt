@@ -25,7 +25,8 @@ mod written;
 
 pub use answering::write_in;
 pub use dp_actions::{Halt, Signal};
-pub use making::evaluation;
+pub use making::{evaluation, write_all};
+pub use moments::moment_of;
 pub use running::{run_to, run_until};
 pub use stop::Stop;
 pub use stops::Stops;

@@ -6,8 +6,8 @@ ghost use Rattle.dp_meaning.specs.Trace.{function_called, function_of as name_of
 use dp_state::{FrameKind, Moment, MomentKind, State};
 use dp_value::{Bytes, Memory};
 
-/// The moment that has come in a state.
-pub(crate) fn moment_of(kind: MomentKind, state: &State) -> Result<Moment, Memory>
+/// The moment that has come in a state. Wants memory for the name of the function that is entered or left.
+pub fn moment_of(kind: MomentKind, state: &State) -> Result<Moment, Memory>
     ensures { IfOk result (λ moment. moment ≡ moment_at kind state.now) }
 {
     let Ok(depth) = u32::try_from(state.frames.len()) else {
