@@ -3,6 +3,7 @@ use Rattle.std.proofs.Common.{◌≡◌, ℕ, ◌≤◌, List, [], ◌∷◌, �
 use Rattle.std.specs.Prelude.{Result, Ok, Err, IfOk}
 use Rattle.dp_tree.specs.declared.bundle.Bundle.{Bundle}
 use Rattle.dp_command.specs.declared.line.Line.{Line}
+use Rattle.dp_command.specs.declared.command.StreamMode.{StreamMode}
 use Rattle.dp_command.specs.Lines.{line_of}
 use Rattle.dp_packet.specs.declared.packet.Packet.TheVariants as packet
 use Rattle.dp_packet.specs.declared.packet.Response.{Response}
@@ -20,9 +21,8 @@ use Rattle.dp_engine.specs.Refusals.{refusal_of_line}
 use Rattle.dp_engine.specs.Responses.{init_text, main_name, response_text}
 use Rattle.dp_engine.specs.Session.{State, output_so_far, written_between}
 use Rattle.dp_engine.specs.inner.Sizes.{Fits}
-use Rattle.dp_engine.specs.inner.Turns.{HasOwnBreaks, IsTurn, after, given}
+use Rattle.dp_engine.specs.inner.Turns.{IsTurn, after, given}
 use Rattle.dp_engine.proofs.Fitting.{init_fits}
-use Rattle.dp_engine.proofs.Watching.{breaks_apart}
 
 -- ---- the first packet
 
@@ -55,21 +55,14 @@ response_fits r (Err e) fits is = tt
 
 -- ---- answers
 
--- where only the breakpoints have changed, what is written since is the same
-written_since : (before state next : State) → HasOwnBreaks before state → written_between state next ≡ written_between before next
-written_since before state next kept =
-    ap (λ (s : State). drop (length (output_so_far s)) (output_so_far next)) kept
-    ∙ ap (λ (o : List ℕ). drop (length o) (output_so_far next)) (sym (breaks_apart before.phase before state.breaks))
-
 -- what is sent of a turn is what is sent of the one that is asked for
-given_is : (before state : State) (bytes : List ℕ) (made : Made) → HasOwnBreaks before state → IsTurn (turn before bytes) state made → given made state ≡ answer before bytes
+given_is : (before state : State) (bytes : List ℕ) (mode : StreamMode) (shown : ℕ) (made : Made) → mode ≡ before.stdout → shown ≡ length (output_so_far before)
+    → IsTurn (turn before bytes) state made → given mode shown made state ≡ answer before bytes
 unfolding answer
-given_is before state bytes made own t =
-    let mode : state.stdout ≡ before.stdout = ap (λ (s : State). s.stdout) own in
-    let written : written_between state (after made.step state) ≡ written_between before (turn before bytes).next =
-    ap (written_between state) t.next ∙ written_since before state (turn before bytes).next own in λ i. record {
-      packets = to_ide (mode i) (written i) ++ t.text i ∷ [];
-      program = to_program (mode i) (written i);
+given_is before state bytes mode shown made m n t =
+    let fresh : drop shown (output_so_far (after made.step state)) ≡ written_between before (turn before bytes).next = λ i. drop (n i) (output_so_far (t.next i)) in λ i. record {
+      packets = to_ide (m i) (fresh i) ++ t.text i ∷ [];
+      program = to_program (m i) (fresh i);
       state = t.next i;
       ended = t.ended i;
     }
@@ -83,8 +76,9 @@ answered_by : {E : Type 0} (made : Result (Answer SessionEnd) E) (next : State) 
 answered_by (Ok x) next a b same is = is ∙ same
 answered_by (Err e) next a b same is = tt
 
-pub answered : {E : Type 0} (before state next : State) (bytes : List ℕ) (line : Option Line) (made : Made) (reply : Result (Answer SessionEnd) E) → HasOwnBreaks before state
+pub answered : {E : Type 0} (before state next : State) (bytes : List ℕ) (line : Option Line) (mode : StreamMode) (shown : ℕ) (made : Made) (reply : Result (Answer SessionEnd) E)
+    → mode ≡ before.stdout → shown ≡ length (output_so_far before)
     → line ≡ line_of bytes → IsTurn (turn_of line (refusal_of_line before line) before) state made
-    → IfOk reply (λ x. reply_of x next ≡ given made state) → IfOk reply (λ x. reply_of x next ≡ answer before bytes)
-answered before state next bytes line made reply own is t told =
-    answered_by reply next (given made state) (answer before bytes) (given_is before state bytes made own (turn_read before state bytes line made is t)) told
+    → IfOk reply (λ x. reply_of x next ≡ given mode shown made state) → IfOk reply (λ x. reply_of x next ≡ answer before bytes)
+answered before state next bytes line mode shown made reply m n is t told =
+    answered_by reply next (given mode shown made state) (answer before bytes) (given_is before state bytes mode shown made m n (turn_read before state bytes line made is t)) told

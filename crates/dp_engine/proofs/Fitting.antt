@@ -36,11 +36,13 @@ use Rattle.dp_view_commands.specs.Views.{code_in, view_refusal}
 use Rattle.dp_engine.specs.Refusals.{own_tests, refusal_of_line, row_tests, session_tests, tests, tests_for, tests_on}
 use Rattle.dp_engine.specs.Responses.{init_text, main_name, fault_response, feature_response, response, response_text, set_response, success_response, status_attributes, status_response}
 use Rattle.dp_engine.specs.declared.sides.Side.{Side}
-use Rattle.dp_engine.specs.declared.sides.Side.TheVariants.{Session, Breakpoints, Program}
+use Rattle.dp_engine.specs.declared.sides.Side.TheVariants.{Session, Breakpoints, Program, Writes}
 use Rattle.dp_engine.specs.Session.{State, here, program_of}
 use Rattle.dp_engine.specs.Sides.{side_of}
 use Rattle.dp_breakpoint_commands.proofs.Codes.{refusal_known}
 use Rattle.dp_view_commands.proofs.Sent.{code as shows_code}
+use Rattle.dp_write_commands.specs.Writing.{code_in as code_written, write_refusal}
+use Rattle.dp_engine.proofs.WriteAnswers.{known_code}
 use Rattle.dp_engine.specs.inner.Sizes.{Fits, IsCode, IsShort, IsShortRequest}
 
 -- ---- messages
@@ -142,6 +144,14 @@ view_codes : (bundle : Bundle) (file : ℕ) (features : Features) (program : Pro
 unfolding view_refusal
 view_codes bundle file features program command id r code e = shows_code bundle file features program command id r code (refused_view _ code e)
 
+refused_write : (made : Result Response ℕ) (code : ℕ) → code_written made ≡ Some code → made ≡ Err code
+refused_write (Ok r) code e = absurd cc
+refused_write (Err k) code e = let same : k ≡ code = cc in ap (λ (c : ℕ). Err c) same
+
+write_codes : (bundle : Bundle) (features : Features) (program : ProgramState) (command id : Text) (r : Request) (code : ℕ) → write_refusal bundle features program command id r ≡ Some code → IsCode code
+unfolding write_refusal
+write_codes bundle features program command id r code e = known_code bundle features program command id r code (refused_write _ code e)
+
 own_codes : (state : State) (command id : Text) (r : Request) → HaveCodes (own_tests state command id r)
 own_codes state command id r = on (side_of r) where
   on : (side : Side) → HaveCodes (tests_on side state command id r)
@@ -150,6 +160,9 @@ own_codes state command id r = on (side_of r) where
   on Program =
       for_codes (view_refusal state.bundle (here state) state.features (program_of state) command id r)
       (λ code e. view_codes state.bundle (here state) state.features (program_of state) command id r code e)
+  on Writes =
+      for_codes (write_refusal state.bundle state.features (program_of state) command id r)
+      (λ code e. write_codes state.bundle state.features (program_of state) command id r code e)
 
 row_codes : (state : State) (line : Line) (name : Option CommandName) → HaveCodes (option_map_or (row_tests state line) name [])
 row_codes state line None = tt
@@ -165,11 +178,8 @@ refusal_is_code state (Some line) code e =
         (
           is_code 3 refl (omega arith),
           (
-            is_code 4 refl (omega arith),
-            (
-              is_code 5 refl (omega arith),
-              row_codes state line (name_of line.name),
-            ),
+            is_code 5 refl (omega arith),
+            row_codes state line (name_of line.name),
           ),
         ),
       ),

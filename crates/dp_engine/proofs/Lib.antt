@@ -1,6 +1,8 @@
+pub mod WriteAnswers
 pub mod Refusing
 pub mod Growing
 pub mod Fitting
+pub mod Accepting
 pub mod Outputs
 pub mod Streaming
 pub mod Watching
@@ -8,3 +10,4 @@ pub mod Whole
 pub mod ServingLaws
 pub mod Turning
 pub mod Answering
+pub mod Showing

@@ -1,6 +1,6 @@
 -- What the engine sends, served alone, is whole packets: each text of a session, whatever bytes come, is one of a packet.
 use Rattle.std.proofs.Common.{◌≡◌, ℕ, ◌≤◌, Bool, true, false, not, if◌then◌else◌, List, [], ◌∷◌, ◌++◌, length, Option, Some, None, refl, sym, ap, subst, ◌∙◌, arith, append_assoc, decimal, nat_le}
-use Rattle.std.specs.Prelude.{◌&&◌, cond, option_and_then, option_map, IfSome, Result, Ok, Err}
+use Rattle.std.specs.Prelude.{◌&&◌, cond, is_some, option_and_then, option_map, IfSome, Result, Ok, Err}
 use Rattle.std.specs.List.{AllByRecursion, flat_map}
 use Rattle.std.specs.Option.{option_map_or}
 use Rattle.std.specs.Str.Parse.{digits_value}
@@ -32,6 +32,7 @@ use Rattle.dp_command.proofs.Short.{values_short}
 use Rattle.dp_features.specs.declared.feature.Feature.{Feature}
 use Rattle.dp_features.specs.declared.feature.Feature.TheVariants.{Encoding, MultipleSessions, MaxChildren, MaxData, MaxDepth, ShowHidden, NotifyOk}
 use Rattle.dp_features.specs.Features.{Features, feature_named, number_in, number_of, setting_named, value_of, with_number}
+use Rattle.dp_meaning.specs.declared.writing.Write.{Write}
 use Rattle.dp_packet.specs.Parts.{Text, flag}
 use Rattle.dp_packet.specs.declared.packet.Packet.TheVariants as packet
 use Rattle.dp_packet.proofs.LengthLaws.{bare_response_short, packet_some}
@@ -48,19 +49,23 @@ use Rattle.dp_engine.specs.declared.states.Phase.TheVariants.{Starting, Break, S
 use Rattle.dp_engine.specs.declared.states.Reason.{Reason}
 use Rattle.dp_engine.specs.declared.states.Reason.TheVariants as reason
 use Rattle.dp_engine.specs.declared.sides.Side.{Side}
-use Rattle.dp_engine.specs.declared.sides.Side.TheVariants.{Session, Breakpoints, Program}
-use Rattle.dp_engine.specs.Answers.{Turn, answer, asked, command_in, continued, done_on, feature_told, gone_on, id_in, in_packet, moved, response_in, session_done, set_by, state_response, turn, turn_of}
-use Rattle.dp_engine.specs.Refusals.{of_command, own_tests, refusal_of_line, row_tests, tests_on}
+use Rattle.dp_engine.specs.declared.sides.Side.TheVariants.{Session, Breakpoints, Program, Writes}
+use Rattle.dp_engine.specs.Answers.{Turn, answer, asked, command_in, continued, done_on, feature_told, gone_on, id_in, in_packet, kept_if, moved, response_in, session_done, set_by, state_response, turn, turn_of}
+use Rattle.dp_engine.specs.Refusals.{own_tests, refusal_of_line, row_tests, tests_on}
 use Rattle.dp_engine.specs.Sides.{side_of}
 use Rattle.dp_engine.specs.Responses.{init_text, main_name, response, response_text}
 use Rattle.dp_engine.specs.Served.{AreBytes, alone, answers}
 use Rattle.dp_engine.specs.Session.{State, breaks_of, here, opening, program_of, stop_of, written_between}
 use Rattle.dp_engine.specs.inner.Sizes.{Fits, IsShort, IsShortLine, IsShortRequest}
-use Rattle.dp_engine.specs.States.{is_built, phase_name, reason_name}
+use Rattle.dp_engine.specs.States.{phase_name, reason_name}
 use Rattle.dp_engine.proofs.Fitting.{fault_fits, feature_fits_if, init_fits, refusal_is_code, request_short, set_fits, status_fits, success_fits}
 use Rattle.dp_engine.proofs.Streaming.{both_texts, sent_texts}
 use Rattle.dp_view_commands.proofs.Sent.{code as shows_code, sent as shows}
-use Rattle.dp_engine.proofs.Refusing.{built, passed}
+use Rattle.dp_write_commands.specs.Asked.{write_asked}
+use Rattle.dp_write_commands.specs.Writing.{write_response}
+use Rattle.dp_write_commands.proofs.Sent.{sent as writes}
+use Rattle.dp_engine.proofs.WriteAnswers.{known_code}
+use Rattle.dp_engine.proofs.Refusing.{allowed, passed}
 
 -- ---- lines
 
@@ -224,7 +229,7 @@ module _ (command id : Text) (p : length command ≤ 64) (q : length id ≤ 64) 
 
   told_good : (name : Text) → length name ≤ 1048576 → Fits (feature_told command id name state)
   told_good name few =
-      feature_fits_if command id p q name _ _ few (flag_short (option_map_or (λ feature. true) (feature_named name) (of_command is_built (name_of name))))
+      feature_fits_if command id p q name _ _ few (flag_short (option_map_or (λ feature. true) (feature_named name) (is_some (name_of name))))
       (told_short state.features (feature_named name) h.small)
 
   session_good : (r : Request) → IsShortRequest r → IsGood (session_done command id r state)
@@ -262,10 +267,26 @@ module _ (command id : Text) (p : length command ≤ 64) (q : length id ≤ 64) 
       let sent = shows state.bundle (here state) state.features (program_of state) command id r response e in record { known = sent.known; short = sent.short }
   shown_fits r (Err code) e = fault_fits command id p q code (shows_code state.bundle (here state) state.features (program_of state) command id r code e)
 
+  -- the response to a write
+  written_fits : (r : Request) → (made : Result Response ℕ) → write_response state.bundle state.features (program_of state) command id r ≡ made → Fits (response_in command id made)
+  unfolding response_text
+  written_fits r (Ok response) e =
+      let sent = writes state.bundle state.features (program_of state) command id r p q response e in record { known = sent.known; short = sent.short }
+  written_fits r (Err code) e = fault_fits command id p q code (known_code state.bundle state.features (program_of state) command id r code e)
+
+  kept_usual : (told : Result Response ℕ) (asked : Result Write ℕ) → IsUsual (kept_if told asked state)
+  kept_usual (Ok r) (Ok w) = record { small = h.small }
+  kept_usual (Ok r) (Err code) = h
+  kept_usual (Err code) asked = h
+
   done_good : (side : Side) (r : Request) → first_code (tests_on side state command id r) ≡ None → IsShortRequest r → IsGood (done_on side command id r state)
   done_good Session r e few = session_good r few
   done_good Breakpoints r e few = record { fits = in_packet_fits _ (breakpoint_known r); next = record { small = h.small } }
   done_good Program r e few = record { fits = shown_fits r _ refl; next = h }
+  done_good Writes r e few = record {
+    fits = written_fits r _ refl;
+    next = kept_usual (write_response state.bundle state.features (program_of state) command id r) (write_asked (program_of state) r);
+  }
 
 module _ (state : State) (h : IsUsual state) where
   asked_good : (line : Line) → IsShort line → (name : Option CommandName) → first_code (option_map_or (row_tests state line) name []) ≡ None
@@ -280,7 +301,7 @@ module _ (state : State) (h : IsUsual state) where
     next = h;
   }
   turn_good None few None e = absurd cc
-  turn_good (Some line) few None e = asked_good line few (name_of line.name) (built state line e).1 (λ name n. request_short line name few)
+  turn_good (Some line) few None e = asked_good line few (name_of line.name) (allowed state line e).1 (λ name n. request_short line name few)
 
   is_good : (bytes : List ℕ) → IsSpoken bytes → IsGood (turn state bytes)
   unfolding turn

@@ -1,6 +1,6 @@
 -- What one command leads to in a session: DBGp 1.0, "status", "Options and Configuration",
 -- "Continuation Commands".
-use Rattle.std.specs.Prelude.{ℕ, nat_le, true, false, if◌then◌else◌, List, length, [], ◌∷◌, ◌++◌, Option, Some, None, Result, Ok, Err, option_map, option_and_then, codes}
+use Rattle.std.specs.Prelude.{ℕ, nat_le, true, false, if◌then◌else◌, List, length, [], ◌∷◌, ◌++◌, Option, Some, None, Result, Ok, Err, is_some, option_map, option_and_then, codes}
 use Rattle.std.specs.Option.{option_map_or}
 use Rattle.dp_breakpoint_commands.specs.Commands.{breakpoint_response, breakpoint_table}
 use Rattle.dp_command.specs.declared.command.Command.{Command}
@@ -19,24 +19,27 @@ use Rattle.dp_command.specs.Names.{name_of}
 use Rattle.dp_command.specs.Refusals.{id_of}
 use Rattle.dp_features.specs.declared.feature.Feature.{Feature}
 use Rattle.dp_features.specs.Features.{Features, feature_named, setting_named, value_of, with_setting}
+use Rattle.dp_meaning.specs.declared.writing.Write.{Write}
 use Rattle.dp_packet.specs.declared.packet.Body.TheVariants as body
 use Rattle.dp_packet.specs.declared.packet.Response.{Response}
 use Rattle.dp_packet.specs.Parts.{Text, flag}
 use Rattle.dp_serving.specs.Folds.{Reply}
 use Rattle.dp_view_commands.specs.Views.{view_response}
 use Rattle.dp_wire.specs.Frames.{packet_limit}
+use Rattle.dp_write_commands.specs.Asked.{write_asked}
+use Rattle.dp_write_commands.specs.Writing.{write_response}
 use Rattle.dp_engine.specs.declared.session.SessionEnd.{SessionEnd}
 use Rattle.dp_engine.specs.declared.session.SessionEnd.TheVariants.{Finished, Killed, Detached}
 use Rattle.dp_engine.specs.declared.sides.Side.{Side}
-use Rattle.dp_engine.specs.declared.sides.Side.TheVariants.{Session, Breakpoints, Program}
+use Rattle.dp_engine.specs.declared.sides.Side.TheVariants.{Session, Breakpoints, Program, Writes}
 use Rattle.dp_engine.specs.declared.states.Phase.{Phase}
 use Rattle.dp_engine.specs.declared.states.Phase.TheVariants.{Starting, Break, Stopping}
 use Rattle.dp_engine.specs.declared.states.Reason.TheVariants as reason
-use Rattle.dp_engine.specs.Refusals.{refusal_of_line, of_command}
+use Rattle.dp_engine.specs.Refusals.{refusal_of_line}
 use Rattle.dp_engine.specs.Responses.{response, response_text, status_response, feature_response, set_response, success_response, fault_response, streams}
 use Rattle.dp_engine.specs.Session.{State, breaks_of, here, outcome_of, program_of, stop_of, written_between}
 use Rattle.dp_engine.specs.Sides.{side_of}
-use Rattle.dp_engine.specs.States.{phase_name, reason_name, reason_of, is_built}
+use Rattle.dp_engine.specs.States.{phase_name, reason_name, reason_of}
 
 -- What a command leads to: its response, what the session knows then, and how it has ended, if it
 -- has.
@@ -116,12 +119,11 @@ detached command id state =
 
 -- ---- features
 
--- a feature has a value; of the built commands it is known that they are there
+-- a feature has a value; of commands it is known that they are there
 abbrev pub feature_told : Text → Text → Text → State → Response
 feature_told command id name state =
     feature_response command id name
-    (flag (option_map_or (λ feature. true) (feature_named name)
-    (of_command is_built (name_of name))))
+    (flag (option_map_or (λ feature. true) (feature_named name) (is_some (name_of name))))
     (option_map (value_of state.features) (feature_named name))
 
 -- the features with one set, where it can have the value
@@ -170,13 +172,32 @@ shown command id r state =
     (view_response state.bundle (here state) state.features (program_of state) command id r))
     state
 
+-- ---- writes
+
+-- one write more, at the current moment
+abbrev pub with_write : Write → State → State
+with_write w state = record state {
+  writes = state.writes ++ (record { moment = state.moment; write = w }) ∷ [];
+}
+
+-- the write that was asked for is kept exactly where a response was made to it
+abbrev pub kept_if : {R : Type 0} → Result R ℕ → Result Write ℕ → State → State
+kept_if (Ok told) (Ok w) state = with_write w state
+kept_if told asked state = state
+
+-- a write is accepted where it is answered: from here on the program's run is the one with it
+abbrev pub written : Text → Text → Request → State → Turn
+written command id r state =
+    let told = write_response state.bundle state.features (program_of state) command id r in
+    goes_on (response_in command id told) (kept_if told (write_asked (program_of state) r) state)
+
 -- ---- commands
 
 -- a refused command changes nothing
 abbrev pub refused : Text → Text → ℕ → State → Turn
 refused command id code state = goes_on (fault_response command id code) state
 
--- what is answered from the session is done; what is not built is refused before
+-- what is answered from the session is done; it is asked for nothing else
 abbrev pub session_done : Text → Text → Request → State → Turn
 session_done command id request.Status state = goes_on (state_response command id state) state
 session_done command id (request.FeatureGet name) state =
@@ -194,6 +215,7 @@ abbrev pub done_on : Side → Text → Text → Request → State → Turn
 done_on Session command id r state = session_done command id r state
 done_on Breakpoints command id r state = breakpoints_done command id r state
 done_on Program command id r state = shown command id r state
+done_on Writes command id r state = written command id r state
 
 -- what a command of this name and id asks for is done
 abbrev pub performed : Text → Text → Request → State → Turn

@@ -16,11 +16,12 @@ use Rattle.dp_command.specs.Tests.{Test, first_code}
 use Rattle.dp_features.specs.Features.{is_other_encoding, setting_named}
 use Rattle.dp_packet.specs.Parts.{Text}
 use Rattle.dp_view_commands.specs.Views.{view_refusal}
+use Rattle.dp_write_commands.specs.Writing.{write_refusal}
 use Rattle.dp_engine.specs.declared.sides.Side.{Side}
-use Rattle.dp_engine.specs.declared.sides.Side.TheVariants.{Session, Breakpoints, Program}
+use Rattle.dp_engine.specs.declared.sides.Side.TheVariants.{Session, Breakpoints, Program, Writes}
 use Rattle.dp_engine.specs.Session.{State, here, program_of}
 use Rattle.dp_engine.specs.Sides.{side_of}
-use Rattle.dp_engine.specs.States.{allows, is_built}
+use Rattle.dp_engine.specs.States.{allows}
 
 -- it holds of the command that this name names; of no command it does not
 abbrev pub of_command : (CommandName → Bool) → Option CommandName → Bool
@@ -44,6 +45,8 @@ tests_on Breakpoints state command id r =
 tests_on Program state command id r =
     tests_for
     (view_refusal state.bundle (here state) state.features (program_of state) command id r)
+tests_on Writes state command id r =
+    tests_for (write_refusal state.bundle state.features (program_of state) command id r)
 
 -- The tests that a command has for itself, by what it asks for. What it shows may be too long for a
 -- packet, so its name and id have a part.
@@ -64,7 +67,6 @@ tests state line =
     coded line Duplicate
     ∷ coded line Unimplemented
     ∷ coded line NoId
-    ∷ (not (of_command is_built name), 4)
     ∷ (not (of_command (allows state.phase) name), 5)
     ∷ option_map_or (row_tests state line) name []
 

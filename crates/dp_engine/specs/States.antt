@@ -67,9 +67,3 @@ allows phase Source = before_end phase
 allows phase Stdout = before_end phase
 allows phase Stderr = before_end phase
 allows phase Eval = at_moment phase
-
--- the commands that are built; each other answers as one that is not known
-abbrev pub is_built : CommandName → Bool
-is_built PropertySet = false
-is_built Eval = false
-is_built name = true

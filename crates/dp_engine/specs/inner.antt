@@ -5,3 +5,4 @@ pub mod Standing
 pub mod Turns
 pub mod Sizes
 pub mod Closing
+pub mod Accepting

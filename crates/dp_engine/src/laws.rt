@@ -1,11 +1,16 @@
 //! What holds of every session.
 ghost use Rattle.std.specs.Prelude.{◌≡◌, ◌≤◌, List, [], ◌∷◌, ℕ, ◌++◌, length};
 ghost use Rattle.dp_tree.specs.declared.bundle.Bundle.{Bundle};
+ghost use Rattle.dp_command.specs.declared.command.Command.{Command};
+ghost use Rattle.dp_command.specs.declared.line.Line.{Line};
+ghost use Rattle.dp_engine.specs.declared.sides.Side.TheVariants.{Program, Writes};
 ghost use Rattle.dp_engine.specs.Answers.{turn};
 ghost use Rattle.dp_engine.specs.Refusals.{refusal};
 ghost use Rattle.dp_engine.specs.Responses.{fault_in, init_text, main_name};
 ghost use Rattle.dp_engine.specs.Served.{all_output, alone, answers, AreBytes, Begins, ending, IsRunWith, NeverRedirects, own, writes};
 ghost use Rattle.dp_engine.specs.Session.{opening, State};
+ghost use Rattle.dp_engine.specs.Shown.{IsAccepted, IsShown, IsTaken, Stands, WritesNothing};
+ghost use Rattle.dp_engine.specs.Sides.{side_of};
 ghost use Rattle.dp_wire.specs.Frames.{commands_in, packets_in};
 
 /// A response is an error exactly where the table of commands and states says so, and with that code.
@@ -44,4 +49,23 @@ pub fn watching_changes_nothing()
     ensures own { (bundle : Bundle) (bound : ℕ) (bytes : List ℕ)
         → NeverRedirects (opening bundle bound) (commands_in bytes)
         → own bundle bound bytes ≡ all_output bundle bound bytes }
+{}
+
+/// After any commands a session stands in the program's run with the writes that it has accepted, and what a command looks
+/// at there is the program's state there.
+pub fn replies_show_the_run()
+    ensures stands { (bundle : Bundle) (bound : ℕ) (bytes : List ℕ)
+        → Stands bundle bound (answers bundle bound bytes).state }
+    ensures shown { (state : State) (bytes : List ℕ) (line : Line) (command : Command)
+        → IsTaken state bytes line command → side_of command.request ≡ Program
+        → IsShown state line command (turn state bytes) }
+{}
+
+/// A write is kept exactly where a command asks for it that is not refused.
+pub fn writes_are_those_accepted()
+    ensures accepted { (state : State) (bytes : List ℕ) (line : Line) (command : Command)
+        → IsTaken state bytes line command → side_of command.request ≡ Writes
+        → IsAccepted state line command (turn state bytes) }
+    ensures none_else { (state : State) (bytes : List ℕ) → WritesNothing state bytes
+        → (turn state bytes).next.writes ≡ state.writes }
 {}

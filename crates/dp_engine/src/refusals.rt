@@ -5,7 +5,6 @@ ghost use Rattle.dp_features.specs.Features.{is_other_encoding, setting_named};
 ghost use Rattle.dp_engine.specs.inner.Turns.{Asks};
 
 use crate::session::Session;
-use crate::states::is_built as built;
 use dp_command::{Command, CommandError, CommandName, Line};
 use dp_features::Setting;
 use std::alloc::Global;
@@ -35,9 +34,6 @@ impl<'a> Session<'a> {
             Ok(name) => name,
             Err(refusal) => return Err(CommandError::Code(refusal.code())),
         };
-        if !built(name) {
-            return Err(CommandError::Code(4));
-        }
         if !self.standing.phase().allows(name) {
             return Err(CommandError::Code(5));
         }

@@ -5,7 +5,6 @@ ghost use Rattle.dp_wire.specs.Frames.{IsCommand, IsPacketText};
 ghost use Rattle.dp_engine.specs.Responses.{init_text, main_name};
 ghost use Rattle.dp_engine.specs.inner.Sizes.{IsShortLine};
 ghost use Rattle.dp_command.specs.Lines.{line_of};
-ghost use Rattle.dp_continuation.specs.Going.{program_in};
 ghost use Rattle.dp_tree.specs.FileNames.{AreFileNames};
 
 use crate::states::Standing;
@@ -16,6 +15,7 @@ use dp_break::Breaks;
 use dp_command::{Line, LineError, StreamMode, read_line};
 use dp_continuation::{Arrival, run_out};
 use dp_features::Features;
+use dp_meaning::NumberedWrite;
 use dp_packet::{Init, Packet, file_uri, text_of};
 use dp_serving::Responder;
 use dp_state::{Outcome, State};
@@ -46,6 +46,8 @@ pub type Answer = dp_serving::Answer<SessionEnd>;
 pub struct Session<'a> {
     pub(crate) bundle: &'a Bundle,
     pub(crate) bound: u64,
+    /// The writes that were accepted, none of them at a later moment.
+    pub(crate) writes: Vec<NumberedWrite>,
     /// The number of the current moment, 0 before the first, and the depth there.
     pub(crate) moment: u64,
     pub(crate) depth: u32,
@@ -72,12 +74,12 @@ impl<'a> Model for Session<'a> {
 
     ghost coded = { Prim.hlevel (codes, bundle_type.the_row.coded, write_type.the_row.coded, table_code) };
 
-    ghost use Rattle.dp_engine.specs.inner.Standing.{known, IsAt, IsDeep};
+    ghost use Rattle.dp_engine.specs.inner.Standing.{known, ArePast, IsAt, IsDeep};
 
-    ghost view = { λ s. known s.bundle.now s.bound s.moment s.standing s.features s.stdout s.breaks };
+    ghost view = { λ s. known s.bundle.now s.bound s.writes.items s.moment s.standing s.features s.stdout s.breaks };
 
-    ghost invariant = { λ s. IsAt s.standing s.bundle.now s.bound s.moment s.program
-        × IsDeep s.bundle.now s.bound s.moment s.depth
+    ghost invariant = { λ s. IsAt s.standing s.bundle.now s.bound s.writes.items s.moment s.program
+        × IsDeep s.bundle.now s.bound s.writes.items s.moment s.depth × ArePast s.moment s.writes.items
         × AreFileNames (map (λ f. f.name) s.bundle.now.files) × IsOf s.bundle.now s.program };
 }
 
@@ -109,7 +111,7 @@ impl<'a> Session<'a> {
     ghost use Rattle.dp_engine.specs.Answers as spec;
     ghost use Rattle.dp_engine.specs.Refusals.{refusal};
     ghost use Rattle.dp_engine.specs.Refused.{IsAnsweredBy};
-    ghost use Rattle.dp_engine.specs.Session.{opening, outcome_of, output_so_far, unwritten, written_between};
+    ghost use Rattle.dp_engine.specs.Session.{opening, outcome_of, output_so_far, unwritten};
     ghost use Rattle.dp_engine.specs.inner.Turns.{after, given, Leads};
     ghost use Rattle.dp_serving.specs.Folds.{reply_of};
 
@@ -134,6 +136,7 @@ impl<'a> Session<'a> {
         let session = Session {
             bundle,
             bound,
+            writes: Vec::new(alloc),
             moment: 0,
             depth: 1,
             standing: Standing::Starting,
@@ -170,20 +173,30 @@ impl<'a> Session<'a> {
     {
         let alloc = self.alloc;
         let line = read(alloc, line)?;
+        let mode = self.stdout;
+        let shown = self.output().len();
         let turn = self.turn(alloc, line)?;
-        self.give(alloc, turn)
+        self.give(alloc, mode, shown, turn)
     }
 
-    /// Makes a turn, and answers what is sent of it.
-    fn give(&mut self, alloc: Global, turn: Turn) -> Result<Answer, Memory>
+    /// Makes a turn of a session that had shown so much of its output, and answers what is sent of it.
+    fn give(
+        &mut self,
+        alloc: Global,
+        mode: StreamMode,
+        shown: usize,
+        turn: Turn,
+    ) -> Result<Answer, Memory>
         requires leads { Leads turn.step self.old }
         requires is_text { IsPacketText turn.text }
-        ensures ok { IfOk result (λ answer. reply_of answer self.new ≡ given turn self.old) }
+        ensures ok { IfOk result (λ answer. reply_of answer self.new ≡ given mode shown turn self.old) }
         ensures are_texts { IfOk result (λ answer. AllByRecursion IsPacketText answer.packets) }
     {
         let Turn { text, step, ended } = turn;
-        let (packets, program) = self.sent(alloc, &step, text)?;
         self.take(step);
+        let written = tail(self.output(), shown);
+        let packets = to_ide(alloc, mode, written, text)?;
+        let program = to_program(alloc, mode, written)?;
         Ok(Answer {
             packets,
             program,
@@ -191,42 +204,11 @@ impl<'a> Session<'a> {
         })
     }
 
-    /// What the program has written by the time of a step.
-    fn output_after<'b>(&'b self, step: &'b Step) -> &'b [u8]
-        requires { Leads step.now self.now }
-        ensures { result.now ≡ output_so_far (after step.now self.now) }
+    /// What the program has written so far.
+    fn output(&self) -> &[u8]
+        ensures { result.now ≡ output_so_far self.now }
     {
-        match step {
-            Step::Come(arrival) => output(arrival),
-            Step::Set(_) => self.program.output.as_slice(),
-            Step::Redirect(_) => self.program.output.as_slice(),
-            Step::Stay => self.program.output.as_slice(),
-        }
-    }
-
-    /// What the program writes in a step.
-    fn written<'b>(&'b self, step: &'b Step) -> &'b [u8]
-        requires { Leads step.now self.now }
-        ensures { result.now ≡ written_between self.now (after step.now self.now) }
-    {
-        let before = self.program.output.len();
-        tail(self.output_after(step), before)
-    }
-
-    /// What goes to the IDE of a step with this text of a response, and what goes to the program's own output.
-    fn sent(&self, alloc: Global, step: &Step, text: Bytes) -> Result<(Items<Bytes>, Bytes), Memory>
-        requires leads { Leads step.now self.now }
-        requires is_text { IsPacketText text }
-        ensures packets { IfOk result (λ sent. sent.0
-            ≡ spec.to_ide self.now.stdout (written_between self.now (after step.now self.now)) ++ text ∷ []) }
-        ensures are_texts { IfOk result (λ sent. AllByRecursion IsPacketText sent.0) }
-        ensures program { IfOk result (λ sent. sent.1
-            ≡ spec.to_program self.now.stdout (written_between self.now (after step.now self.now))) }
-    {
-        let written = self.written(step);
-        let packets = to_ide(alloc, self.stdout, written, text)?;
-        let program = to_program(alloc, self.stdout, written)?;
-        Ok((packets, program))
+        self.program.output.as_slice()
     }
 
     /// Comes to where the program has come to.
@@ -280,20 +262,15 @@ impl<'a> Session<'a> {
         if let Standing::Stopping(outcome) = self.standing {
             return Ok((Bytes::of(Vec::new(self.alloc)), outcome));
         }
-        let (outcome, program) = run_out(self.alloc, self.bundle, &[], self.bound)?;
-        let before = self.program.output.len();
+        let (outcome, program) = run_out(
+            self.alloc,
+            self.bundle,
+            self.writes.as_slice(),
+            self.bound,
+        )?;
+        let before = self.output().len();
         let rest = Bytes::from_slice(self.alloc, tail(program.output.as_slice(), before))?;
         Ok((rest, outcome))
-    }
-}
-
-/// What a program has written where it has come to.
-fn output(arrival: &Arrival) -> &[u8]
-    ensures { result.now ≡ (program_in arrival.now).output }
-{
-    match arrival {
-        Arrival::Moment { program, .. } => program.output.as_slice(),
-        Arrival::End { program, .. } => program.output.as_slice(),
     }
 }
 

@@ -13,6 +13,8 @@ pub enum Side {
     Breakpoints,
     /// A look at the program.
     Program,
+    /// A write to the program.
+    Writes,
 }
 
 impl Side {
@@ -32,6 +34,8 @@ impl Side {
             Request::PropertyGet { .. } => Side::Program,
             Request::PropertyValue { .. } => Side::Program,
             Request::Source(_) => Side::Program,
+            Request::PropertySet(_) => Side::Writes,
+            Request::Eval { .. } => Side::Writes,
             _ => Side::Session,
         }
     }

@@ -166,14 +166,3 @@ impl Reason {
         }
     }
 }
-
-/// Whether the command is built; each other answers as one that is not known. Takes no memory.
-pub fn is_built(name: CommandName) -> bool
-    ensures { result ≡ spec.is_built name }
-{
-    match name {
-        CommandName::PropertySet => false,
-        CommandName::Eval => false,
-        _ => true,
-    }
-}

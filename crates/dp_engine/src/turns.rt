@@ -1,10 +1,9 @@
 //! What commands lead to.
-ghost use Rattle.std.specs.Prelude.{◌≡◌, ◌≤◌, length, IfOk, None, OnOk, Some};
+ghost use Rattle.std.specs.Prelude.{◌≡◌, ◌≤◌, length, is_some, IfOk, None, Some};
 ghost use Rattle.dp_command.specs.Names.{name_of};
 ghost use Rattle.dp_features.specs.Features.{feature_named};
 ghost use Rattle.dp_packet.specs.Parts.{flag};
-ghost use Rattle.dp_engine.specs.Refusals.{of_command, refusal_of_line};
-ghost use Rattle.dp_engine.specs.States.{is_built};
+ghost use Rattle.dp_engine.specs.Refusals.{refusal_of_line};
 ghost use Rattle.dp_engine.specs.Sides.{side_of};
 ghost use Rattle.dp_engine.specs.inner.Sizes.{Fits, IsCode, IsShort, IsShortLine, IsShortRequest};
 ghost use Rattle.dp_engine.specs.inner.Turns.{Tells};
@@ -13,7 +12,8 @@ use crate::refusals::feature_refusal;
 use crate::responses;
 use crate::session::{Session, SessionEnd};
 use crate::sides::Side;
-use crate::states::{Standing, is_built as built};
+use crate::states::{Phase, Standing};
+use crate::writes::accept;
 use dp_breakpoint_commands::{BreakpointError, answer_breakpoints};
 use dp_command::{
     Addressee, CommandError, CommandName, Continuation, Finish, Line, Request, Stream, StreamMode,
@@ -60,13 +60,12 @@ fn stay(text: Bytes) -> Turn
 
 impl<'a> Session<'a> {
     ghost use Rattle.dp_engine.specs.Answers as spec;
-    ghost use Rattle.dp_engine.specs.inner.Turns.{answered, HasOwnBreaks, IsTurn};
+    ghost use Rattle.dp_engine.specs.inner.Turns.{answered, IsTurn};
 
     /// What a line leads to, or bytes that spell no line.
     pub(crate) fn turn(&mut self, alloc: Global, line: Option<Line>) -> Result<Turn, Memory>
         requires { IsShortLine line }
-        ensures turn { IfOk result (IsTurn (spec.turn_of line (refusal_of_line self.old line) self.old) self.new) }
-        ensures kept { OnOk result (HasOwnBreaks self.old self.new) }
+        ensures { IfOk result (IsTurn (spec.turn_of line (refusal_of_line self.old line) self.old) self.new) }
     {
         match line {
             Some(line) => self.turn_on(alloc, &line),
@@ -77,8 +76,7 @@ impl<'a> Session<'a> {
     /// What a line leads to.
     fn turn_on(&mut self, alloc: Global, line: &Line) -> Result<Turn, Memory>
         requires { IsShort line.now }
-        ensures turn { IfOk result (IsTurn (spec.turn_of (Some line.now) (refusal_of_line self.old (Some line.now)) self.old) self.new) }
-        ensures kept { OnOk result (HasOwnBreaks self.old self.new) }
+        ensures { IfOk result (IsTurn (spec.turn_of (Some line.now) (refusal_of_line self.old (Some line.now)) self.old) self.new) }
     {
         let to = Addressee::of(alloc, line)?;
         match self.ask(alloc, line) {
@@ -100,14 +98,15 @@ impl<'a> Session<'a> {
 
     /// What a request leads to.
     fn perform(&mut self, alloc: Global, to: &Addressee, request: Request) -> Result<Turn, Memory>
-        requires { IsShortRequest request }
-        ensures turn { IfOk result (IsTurn (answered to.now.command to.now.id request self.old) self.new) }
-        ensures kept { OnOk result (HasOwnBreaks self.old self.new) }
+        requires short { IsShortRequest request }
+        requires writes { side_of request ≡ Side.Writes → self.old.phase ≡ Phase.Break }
+        ensures { IfOk result (IsTurn (answered to.now.command to.now.id request self.old) self.new) }
     {
         match Side::of(&request) {
             Side::Session => self.perform_here(alloc, to, &request),
             Side::Breakpoints => self.perform_on_breakpoints(alloc, to, request),
             Side::Program => self.show(alloc, to, &request),
+            Side::Writes => self.write(alloc, to, &request),
         }
     }
 
@@ -120,8 +119,7 @@ impl<'a> Session<'a> {
     ) -> Result<Turn, Memory>
         requires short { IsShortRequest request.now }
         requires side { side_of request.now ≡ Side.Session }
-        ensures turn { IfOk result (IsTurn (answered to.now.command to.now.id request.now self.old) self.new) }
-        ensures kept { OnOk result (HasOwnBreaks self.old self.new) }
+        ensures { IfOk result (IsTurn (answered to.now.command to.now.id request.now self.old) self.new) }
     {
         match request {
             Request::Status => self.tell_status(alloc, to),
@@ -147,8 +145,7 @@ impl<'a> Session<'a> {
         request: Request,
     ) -> Result<Turn, Memory>
         requires { side_of request ≡ Side.Breakpoints }
-        ensures turn { IfOk result (IsTurn (answered to.now.command to.now.id request self.old) self.new) }
-        ensures kept { OnOk result (HasOwnBreaks self.old self.new) }
+        ensures { IfOk result (IsTurn (answered to.now.command to.now.id request self.old) self.new) }
     {
         let file = self.program.file();
         match answer_breakpoints(alloc, self.bundle, file, to, request, &mut self.breaks) {
@@ -174,6 +171,29 @@ impl<'a> Session<'a> {
             request,
         );
         match shown {
+            Ok(response) => tell(alloc, response),
+            Err(ViewError::Code(code)) => self.refuse(alloc, to, code),
+            Err(ViewError::Memory) => Err(Memory),
+        }
+    }
+
+    /// What a command that writes leads to. The write is made at once.
+    fn write(&mut self, alloc: Global, to: &Addressee, request: &Request) -> Result<Turn, Memory>
+        requires side { side_of request.now ≡ Side.Writes }
+        requires stands { self.old.phase ≡ Phase.Break }
+        ensures { IfOk result (IsTurn (answered to.now.command to.now.id request.now self.old) self.new) }
+    {
+        let made = accept(
+            alloc,
+            self.bundle,
+            &self.features,
+            &mut self.program,
+            &mut self.writes,
+            self.moment,
+            to,
+            request,
+        );
+        match made {
             Ok(response) => tell(alloc, response),
             Err(ViewError::Code(code)) => self.refuse(alloc, to, code),
             Err(ViewError::Memory) => Err(Memory),
@@ -309,8 +329,7 @@ impl<'a> Session<'a> {
 
     /// A continuation. Once the program has ended it ends the session.
     fn go_on(&mut self, alloc: Global, to: &Addressee, mode: Continuation) -> Result<Turn, Memory>
-        ensures turn { IfOk result (IsTurn (spec.continued to.now.command to.now.id mode self.old.phase self.old) self.new) }
-        ensures kept { OnOk result (HasOwnBreaks self.old self.new) }
+        ensures { IfOk result (IsTurn (spec.continued to.now.command to.now.id mode self.old.phase self.old) self.new) }
     {
         match self.standing {
             Standing::Starting => self.advance(alloc, to, mode),
@@ -321,13 +340,12 @@ impl<'a> Session<'a> {
 
     /// Goes on to the next stop or to the end. The hits on the way are counted at once.
     fn advance(&mut self, alloc: Global, to: &Addressee, mode: Continuation) -> Result<Turn, Memory>
-        ensures turn { IfOk result (IsTurn (spec.advanced to.now.command to.now.id mode self.old) self.new) }
-        ensures kept { OnOk result (HasOwnBreaks self.old self.new) }
+        ensures { IfOk result (IsTurn (spec.advanced to.now.command to.now.id mode self.old) self.new) }
     {
         let arrival = go_on(
             alloc,
             self.bundle,
-            &[],
+            self.writes.as_slice(),
             self.bound,
             self.moment,
             self.depth,
@@ -401,20 +419,10 @@ fn ending(text: Bytes, end: SessionEnd) -> Turn
     }
 }
 
-/// How it is told whether a built command has this name.
+/// How it is told whether a command has this name.
 fn supported(name: &[u8]) -> &'static [u8]
-    ensures text { result.now ≡ flag (of_command is_built (name_of name.now)) }
+    ensures text { result.now ≡ flag (is_some (name_of name.now)) }
     ensures short { length result.now ≤ 16 }
 {
-    responses::flag(is_command(name))
-}
-
-/// Whether a built command has this name.
-fn is_command(name: &[u8]) -> bool
-    ensures { result ≡ of_command is_built (name_of name.now) }
-{
-    match CommandName::of(name) {
-        Some(name) => built(name),
-        None => false,
-    }
+    responses::flag(CommandName::of(name).is_some())
 }

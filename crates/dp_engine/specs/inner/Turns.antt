@@ -1,11 +1,13 @@
 -- A turn as the code makes it, before anything has changed.
-use Rattle.std.specs.Prelude.{◌≡◌, ℕ, [], ◌∷◌, ◌++◌, Option, Some, None, Result, Ok, Err}
+use Rattle.std.specs.Prelude.{◌≡◌, ℕ, ◌<◌, true, [], ◌∷◌, ◌++◌, drop, Option, Some, None, Result, Ok, Err}
 use Rattle.dp_command.specs.declared.command.Command.{Command}
 use Rattle.dp_command.specs.declared.errors.CommandError.{CommandError}
 use Rattle.dp_command.specs.declared.errors.CommandError.TheVariants.{Code, Memory}
+use Rattle.dp_command.specs.declared.command.StreamMode.{StreamMode}
 use Rattle.dp_command.specs.declared.line.Line.{Line}
 use Rattle.dp_command.specs.declared.command.Request.{Request}
 use Rattle.dp_command.specs.Commands.{command_of}
+use Rattle.dp_command.specs.Names.{name_of}
 use Rattle.dp_command.specs.Refusals.{id_of}
 use Rattle.dp_packet.specs.declared.packet.Response.{Response}
 use Rattle.dp_packet.specs.Parts.{Text}
@@ -21,9 +23,10 @@ use Rattle.dp_engine.specs.declared.turns.Step.{Step}
 use Rattle.dp_engine.specs.declared.turns.Step.TheVariants.{Stay, Set, Redirect, Come}
 use Rattle.dp_engine.specs.declared.turns.Turn.{Turn as Made}
 use Rattle.dp_engine.specs.Answers.{Turn, at_end, at_stop, performed, refused, to_ide, to_program}
-use Rattle.dp_engine.specs.Refusals.{own_tests, refusal_of_line}
+use Rattle.dp_engine.specs.Refusals.{of_command, own_tests, refusal_of_line}
 use Rattle.dp_engine.specs.Responses.{response_text}
-use Rattle.dp_engine.specs.Session.{State, written_between}
+use Rattle.dp_engine.specs.Session.{State, output_so_far}
+use Rattle.dp_engine.specs.States.{allows}
 
 -- what the session knows once it has come there
 abbrev pub come : Arrival → State → State
@@ -42,6 +45,11 @@ abbrev pub stop_in : Arrival → Option ℕ
 stop_in (Moment number depth program) = Some number
 stop_in (End end program) = None
 
+-- it is later than a moment where the program stands at one
+abbrev pub IsPast : ℕ → Arrival → Type 0
+IsPast moment (Moment number depth program) = moment < number
+IsPast moment (End end program) = Unit {0}
+
 -- the step can be made
 abbrev pub Leads : Step → State → Type 0
 Leads Stay state = Unit {0}
@@ -50,10 +58,7 @@ Leads (Redirect mode) state = Unit {0}
 Leads (Come arrival) state =
     Arrives state.bundle state.bound state.writes (stop_in arrival) arrival
     × IsOf state.bundle (program_in arrival)
-
--- only the breakpoints have changed
-abbrev pub HasOwnBreaks : State → State → Type 0
-HasOwnBreaks before state = state ≡ record before { breaks = state.breaks }
+    × IsPast state.moment arrival
 
 pub record IsTurn (asked : Turn) (state : State) (made : Made) : Type 0 where
   pub text : made.text ≡ response_text asked.response
@@ -69,15 +74,17 @@ pub record Tells (response : Response) (made : Made) : Type 0 where
   pub stays : made.step ≡ Stay
   pub goes_on : made.ended ≡ None
 
--- what is sent of it, and what the session knows then
-abbrev pub given : Made → State → Reply State SessionEnd
-given made state = record {
-  packets =
-      to_ide state.stdout (written_between state (after made.step state)) ++ made.text ∷ [];
-  program = to_program state.stdout (written_between state (after made.step state));
-  state = after made.step state;
-  ended = made.ended;
-}
+-- what is sent of it where so much of the output was shown before, and what the session knows then
+abbrev pub given : StreamMode → ℕ → Made → State → Reply State SessionEnd
+given mode shown made state =
+    let next = after made.step state in
+    let fresh = drop shown (output_so_far next) in
+    record {
+      packets = to_ide mode fresh ++ made.text ∷ [];
+      program = to_program mode fresh;
+      state = next;
+      ended = made.ended;
+    }
 
 -- what a command asks for is done, if it has no refusal of its own
 abbrev pub answered_by : Option ℕ → Text → Text → Request → State → Turn
@@ -94,5 +101,6 @@ Asks state line (Ok command) =
     (refusal_of_line state (Some line)
     ≡ first_code (own_tests state line.name (id_of line) command.request))
     × (command_of line ≡ Some command)
+    × (of_command (allows state.phase) (name_of line.name) ≡ true)
 Asks state line (Err (Code code)) = refusal_of_line state (Some line) ≡ Some code
 Asks state line (Err Memory) = Unit {0}

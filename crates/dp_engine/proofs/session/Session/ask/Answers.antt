@@ -8,7 +8,6 @@ pub returns : goal.returns
 returns c =
     let s = c.self.inside in
     let name = c.in-Ok.name in
-    let built = sym c.is_built.ensures ∙ c.if-not-is_built.false in
     let allowed = ap (λ p. allows p name) (sym c.phase.ensures) ∙ sym c.allows.ensures ∙ c.if-not-allows.false in
-    rw (← c.self.view_is) (read_asks (known s.bundle.now s.bound s.moment s.standing s.features s.stdout s.breaks) c.args.line.now name c.read.result
-    c.in-Ok.ensures.admitted c.in-Ok.ensures.named built allowed c.read.ensures.refused c.read.ensures.accepted)
+    rw (← c.self.view_is) (read_asks (known s.bundle.now s.bound s.writes.items s.moment s.standing s.features s.stdout s.breaks) c.args.line.now name c.read.result
+    c.in-Ok.ensures.admitted c.in-Ok.ensures.named allowed c.read.ensures.refused c.read.ensures.accepted)

@@ -13,9 +13,9 @@ refuse-requires c =
     let refused : breakpoint_refusal s.bundle.now c.file-file.result s.breaks c.args.request ≡ Some c.in-Err-Code.code = search rules in
     refusal_known s.bundle.now c.file-file.result s.breaks c.args.request c.in-Err-Code.code refused
 
-pub returns-in-Ok-clause-turn : goal.returns-in-Ok-clause-turn
-returns-in-Ok-clause-turn c =
+pub returns-in-Ok : goal.returns-in-Ok
+returns-in-Ok c =
     let s = c.self.inside in
-    rw (← c.self.view_is) (breakpoints_are_told s.bundle.now s.bound s.moment s.standing s.features s.stdout s.breaks s.program c.file-file.result c.answer_breakpoints.new.breaks
+    rw (← c.self.view_is) (breakpoints_are_told s.bundle.now s.bound s.writes.items s.moment s.standing s.features s.stdout s.breaks s.program c.file-file.result c.answer_breakpoints.new.breaks
     c.args.to.now.command c.args.to.now.id c.args.request c.in-Ok.response c.tell.result c.self.invariant.0 c.file-file.ensures c.requires c.in-Ok.ensures.accepted
     c.in-Ok.ensures.response c.in-Ok.ensures.short c.in-Ok.ensures.table c.tell.ensures)

@@ -12,18 +12,18 @@ returns-in-Ok c =
     let s = c.self.inside in
     let command = c.args.to.now.command in
     let id = c.args.to.now.id in
-    let is = view_is s.bundle.now s.bound s.moment s.standing s.features s.stdout s.breaks s.program c.file-file.result command id c.args.request.now c.self.invariant.0 c.file-file.ensures in
-    rw (← c.self.view_is) (view_told (known s.bundle.now s.bound s.moment s.standing s.features s.stdout s.breaks) command id c.args.request.now c.in-Ok.response c.tell.result
+    let is = view_is s.bundle.now s.bound s.writes.items s.moment s.standing s.features s.stdout s.breaks s.program c.file-file.result command id c.args.request.now c.self.invariant.0 c.file-file.ensures in
+    rw (← c.self.view_is) (view_told (known s.bundle.now s.bound s.writes.items s.moment s.standing s.features s.stdout s.breaks) command id c.args.request.now c.in-Ok.response c.tell.result
     c.requires (is ∙ c.in-Ok.ensures.answer) c.tell.ensures)
 
 pub returns-in-Err-Code : goal.returns-in-Err-Code
 returns-in-Err-Code c =
     let s = c.self.inside in
-    let state = known s.bundle.now s.bound s.moment s.standing s.features s.stdout s.breaks in
+    let state = known s.bundle.now s.bound s.writes.items s.moment s.standing s.features s.stdout s.breaks in
     let command = c.args.to.now.command in
     let id = c.args.to.now.id in
     let request = c.args.request.now in
-    let is = view_is s.bundle.now s.bound s.moment s.standing s.features s.stdout s.breaks s.program c.file-file.result command id request c.self.invariant.0 c.file-file.ensures in
+    let is = view_is s.bundle.now s.bound s.writes.items s.moment s.standing s.features s.stdout s.breaks s.program c.file-file.result command id request c.self.invariant.0 c.file-file.ensures in
     let answer : view_response s.bundle.now c.file-file.result s.features s.program command id request ≡ Err c.in-Err-Code.code = search rules in
     rw (← c.self.view_is) (own_refused state state command id request c.in-Err-Code.code c.refuse.result
     (view_refused state command id request c.in-Err-Code.code c.requires (is ∙ answer)) refl (rw (← c.self.view_is) at c.refuse.ensures))

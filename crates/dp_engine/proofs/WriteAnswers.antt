@@ -1,0 +1,54 @@
+-- What a command that writes is answered, however long its name and id are: no error where a response is made, and else a code that has a message.
+use Rattle.std.proofs.Common.{◌≡◌, ◌≢◌, ℕ, ◌<◌, Bool, true, false, cond, [], Option, Some, None, Result, Ok, Err, nat_le, length, refl, ap, subst, arith}
+use Rattle.dp_command.specs.declared.command.Request.{Request}
+use Rattle.dp_features.specs.Features.{Features}
+use Rattle.dp_meaning.specs.declared.writing.Write.{Write}
+use Rattle.dp_meaning.specs.declared.writing.WriteAnswer.{WriteAnswer}
+use Rattle.dp_meaning.specs.declared.writing.WriteAnswer.TheVariants as answer
+use Rattle.dp_meaning.specs.Writes.{answer_in, evaluation_setting}
+use Rattle.dp_packet.specs.declared.packet.Body.TheVariants as body
+use Rattle.dp_packet.specs.declared.packet.Packet.TheVariants as packet
+use Rattle.dp_packet.specs.declared.packet.Response.{Response}
+use Rattle.dp_packet.specs.Parts.{Text}
+use Rattle.dp_packet.specs.Text.{text}
+use Rattle.dp_state.specs.declared.state.State.{State}
+use Rattle.dp_tree.specs.declared.bundle.Bundle.{Bundle}
+use Rattle.dp_value.specs.declared.value.Value.{Value}
+use Rattle.dp_view.specs.Answers.{and_then}
+use Rattle.dp_wire.specs.Frames.{packet_limit}
+use Rattle.dp_write_commands.specs.Asked.{write_asked}
+use Rattle.dp_write_commands.specs.Writing.{responding, response_to, value_response, within_limit, write_response}
+use Rattle.dp_write_commands.proofs.Sent.{code as short_code}
+use Rattle.dp_engine.specs.inner.Sizes.{IsCode}
+
+-- a response that tells no error, or a code that has a message
+abbrev IsTold : Result Response ℕ → Type 0
+IsTold (Ok r) = (code : ℕ) → r.body ≢ body.Fault code
+IsTold (Err code) = IsCode code
+
+limit_told : (r : Response) → ((code : ℕ) → r.body ≢ body.Fault code) → IsTold (within_limit r)
+limit_told r h = by (nat_le (length (text (packet.Response r))) packet_limit) where
+  by : (b : Bool) → IsTold (cond b (Ok r) (Err 206))
+  by true = h
+  by false = (refl, omega arith)
+
+module _ (bundle : Bundle) (features : Features) (s : State) (command id : Text) (asked : Request) where
+  answer_told : (a : WriteAnswer) → IsTold (response_to features command id a)
+  answer_told answer.Set = λ code e. cc
+  answer_told (answer.Value value) = limit_told (value_response features command id value) (λ code e. cc)
+  answer_told answer.Fatal = (refl, omega arith)
+  answer_told answer.NoFrame = (refl, omega arith)
+  answer_told answer.NoPlace = (refl, omega arith)
+
+  response_told : IsTold (write_response bundle features s command id asked)
+  unfolding write_response
+  response_told = by (write_asked s asked) refl where
+    by : (w : Result Write ℕ) → write_asked s asked ≡ w → IsTold (and_then (responding bundle features s command id) w)
+    by (Ok w) is = answer_told (answer_in (evaluation_setting bundle) w s)
+    by (Err k) is = short_code bundle features s [] [] asked (omega arith) (omega arith) k (ap (and_then (responding bundle features s [] [])) is)
+
+  pub no_error : (r : Response) → write_response bundle features s command id asked ≡ Ok r → (code : ℕ) → r.body ≢ body.Fault code
+  no_error r e = subst IsTold e response_told
+
+  pub known_code : (k : ℕ) → write_response bundle features s command id asked ≡ Err k → IsCode k
+  known_code k e = subst IsTold e response_told
