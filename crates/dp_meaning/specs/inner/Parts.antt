@@ -1,4 +1,4 @@
--- What the parts of expressions and statements do, and values that are tested.
+-- What the parts of expressions and statements do.
 use Rattle.dp_tree.specs.declared.tree.Arm.{Arm, fold-Arm}
 use Rattle.dp_tree.specs.declared.tree.Item.{Item, fold-Item}
 use Rattle.dp_tree.specs.declared.tree.Link.{Link, fold-Link}
