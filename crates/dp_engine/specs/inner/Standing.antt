@@ -30,7 +30,8 @@ reason_at Break = reason.Ok
 reason_at (Stopping end) = reason_of end
 
 -- what a session knows
-abbrev pub known : Bundle → ℕ → List NumberedWrite → ℕ → Standing → Features → StreamMode → Table → State
+abbrev pub known : Bundle → ℕ → List NumberedWrite → ℕ → Standing → Features → StreamMode → Table
+    → State
 known bundle bound writes moment standing features stdout breaks = record {
   bundle = bundle;
   bound = bound;
