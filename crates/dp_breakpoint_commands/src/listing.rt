@@ -17,10 +17,11 @@ use dp_command::Addressee;
 use dp_packet::{BreakLine, Response, attribute_size, break_size};
 use dp_tree::Bundle;
 use dp_value::Memory;
+use dp_wire::PACKET_LIMIT;
 use std::alloc::Global;
 
 /// The most bytes of a packet's text.
-const PACKET_LIMIT: u64 = 16_777_216;
+const LIMIT: u64 = PACKET_LIMIT as u64;
 
 /// The size of a response without its command's name, its id and what stands in it.
 const BARE_SIZE: u64 = 98;
@@ -31,7 +32,7 @@ fn room_for_lines(to: &Addressee) -> u64
 {
     let command = attribute_size(b"command", to.command.as_slice());
     let id = attribute_size(b"transaction_id", to.id.as_slice());
-    PACKET_LIMIT - (BARE_SIZE + command + id)
+    LIMIT - (BARE_SIZE + command + id)
 }
 
 /// The first of the breakpoints as a packet shows them, up to the one for which there is no room.

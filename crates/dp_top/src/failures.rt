@@ -8,6 +8,7 @@ use dp_lexer::LexError;
 use dp_outside::Sink;
 use dp_parse::ParseError;
 use dp_state::FatalKind;
+use dp_tree::FILE_LIMIT;
 use dp_value::{Bytes, Memory};
 use std::alloc::{AllocError, AllocFailed, Global};
 
@@ -171,7 +172,7 @@ impl Failure {
         ensures { IfOk result (λ line. line ≡ line_of self file.now) }
     {
         match self {
-            Failure::TooLong => bad_source(alloc, file, b"TooLong", 1_048_576),
+            Failure::TooLong => bad_source(alloc, file, b"TooLong", FILE_LIMIT as u64),
             Failure::Source { reason, number } => bad_source(alloc, file, reason.name(), number),
             Failure::ShelfFailed => named(alloc, b"shelf failed ", file, b"\n"),
             Failure::NoFile => named(alloc, b"no file ", file, b"\n"),

@@ -11,11 +11,12 @@ use dp_command::Addressee;
 use dp_packet::{Body, Packet, Response, attribute_size, text_size};
 use dp_value::{Bytes, Items, Memory};
 use dp_view::ViewError;
+use dp_wire::PACKET_LIMIT;
 use itoa::Buffer;
 use std::alloc::Global;
 
 /// The most bytes of a packet's text.
-const LIMIT: u32 = 16_777_216;
+const LIMIT: u32 = PACKET_LIMIT as u32;
 
 // Puts an attribute behind others.
 fn put(

@@ -12,7 +12,7 @@ use std::marker::Model;
 use std::ops::Range;
 
 /// The most bytes of a command, without its NUL.
-const LIMIT: usize = 1_048_576;
+pub const COMMAND_LIMIT: usize = 1_048_576;
 
 /// One byte more than a command may have.
 const TOO_LONG: WireError = WireError::TooLong { length: 1_048_577 };
@@ -116,9 +116,9 @@ impl Commands {
         ensures held { result ≡ Ok None → length self.now.held ≤ command_limit }
     {
         match self.first {
-            Some(length) if length <= LIMIT => Ok(Some(0..length)),
+            Some(length) if length <= COMMAND_LIMIT => Ok(Some(0..length)),
             Some(_) => Err(TOO_LONG),
-            None if self.bytes.len() - self.from <= LIMIT => Ok(None),
+            None if self.bytes.len() - self.from <= COMMAND_LIMIT => Ok(None),
             None => Err(TOO_LONG),
         }
     }

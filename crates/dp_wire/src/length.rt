@@ -4,7 +4,7 @@ ghost use Rattle.std.specs.Prelude.{◌≡◌, ◌+◌, ◌<◌, IsNone, IfSome}
 ghost use Rattle.dp_wire.specs.Received.{MayFollow, IsLength};
 
 /// The most bytes of a packet's text.
-const LIMIT: usize = 16_777_216;
+pub const PACKET_LIMIT: usize = 16_777_216;
 
 /// What bytes say of the length of the first packet's text.
 #[derive(Clone, Copy, Debug)]
@@ -33,7 +33,7 @@ pub(crate) fn read_length(bytes: &[u8]) -> Length
             return Length::Bad { index };
         };
         length = 10 * length + digit;
-        if length > LIMIT {
+        if length > PACKET_LIMIT {
             return Length::Passed {
                 length: length as u64,
             };

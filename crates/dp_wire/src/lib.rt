@@ -10,11 +10,12 @@ mod packets;
 mod wire_error;
 
 pub use command::command_bytes;
-pub use commands::Commands;
+pub use commands::{COMMAND_LIMIT, Commands};
 pub use laws::{
     commands_are_split, no_frame_begins_another, no_packet_begins_another, one_split,
     one_split_of_packets, packets_are_split,
 };
+pub use length::PACKET_LIMIT;
 pub use packet::packet_bytes;
 pub use packets::Packets;
 pub use wire_error::WireError;

@@ -12,10 +12,8 @@ use dp_state::{Path, State};
 use dp_tree::Expression;
 use dp_value::{Bytes, Memory, Value, int_of_text};
 use dp_view::{ViewError, named_path};
+use dp_wire::COMMAND_LIMIT;
 use std::alloc::Global;
-
-// The most bytes of a command.
-const COMMAND_LIMIT: usize = 1_048_576;
 
 /// What bytes give a property: themselves as a text, or another value.
 #[derive(Debug, Drop)]

@@ -13,10 +13,11 @@ use dp_packet::{Body, Property, Response, attribute_size};
 use dp_value::{Bytes, Items, Memory, Value};
 use dp_view::{Paging, ViewError};
 use dp_view_limits::limited_shown;
+use dp_wire::PACKET_LIMIT;
 use std::alloc::Global;
 
 // The most bytes of a packet's text.
-const LIMIT: u32 = 16_777_216;
+const LIMIT: u32 = PACKET_LIMIT as u32;
 
 // That a command succeeds, as an attribute.
 fn attributes(alloc: Global) -> Result<Items<(Bytes, Bytes)>, Memory>

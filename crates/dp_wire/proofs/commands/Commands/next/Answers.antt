@@ -22,12 +22,12 @@ returns-in-Some-clause-partial c =
 pub returns-in-Some-clause-refused : goal.returns-in-Some-clause-refused
 returns-in-Some-clause-refused c =
     let found = held_first _ _ c.self.inside.from c.self.inside.first (Some c.in-Some.length) (viewed c.self.view_is) c.in-Some.is c.self.invariant.1 in
-    (λ e. cc, λ p. absurd (some_refused c.args.self.now.held c.in-Some.length found c.if-length-le-LIMIT.true p))
+    (λ e. cc, λ p. absurd (some_refused c.args.self.now.held c.in-Some.length found c.if-length-le-COMMAND_LIMIT.true p))
 
 pub returns-in-Some-clause-first : goal.returns-in-Some-clause-first
 returns-in-Some-clause-first c =
     let found = held_first _ _ c.self.inside.from c.self.inside.first (Some c.in-Some.length) (viewed c.self.view_is) c.in-Some.is c.self.invariant.1 in
-    some_first c.args.self.now.held c.in-Some.length found c.if-length-le-LIMIT.true
+    some_first c.args.self.now.held c.in-Some.length found c.if-length-le-COMMAND_LIMIT.true
 
 pub returns-in-None-clause-partial : goal.returns-in-None-clause-partial
 returns-in-None-clause-partial c =
@@ -49,17 +49,17 @@ returns-in-None-clause-none c =
 pub returns-in-Some-2-clause-refused : goal.returns-in-Some-2-clause-refused
 returns-in-Some-2-clause-refused c =
     let found = held_first _ _ c.self.inside.from c.self.inside.first (Some c.in-Some.length) (viewed c.self.view_is) c.in-Some.is c.self.invariant.1 in
-    (λ e. long_refused c.args.self.now.held (long_some _ _ found c.if-length-le-LIMIT.false), λ p. refl)
+    (λ e. long_refused c.args.self.now.held (long_some _ _ found c.if-length-le-COMMAND_LIMIT.false), λ p. refl)
 
 pub returns-in-Some-2-clause-never : goal.returns-in-Some-2-clause-never
 returns-in-Some-2-clause-never c =
     let found = held_first _ _ c.self.inside.from c.self.inside.first (Some c.in-Some.length) (viewed c.self.view_is) c.in-Some.is c.self.invariant.1 in
-    λ e. long_never c.args.self.now.held (long_some _ _ found c.if-length-le-LIMIT.false)
+    λ e. long_never c.args.self.now.held (long_some _ _ found c.if-length-le-COMMAND_LIMIT.false)
 
 pub returns-in-Some-2-clause-partial : goal.returns-in-Some-2-clause-partial
 returns-in-Some-2-clause-partial c =
     let found = held_first _ _ c.self.inside.from c.self.inside.first (Some c.in-Some.length) (viewed c.self.view_is) c.in-Some.is c.self.invariant.1 in
-    (λ e. cc, λ p. absurd (long_partial c.args.self.now.held (long_some _ _ found c.if-length-le-LIMIT.false) p))
+    (λ e. cc, λ p. absurd (long_partial c.args.self.now.held (long_some _ _ found c.if-length-le-COMMAND_LIMIT.false) p))
 
 pub returns-in-None-2-clause-refused : goal.returns-in-None-2-clause-refused
 returns-in-None-2-clause-refused c =
