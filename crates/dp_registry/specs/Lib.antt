@@ -1,0 +1,5 @@
+pub mod Names
+pub mod Journal
+pub mod Verdicts
+pub mod Legal
+pub mod inner

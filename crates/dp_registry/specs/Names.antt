@@ -1,0 +1,20 @@
+-- Keys of IDEs and names of machines.
+use Rattle.std.specs.Prelude.{ℕ, ◌≤◌, List, length, All}
+
+-- printable ASCII and no blank
+abbrev pub IsGraphic : ℕ → Type 0
+IsGraphic byte = (0x21 ≤ byte) × (byte ≤ 0x7e)
+
+-- 1 to so many bytes, each printable ASCII and no blank
+pub record IsName (most : ℕ) (bytes : List ℕ) : Type 0 where
+  pub some : 1 ≤ length bytes
+  pub short : length bytes ≤ most
+  pub graphic : All IsGraphic bytes
+
+-- the key of an IDE
+abbrev pub IsKey : List ℕ → Type 0
+IsKey key = IsName 128 key
+
+-- the host of an IDE
+abbrev pub IsHost : List ℕ → Type 0
+IsHost host = IsName 64 host

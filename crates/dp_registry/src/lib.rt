@@ -1,0 +1,18 @@
+//! The registry of a proxy: which IDE holds which key, which sessions are live, and the journal of all calls.
+#![tactic(auto)]
+
+mod deciding;
+mod entries;
+mod entry;
+mod known;
+mod pass;
+mod places;
+mod refusal;
+mod registry;
+mod sessions;
+
+pub use dp_value::Memory;
+pub use entry::{AdmitReply, Entry};
+pub use pass::Pass;
+pub use refusal::Refusal;
+pub use registry::Registry;
