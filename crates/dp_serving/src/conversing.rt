@@ -16,7 +16,7 @@ use dp_value::Memory;
 use std::alloc::{AllocError, Global};
 
 /// The most bytes that one session reads.
-const BYTE_LIMIT: usize = 4_294_967_295;
+pub const BYTE_LIMIT: usize = 4_294_967_295;
 
 /// The most bytes that are read at once.
 const PIECE: usize = 8192;

@@ -9,7 +9,7 @@ mod responder;
 mod sending;
 
 pub use conversation::{Conversation, Next};
-pub use conversing::{Fault, Over, converse};
+pub use conversing::{BYTE_LIMIT, Fault, Over, converse};
 pub use dp_value::Memory;
 pub use laws::{feeding_goes_on, one_session_grows};
 pub use responder::{Answer, Responder};

@@ -17,6 +17,7 @@ use crate::run::{told, told_of_files};
 use dp_engine::{ServeEnd, Served, Session, Steps, serve};
 use dp_outside::{Shelf, Sink, Source};
 use dp_run::fetch_program;
+use dp_serving::BYTE_LIMIT;
 use dp_state::Outcome;
 use dp_tree::Bundle;
 use std::alloc::Global;
@@ -49,7 +50,7 @@ fn judge<'a>(program: Program<'a>, served: Served) -> Result<u8, Refused<'a>>
         ServeEnd::OutFault => Err(Refused::unnamed(Failure::Output)),
         ServeEnd::BadCommandFrame { offset } => Err(Refused::unnamed(Failure::Packet { offset })),
         ServeEnd::ByteLimit => Err(Refused::unnamed(Failure::Packet {
-            offset: 4_294_967_295,
+            offset: BYTE_LIMIT as u64,
         })),
         ServeEnd::Memory => Err(Refused::unnamed(Failure::Memory)),
     }
