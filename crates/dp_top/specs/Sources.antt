@@ -1,10 +1,9 @@
 -- Files that the parser refuses: what is told of them.
-use Rattle.std.specs.Prelude.{◌≡◌, ℕ, List, ◌++◌, codes}
+use Rattle.std.specs.Prelude.{ℕ, List, ◌++◌, codes}
 use Rattle.std.specs.Fmt.{decimal}
 use Rattle.dp_lexer.specs.declared.errors.LexError.TheVariants as lex
 use Rattle.dp_parse.specs.declared.errors.ParseError.{ParseError}
 use Rattle.dp_parse.specs.declared.errors.ParseError.TheVariants as error
-use Rattle.dp_parse.specs.Programs.{IsNoFile}
 use Rattle.dp_top.specs.declared.failures.Failure.{Failure}
 use Rattle.dp_top.specs.declared.failures.Failure.TheVariants.{Source, Memory}
 use Rattle.dp_top.specs.declared.failures.Reason.{Reason}
@@ -22,12 +21,6 @@ failure_of (error.Unexpected token) = Source Unexpected token
 failure_of (error.TooDeep token) = Source TooDeep token
 failure_of (error.DoubleFunction name) = Source DoubleFunction 0
 failure_of error.Memory = Memory
-
--- the content is no program, for this reason, at this number
-pub record IsNoProgram (content : List ℕ) (reason : Reason) (number : ℕ) : Type 0 where
-  pub why : ParseError
-  pub is_why : IsNoFile content why
-  pub told : failure_of why ≡ Source reason number
 
 -- the name of a reason
 abbrev pub reason_name : Reason → List ℕ
