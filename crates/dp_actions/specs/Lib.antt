@@ -9,3 +9,4 @@ pub mod Calls
 pub mod Bodies
 pub mod Loops
 pub mod Effects
+pub mod inner

@@ -1,8 +1,7 @@
 -- What is done with places: variables, and entries of them under indices.
-use Rattle.std.specs.Prelude.{ℕ, Bool, true, false, if◌then◌else◌, List, [], ◌∷◌, map, Option, unwrap_or}
+use Rattle.std.specs.Prelude.{ℕ, Bool, true, false, if◌then◌else◌, List, [], ◌∷◌, map, unwrap_or}
 use Rattle.dp_value.specs.declared.operators.BinaryOp.{BinaryOp}
 use Rattle.dp_value.specs.declared.operators.UnaryOp.{UnaryOp}
-use Rattle.dp_value.specs.declared.key.Key.{Key}
 use Rattle.dp_value.specs.declared.value.Value.{Value}
 use Rattle.dp_value.specs.declared.value.Value.TheVariants.{Null, Bool as Truth}
 use Rattle.dp_value.specs.Value.{data_of}
@@ -35,11 +34,6 @@ read_run name indices s = value_run (indexed_by (map data_of indices) (data_of (
 -- its value as isset finds it
 abbrev pub found_run : List ℕ → List Value → State → Run Value
 found_run name indices s = value_run (found_by (map data_of indices) (data_of (variable name s))) s
-
--- a write of a variable of the top frame under keys, which gives the value
-abbrev pub keyed_write : List ℕ → List (Option Key) → Bool → Value → State → Run Value
-keyed_write name keys push value s =
-    taken (assigned 0 name keys push value s) s >>= λ _ t. Done value t
 
 -- a write of a value, or of one more entry
 abbrev pub assign_run : List ℕ → List Value → Bool → Value → State → Run Value

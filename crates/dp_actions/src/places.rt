@@ -5,7 +5,8 @@ ghost use Rattle.dp_value.specs.KeyOf.{key_of_data};
 ghost use Rattle.dp_value.specs.Value.{data_of};
 ghost use Rattle.dp_state.specs.Places.{assigned, given_keys as all_given, keys_of_indices, unset};
 ghost use Rattle.dp_actions.specs.AtOnce.{AtOnce};
-ghost use Rattle.dp_actions.specs.Places.{keyed_write, assign_run, found_run, read_run, variable as value_named};
+ghost use Rattle.dp_actions.specs.Places.{assign_run, found_run, read_run, variable as value_named};
+ghost use Rattle.dp_actions.specs.inner.Keyed.{keyed_write};
 ghost use Rattle.dp_actions.specs.Loops.{bind_name};
 ghost use Rattle.dp_actions.specs.Run.{taken};
 

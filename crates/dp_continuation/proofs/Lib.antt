@@ -1,5 +1,5 @@
 pub mod Lists
-pub mod Numbers
-pub mod Skipping
-pub mod Coming
+pub mod Leading
+pub mod Passing
+pub mod Arriving
 pub mod Stopping

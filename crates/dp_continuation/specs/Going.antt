@@ -9,8 +9,14 @@ use Rattle.dp_meaning.specs.declared.writing.NumberedWrite.{NumberedWrite}
 use Rattle.dp_meaning.specs.Trace.{moment_at, now, outcome, program_trace}
 use Rattle.dp_state.specs.declared.moments.Moment.{Moment as AnyMoment}
 use Rattle.dp_state.specs.declared.state.State.{State}
+use Rattle.dp_step.specs.declared.machine.Machine.{Machine}
+use Rattle.dp_step.specs.Stands.{StandsFor}
 use Rattle.dp_continuation.specs.declared.arrival.Arrival.{Arrival}
 use Rattle.dp_continuation.specs.declared.arrival.Arrival.TheVariants.{Moment, End}
+use Rattle.dp_continuation.specs.declared.arrival.Brought.{Brought}
+use Rattle.dp_continuation.specs.declared.arrival.Brought.TheVariants as brought
+use Rattle.dp_continuation.specs.declared.arrival.Reached.{Reached}
+use Rattle.dp_continuation.specs.declared.arrival.Reached.TheVariants as reached
 use Rattle.dp_continuation.specs.Stops.{depth_of}
 
 -- the moment past n at which it stops, if it stops
@@ -43,3 +49,24 @@ Arrives bundle bound writes stop (End end program) =
 abbrev pub program_in : Arrival → State
 program_in (Moment number depth program) = program
 program_in (End end program) = program
+
+-- ---- machines
+
+-- where a machine has come to that stops at this moment, or at none
+abbrev pub Reaches : Bundle → ℕ → List NumberedWrite → Option ℕ → Reached → Machine → Type 0
+Reaches bundle bound writes stop (reached.Moment number depth) machine =
+    (stop ≡ Some number)
+    × StandsFor bundle bound writes number machine
+    × (depth ≡ depth_of (moment_at (program_trace bundle bound writes) number))
+Reaches bundle bound writes stop (reached.End end) machine =
+    (stop ≡ None)
+    × (end ≡ outcome bundle bound writes)
+    × (machine.state ≡ (program_trace bundle bound writes).state)
+
+-- what comes of bringing a program to the moment of a number
+abbrev pub IsBrought : Bundle → ℕ → List NumberedWrite → ℕ → Brought → Type 0
+IsBrought bundle bound writes n (brought.At machine) = StandsFor bundle bound writes n machine
+IsBrought bundle bound writes n (brought.Ended end program) =
+    (now bundle bound writes n ≡ None)
+    × (end ≡ outcome bundle bound writes)
+    × (program ≡ (program_trace bundle bound writes).state)

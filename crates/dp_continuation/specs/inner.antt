@@ -1,2 +1,2 @@
--- How the functions inside the crate go on. No clause of a public call speaks of it.
-pub mod Hits
+-- What machines do on the way to a moment. No clause of a public call speaks of it.
+pub mod Bringing

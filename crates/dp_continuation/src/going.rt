@@ -1,31 +1,25 @@
 //! Going on.
 
-ghost use Rattle.std.specs.Prelude.{◌≡◌, ◌<◌, ◌≤◌, ◌∷◌, ◌||◌, [], All, length, IfOk, OnOk};
+ghost use Rattle.std.specs.Prelude.{◌≡◌, ◌<◌, ◌≤◌, ◌∷◌, ◌||◌, ℕ, List, [], All, length, IfOk, OnOk};
 ghost use Rattle.dp_break.specs.Passing.{held_after, one_stops};
-ghost use Rattle.dp_continuation.specs.Going.{Arrives, program_in, stop_past, table_past};
-ghost use Rattle.dp_continuation.specs.inner.Hits.{IsNext, IsNextOf, left_in};
+ghost use Rattle.dp_continuation.specs.Going.{Arrives, Reaches, program_in, stop_past, table_past};
 ghost use Rattle.dp_continuation.specs.Stops.{stops};
+ghost use Rattle.dp_meaning.specs.declared.writing.NumberedWrite.{NumberedWrite as AnyWrite};
 ghost use Rattle.dp_meaning.specs.Trace.{outcome as outcome_of, program_trace};
 ghost use Rattle.dp_state.specs.States.{IsOf};
+ghost use Rattle.dp_step.specs.Stands.{StandsFor};
 
-use crate::arrival::Arrival;
-use crate::stops::{Going, is_stop};
+use crate::arrival::{Arrival, Brought, Reached};
+use crate::standing::stand_at;
+use crate::stops::is_stop;
 use dp_break::Breaks;
 use dp_command::Continuation;
-use dp_meaning::{NumberedWrite, Stop, run_to, run_until};
+use dp_meaning::{NumberedWrite, Stop, run_to};
 use dp_state::{Moment, Outcome, State};
+use dp_step::{Machine, Progress};
 use dp_tree::Bundle;
 use dp_value::Memory;
 use std::alloc::Global;
-
-/// What comes of going on to the next moment at which the mode stops or a breakpoint hits.
-#[derive(Debug, Drop)]
-enum Next {
-    /// The program does not stop at the moment of this number.
-    On(u64),
-    /// It has come to a stop or to its end.
-    Come(Arrival),
-}
 
 /// Counts the hits of a moment, and says whether the program stops at it.
 fn pass(
@@ -47,55 +41,66 @@ fn pass(
     Ok(is_stop(mode, depth, moment) || stop)
 }
 
-/// What comes of it at a moment.
-fn come_to(
+/// Where a machine comes to that goes on from the moment at which it stands, where it is this deep, and what is held of the
+/// breakpoints then: the first moment past it at which the command or a breakpoint stops, or the end. The hits are those of
+/// the moments up to there, each of which is passed once. Where none is held, that costs no more.
+///
+/// After want of memory nothing is said of the machine and of the breakpoints.
+pub fn go_on_from(
+    machine: &mut Machine,
     bundle: &Bundle,
-    mode: Continuation,
     depth: u32,
-    moment: Moment,
-    mut program: State,
+    mode: Continuation,
     breaks: &mut Breaks,
-) -> Result<Next, Memory>
-    ensures next { IfOk result (λ next. next ≡ left_in (stops mode depth) bundle.now breaks.old.held (moment, program)) }
-    ensures breaks { OnOk result (breaks.new ≡ record breaks.old {
-      held = held_after bundle.now ((moment, program) ∷ []) breaks.old.held;
-    }) }
+) -> Result<Reached, Memory>
+    ensures reached { (bound : ℕ) (writes : List AnyWrite) (n : ℕ) → StandsFor bundle.now bound writes n machine.old
+        → IfOk result (λ reached. Reaches bundle.now bound writes
+        (stop_past (stops mode depth) bundle.now bound writes breaks.old.held n) reached machine.new) }
+    ensures breaks { (bound : ℕ) (writes : List AnyWrite) (n : ℕ) → StandsFor bundle.now bound writes n machine.old
+        → OnOk result (breaks.new ≡ table_past (stops mode depth) bundle.now bound writes breaks.old n) }
 {
-    if pass(bundle, mode, depth, &moment, &mut program, breaks)? {
-        Ok(Next::Come(Arrival::Moment {
-            number: moment.number,
-            depth: moment.depth,
-            program,
-        }))
-    } else {
-        Ok(Next::On(moment.number))
+    for _ in 0..u64::MAX {
+        match machine.step()? {
+            Progress::At(moment) => {
+                if pass(bundle, mode, depth, &moment, machine.state_mut(), breaks)? {
+                    return Ok(Reached::Moment {
+                        number: moment.number,
+                        depth: moment.depth,
+                    });
+                }
+            }
+            Progress::Ended(outcome) => return Ok(Reached::End(outcome)),
+        }
     }
+    // No run has so many moments.
+    Err(Memory)
 }
 
-/// Goes on past a moment to the next one at which the mode stops or a breakpoint hits, or to the end.
-fn go_to_next(
-    alloc: Global,
+/// Where a machine comes to that goes on, with the state there.
+fn go_on_with(
+    mut machine: Machine,
     bundle: &Bundle,
-    writes: &[NumberedWrite],
-    bound: u64,
-    from: u64,
     depth: u32,
     mode: Continuation,
     breaks: &mut Breaks,
-) -> Result<Next, Memory>
-    requires { All (λ w. w.moment ≤ from) writes.now }
-    ensures next { IfOk result (IsNext (stops mode depth) bundle.now bound writes.now from breaks.old breaks.new) }
-    ensures of { 0 < length bundle.now.files → IfOk result (IsNextOf bundle.now) }
+) -> Result<Arrival, Memory>
+    ensures arrival { (bound : ℕ) (writes : List AnyWrite) (n : ℕ) → StandsFor bundle.now bound writes n machine.entry
+        → IfOk result (Arrives bundle.now bound writes
+        (stop_past (stops mode depth) bundle.now bound writes breaks.old.held n)) }
+    ensures breaks { (bound : ℕ) (writes : List AnyWrite) (n : ℕ) → StandsFor bundle.now bound writes n machine.entry
+        → OnOk result (breaks.new ≡ table_past (stops mode depth) bundle.now bound writes breaks.old n) }
 {
-    let going = Going {
-        bundle,
-        breaks: &*breaks,
-        mode,
-        depth,
-    };
-    match run_until(alloc, bundle, writes, from, &going, bound)? {
-        Stop::At(moment, program) => come_to(bundle, mode, depth, moment, program, breaks),
-        Stop::Ended(outcome, program) => Ok(Next::Come(Arrival::End { outcome, program })),
+    match go_on_from(&mut machine, bundle, depth, mode, breaks) {
+        Ok(Reached::Moment { number, depth }) => Ok(Arrival::Moment {
+            number,
+            depth,
+            program: machine.into_state(),
+        }),
+        Ok(Reached::End(outcome)) => Ok(Arrival::End {
+            outcome,
+            program: machine.into_state(),
+        }),
+        Err(_) => Err(Memory),
     }
 }
 
@@ -103,7 +108,7 @@ fn go_to_next(
 /// breakpoints then: the first moment past it at which the command or a breakpoint stops, or the end. The hits are those of
 /// the moments up to there. No write may be numbered past the moment.
 ///
-/// Each hit runs the program again from its beginning, also one that does not stop.
+/// The program runs once, from its beginning.
 pub fn go_on(
     alloc: Global,
     bundle: &Bundle,
@@ -122,12 +127,9 @@ pub fn go_on(
         ≡ table_past (stops mode depth) bundle.now bound writes.now breaks.old from) }
     ensures of { 0 < length bundle.now.files → IfOk result (λ arrival. IsOf bundle.now (program_in arrival)) }
 {
-    let mut at = from;
-    'hits: loop {
-        match go_to_next(alloc, bundle, writes, bound, at, depth, mode, breaks)? {
-            Next::On(number) => at = number,
-            Next::Come(arrival) => return Ok(arrival),
-        }
+    match stand_at(alloc, bundle, writes, bound, from)? {
+        Brought::At(machine) => go_on_with(machine, bundle, depth, mode, breaks),
+        Brought::Ended(outcome, program) => Ok(Arrival::End { outcome, program }),
     }
 }
 

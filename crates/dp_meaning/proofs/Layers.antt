@@ -21,11 +21,12 @@ use Rattle.dp_tree.specs.declared.tree.StatementKind.TheFolds.{fold-roll-Stateme
 use Rattle.dp_tree.specs.declared.tree.StatementKind.TheOpen.{StatementKind-F}
 use Rattle.dp_tree.specs.declared.tree.StatementKind.TheVariants as kind
 use Rattle.dp_meaning.specs.Expressions.{ExpressionRun, conditional, plain, ItemRun, LinkRun, values_run, operator_run, item_run, place_layer, item_layer, link_layer, expression_layer, expression_run, place_run}
-use Rattle.dp_meaning.specs.inner.Parts.{item_run_of, link_run}
+use Rattle.dp_meaning.specs.Expressions.{item_run_of, link_run}
 use Rattle.dp_actions.specs.Places.{PlaceRun}
 use Rattle.dp_actions.specs.Setting.{Part}
 use Rattle.dp_meaning.specs.Statements.{KindRun, ArmRun, arms_run, kind_layer, arm_layer, statement_layer, statement_run}
-use Rattle.dp_meaning.specs.inner.Parts.{kind_run, arm_run}
+use Rattle.dp_meaning.specs.inner.Parts.{kind_run}
+use Rattle.dp_meaning.specs.Statements.{arm_run}
 use Rattle.dp_actions.specs.declared.signal.Signal.{Signal}
 
 -- ---- expressions

@@ -14,6 +14,8 @@ use Rattle.dp_value.specs.declared.operators.UnaryOp.{UnaryOp}
 use Rattle.dp_tree.specs.declared.tree.Inclusion.{Inclusion}
 use Rattle.dp_tree.specs.declared.tree.Expression.{Expression, fold-Expression}
 use Rattle.dp_tree.specs.declared.tree.Expression.TheOpen.{Expression-F, Item-F, Link-F, Place-F}
+use Rattle.dp_tree.specs.declared.tree.Item.{Item, fold-Item}
+use Rattle.dp_tree.specs.declared.tree.Link.{Link, fold-Link}
 use Rattle.dp_tree.specs.declared.tree.Operator.{Operator}
 use Rattle.dp_tree.specs.declared.tree.Operator.TheVariants.{Or, And, Of}
 use Rattle.dp_tree.specs.declared.tree.Place.{Place, fold-Place}
@@ -183,6 +185,16 @@ expression_run =
 unfoldable pub place_run : Place → PlaceRun
 place_run =
     fold-Place ExpressionRun ItemRun LinkRun PlaceRun expression_layer item_layer link_layer
+    place_layer
+
+unfoldable pub item_run_of : Item → ItemRun
+item_run_of =
+    fold-Item ExpressionRun ItemRun LinkRun PlaceRun expression_layer item_layer link_layer
+    place_layer
+
+unfoldable pub link_run : Link → LinkRun
+link_run =
+    fold-Link ExpressionRun ItemRun LinkRun PlaceRun expression_layer item_layer link_layer
     place_layer
 
 -- the value of an expression

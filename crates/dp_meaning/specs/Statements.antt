@@ -2,6 +2,7 @@
 use Rattle.std.specs.Prelude.{ℕ, if◌then◌else◌, List, [], ◌∷◌, map, Option, Some, None}
 use Rattle.dp_value.specs.declared.value.Value.{Value}
 use Rattle.dp_value.specs.declared.value.Value.TheVariants.{Null}
+use Rattle.dp_tree.specs.declared.tree.Arm.{Arm, fold-Arm}
 use Rattle.dp_tree.specs.declared.tree.Binding.{Binding}
 use Rattle.dp_tree.specs.declared.tree.Expression.{Expression}
 use Rattle.dp_tree.specs.declared.tree.Place.{Place}
@@ -134,6 +135,9 @@ kind_layer (StatementKind-F.Exit value) line setting s =
     placed line s (λ t. end_run value setting t)
 
 -- ---- whole trees
+
+unfoldable pub arm_run : Arm → ArmRun
+arm_run = fold-Arm KindRun ArmRun (Part Signal) kind_layer arm_layer statement_layer
 
 unfoldable pub statement_run : Statement → Part Signal
 statement_run = fold-Statement KindRun ArmRun (Part Signal) kind_layer arm_layer statement_layer

@@ -105,6 +105,11 @@ answer_in setting (Place level context path value) s =
     place_answer (with_place level context path value s)
 answer_in setting (Evaluate e) s = value_answer (evaluated setting e s)
 
+-- the writes of a number, in their order
+abbrev pub of_number : ℕ → List NumberedWrite → List NumberedWrite
+of_number n [] = []
+of_number n (w ∷ ws) = if nat_eq w.moment n then w ∷ of_number n ws else of_number n ws
+
 abbrev pub written_by : Setting → List NumberedWrite → ℕ → State → State
 written_by setting [] n s = s
 written_by setting (w ∷ ws) n s =

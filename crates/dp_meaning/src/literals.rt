@@ -16,7 +16,7 @@ impl<O: Outside> Evaluator<'_, O> {
     ghost use Rattle.dp_meaning.specs.inner.Drive.{Evaluates};
     ghost use Rattle.dp_meaning.specs.inner.Evaluation.{goes_by};
     ghost use Rattle.dp_meaning.specs.Expressions.{expression_run, item_run, items_run};
-    ghost use Rattle.dp_meaning.specs.inner.Parts.{item_run_of};
+    ghost use Rattle.dp_meaning.specs.Expressions.{item_run_of};
 
     /// The value of a literal.
     #[cycle(evaluate)]

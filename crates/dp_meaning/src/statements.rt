@@ -20,7 +20,7 @@ impl<O: Outside> Evaluator<'_, O> {
     ghost use Rattle.dp_meaning.specs.Expressions.{expression_run, place_run};
     ghost use Rattle.dp_actions.specs.Places.{unset_run};
     ghost use Rattle.dp_meaning.specs.Statements.{arms_run, body_run, echoes, end_run, return_run, statement_run};
-    ghost use Rattle.dp_meaning.specs.inner.Parts.{arm_run};
+    ghost use Rattle.dp_meaning.specs.Statements.{arm_run};
 
     /// Statements, one after another.
     #[cycle(evaluate)]

@@ -1,13 +1,9 @@
 -- The past stands: a write does not change what came before it.
-use Rattle.std.specs.Prelude.{◌≡◌, ℕ, ◌<◌, nat_eq, if◌then◌else◌, List, [], ◌∷◌, take}
+use Rattle.std.specs.Prelude.{◌≡◌, ℕ, ◌<◌, List, take}
 use Rattle.dp_tree.specs.declared.bundle.Bundle.{Bundle}
 use Rattle.dp_meaning.specs.declared.writing.NumberedWrite.{NumberedWrite}
 use Rattle.dp_meaning.specs.Trace.{program_trace}
-
--- the writes of a number, in their order
-abbrev pub of_number : ℕ → List NumberedWrite → List NumberedWrite
-of_number n [] = []
-of_number n (w ∷ ws) = if nat_eq w.moment n then w ∷ of_number n ws else of_number n ws
+use Rattle.dp_meaning.specs.Writes.{of_number}
 
 -- two lists of writes have the same writes of each number below n
 abbrev pub AgreeBelow : ℕ → List NumberedWrite → List NumberedWrite → Type 0

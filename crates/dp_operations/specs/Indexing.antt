@@ -1,14 +1,11 @@
 -- The reading of an entry by an index. Source: the PHP manual, "Arrays", "Strings" and "isset".
-use Rattle.std.specs.Prelude.{ℕ, ℤ, pos, negsuc, suc, ◌-◌, Bool, cond, if◌then◌else◌, nat_le, List, [], ◌∷◌, length, Option, Some, None, option_map, slice_get, unwrap_or, Result, Ok, Err}
+use Rattle.std.specs.Prelude.{ℕ, ℤ, pos, negsuc, suc, ◌-◌, Bool, cond, if◌then◌else◌, nat_le, List, [], ◌∷◌, length, Option, None, option_map, slice_get, unwrap_or, Result, Ok, Err}
 use Rattle.std.specs.Option.{option_map_or}
-use Rattle.dp_operations.specs.declared.indexing.Found.{Found}
-use Rattle.dp_operations.specs.declared.indexing.Found.TheVariants.{Nothing, Letter, Entry}
 use Rattle.dp_value.specs.declared.error.ValueError.{ValueError}
 use Rattle.dp_value.specs.declared.error.ValueError.TheVariants.{BadKey, Unsupported}
 use Rattle.dp_value.specs.Data.{Data, null, boolean, integer, text, array, pairs_of}
 use Rattle.dp_value.specs.KeyOf.{key_of_data}
 use Rattle.dp_value.specs.Table.{value_at}
-use Rattle.dp_value.specs.Value.{data_of}
 
 -- a byte of a text by its position, which is counted from the end where it is negative
 abbrev pub byte_at : List ℕ → ℤ → Option ℕ
@@ -71,9 +68,3 @@ found_by indices d = read_by looked_up indices d
 -- a reading: a plain one, or as isset finds
 abbrev pub reading : Bool → Data → Data → Result Data ValueError
 reading plain holder index = if plain then indexed holder index else looked_up holder index
-
--- what stands under an index, as data
-abbrev pub data_of_found : Found → Data
-data_of_found Nothing = null
-data_of_found (Letter byte) = text (byte ∷ [])
-data_of_found (Entry value) = data_of value.now

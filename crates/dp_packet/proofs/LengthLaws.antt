@@ -86,7 +86,7 @@ abbrev pub weight : Attributes → ℕ
 weight [] = 0
 weight (a ∷ attributes) = 4 + length a.0 + 6 * length a.1 + weight attributes
 
-attribute_short : (name value : List ℕ) → length (attribute_text (name, value)) ≤ 4 + length name + 6 * length value
+pub attribute_short : (name value : List ℕ) → length (attribute_text (name, value)) ≤ 4 + length name + 6 * length value
 attribute_short name value =
     let whole : length (attribute_text (name, value)) ≤ 1 + length name + 2 + 6 * length value + 1 =
     append_short (codes " " ++ name ++ codes "=\"" ++ escaped_all value) (codes "\"") _ 1

@@ -10,7 +10,8 @@ use Rattle.dp_packet.specs.declared.property.Shape.TheVariants as shape
 use Rattle.dp_packet.specs.declared.property.Shape.TheOpen.{Shape-F}
 use Rattle.dp_packet.specs.declared.property.Shape.TheFolds.{fold-roll-Shape, fold_out-Property}
 use Rattle.dp_packet.specs.Parts.{Text, given, text_nodes, flag, base64}
-use Rattle.dp_packet.specs.Properties.{Part, value_part, property_layer, property_node, shape_part}
+use Rattle.dp_packet.specs.Properties.{Part, value_part, property_layer, property_node}
+use Rattle.dp_packet.specs.inner.Shapes.{shape_part}
 use Rattle.dp_packet.specs.inner.Sizes.{attributes_size}
 use Rattle.dp_packet.proofs.SizeLaws.{attributes_append, child_length, text_length}
 

@@ -3,7 +3,7 @@ use Rattle.std.specs.Prelude.{ℕ, not, ◌==◌, List, [], ◌∷◌, ◌++◌,
 use Rattle.std.specs.Fmt.{signed_decimal}
 use Rattle.dp_markup.specs.declared.tree.Node.{Node}
 use Rattle.dp_packet.specs.declared.property.Property.{Property, fold-Property}
-use Rattle.dp_packet.specs.declared.property.Shape.{Shape, fold-Shape}
+use Rattle.dp_packet.specs.declared.property.Shape.{Shape}
 use Rattle.dp_packet.specs.declared.property.Shape.TheOpen.{Shape-F, Property-F}
 use Rattle.dp_packet.specs.Parts.{Text, Attributes, child, text_nodes, given, flag, base64}
 
@@ -57,6 +57,3 @@ property_layer p =
 -- the element of a property, from its innermost entries up
 abbrev pub property_node : Property → Node
 property_node = fold-Property Part Node value_part property_layer
-
-abbrev pub shape_part : Shape → Part
-shape_part = fold-Shape Part Node value_part property_layer

@@ -23,7 +23,7 @@ pub use packet::{
 };
 pub use property::{Property, Shape};
 pub use property_sizes::{base64_size, property_size};
-pub use sizes::{attribute_size, escaped_size};
+pub use sizes::{attribute_size, escaped_size, short_size};
 pub use text_sizes::text_size;
 pub use texts::{has_message, text_of};
 pub use uris::file_uri;

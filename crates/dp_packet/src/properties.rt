@@ -2,7 +2,8 @@
 ghost use Rattle.std.specs.Prelude.{◌≡◌, ◌++◌, map, IfOk, OnOk};
 ghost use Rattle.dp_packet.specs.Parts as spec;
 ghost use Rattle.dp_packet.specs.Properties.{array_attributes, paging_attributes};
-ghost use Rattle.dp_packet.specs.Properties.{property_node, shape_part, text_attributes};
+ghost use Rattle.dp_packet.specs.Properties.{property_node, text_attributes};
+ghost use Rattle.dp_packet.specs.inner.Shapes.{shape_part};
 
 use crate::Memory;
 use crate::parts::{child, flag, put, put_flag, put_given, put_number, text_nodes};

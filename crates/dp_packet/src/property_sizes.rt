@@ -5,7 +5,8 @@ ghost use Rattle.dp_markup.specs.Escaping.{escaped_all};
 ghost use Rattle.dp_markup.specs.Writing.{node_text, nodes_text};
 ghost use Rattle.dp_packet.specs.Parts.{base64};
 ghost use Rattle.dp_packet.specs.Properties.{array_attributes, paging_attributes};
-ghost use Rattle.dp_packet.specs.Properties.{property_node, shape_part, text_attributes};
+ghost use Rattle.dp_packet.specs.Properties.{property_node, text_attributes};
+ghost use Rattle.dp_packet.specs.inner.Shapes.{shape_part};
 ghost use Rattle.dp_packet.specs.Sizes.{counted};
 ghost use Rattle.dp_packet.specs.inner.Sizes.{attributes_size};
 

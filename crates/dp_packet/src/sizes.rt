@@ -1,5 +1,5 @@
 //! How many bytes the parts of a text take: counted, and not built.
-ghost use Rattle.std.specs.Prelude.{◌≡◌, ◌+◌, ◌*◌, decimal, length};
+ghost use Rattle.std.specs.Prelude.{◌≡◌, ◌+◌, ◌*◌, ◌≤◌, decimal, length};
 ghost use Rattle.dp_markup.specs.Escaping.{escaped, escaped_all};
 ghost use Rattle.dp_markup.specs.Writing.{attribute_text};
 ghost use Rattle.dp_packet.specs.Breakpoints.{given_number};
@@ -43,6 +43,16 @@ pub fn attribute_size(name: &[u8], value: &[u8]) -> u64
     ensures { result ≡ counted (length (attribute_text (name.now, value.now))) }
 {
     size_of(name, value)
+}
+
+/// The same of a short name and a short value: a size that is counted in full. Takes no memory.
+pub fn short_size(name: &[u8], value: &[u8]) -> u64
+    requires name { length name.now ≤ 20 }
+    requires value { length value.now ≤ 64 }
+    ensures size { result ≡ length (attribute_text (name.now, value.now)) }
+    ensures small { result ≤ 500 }
+{
+    attribute_size(name, value)
 }
 
 pub(crate) fn size_of(name: &[u8], value: &[u8]) -> u64

@@ -10,7 +10,8 @@ use Rattle.dp_parse.specs.declared.errors.ParseError.{ParseError}
 use Rattle.dp_parse.specs.declared.errors.ParseError.TheVariants as error
 use Rattle.dp_tree.specs.declared.tree.File.{File}
 use Rattle.dp_tree.specs.Doubles.{HasNoDouble, IsDouble}
-use Rattle.dp_parse.specs.Programs.{without_tokens, AreWrong, IsFile, IsNoFile}
+use Rattle.dp_parse.specs.Programs.{AreWrong, IsFile, IsNoFile}
+use Rattle.dp_parse.specs.inner.Reasons.{without_tokens}
 use Rattle.dp_parse.specs.Limits.{limits}
 use Rattle.dp_parse.specs.Statements.{Spells}
 use Rattle.dp_parse.proofs.Reasons.{lexical_refuses}

@@ -7,7 +7,8 @@ use Rattle.dp_lexer.specs.declared.fault.Fault.TheVariants as fault
 use Rattle.dp_lexer.specs.Tokens.{error_of}
 use Rattle.dp_parse.specs.declared.errors.ParseError.{ParseError}
 use Rattle.dp_parse.specs.declared.errors.ParseError.TheVariants as error
-use Rattle.dp_parse.specs.Programs.{HasNoTokens, without_tokens}
+use Rattle.dp_parse.specs.Programs.{HasNoTokens}
+use Rattle.dp_parse.specs.inner.Reasons.{without_tokens}
 
 -- ---- bytes without tokens
 

@@ -50,11 +50,6 @@ pub record HasDouble (bytes : List ℕ) (name : List ℕ) : Type 0 where
   pub spelled : Spells limits tokens parts
   pub double : IsDouble parts.functions name
 
--- the reason, where there are no tokens for this one
-abbrev pub without_tokens : LexError → ParseError
-without_tokens lex_error.Memory = error.Memory
-without_tokens why = error.Lex why
-
 -- Tokens are refused at a token, by a rule at its limits of nesting. No other reason is one of
 -- tokens.
 abbrev pub AreWrong : {L A : Type 0} → (L → Rule A) → L → List Token → ParseError → Type 0

@@ -4,3 +4,4 @@ pub mod ReadingStatements
 pub mod Within
 pub mod NestedBody
 pub mod Parameters
+pub mod Reasons

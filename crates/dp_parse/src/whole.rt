@@ -8,7 +8,8 @@ ghost use Rattle.dp_tree.specs.declared.tree.Expression.{Expression};
 ghost use Rattle.dp_tree.specs.declared.tree.File.{File};
 ghost use Rattle.dp_parse.specs.ExpressionIn.{expression_in, Told, Tells};
 ghost use Rattle.dp_parse.specs.Statements.{Depth, Spells, SpellsExpression};
-ghost use Rattle.dp_parse.specs.Programs.{without_tokens, IsFile, IsNoFile, IsExpressionText, IsNoExpression};
+ghost use Rattle.dp_parse.specs.Programs.{IsFile, IsNoFile, IsExpressionText, IsNoExpression};
+ghost use Rattle.dp_parse.specs.inner.Reasons.{without_tokens};
 
 use crate::ended::Parts;
 use crate::errors::ParseError;

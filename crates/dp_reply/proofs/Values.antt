@@ -18,7 +18,8 @@ use Rattle.dp_packet.specs.declared.property.Shape.TheOpen.{Shape-F}
 use Rattle.dp_packet.specs.declared.property.Shape.TheViews.{out-Shape, roll-out-Shape}
 use Rattle.dp_packet.specs.declared.property.Shape.TheFolds.{fold-roll-Shape, fold_out-Property}
 use Rattle.dp_packet.specs.Parts.{Text, Attributes, element, given, text_nodes, flag, base64}
-use Rattle.dp_packet.specs.Properties.{Part, value_part, property_layer, property_node, shape_part, array_attributes, text_attributes, type_of}
+use Rattle.dp_packet.specs.Properties.{Part, value_part, property_layer, property_node, array_attributes, text_attributes, type_of}
+use Rattle.dp_packet.specs.inner.Shapes.{shape_part}
 use Rattle.dp_value.specs.Decimals.{decimal_in}
 use Rattle.dp_reply.specs.Contents.{◌>>=◌, each, flag_in, bytes_in, attribute, alone, words, elements, most_64, text_in}
 use Rattle.dp_reply.specs.Readings.{shape_in, property_within, property_around, property_of, shown}

@@ -95,17 +95,6 @@ removed (key ∷ keys) d =
     else with_entry t k (removed keys) (value_at t k)))
 
 -- ---- inside the crate
--- an array with a new value at the entry under these keys, or pushed there
-abbrev pub written_in : List (Option Key) → Bool → Data → Table → Result Data WriteError
-written_in [] push new t = pushed new t
-written_in (key ∷ keys) push new t =
-    then_key key (λ k. then_data (written keys push new (entry_at t k))
-    (λ d. data_of_table (table_set t k d)))
-
--- a value under a key, where there is one left
-abbrev pub put_under : Option Key → Data → Table → Result Data WriteError
-put_under None d t = Err NextIndex
-put_under (Some key) d t = Ok (data_of_table (table_set t key d))
 
 -- a value, where it and what weighs beside it stay within the weight limit
 abbrev pub within : ℕ → Result Data WriteError → Result Data WriteError

@@ -2,3 +2,4 @@
 pub mod Codes
 pub mod Inside
 pub mod Falls
+pub mod Writing

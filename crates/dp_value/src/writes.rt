@@ -4,7 +4,8 @@ ghost use Rattle.std.specs.Prelude.{◌≡◌, ◌≤◌, ◌+◌, min, Ok, IfOk
 ghost use Rattle.dp_value.specs.Data.{Data, data_of_table, null, pairs_weight};
 ghost use Rattle.dp_value.specs.Table.{empty, put, table_set, weight_limit};
 ghost use Rattle.dp_value.specs.Value.{data_of};
-ghost use Rattle.dp_value.specs.Entry.{pushed, put_under, within, written, written_in, write_result, IsCause};
+ghost use Rattle.dp_value.specs.Entry.{pushed, within, written, write_result, IsCause};
+ghost use Rattle.dp_value.specs.inner.Writing.{put_under, written_in};
 
 use crate::{Key, PhpArray, Value, WEIGHT_LIMIT, WriteError, weight};
 use std::alloc::Global;

@@ -1,6 +1,6 @@
 -- The names of properties: DBGp 1.0, "Properties, variables and values", on `name` and `fullname`.
 -- The escapes of a key are this engine's own.
-use Rattle.std.specs.Prelude.{ℕ, ℤ, ◌-◌, length, slice_get, List, [], ◌∷◌, ◌++◌, codes, Option, option_map}
+use Rattle.std.specs.Prelude.{ℕ, ℤ, ◌-◌, length, slice_get, List, ◌++◌, codes, Option, option_map}
 use Rattle.std.specs.Fmt.{signed_decimal}
 use Rattle.std.specs.List.{flat_map}
 use Rattle.std.specs.Option.{option_map_or}
@@ -46,7 +46,3 @@ full_name path = variable_name path.name ++ flat_map index_of path.keys
 -- the full name of an entry, where that of its array is known
 abbrev pub entry_name : Option (List ℕ) → Key → Option (List ℕ)
 entry_name full key = option_map (λ name. name ++ index_of key) full
-
--- a path that goes on by a key
-abbrev pub with_key : Path → Key → Path
-with_key path key = record path { keys = path.keys ++ key ∷ [] }

@@ -4,3 +4,4 @@ pub mod Taking
 pub mod Making
 pub mod Keyed
 pub mod Lines
+pub mod Longer

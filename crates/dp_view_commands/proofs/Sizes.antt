@@ -1,6 +1,5 @@
 -- How long responses are.
-use Rattle.std.proofs.Common.{◌≡◌, ℕ, ◌+◌, ◌*◌, ◌≤◌, List, [], ◌∷◌, length, codes, arith}
-use Rattle.dp_markup.specs.Escaping.{escaped}
+use Rattle.std.proofs.Common.{◌≡◌, ℕ, ◌+◌, List, [], ◌∷◌, length, codes, arith}
 use Rattle.dp_markup.specs.Writing.{attribute_text, nodes_text}
 use Rattle.dp_packet.specs.declared.packet.Body.{Body}
 use Rattle.dp_packet.specs.declared.packet.Body.TheVariants as body
@@ -12,7 +11,6 @@ use Rattle.dp_packet.specs.Packets.{body_nodes, response_element}
 use Rattle.dp_packet.specs.Parts.{Attributes, Text}
 use Rattle.dp_packet.specs.Properties.{property_node}
 use Rattle.dp_packet.specs.Text.{text}
-use Rattle.dp_packet.proofs.LengthLaws.{escaped_short, pieces_short}
 use Rattle.dp_packet.proofs.SizeLaws.{alone_length, attribute_length, packet_length, written_length}
 use Rattle.dp_view_limits.specs.Limits.{properties_size, property_size}
 use Rattle.dp_view_commands.specs.Views.{response_with}
@@ -48,7 +46,3 @@ one_is q = alone_length (property_node q)
 -- with one property
 pub one_filled : (command id : Text) (q : Property) → length (text (packet.Response (response_with command id ([], body.Properties (q ∷ []))))) ≡ around command id [] + property_size q
 one_filled command id q = omega (arith, filled_is command id [] (q ∷ []), one_is q)
-
-pub attribute_short : (name value : Text) (most : ℕ) → length value ≤ most → length (attribute_text (name, value)) ≤ 4 + length name + 6 * most
-attribute_short name value most short =
-    omega (arith, attribute_length name value, pieces_short 6 escaped escaped_short value, short)

@@ -8,7 +8,7 @@ ghost use Rattle.dp_view_commands.specs.inner.Making.{around};
 ghost use Rattle.dp_wire.specs.Frames.{packet_limit};
 
 use dp_command::Addressee;
-use dp_packet::{Body, Packet, Response, attribute_size, text_size};
+use dp_packet::{Body, Packet, Response, short_size, text_size};
 use dp_value::{Bytes, Items, Memory};
 use dp_view::ViewError;
 use dp_wire::PACKET_LIMIT;
@@ -115,16 +115,6 @@ pub(crate) fn limited(response: Response) -> Result<Response, ViewError>
         Packet::Notify(_notify) => Err(ViewError::Code(300)),
         Packet::Proxy(_reply) => Err(ViewError::Code(300)),
     }
-}
-
-// The size of an attribute whose value is short.
-fn short_size(name: &[u8], value: &[u8]) -> u64
-    requires name { length name.now ≤ 20 }
-    requires value { length value.now ≤ 64 }
-    ensures size { result ≡ length (attribute_text (name.now, value.now)) }
-    ensures small { result ≤ 500 }
-{
-    attribute_size(name, value)
 }
 
 // The size of a response without attributes of its own and without a body.

@@ -9,7 +9,8 @@ use Rattle.dp_markup.specs.Writing.{node_text, nodes_text}
 use Rattle.dp_packet.specs.declared.property.Property.{Property}
 use Rattle.dp_packet.specs.declared.property.Shape.{Shape}
 use Rattle.dp_packet.specs.Parts.{Text, base64, flag, given}
-use Rattle.dp_packet.specs.Properties.{Part, property_node, shape_part}
+use Rattle.dp_packet.specs.Properties.{Part, property_node}
+use Rattle.dp_packet.specs.inner.Shapes.{shape_part}
 use Rattle.dp_packet.specs.inner.Sizes.{attributes_size}
 use Rattle.dp_packet.proofs.PropertyLaws.{array_part, bool_part, int_part, null_part, property_length, text_part}
 use Rattle.dp_packet.proofs.SizeLaws.{text_length}

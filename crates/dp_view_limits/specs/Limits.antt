@@ -4,13 +4,12 @@ use Rattle.std.specs.Prelude.{ℕ, nat_le, if◌then◌else◌, List, length, ma
 use Rattle.dp_markup.specs.Writing.{node_text, nodes_text}
 use Rattle.dp_packet.specs.declared.property.Property.{Property}
 use Rattle.dp_packet.specs.Properties.{property_node}
-use Rattle.dp_state.specs.declared.moments.Path.{Path}
 use Rattle.dp_state.specs.declared.state.State.{State}
 use Rattle.dp_value.specs.Data.{Data}
 use Rattle.dp_view.specs.declared.paging.Paging.{Paging}
 use Rattle.dp_view.specs.Answers.{and_then}
 use Rattle.dp_view.specs.Named.{named_property}
-use Rattle.dp_view.specs.Properties.{context_at, property_at, shown}
+use Rattle.dp_view.specs.Properties.{context_at, shown}
 
 -- how many bytes properties have in the text of a packet
 abbrev pub property_size : Property → ℕ
@@ -22,11 +21,6 @@ properties_size made = length (nodes_text (map property_node made))
 -- what is shown, if it has at most so many bytes
 abbrev pub within : {A : Type 0} → ℕ → (A → ℕ) → A → Result A ℕ
 within most size made = if nat_le (size made) most then Ok made else Err 300
-
--- what stands at a path: 301, 302, 300 where nothing stands there, and where it is too long
-abbrev pub limited_at : State → ℕ → ℕ → Path → Paging → ℕ → Result Property ℕ
-limited_at s level id path p most =
-    and_then (within most property_size) (property_at s level id path p)
 
 -- the same of what is asked for by a name, and 300 where the name is none
 abbrev pub limited_property : State → ℕ → ℕ → List ℕ → Paging → ℕ → Result Property ℕ

@@ -9,6 +9,7 @@ ghost use Rattle.dp_view.specs.Nesting.{AreOfVariables, HasPaths};
 ghost use Rattle.dp_view.specs.Properties.{is_copied};
 ghost use Rattle.dp_view.specs.Reading.{path_at};
 ghost use Rattle.dp_view_limits.specs.Limits as spec;
+ghost use Rattle.dp_view_limits.specs.inner.AtPaths.{limited_at};
 
 use crate::measuring::{property_fits, shown_fits, variables_fit};
 use dp_packet::Property;
@@ -28,7 +29,7 @@ fn property_within(
     p: &Paging,
     most: u32,
 ) -> Result<Property, ViewError>
-    ensures answer { Answers (λ made. made) result (spec.limited_at state.now level id path.now p.now most) }
+    ensures answer { Answers (λ made. made) result (limited_at state.now level id path.now p.now most) }
     ensures paths { IfOk result (HasPaths state.now level id path.now p.now) }
 {
     let value = value_at(state, level, id, path)?;

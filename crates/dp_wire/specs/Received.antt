@@ -1,11 +1,9 @@
 -- What a splitter of packets has received, and why it refuses.
-use Rattle.std.specs.Prelude.{◌≡◌, ◌≢◌, ℕ, zero, suc, ◌+◌, ◌-◌, ◌/◌, ◌^◌, ◌<◌, ◌≤◌, ◌⊎◌, min, List, [], ◌∷◌, ◌++◌, length, take, drop}
+use Rattle.std.specs.Prelude.{◌≡◌, ◌≢◌, ℕ, zero, suc, ◌+◌, ◌-◌, ◌/◌, ◌^◌, ◌<◌, ◌≤◌, ◌⊎◌, min, List, [], ◌∷◌, ◌++◌, length, take}
 use Rattle.std.specs.Fmt.{decimal}
 use Rattle.dp_wire.specs.Frames.{IsPacketText, packet_limit, IsPartialPacket, BeginsNoPacket}
 use Rattle.dp_wire.specs.declared.wire_error.WireError.{WireError}
 use Rattle.dp_wire.specs.declared.wire_error.WireError.TheVariants.{BadLength, NoNul, TooLong}
-use Rattle.dp_wire.specs.declared.length.Length.{Length}
-use Rattle.dp_wire.specs.declared.length.Length.TheVariants.{Unfinished, Known, Bad, Passed}
 
 -- the bytes held, and how many of the stream were dropped before them; 2^64 - 1 stands for all that
 -- pass it
@@ -74,13 +72,3 @@ IsCause received (NoNul offset) =
     (index : ℕ) × (LacksNul received.held index × IsFirstBad received.held index
     × (offset ≡ place_of received index))
 IsCause received (TooLong number) = PassesLimit received.held number
-
--- what the bytes say of the first length
-abbrev pub IsLength : List ℕ → Length → Type 0
-IsLength bytes Unfinished =
-    (number : ℕ) × ((number ≤ packet_limit) × (bytes ≡ length_digits number))
-IsLength bytes (Known nul number) =
-    (1 ≤ number) × (number ≤ packet_limit) × (nul ≡ length (decimal number))
-    × (bytes ≡ decimal number ++ 0 ∷ drop (nul + 1) bytes)
-IsLength bytes (Bad index) = HasBadLength bytes index
-IsLength bytes (Passed number) = PassesLimit bytes number

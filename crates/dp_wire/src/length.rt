@@ -1,7 +1,8 @@
 //! The length that stands before the text of a packet.
 
 ghost use Rattle.std.specs.Prelude.{◌≡◌, ◌+◌, ◌<◌, IsNone, IfSome};
-ghost use Rattle.dp_wire.specs.Received.{MayFollow, IsLength};
+ghost use Rattle.dp_wire.specs.Received.{MayFollow};
+ghost use Rattle.dp_wire.specs.inner.Lengths.{IsLength};
 
 /// The most bytes of a packet's text.
 pub const PACKET_LIMIT: usize = 16_777_216;

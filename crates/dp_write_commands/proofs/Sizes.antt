@@ -1,10 +1,9 @@
 -- How long responses are, and that a response shows within its limit what it has room for.
-use Rattle.std.proofs.Common.{◌≡◌, ℕ, ◌+◌, ◌*◌, ◌≤◌, ◌<◌, Bool, true, false, cond, [], ◌∷◌, length, codes, nat_le, refl, sym, ap, ◌∙◌, arith}
+use Rattle.std.proofs.Common.{◌≡◌, ℕ, ◌+◌, ◌≤◌, ◌<◌, Bool, true, false, cond, [], ◌∷◌, length, codes, nat_le, refl, sym, ap, ◌∙◌, arith}
 use Rattle.std.specs.Prelude.{Result, Ok, Err}
 use Rattle.std.proofs.lemmas.Bool.{leb-false, leb-true}
 use Rattle.std.proofs.lemmas.Bool.Decides.{nat_tests}
 use Rattle.dp_features.specs.Features.{Features}
-use Rattle.dp_markup.specs.Escaping.{escaped}
 use Rattle.dp_markup.specs.Writing.{attribute_text, nodes_text}
 use Rattle.dp_packet.specs.declared.packet.Body.{Body}
 use Rattle.dp_packet.specs.declared.packet.Body.TheVariants as body
@@ -16,7 +15,6 @@ use Rattle.dp_packet.specs.Packets.{body_nodes, response_element}
 use Rattle.dp_packet.specs.Parts.{Text}
 use Rattle.dp_packet.specs.Properties.{property_node}
 use Rattle.dp_packet.specs.Text.{text}
-use Rattle.dp_packet.proofs.LengthLaws.{escaped_short, pieces_short}
 use Rattle.dp_packet.proofs.SizeLaws.{alone_length, attribute_length, packet_length, written_length}
 use Rattle.dp_value.specs.declared.value.Value.{Value}
 use Rattle.dp_value.specs.Value.{data_of}
@@ -29,11 +27,6 @@ use Rattle.dp_write_commands.specs.Writing.{paging, success, value_response, wit
 use Rattle.dp_write_commands.specs.inner.Making.{Finds, Gives, around}
 
 -- ---- sizes
-
-pub attribute_short : (name value : Text) (most : ℕ) → length value ≤ most
-    → length (attribute_text (name, value)) ≤ 4 + length name + 6 * most
-attribute_short name value most short =
-    omega (arith, attribute_length name value, pieces_short 6 escaped escaped_short value, short)
 
 whole_is : (command id : Text) (b : Body)
     → length (text (packet.Response (success command id b))) ≡ 110 + attribute_size

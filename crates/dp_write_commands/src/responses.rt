@@ -1,7 +1,6 @@
 //! What commands that write are answered.
 
-ghost use Rattle.std.specs.Prelude.{◌≡◌, ◌+◌, ◌≤◌, ◌∷◌, [], codes, length, IfOk};
-ghost use Rattle.dp_markup.specs.Writing.{attribute_text};
+ghost use Rattle.std.specs.Prelude.{◌≡◌, ◌+◌, ◌∷◌, [], codes, length, IfOk};
 ghost use Rattle.dp_packet.specs.declared.packet.Body.TheVariants as body;
 ghost use Rattle.dp_wire.specs.Frames.{packet_limit};
 ghost use Rattle.dp_write_commands.specs.Writing as spec;
@@ -9,7 +8,7 @@ ghost use Rattle.dp_write_commands.specs.inner.Making.{Finds, Gives, answer_by, 
 
 use dp_command::Addressee;
 use dp_features::Features;
-use dp_packet::{Body, Property, Response, attribute_size};
+use dp_packet::{Body, Property, Response, short_size};
 use dp_value::{Bytes, Items, Memory, Value};
 use dp_view::{Paging, ViewError};
 use dp_view_limits::limited_shown;
@@ -55,16 +54,6 @@ fn paging(features: &Features) -> Paging
         depth: features.max_depth(),
         page: 0,
     }
-}
-
-// The size of an attribute whose value is short.
-fn short_size(name: &[u8], value: &[u8]) -> u64
-    requires name { length name.now ≤ 20 }
-    requires value { length value.now ≤ 64 }
-    ensures size { result ≡ length (attribute_text (name.now, value.now)) }
-    ensures small { result ≤ 500 }
-{
-    attribute_size(name, value)
 }
 
 // How many bytes the value may have in the response to an evaluation.

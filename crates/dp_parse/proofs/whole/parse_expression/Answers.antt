@@ -3,7 +3,8 @@ use Rattle.dp_lexer.specs.declared.token.Token.{Token}
 use Rattle.dp_lexer.specs.Tokens.{AreTokens, IsRefused}
 use Rattle.dp_parse.specs.declared.errors.ParseError.{ParseError}
 use Rattle.dp_parse.specs.declared.errors.ParseError.TheVariants as error
-use Rattle.dp_parse.specs.Programs.{without_tokens, AreWrong, IsNoExpression}
+use Rattle.dp_parse.specs.Programs.{AreWrong, IsNoExpression}
+use Rattle.dp_parse.specs.inner.Reasons.{without_tokens}
 use Rattle.dp_parse.specs.Limits.{limits}
 use Rattle.dp_parse.specs.Statements.{SpellsExpression}
 use Rattle.dp_parse.proofs.ExpressionLaws.{none_told, told_by}

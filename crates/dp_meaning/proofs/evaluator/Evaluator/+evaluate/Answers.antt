@@ -16,7 +16,7 @@ use Rattle.dp_meaning.specs.Expressions.{evaluation, evaluations}
 use Rattle.dp_meaning.specs.inner.Sizes.{arm_size, body_size, expressions_size, kind_size, sizes_sum, statement_size}
 use Rattle.dp_meaning.specs.Statements.{arms_run, statement_run}
 use Rattle.dp_actions.specs.Effects.{print_run}
-use Rattle.dp_meaning.specs.inner.Parts.{arm_run}
+use Rattle.dp_meaning.specs.Statements.{arm_run}
 use Rattle.dp_value.specs.declared.value.Value.TheVariants as variant
 use Rattle.dp_meaning.proofs.CallLaws.{bounded-do, bounded-turns, call-is, file-is, next-done, runs-for, setting-bundle, suc-call, suc-include, zero-call, zero-include}
 use Rattle.dp_meaning.proofs.Drives.{at_once, breaks_off, ends, exits, gives, goes_on, joined_off, joined_on, passes, stops_at, tested_off, tested_on, then_at, then_on}

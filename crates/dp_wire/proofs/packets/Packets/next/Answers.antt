@@ -1,6 +1,7 @@
 use Rattle.std.proofs.Common.{◌≡◌, ◌≢◌, ℕ, ◌+◌, ◌<◌, ◌≤◌, List, length, get_or, drop, slice_range, refl, sym, ap, ◌∙◌, subst, arith}
 use Rattle.dp_wire.specs.Frames.{BeginsPacket, BeginsNoPacket, IsPartialPacket}
-use Rattle.dp_wire.specs.Received.{IsLength, LacksNul}
+use Rattle.dp_wire.specs.Received.{LacksNul}
+use Rattle.dp_wire.specs.inner.Lengths.{IsLength}
 use Rattle.dp_wire.specs.declared.length.Length.{Length}
 use Rattle.dp_wire.specs.declared.length.Length.TheVariants.{Unfinished, Known, Bad, Passed}
 use Rattle.dp_wire.proofs.LengthLaws.{begins_partial, begins_refused, partial_refused, partial-none, refused-never, begins-first, unfinished_partial, unfinished_length, bad_refused, bad_first, passes_refused, lacks_refused, lacks_first, nul_small, known_short, known_begins, known_lacks}

@@ -1,0 +1,2 @@
+-- What only proofs speak of. No public clause cites these.
+pub mod Keyed

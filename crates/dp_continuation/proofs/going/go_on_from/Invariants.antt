@@ -1,0 +1,11 @@
+use Rattle.std.proofs.Common.{ℕ, List}
+use Rattle.dp_meaning.specs.declared.writing.NumberedWrite.{NumberedWrite}
+use Rattle.dp_step.specs.Stands.{StandsFor}
+use Rattle.dp_continuation.specs.Stops.{stops}
+use Rattle.dp_continuation.proofs.Passing.{IsOnWay}
+use Rattle.dp_continuation.proofs.going.go_on_from.Given as goal
+
+abbrev pub invariant-loop : goal.invariant-loop
+invariant-loop l =
+    (bound : ℕ) (writes : List NumberedWrite) (n : ℕ) → StandsFor l.bundle bound writes n l.fn.machine
+    → IsOnWay (stops l.mode l.depth) l.bundle bound writes n l.fn.breaks l.breaks l.machine

@@ -1,0 +1,11 @@
+pub mod AtOnce
+pub mod Begins
+pub mod FirstParts
+pub mod Receiving
+pub mod FirstStatements
+pub mod TurnLaws
+pub mod Goings
+pub mod Smalls
+pub mod Courses
+pub mod Standing
+pub mod WritesMade

@@ -1,0 +1,13 @@
+use Rattle.std.proofs.Common.{refl, sym, ◌∙◌}
+use Rattle.dp_actions.proofs.Runs.{and_then-assoc}
+use Rattle.dp_step.proofs.AtOnce.{leads_off, then_done}
+use Rattle.dp_step.proofs.Receiving.{leads_as}
+use Rattle.dp_step.proofs.after.echoed.Goals as goal
+
+pub returns-in-Ok : goal.returns-in-Ok
+returns-in-Ok c = λ setting. record {
+  by = λ k. and_then-assoc _ _ _ ∙ then_done _ (tt {0}) c.print_value-done.new.state _ c.in-Ok.ensures ∙ refl;
+}
+
+pub returns-in-Err : goal.returns-in-Err
+returns-in-Err c = λ setting. leads_as setting _ _ _ _ (λ k. and_then-assoc _ _ _) (leads_off setting _ c.print_value-done.new.state c.in-Err.why _ c.in-Err.ensures)

@@ -1,0 +1,11 @@
+use Rattle.std.proofs.Common.{refl, sym, ◌∙◌}
+use Rattle.dp_step.proofs.AtOnce.{leads_off, then_done}
+use Rattle.dp_step.proofs.after.unset_next.Goals as goal
+
+pub returns-in-Ok : goal.returns-in-Ok
+returns-in-Ok c = λ setting. record {
+  by = λ k. then_done _ (tt {0}) c.unset_place-done.new.state _ (rw c.as_slice.ensures at c.in-Ok.ensures) ∙ refl;
+}
+
+pub returns-in-Err : goal.returns-in-Err
+returns-in-Err c = λ setting. leads_off setting _ c.unset_place-done.new.state c.in-Err.why _ (rw c.as_slice.ensures at c.in-Err.ensures)

@@ -1,0 +1,18 @@
+use Rattle.std.proofs.Common.{refl}
+use Rattle.dp_step.proofs.Goings.{goes_as}
+use Rattle.dp_step.proofs.hands.receive.Goals as goal
+
+pub returns-in-ForPart : goal.returns-in-ForPart
+returns-in-ForPart c = λ setting same. rw c.in-ForPart.is (c.to_part.ensures setting)
+
+pub returns-in-ForValue : goal.returns-in-ForValue
+returns-in-ForValue c = λ setting same. rw c.in-ForValue.is (c.to_value.ensures setting same)
+
+pub returns-in-AfterValue : goal.returns-in-AfterValue
+returns-in-AfterValue c = λ setting same. rw c.in-AfterValue.is (c.to_after.ensures setting)
+
+pub returns-in-ForValues : goal.returns-in-ForValues
+returns-in-ForValues c = λ setting same. rw c.in-ForValues.is (c.to_values.ensures setting)
+
+pub returns-in-ForSignal : goal.returns-in-ForSignal
+returns-in-ForSignal c = λ setting same. rw c.in-ForSignal.is (goes_as setting _ _ _ (λ k. c.to_signal.ensures setting k c.args.state.now))

@@ -1,0 +1,13 @@
+use Rattle.std.proofs.Common.{refl, sym, ◌∙◌}
+use Rattle.dp_step.specs.Rest.{do_test, each_from, turns_next}
+use Rattle.dp_step.proofs.TurnLaws.{do-test, over-on, over-out}
+use Rattle.dp_step.proofs.loops.body_over.Goals as goal
+
+pub returns-in-On : goal.returns-in-On
+returns-in-On c = λ setting k s.
+    (c.turns_on.ensures setting k s
+    ∙ over-on setting k s c.args.given (turns_next setting c.args.turns c.args.left) (sym c.turn_over.ensures ∙ c.in-On.is))
+
+pub returns-in-Out : goal.returns-in-Out
+returns-in-Out c = λ setting k s.
+    rw c.signal.ensures (over-out setting k s c.args.given (turns_next setting c.args.turns c.args.left) _ (sym c.turn_over.ensures ∙ c.in-Out.is))

@@ -1,0 +1,4 @@
+pub mod Lending
+pub mod Rest
+pub mod Stands
+pub mod inner

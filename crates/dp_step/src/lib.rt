@@ -1,0 +1,17 @@
+//! A program that stops at each of its moments and goes on from there.
+#![tactic(auto)]
+
+mod after;
+mod begin;
+mod hands;
+mod lists;
+mod loops;
+mod machine;
+mod next;
+mod receive;
+mod small;
+mod statements;
+mod work;
+mod writing;
+
+pub use machine::{Machine, Progress};

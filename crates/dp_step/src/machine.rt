@@ -1,0 +1,154 @@
+//! A program that stops at each of its moments.
+
+ghost use Rattle.std.specs.Prelude.{◌≡◌, IfOk, option_map};
+ghost use Rattle.dp_step.specs.inner.Moves.{IsEnd, arrived_at};
+
+use crate::small::{file_hand, put_hand};
+use crate::work::{Hand, Waiting};
+use dp_actions::Halt;
+use dp_meaning::moment_of;
+use dp_state::{FRAME_LIMIT, Moment, MomentKind, Outcome, State};
+use dp_tree::Bundle;
+use dp_value::Memory;
+use std::alloc::Global;
+
+/// A program that has come to a moment, or is before its first one: its state, what is in hand, and the pending work, of
+/// which the last item is the innermost. `depth` is how many frames more can be on the stack.
+#[derive(Drop)]
+pub struct Machine<'p> {
+    pub(crate) bundle: &'p Bundle,
+    pub(crate) alloc: Global,
+    pub(crate) bound: u64,
+    pub(crate) depth: u64,
+    pub(crate) hand: Hand<'p>,
+    pub(crate) pending: Vec<Waiting<'p>>,
+    pub(crate) state: State,
+}
+
+/// What a step comes to.
+#[derive(Debug, Drop)]
+pub enum Progress {
+    /// The next moment.
+    At(Moment),
+    /// The end of the program.
+    Ended(Outcome),
+}
+
+/// What the small steps up to the next moment come to.
+#[derive(Clone, Copy)]
+pub(crate) enum Arrival {
+    /// A moment of this kind, on this line of the top frame.
+    Moment(MomentKind, u32),
+    End(Outcome),
+}
+
+impl<'p> Machine<'p> {
+    ghost use Rattle.std.specs.Prelude.{◌≡◌, ℕ, List, [], IfOk};
+    ghost use Rattle.dp_tree.specs.declared.bundle.Bundle.{Bundle as SomeBundle};
+    ghost use Rattle.dp_meaning.specs.declared.writing.NumberedWrite.{NumberedWrite};
+    ghost use Rattle.dp_step.specs.Stands.{GoesOn, StandsFor, rest_of};
+    ghost use Rattle.dp_step.specs.inner.Moves.{Arrives, Comes, Goes};
+
+    /// A program before its first moment. A run has at most `bound` moments.
+    pub fn start(alloc: Global, bundle: &'p Bundle, bound: u64) -> Result<Machine<'p>, Memory>
+        ensures { IfOk result (λ machine. StandsFor bundle.now bound [] 0 machine) }
+    {
+        let state = State::opening(alloc, bundle)?;
+        Ok(Machine {
+            bundle,
+            alloc,
+            bound,
+            depth: FRAME_LIMIT as u64,
+            hand: file_hand(bundle, 0),
+            pending: Vec::new(alloc),
+            state,
+        })
+    }
+
+    /// The state at the moment, after its writes.
+    pub fn state(&self) -> &State
+        ensures { result.now ≡ self.now.state }
+    {
+        &self.state
+    }
+
+    /// Goes on to the next moment, or to the end of the program. After want of memory nothing is said of the machine.
+    pub fn step(&mut self) -> Result<Progress, Memory>
+        ensures { (bundle : SomeBundle) (bound : ℕ) (writes : List NumberedWrite) (n : ℕ) → StandsFor bundle bound writes n self.old → IfOk result (λ progress. GoesOn bundle bound writes n progress self.new) }
+    {
+        match self.advance() {
+            Ok(Arrival::Moment(kind, line)) => self.come(kind, line),
+            Ok(Arrival::End(outcome)) => {
+                put_hand(&mut self.hand, Hand::Over(outcome));
+                Ok(Progress::Ended(outcome))
+            }
+            Err(_) => Err(Memory),
+        }
+    }
+
+    /// A moment comes, unless it is beyond the bound.
+    fn come(&mut self, kind: MomentKind, line: u32) -> Result<Progress, Memory>
+        ensures { IfOk result (λ progress. Comes kind line self.old progress self.new) }
+    {
+        if self.state.moments >= self.bound {
+            put_hand(&mut self.hand, Hand::Over(Outcome::Bound));
+            Ok(Progress::Ended(Outcome::Bound))
+        } else {
+            self.state.set_line(line);
+            self.state.count();
+            match moment_of(kind, &self.state) {
+                Ok(moment) => Ok(Progress::At(moment)),
+                Err(_) => {
+                    put_hand(&mut self.hand, Hand::Failed);
+                    Err(Memory)
+                }
+            }
+        }
+    }
+
+    /// As many small steps as lead to a moment, or to the end.
+    fn advance(&mut self) -> Result<Arrival, Memory>
+        ensures { IfOk result (λ arrival. Arrives self.old (rest_of self.old self.old.state) arrival self.new) }
+    {
+        for _ in 0..u64::MAX {
+            match self.go()? {
+                None => {}
+                Some(arrival) => return Ok(arrival),
+            }
+        }
+        Err(Memory)
+    }
+
+    /// A small step, and whether it came to a moment or to the end.
+    fn go(&mut self) -> Result<Option<Arrival>, Memory>
+        ensures { IfOk result (λ arrival. Goes self.old (rest_of self.old self.old.state) arrival self.new) }
+    {
+        match self.small() {
+            Ok(moment) => Ok(arrival_of(moment)),
+            Err(why) => ended(why),
+        }
+    }
+}
+
+/// The moment to which a small step came, if it did.
+fn arrival_of(moment: Option<(MomentKind, u32)>) -> Option<Arrival>
+    ensures { result ≡ option_map arrived_at moment }
+{
+    match moment {
+        None => None,
+        Some((kind, line)) => Some(Arrival::Moment(kind, line)),
+    }
+}
+
+/// The end that a small step reached.
+fn ended(why: Halt) -> Result<Option<Arrival>, Memory>
+    ensures { IfOk result (λ arrival. IsEnd why arrival) }
+{
+    match why {
+        Halt::Finished(outcome) => Ok(Some(Arrival::End(outcome))),
+        other => {
+            drop(other);
+            Err(Memory)
+        }
+    }
+}

@@ -1,0 +1,260 @@
+//! The small steps of a machine: what is in hand is done as far as one of them goes, and what waits for it is pending.
+
+ghost use Rattle.std.specs.Prelude.{◌≡◌, ◌++◌, ◌∷◌, [], ℕ, OnOk};
+ghost use Rattle.dp_state.specs.declared.state.State.{State as SomeState};
+ghost use Rattle.dp_actions.specs.Bodies.{statements_of as body_of};
+ghost use Rattle.dp_actions.specs.Run.{and_then};
+ghost use Rattle.dp_actions.specs.Setting.{Setting};
+ghost use Rattle.dp_meaning.specs.Statements.{body_run};
+ghost use Rattle.dp_state.specs.States.{line_of};
+ghost use Rattle.dp_step.specs.Rest.{Follows, behind, hand_rest, to_signal, waiting_rest};
+ghost use Rattle.dp_step.specs.declared.work.Waiting.TheVariants as any_waiting;
+ghost use Rattle.dp_step.specs.inner.Moves.{ends_call as call_ends, leave_if};
+
+use crate::hands::{first_of, receive};
+use crate::machine::Machine;
+use crate::work::{Given, Hand, Next, Small, Waiting, Work};
+use dp_actions::{Halt, Signal, enter_call, enter_file, fatal};
+use dp_state::{FatalKind, MomentKind, Outcome};
+use dp_tree::{Bundle, Function};
+use dp_value::{Items, Memory, Value};
+use std::mem;
+
+impl<'p> Machine<'p> {
+    ghost use Rattle.std.specs.Prelude.{◌≡◌, ◌++◌, ◌∷◌, [], ◌<◌, Ok, OnOk};
+    ghost use Rattle.dp_state.specs.declared.state.State.{State as AnyState};
+    ghost use Rattle.dp_step.specs.Stands.{rest_of};
+    ghost use Rattle.dp_step.specs.declared.work.Hand.TheVariants as any_hand;
+    ghost use Rattle.dp_step.specs.inner.Moves.{Moves, body_with, end_with, file_with, next_with, rest_with, small_with, work_with};
+
+    /// A small step. It may come to a moment of a kind, on a line of the top frame.
+    pub(crate) fn small(&mut self) -> Result<Option<(MomentKind, u32)>, Halt>
+        ensures { Moves self.old (rest_of self.old self.old.state) result self.new }
+    {
+        match mem::replace(&mut self.hand, Hand::Failed) {
+            Hand::Give(given) => self.take(given),
+            Hand::Call(file, function, values) => self.call(file, function, values),
+            Hand::Include(file) => self.include(file),
+            hand => self.first(hand),
+        }
+    }
+
+    /// A small step with what was in hand.
+    fn first(&mut self, hand: Hand<'p>) -> Result<Option<(MomentKind, u32)>, Halt>
+        ensures { Moves self.old (rest_with self.old hand.entry self.old.state) result self.new }
+    {
+        match first_of(self.alloc, self.bundle, self.bound, hand, &mut self.state) {
+            Ok(small) => self.keep(small),
+            Err(why) => Err(why),
+        }
+    }
+
+    /// Something is given to the innermost item of the pending work.
+    fn take(&mut self, given: Given) -> Result<Option<(MomentKind, u32)>, Halt>
+        ensures { Moves self.old (rest_with self.old (any_hand.Give given) self.old.state) result self.new }
+    {
+        match self.pending.pop() {
+            None => {
+                drop(given);
+                Err(Halt::Finished(Outcome::Done))
+            }
+            Some(Waiting::Part(work)) => self.pass(work, given),
+            Some(Waiting::EndCall(depth)) => Ok(self.end_call(depth, given)),
+            Some(Waiting::EndFile(depth)) => Ok(self.end_file(depth, given)),
+        }
+    }
+
+    /// Something is given to a part that waited.
+    fn pass(&mut self, work: Work<'p>, given: Given) -> Result<Option<(MomentKind, u32)>, Halt>
+        ensures { Moves self.old (work_with self.old work.entry given self.old.state) result self.new }
+    {
+        match receive(self.alloc, self.bundle, work, given, &mut self.state) {
+            Ok(small) => self.keep(small),
+            Err(why) => Err(why),
+        }
+    }
+
+    /// What a small step comes to is kept.
+    fn keep(&mut self, small: Small<'p>) -> Result<Option<(MomentKind, u32)>, Halt>
+        ensures { Moves self.old (small_with self.old small.entry self.old.state) result self.new }
+    {
+        let Small { moment, next } = small;
+        match self.hold(next) {
+            Ok(()) => Ok(moment),
+            Err(_) => Err(Halt::Memory),
+        }
+    }
+
+    /// What is to be done next is in hand, and what waits for it is the innermost item of the pending work.
+    fn hold(&mut self, next: Next<'p>) -> Result<(), Memory>
+        ensures rest { OnOk result ((s : AnyState) → rest_of self.new s ≡ next_with self.old next.entry s) }
+        ensures kept { (self.new.bundle.now ≡ self.old.bundle.now) × (self.new.bound ≡ self.old.bound) × (self.new.state ≡ self.old.state) }
+    {
+        let Next { hand, waits } = next;
+        match waits {
+            None => {
+                put_hand(&mut self.hand, hand);
+                Ok(())
+            }
+            Some(work) => self.hold_both(hand, Waiting::Part(work)),
+        }
+    }
+
+    /// This is in hand, and the innermost item of the pending work is this.
+    fn hold_both(&mut self, hand: Hand<'p>, item: Waiting<'p>) -> Result<(), Memory>
+        ensures held { OnOk result ((self.new.hand ≡ hand.entry) × (self.new.pending.items ≡ self.old.pending.items ++ item.entry ∷ [])) }
+        ensures kept { (self.new.bundle.now ≡ self.old.bundle.now) × (self.new.bound ≡ self.old.bound) × (self.new.depth ≡ self.old.depth) × (self.new.state ≡ self.old.state) }
+    {
+        put_hand(&mut self.hand, hand);
+        match push_item(&mut self.pending, item) {
+            Ok(()) => Ok(()),
+            Err(why) => {
+                put_hand(&mut self.hand, Hand::Failed);
+                Err(why)
+            }
+        }
+    }
+
+    /// A function of a file is called.
+    fn call(
+        &mut self,
+        file: u32,
+        function: &'p Function,
+        values: Items<Value>,
+    ) -> Result<Option<(MomentKind, u32)>, Halt>
+        ensures { Moves self.old (rest_with self.old (any_hand.Call file function.entry values) self.old.state) result self.new }
+    {
+        if self.depth == 0 {
+            drop(values);
+            Err(fatal(FatalKind::TooDeep, &self.state))
+        } else {
+            match enter_call(file, function, values, &mut self.state) {
+                Ok(()) => self.begin_body(function),
+                Err(why) => Err(why),
+            }
+        }
+    }
+
+    /// A function that was entered begins with a moment on its line.
+    fn begin_body(&mut self, function: &'p Function) -> Result<Option<(MomentKind, u32)>, Halt>
+        requires { 0 < self.old.depth }
+        ensures { Moves self.old (body_with self.old function.now self.old.state) result self.new }
+    {
+        match self.hold_both(Hand::Each(&function.body, 0), Waiting::EndCall(self.depth)) {
+            Ok(()) => {
+                self.depth -= 1;
+                Ok(Some((MomentKind::Enter, function.line)))
+            }
+            Err(_) => Err(Halt::Memory),
+        }
+    }
+
+    /// The file of this number is included.
+    fn include(&mut self, file: u32) -> Result<Option<(MomentKind, u32)>, Halt>
+        ensures { Moves self.old (rest_with self.old (any_hand.Include file) self.old.state) result self.new }
+    {
+        if self.depth == 0 {
+            Err(fatal(FatalKind::TooDeep, &self.state))
+        } else {
+            match enter_file(self.bundle, file, &mut self.state) {
+                Ok(()) => self.begin_file(file),
+                Err(why) => Err(why),
+            }
+        }
+    }
+
+    /// A file that was entered begins.
+    fn begin_file(&mut self, file: u32) -> Result<Option<(MomentKind, u32)>, Halt>
+        requires { 0 < self.old.depth }
+        ensures { Moves self.old (file_with self.old file self.old.state) result self.new }
+    {
+        match self.hold_both(file_hand(self.bundle, file), Waiting::EndFile(self.depth)) {
+            Ok(()) => {
+                self.depth -= 1;
+                Ok(None)
+            }
+            Err(_) => Err(Halt::Memory),
+        }
+    }
+
+    /// The body of a call is done.
+    fn end_call(&mut self, depth: u64, given: Given) -> Option<(MomentKind, u32)>
+        ensures { Moves self.old (end_with self.old (any_waiting.EndCall depth) given self.old.state) (Ok result) self.new }
+    {
+        self.depth = depth;
+        let leaves = ends_call(&given);
+        put_hand(&mut self.hand, call_hand(given));
+        if leaves {
+            Some((MomentKind::Leave, self.state.line()))
+        } else {
+            None
+        }
+    }
+
+    /// The statements of an included file are done.
+    fn end_file(&mut self, depth: u64, given: Given) -> Option<(MomentKind, u32)>
+        ensures { Moves self.old (end_with self.old (any_waiting.EndFile depth) given self.old.state) (Ok result) self.new }
+    {
+        self.depth = depth;
+        put_hand(&mut self.hand, file_left(given));
+        None
+    }
+}
+
+/// Whether this ends a call.
+fn ends_call(given: &Given) -> bool
+    ensures { result ≡ call_ends given.now }
+{
+    match given {
+        Given::Signal(_) => true,
+        Given::Value(_) => false,
+        Given::Values(_) => false,
+    }
+}
+
+/// What is in hand once the body of a call is done.
+fn call_hand<'p>(given: Given) -> Hand<'p>
+    ensures { (setting : Setting) (depth : ℕ) (k : Follows) (s : SomeState) → waiting_rest setting (any_waiting.EndCall depth) k given s ≡ behind (leave_if (call_ends given) (line_of s)) (hand_rest setting result k) s }
+{
+    match given {
+        Given::Signal(signal) => Hand::Left(signal),
+        Given::Value(value) => Hand::Give(Given::Value(value)),
+        Given::Values(values) => Hand::Give(Given::Values(values)),
+    }
+}
+
+/// What is in hand once the statements of an included file are done.
+fn file_left<'p>(given: Given) -> Hand<'p>
+    ensures { (setting : Setting) (depth : ℕ) (k : Follows) (s : SomeState) → waiting_rest setting (any_waiting.EndFile depth) k given s ≡ hand_rest setting result k s }
+{
+    match given {
+        Given::Signal(signal) => Hand::LeftFile(signal),
+        Given::Value(value) => Hand::Give(Given::Value(value)),
+        Given::Values(values) => Hand::Give(Given::Values(values)),
+    }
+}
+
+/// Another thing is in hand.
+pub(crate) fn put_hand<'p>(place: &mut Hand<'p>, hand: Hand<'p>)
+    ensures { place.new ≡ hand.entry }
+{
+    drop(mem::replace(place, hand));
+}
+
+/// One more item is pending.
+fn push_item<'p>(pending: &mut Vec<Waiting<'p>>, item: Waiting<'p>) -> Result<(), Memory>
+    ensures { OnOk result (pending.new.items ≡ pending.old.items ++ item.entry ∷ []) }
+{
+    pending.push(item)?;
+    Ok(())
+}
+
+/// The statements of the file of this number.
+pub(crate) fn file_hand<'p>(bundle: &'p Bundle, file: u32) -> Hand<'p>
+    ensures { (setting : Setting) (k : Follows) (s : SomeState) → hand_rest setting result k s ≡ and_then (body_run (body_of bundle.now file) setting s) (to_signal k) }
+{
+    match bundle.files.as_slice().get(file as usize) {
+        Some(file) => Hand::Each(&file.tree.body, 0),
+        None => Hand::Give(Given::Signal(Signal::Next)),
+    }
+}

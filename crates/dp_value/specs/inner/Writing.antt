@@ -1,0 +1,20 @@
+-- How a write goes: an array with a new value in it.
+use Rattle.dp_value.specs.Data.{Table, array, Data, data_of_table}
+use Rattle.std.specs.Prelude.{◌∷◌, Option, Ok, Err, Bool, Result, Some, List, None}
+use Rattle.dp_value.specs.Table.{table_set}
+use Rattle.dp_value.specs.declared.error.WriteError.{WriteError}
+use Rattle.dp_value.specs.declared.key.Key.{Key}
+use Rattle.dp_value.specs.declared.error.WriteError.TheVariants.{NextIndex}
+use Rattle.dp_value.specs.Entry.{entry_at, pushed, then_data, then_key, written}
+
+-- an array with a new value at the entry under these keys, or pushed there
+abbrev pub written_in : List (Option Key) → Bool → Data → Table → Result Data WriteError
+written_in [] push new t = pushed new t
+written_in (key ∷ keys) push new t =
+    then_key key (λ k. then_data (written keys push new (entry_at t k))
+    (λ d. data_of_table (table_set t k d)))
+
+-- a value under a key, where there is one left
+abbrev pub put_under : Option Key → Data → Table → Result Data WriteError
+put_under None d t = Err NextIndex
+put_under (Some key) d t = Ok (data_of_table (table_set t key d))
