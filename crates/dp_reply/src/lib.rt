@@ -15,4 +15,4 @@ pub use dp_packet::{
     Response, Shape, StackLine, file_uri, has_message, message, reason, text_of,
 };
 pub use error::ReplyError;
-pub use reading::{packet_of, reread};
+pub use reading::{packet_in, packet_of, reread};

@@ -98,9 +98,9 @@ fn proxy_in(alloc: Global, stopping: bool, e: &Element) -> Result<ProxyReply, Re
     }
 }
 
-/// The packet that an element is.
+/// The packet that an element is. Its texts are copies; takes time and memory linear in the element.
 #[tactic(auto, unfolding(crate::specs::Readings::packet_in))]
-fn packet_in(alloc: Global, e: &Element) -> Result<Packet, ReplyError>
+pub fn packet_in(alloc: Global, e: &Element) -> Result<Packet, ReplyError>
     ensures { Finds (λ packet. packet) result (spec.packet_in e.now) }
 {
     if is_named(e, b"init") {

@@ -19,7 +19,8 @@ use Rattle.dp_wire.proofs.PacketLaws.{packets-first}
 use Rattle.dp_show.specs.declared.error.ShowError.{ShowError}
 use Rattle.dp_show.specs.declared.error.ShowError.TheVariants.{PeerEnd, BadPacket, ReadFault, OutFault, Memory}
 use Rattle.dp_show.specs.Lines.{line_of, lines_of, AreMarkup, IsNoMarkup}
-use Rattle.dp_show.specs.Shows.{Shown, Shows, IsCutShort, Ends, IsBadAt, IsRefusedAt, place_behind}
+use Rattle.dp_show.specs.Shows.{Shown, Shows, IsCutShort, Ends, IsBadAt}
+use Rattle.dp_wire.specs.Places.{place_behind, IsRefusedAt}
 use Rattle.dp_show.specs.inner.Progress.{Told, IsLine, HasShown, WasShowing, ShowsOn, IsCut, HasNoMarkup, TextFails, HeldFails, PieceFails}
 
 -- ---- one text more

@@ -5,10 +5,8 @@ use Rattle.dp_markup.specs.declared.tree.Element.{Element}
 use Rattle.dp_outside.specs.Causes.{Rose}
 use Rattle.dp_outside.specs.Changes.{Change}
 use Rattle.dp_outside.specs.Streams.{AppendsFront}
-use Rattle.dp_wire.specs.declared.wire_error.WireError.{WireError}
-use Rattle.dp_wire.specs.declared.wire_error.WireError.TheVariants.{BadLength, NoNul, TooLong}
-use Rattle.dp_wire.specs.Frames.{packet_frame, packets_in, rest_of_packets, IsPartialPacket, BeginsNoPacket}
-use Rattle.dp_wire.specs.Received.{Received, IsCause, last_place}
+use Rattle.dp_wire.specs.Frames.{packets_in, rest_of_packets, IsPartialPacket}
+use Rattle.dp_wire.specs.Places.{place_behind, IsRefusedAt}
 use Rattle.dp_show.specs.declared.error.ShowError.{ShowError}
 use Rattle.dp_show.specs.declared.error.ShowError.TheVariants.{PeerEnd, BadPacket, ReadFault, OutFault, Memory}
 use Rattle.dp_show.specs.Lines.{lines_of, AreMarkup, IsNoMarkup}
@@ -24,24 +22,6 @@ pub record Shown (input : Change) : Type 0 where
   pub markup : AreMarkup texts elements
 
 -- ---- where no packet stands
-
--- the place in the stream behind the frames of these texts; 2^64 - 1 stands for all that pass it
-abbrev pub place_behind : List (List ℕ) → ℕ
-place_behind texts = min (length (flat_map packet_frame texts)) last_place
-
--- the place of a refusal: its byte, or where the length passes the limit the first byte of the
--- frame
-abbrev pub refused_at : WireError → ℕ → ℕ
-refused_at (BadLength offset) start = offset
-refused_at (NoNul offset) start = offset
-refused_at (TooLong number) start = start
-
--- no packet begins the bytes held, for a reason whose place in the stream this is
-pub record IsRefusedAt (received : Received) (offset : ℕ) : Type 0 where
-  pub none : BeginsNoPacket received.held
-  pub why : WireError
-  pub is_why : IsCause received why
-  pub place : offset ≡ refused_at why received.dropped
 
 -- Behind these packets no packet is shown: the next one's text is no markup, and its frame begins
 -- here; or no packet is left, none begins the rest, and the place of this is here.

@@ -5,14 +5,14 @@ ghost use Rattle.std.specs.Io.KnownBytes.{Appends, Consumes, IsAtEnd};
 ghost use Rattle.dp_outside.specs.Changes.{change};
 ghost use Rattle.dp_wire.specs.Frames.{IsPartialPacket, BeginsNoPacket};
 ghost use Rattle.dp_wire.specs.Received.{IsCause};
-ghost use Rattle.dp_show.specs.Shows.{Ends, refused_at};
+ghost use Rattle.dp_show.specs.Shows.{Ends};
 ghost use Rattle.dp_show.specs.inner.Progress.{LineOf, IsLine, ShowsOn, TextFails, HeldFails, PieceFails};
 
 use crate::error::ShowError;
 use dp_markup::{MarkupError, read, write};
 use dp_outside::{Sink, Source};
 use dp_value::{Bytes, Memory};
-use dp_wire::{Packets, WireError};
+use dp_wire::Packets;
 use std::alloc::Global;
 
 /// The most bytes that are read at once.
@@ -49,17 +49,6 @@ fn show_text<K: Sink>(alloc: Global, text: &[u8], offset: u64, out: &mut K) -> R
     }
 }
 
-/// The place where no packet begins, by why none does. What is held begins at this offset.
-fn bad_place(why: WireError, start: u64) -> u64
-    ensures { result ≡ refused_at why start }
-{
-    match why {
-        WireError::BadLength { offset } => offset,
-        WireError::NoNul { offset } => offset,
-        WireError::TooLong { length: _ } => start,
-    }
-}
-
 /// Shows each whole packet that is held, and drops it.
 fn show_held<K: Sink>(alloc: Global, packets: &mut Packets, out: &mut K) -> Result<(), ShowError>
     ensures shown { OnOk result (ShowsOn packets.old packets.new (K.taken out.old) (K.taken out.new)) }
@@ -73,7 +62,7 @@ fn show_held<K: Sink>(alloc: Global, packets: &mut Packets, out: &mut K) -> Resu
             Ok(Some(range)) => range,
             Ok(None) => return Ok(()),
             Err(why) => {
-                let offset = bad_place(why, start);
+                let offset = why.place(start);
                 return Err(ShowError::BadPacket { offset });
             }
         };

@@ -1,3 +1,4 @@
 pub mod Frames
 pub mod inner
 pub mod Received
+pub mod Places

@@ -1,5 +1,8 @@
 //! Why held bytes begin no frame.
 
+ghost use Rattle.std.specs.Prelude.{◌≡◌};
+ghost use Rattle.dp_wire.specs.Places.{refused_at};
+
 use thiserror::Error;
 
 /// Why held bytes begin no frame. Offsets count from the first byte of the stream.
@@ -14,4 +17,18 @@ pub enum WireError {
     /// A length that passes the limit.
     #[error("too long: {length}")]
     TooLong { length: u64 },
+}
+
+impl WireError {
+    /// The place in the stream where no packet begins. What is held begins at this offset, and so does
+    /// a frame whose length passes the limit.
+    pub fn place(self, start: u64) -> u64
+        ensures { result ≡ refused_at self start }
+    {
+        match self {
+            WireError::BadLength { offset } => offset,
+            WireError::NoNul { offset } => offset,
+            WireError::TooLong { length: _ } => start,
+        }
+    }
 }

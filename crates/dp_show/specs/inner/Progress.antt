@@ -12,7 +12,7 @@ use Rattle.dp_wire.specs.Received.{Received}
 use Rattle.dp_show.specs.declared.error.ShowError.{ShowError}
 use Rattle.dp_show.specs.declared.error.ShowError.TheVariants.{PeerEnd, BadPacket, ReadFault, OutFault, Memory}
 use Rattle.dp_show.specs.Lines.{line_of, lines_of, AreMarkup, IsNoMarkup}
-use Rattle.dp_show.specs.Shows.{place_behind, IsRefusedAt}
+use Rattle.dp_wire.specs.Places.{place_behind, IsRefusedAt}
 
 -- what an output has told
 abbrev pub Told : Type 0
