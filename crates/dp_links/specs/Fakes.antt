@@ -99,6 +99,18 @@ pub record GateState : Type 0 where
   pub accepted : List Link
   pub retired : List Link
 
+-- what a gate tells
+abbrev pub told_door : GateState → Door
+told_door gate =
+    record { port = gate.port; accepted = Some gate.accepted; retired = Some gate.retired }
+
+-- nothing has failed, nothing came back that had, and nothing was given or came back
+pub record IsFreshGate (gate : GateState) : Type 0 where
+  pub faults : gate.plan.faults ≡ 0
+  pub returned : gate.returned ≡ 0
+  pub accepted : gate.accepted ≡ []
+  pub retired : gate.retired ≡ []
+
 abbrev pub gate_of : ℕ → GatePartState → List GatePartState → GateState
 gate_of port part parts =
     record {
@@ -116,3 +128,36 @@ no_gate_part = record { links = []; fails = [] }
 
 abbrev pub first_gate : ℕ → List GatePartState → GateState
 first_gate port parts = gate_of port (first_part no_gate_part parts) (later_parts parts)
+
+-- the links and gates that a net has to give, and the numbers of its calls that fail
+pub record NetPartState : Type 0 where
+  pub links : List LinkState
+  pub gates : List GateState
+  pub fails : List ℕ
+
+pub record IsFreshPart (part : NetPartState) : Type 0 where
+  pub links : All IsFresh part.links
+  pub gates : All IsFreshGate part.gates
+
+-- a net in memory: the dialer in it, whose twins get nothing; the gates that are left, what its twins
+-- get, and the gates that were shut
+pub record NetState : Type 0 where
+  pub dialer : DialerState
+  pub gates : List GateState
+  pub parts : List NetPartState
+  pub shut_doors : List Door
+
+abbrev pub net_of : NetPartState → List NetPartState → NetState
+net_of part parts =
+    record {
+      dialer = dialer_of (record { links = part.links; fails = part.fails }) [];
+      gates = part.gates;
+      parts = parts;
+      shut_doors = [];
+    }
+
+abbrev pub no_net_part : NetPartState
+no_net_part = record { links = []; gates = []; fails = [] }
+
+abbrev pub first_net : List NetPartState → NetState
+first_net parts = net_of (first_part no_net_part parts) (later_parts parts)

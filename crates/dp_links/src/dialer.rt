@@ -119,6 +119,15 @@ impl ListDialer {
         self.plan.fault();
     }
 
+    // Counts that something came back that had failed.
+    pub(crate) fn count_returned(&mut self)
+        ensures rose { Rose self.old.returned self.new.returned }
+        ensures later { self.old.returned ≤ self.new.returned }
+        ensures after { self.new ≡ record self.old { returned = one_more self.old.returned } }
+    {
+        self.returned.raise();
+    }
+
     // The next link, where one is left and the call does not fail.
     fn next_link(&mut self) -> Result<(ByteSource, ByteSink), Failed>
         ensures cause { HasCause self.old.plan.faults self.new.plan.faults result }

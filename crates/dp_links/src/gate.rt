@@ -1,5 +1,5 @@
 //! A gate in memory, which gives the links that it was made with.
-ghost use Rattle.std.specs.Prelude.{◌≡◌, ◌↔◌, ◌⊎◌, ◌+◌, ◌≤◌, ◌∷◌, ◌++◌, [], ℕ, length, All, if◌then◌else◌, IfOk, OnErr, IsErr, IsTrue, Some, is_err, map};
+ghost use Rattle.std.specs.Prelude.{◌≡◌, ◌↔◌, ◌⊎◌, ◌+◌, ◌<◌, ◌≤◌, ◌∷◌, ◌++◌, [], ℕ, length, All, if◌then◌else◌, IfOk, OnErr, IsErr, IsTrue, Some, is_err, map};
 ghost use Rattle.std.specs.Option.{option_to_list};
 ghost use Rattle.dp_outside.specs.Causes.{HasCause, Rose};
 ghost use Rattle.dp_outside.specs.Fakes.{after_call, is_due, one_more};
@@ -105,6 +105,22 @@ impl ListGate {
             accepted: Told::new(),
             retired: Told::new(),
         }
+    }
+
+    // The same gate, at this port.
+    pub(crate) fn at(self, port: u16) -> Self
+        ensures { result ≡ record self { port = port } }
+    {
+        let mut gate = self;
+        gate.port = port;
+        gate
+    }
+
+    // Whether it has failed, or something came back to it that had.
+    pub(crate) fn has_failed(&self) -> bool
+        ensures { IsTrue result ↔ (0 < self.now.plan.faults + self.now.returned) }
+    {
+        self.plan.faults() != 0 || self.returned.count() != 0
     }
 
     // The next link, where one is left and the call does not fail.

@@ -4,7 +4,9 @@
 mod dialer;
 mod gate;
 mod links;
+mod net;
 mod told;
 
 pub use dialer::{DialPart, ListDialer};
 pub use gate::{GatePart, ListGate};
+pub use net::{ListNet, NetPart};
