@@ -11,8 +11,8 @@ use Rattle.dp_meaning.specs.declared.writing.NumberedWrite.{NumberedWrite}
 use Rattle.dp_meaning.specs.declared.writing.Write.{Write}
 use Rattle.dp_actions.specs.Setting.{Setting}
 use Rattle.dp_meaning.specs.Trace.{moment_at, now, program_trace}
-use Rattle.dp_meaning.specs.Writes.{evaluation_setting, one_write, written, written_by, writes_of}
-use Rattle.dp_meaning_laws.specs.Past.{AgreeBelow, of_number}
+use Rattle.dp_meaning.specs.Writes.{evaluation_setting, one_write, written, written_by, writes_of, of_number}
+use Rattle.dp_meaning_laws.specs.Past.{AgreeBelow}
 use Rattle.dp_meaning_laws.proofs.PastLaws.{past_stands}
 use Rattle.dp_state.specs.declared.moments.Moment.{Moment}
 use Rattle.dp_meaning_laws.proofs.Whole.{now-can}
