@@ -92,3 +92,8 @@ EndsWith bundle bound writes n o m =
 abbrev pub GoesOn : Bundle → ℕ → List NumberedWrite → ℕ → Progress → Machine → Type 0
 GoesOn bundle bound writes n (progress.At moment) m = ComesTo bundle bound writes n moment m
 GoesOn bundle bound writes n (progress.Ended o) m = EndsWith bundle bound writes n o m
+
+-- how many steps it counts
+abbrev pub steps_of : Progress → ℕ
+steps_of (progress.At moment) = 1
+steps_of (progress.Ended o) = 0

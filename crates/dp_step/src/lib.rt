@@ -11,7 +11,9 @@ mod next;
 mod receive;
 mod small;
 mod statements;
+mod steps;
 mod work;
 mod writing;
 
 pub use machine::{Machine, Progress};
+pub use steps::Steps;
