@@ -1,7 +1,5 @@
 pub mod AtOnce
-pub mod Begins
-pub mod FirstParts
-pub mod Receiving
+pub mod Calling
 pub mod FirstStatements
 pub mod TurnLaws
 pub mod Goings

@@ -25,8 +25,8 @@ use Rattle.dp_meaning.specs.Statements.{body_run}
 use Rattle.dp_meaning.proofs.CallLaws.{file-is, setting-bound, setting-bundle, suc-call, suc-include, zero-call, zero-include}
 use Rattle.dp_actions.proofs.Runs.{and_then-assoc, and_then-same}
 use Rattle.dp_step.specs.declared.machine.Machine.{Machine}
-use Rattle.dp_step.specs.declared.work.Given.{Given}
-use Rattle.dp_step.specs.declared.work.Given.TheVariants as given
+use Rattle.dp_step_parts.specs.declared.work.Given.{Given}
+use Rattle.dp_step_parts.specs.declared.work.Given.TheVariants as given
 use Rattle.dp_step.specs.declared.work.Hand.{Hand}
 use Rattle.dp_step.specs.declared.work.Hand.TheVariants as hand
 use Rattle.dp_step.specs.declared.work.Next.{Next}
@@ -34,7 +34,8 @@ use Rattle.dp_step.specs.declared.work.Small.{Small}
 use Rattle.dp_step.specs.declared.work.Waiting.{Waiting}
 use Rattle.dp_step.specs.declared.work.Waiting.TheVariants as waiting
 use Rattle.dp_step.specs.declared.work.Work.{Work}
-use Rattle.dp_step.specs.Rest.{Follows, behind, hand_rest, next_rest, small_rest, to_signal, to_value, waiting_rest, work_rest}
+use Rattle.dp_step.specs.Rest.{behind, hand_rest, next_rest, small_rest, waiting_rest, work_rest}
+use Rattle.dp_step_parts.specs.Rest.{Follows, to_signal, to_value}
 use Rattle.dp_step.specs.Stands.{depth_after, pending_rest, rest_of}
 use Rattle.dp_step.specs.inner.Goes.{Goes}
 use Rattle.dp_step.specs.inner.Moves.{IsOver, Moves, MovesBy, body_with, ends_call, file_with, follows_of, leave_if, rest_with, setting_at, small_with}

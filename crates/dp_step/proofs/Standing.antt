@@ -27,7 +27,7 @@ use Rattle.dp_step.specs.declared.machine.Arrival.TheVariants as arrival
 use Rattle.dp_step.specs.declared.machine.Machine.{Machine}
 use Rattle.dp_step.specs.declared.machine.Progress.{Progress}
 use Rattle.dp_step.specs.declared.machine.Progress.TheVariants as progress
-use Rattle.dp_step.specs.Rest.{to_signal}
+use Rattle.dp_step_parts.specs.Rest.{to_signal}
 use Rattle.dp_step.specs.Stands.{ComesTo, EndsWith, GoesOn, IsAfter, NoneAbove, StandsFor, pending_rest, rest_of}
 use Rattle.dp_step.specs.inner.Moves.{Arrives, Comes, Goes, GoesBy, IsEnd, IsOver, Moves, arrived_at}
 use Rattle.dp_step.proofs.Courses.{Past, first-following, first-moment, goes_past, none-in-bound}

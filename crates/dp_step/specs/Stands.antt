@@ -18,11 +18,12 @@ use Rattle.dp_meaning.specs.Writes.{writes_of}
 use Rattle.dp_step.specs.declared.machine.Machine.{Machine}
 use Rattle.dp_step.specs.declared.machine.Progress.{Progress}
 use Rattle.dp_step.specs.declared.machine.Progress.TheVariants as progress
-use Rattle.dp_step.specs.declared.work.Given.{Given}
-use Rattle.dp_step.specs.declared.work.Given.TheVariants as given
+use Rattle.dp_step_parts.specs.declared.work.Given.{Given}
+use Rattle.dp_step_parts.specs.declared.work.Given.TheVariants as given
 use Rattle.dp_step.specs.declared.work.Waiting.{Waiting}
 use Rattle.dp_step.specs.declared.work.Waiting.TheVariants as waiting
-use Rattle.dp_step.specs.Rest.{Follows, hand_rest, waiting_rest}
+use Rattle.dp_step.specs.Rest.{hand_rest, waiting_rest}
+use Rattle.dp_step_parts.specs.Rest.{Follows}
 
 -- ---- all that a machine has to do
 

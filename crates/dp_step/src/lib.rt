@@ -2,13 +2,11 @@
 #![tactic(auto)]
 
 mod after;
-mod begin;
+mod calls;
 mod hands;
-mod lists;
 mod loops;
 mod machine;
 mod next;
-mod receive;
 mod small;
 mod statements;
 mod steps;
