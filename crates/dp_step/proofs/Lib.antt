@@ -4,6 +4,8 @@ pub mod FirstStatements
 pub mod TurnLaws
 pub mod Goings
 pub mod Smalls
+pub mod Ends
 pub mod Courses
 pub mod Standing
 pub mod WritesMade
+pub mod Writings

@@ -15,3 +15,4 @@ mod writing;
 
 pub use machine::{Machine, Progress};
 pub use steps::Steps;
+pub use writing::StepError;

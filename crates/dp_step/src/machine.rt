@@ -46,10 +46,12 @@ pub(crate) enum Arrival {
 }
 
 impl<'p> Machine<'p> {
-    ghost use Rattle.std.specs.Prelude.{◌≡◌, ℕ, ◌+◌, List, [], IfOk};
+    ghost use Rattle.std.specs.Prelude.{◌≡◌, ℕ, ◌+◌, List, [], IfOk, OnOk, Ok, true, false};
     ghost use Rattle.dp_tree.specs.declared.bundle.Bundle.{Bundle as SomeBundle};
     ghost use Rattle.dp_meaning.specs.declared.writing.NumberedWrite.{NumberedWrite};
-    ghost use Rattle.dp_step.specs.Stands.{GoesOn, StandsFor, rest_of, steps_of};
+    ghost use Rattle.dp_state.specs.declared.moments.Outcome.{Outcome as SomeOutcome};
+    ghost use Rattle.dp_step.specs.declared.machine.Progress.TheVariants as any_progress;
+    ghost use Rattle.dp_step.specs.Stands.{GoesOn, HasEnded, HasFailed, Leaves, StandsFor, rest_of, steps_of};
     ghost use Rattle.dp_step.specs.inner.Moves.{Arrives, Comes, Goes};
 
     /// A program before its first moment. A run has at most `bound` moments.
@@ -75,24 +77,52 @@ impl<'p> Machine<'p> {
         &self.state
     }
 
-    /// Goes on to the next moment, or to the end of the program, and counts a step for a moment. After want of memory
-    /// nothing is said of the machine.
+    /// Goes on to the next moment, or to the end of the program, and counts a step for a moment. Once the program has ended
+    /// it answers the same end; once memory has run out it answers so for good.
     pub fn step<L: Ledger>(&mut self, steps: &mut Steps<L>) -> Result<Progress, Memory>
         ensures goes_on { (bundle : SomeBundle) (bound : ℕ) (writes : List NumberedWrite) (n : ℕ) → StandsFor bundle bound writes n self.old → IfOk result (λ progress. GoesOn bundle bound writes n progress self.new) }
         ensures counted { IfOk result (λ progress. steps.new ≡ steps.old + steps_of progress) }
+        ensures leaves { Leaves result self.new }
+        ensures stays { (o : SomeOutcome) → HasEnded o self.old → IfOk result (λ progress. (progress ≡ any_progress.Ended o) × (self.new.state ≡ self.old.state)) }
+        ensures fails { HasFailed self.old → OnOk result ⊥ }
     {
-        match self.next_moment() {
-            Ok(progress) => {
-                count(&progress, steps);
-                Ok(progress)
+        if self.has_failed() {
+            Err(Memory)
+        } else {
+            match self.next_moment() {
+                Ok(progress) => {
+                    count(&progress, steps);
+                    Ok(progress)
+                }
+                Err(_) => Err(self.fail()),
             }
-            Err(_) => Err(Memory),
         }
+    }
+
+    /// Whether memory has run out.
+    fn has_failed(&self) -> bool
+        ensures failed { result ≡ true → HasFailed self.now }
+        ensures not_failed { result ≡ false → HasFailed self.now → ⊥ }
+    {
+        match &self.hand {
+            Hand::Failed => true,
+            _ => false,
+        }
+    }
+
+    /// From now on it answers want of memory.
+    pub(crate) fn fail(&mut self) -> Memory
+        ensures { HasFailed self.new }
+    {
+        put_hand(&mut self.hand, Hand::Failed);
+        Memory
     }
 
     /// Goes on to the next moment, or to the end of the program.
     fn next_moment(&mut self) -> Result<Progress, Memory>
-        ensures { (bundle : SomeBundle) (bound : ℕ) (writes : List NumberedWrite) (n : ℕ) → StandsFor bundle bound writes n self.old → IfOk result (λ progress. GoesOn bundle bound writes n progress self.new) }
+        ensures goes_on { (bundle : SomeBundle) (bound : ℕ) (writes : List NumberedWrite) (n : ℕ) → StandsFor bundle bound writes n self.old → IfOk result (λ progress. GoesOn bundle bound writes n progress self.new) }
+        ensures ends { IfOk result (λ progress. Leaves (Ok progress) self.new) }
+        ensures stays { (o : SomeOutcome) → HasEnded o self.old → IfOk result (λ progress. (progress ≡ any_progress.Ended o) × (self.new.state ≡ self.old.state)) }
     {
         match self.advance() {
             Ok(Arrival::Moment(kind, line)) => self.come(kind, line),
@@ -116,10 +146,7 @@ impl<'p> Machine<'p> {
             self.state.count();
             match moment_of(kind, &self.state) {
                 Ok(moment) => Ok(Progress::At(moment)),
-                Err(_) => {
-                    put_hand(&mut self.hand, Hand::Failed);
-                    Err(Memory)
-                }
+                Err(_) => Err(Memory),
             }
         }
     }

@@ -31,7 +31,7 @@ use Rattle.dp_step.specs.declared.work.Work.{Work}
 use Rattle.dp_step.specs.Rest.{behind, hand_rest, next_rest, small_rest}
 use Rattle.dp_step_parts.specs.Rest.{Follows, to_value}
 use Rattle.dp_step.specs.Rest.{waiting_rest, work_rest}
-use Rattle.dp_step.specs.Stands.{depth_after, pending_rest, rest_of}
+use Rattle.dp_step.specs.Stands.{HasEnded, depth_after, pending_rest, rest_of}
 
 -- ---- what a machine has to do beside its hand
 
@@ -145,6 +145,7 @@ ComesBy kind line old (progress.At moment) new =
     × (new.state ≡ arrived line old.state) × ((s : State) → rest_of new s ≡ rest_of old s)
 ComesBy kind line old (progress.Ended outcome) new =
     (old.bound ≤ old.state.moments) × (outcome ≡ way.Bound) × (new.state ≡ old.state)
+    × HasEnded way.Bound new
 
 pub record Comes (kind : MomentKind) (line : ℕ) (old : Machine) (came : Progress) (new : Machine)
     : Type 0 where
