@@ -3,6 +3,7 @@
 
 mod after;
 mod calls;
+mod ending;
 mod hands;
 mod loops;
 mod machine;
