@@ -152,13 +152,18 @@ impl Machine<'_> {
     {
         match evaluation(self.alloc, self.bundle, e, &self.state) {
             Err(_) => Err(self.failed()),
-            Ok((None, after)) => {
-                drop(after);
-                Err(StepError::Fatal)
-            }
-            Ok((Some(value), after)) => {
-                put_state(&mut self.state, after);
-                Ok(value)
+            Ok(end) => {
+                let (value, after) = end;
+                match value {
+                    None => {
+                        drop(after);
+                        Err(StepError::Fatal)
+                    }
+                    Some(value) => {
+                        put_state(&mut self.state, after);
+                        Ok(value)
+                    }
+                }
             }
         }
     }

@@ -1,7 +1,6 @@
 -- A part passes on what is of another kind than that which it waits for.
 use Rattle.std.proofs.Common.{◌≡◌, List, refl}
 use Rattle.dp_state.specs.declared.state.State.{State}
-use Rattle.dp_actions.specs.declared.signal.Signal.{Signal}
 use Rattle.dp_actions.specs.Setting.{Setting}
 use Rattle.dp_value.specs.declared.value.Value.{Value}
 use Rattle.dp_step_parts.specs.declared.work.ForPart.{ForPart}

@@ -1,4 +1,4 @@
-use Rattle.std.proofs.Common.{refl, sym, ◌∙◌, rules, SFits, w64}
+use Rattle.std.proofs.Common.{sym, rules, SFits, w64}
 use Rattle.std.proofs.lemmas.Int.{to_z-of_z}
 use Rattle.dp_step_parts.proofs.Begins as begins
 use Rattle.dp_step_parts.proofs.begin.begin.Goals as goal

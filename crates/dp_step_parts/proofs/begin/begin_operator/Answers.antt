@@ -1,4 +1,4 @@
-use Rattle.std.proofs.Common.{refl, sym, ◌∙◌}
+use Rattle.std.proofs.Common.{sym}
 use Rattle.dp_step_parts.proofs.Begins as begins
 use Rattle.dp_step_parts.proofs.begin.begin_operator.Goals as goal
 

@@ -1,6 +1,5 @@
-use Rattle.std.proofs.Common.{refl, sym, ◌∙◌}
+use Rattle.std.proofs.Common.{sym}
 use Rattle.std.proofs.Math.ListN.{drop_of_length-le}
-use Rattle.dp_actions.specs.Run.{and_then}
 use Rattle.dp_step_parts.proofs.FirstParts.{from-member}
 use Rattle.dp_step_parts.proofs.FirstParts.{values-first, values-none}
 use Rattle.dp_step_parts.proofs.lists.values.Goals as goal

@@ -1,4 +1,3 @@
-use Rattle.std.proofs.Common.{sym}
 use Rattle.dp_step_parts.proofs.Passing.{passes-to_value}
 use Rattle.dp_step_parts.proofs.parts.to_value.Goals as goal
 

@@ -1,4 +1,3 @@
-use Rattle.std.proofs.Common.{sym, ◌∙◌}
 use Rattle.dp_actions.proofs.Runs.{and_then-assoc}
 use Rattle.dp_step_parts.proofs.AtOnce.{leads_off}
 use Rattle.dp_step_parts.proofs.Receiving.{compounds, leads_as}

@@ -1,4 +1,4 @@
-use Rattle.std.proofs.Common.{refl, sym, ◌∙◌}
+use Rattle.std.proofs.Common.{sym, ◌∙◌}
 use Rattle.dp_step_parts.proofs.AtOnce.{leads_off, then_done}
 use Rattle.dp_step_parts.proofs.receive.isset_place.Goals as goal
 

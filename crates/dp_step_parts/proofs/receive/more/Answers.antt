@@ -1,4 +1,3 @@
-use Rattle.std.proofs.Common.{sym, ap, ◌∙◌}
 use Rattle.dp_step_parts.proofs.Receiving.{more}
 use Rattle.dp_step_parts.proofs.receive.more.Goals as goal
 

@@ -1,6 +1,4 @@
-use Rattle.std.proofs.Common.{refl, sym, ◌∙◌}
-use Rattle.dp_actions.specs.Run.{and_then}
-use Rattle.dp_actions.proofs.Runs.{and_then-assoc}
+use Rattle.std.proofs.Common.{sym, ◌∙◌}
 use Rattle.dp_actions.proofs.Tails.{present-none, present-some}
 use Rattle.dp_step_parts.proofs.Receiving.{or_assign-missing, or_assign-there}
 use Rattle.dp_step_parts.proofs.receive.or_assign.Goals as goal

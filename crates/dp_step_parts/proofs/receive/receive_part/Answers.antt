@@ -1,4 +1,4 @@
-use Rattle.std.proofs.Common.{refl, sym, ◌∙◌}
+use Rattle.std.proofs.Common.{refl, sym}
 use Rattle.dp_step_parts.proofs.receive.receive_part.Goals as goal
 
 pub returns-in-More : goal.returns-in-More

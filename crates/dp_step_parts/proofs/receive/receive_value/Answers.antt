@@ -1,4 +1,4 @@
-use Rattle.std.proofs.Common.{refl, sym, ◌∙◌}
+use Rattle.std.proofs.Common.{sym}
 use Rattle.dp_step_parts.proofs.receive.receive_value.Goals as goal
 
 pub returns-in-Unary : goal.returns-in-Unary

@@ -1,4 +1,3 @@
-use Rattle.std.proofs.Common.{refl, sym, ap, ◌∙◌}
 use Rattle.dp_actions.proofs.Runs.{and_then-assoc}
 use Rattle.dp_step_parts.proofs.receive.receive_values.Goals as goal
 
