@@ -1,5 +1,5 @@
 -- What is done at once, and what follows it.
-use Rattle.std.proofs.Common.{◌≡◌, Result, Ok, Err, ap}
+use Rattle.std.proofs.Common.{◌≡◌, Result, Ok, Err, ap, subst, sym}
 use Rattle.dp_state.specs.declared.state.State.{State}
 use Rattle.dp_actions.specs.declared.halt.Halt.{Halt}
 use Rattle.dp_actions.specs.declared.halt.Halt.TheVariants.{Memory, Finished, Stopped}
@@ -9,6 +9,7 @@ use Rattle.dp_actions.specs.Run.{Run, and_then}
 use Rattle.dp_actions.specs.Setting.{Setting}
 use Rattle.dp_actions.proofs.Acting.{first_done}
 use Rattle.dp_step_parts.specs.Rest.{Follows}
+use Rattle.dp_step.specs.declared.work.Next.{Next}
 use Rattle.dp_step.specs.inner.Leads.{Leads}
 
 module _ {A : Type 0} where

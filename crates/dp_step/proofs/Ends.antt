@@ -1,8 +1,8 @@
 -- A program that has ended stays so.
-use Rattle.std.proofs.Common.{◌≡◌, ℕ, Ok, refl, sym, ap, ◌∙◌, subst}
+use Rattle.std.proofs.Common.{◌≡◌, ℕ, Result, Ok, Err, refl, sym, ap, ◌∙◌, subst}
+use Rattle.std.specs.Prelude.{IfOk, OnOk}
 use Rattle.dp_state.specs.declared.moments.MomentKind.{MomentKind}
 use Rattle.dp_state.specs.declared.moments.Outcome.{Outcome}
-use Rattle.dp_state.specs.declared.state.State.{State}
 use Rattle.dp_actions.specs.declared.signal.Signal.{Signal}
 use Rattle.dp_actions.specs.Run.{Run, Done, Over, At}
 use Rattle.dp_step.specs.declared.machine.Arrival.TheVariants as arrival
@@ -35,7 +35,8 @@ pub end-stays : (o : Outcome) (old new : Machine) (outcome : Outcome) → HasEnd
 end-stays o old new outcome ended came =
     let over = subst (λ r. IsOver r outcome new.state) (ended old.state) came.by in (ap progress.Ended over.0, over.1)
 
-pub come-leaves : (kind : MomentKind) (line : ℕ) (old : Machine) (came : Progress) (new : Machine) → Comes kind line old came new
-    → Leaves (Ok came) new
-come-leaves kind line old (progress.At moment) new h = tt
-come-leaves kind line old (progress.Ended o) new h = rw h.by.1 h.by.3
+pub come-leaves : {E : Type 0} (kind : MomentKind) (line : ℕ) (old new : Machine) (r : Result Progress E)
+    → IfOk r (λ came. Comes kind line old came new) → OnOk r (Leaves r new)
+come-leaves kind line old new (Err e) h = tt
+come-leaves kind line old new (Ok (progress.At moment)) h = tt
+come-leaves kind line old new (Ok (progress.Ended o)) h = rw h.by.1 h.by.3

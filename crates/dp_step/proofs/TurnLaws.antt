@@ -1,6 +1,6 @@
 -- Turns of loops, by what is done first.
-use Rattle.std.proofs.Common.{◌≡◌, ℕ, zero, suc, ◌+◌, ◌-◌, ◌<◌, ◌≤◌, Bool, true, false, List, [], ◌∷◌, drop, length, refl, sym, ap, ◌∙◌, arith}
-use Rattle.std.specs.Prelude.{if◌then◌else◌, nat_le, slice_get, Option, Some, None, Result, Ok, Err}
+use Rattle.std.proofs.Common.{◌≡◌, ℕ, zero, suc, ◌+◌, ◌-◌, ◌<◌, List, [], ◌∷◌, drop, length, refl, sym, ap, ◌∙◌, arith}
+use Rattle.std.specs.Prelude.{slice_get, Some, Ok, Err}
 use Rattle.dp_state.specs.declared.moments.MomentKind.TheVariants as moment
 use Rattle.dp_state.specs.declared.state.State.{State}
 use Rattle.dp_value.specs.declared.key.Key.{Key}

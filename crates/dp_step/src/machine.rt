@@ -46,7 +46,7 @@ pub(crate) enum Arrival {
 }
 
 impl<'p> Machine<'p> {
-    ghost use Rattle.std.specs.Prelude.{◌≡◌, ℕ, ◌+◌, List, [], IfOk, OnOk, Ok, true, false};
+    ghost use Rattle.std.specs.Prelude.{◌≡◌, ℕ, ◌+◌, List, [], IfOk, OnOk, true, false};
     ghost use Rattle.dp_tree.specs.declared.bundle.Bundle.{Bundle as SomeBundle};
     ghost use Rattle.dp_meaning.specs.declared.writing.NumberedWrite.{NumberedWrite};
     ghost use Rattle.dp_state.specs.declared.moments.Outcome.{Outcome as SomeOutcome};
@@ -121,7 +121,7 @@ impl<'p> Machine<'p> {
     /// Goes on to the next moment, or to the end of the program.
     fn next_moment(&mut self) -> Result<Progress, Memory>
         ensures goes_on { (bundle : SomeBundle) (bound : ℕ) (writes : List NumberedWrite) (n : ℕ) → StandsFor bundle bound writes n self.old → IfOk result (λ progress. GoesOn bundle bound writes n progress self.new) }
-        ensures ends { IfOk result (λ progress. Leaves (Ok progress) self.new) }
+        ensures ends { OnOk result (Leaves result self.new) }
         ensures stays { (o : SomeOutcome) → HasEnded o self.old → IfOk result (λ progress. (progress ≡ any_progress.Ended o) × (self.new.state ≡ self.old.state)) }
     {
         match self.advance() {

@@ -25,7 +25,8 @@ impl Machine<'_> {
             → IfOk result (λ end. steps.new + n ≡ steps.old + length (program_trace bundle bound writes).moments) }
     {
         for _ in 0..u64::MAX {
-            match self.step(steps)? {
+            let progress = self.step(steps)?;
+            match progress {
                 Progress::At(_) => {}
                 Progress::Ended(outcome) => return Ok(outcome),
             }

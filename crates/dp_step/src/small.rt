@@ -35,10 +35,20 @@ impl<'p> Machine<'p> {
         ensures { Moves self.old (rest_of self.old self.old.state) result self.new }
     {
         match mem::replace(&mut self.hand, Hand::Failed) {
-            Hand::Part(PartHand::Give(given)) => self.take(given),
+            Hand::Part(part) => self.part(part),
             Hand::Call(file, function, values) => self.call(file, function, values),
             Hand::Include(file) => self.include(file),
             hand => self.first(hand),
+        }
+    }
+
+    /// A small step with a part of an expression that was in hand.
+    fn part(&mut self, part: PartHand<'p>) -> Result<Option<(MomentKind, u32)>, Halt>
+        ensures { Moves self.old (rest_with self.old (any_hand.Part part.entry) self.old.state) result self.new }
+    {
+        match part {
+            PartHand::Give(given) => self.take(given),
+            part => self.first(Hand::Part(part)),
         }
     }
 

@@ -68,7 +68,7 @@ impl Machine<'_> {
 }
 
 impl Machine<'_> {
-    ghost use Rattle.std.specs.Prelude.{◌≡◌, ◌++◌, ◌∷◌, [], ℕ, suc, false, List, OnOk, IfOk};
+    ghost use Rattle.std.specs.Prelude.{◌≡◌, ◌++◌, ◌∷◌, [], ℕ, suc, ◌-◌, ◌<◌, false, length, List, OnOk};
     ghost use Rattle.dp_tree.specs.declared.bundle.Bundle.{Bundle as SomeBundle};
     ghost use Rattle.dp_state.specs.Places.{assigned, given_keys as keys_given};
     ghost use Rattle.dp_meaning.specs.declared.writing.NumberedWrite.{NumberedWrite};
@@ -110,11 +110,20 @@ impl Machine<'_> {
         } else if context == 0 {
             self.write_at(level as usize, path, value)
         } else if context == 1 {
-            self.write_at(depth - 1, path, value)
+            self.write_global(path, value)
         } else {
             drop(value);
             Err(StepError::NoPlace)
         }
+    }
+
+    /// Gives a place a value that begins at a global variable.
+    fn write_global(&mut self, path: &Path, value: Value) -> Result<(), StepError>
+        requires { 0 < length self.old.state.frames }
+        ensures { Writes (place_or_fault (assigned (length self.old.state.frames - 1) path.now.name (keys_given path.now.keys) false value self.old.state)) result self.old self.new }
+    {
+        let depth = self.state.frames.len();
+        self.write_at(depth - 1, path, value)
     }
 
     /// Gives a place a value that begins at a variable of the frame at a level.

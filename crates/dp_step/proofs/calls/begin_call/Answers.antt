@@ -1,4 +1,4 @@
-use Rattle.std.proofs.Common.{refl, sym, ap, ◌∙◌}
+use Rattle.std.proofs.Common.{sym, ap, ◌∙◌}
 use Rattle.std.specs.Prelude.{option_map}
 use Rattle.dp_actions.specs.Run.{and_then}
 use Rattle.dp_actions.proofs.Runs.{and_then-assoc}

@@ -1,7 +1,3 @@
-use Rattle.std.proofs.Common.{ap, ◌∙◌}
-use Rattle.dp_actions.specs.Calls.{inclusion_run}
-use Rattle.dp_actions.specs.Run.{and_then}
-use Rattle.dp_step_parts.specs.Rest.{to_value}
 use Rattle.dp_step.proofs.Calling.{included-file}
 use Rattle.dp_step.proofs.calls.included.Goals as goal
 

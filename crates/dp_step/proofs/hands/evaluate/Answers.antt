@@ -1,4 +1,4 @@
-use Rattle.std.proofs.Common.{refl, sym}
+use Rattle.std.proofs.Common.{sym}
 use Rattle.dp_step.proofs.Calling.{begins-Include, by_call}
 use Rattle.dp_step.proofs.Goings.{goes_as}
 use Rattle.dp_step.proofs.hands.evaluate.Goals as goal
@@ -12,4 +12,4 @@ returns-in-Include c = λ setting same. goes_as setting _ _ _ (λ k.
     rw (c.in-Include.is, c.as_ref.ensures) (sym (begins-Include setting k c.args.state.now _ _)))
 
 pub returns-in_default : goal.returns-in_default
-returns-in_default c = λ setting same. c.widened.ensures setting _ _ (c.first_part.ensures setting)
+returns-in_default c = λ setting same. c.widened.ensures setting _ _ (c.first_of.ensures setting)

@@ -1,4 +1,4 @@
-use Rattle.std.proofs.Common.{refl, sym, ap, ◌∙◌}
+use Rattle.std.proofs.Common.{sym, ◌∙◌}
 use Rattle.dp_step.proofs.Goings.{goes_as, passes-to_after}
 use Rattle.dp_step.proofs.hands.to_after.Goals as goal
 

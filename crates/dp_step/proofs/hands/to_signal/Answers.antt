@@ -1,4 +1,4 @@
-use Rattle.std.proofs.Common.{refl, sym, ap, ◌∙◌}
+use Rattle.std.proofs.Common.{sym, ◌∙◌}
 use Rattle.dp_step.proofs.Goings.{passes-to_signal}
 use Rattle.dp_step.proofs.hands.to_signal.Goals as goal
 

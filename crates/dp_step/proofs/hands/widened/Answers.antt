@@ -1,4 +1,3 @@
-use Rattle.std.proofs.Common.{refl}
 use Rattle.dp_step.proofs.Goings.{wide_off, wide_on}
 use Rattle.dp_step.proofs.hands.widened.Goals as goal
 

@@ -1,4 +1,4 @@
-use Rattle.std.proofs.Common.{refl, sym, ◌∙◌}
+use Rattle.std.proofs.Common.{refl, sym}
 use Rattle.dp_meaning.specs.Expressions.{evaluation}
 use Rattle.dp_actions.specs.Run.{and_then}
 use Rattle.dp_meaning.specs.Statements.{returning}

@@ -1,4 +1,4 @@
-use Rattle.std.proofs.Common.{refl, sym, ap, ◌∙◌, arith}
+use Rattle.std.proofs.Common.{refl, ap, ◌∙◌, arith}
 use Rattle.dp_state.specs.States.{counted}
 use Rattle.dp_meaning.specs.Trace.{moment_of}
 use Rattle.dp_step.specs.Stands.{rest_of}

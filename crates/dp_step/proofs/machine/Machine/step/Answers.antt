@@ -1,4 +1,3 @@
-use Rattle.std.proofs.Common.{refl, sym, ap, ◌∙◌}
 use Rattle.dp_step.proofs.machine.Machine.step.Goals as goal
 
 pub returns-then-has_failed-clause-leaves : goal.returns-then-has_failed-clause-leaves

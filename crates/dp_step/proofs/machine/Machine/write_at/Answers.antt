@@ -1,6 +1,5 @@
 use Rattle.std.proofs.Common.{refl, ap}
 use Rattle.dp_meaning.specs.Writes.{place_or_fault}
-use Rattle.dp_step.specs.declared.machine.Machine.{Machine}
 use Rattle.dp_step.proofs.machine.Machine.write_at.Goals as goal
 
 pub returns-in-Ok : goal.returns-in-Ok
