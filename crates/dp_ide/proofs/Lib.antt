@@ -1,0 +1,3 @@
+mod ActLaws
+mod LineLaws
+mod TextLaws
