@@ -9,4 +9,4 @@ pub mod Courses
 pub mod Standing
 pub mod WritesMade
 pub mod Writings
-pub mod Ending
+pub mod Counting

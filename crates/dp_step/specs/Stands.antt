@@ -1,5 +1,6 @@
 -- What a machine stands for: a program with its writes, at a moment.
-use Rattle.std.specs.Prelude.{◌≡◌, ℕ, zero, suc, ◌≤◌, List, [], ◌∷◌, reverse, Some, None, Result, Ok, Err}
+use Rattle.std.specs.Prelude.{◌≡◌, ℕ, zero, suc, ◌≤◌, List, [], ◌∷◌, reverse}
+use Rattle.std.specs.Prelude.{Some, None, Result, Ok, Err}
 use Rattle.dp_tree.specs.declared.bundle.Bundle.{Bundle}
 use Rattle.dp_state.specs.declared.moments.Moment.{Moment}
 use Rattle.dp_state.specs.declared.moments.Outcome.{Outcome}

@@ -24,9 +24,7 @@ use crate::statements::{arms, each, echo, run, run_arm, run_at, unset};
 use crate::work::{AfterValue, ForSignal, ForValues, Hand, Next, Small, Work};
 use dp_actions::{Halt, Signal, returned};
 use dp_state::State;
-use dp_step_parts::{
-    Given, Hand as PartHand, Next as PartNext, first_of as first_part, give_to,
-};
+use dp_step_parts::{Given, Hand as PartHand, Next as PartNext, first_of as first_part, give_to};
 use dp_tree::{Bundle, Expression, Inclusion};
 use dp_value::Value;
 use std::alloc::Global;

@@ -3,11 +3,11 @@
 
 mod after;
 mod calls;
+mod ending;
 mod hands;
 mod loops;
 mod machine;
 mod next;
-mod run_out;
 mod small;
 mod statements;
 mod steps;

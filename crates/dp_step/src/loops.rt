@@ -48,7 +48,11 @@ fn tests_first<'p>(alloc: Global, turns: Turns<'p>, left: u64) -> Next<'p>
             hand: Hand::Part(PartHand::Evaluate(test)),
             waits: Some(Work::AfterValue(AfterValue::Test(turns, left))),
         },
-        Head::For(tests, _) => values_first(alloc, tests, Work::ForValues(ForValues::Tests(turns, left))),
+        Head::For(tests, _) => values_first(
+            alloc,
+            tests,
+            Work::ForValues(ForValues::Tests(turns, left)),
+        ),
     }
 }
 
@@ -186,7 +190,11 @@ fn turns_on<'p>(alloc: Global, turns: Turns<'p>, left: u64) -> Next<'p>
             hand: Hand::Turn(turns, left),
             waits: None,
         },
-        Head::For(_, after) => values_first(alloc, after, Work::ForValues(ForValues::Turns(turns, left))),
+        Head::For(_, after) => values_first(
+            alloc,
+            after,
+            Work::ForValues(ForValues::Turns(turns, left)),
+        ),
     }
 }
 

@@ -1,5 +1,5 @@
 use Rattle.std.proofs.Common.{refl}
-use Rattle.dp_step.proofs.Ending.{comes-on, counts-all}
+use Rattle.dp_step.proofs.Counting.{comes-on, counts-all}
 use Rattle.dp_step.proofs.machine.Machine.run_out.Goals as goal
 
 pub loop-init : goal.loop-init
