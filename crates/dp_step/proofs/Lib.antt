@@ -10,3 +10,5 @@ pub mod Standing
 pub mod WritesMade
 pub mod Writings
 pub mod Counting
+pub mod Ending
+pub mod SameSettings

@@ -18,7 +18,8 @@ use crate::work::{Hand, Next, Small, Waiting, Work};
 use dp_actions::{Halt, Signal, enter_call, enter_file, fatal};
 use dp_state::{FatalKind, MomentKind, Outcome};
 use dp_step_parts::{Given, Hand as PartHand};
-use dp_tree::{Bundle, Function};
+use dp_meaning::value_in_place;
+use dp_tree::{Bundle, Expression, Function, is_pure};
 use dp_value::{Items, Memory, Value};
 use std::mem;
 
@@ -48,7 +49,23 @@ impl<'p> Machine<'p> {
     {
         match part {
             PartHand::Give(given) => self.take(given),
+            PartHand::Evaluate(e) => self.evaluate_whole(e),
             part => self.first(Hand::Part(part)),
+        }
+    }
+
+    /// A small step with an expression. One that changes nothing is evaluated whole, in the state as it is; where that is
+    /// fatal it is done part by part, so that the end is that of its part.
+    fn evaluate_whole(&mut self, e: &'p Expression) -> Result<Option<(MomentKind, u32)>, Halt>
+        ensures { Moves self.old (rest_with self.old (any_hand.Part (any_part.Evaluate e.entry)) self.old.state) result self.new }
+    {
+        if !is_pure(e) {
+            return self.first(Hand::Part(PartHand::Evaluate(e)));
+        }
+        match value_in_place(self.alloc, &mut self.state, self.bundle, e) {
+            Ok(Some(value)) => self.take(Given::Value(value)),
+            Ok(None) => self.first(Hand::Part(PartHand::Evaluate(e))),
+            Err(_) => Err(Halt::Memory),
         }
     }
 
