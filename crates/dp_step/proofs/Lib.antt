@@ -10,5 +10,4 @@ pub mod Standing
 pub mod WritesMade
 pub mod Writings
 pub mod Counting
-pub mod Ending
 pub mod SameSettings
