@@ -1,8 +1,8 @@
 //! A lane of a session, which passes whole frames alone.
 ghost use Rattle.std.specs.Prelude.{◌≡◌, ◌↔◌, ◌+◌, ◌≤◌, [], ◌∷◌, ◌++◌, List, ℕ, Ok, None, min, length, IsErr, IfOk, IfErr, IfSome, OnOk, OnErr};
 ghost use Rattle.dp_wire.specs.Received.{last_place};
-ghost use Rattle.dp_proxy.specs.Lanes.{frame, texts_in};
-ghost use Rattle.dp_proxy.specs.Places.{BeginsWith, IsPart, BeginsNone, Causes, IsFront, kind_of, received_in};
+ghost use Rattle.dp_lanes.specs.Lanes.{frame, texts_in};
+ghost use Rattle.dp_lanes.specs.Places.{BeginsWith, IsPart, BeginsNone, Causes, IsFront, kind_of, received_in};
 
 use dp_value::Memory;
 use dp_wire::{Commands, Packets, WireError};
@@ -51,6 +51,29 @@ impl Lane {
         }
     }
 
+    /// The place in the stream of the first byte held. Stays at 2^64 - 1. Takes no memory.
+    pub(crate) fn dropped(&self) -> u64
+        ensures { result ≡ (received_in self.now).dropped }
+    {
+        match self {
+            Lane::Up(packets) => packets.dropped(),
+            Lane::Down(commands) => commands.dropped(),
+        }
+    }
+
+    /// Appends bytes of the stream.
+    pub(crate) fn append(&mut self, bytes: &[u8]) -> Result<(), Memory>
+        ensures kind { kind_of self.new ≡ kind_of self.old }
+        ensures ok { OnOk result ((received_in self.new).held ≡ (received_in self.old).held ++ bytes.now) }
+        ensures dropped { (received_in self.new).dropped ≡ (received_in self.old).dropped }
+        ensures err { OnErr result (self.new ≡ self.old) }
+    {
+        match self {
+            Lane::Up(packets) => packets.feed(bytes),
+            Lane::Down(commands) => commands.feed(bytes),
+        }
+    }
+
     /// Appends a piece of the stream, where more of a frame has to come. On want of memory all stays as before.
     pub fn feed(&mut self, piece: &[u8]) -> Result<(), Memory>
         requires part { IsPart (kind_of self.old) (received_in self.old).held }
@@ -60,10 +83,7 @@ impl Lane {
         ensures dropped { (received_in self.new).dropped ≡ (received_in self.old).dropped }
         ensures err { OnErr result (self.new ≡ self.old) }
     {
-        match self {
-            Lane::Up(packets) => packets.feed(piece),
-            Lane::Down(commands) => commands.feed(piece),
-        }
+        self.append(piece)
     }
 
     /// The range of the first text among the bytes held, `None` where more has to come. A refusal where no frame begins

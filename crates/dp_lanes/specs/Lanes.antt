@@ -8,8 +8,8 @@ use Rattle.dp_wire.specs.Frames.{up_to_nul}
 use Rattle.dp_wire.specs.Frames.{command_frame, commands_in, rest_of, command_limit}
 use Rattle.dp_wire.specs.Frames.{packet_frame, packets_in, rest_of_packets}
 use Rattle.dp_wire.specs.Frames.{packet_limit}
-use Rattle.dp_proxy.specs.declared.lane.LaneKind.{LaneKind}
-use Rattle.dp_proxy.specs.declared.lane.LaneKind.TheVariants.{Up, Down}
+use Rattle.dp_lanes.specs.declared.lane.LaneKind.{LaneKind}
+use Rattle.dp_lanes.specs.declared.lane.LaneKind.TheVariants.{Up, Down}
 
 -- ---- frames of each kind
 

@@ -1,13 +1,12 @@
 -- Lists of events, one in a line: who connects, what is sent and read, and who closes.
 use Rattle.std.specs.Prelude.{◌≡◌, ◌⊎◌, ℕ, ◌+◌, ◌/◌, ◌%◌, ◌<◌, ◌≤◌, ◌==◌, ◌^◌, nat_lt, Bool, true, false}
-use Rattle.std.specs.Prelude.{◌&&◌, if◌then◌else◌, List, [], ◌∷◌, ◌++◌, length, flat_map, All, codes}
+use Rattle.std.specs.Prelude.{◌&&◌, if◌then◌else◌, List, [], ◌∷◌, ◌++◌, length, flat_map, codes}
 use Rattle.std.specs.Fmt.{decimal}
-use Rattle.std.specs.List.{list_any}
+use Rattle.std.specs.List.{list_any, slice_split, AllByRecursion}
 use Rattle.dp_registry.specs.Names.{IsHost, IsKey}
-use Rattle.dp_wire.specs.Frames.{widened}
-use Rattle.dp_world.specs.declared.events.Act.{Act}
-use Rattle.dp_world.specs.declared.events.Act.TheVariants.{Ide, Engine, Give, Move, Close}
-use Rattle.dp_world.specs.declared.events.Event.{Event}
+use Rattle.dp_lists.specs.declared.event.Act.{Act}
+use Rattle.dp_lists.specs.declared.event.Act.TheVariants.{Ide, Engine, Give, Move, Close}
+use Rattle.dp_lists.specs.declared.event.Event.{Event}
 
 -- ---- bytes in a line
 
@@ -27,6 +26,11 @@ named word link = word ++ codes " " ++ decimal link
 abbrev pub named_with : List ℕ → ℕ → List ℕ → List ℕ
 named_with word link part = named word link ++ codes " " ++ part
 
+-- the IDE sends bytes, spelled in hexadecimal
+pub record Gives (line : List ℕ) (link : ℕ) (bytes : List ℕ) : Type 0 where
+  pub spelled : line ≡ named_with (codes "give") link (hex bytes)
+  pub are_bytes : AllByRecursion (λ b. b < 256) bytes
+
 -- the IDE sends a text and a NUL; an empty text may go without the space before it
 pub record Says (line : List ℕ) (link : ℕ) (bytes : List ℕ) : Type 0 where
   pub said : List ℕ
@@ -38,15 +42,14 @@ pub record Says (line : List ℕ) (link : ℕ) (bytes : List ℕ) : Type 0 where
 abbrev pub Spells : List ℕ → ℕ → Act → Type 0
 Spells line link (Ide host) = line ≡ named_with (codes "ide") link host
 Spells line link (Engine key) = line ≡ named_with (codes "engine") link key
-Spells line link (Give bytes) =
-    (line ≡ named_with (codes "give") link (hex bytes)) ⊎ Says line link bytes
+Spells line link (Give bytes) = Gives line link bytes ⊎ Says line link bytes
 Spells line link (Move count) = line ≡ named_with (codes "move") link (decimal count)
 Spells line link Close = line ≡ named (codes "close") link
 
 abbrev pub IsFormed : Act → Type 0
 IsFormed (Ide host) = IsHost host
 IsFormed (Engine key) = IsKey key
-IsFormed (Give bytes) = All (λ b. b < 256) bytes
+IsFormed (Give bytes) = Unit {0}
 IsFormed (Move count) = count < 2 ^ 32
 IsFormed Close = Unit {0}
 
@@ -87,10 +90,9 @@ AllFit before (e ∷ es) = Fits before e × AllFit (before ++ e ∷ []) es
 
 -- ---- lists
 
--- the lines, each ended by a line feed; what stands behind the last is a line too
+-- the lines, cut at the line feeds; what stands behind the last is a line too
 abbrev pub lines_of : List ℕ → List (List ℕ)
-lines_of [] = [] ∷ []
-lines_of (b ∷ bytes) = if b == 10 then [] ∷ lines_of bytes else widened b (lines_of bytes)
+lines_of bytes = slice_split (λ b. b == 10) bytes
 
 -- empty lines, and those that begin with `#`, do nothing
 abbrev pub is_idle : List ℕ → Bool
