@@ -49,6 +49,7 @@ command_at held start end none whole first =
   where
     all_of : (held : List ℕ) (end : ℕ) → slice_range held 0 end ≡ take end held
     all_of held end = grind arith
+
     ap_framed : (held : List ℕ) (end : ℕ) → slice_range held start end ≡ take end held → end < length held
         → end + 1 ≡ length (command_frame (slice_range held start end))
     ap_framed held end same less =

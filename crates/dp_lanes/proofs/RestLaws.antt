@@ -62,8 +62,8 @@ no_command held none may =
     let fits : length (up_to_nul held) ≤ command_limit = leb-true _ _ may in
     let is : IsCommand (up_to_nul held) = record { no_nul = up.no_nul; fits = fits } in
     elim up.cases [
-    | inl all ↦ none (up_to_nul held) [] (0 ∷ []) is (ap (λ l. l ++ 0 ∷ []) all ∙ sym (append-nil (command_frame (up_to_nul held))))
-    | inr cut ↦ none (up_to_nul held) cut.0 [] is (append-nil held ∙ cut.1 ∙ sym (framed (up_to_nul held) cut.0))
+      | inl all ↦ none (up_to_nul held) [] (0 ∷ []) is (ap (λ l. l ++ 0 ∷ []) all ∙ sym (append-nil (command_frame (up_to_nul held))))
+      | inr cut ↦ none (up_to_nul held) cut.0 [] is (append-nil held ∙ cut.1 ∙ sym (framed (up_to_nul held) cut.0))
     ]
 
 pub none_of_command : (held : List ℕ) → BeginsNoCommand held → may_be_command held ≡ false
@@ -128,13 +128,13 @@ no_packet (b ∷ bytes) none h =
     let same : digits ≡ decimal n = spelled_again digits both.0 (omega arith) in
     let some : 1 ≤ n = some_digit n (ap is_positive (sym same) ∙ both.0) in
     elim (up_is held).cases [
-    | inl all ↦ partial_refused held (subst IsPartialPacket (sym (all ∙ same)) (digits_part n some fits)) none
-    | inr cut ↦
-        let whole : held ≡ decimal n ++ 0 ∷ cut.0 = cut.1 ∙ ap (λ l. l ++ 0 ∷ cut.0) same in
-        may_begin n some fits cut.0
-        (ap (λ (d : List ℕ). ends_in_nul (drop (length d + 1 + n) (decimal n ++ 0 ∷ cut.0))) (sym same)
-        ∙ ap (λ l. ends_in_nul (drop (length digits + 1 + n) l)) (sym whole) ∙ parts.1)
-        (subst BeginsNoPacket whole none)
+      | inl all ↦ partial_refused held (subst IsPartialPacket (sym (all ∙ same)) (digits_part n some fits)) none
+      | inr cut ↦
+          let whole : held ≡ decimal n ++ 0 ∷ cut.0 = cut.1 ∙ ap (λ l. l ++ 0 ∷ cut.0) same in
+          may_begin n some fits cut.0
+          (ap (λ (d : List ℕ). ends_in_nul (drop (length d + 1 + n) (decimal n ++ 0 ∷ cut.0))) (sym same)
+          ∙ ap (λ l. ends_in_nul (drop (length digits + 1 + n) l)) (sym whole) ∙ parts.1)
+          (subst BeginsNoPacket whole none)
     ]
 
 pub none_of_packet : (held : List ℕ) → BeginsNoPacket held → may_be_packet held ≡ false
@@ -195,19 +195,19 @@ part_of_packet (b ∷ bytes) p =
     let up = up_is held in
     let frame : held ++ p.more ≡ decimal (length p.text) ++ 0 ∷ (p.text ++ 0 ∷ []) = p.whole ∙ sym (append-nil (packet_frame p.text)) ∙ packed p.text [] in
     elim up.cases [
-    | inl all ↦
-        let clean : has_no_nul held ≡ true = subst (λ l. has_no_nul l ≡ true) (sym all) up.no_nul in
-        let front = no_nul_front held (decimal (length p.text)) p.more (p.text ++ 0 ∷ []) clean frame in
-        part_digits p.text p.is_text b bytes front.0 (sym all) front.1
-    | inr cut ↦
-        let digits = up_to_nul held in
-        let whole : digits ++ 0 ∷ (cut.0 ++ p.more) ≡ decimal (length p.text) ++ 0 ∷ (p.text ++ 0 ∷ []) =
-        sym (append_assoc digits (0 ∷ cut.0) p.more) ∙ ap (λ l. l ++ p.more) (sym cut.1) ∙ frame in
-        let same = same_text digits (decimal (length p.text)) (cut.0 ++ p.more) (p.text ++ 0 ∷ []) up.no_nul (no_nul_number p.text p.is_text) whole in
-        let more = some_more p.more p.comes in
-        let short : length cut.0 ≤ length p.text =
-        omega (arith, ap length same.1, length-append cut.0 p.more, length-append p.text (0 ∷ [])) in
-        part_behind p.text p.is_text b bytes cut.0 p.more same.0 (cut.1 ∙ ap (λ l. l ++ 0 ∷ cut.0) same.0) short
+      | inl all ↦
+          let clean : has_no_nul held ≡ true = subst (λ l. has_no_nul l ≡ true) (sym all) up.no_nul in
+          let front = no_nul_front held (decimal (length p.text)) p.more (p.text ++ 0 ∷ []) clean frame in
+          part_digits p.text p.is_text b bytes front.0 (sym all) front.1
+      | inr cut ↦
+          let digits = up_to_nul held in
+          let whole : digits ++ 0 ∷ (cut.0 ++ p.more) ≡ decimal (length p.text) ++ 0 ∷ (p.text ++ 0 ∷ []) =
+          sym (append_assoc digits (0 ∷ cut.0) p.more) ∙ ap (λ l. l ++ p.more) (sym cut.1) ∙ frame in
+          let same = same_text digits (decimal (length p.text)) (cut.0 ++ p.more) (p.text ++ 0 ∷ []) up.no_nul (no_nul_number p.text p.is_text) whole in
+          let more = some_more p.more p.comes in
+          let short : length cut.0 ≤ length p.text =
+          omega (arith, ap length same.1, length-append cut.0 p.more, length-append p.text (0 ∷ [])) in
+          part_behind p.text p.is_text b bytes cut.0 p.more same.0 (cut.1 ∙ ap (λ l. l ++ 0 ∷ cut.0) same.0) short
     ]
   where
     no_nul_number : (text : List ℕ) → IsPacketText text → has_no_nul (decimal (length text)) ≡ true

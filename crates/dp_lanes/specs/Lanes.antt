@@ -38,8 +38,8 @@ abbrev pub may_be_packet : List ℕ → Bool
 may_be_packet [] = true
 may_be_packet (byte ∷ bytes) =
     let digits = up_to_nul (byte ∷ bytes) in
-        is_positive digits && nat_le (digits_value 10 digits) packet_limit
-        && ends_in_nul (drop (length digits + 1 + digits_value 10 digits) (byte ∷ bytes))
+    is_positive digits && nat_le (digits_value 10 digits) packet_limit
+    && ends_in_nul (drop (length digits + 1 + digits_value 10 digits) (byte ∷ bytes))
 
 abbrev pub may_be_command : List ℕ → Bool
 may_be_command bytes = nat_le (length (up_to_nul bytes)) command_limit

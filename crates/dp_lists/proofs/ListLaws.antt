@@ -177,18 +177,21 @@ table_marked table after events e is follows marks = by (makes e.act) refl where
   others isnt = λ link.
       let same : lookup (nat_eq link) after ≡ lookup (nat_eq link) table = rw isnt at (marks link) in
       (rw same (is link).0, rw same (is link).1)
+
   no_engine : (act : Act) → makes act ≡ false → is_engine act ≡ false
   no_engine (Ide host) isnt = absurd cc
   no_engine (Engine key) isnt = absurd cc
   no_engine (Give bytes) isnt = refl
   no_engine (Move count) isnt = refl
   no_engine Close isnt = refl
+
   new : (act : Act) → makes act ≡ true → MayFollow events e.link act → was makes e.link events ≡ false
   new (Ide host) sure f = f
   new (Engine key) sure f = f
   new (Give bytes) sure f = absurd cc
   new (Move count) sure f = absurd cc
   new Close sure f = absurd cc
+
   by : (t : Bool) → makes e.act ≡ t → IsTable after (events ++ e ∷ [])
   by true sure = table_made table events is e after (is_engine e.act) sure refl (new e.act sure follows) (λ link. rw sure at (marks link))
   by false isnt = table_same after events (others isnt) e isnt (no_engine e.act isnt)

@@ -64,14 +64,26 @@ module _ (word : List ℕ) (link : ℕ) (blank : has_no_blank word ≡ true) (so
   unfolding spelled
   again_with part =
       let rest : List ℕ = decimal link ++ 32 ∷ part in
-      rw (with_named word link part, part_behind word rest blank, word_before word rest blank, word_before (decimal link) part free,
-      part_behind (decimal link) part free, link_again link some within) refl
+      rw (
+        with_named word link part,
+        part_behind word rest blank,
+        word_before word rest blank,
+        word_before (decimal link) part free,
+        part_behind (decimal link) part free,
+        link_again link some within,
+      ) refl
 
   again_alone : spelled (named word link) ≡ event_by link (act_alone word)
   unfolding spelled
   again_alone =
-      rw (alone_named word link, part_behind word (decimal link) blank, word_before word (decimal link) blank, word_alone (decimal link) free,
-      no_part (decimal link) free, link_again link some within) refl
+      rw (
+        alone_named word link,
+        part_behind word (decimal link) blank,
+        word_before word (decimal link) blank,
+        word_alone (decimal link) free,
+        no_part (decimal link) free,
+        link_again link some within,
+      ) refl
 
 pub spelled_again : (line : List ℕ) (link : ℕ) (act : Act) → Spells line link act → 1 ≤ link → link ≤ 4294967294 → IsFormed act
     → spelled line ≡ Some (record { link = link; act = act })

@@ -20,10 +20,9 @@ note-requires-clause-fits c =
     (c.may_follow.ensures.yes c.if-not-may_follow.false)
 
 pub returns-clause-takes : goal.returns-clause-takes
-returns-clause-takes c =
-    (
-      c.in-Some.event ∷ [],
-      adds_one c.args.self.now.events.items c.args.line.now c.in-Some.event (sym c.in_ok-event.ensures ∙ c.in-Some.is)
-          (c.may_follow.ensures.yes c.if-not-may_follow.false),
-      c.in_ok-note.ensures.are,
-    )
+returns-clause-takes c = (
+  c.in-Some.event ∷ [],
+  adds_one c.args.self.now.events.items c.args.line.now c.in-Some.event (sym c.in_ok-event.ensures ∙ c.in-Some.is)
+      (c.may_follow.ensures.yes c.if-not-may_follow.false),
+  c.in_ok-note.ensures.are,
+)
