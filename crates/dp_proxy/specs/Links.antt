@@ -5,9 +5,9 @@ use Rattle.dp_proxy.specs.declared.events.Act.{Act}
 use Rattle.dp_proxy.specs.declared.events.Act.TheVariants.{Ide, Engine, Given, Moved, Closed}
 use Rattle.dp_proxy.specs.declared.events.Effect.{Effect}
 use Rattle.dp_proxy.specs.declared.events.Effect.TheVariants.{Nothing, ToEngine, ToIde}
-use Rattle.dp_proxy.specs.declared.lane.LaneKind.{LaneKind}
-use Rattle.dp_proxy.specs.declared.lane.LaneKind.TheVariants.{Up, Down}
-use Rattle.dp_proxy.specs.Lanes.{frame, texts_in, is_bad}
+use Rattle.dp_lanes.specs.declared.lane.LaneKind.{LaneKind}
+use Rattle.dp_lanes.specs.declared.lane.LaneKind.TheVariants.{Up, Down}
+use Rattle.dp_lanes.specs.Lanes.{frame, texts_in, is_bad}
 
 -- the bytes that came in a lane: those read of the engine go up, those that the IDE gave go down
 abbrev pub brought : LaneKind → Act → List ℕ

@@ -9,7 +9,7 @@ use Rattle.dp_proxy.specs.declared.events.Event.{Event}
 use Rattle.dp_proxy.specs.declared.errors.ProxyError.{ProxyError}
 use Rattle.dp_proxy.specs.declared.errors.ProxyError.TheVariants.{BadInit, BadFrame, Memory}
 use Rattle.dp_proxy.specs.Places.{BreaksAt}
-use Rattle.dp_proxy.specs.Pasts.{Link, New, Joined, Past, past_of, turn_at}
+use Rattle.dp_proxy.specs.Pasts.{Link, New, Joined, Past, turn}
 
 -- the condition of a step: an IDE has a host
 abbrev pub HasHost : Act → Type 0
@@ -26,16 +26,19 @@ abbrev pub acts_with : Link → Act → List Act
 acts_with (Joined key pass acts) act = acts ++ act ∷ []
 acts_with link act = []
 
--- Each answer has its cause: an effect is that of the past; an engine has no key exactly where it is
--- told so; a link is broken exactly where its place is told.
+-- Each answer has its cause: an effect is that of the table; an engine has no key exactly where it
+-- is told so; a link is broken exactly where its place is told.
+abbrev pub AnswersAt : List Entry → Link → Act → Result Effect ProxyError → Type 0
+AnswersAt journal link act (Ok effect) =
+    ComesWithKey link act × ((turn journal link act).effect ≡ Some effect)
+AnswersAt journal link act (Err BadInit) = ComesWithKey link act → ⊥
+AnswersAt journal link act (Err (BadFrame offset)) =
+    ComesWithKey link act × ((turn journal link act).effect ≡ None)
+    × BreaksAt (acts_with link act) offset
+AnswersAt journal link act (Err Memory) = Unit {0}
+
 abbrev pub Answers : Past → ℕ → Act → Result Effect ProxyError → Type 0
-Answers past number act (Ok effect) =
-    ComesWithKey (past.link number) act × ((turn_at past number act).effect ≡ Some effect)
-Answers past number act (Err BadInit) = ComesWithKey (past.link number) act → ⊥
-Answers past number act (Err (BadFrame offset)) =
-    ComesWithKey (past.link number) act × ((turn_at past number act).effect ≡ None)
-    × BreaksAt (acts_with (past.link number) act) offset
-Answers past number act (Err Memory) = Unit {0}
+Answers past number act answer = AnswersAt past.journal (past.link number) act answer
 
 -- the events that count after a step: an engine without a key is none
 abbrev pub counted : List Event → Event → Result Effect ProxyError → List Event

@@ -1,7 +1,7 @@
 //! What an IDE may ask of a proxy.
-ghost use Rattle.std.specs.Prelude.{◌≡◌, ◌↔◌, true, IfOk, IfSome};
+ghost use Rattle.std.specs.Prelude.{◌≡◌, ◌==◌, ◌&&◌, nat_le, IfOk, IfSome};
+ghost use Rattle.std.specs.List.{list_all, list_any};
 ghost use Rattle.std.specs.Option.{option_copied};
-ghost use Rattle.dp_registry.specs.Names as names;
 ghost use Rattle.dp_proxy.specs.Calls as spec;
 ghost use Rattle.dp_proxy.specs.Replies.{IsKeyed};
 
@@ -22,22 +22,37 @@ pub enum Call {
     },
 }
 
+/// Whether each byte is printable ASCII and no blank.
+fn are_graphic(bytes: &[u8]) -> bool
+    ensures { result ≡ list_all (λ b. nat_le 0x21 b && nat_le b 0x7e) bytes.now }
+{
+    bytes.iter().all(|b| 0x21 <= *b && *b <= 0x7e)
+}
+
 /// Whether bytes are the key of an IDE. Takes no memory.
 pub(crate) fn is_key(bytes: &[u8]) -> bool
-    ensures same { result ≡ spec.is_key bytes.now }
-    ensures is { (result ≡ true) ↔ names.IsKey bytes.now }
+    ensures { result ≡ spec.is_key bytes.now }
 {
-    !bytes.is_empty() && bytes.len() <= 128 && bytes.iter().all(|b| 0x21 <= *b && *b <= 0x7e)
+    1 <= bytes.len() && bytes.len() <= 128 && are_graphic(bytes)
+}
+
+fn is_among(letter: u8, letters: &[u8]) -> bool
+    ensures { result ≡ list_any (λ l. l == letter) letters.now }
+{
+    letters.iter().any(|l| *l == letter)
+}
+
+fn are_among(letters: &[u8], options: &[(u8, Bytes)]) -> bool
+    ensures { result ≡ list_all (λ o. list_any (λ letter. letter == o.0) letters.now) options.now }
+{
+    options.iter().all(|option| is_among(option.0, letters))
 }
 
 /// Whether each option has one of these letters, and no letter stands twice.
 fn fits(letters: &[u8], options: &[(u8, Bytes)]) -> bool
     ensures { result ≡ spec.fits letters.now options.now }
 {
-    options
-        .iter()
-        .all(|option| letters.iter().any(|letter| *letter == option.0))
-        && !has_duplicate(options)
+    are_among(letters, options) && !has_duplicate(options)
 }
 
 /// The key that is given, if one is.

@@ -28,7 +28,8 @@ pub record IsReading (reading : Reading) (events : List Event) : Type 0 where
 
 -- whether the line adds to the events before it, and those with what it adds
 abbrev pub Takes : List Event → List ℕ → Bool → List Event → Type 0
-Takes before line true after = (added : List Event) × Adds before line added × (after ≡ before ++ added)
+Takes before line true after =
+    (added : List Event) × Adds before line added × (after ≡ before ++ added)
 Takes before line false after = (added : List Event) → Adds before line added → ⊥
 
 -- the lines that are left, and one more than their bytes
