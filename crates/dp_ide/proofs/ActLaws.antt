@@ -170,13 +170,13 @@ pub reads_out : (line rest : List ℕ) (found : Option (List ℕ)) → line ≡ 
 reads_out line rest found same is =
     subst (λ (l : List ℕ). Reads is_out l (option_map Out found)) (sym same)
     (reads_as Behind is_out Out rest (codes "out" ++ rest) (λ text h. marked (codes "out") rest (Behind text) h) from found is) where
-  from : (act : Act) → is_out act (codes "out" ++ rest) → (text : List ℕ) × (act ≡ Out text) × Behind text rest
-  from (Send l id) h = absurd h
-  from (Attr name text) h = absurd h
-  from (Code n) h = absurd h
-  from (Prop name text) h = absurd h
-  from (Out text) h = (text, refl, unmarked (codes "out") rest (Behind text) h)
-  from Print h = absurd (apart 111 112 _ _ refl h)
+      from : (act : Act) → is_out act (codes "out" ++ rest) → (text : List ℕ) × (act ≡ Out text) × Behind text rest
+      from (Send l id) h = absurd h
+      from (Attr name text) h = absurd h
+      from (Code n) h = absurd h
+      from (Prop name text) h = absurd h
+      from (Out text) h = (text, refl, unmarked (codes "out") rest (Behind text) h)
+      from Print h = absurd (apart 111 112 _ _ refl h)
 
 pub reads_neither : (line : List ℕ) → line ≢ codes "print" → Lacked (codes "out") line → Reads is_out line None
 reads_neither line print out = no where
