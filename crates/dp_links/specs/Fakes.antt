@@ -30,8 +30,8 @@ pub record DialPartState : Type 0 where
 abbrev pub AreFresh : List DialPartState → Type 0
 AreFresh parts = All (λ part. All IsFresh part.links) parts
 
--- a dialer in memory: the links that are left, which of its calls fail, what its twins get, and what
--- it tells
+-- a dialer in memory: the links that are left, which of its calls fail, what its twins get, and
+-- what it tells
 pub record DialerState : Type 0 where
   pub links : List LinkState
   pub plan : Plan
@@ -139,8 +139,8 @@ pub record IsFreshPart (part : NetPartState) : Type 0 where
   pub links : All IsFresh part.links
   pub gates : All IsFreshGate part.gates
 
--- a net in memory: the dialer in it, whose twins get nothing; the gates that are left, what its twins
--- get, and the gates that were shut
+-- a net in memory: the dialer in it, whose twins get nothing; the gates that are left, what its
+-- twins get, and the gates that were shut
 pub record NetState : Type 0 where
   pub dialer : DialerState
   pub gates : List GateState

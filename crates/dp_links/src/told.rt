@@ -6,7 +6,7 @@ use std::marker::{Model, PhantomData};
 
 /// What came so far, three values at a time. It takes no memory, and its calls do nothing.
 #[derive(Drop)]
-pub struct Told<A, B, C> {
+pub(crate) struct Told<A, B, C> {
     of: PhantomData<(A, B, C)>,
     pub ghost items: { List (A × (B × C)) },
 }

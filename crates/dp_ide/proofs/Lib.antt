@@ -1,3 +1,0 @@
-mod ActLaws
-mod LineLaws
-mod TextLaws

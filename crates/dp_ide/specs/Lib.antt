@@ -1,5 +1,0 @@
-pub mod Scripts
-pub mod Messages
-pub mod Playing
-pub mod Plays
-pub mod inner
