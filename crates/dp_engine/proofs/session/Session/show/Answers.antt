@@ -2,7 +2,7 @@ use Rattle.std.proofs.Common.{rules, ◌≡◌, Err, refl, ◌∙◌}
 use Rattle.dp_view_commands.specs.Views.{view_response}
 use Rattle.dp_engine.specs.inner.Standing.{known}
 use Rattle.dp_engine.proofs.Turning.{fits_known, own_refused, view_is, view_refused, view_told}
-use Rattle.dp_engine.proofs.turns.Session.show.Goals as goal
+use Rattle.dp_engine.proofs.session.Session.show.Goals as goal
 
 pub tell-requires : goal.tell-requires
 tell-requires c = let sent = c.in-Ok.ensures.is_sent in fits_known c.in-Ok.response sent.known sent.short

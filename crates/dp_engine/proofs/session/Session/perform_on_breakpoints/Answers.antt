@@ -3,7 +3,7 @@ use Rattle.dp_breakpoint_commands.specs.Commands.{breakpoint_refusal}
 use Rattle.dp_breakpoint_commands.proofs.Codes.{refusal_known}
 use Rattle.dp_engine.specs.inner.Standing.{known}
 use Rattle.dp_engine.proofs.Turning.{breakpoints_are_told, fits_known}
-use Rattle.dp_engine.proofs.turns.Session.perform_on_breakpoints.Goals as goal
+use Rattle.dp_engine.proofs.session.Session.perform_on_breakpoints.Goals as goal
 
 pub tell-requires : goal.tell-requires
 tell-requires c = fits_known c.in-Ok.response c.in-Ok.ensures.known c.in-Ok.ensures.short

@@ -3,7 +3,7 @@ use Rattle.dp_write_commands.specs.Writing.{write_response}
 use Rattle.dp_engine.specs.inner.Standing.{known}
 use Rattle.dp_engine.proofs.Accepting.{deep_kept, stands_kept}
 use Rattle.dp_engine.proofs.Turning.{fits_known, own_refused, program_is, write_is_refused, write_is_told, write_stays}
-use Rattle.dp_engine.proofs.turns.Session.write.Goals as goal
+use Rattle.dp_engine.proofs.session.Session.write.Goals as goal
 
 pub tell-requires : goal.tell-requires
 tell-requires c = let sent = c.in-Ok.ensures.is_sent in fits_known c.in-Ok.response sent.known sent.short
