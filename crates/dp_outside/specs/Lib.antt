@@ -4,6 +4,7 @@ pub mod Fakes
 pub mod Files
 pub mod Hosts
 pub mod Jobs
+pub mod Links
 pub mod Streams
 pub mod Telling
 pub mod inner

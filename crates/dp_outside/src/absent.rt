@@ -2,6 +2,7 @@
 ghost use Rattle.std.specs.Prelude.{◌≡◌, ◌≤◌, [], ◌∷◌, None, IsErr, OnOk};
 ghost use Rattle.dp_outside.specs.Causes.{HasCause, Rose};
 ghost use Rattle.dp_outside.specs.Fakes.{one_more};
+ghost use Rattle.dp_outside.specs.Links.{CountsReturned};
 
 use crate::jobs::Hook;
 use crate::{Dialer, Failed, Faults, Gate, Host, Net, Spawner, SureByteSink, SureByteSource};
@@ -9,27 +10,30 @@ use std::marker::{Model, PhantomData};
 use std::sync::Wait;
 use std::thread::Threads;
 
-/// No network: each call that can fail does so, and its count of faults rises. Contracts see that count.
+/// No network: each call that can fail does so, and its count of faults rises. Contracts see that count, and how often
+/// a gate came back that had failed.
 #[derive(Debug, Drop)]
 pub struct NoNet {
     faults: Faults,
+    returned: Faults,
 }
 
 impl Model for NoNet {
     ghost use Rattle.std.specs.Prelude.{ℕ};
 
-    ghost Value = { ℕ };
+    ghost Value = { ℕ × ℕ };
 
-    ghost view = { λ net. net.faults };
+    ghost view = { λ net. (net.faults, net.returned) };
 }
 
 impl NoNet {
     /// A network that is not there. No call has failed yet.
     pub fn new() -> Self
-        ensures { result ≡ 0 }
+        ensures { result ≡ (0, 0) }
     {
         NoNet {
             faults: Faults::new(),
+            returned: Faults::new(),
         }
     }
 }
@@ -39,25 +43,33 @@ impl Dialer for NoNet {
 
     type Out = SureByteSink;
 
-    ghost faults = { λ net. net };
+    ghost faults = { λ net. net.0 };
+
+    ghost returned = { λ net. net.1 };
+
+    ghost dials = { λ _. None };
+
+    ghost retired = { λ _. None };
 
     fn dial(&mut self, _host: &Host, _port: u16) -> Result<(SureByteSource, SureByteSink), Failed>
-        ensures cause { HasCause self.old self.new result }
+        ensures cause { HasCause self.old.0 self.new.0 result }
+        ensures returned { self.new.1 ≡ self.old.1 }
         ensures absent { IsErr result }
-        ensures counted { self.new ≡ one_more self.old }
+        ensures counted { self.new.0 ≡ one_more self.old.0 }
     {
         self.faults.raise();
         Err(Failed)
     }
 
     fn retire(&mut self, _source: SureByteSource, _sink: SureByteSink)
-        ensures faults { self.new ≡ self.old }
+        ensures same { self.new ≡ self.old }
     {}
 
     fn twin(&mut self) -> Result<Self, Failed>
-        ensures cause { HasCause self.old self.new result }
+        ensures cause { HasCause self.old.0 self.new.0 result }
+        ensures returned { self.new.1 ≡ self.old.1 }
         ensures absent { IsErr result }
-        ensures counted { self.new ≡ one_more self.old }
+        ensures counted { self.new.0 ≡ one_more self.old.0 }
     {
         self.faults.raise();
         Err(Failed)
@@ -67,18 +79,27 @@ impl Dialer for NoNet {
 impl Net for NoNet {
     type Door = NoGate;
 
+    ghost shut_doors = { λ _. None };
+
     fn gate(&mut self, _port: u16) -> Result<NoGate, Failed>
-        ensures cause { HasCause self.old self.new result }
+        ensures cause { HasCause self.old.0 self.new.0 result }
+        ensures returned { self.new.1 ≡ self.old.1 }
         ensures absent { IsErr result }
-        ensures counted { self.new ≡ one_more self.old }
+        ensures counted { self.new.0 ≡ one_more self.old.0 }
     {
         self.faults.raise();
         Err(Failed)
     }
 
-    fn shut(&mut self, _door: NoGate)
-        ensures faults { self.new ≡ self.old }
-    {}
+    fn shut(&mut self, door: NoGate)
+        ensures faults { self.new.0 ≡ self.old.0 }
+        ensures returned { CountsReturned door self.old.1 self.new.1 }
+        ensures later { self.old.1 ≤ self.new.1 }
+    {
+        if door.faults.count() != 0 {
+            self.returned.raise();
+        }
+    }
 }
 
 /// The gate of no network: it gives no link. Contracts see its count of faults.
@@ -112,6 +133,15 @@ impl Gate for NoGate {
     type Out = SureByteSink;
 
     ghost faults = { λ gate. gate };
+
+    ghost returned = { λ _. 0 };
+
+    // It is at no port: no gate of it was ever given.
+    ghost port = { λ _. 0 };
+
+    ghost accepted = { λ _. None };
+
+    ghost retired = { λ _. None };
 
     fn accept(&mut self) -> Result<(SureByteSource, SureByteSink, Host), Failed>
         ensures cause { HasCause self.old self.new result }

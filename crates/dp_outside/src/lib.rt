@@ -29,6 +29,7 @@ pub use jobs::{Hook, Job, Spawner};
 pub use links::{Dialer, Gate, Net};
 pub use map_shelf::MapShelf;
 pub use memory::{ByteSink, ByteSource};
+pub use plans::FailPlan;
 pub use shelves::{Shelf, ShelfError};
 pub use sinks::Sink;
 pub use sources::Source;

@@ -44,6 +44,13 @@ impl ByteSource {
         })
     }
 
+    /// How often it has failed.
+    pub fn faults(&self) -> u64
+        ensures { result ≡ self.now.plan.faults }
+    {
+        self.plan.faults()
+    }
+
     /// The bytes that it still gives.
     pub fn left(&self) -> &[u8]
         ensures { result.now ≡ self.now.tape.left }
@@ -113,6 +120,13 @@ impl ByteSink {
             room,
             plan: FailPlan::new(fails),
         })
+    }
+
+    /// How often it has failed.
+    pub fn faults(&self) -> u64
+        ensures { result ≡ self.now.plan.faults }
+    {
+        self.plan.faults()
     }
 
     /// The bytes that it has taken.

@@ -49,6 +49,13 @@ impl FailPlan {
         Ok(())
     }
 
+    /// The number of faults so far.
+    pub fn faults(&self) -> u64
+        ensures { result ≡ self.now.faults }
+    {
+        self.faults.count()
+    }
+
     /// Counts a fault of the last call.
     pub fn fault(&mut self)
         ensures fails { self.new.fails ≡ self.old.fails }

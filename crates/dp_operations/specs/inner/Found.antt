@@ -1,5 +1,5 @@
 -- What a reading finds, as data.
-use Rattle.std.specs.Prelude.{◌∷◌}
+use Rattle.std.specs.Prelude.{[], ◌∷◌}
 use Rattle.dp_value.specs.Data.{null, text, Data}
 use Rattle.dp_operations.specs.declared.indexing.Found.TheVariants.{Nothing, Entry, Letter}
 use Rattle.dp_value.specs.Value.{data_of}

@@ -1,6 +1,6 @@
 -- How a write goes: an array with a new value in it.
 use Rattle.dp_value.specs.Data.{Table, array, Data, data_of_table}
-use Rattle.std.specs.Prelude.{◌∷◌, Option, Ok, Err, Bool, Result, Some, List, None}
+use Rattle.std.specs.Prelude.{Bool, List, [], ◌∷◌, Option, Some, None, Result, Ok, Err}
 use Rattle.dp_value.specs.Table.{table_set}
 use Rattle.dp_value.specs.declared.error.WriteError.{WriteError}
 use Rattle.dp_value.specs.declared.key.Key.{Key}

@@ -1,5 +1,5 @@
 -- A path that is longer by a key.
-use Rattle.std.specs.Prelude.{◌++◌, ◌∷◌}
+use Rattle.std.specs.Prelude.{[], ◌∷◌, ◌++◌}
 use Rattle.dp_value.specs.declared.key.Key.{Key}
 use Rattle.dp_state.specs.declared.moments.Path.{Path}
 
