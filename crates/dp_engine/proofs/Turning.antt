@@ -59,7 +59,7 @@ use Rattle.dp_engine.specs.declared.telling.Turn.{Turn as Made}
 use Rattle.dp_engine.specs.Answers.{Turn, asked, breakpoints_done, done_on, end_by_stop, gone_on, in_packet, kept_if, moved, performed, refused, response_in, shown, turn_of, with_write, written}
 use Rattle.dp_engine.specs.Refusals.{of_command, own_tests, refusal_of_line, row_tests, tests, tests_on}
 use Rattle.dp_engine.specs.Responses.{fault_response, response as response_of, response_text}
-use Rattle.dp_engine.specs.Session.{State, here, moments_by, moments_so_far, output_by, output_so_far, program_by, program_of, steps_between, steps_left}
+use Rattle.dp_engine.specs.Session.{State, here, moments_by, moments_so_far, output_by, output_so_far, program_by, program_of, steps_between, steps_left, unwritten, whole_output}
 use Rattle.dp_engine.specs.Sides.{side_of}
 use Rattle.dp_engine.specs.States.{allows}
 use Rattle.dp_engine.specs.inner.Accepting.{IsMade}
@@ -277,6 +277,17 @@ output_is state = by state.phase where
   by phase.Starting = there (now state.bundle state.bound state.writes state.moment)
   by phase.Break = there (now state.bundle state.bound state.writes state.moment)
   by phase.Stopping = refl
+
+-- what is still written past that is what is left
+pub rest_is : {E : Type 0} (state : State) (program : Program_state) (shown : ℕ) (made : Result (List ℕ × Outcome) E) → program ≡ program_of state → shown ≡ length program.output
+    → IfOk made (λ r. r.0 ≡ drop shown (whole_output state)) → IfOk made (λ r. r.0 ≡ unwritten state)
+rest_is state program shown (Ok r) is n h = h ∙ ap (λ (k : ℕ). drop k (whole_output state)) (n ∙ ap (λ (p : Program_state). length p.output) is ∙ ap length (sym (output_is state)))
+rest_is state program shown (Err e) is n h = tt
+
+-- steps that are told so
+pub steps_are : {A E : Type 0} (made : Result A E) (n m : ℕ) (P : Type 0) → (P → n ≡ m) → IfOk made (λ r. P) → IfOk made (λ r. n ≡ m)
+steps_are (Ok r) n m P f h = f h
+steps_are (Err e) n m P f h = tt
 
 -- a machine that stands at a moment has passed no more than there are
 pub within : (bundle : Bundle) (bound : ℕ) (writes : List NumberedWrite) (n : ℕ) (m : Machine) → StandsFor bundle bound writes n m → n ≤ length (program_trace bundle bound writes).moments

@@ -1,7 +1,6 @@
 //! One session of the engine with an IDE, and serving it over a link.
 #![tactic(auto)]
 
-mod finishing;
 mod refusals;
 mod responses;
 mod serving;

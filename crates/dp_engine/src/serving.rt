@@ -84,6 +84,14 @@ fn cut_short(end: ServeEnd) -> Served
     Served { end, outcome: None }
 }
 
+/// Leaves the program where it stands.
+fn left(session: Session<'_>, end: ServeEnd) -> Served
+    ensures { result ≡ record { end = end; outcome = None } }
+{
+    drop(session);
+    cut_short(end)
+}
+
 /// Runs the program on to its end, once the session is over.
 fn run_on<E: Sink, L: Ledger>(
     session: Session<'_>,
@@ -118,7 +126,7 @@ fn close<E: Sink, L: Ledger>(
     ensures out_later { E.faults out.old ≤ E.faults out.new }
 {
     match over {
-        Over::Ended(SessionEnd::Killed) => cut_short(ServeEnd::Stopped),
+        Over::Ended(SessionEnd::Killed) => left(session, ServeEnd::Stopped),
         Over::Ended(SessionEnd::Detached) => run_on(session, ServeEnd::Detached, out, steps),
         Over::Ended(SessionEnd::Finished(_)) => run_on(session, ServeEnd::Stopped, out, steps),
         Over::LinkEnd => run_on(session, ServeEnd::LinkEnd, out, steps),
@@ -141,10 +149,10 @@ fn close_cut<E: Sink, L: Ledger>(
     ensures out_later { E.faults out.old ≤ E.faults out.new }
 {
     match fault {
-        Fault::Write(Some(SessionEnd::Killed)) => cut_short(ServeEnd::WriteFault),
+        Fault::Write(Some(SessionEnd::Killed)) => left(session, ServeEnd::WriteFault),
         Fault::Write(_) => run_on(session, ServeEnd::WriteFault, out, steps),
-        Fault::Out => cut_short(ServeEnd::OutFault),
-        Fault::Memory => cut_short(ServeEnd::Memory),
+        Fault::Out => left(session, ServeEnd::OutFault),
+        Fault::Memory => left(session, ServeEnd::Memory),
     }
 }
 

@@ -8,7 +8,6 @@ ghost use Rattle.dp_engine.specs.inner.Turns.{IsSent};
 ghost use Rattle.dp_command.specs.Lines.{line_of};
 ghost use Rattle.dp_tree.specs.FileNames.{AreFileNames};
 
-use crate::finishing::run_out;
 use crate::states::{Phase, Standing};
 use crate::streams::{to_ide, to_program};
 use crate::telling::Turn;
@@ -97,7 +96,7 @@ fn read(alloc: Global, bytes: &[u8]) -> Result<Option<Line>, Memory>
 }
 
 /// What follows so many bytes.
-pub(crate) fn tail(bytes: &[u8], count: usize) -> &[u8]
+fn tail(bytes: &[u8], count: usize) -> &[u8]
     ensures { result.now ≡ drop count bytes.now }
 {
     if count <= bytes.len() {
@@ -241,16 +240,52 @@ impl<'a> Session<'a> {
     /// Runs the program on to its end, if it has not ended, and answers the rest of its output and how it ended.
     ///
     /// A step is counted for each moment that comes on the way.
-    pub fn finish<L: Ledger>(self, steps: &mut Steps<L>) -> Result<(Bytes, Outcome), Memory>
+    pub fn finish<L: Ledger>(mut self, steps: &mut Steps<L>) -> Result<(Bytes, Outcome), Memory>
         ensures rest { IfOk result (λ rest. rest.0 ≡ unwritten self.entry) }
         ensures outcome { IfOk result (λ rest. rest.1 ≡ outcome_of self.entry) }
         ensures steps { IfOk result (λ rest. steps.new ≡ steps.old + steps_left self.entry) }
     {
-        if let Standing::Stopping(outcome) = self.standing {
-            return Ok((Bytes::of(Vec::new(self.alloc)), outcome));
+        let rest = self.run_out(steps);
+        drop(self);
+        rest
+    }
+
+    /// The same of a session that is lent.
+    fn run_out<L: Ledger>(&mut self, steps: &mut Steps<L>) -> Result<(Bytes, Outcome), Memory>
+        ensures rest { IfOk result (λ rest. rest.0 ≡ unwritten self.old) }
+        ensures outcome { IfOk result (λ rest. rest.1 ≡ outcome_of self.old) }
+        ensures steps { IfOk result (λ rest. steps.new ≡ steps.old + steps_left self.old) }
+    {
+        match self.standing {
+            Standing::Starting => self.run_rest(steps),
+            Standing::Break => self.run_rest(steps),
+            Standing::Stopping(outcome) => Ok((Bytes::of(Vec::new(self.alloc)), outcome)),
         }
-        let shown = self.program()?.output.len();
-        run_out(self.alloc, self.machine, shown, steps)
+    }
+
+    /// The same where the program has not ended.
+    fn run_rest<L: Ledger>(&mut self, steps: &mut Steps<L>) -> Result<(Bytes, Outcome), Memory>
+        requires { self.old.phase ≢ Phase.Stopping }
+        ensures rest { IfOk result (λ rest. rest.0 ≡ unwritten self.old) }
+        ensures outcome { IfOk result (λ rest. rest.1 ≡ outcome_of self.old) }
+        ensures steps { IfOk result (λ rest. steps.new ≡ steps.old + steps_left self.old) }
+    {
+        if self.failed {
+            return Err(Memory);
+        }
+        let shown = self.machine.state().output.len();
+        match self.machine.run_out(steps) {
+            Ok(outcome) => {
+                self.standing = Standing::Stopping(outcome);
+                let written = tail(self.machine.state().output.as_slice(), shown);
+                let rest = Bytes::from_slice(self.alloc, written)?;
+                Ok((rest, outcome))
+            }
+            Err(_) => {
+                self.failed = true;
+                Err(Memory)
+            }
+        }
     }
 }
 
