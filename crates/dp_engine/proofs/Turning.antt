@@ -279,15 +279,9 @@ output_is state = by state.phase where
   by phase.Stopping = refl
 
 -- what is still written past that is what is left
-pub rest_is : {E : Type 0} (state : State) (program : Program_state) (shown : ℕ) (made : Result (List ℕ × Outcome) E) → program ≡ program_of state → shown ≡ length program.output
-    → IfOk made (λ r. r.0 ≡ drop shown (whole_output state)) → IfOk made (λ r. r.0 ≡ unwritten state)
-rest_is state program shown (Ok r) is n h = h ∙ ap (λ (k : ℕ). drop k (whole_output state)) (n ∙ ap (λ (p : Program_state). length p.output) is ∙ ap length (sym (output_is state)))
-rest_is state program shown (Err e) is n h = tt
-
--- steps that are told so
-pub steps_are : {A E : Type 0} (made : Result A E) (n m : ℕ) (P : Type 0) → (P → n ≡ m) → IfOk made (λ r. P) → IfOk made (λ r. n ≡ m)
-steps_are (Ok r) n m P f h = f h
-steps_are (Err e) n m P f h = tt
+pub rest_is : (state : State) (program : Program_state) (shown : ℕ) (rest : List ℕ) → program ≡ program_of state → shown ≡ length program.output
+    → rest ≡ drop shown (whole_output state) → rest ≡ unwritten state
+rest_is state program shown rest is n h = h ∙ ap (λ (k : ℕ). drop k (whole_output state)) (n ∙ ap (λ (p : Program_state). length p.output) is ∙ ap length (sym (output_is state)))
 
 -- a machine that stands at a moment has passed no more than there are
 pub within : (bundle : Bundle) (bound : ℕ) (writes : List NumberedWrite) (n : ℕ) (m : Machine) → StandsFor bundle bound writes n m → n ≤ length (program_trace bundle bound writes).moments
