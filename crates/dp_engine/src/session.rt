@@ -180,9 +180,11 @@ impl<'a> Session<'a> {
         let alloc = self.alloc;
         let line = read(alloc, line)?;
         let mode = self.stdout;
-        let shown = self.program()?.output.len();
+        let program = self.program()?;
+        let shown = program.output.len();
         let turn = self.turn(alloc, line, steps)?;
-        let written = tail(self.program()?.output.as_slice(), shown);
+        let program = self.program()?;
+        let written = tail(program.output.as_slice(), shown);
         give(alloc, mode, written, turn)
     }
 

@@ -3,7 +3,7 @@ ghost use Rattle.std.specs.Prelude.{◌≡◌, ◌≢◌, ◌+◌, ◌≤◌, le
 ghost use Rattle.dp_engine.specs.Refusals.{refusal_of_line};
 ghost use Rattle.dp_engine.specs.Session.{moments_so_far, steps_between};
 ghost use Rattle.dp_engine.specs.Sides.{side_of};
-ghost use Rattle.dp_engine.specs.inner.Sizes.{IsShort, IsShortLine, IsShortRequest};
+ghost use Rattle.dp_engine.specs.inner.Sizes.{IsCode, IsShort, IsShortLine, IsShortRequest};
 
 use crate::refusals::{ask, feature_refusal};
 use crate::responses;
@@ -25,7 +25,8 @@ use std::sync::ledger::Ledger;
 
 impl<'a> Session<'a> {
     ghost use Rattle.dp_engine.specs.Answers as spec;
-    ghost use Rattle.dp_engine.specs.inner.Turns.{answered, IsTurn};
+    ghost use Rattle.dp_engine.specs.Responses.{fault_response};
+    ghost use Rattle.dp_engine.specs.inner.Turns.{answered, IsTurn, Tells};
 
     /// What a line leads to, or bytes that spell no line.
     pub(crate) fn turn<L: Ledger>(
@@ -125,10 +126,14 @@ impl<'a> Session<'a> {
         ensures turn { IfOk result (IsTurn (answered to.now.command to.now.id request self.old) self.new) }
         ensures stays { moments_so_far self.new ≡ moments_so_far self.old }
     {
-        let file = self.program()?.file();
+        let Ok(program) = self.program() else {
+            drop(request);
+            return Err(Memory);
+        };
+        let file = program.file();
         match answer_breakpoints(alloc, self.bundle, file, to, request, &mut self.breaks) {
             Ok(response) => tell(alloc, response),
-            Err(BreakpointError::Code(code)) => refuse(alloc, to, code),
+            Err(BreakpointError::Code(code)) => self.refuse(alloc, to, code),
             Err(BreakpointError::Memory) => Err(Memory),
         }
     }
@@ -177,9 +182,17 @@ impl<'a> Session<'a> {
         );
         match made {
             Ok(response) => tell(alloc, response),
-            Err(ViewError::Code(code)) => refuse(alloc, to, code),
+            Err(ViewError::Code(code)) => self.refuse(alloc, to, code),
             Err(ViewError::Memory) => Err(Memory),
         }
+    }
+
+    /// An error changes nothing.
+    fn refuse(&self, alloc: Global, to: &Addressee, code: u16) -> Result<Turn, Memory>
+        requires { IsCode code }
+        ensures { IfOk result (Tells (fault_response to.now.command to.now.id code) None) }
+    {
+        refuse(alloc, to, code)
     }
 
     /// Sets a feature to a value, if it can have it.

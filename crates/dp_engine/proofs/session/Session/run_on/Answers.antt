@@ -9,36 +9,35 @@ invariant_of-self g c =
     let s = c.self.inside in
     let before : phase_of s.standing ≢ Stopping = λ e. c.requires (sym (ap (λ k. k.phase) c.self.view_is) ∙ e) in
     let stands = stands_there s.bundle.now s.bound s.writes.items s.moment s.standing s.features s.stdout s.breaks s.machine s.failed c.if-self.false before c.self.invariant.0 in
-    let reaches = rw c.in-Ok-Moment.field-0-is at (c.in-Ok-Moment.ensures.reached s.bound s.writes.items s.moment stands) in
-    let later = comes_later s.bundle.now s.bound s.writes.items s.moment s.standing s.features s.stdout s.breaks s.machine s.depth c.self.invariant.1 c.args.mode c.in-Ok-Moment.number reaches.0 in
-    ((omega (arith, later), λ e. reaches.1), reaches.2, c.self.invariant.2)
+    let h = c.in-Ok-Moment in
+    let k = c.go_on_from-reached.ensures.reached s.bound s.writes.items s.moment stands in ?
 
 pub returns-in-Ok-Moment-clause-goes : goal.returns-in-Ok-Moment-clause-goes
 returns-in-Ok-Moment-clause-goes g c =
     let s = c.self.inside in
     let before : phase_of s.standing ≢ Stopping = λ e. c.requires (sym (ap (λ k. k.phase) c.self.view_is) ∙ e) in
     let stands = stands_there s.bundle.now s.bound s.writes.items s.moment s.standing s.features s.stdout s.breaks s.machine s.failed c.if-self.false before c.self.invariant.0 in
-    let reaches = rw c.in-Ok-Moment.field-0-is at (c.in-Ok-Moment.ensures.reached s.bound s.writes.items s.moment stands) in
+    let reaches = rw (c.in-Ok-Moment.is, c.in-Ok-Moment.field-0-is) at (c.go_on_from-reached.ensures.reached s.bound s.writes.items s.moment stands) in
     rw (← c.self.view_is) (goes_to s.bundle.now s.bound s.writes.items s.moment s.standing s.features s.stdout s.breaks s.machine s.depth c.self.invariant.1 c.args.mode c.in-Ok-Moment.number
-    c.go_on_from-reached.new.breaks reaches.0 (c.in-Ok-Moment.ensures.breaks s.bound s.writes.items s.moment stands))
+    c.go_on_from-reached.new.breaks reaches.0 (rw (c.in-Ok-Moment.is) at (c.go_on_from-reached.ensures.breaks s.bound s.writes.items s.moment stands)))
 
 pub returns-in-Ok-Moment-clause-steps : goal.returns-in-Ok-Moment-clause-steps
 returns-in-Ok-Moment-clause-steps g c =
     let s = c.self.inside in
     let before : phase_of s.standing ≢ Stopping = λ e. c.requires (sym (ap (λ k. k.phase) c.self.view_is) ∙ e) in
     let stands = stands_there s.bundle.now s.bound s.writes.items s.moment s.standing s.features s.stdout s.breaks s.machine s.failed c.if-self.false before c.self.invariant.0 in
-    let reaches = rw c.in-Ok-Moment.field-0-is at (c.in-Ok-Moment.ensures.reached s.bound s.writes.items s.moment stands) in
+    let reaches = rw (c.in-Ok-Moment.is, c.in-Ok-Moment.field-0-is) at (c.go_on_from-reached.ensures.reached s.bound s.writes.items s.moment stands) in
     let later = comes_later s.bundle.now s.bound s.writes.items s.moment s.standing s.features s.stdout s.breaks s.machine s.depth c.self.invariant.1 c.args.mode c.in-Ok-Moment.number reaches.0 in
     rw (← c.self.view_is) (counts_to s.bundle.now s.bound s.writes.items s.moment s.standing s.features s.stdout s.breaks s.machine c.args.steps.now c.go_on_from-reached.new.steps c.in-Ok-Moment.number
     c.go_on_from-reached.new.breaks before later
-    (rw c.in-Ok-Moment.field-0-is at (c.in-Ok-Moment.ensures.counted s.bound s.writes.items s.moment stands)))
+    (rw (c.in-Ok-Moment.is, c.in-Ok-Moment.field-0-is) at (c.go_on_from-reached.ensures.counted s.bound s.writes.items s.moment stands)))
 
 pub invariant_of-self-in-Ok-End : goal.invariant_of-self-in-Ok-End
 invariant_of-self-in-Ok-End g c =
     let s = c.self.inside in
     let before : phase_of s.standing ≢ Stopping = λ e. c.requires (sym (ap (λ k. k.phase) c.self.view_is) ∙ e) in
     let stands = stands_there s.bundle.now s.bound s.writes.items s.moment s.standing s.features s.stdout s.breaks s.machine s.failed c.if-self.false before c.self.invariant.0 in
-    let reaches = rw c.in-Ok-End.field-0-is at (c.in-Ok-End.ensures.reached s.bound s.writes.items s.moment stands) in
+    let reaches = rw (c.in-Ok-End.is, c.in-Ok-End.field-0-is) at (c.go_on_from-reached.ensures.reached s.bound s.writes.items s.moment stands) in
     ((reaches.1, reaches.2), c.self.invariant.1, c.self.invariant.2)
 
 pub returns-in-Ok-End-clause-goes : goal.returns-in-Ok-End-clause-goes
@@ -46,9 +45,9 @@ returns-in-Ok-End-clause-goes g c =
     let s = c.self.inside in
     let before : phase_of s.standing ≢ Stopping = λ e. c.requires (sym (ap (λ k. k.phase) c.self.view_is) ∙ e) in
     let stands = stands_there s.bundle.now s.bound s.writes.items s.moment s.standing s.features s.stdout s.breaks s.machine s.failed c.if-self.false before c.self.invariant.0 in
-    let reaches = rw c.in-Ok-End.field-0-is at (c.in-Ok-End.ensures.reached s.bound s.writes.items s.moment stands) in
+    let reaches = rw (c.in-Ok-End.is, c.in-Ok-End.field-0-is) at (c.go_on_from-reached.ensures.reached s.bound s.writes.items s.moment stands) in
     rw (← c.self.view_is) (goes_out s.bundle.now s.bound s.writes.items s.moment s.standing s.features s.stdout s.breaks s.machine s.depth c.self.invariant.1 c.args.mode c.in-Ok-End.outcome
-    c.go_on_from-reached.new.breaks reaches.0 reaches.1 (c.in-Ok-End.ensures.breaks s.bound s.writes.items s.moment stands))
+    c.go_on_from-reached.new.breaks reaches.0 reaches.1 (rw (c.in-Ok-End.is) at (c.go_on_from-reached.ensures.breaks s.bound s.writes.items s.moment stands)))
 
 pub returns-in-Ok-End-clause-steps : goal.returns-in-Ok-End-clause-steps
 returns-in-Ok-End-clause-steps g c =
@@ -57,7 +56,7 @@ returns-in-Ok-End-clause-steps g c =
     let stands = stands_there s.bundle.now s.bound s.writes.items s.moment s.standing s.features s.stdout s.breaks s.machine s.failed c.if-self.false before c.self.invariant.0 in
     rw (← c.self.view_is) (counts_out s.bundle.now s.bound s.writes.items s.moment s.standing s.features s.stdout s.breaks s.machine c.args.steps.now c.go_on_from-reached.new.steps c.in-Ok-End.outcome
     c.go_on_from-reached.new.breaks before stands
-    (rw c.in-Ok-End.field-0-is at (c.in-Ok-End.ensures.counted s.bound s.writes.items s.moment stands)))
+    (rw (c.in-Ok-End.is, c.in-Ok-End.field-0-is) at (c.go_on_from-reached.ensures.counted s.bound s.writes.items s.moment stands)))
 
 pub invariant_of-self-in-Err : goal.invariant_of-self-in-Err
 invariant_of-self-in-Err g c =

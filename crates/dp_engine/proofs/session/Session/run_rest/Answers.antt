@@ -12,7 +12,7 @@ returns-in_ok-rest-in-Ok-clause-rest g c =
     let is = program_is s.bundle.now s.bound s.writes.items s.moment s.standing s.features s.stdout s.breaks s.machine s.failed c.if-self.false c.self.invariant.0 in
     rw (← c.self.view_is) (rest_is (known s.bundle.now s.bound s.writes.items s.moment s.standing s.features s.stdout s.breaks) s.machine.state c.len-shown.result c.in_ok-rest-in-Ok.rest is
     (c.len-shown.ensures ∙ ap (λ p. length p.output) c.state.ensures)
-    (c.in_ok-rest-in-Ok.ensures ∙ c.tail-written-in-Ok.ensures ∙ ap (drop c.len-shown.result) (c.as_slice-in-Ok.ensures.value
+    (c.in_ok-rest-in-Ok.ensures ∙ c.tail-written.ensures ∙ ap (drop c.len-shown.result) (c.as_slice.ensures
     ∙ ap (λ p. p.output) (c.state-in-Ok.ensures ∙ (c.in-Ok.ensures.end s.bundle.now s.bound s.writes.items s.moment stands).1))))
 
 pub returns-in_ok-rest-in-Ok-clause-outcome : goal.returns-in_ok-rest-in-Ok-clause-outcome

@@ -1,5 +1,7 @@
-use Rattle.std.proofs.Common.{rules, ◌≡◌, Err, ap, ◌∙◌}
+use Rattle.std.proofs.Common.{rules, ◌≡◌, Err, ap, subst, ◌∙◌}
+use Rattle.dp_state.specs.declared.state.State.{State}
 use Rattle.dp_write_commands.specs.Writing.{write_response}
+use Rattle.dp_engine.specs.inner.Accepting.{IsMade}
 use Rattle.dp_engine.specs.inner.Standing.{known}
 use Rattle.dp_engine.proofs.Accepting.{deep_kept, stands_kept}
 use Rattle.dp_engine.proofs.Turning.{fits_known, own_refused, program_is, write_is_refused, write_is_told, write_stays}
@@ -16,7 +18,8 @@ invariant_of-self c =
     let kept = c.accept-made.new.writes.items in
     let command = c.args.to.now.command in
     let id = c.args.to.now.id in
-    let made = c.in-Ok.ensures.answer in (
+    let made = subst (λ (p : State). IsMade s.bundle.now s.features p c.accept-made.new.program s.writes.items c.accept-made.new.writes.items s.moment c.args.to.now.command c.args.to.now.id
+    c.args.request.now c.in-Ok.response) c.state_mut.ensures.state c.in-Ok.ensures.answer in (
       stands_kept s.bundle.now s.bound s.features s.machine after s.writes.items kept s.moment command id c.args.request.now c.in-Ok.response made s.failed s.standing at c.self.invariant.0,
       deep_kept s.bundle.now s.bound s.features s.machine after s.writes.items kept s.moment command id c.args.request.now c.in-Ok.response made s.depth c.self.invariant.1,
       c.self.invariant.2,
@@ -25,9 +28,11 @@ invariant_of-self c =
 pub returns-in-Ok-clause-turn : goal.returns-in-Ok-clause-turn
 returns-in-Ok-clause-turn c =
     let s = c.self.inside in
-    let same = program_is s.bundle.now s.bound s.writes.items s.moment s.standing s.features s.stdout s.breaks s.machine s.failed c.if-failed.false c.self.invariant.0 in
+    let same = program_is s.bundle.now s.bound s.writes.items s.moment s.standing s.features s.stdout s.breaks s.machine s.failed c.if-self.false c.self.invariant.0 in
     rw (← c.self.view_is) (write_is_told s.bundle.now s.bound s.writes.items s.moment s.standing s.features s.stdout s.breaks s.machine c.accept-made.new.program c.accept-made.new.writes.items
-    c.args.to.now.command c.args.to.now.id c.args.request.now c.in-Ok.response c.tell.result same c.requires.side c.in-Ok.ensures.answer c.tell.ensures)
+    c.args.to.now.command c.args.to.now.id c.args.request.now c.in-Ok.response c.tell.result same c.requires.side
+    (subst (λ (p : State). IsMade s.bundle.now s.features p c.accept-made.new.program s.writes.items c.accept-made.new.writes.items s.moment c.args.to.now.command c.args.to.now.id
+    c.args.request.now c.in-Ok.response) c.state_mut.ensures.state c.in-Ok.ensures.answer) c.tell.ensures)
 
 pub returns-in-Err-Code-clause-turn : goal.returns-in-Err-Code-clause-turn
 returns-in-Err-Code-clause-turn c =
@@ -39,7 +44,7 @@ returns-in-Err-Code-clause-turn c =
     let code = c.in-Err-Code.code in
     let told : write_response s.bundle.now s.features s.machine.state command id request ≡ Err code = search rules in
     let same : kept ≡ s.writes.items = search rules in
-    let is = program_is s.bundle.now s.bound s.writes.items s.moment s.standing s.features s.stdout s.breaks s.machine s.failed c.if-failed.false c.self.invariant.0 in
+    let is = program_is s.bundle.now s.bound s.writes.items s.moment s.standing s.features s.stdout s.breaks s.machine s.failed c.if-self.false c.self.invariant.0 in
     rw (← c.self.view_is) (own_refused (known s.bundle.now s.bound s.writes.items s.moment s.standing s.features s.stdout s.breaks)
     (known s.bundle.now s.bound kept s.moment s.standing s.features s.stdout s.breaks) command id request code c.refuse.result
     (write_is_refused s.bundle.now s.bound s.writes.items s.moment s.standing s.features s.stdout s.breaks s.machine command id request code is c.requires.side told)
