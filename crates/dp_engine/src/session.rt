@@ -213,28 +213,27 @@ impl<'a> Session<'a> {
         if self.failed {
             return Err(Memory);
         }
-        let reached = go_on_from(
+        let Ok(reached) = go_on_from(
             &mut self.machine,
             self.bundle,
             self.depth,
             mode,
             &mut self.breaks,
             steps,
-        );
+        ) else {
+            self.failed = true;
+            return Err(Memory);
+        };
         match reached {
-            Ok(Reached::Moment { number, depth }) => {
+            Reached::Moment { number, depth } => {
                 self.moment = number;
                 self.depth = depth;
                 self.standing = Standing::Break;
                 Ok(())
             }
-            Ok(Reached::End(outcome)) => {
+            Reached::End(outcome) => {
                 self.standing = Standing::Stopping(outcome);
                 Ok(())
-            }
-            Err(_) => {
-                self.failed = true;
-                Err(Memory)
             }
         }
     }
