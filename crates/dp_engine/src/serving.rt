@@ -57,9 +57,15 @@ struct Counted<'s, 'a, L: Ledger> {
 }
 
 impl<'s, 'a, L: Ledger> Model for Counted<'s, 'a, L> {
+    ghost use Rattle.std.specs.Coded.{codes};
+    ghost use Rattle.dp_break.specs.Tables.{table_code};
+    ghost use Rattle.dp_tree.specs.contracts.bundle.Bundle as bundle_type;
+    ghost use Rattle.dp_meaning.specs.contracts.writing.NumberedWrite as write_type;
     ghost use Rattle.dp_engine.specs.Session.{State};
 
     ghost Value = { State };
+
+    ghost coded = { Prim.hlevel (codes, bundle_type.the_row.coded, write_type.the_row.coded, table_code) };
 
     ghost view = { λ c. c.session };
 }
