@@ -93,9 +93,12 @@ module _ (bundle : Bundle) (bound : ℕ) (features : Features) (machine : Machin
   pub stands_kept : (failed : Bool) (standing : Standing) → phase_of standing ≡ phase.Break → IsAt failed standing bundle bound ws moment machine
       → IsAt failed standing bundle bound kept moment (left_with after machine)
   stands_kept failed Starting e h = absurd cc
-  stands_kept failed Break e h = (h.0, λ f. subst (λ (t : State). StandsFor bundle bound kept moment (left_with t machine)) (sym made.state)
-      (subst (λ (l : List NumberedWrite). StandsFor bundle bound l moment (left_with (one_write (evaluation_setting bundle) made.write machine.state) machine)) (sym made.list)
-      (stands_more bundle bound ws moment made.write machine h.0 (h.1 f))))
+  stands_kept failed Break e h = (
+    h.0,
+    λ f. subst (λ (t : State). StandsFor bundle bound kept moment (left_with t machine)) (sym made.state)
+        (subst (λ (l : List NumberedWrite). StandsFor bundle bound l moment (left_with (one_write (evaluation_setting bundle) made.write machine.state) machine)) (sym made.list)
+        (stands_more bundle bound ws moment made.write machine h.0 (h.1 f))),
+  )
   stands_kept failed (Stopping end) e h = absurd cc
 
   pub deep_kept : (depth : ℕ) → IsDeep bundle bound ws moment depth → IsDeep bundle bound kept moment depth
