@@ -1,6 +1,6 @@
 -- Watching a program changes nothing of it.
 use Rattle.std.proofs.Common.{◌≡◌, ◌≢◌, ℕ, suc, ◌+◌, ◌≤◌, true, List, [], ◌∷◌, ◌++◌, length, drop, Option, Some, None, refl, sym, ap, subst, ◌∙◌, arith, add-one, append_assoc, append-nil}
-use Rattle.std.specs.Prelude.{option_map, slice_get, unwrap_or, Result, Ok, Err}
+use Rattle.std.specs.Prelude.{if◌then◌else◌, nat_eq, option_map, slice_get, unwrap_or, Bool, Result, Ok, Err}
 use Rattle.std.specs.Option.{option_map_or}
 use Rattle.std.proofs.lemmas.List.{drop_all}
 use Rattle.std.proofs.Math.Seq.{drop-append_seam}
@@ -23,7 +23,8 @@ use Rattle.dp_features.specs.Features.{Features}
 use Rattle.dp_meaning.specs.declared.writing.NumberedWrite.{NumberedWrite}
 use Rattle.dp_meaning.specs.declared.writing.Write.{Write}
 use Rattle.dp_meaning.specs.Trace.{now, outcome, output, program_trace}
-use Rattle.dp_meaning.specs.Writes.{evaluation_setting, one_write}
+use Rattle.dp_actions.specs.Setting.{Setting}
+use Rattle.dp_meaning.specs.Writes.{evaluation_setting, one_write, written, written_by, writes_of}
 use Rattle.dp_packet.specs.declared.packet.Response.{Response}
 use Rattle.dp_packet.specs.Parts.{Text}
 use Rattle.dp_serving.specs.Folds.{Reply, unless_ended, followed, replies}
@@ -109,11 +110,11 @@ turn_moves state bytes = turn_of_moves (line_of bytes) (refusal_of_line state (l
 -- ---- writes
 
 -- a write is made last of its number
-written_more : (setting : Setting) (ws : List NumberedWrite) (w : NumberedWrite) (s : State) → written_by setting (ws ++ w ∷ []) w.moment s ≡ one_write setting w.write (written_by setting ws w.moment s)
+written_more : (setting : Setting) (ws : List NumberedWrite) (w : NumberedWrite) (s : ProgramState) → written_by setting (ws ++ w ∷ []) w.moment s ≡ one_write setting w.write (written_by setting ws w.moment s)
 written_more setting [] w s = ap (λ (b : Bool). if b then one_write setting w.write s else s) (own_number w.moment)
 written_more setting (v ∷ ws) w s = written_more setting ws w (if nat_eq v.moment w.moment then one_write setting v.write s else s)
 
-written_at : (bundle : Bundle) (ws : List NumberedWrite) (w : NumberedWrite) (n : ℕ) (s : State) → w.moment ≡ n
+written_at : (bundle : Bundle) (ws : List NumberedWrite) (w : NumberedWrite) (n : ℕ) (s : ProgramState) → w.moment ≡ n
     → written (writes_of bundle (ws ++ w ∷ [])) n s ≡ one_write (evaluation_setting bundle) w.write (written (writes_of bundle ws) n s)
 written_at bundle ws w n s is =
     ap (λ (k : ℕ). written_by (evaluation_setting bundle) (ws ++ w ∷ []) k s) (sym is) ∙ written_more (evaluation_setting bundle) ws w s
