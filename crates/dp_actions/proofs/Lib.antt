@@ -1,3 +1,4 @@
 pub mod Runs
 pub mod Acting
 pub mod Tails
+pub mod Layers

@@ -9,4 +9,5 @@ pub mod Calls
 pub mod Bodies
 pub mod Loops
 pub mod Effects
+pub mod Expressions
 pub mod inner

@@ -4,7 +4,7 @@ use Rattle.std.specs.Prelude.{ℕ, ◌%◌, ◌==◌, nat_le, Bool, true, false,
 use Rattle.std.specs.Option.{option_map_or}
 use Rattle.std.specs.Str.{str_eq_ignore_ascii_case}
 use Rattle.dp_tree.specs.declared.bundle.Bundle.{Bundle}
-use Rattle.dp_meaning.specs.Expressions.{evaluation}
+use Rattle.dp_actions.specs.Expressions.{evaluation}
 use Rattle.dp_actions.specs.Run.{Run, Done, Over, At}
 use Rattle.dp_actions.specs.Values.{holds}
 use Rattle.dp_meaning.specs.Writes.{evaluation_setting}

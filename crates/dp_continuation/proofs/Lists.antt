@@ -1,5 +1,5 @@
 -- An element of a list, and the list from it on.
-use Rattle.std.proofs.Common.{◌≡◌, ℕ, zero, suc, ◌≤◌, List, [], ◌∷◌, drop, length, Some, None, slice_get, refl, ap, arith}
+use Rattle.std.proofs.Common.{◌≡◌, ℕ, zero, suc, List, [], ◌∷◌, drop, Some, None, slice_get, refl, ap}
 
 pub drop-at : {A : Type 0} (k : ℕ) (xs : List A) (x : A) → slice_get xs k ≡ Some x → drop k xs ≡ x ∷ drop (suc k) xs
 drop-at k [] x e = absurd (cc)
@@ -11,8 +11,3 @@ drop-past zero [] e = refl
 drop-past (suc k) [] e = refl
 drop-past zero (y ∷ ys) e = absurd (cc)
 drop-past (suc k) (y ∷ ys) e = drop-past k ys e
-
-pub is-past : {A : Type 0} (k : ℕ) (xs : List A) → slice_get xs k ≡ None → length xs ≤ k
-is-past k [] e = omega arith
-is-past zero (y ∷ ys) e = absurd (cc)
-is-past (suc k) (y ∷ ys) e = let more = is-past k ys e in omega (arith, more)

@@ -15,7 +15,7 @@ use Rattle.dp_meaning_laws.proofs.Whole.{end-can, now-can, numbered}
 use Rattle.dp_step.specs.declared.machine.Machine.{Machine}
 use Rattle.dp_step.specs.Stands.{ComesTo, EndsWith, StandsFor}
 use Rattle.dp_step.proofs.Counting.{ends-at-last}
-use Rattle.dp_continuation.specs.declared.arrival.Reached.TheVariants as reached
+use Rattle.dp_continuation.specs.declared.reached.Reached.TheVariants as reached
 use Rattle.dp_continuation.specs.Going.{Reaches, stop_past, table_past}
 use Rattle.dp_continuation.specs.Stops.{depth_of}
 use Rattle.dp_continuation.proofs.Lists.{drop-at, drop-past}

@@ -11,7 +11,7 @@ use Rattle.dp_actions.specs.declared.signal.Signal.{Signal}
 use Rattle.dp_meaning.specs.declared.stop.Stop.{Stop}
 use Rattle.dp_actions.specs.declared.halt.Halt.TheVariants.{Memory, Finished, Stopped}
 use Rattle.dp_meaning.specs.inner.Drive.{Rules, Reached, Gives, Ends, Stops, drive, nowhere, Meets, IsHeld, ComesTo, IsStopAt, halt_after, stopped}
-use Rattle.dp_meaning.specs.Expressions.{evaluation}
+use Rattle.dp_actions.specs.Expressions.{evaluation}
 use Rattle.dp_actions.specs.Run.{Run, Done, Over, At}
 use Rattle.dp_actions.specs.Setting.{Setting}
 use Rattle.dp_meaning.specs.Trace.{moment_of}

@@ -20,7 +20,7 @@ use Rattle.dp_tree.specs.declared.tree.StatementKind.TheFolds.{fold-roll-Stateme
 use Rattle.dp_tree.specs.declared.tree.StatementKind.TheOpen.{Statement-F, StatementKind-F, Arm-F}
 use Rattle.dp_actions.specs.declared.signal.Signal.{Signal}
 use Rattle.dp_actions.specs.declared.signal.Signal.TheVariants.{Next, Break, Continue, Return}
-use Rattle.dp_meaning.specs.Expressions.{expression_run, evaluation, place_run}
+use Rattle.dp_actions.specs.Expressions.{expression_run, evaluation, place_run}
 use Rattle.dp_actions.specs.Loops.{entries}
 use Rattle.dp_actions.specs.Run.{Run}
 use Rattle.dp_actions.specs.Setting.{Part}

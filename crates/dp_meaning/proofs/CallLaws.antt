@@ -12,7 +12,7 @@ use Rattle.dp_actions.specs.declared.signal.Signal.{Signal}
 use Rattle.dp_actions.specs.declared.signal.Signal.TheVariants.{Next}
 use Rattle.dp_meaning.specs.inner.Drive.{Rules, Evaluates}
 use Rattle.dp_actions.specs.Calls.{call_run, callee}
-use Rattle.dp_meaning.specs.Expressions.{evaluations}
+use Rattle.dp_actions.specs.Expressions.{evaluations}
 use Rattle.dp_actions.specs.Loops.{do_turns, turns}
 use Rattle.dp_meaning.specs.Programs.{file_run, function_run, left_file, setting_of}
 use Rattle.dp_actions.specs.Bodies.{statements_of}

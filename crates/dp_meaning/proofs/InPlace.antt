@@ -14,13 +14,13 @@ use Rattle.dp_actions.specs.declared.halt.Halt.{Halt}
 use Rattle.dp_meaning.specs.inner.Drive.{Rules, Gives, Ends, drive, Evaluates}
 use Rattle.dp_actions.specs.declared.in_place.Reading.{Reading}
 use Rattle.dp_actions.specs.declared.in_place.Reading.TheVariants.{Plain, Found}
-use Rattle.dp_meaning.specs.Expressions.{entry_run, evaluation, evaluations, expression_run, plain}
+use Rattle.dp_actions.specs.Expressions.{entry_run, evaluation, evaluations, expression_run, plain}
 use Rattle.dp_meaning.specs.inner.Evaluation.{base_run}
 use Rattle.dp_actions.specs.Places.{variable}
 use Rattle.dp_actions.specs.Setting.{Part, Setting}
 use Rattle.dp_actions.specs.Values.{value_run}
 use Rattle.dp_meaning.proofs.Drives.{gives, goes_on}
-use Rattle.dp_meaning.proofs.Layers.{run-Variable}
+use Rattle.dp_actions.proofs.Layers.{run-Variable}
 use Rattle.dp_meaning.proofs.PureLaws.{IsPlain, Given, Faulty, plain-pure}
 
 -- an expression that is read in one way alone

@@ -5,7 +5,7 @@ use Rattle.dp_tree.specs.declared.tree.Expression.{Expression}
 use Rattle.dp_value.specs.declared.value.Value.{Value}
 use Rattle.dp_actions.specs.declared.halt.Halt.{Halt}
 use Rattle.dp_meaning.specs.inner.Drive.{Rules, Evaluates}
-use Rattle.dp_meaning.specs.Expressions.{evaluation, evaluations}
+use Rattle.dp_actions.specs.Expressions.{evaluation, evaluations}
 use Rattle.dp_actions.specs.Run.{Run, Done, and_then}
 use Rattle.dp_actions.specs.Setting.{Setting}
 use Rattle.dp_meaning.proofs.Drives.{gives, breaks_off, goes_on}

@@ -6,7 +6,7 @@ use Rattle.dp_tree.specs.declared.tree.Expression.{Expression}
 use Rattle.dp_tree.specs.Purity.{is_pure}
 use Rattle.dp_value.specs.declared.value.Value.{Value}
 use Rattle.dp_meaning.specs.inner.Drive.{Rules, ComesTo, drive}
-use Rattle.dp_meaning.specs.Expressions.{evaluation}
+use Rattle.dp_actions.specs.Expressions.{evaluation}
 use Rattle.dp_meaning.specs.Pure.{IsValueIn}
 use Rattle.dp_actions.specs.Run.{Run}
 use Rattle.dp_meaning.specs.Writes.{evaluation_setting}

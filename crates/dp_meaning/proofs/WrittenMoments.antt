@@ -9,7 +9,7 @@ use Rattle.dp_value.specs.declared.value.Value.{Value}
 use Rattle.dp_meaning.specs.declared.writing.NumberedWrite.{NumberedWrite}
 use Rattle.dp_meaning.specs.declared.writing.Write.{Write}
 use Rattle.dp_meaning.specs.declared.writing.Write.TheVariants.{Place, Evaluate}
-use Rattle.dp_meaning.specs.Expressions.{evaluation}
+use Rattle.dp_actions.specs.Expressions.{evaluation}
 use Rattle.dp_actions.specs.Setting.{Setting}
 use Rattle.dp_meaning.specs.declared.writing.WriteFault.{WriteFault}
 use Rattle.dp_meaning.specs.declared.writing.WriteFault.TheVariants.{NoFrame}

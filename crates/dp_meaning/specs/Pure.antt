@@ -5,7 +5,7 @@ use Rattle.dp_state.specs.declared.moments.FatalKind.{FatalKind}
 use Rattle.dp_state.specs.declared.state.State.{State}
 use Rattle.dp_tree.specs.declared.tree.Expression.{Expression}
 use Rattle.dp_value.specs.declared.value.Value.{Value}
-use Rattle.dp_meaning.specs.Expressions.{evaluation}
+use Rattle.dp_actions.specs.Expressions.{evaluation}
 use Rattle.dp_actions.specs.Run.{Done, fatal}
 use Rattle.dp_meaning.specs.Writes.{evaluation_setting}
 

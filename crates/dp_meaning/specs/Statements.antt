@@ -13,7 +13,7 @@ use Rattle.dp_state.specs.declared.moments.Outcome.TheVariants.{Exit}
 use Rattle.dp_state.specs.declared.state.State.{State}
 use Rattle.dp_actions.specs.declared.signal.Signal.{Signal}
 use Rattle.dp_actions.specs.declared.signal.Signal.TheVariants.{Next, Break, Continue, Return}
-use Rattle.dp_meaning.specs.Expressions.{ExpressionRun, expression_run, evaluation, evaluations, place_run}
+use Rattle.dp_actions.specs.Expressions.{ExpressionRun, expression_run, evaluation, evaluations, place_run}
 use Rattle.dp_actions.specs.Effects.{exit_run, print_run, with_globals}
 use Rattle.dp_actions.specs.Loops.{turns, do_turns, each_run, entries}
 use Rattle.dp_actions.specs.Places.{unset_run}

@@ -15,7 +15,7 @@ use Rattle.dp_meaning.specs.declared.writing.WriteAnswer.{WriteAnswer}
 use Rattle.dp_meaning.specs.declared.writing.WriteAnswer.TheVariants as answer
 use Rattle.dp_meaning.specs.declared.writing.WriteFault.{WriteFault}
 use Rattle.dp_meaning.specs.declared.writing.WriteFault.TheVariants.{NoFrame, NoPlace}
-use Rattle.dp_meaning.specs.Expressions.{evaluation}
+use Rattle.dp_actions.specs.Expressions.{evaluation}
 use Rattle.dp_meaning.specs.Programs.{setting_of}
 use Rattle.dp_actions.specs.Run.{Run, Done, Over, At}
 use Rattle.dp_actions.specs.Setting.{Setting}

@@ -16,7 +16,7 @@ impl<O: Outside> Evaluator<'_, O> {
     ghost use Rattle.std.specs.Prelude.{map};
     ghost use Rattle.dp_meaning.specs.inner.Drive.{Evaluates};
     ghost use Rattle.dp_meaning.specs.inner.Evaluation.{goes_by};
-    ghost use Rattle.dp_meaning.specs.Expressions.{evaluation, place_run};
+    ghost use Rattle.dp_actions.specs.Expressions.{evaluation, place_run};
     ghost use Rattle.dp_actions.specs.Places.{assignment, coalescing, coalescing_under, compound, compound_under, found_at, isset_run, step};
 
     /// `place = right`, or `place[] = right`

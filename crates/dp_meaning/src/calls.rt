@@ -18,7 +18,7 @@ impl<O: Outside> Evaluator<'_, O> {
     ghost use Rattle.dp_actions.specs.Calls.{BuiltIn, call_run, callee as callee_named, include_run};
     ghost use Rattle.dp_meaning.specs.inner.Drive.{Evaluates};
     ghost use Rattle.dp_meaning.specs.inner.Evaluation.{goes_by};
-    ghost use Rattle.dp_meaning.specs.Expressions.{evaluations};
+    ghost use Rattle.dp_actions.specs.Expressions.{evaluations};
     ghost use Rattle.dp_meaning.specs.Programs.{file_run, function_run, leaving};
     ghost use Rattle.dp_meaning.specs.inner.Sizes.{body_size, frame_size};
 

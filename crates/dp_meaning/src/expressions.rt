@@ -12,7 +12,7 @@ use dp_value::{Items, Value};
 impl<O: Outside> Evaluator<'_, O> {
     ghost use Rattle.dp_meaning.specs.inner.Drive.{Evaluates};
     ghost use Rattle.dp_meaning.specs.inner.Evaluation.{goes_by};
-    ghost use Rattle.dp_meaning.specs.Expressions.{evaluations, expression_run, included};
+    ghost use Rattle.dp_actions.specs.Expressions.{evaluations, expression_run, included};
 
     /// The value of an expression.
     #[cycle(evaluate)]

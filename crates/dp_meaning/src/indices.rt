@@ -15,7 +15,7 @@ impl<O: Outside> Evaluator<'_, O> {
     ghost use Rattle.dp_meaning.specs.inner.Drive.{Evaluates};
     ghost use Rattle.dp_meaning.specs.inner.Evaluation.{base_run, entry_under, goes_by};
     ghost use Rattle.dp_actions.specs.InPlace.{entries_by};
-    ghost use Rattle.dp_meaning.specs.Expressions.{entry_run, expression_run, indices_run};
+    ghost use Rattle.dp_actions.specs.Expressions.{entry_run, expression_run, indices_run};
     ghost use Rattle.dp_actions.specs.Places.{variable};
 
     /// The value of an expression under indices. A variable whose first index changes nothing is read in its place.

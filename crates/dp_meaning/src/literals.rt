@@ -15,8 +15,8 @@ impl<O: Outside> Evaluator<'_, O> {
     ghost use Rattle.dp_value.specs.Table.{empty};
     ghost use Rattle.dp_meaning.specs.inner.Drive.{Evaluates};
     ghost use Rattle.dp_meaning.specs.inner.Evaluation.{goes_by};
-    ghost use Rattle.dp_meaning.specs.Expressions.{expression_run, item_run, items_run};
-    ghost use Rattle.dp_meaning.specs.Expressions.{item_run_of};
+    ghost use Rattle.dp_actions.specs.Expressions.{expression_run, item_run, items_run};
+    ghost use Rattle.dp_actions.specs.Expressions.{item_run_of};
 
     /// The value of a literal.
     #[cycle(evaluate)]

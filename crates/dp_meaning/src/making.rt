@@ -4,7 +4,7 @@ ghost use Rattle.std.specs.Prelude.{◌≡◌, false, if◌then◌else◌, optio
 ghost use Rattle.dp_actions.specs.declared.halt.Halt.TheVariants as halt;
 ghost use Rattle.dp_state.specs.Places.{assigned, given_keys as all_given};
 ghost use Rattle.dp_meaning.specs.inner.Drive.{ComesTo, IsHeld, drive, quiet};
-ghost use Rattle.dp_meaning.specs.Expressions.{evaluation as expression_value};
+ghost use Rattle.dp_actions.specs.Expressions.{evaluation as expression_value};
 ghost use Rattle.dp_meaning.specs.Writes.{evaluated, evaluation_limit, evaluation_setting, left_by, one_write, or_unchanged, place_or_fault, with_place, written_by};
 
 use crate::evaluator::Evaluator;

@@ -13,8 +13,8 @@ impl<O: Outside> Evaluator<'_, O> {
     ghost use Rattle.std.specs.Prelude.{map, option_map};
     ghost use Rattle.dp_meaning.specs.inner.Drive.{Evaluates};
     ghost use Rattle.dp_meaning.specs.inner.Evaluation.{goes_by};
-    ghost use Rattle.dp_meaning.specs.Expressions.{chained, choice, coalesced, conditional, expression_run, links_run};
-    ghost use Rattle.dp_meaning.specs.Expressions.{link_run};
+    ghost use Rattle.dp_actions.specs.Expressions.{chained, choice, coalesced, conditional, expression_run, links_run};
+    ghost use Rattle.dp_actions.specs.Expressions.{link_run};
 
     /// The value of operands that are joined from left to right.
     #[cycle(evaluate)]

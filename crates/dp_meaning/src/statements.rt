@@ -17,7 +17,7 @@ impl<O: Outside> Evaluator<'_, O> {
     ghost use Rattle.std.specs.Prelude.{map, option_map};
     ghost use Rattle.dp_meaning.specs.inner.Drive.{Evaluates};
     ghost use Rattle.dp_meaning.specs.inner.Evaluation.{goes_by};
-    ghost use Rattle.dp_meaning.specs.Expressions.{expression_run, place_run};
+    ghost use Rattle.dp_actions.specs.Expressions.{expression_run, place_run};
     ghost use Rattle.dp_actions.specs.Places.{unset_run};
     ghost use Rattle.dp_meaning.specs.Statements.{arms_run, body_run, echoes, end_run, return_run, statement_run};
     ghost use Rattle.dp_meaning.specs.Statements.{arm_run};

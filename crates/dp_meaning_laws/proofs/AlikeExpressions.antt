@@ -21,8 +21,8 @@ use Rattle.dp_tree.specs.declared.tree.Link.{Link, map-Link, roll-Link}
 use Rattle.dp_tree.specs.declared.tree.Operator.{Operator}
 use Rattle.dp_tree.specs.declared.tree.Operator.TheVariants.{Or, And, Of}
 use Rattle.dp_tree.specs.declared.tree.Place.{Place, map-Place, roll-Place, ind-Place}
-use Rattle.dp_meaning.specs.Expressions.{ExpressionRun, ItemRun, LinkRun, values_run, indices_run, links_run, items_run, operator_run, item_run, choice, conditional, coalesced, chained, operated, included, plain, place_layer, item_layer, link_layer, expression_layer, expression_run, place_run, evaluation, evaluations}
-use Rattle.dp_meaning.specs.Expressions.{item_run_of, link_run}
+use Rattle.dp_actions.specs.Expressions.{ExpressionRun, ItemRun, LinkRun, values_run, indices_run, links_run, items_run, operator_run, item_run, choice, conditional, coalesced, chained, operated, included, plain, place_layer, item_layer, link_layer, expression_layer, expression_run, place_run, evaluation, evaluations}
+use Rattle.dp_actions.specs.Expressions.{item_run_of, link_run}
 use Rattle.dp_actions.specs.Calls.{include_run}
 use Rattle.dp_actions.specs.Places.{PlaceRun, variable}
 use Rattle.dp_actions.specs.Run.{Run, Done, and_then}

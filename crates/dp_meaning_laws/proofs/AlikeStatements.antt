@@ -25,7 +25,7 @@ use Rattle.dp_tree.specs.declared.tree.StatementKind.TheFolds.{fold-roll-Stateme
 use Rattle.dp_tree.specs.declared.tree.StatementKind.TheOpen.{Statement-F, StatementKind-F, Arm-F}
 use Rattle.dp_actions.specs.declared.signal.Signal.{Signal}
 use Rattle.dp_actions.specs.declared.signal.Signal.TheVariants.{Next, Break, Continue, Return}
-use Rattle.dp_meaning.specs.Expressions.{ExpressionRun, expression_run, evaluation, evaluations, place_run}
+use Rattle.dp_actions.specs.Expressions.{ExpressionRun, expression_run, evaluation, evaluations, place_run}
 use Rattle.dp_actions.specs.Loops.{do_turns, entries, turn_over, turns}
 use Rattle.dp_actions.specs.Places.{unset_run}
 use Rattle.dp_actions.specs.Run.{Run, Done, Over, At, and_then, taken}

@@ -19,7 +19,7 @@ use Rattle.dp_actions.specs.declared.signal.Signal.{Signal}
 use Rattle.dp_meaning.specs.declared.writing.NumberedWrite.{NumberedWrite}
 use Rattle.dp_meaning.specs.declared.writing.Write.{Write}
 use Rattle.dp_meaning.specs.declared.writing.Write.TheVariants.{Place, Evaluate}
-use Rattle.dp_meaning.specs.Expressions.{evaluation, evaluations}
+use Rattle.dp_actions.specs.Expressions.{evaluation, evaluations}
 use Rattle.dp_actions.specs.Loops.{do_turns, turns}
 use Rattle.dp_meaning.specs.Programs.{program_run, setting_of}
 use Rattle.dp_actions.specs.Bodies.{statements_of}

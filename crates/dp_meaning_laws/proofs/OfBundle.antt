@@ -25,7 +25,7 @@ use Rattle.dp_meaning.specs.declared.writing.WriteFault.TheVariants.{NoFrame}
 use Rattle.dp_meaning.specs.declared.writing.NumberedWrite.{NumberedWrite}
 use Rattle.dp_meaning.specs.declared.writing.Write.{Write}
 use Rattle.dp_meaning.specs.declared.writing.Write.TheVariants.{Place, Evaluate}
-use Rattle.dp_meaning.specs.Expressions.{evaluation}
+use Rattle.dp_actions.specs.Expressions.{evaluation}
 use Rattle.dp_meaning.specs.Programs.{program_run}
 use Rattle.dp_actions.specs.Bodies.{statements_of}
 use Rattle.dp_actions.specs.Run.{Run, Done, Over, At}

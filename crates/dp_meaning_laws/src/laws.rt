@@ -14,7 +14,7 @@ ghost use Rattle.dp_meaning.specs.declared.writing.NumberedWrite.{NumberedWrite}
 ghost use Rattle.dp_meaning.specs.declared.writing.Write.{Write};
 ghost use Rattle.dp_meaning.specs.declared.writing.Write.TheVariants as write;
 ghost use Rattle.dp_meaning.specs.declared.writing.WriteAnswer.TheVariants as answer;
-ghost use Rattle.dp_meaning.specs.Expressions.{evaluation, evaluations};
+ghost use Rattle.dp_actions.specs.Expressions.{evaluation, evaluations};
 ghost use Rattle.dp_actions.specs.Loops.{do_turns, turns};
 ghost use Rattle.dp_meaning.specs.Programs.{setting_of};
 ghost use Rattle.dp_meaning.specs.Statements.{body_run, statement_run};

@@ -34,7 +34,7 @@ use Rattle.dp_meaning.specs.declared.writing.Write.{Write}
 use Rattle.dp_meaning.specs.declared.writing.Write.TheVariants.{Place, Evaluate}
 use Rattle.dp_meaning.specs.declared.writing.WriteFault.{WriteFault}
 use Rattle.dp_meaning.specs.declared.writing.WriteFault.TheVariants.{NoFrame}
-use Rattle.dp_meaning.specs.Expressions.{evaluation}
+use Rattle.dp_actions.specs.Expressions.{evaluation}
 use Rattle.dp_meaning.specs.Trace.{Trace, Ended, moment_of, program_trace, trace, with_moment}
 use Rattle.dp_meaning.specs.Writes.{alone, arrived, evaluated, evaluation_limit, evaluation_setting, in_context, left_by, one_write, or_unchanged, place_or_fault, recounted, with_place, written, written_by, writes_of}
 use Rattle.dp_meaning.proofs.Always.{Always, IsKept}

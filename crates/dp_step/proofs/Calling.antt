@@ -5,14 +5,14 @@ use Rattle.dp_tree.specs.declared.tree.Expression.{Expression}
 use Rattle.dp_tree.specs.declared.tree.Expression.TheVariants as tree
 use Rattle.dp_tree.specs.declared.tree.Inclusion.{Inclusion}
 use Rattle.dp_state.specs.declared.state.State.{State}
-use Rattle.dp_meaning.specs.Expressions.{evaluation, evaluations}
+use Rattle.dp_actions.specs.Expressions.{evaluation, evaluations}
 use Rattle.dp_tree.specs.declared.bundle.Bundle.{Bundle}
 use Rattle.dp_actions.specs.Calls.{Callee, call_run, callee}
 use Rattle.dp_value.specs.Value.{data_of}
 use Rattle.dp_actions.specs.Run.{Run, ◌>>=◌}
 use Rattle.dp_actions.specs.Setting.{Setting}
 use Rattle.dp_actions.proofs.Runs.{and_then-assoc}
-use Rattle.dp_meaning.proofs.Layers as layer
+use Rattle.dp_actions.proofs.Layers as layer
 use Rattle.dp_actions.specs.declared.halt.Halt.{Halt}
 use Rattle.dp_actions.specs.declared.signal.Signal.{Signal}
 use Rattle.dp_step.specs.declared.work.Next.{Next as NextWork}

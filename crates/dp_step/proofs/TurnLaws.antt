@@ -8,7 +8,7 @@ use Rattle.dp_value.specs.declared.value.Value.{Value}
 use Rattle.dp_value.specs.Data.{Data}
 use Rattle.dp_actions.specs.declared.signal.Signal.{Signal}
 use Rattle.dp_actions.specs.declared.signal.Signal.TheVariants.{Next, Break, Continue, Return}
-use Rattle.dp_meaning.specs.Expressions.{evaluation, evaluations}
+use Rattle.dp_actions.specs.Expressions.{evaluation, evaluations}
 use Rattle.dp_actions.specs.Loops.{bind, entries, turn_of, turn_over}
 use Rattle.dp_actions.specs.Run.{Run, Done, At, and_then, ◌>>=◌}
 use Rattle.dp_actions.specs.Setting.{Setting}

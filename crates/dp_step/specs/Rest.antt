@@ -16,8 +16,8 @@ use Rattle.dp_state.specs.Places.{keys_of_indices, unset}
 use Rattle.dp_actions.specs.declared.signal.Signal.{Signal}
 use Rattle.dp_actions.specs.declared.signal.Signal.TheVariants.{Next, Return}
 use Rattle.dp_actions.specs.Calls.{include_run}
-use Rattle.dp_meaning.specs.Expressions.{evaluation, evaluations, expression_run}
-use Rattle.dp_meaning.specs.Expressions.{place_run}
+use Rattle.dp_actions.specs.Expressions.{evaluation, evaluations, expression_run}
+use Rattle.dp_actions.specs.Expressions.{place_run}
 use Rattle.dp_meaning.specs.Statements.{arm_run}
 use Rattle.dp_actions.specs.Loops.{bind, do_turns, each_run, entries, last_holds, turn_over, turns}
 use Rattle.dp_actions.specs.Places.{unset_run}

@@ -1,7 +1,7 @@
 //! The beginning of a call, and of an inclusion.
 
 ghost use Rattle.dp_actions.specs.Calls.{call_run, callee as callee_named, include_run, inclusion_run};
-ghost use Rattle.dp_meaning.specs.Expressions.{evaluations};
+ghost use Rattle.dp_actions.specs.Expressions.{evaluations};
 ghost use Rattle.dp_actions.specs.Run.{and_then};
 ghost use Rattle.dp_actions.specs.Setting.{Setting};
 ghost use Rattle.std.specs.Prelude.{◌≡◌};

@@ -2,7 +2,7 @@
 
 ghost use Rattle.dp_actions.specs.Setting.{Setting};
 ghost use Rattle.dp_actions.specs.Run.{Run, and_then};
-ghost use Rattle.dp_meaning.specs.Expressions.{evaluation};
+ghost use Rattle.dp_actions.specs.Expressions.{evaluation};
 ghost use Rattle.dp_actions.specs.declared.signal.Signal.{Signal as AnySignal};
 ghost use Rattle.dp_state.specs.declared.state.State.{State as AnyState};
 ghost use Rattle.std.specs.Prelude.{◌≡◌, None};

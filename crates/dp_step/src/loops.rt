@@ -2,7 +2,7 @@
 
 ghost use Rattle.std.specs.Prelude.{◌≡◌, length};
 ghost use Rattle.dp_state.specs.declared.state.State.{State as AnyState};
-ghost use Rattle.dp_meaning.specs.Expressions.{evaluations};
+ghost use Rattle.dp_actions.specs.Expressions.{evaluations};
 ghost use Rattle.dp_actions.specs.Loops.{entries, last_holds as ends_true, turn_over as over};
 ghost use Rattle.dp_actions.specs.Run.{and_then};
 ghost use Rattle.dp_actions.specs.Setting.{Setting};

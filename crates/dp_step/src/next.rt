@@ -4,7 +4,7 @@ ghost use Rattle.std.specs.Prelude.{◌≡◌, None};
 ghost use Rattle.dp_state.specs.declared.state.State.{State as AnyState};
 ghost use Rattle.dp_value.specs.declared.value.Value.{Value as AnyValue};
 ghost use Rattle.dp_actions.specs.AtOnce.{AtOnce};
-ghost use Rattle.dp_meaning.specs.Expressions.{evaluations};
+ghost use Rattle.dp_actions.specs.Expressions.{evaluations};
 ghost use Rattle.dp_actions.specs.Run.{Run, and_then};
 ghost use Rattle.dp_actions.specs.Setting.{Setting};
 ghost use Rattle.dp_step.specs.Rest.{next_rest, work_rest};

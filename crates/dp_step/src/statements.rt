@@ -2,7 +2,7 @@
 
 ghost use Rattle.std.specs.Prelude.{◌≡◌, [], None, Some, drop, map};
 ghost use Rattle.dp_state.specs.declared.state.State.{State as AnyState};
-ghost use Rattle.dp_meaning.specs.Expressions.{expression_run, place_run};
+ghost use Rattle.dp_actions.specs.Expressions.{expression_run, place_run};
 ghost use Rattle.dp_actions.specs.Places.{unset_run};
 ghost use Rattle.dp_actions.specs.Run.{and_then};
 ghost use Rattle.dp_actions.specs.Setting.{Setting};

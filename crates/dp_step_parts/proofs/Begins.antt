@@ -12,8 +12,8 @@ use Rattle.dp_tree.specs.declared.tree.Link.{Link}
 use Rattle.dp_tree.specs.declared.tree.Order.{Order}
 use Rattle.dp_tree.specs.declared.tree.Place.{Place}
 use Rattle.dp_state.specs.declared.state.State.{State}
-use Rattle.dp_meaning.specs.Expressions.{ExpressionRun, choice, evaluation, evaluations, expression_run, indices_run, items_run, links_run, place_run}
-use Rattle.dp_meaning.specs.Expressions.{item_run_of, link_run}
+use Rattle.dp_actions.specs.Expressions.{ExpressionRun, choice, evaluation, evaluations, expression_run, indices_run, items_run, links_run, place_run}
+use Rattle.dp_actions.specs.Expressions.{item_run_of, link_run}
 use Rattle.dp_actions.specs.Places.{assigned_under, compound_under, coalescing_under, isset_run, step_under, variable}
 use Rattle.dp_value.specs.Table.{empty}
 use Rattle.dp_value.specs.Value.{data_of}
@@ -23,7 +23,7 @@ use Rattle.dp_actions.specs.Run.{Run, Done, and_then, ◌>>=◌}
 use Rattle.dp_actions.specs.Setting.{Setting}
 use Rattle.dp_actions.specs.Values.{holds, is_missing, value_run}
 use Rattle.dp_actions.proofs.Runs.{and_then-assoc, and_then-same}
-use Rattle.dp_meaning.proofs.Layers as layer
+use Rattle.dp_actions.proofs.Layers as layer
 use Rattle.dp_actions.specs.declared.signal.Signal.TheVariants.{Next}
 use Rattle.dp_step_parts.specs.Rest.{Follows, to_value}
 

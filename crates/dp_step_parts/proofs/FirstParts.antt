@@ -16,14 +16,14 @@ use Rattle.dp_tree.specs.declared.tree.Operator.TheVariants.{Or, And, Of}
 use Rattle.dp_tree.specs.declared.tree.Place.{Place}
 use Rattle.dp_state.specs.declared.state.State.{State}
 use Rattle.dp_actions.specs.declared.signal.Signal.{Signal}
-use Rattle.dp_meaning.specs.Expressions.{evaluation, evaluations, expression_run, indices_run, items_run, keyed_run, links_run, operator_run, place_run}
-use Rattle.dp_meaning.specs.Expressions.{item_run_of, link_run}
+use Rattle.dp_actions.specs.Expressions.{evaluation, evaluations, expression_run, indices_run, items_run, keyed_run, links_run, operator_run, place_run}
+use Rattle.dp_actions.specs.Expressions.{item_run_of, link_run}
 use Rattle.dp_actions.specs.Places.{PlaceRun, found_run, isset_run}
 use Rattle.dp_actions.specs.Run.{Run, Done, and_then, ◌>>=◌}
 use Rattle.dp_actions.specs.Setting.{Setting}
 use Rattle.dp_actions.specs.Values.{holds, is_missing, value_run, write_run}
 use Rattle.dp_actions.proofs.Runs.{and_then-assoc}
-use Rattle.dp_meaning.proofs.Layers.{run-item-None, run-item-Some, run-link, run-place}
+use Rattle.dp_actions.proofs.Layers.{run-item-None, run-item-Some, run-link, run-place}
 use Rattle.dp_step_parts.specs.declared.work.Given.TheVariants as given
 use Rattle.dp_step_parts.specs.Rest.{Follows, keyed_after, to_value}
 

@@ -17,9 +17,9 @@ use Rattle.dp_state.specs.declared.state.State.{State}
 use Rattle.dp_state.specs.Places.{keys_of_indices}
 use Rattle.dp_actions.specs.declared.in_place.Reading.{Reading}
 use Rattle.dp_actions.specs.declared.signal.Signal.{Signal}
-use Rattle.dp_meaning.specs.Expressions.{choice, evaluation, evaluations, expression_run}
-use Rattle.dp_meaning.specs.Expressions.{indices_run, items_run, keyed_run, links_run, place_run}
-use Rattle.dp_meaning.specs.Expressions.{item_run_of, link_run}
+use Rattle.dp_actions.specs.Expressions.{choice, evaluation, evaluations, expression_run}
+use Rattle.dp_actions.specs.Expressions.{indices_run, items_run, keyed_run, links_run, place_run}
+use Rattle.dp_actions.specs.Expressions.{item_run_of, link_run}
 use Rattle.dp_actions.specs.Places.{assign_run, assigned_under, coalescing_under, combined}
 use Rattle.dp_actions.specs.Places.{compound_under, found_run, isset_run, step_under}
 use Rattle.dp_actions.specs.Run.{Run, ◌>>=◌}

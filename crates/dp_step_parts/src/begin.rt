@@ -2,7 +2,7 @@
 
 ghost use Rattle.std.specs.Prelude.{◌≡◌};
 ghost use Rattle.dp_state.specs.declared.state.State.{State as AnyState};
-ghost use Rattle.dp_meaning.specs.Expressions.{evaluation, evaluations, expression_run};
+ghost use Rattle.dp_actions.specs.Expressions.{evaluation, evaluations, expression_run};
 ghost use Rattle.dp_actions.specs.Run.{and_then};
 ghost use Rattle.dp_actions.specs.Setting.{Setting};
 ghost use Rattle.dp_step_parts.specs.Rest.{Follows, next_rest, to_value, to_values, work_rest};

@@ -3,8 +3,8 @@
 
 ghost use Rattle.std.specs.Prelude.{◌≡◌, ◌++◌, drop as members_from, false, if◌then◌else◌, map, true};
 ghost use Rattle.dp_state.specs.declared.state.State.{State as AnyState};
-ghost use Rattle.dp_meaning.specs.Expressions.{evaluation, evaluations, expression_run, indices_run, items_run, links_run, place_run};
-ghost use Rattle.dp_meaning.specs.Expressions.{item_run_of, link_run};
+ghost use Rattle.dp_actions.specs.Expressions.{evaluation, evaluations, expression_run, indices_run, items_run, links_run, place_run};
+ghost use Rattle.dp_actions.specs.Expressions.{item_run_of, link_run};
 ghost use Rattle.dp_actions.specs.Places.{isset_run};
 ghost use Rattle.dp_actions.specs.InPlace.{entries_by};
 ghost use Rattle.dp_actions.specs.Run.{and_then};

@@ -2,7 +2,7 @@
 
 ghost use Rattle.std.specs.Prelude.{◌≡◌, ◌++◌, ◌∷◌, [], false, if◌then◌else◌, IfOk, option_map};
 ghost use Rattle.dp_state.specs.declared.state.State.{State as AnyState};
-ghost use Rattle.dp_meaning.specs.Expressions.{choice, evaluation, expression_run};
+ghost use Rattle.dp_actions.specs.Expressions.{choice, evaluation, expression_run};
 ghost use Rattle.dp_value.specs.declared.value.Value.TheVariants as any_kind;
 ghost use Rattle.dp_actions.specs.Places.{assigned_under, coalescing_under, compound_under};
 ghost use Rattle.dp_actions.specs.Run.{Done, and_then};

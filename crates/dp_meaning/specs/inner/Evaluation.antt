@@ -6,7 +6,7 @@ use Rattle.dp_tree.specs.declared.tree.Binding.{Binding}
 use Rattle.dp_actions.specs.declared.in_place.Reading.{Reading}
 use Rattle.dp_actions.specs.declared.in_place.Reading.TheVariants.{Plain, Found}
 use Rattle.dp_actions.specs.InPlace.{entries_by}
-use Rattle.dp_meaning.specs.Expressions.{ExpressionRun, evaluations, indices_run}
+use Rattle.dp_actions.specs.Expressions.{ExpressionRun, evaluations, indices_run}
 use Rattle.dp_meaning.specs.declared.evaluator.Evaluator.{Evaluator}
 use Rattle.dp_actions.specs.declared.signal.Signal.{Signal}
 use Rattle.dp_meaning.specs.Programs.{setting_of}

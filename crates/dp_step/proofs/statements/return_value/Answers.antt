@@ -1,5 +1,5 @@
 use Rattle.std.proofs.Common.{refl, sym}
-use Rattle.dp_meaning.specs.Expressions.{evaluation}
+use Rattle.dp_actions.specs.Expressions.{evaluation}
 use Rattle.dp_actions.specs.Run.{and_then}
 use Rattle.dp_meaning.specs.Statements.{returning}
 use Rattle.dp_actions.proofs.Runs.{and_then-assoc}

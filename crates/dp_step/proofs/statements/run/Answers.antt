@@ -1,6 +1,6 @@
 use Rattle.std.proofs.Common.{map, sym, ◌∙◌}
 use Rattle.dp_actions.specs.declared.signal.Signal.TheVariants.{Next}
-use Rattle.dp_meaning.specs.Expressions.{evaluation, place_run}
+use Rattle.dp_actions.specs.Expressions.{evaluation, place_run}
 use Rattle.dp_actions.specs.Places.{unset_run}
 use Rattle.dp_actions.specs.Run.{Done, and_then}
 use Rattle.dp_step_parts.specs.Rest.{to_signal}

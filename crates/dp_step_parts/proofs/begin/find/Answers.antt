@@ -1,6 +1,6 @@
 use Rattle.std.proofs.Common.{sym, ap, ◌∙◌}
 use Rattle.dp_actions.specs.Run.{and_then}
-use Rattle.dp_meaning.proofs.Layers.{found-plain}
+use Rattle.dp_actions.proofs.Layers.{found-plain}
 use Rattle.dp_step_parts.specs.Rest.{to_value}
 use Rattle.dp_step_parts.proofs.Begins.{finds-Index}
 use Rattle.dp_step_parts.proofs.begin.find.Goals as goal

@@ -16,8 +16,8 @@ use Rattle.dp_actions.specs.declared.signal.Signal.{Signal}
 use Rattle.dp_meaning.specs.inner.Drive.{Evaluates}
 use Rattle.dp_meaning.specs.inner.Evaluation.{goes_by}
 use Rattle.dp_actions.specs.InPlace.{entries_by}
-use Rattle.dp_meaning.specs.Expressions.{evaluation, evaluations, expression_run, indices_run, items_run, links_run, place_run}
-use Rattle.dp_meaning.specs.Expressions.{item_run_of, link_run}
+use Rattle.dp_actions.specs.Expressions.{evaluation, evaluations, expression_run, indices_run, items_run, links_run, place_run}
+use Rattle.dp_actions.specs.Expressions.{item_run_of, link_run}
 use Rattle.dp_actions.specs.Loops.{do_turns, each_run, entries, turns}
 use Rattle.dp_actions.specs.Places.{isset_run, unset_run}
 use Rattle.dp_actions.specs.Bodies.{statements_of}

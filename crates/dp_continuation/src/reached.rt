@@ -1,0 +1,12 @@
+//! Where machines have come to.
+
+use dp_state::Outcome;
+
+/// Where a machine has come to, which has the state there.
+#[derive(Clone, Copy, Debug)]
+pub enum Reached {
+    /// The moment of this number, at this depth.
+    Moment { number: u64, depth: u32 },
+    /// The end of its program.
+    End(Outcome),
+}
