@@ -1,0 +1,7 @@
+mod ActLaws
+mod AwaitLaws
+mod EndLaws
+mod LineLaws
+mod PlaceLaws
+mod PlayLaws
+mod TextLaws
