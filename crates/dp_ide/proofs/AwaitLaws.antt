@@ -202,17 +202,3 @@ answer_failed why id a b before between piece source whole passes first later to
   none = passes.none;
   lacks = lacks_since why (record { held = b.held ++ fails.piece; dropped = b.dropped }) source whole later told faults fails.lacks;
 }
-
-pub answer_lacks_memory : (id : List ℕ) (a b : Received) (before between : Kept) (piece : List ℕ) (whole : Change) → PassesOver id a b before between piece
-    → Consumes whole.told_before whole.told piece → AnswerFails id Memory a whole
-answer_lacks_memory id a b before between piece whole passes consumed = record {
-  piece = piece;
-  consumed = consumed;
-  texts = passes.texts;
-  now = b;
-  takes = passes.takes;
-  messages = passes.messages;
-  are = passes.are;
-  none = passes.none;
-  lacks = tt;
-}

@@ -444,6 +444,18 @@ module _ (heard : Heard) (left : List Instruction) (texts others : List (List �
       one_lack (response a.id) (texts ++ a.since) a.waiting.others rest source source_2 a.waiting b.waiting one other a.awaited awaited a.passed
       (b.passed ∙ ap (λ (l : List (List ℕ)). texts ++ l) (sym stops.0)) refl (sym stops.1) a.verdict b.verdict a.lacks b.lacks
 
+alike : (heard : Heard) (left : List Instruction) (texts others : List (List ℕ)) (rest : List ℕ) (source source_2 : Change) (one other : Result (Unit {0}) IdeError)
+    → Cause one heard left texts others rest source → Cause other heard left texts others rest source_2 → one ≡ other
+alike heard left texts others rest source source_2 one other (inl o) (inl e) = o.is ∙ sym e.is
+alike heard left texts others rest source source_2 one other (inl o) (inr (inl d)) = let both : [] ≡ d.one ∷ d.more = sym o.none ∙ d.comes in absurd (cc)
+alike heard left texts others rest source source_2 one other (inl o) (inr (inr a)) = let both : [] ≡ a.one ∷ a.more = sym o.none ∙ a.comes in absurd (cc)
+alike heard left texts others rest source source_2 one other (inr (inl d)) (inl o) = let both : [] ≡ d.one ∷ d.more = sym o.none ∙ d.comes in absurd (cc)
+alike heard left texts others rest source source_2 one other (inr (inr a)) (inl o) = let both : [] ≡ a.one ∷ a.more = sym o.none ∙ a.comes in absurd (cc)
+alike heard left texts others rest source source_2 one other (inr (inl d)) (inr (inl e)) = both_differ heard left texts others rest source source_2 one other d e
+alike heard left texts others rest source source_2 one other (inr (inl d)) (inr (inr a)) = absurd (never_both heard left texts others rest source source_2 one other d a)
+alike heard left texts others rest source source_2 one other (inr (inr a)) (inr (inl d)) = absurd (never_both heard left texts others rest source_2 source other one d a)
+alike heard left texts others rest source source_2 one other (inr (inr a)) (inr (inr b)) = both_await heard left texts others rest source source_2 one other a b
+
 -- ---- where it ended
 
 record Starting (end : Result (Unit {0}) IdeError) (read : List ℕ) (source : Change) : Type 0 where
@@ -527,40 +539,24 @@ never_started end other script read source source_2 verdict s t =
 ordered : (one other : Result (Unit {0}) IdeError) (script : List Instruction) (read : List ℕ) (source source_2 : Change) (s : Standing one script read source)
     (t : Standing other script read source_2) → Follows s.progress.done t.progress.done → one ≡ other
 ordered one other script read source source_2 s t f = by f.more f.is where
-  abbrev p : Progress script read
-  p = s.progress
-
-  abbrev q : Progress script read
-  q = t.progress
-
-  by : (more : List Instruction) → q.done ≡ p.done ++ more → one ≡ other
+  by : (more : List Instruction) → t.progress.done ≡ s.progress.done ++ more → one ≡ other
   by [] is =
-      let on = plays_on script (packets_in read) p.done p.left p.heard p.others [] q.left q.heard q.others (stands_at script read p)
-          (subst (λ (d : List Instruction). Stands script (packets_in read) d q.left q.heard q.others) is (stands_at script read q)) in
+      let on = plays_on script (packets_in read) s.progress.done s.progress.left s.progress.heard s.progress.others [] t.progress.left t.progress.heard t.progress.others (stands_at script read s.progress)
+          (subst (λ (d : List Instruction). Stands script (packets_in read) d t.progress.left t.progress.heard t.progress.others) is (stands_at script read t.progress)) in
       let none : on.0.texts ≡ [] = no_texts on.0.texts (subst (AreMessages on.0.texts) on.0.goes.0 on.0.are) in
-      let others : p.others ≡ q.others = on.0.split ∙ ap (λ (l : List (List ℕ)). l ++ q.others) none in
-      let texts : p.texts ≡ q.texts =
-      append_cancel_right p.texts q.texts q.others (ap (λ (l : List (List ℕ)). p.texts ++ l) (sym others) ∙ sym p.came ∙ q.came) in
-      let cause : Cause other p.heard p.left p.texts p.others (rest_of_packets read) source_2 =
-      subst (λ (h : Heard). Cause other h p.left p.texts p.others (rest_of_packets read) source_2) on.0.goes.1
-      (subst (λ (l : List Instruction). Cause other q.heard l p.texts p.others (rest_of_packets read) source_2) (sym on.1)
-      (subst (λ (l : List (List ℕ)). Cause other q.heard q.left l p.others (rest_of_packets read) source_2) (sym texts)
-      (subst (λ (l : List (List ℕ)). Cause other q.heard q.left q.texts l (rest_of_packets read) source_2) (sym others) t.cause))) in
-      alike s.cause cause where
-        alike : Cause one p.heard p.left p.texts p.others (rest_of_packets read) source → Cause other p.heard p.left p.texts p.others (rest_of_packets read) source_2 → one ≡ other
-        alike (inl o) (inl e) = o.is ∙ sym e.is
-        alike (inl o) (inr (inl d)) = let both : [] ≡ d.one ∷ d.more = sym o.none ∙ d.comes in cc
-        alike (inl o) (inr (inr a)) = let both : [] ≡ a.one ∷ a.more = sym o.none ∙ a.comes in cc
-        alike (inr (inl d)) (inl o) = let both : [] ≡ d.one ∷ d.more = sym o.none ∙ d.comes in cc
-        alike (inr (inr a)) (inl o) = let both : [] ≡ a.one ∷ a.more = sym o.none ∙ a.comes in cc
-        alike (inr (inl d)) (inr (inl e)) = both_differ p.heard p.left p.texts p.others (rest_of_packets read) source source_2 one other d e
-        alike (inr (inl d)) (inr (inr a)) = absurd (never_both p.heard p.left p.texts p.others (rest_of_packets read) source source_2 one other d a)
-        alike (inr (inr a)) (inr (inl d)) = absurd (never_both p.heard p.left p.texts p.others (rest_of_packets read) source_2 source other one d a)
-        alike (inr (inr a)) (inr (inr b)) = both_await p.heard p.left p.texts p.others (rest_of_packets read) source source_2 one other a b
+      let others : s.progress.others ≡ t.progress.others = on.0.split ∙ ap (λ (l : List (List ℕ)). l ++ t.progress.others) none in
+      let texts : s.progress.texts ≡ t.progress.texts =
+      append_cancel_right s.progress.texts t.progress.texts t.progress.others (ap (λ (l : List (List ℕ)). s.progress.texts ++ l) (sym others) ∙ sym s.progress.came ∙ t.progress.came) in
+      let cause : Cause other s.progress.heard s.progress.left s.progress.texts s.progress.others (rest_of_packets read) source_2 =
+      subst (λ (h : Heard). Cause other h s.progress.left s.progress.texts s.progress.others (rest_of_packets read) source_2) on.0.goes.1
+      (subst (λ (l : List Instruction). Cause other t.progress.heard l s.progress.texts s.progress.others (rest_of_packets read) source_2) (sym on.1)
+      (subst (λ (l : List (List ℕ)). Cause other t.progress.heard t.progress.left l s.progress.others (rest_of_packets read) source_2) (sym texts)
+      (subst (λ (l : List (List ℕ)). Cause other t.progress.heard t.progress.left t.progress.texts l (rest_of_packets read) source_2) (sym others) t.cause))) in
+      alike s.progress.heard s.progress.left s.progress.texts s.progress.others (rest_of_packets read) source source_2 one other s.cause cause
   by (first ∷ more) is =
-      let on = plays_on script (packets_in read) p.done p.left p.heard p.others (first ∷ more) q.left q.heard q.others (stands_at script read p)
-          (subst (λ (d : List Instruction). Stands script (packets_in read) d q.left q.heard q.others) is (stands_at script read q)) in
-      absurd (no_further one p.heard p.left p.texts p.others (rest_of_packets read) source s.cause first more q.left q.others q.heard on.0 on.1)
+      let on = plays_on script (packets_in read) s.progress.done s.progress.left s.progress.heard s.progress.others (first ∷ more) t.progress.left t.progress.heard t.progress.others (stands_at script read s.progress)
+          (subst (λ (d : List Instruction). Stands script (packets_in read) d t.progress.left t.progress.heard t.progress.others) is (stands_at script read t.progress)) in
+      absurd (no_further one s.progress.heard s.progress.left s.progress.texts s.progress.others (rest_of_packets read) source s.cause first more t.progress.left t.progress.others t.progress.heard on.0 on.1)
 
 -- what is told decides what was read
 one_read : (before after : Option (List ℕ)) (read other : List ℕ) → IsSome before → Consumes before after read → Consumes before after other → read ≡ other

@@ -1,7 +1,9 @@
 mod ActLaws
+mod ActsPlayed
 mod AwaitLaws
 mod EndLaws
 mod LineLaws
+mod OpenLaws
 mod PlaceLaws
 mod PlayLaws
 mod TextLaws

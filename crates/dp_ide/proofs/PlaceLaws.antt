@@ -123,14 +123,14 @@ module _ (bytes : List ℕ) (number : ℕ) (passes : PassesLimit bytes number) w
 -- ---- the place
 
 one_cause : (r : Received) (why other : WireError) → IsCause r why → IsCause r other → refused_at why r.dropped ≡ refused_at other r.dropped
-one_cause r (BadLength o) (BadLength p) a b = a.3 ∙ ap (place_of r) (one_first r.held a.0 b.0 a.2 b.2) ∙ sym b.3
-one_cause r (BadLength o) (NoNul p) a b = a.3 ∙ ap (place_of r) (one_first r.held a.0 b.0 a.2 b.2) ∙ sym b.3
-one_cause r (BadLength o) (TooLong n) a b = absurd (no_bad_length r.held n b a.0 a.1 a.2)
-one_cause r (NoNul o) (BadLength p) a b = a.3 ∙ ap (place_of r) (one_first r.held a.0 b.0 a.2 b.2) ∙ sym b.3
-one_cause r (NoNul o) (NoNul p) a b = a.3 ∙ ap (place_of r) (one_first r.held a.0 b.0 a.2 b.2) ∙ sym b.3
-one_cause r (NoNul o) (TooLong n) a b = absurd (no_lacking_nul r.held n b a.0 a.1 a.2)
-one_cause r (TooLong n) (BadLength p) a b = absurd (no_bad_length r.held n a b.0 b.1 b.2)
-one_cause r (TooLong n) (NoNul p) a b = absurd (no_lacking_nul r.held n a b.0 b.1 b.2)
+one_cause r (BadLength o) (BadLength p) a b = a.1.2 ∙ ap (place_of r) (one_first r.held a.0 b.0 a.1.1 b.1.1) ∙ sym b.1.2
+one_cause r (BadLength o) (NoNul p) a b = a.1.2 ∙ ap (place_of r) (one_first r.held a.0 b.0 a.1.1 b.1.1) ∙ sym b.1.2
+one_cause r (BadLength o) (TooLong n) a b = absurd (no_bad_length r.held n b a.0 a.1.0 a.1.1)
+one_cause r (NoNul o) (BadLength p) a b = a.1.2 ∙ ap (place_of r) (one_first r.held a.0 b.0 a.1.1 b.1.1) ∙ sym b.1.2
+one_cause r (NoNul o) (NoNul p) a b = a.1.2 ∙ ap (place_of r) (one_first r.held a.0 b.0 a.1.1 b.1.1) ∙ sym b.1.2
+one_cause r (NoNul o) (TooLong n) a b = absurd (no_lacking_nul r.held n b a.0 a.1.0 a.1.1)
+one_cause r (TooLong n) (BadLength p) a b = absurd (no_bad_length r.held n a b.0 b.1.0 b.1.1)
+one_cause r (TooLong n) (NoNul p) a b = absurd (no_lacking_nul r.held n a b.0 b.1.0 b.1.1)
 one_cause r (TooLong n) (TooLong m) a b = refl
 
 pub one_place : (r : Received) (at other : ℕ) → IsRefusedAt r at → IsRefusedAt r other → at ≡ other

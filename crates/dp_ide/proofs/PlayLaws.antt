@@ -1,11 +1,11 @@
 -- How far the player has come, one packet and one instruction at a time, and what it comes to.
-use Rattle.std.proofs.Common.{◌≡◌, ◌≢◌, ◌⊎◌, inl, inr, ℕ, ◌+◌, ◌-◌, ◌^◌, ◌≤◌, min, Bool, true, false, not, ◌&&◌, List, [], ◌∷◌, ◌++◌, length, take, drop, Option, Some, None, refl, sym, ap, ◌∙◌, subst, append_assoc, append-nil, arith, length-append, codes}
+use Rattle.std.proofs.Common.{◌≡◌, ◌≢◌, ◌⊎◌, inl, inr, ℕ, suc, ◌+◌, ◌<◌, ◌≤◌, Bool, false, List, [], ◌∷◌, ◌++◌, length, take, drop, get_or, drop-cons, Option, Some, None, refl, sym, ap, ◌∙◌, subst, append_assoc, append-nil, arith, length-append, codes}
 use Rattle.std.specs.Prelude.{Result, Ok, Err}
 use Rattle.std.specs.List.{flat_map, list_all, AllByRecursion}
 use Rattle.std.specs.Io.KnownBytes.{Appends, Consumes, Keeps, IsAtEnd}
 use Rattle.std.proofs.KnownBytes.{Appends-nil, Appends-trans, Consumes-nil, Consumes-trans, Consumes-kept}
 use Rattle.std.proofs.lemmas.Bool.{and_parts}
-use Rattle.std.proofs.lemmas.List.{take_all}
+use Rattle.std.proofs.lemmas.List.{take-append-drop}
 use Rattle.std.proofs.lemmas.List.Concat.{flat_map-append}
 use Rattle.std.proofs.Math.Seq.{drop-append_seam, take-append-add}
 use Rattle.dp_markup.specs.Writing.{written}
@@ -309,7 +309,8 @@ module _ (script done more : List Instruction) (one : Instruction) (split : scri
       is = s.0;
       fault = rose_since out.faults_before out_2.faults_before out_2.faults o_later s.1.0;
       sends = unsent s.2;
-      prints = front_then out.told_before out_2.told_before out_2.told performs.said (printed_line kept) prints_here s.1.1;
+      prints = subst (AppendsFront out.told_before out_2.told) (sym (append_assoc performs.said (written kept.last.root) (codes "\n")))
+          (front_then out.told_before out_2.told_before out_2.told performs.said (printed_line kept) prints_here s.1.1);
     }
     by Memory s = record { sends = unsent s.0; prints = unprinted s.1 }
     by PeerEnd s = absurd s
@@ -396,3 +397,10 @@ ends_unopened script why source sink out fails sends prints = record {
       let next : packets_in fails.read ≡ text ∷ packets_in rest = ap packets_in begins.whole ∙ packets-first text rest begins.is_text in
       subst (λ (e : IdeError). Lacks (Err e) waiting (rest_of_packets fails.read) source) (sym is)
       (subst (λ (l : List (List ℕ)). IsBadAt 0 init [] l (rest_of_packets fails.read)) (sym next) (none, first))
+
+-- what stands before an instruction, it, and what stands behind it
+pub split_at : (script : List Instruction) (i : ℕ) (one : Instruction) → i < length script → one ≡ get_or script i one → script ≡ take i script ++ one ∷ drop (i + 1) script
+split_at script i one less is =
+    let on : i + 1 ≡ suc i = omega arith in
+    sym (take-append-drop i script) ∙ ap (λ (l : List Instruction). take i script ++ l)
+    (drop-cons script i one less ∙ (λ k. sym is k ∷ drop (sym on k) script))
