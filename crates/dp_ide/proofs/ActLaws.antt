@@ -1,14 +1,14 @@
 -- What an instruction is spelt as, and that a line spells one at most.
-use Rattle.std.proofs.Common.{◌≡◌, ◌≢◌, ◌⊎◌, inl, inr, ℕ, ◌<◌, ◌≤◌, Bool, true, false, eqb, List, [], ◌∷◌, ◌++◌, Option, Some, None, length, take, drop, codes, option_map, Result, Ok, Err, IfOk, refl, sym, ap, ◌∙◌, subst, append_assoc, append-nil, arith, length-append, length-take}
+use Rattle.std.proofs.Common.{◌≡◌, ◌≢◌, ◌⊎◌, inl, inr, ℕ, ◌<◌, true, false, eqb, List, [], ◌∷◌, ◌++◌, Option, Some, None, length, take, drop, codes, option_map, Result, Ok, Err, IfOk, refl, sym, ap, ◌∙◌, subst, arith, length-take}
 use Rattle.std.proofs.lemmas.Bool.{eqb-false, false≢true}
 use Rattle.std.proofs.lemmas.List.{append_cancel_left, length-drop, take-append-drop, take_all}
 use Rattle.dp_command.specs.declared.line.Line.{Line}
-use Rattle.dp_command.specs.Grammar.{Joined, Mark, Rule, ◌>>◌, spelt}
+use Rattle.dp_command.specs.Grammar.{Mark, Rule, ◌>>◌, spelt}
 use Rattle.dp_command.specs.Letters as letter
 use Rattle.dp_command.specs.Options.{given}
 use Rattle.dp_reply.specs.Contents.{most_16}
 use Rattle.dp_value.specs.Decimals.{decimal_in}
-use Rattle.dp_wire.specs.Frames.{IsCommand, command_limit, has_no_nul}
+use Rattle.dp_wire.specs.Frames.{IsCommand, has_no_nul}
 use Rattle.dp_wire.proofs.FrameLaws.{no_nul-at}
 use Rattle.dp_ide.specs.declared.instruction.Act.{Act}
 use Rattle.dp_ide.specs.declared.instruction.Act.TheVariants.{Send, Attr, Code, Prop, Out, Print}

@@ -1,5 +1,5 @@
 -- What each instruction does where it is played, and why it is not.
-use Rattle.std.proofs.Common.{◌≡◌, ℕ, ◌≤◌, List, [], ◌∷◌, ◌++◌, Option, Some, None, refl, sym, ap, ◌∙◌, subst, append_assoc, append-nil, codes, decimal}
+use Rattle.std.proofs.Common.{◌≡◌, ℕ, ◌≤◌, List, [], ◌∷◌, ◌++◌, Option, Some, refl, sym, ap, ◌∙◌, subst, append_assoc, append-nil, codes, decimal}
 use Rattle.std.specs.Prelude.{Result, Ok, Err, OnOk}
 use Rattle.std.specs.Str.Parse.{digits_value}
 use Rattle.std.specs.Io.KnownBytes.{Appends, Consumes}
@@ -16,8 +16,8 @@ use Rattle.dp_ide.specs.declared.instruction.Act.{Act}
 use Rattle.dp_ide.specs.declared.instruction.Act.TheVariants.{Send, Attr, Code, Prop, Out, Print}
 use Rattle.dp_ide.specs.declared.instruction.Instruction.{Instruction}
 use Rattle.dp_ide.specs.Messages.{code_in, content_in}
-use Rattle.dp_ide.specs.Playing.{Expectation, Does, expected, sent_by, wants}
-use Rattle.dp_ide.specs.inner.Progress.{heard_of, Takes, TakesAnswer, Performs, printed_line}
+use Rattle.dp_ide.specs.Playing.{Does, sent_by}
+use Rattle.dp_ide.specs.inner.Progress.{heard_of, TakesAnswer, Performs, printed_line}
 use Rattle.dp_ide.proofs.AwaitLaws.{takes_none}
 use Rattle.dp_ide.proofs.PlayLaws.{performs_one, performs_quiet}
 

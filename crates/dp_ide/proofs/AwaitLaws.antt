@@ -1,5 +1,5 @@
 -- Packets that are awaited, and what they leave.
-use Rattle.std.proofs.Common.{◌≡◌, ◌⊎◌, ℕ, ◌+◌, ◌-◌, ◌^◌, ◌≤◌, min, Bool, true, false, not, ◌&&◌, List, [], ◌∷◌, ◌++◌, length, take, drop, Option, refl, sym, ap, ◌∙◌, subst, append_assoc, append-nil, arith, length-append}
+use Rattle.std.proofs.Common.{◌≡◌, ℕ, ◌+◌, ◌≤◌, min, Bool, true, false, not, ◌&&◌, List, [], ◌∷◌, ◌++◌, length, drop, Option, refl, sym, ap, ◌∙◌, subst, append_assoc, append-nil, arith, length-append}
 use Rattle.std.specs.List.{flat_map, list_all, AllByRecursion}
 use Rattle.std.specs.Io.KnownBytes.{Consumes, Keeps, IsAtEnd}
 use Rattle.std.proofs.KnownBytes.{Consumes-trans, Consumes-kept}
@@ -17,7 +17,7 @@ use Rattle.dp_ide.specs.declared.error.IdeError.{IdeError}
 use Rattle.dp_ide.specs.declared.error.IdeError.TheVariants.{BadScript, Differs, PeerEnd, BadPacket, ReadFault, WriteFault, OutFault, Memory}
 use Rattle.dp_ide.specs.declared.heard.Heard.{Heard as Kept}
 use Rattle.dp_ide.specs.declared.heard.Message.{Message}
-use Rattle.dp_ide.specs.Messages.{IsMessage, AreMessages, answers, output_in}
+use Rattle.dp_ide.specs.Messages.{AreMessages, answers, output_in}
 use Rattle.dp_ide.specs.inner.Progress.{Takes, HoldsMore, TakesNext, LacksNext, NextFails, PieceFails, Hears, PassesOver, TakesAnswer, AnswerFails}
 
 -- ---- packets that were taken

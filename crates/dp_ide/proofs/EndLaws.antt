@@ -1,6 +1,7 @@
 -- A text has one message, and what was read decides how a script ends.
-use Rattle.std.proofs.Common.{◌≡◌, ◌≢◌, ◌⊎◌, inl, inr, ℕ, ◌-◌, ◌<◌, Bool, true, false, not, ◌&&◌, List, [], ◌∷◌, ◌++◌, length, Option, Some, None, IsSome, refl, sym, ap, ◌∙◌, subst, append_assoc, append-nil, arith, ⊤}
-use Rattle.std.specs.Prelude.{Result, Ok, Err}
+use Rattle.std.proofs.Common.{◌≡◌, ◌≢◌, ◌⊎◌, inl, inr, ℕ, ◌-◌, ◌<◌, true, false, not, List, [], ◌∷◌, ◌++◌, length, Option, Some, None, IsSome, refl, sym, ap, ◌∙◌, subst, append_assoc, arith}
+use Rattle.std.specs.Prelude.{Result, Ok, Err, ⊤}
+use Rattle.std.specs.Option.{option_map_or}
 use Rattle.std.specs.List.{flat_map, list_all, AllByRecursion}
 use Rattle.std.specs.Io.KnownBytes.{Consumes}
 use Rattle.std.proofs.lemmas.Bool.{and_parts, false≢true, not-true}
@@ -16,8 +17,7 @@ use Rattle.dp_markup.proofs.WholeTexts.{at_end, document_reads}
 use Rattle.dp_outside.specs.Changes.{Change}
 use Rattle.dp_reply.specs.Readings.{packet_in}
 use Rattle.dp_wire.specs.Frames.{packets_in, rest_of_packets, IsPartialPacket}
-use Rattle.dp_wire.specs.Places.{place_behind, IsRefusedAt}
-use Rattle.dp_wire.specs.Received.{Received}
+use Rattle.dp_wire.specs.Places.{place_behind}
 use Rattle.dp_wire.proofs.LengthLaws.{partial_refused}
 use Rattle.dp_ide.specs.declared.error.IdeError.{IdeError}
 use Rattle.dp_ide.specs.declared.error.IdeError.TheVariants.{BadScript, Differs, PeerEnd, BadPacket, ReadFault, WriteFault, OutFault, Memory}
@@ -26,8 +26,8 @@ use Rattle.dp_ide.specs.declared.instruction.Act.{Act}
 use Rattle.dp_ide.specs.declared.instruction.Act.TheVariants.{Send, Attr, Code, Prop, Out, Print}
 use Rattle.dp_ide.specs.declared.instruction.Instruction.{Instruction}
 use Rattle.dp_ide.specs.Messages.{IsMessage, AreMessages, is_init, answers, output_in}
-use Rattle.dp_ide.specs.Playing.{Heard, Expectation, Answered, Does, Goes, Holds, Played, afterwards, expected}
-use Rattle.dp_ide.specs.Plays.{Progress, Comes, Awaited, Waiting, AwaitsInit, AwaitsResponse, Awaits, IsUnfit, IsDifferent, IsBadAt, Lacks, StopsAt, EndsPlaying, EndsWaiting, Ends, init, response, is_verdict}
+use Rattle.dp_ide.specs.Playing.{Heard, Expectation, Answered, Does, Goes, Holds, afterwards, expected, wants}
+use Rattle.dp_ide.specs.Plays.{Progress, Awaited, Waiting, AwaitsInit, Awaits, IsUnfit, IsBadAt, Lacks, StopsAt, EndsPlaying, EndsWaiting, Ends, init, response, is_verdict}
 use Rattle.dp_ide.proofs.PlaceLaws.{one_place}
 
 -- ---- one message
@@ -108,8 +108,8 @@ first_answer id (m ∷ passed) (n ∷ others) answer other (text ∷ texts) (nex
     let tail : texts ++ rest ≡ more ++ left = cc in
     let one : m ≡ n = one_message_of next m n (subst (λ (t : List ℕ). IsMessage t m) head are.0) ares.0 in
     let then = first_answer id passed others answer other texts more rest left are.1 ares.1 tail
-        (and_parts (not (answers id m.packet)) (list_all (λ message. not (answers id message.packet)) passed) none).1
-        (and_parts (not (answers id n.packet)) (list_all (λ message. not (answers id message.packet)) others) nones).1 is iss in
+    (and_parts (not (answers id m.packet)) (list_all (λ message. not (answers id message.packet)) passed) none).1
+    (and_parts (not (answers id n.packet)) (list_all (λ message. not (answers id message.packet)) others) nones).1 is iss in
     ((λ i. one i ∷ then.0 i), then.1, then.2)
 
 -- an instruction that awaits no packet takes none
@@ -405,8 +405,8 @@ no_further end heard left texts others rest source (inr (inl d)) one more behind
 no_further end heard left texts others rest source (inr (inr a)) one more behind last after came is =
     let same : a.one ≡ one = let both : a.one ∷ a.more ≡ one ∷ (more ++ behind) = sym a.comes ∙ is in cc in
     let first = begun one more heard others last after came in
-    let does : Answered a.id heard first.messages first.heard =
-    subst (λ (t : Act). Does t heard first.messages first.heard) (ap (λ (o : Instruction). o.act) (sym same) ∙ a.sends) first.does in
+    let act : one.act ≡ Send a.line a.id = ap (λ (o : Instruction). o.act) (sym same) ∙ a.sends in
+    let does : Answered a.id heard first.messages first.heard = subst (λ (t : Act). Does t heard first.messages first.heard) {y = Send a.line a.id} act first.does in
     no_answer a.id does.passed does.answer first.texts first.left a.since a.waiting.others a.messages (subst (AreMessages first.texts) does.whole first.are) a.are a.none does.is
     (stuck_there end left texts others rest source a) (sym a.came ∙ first.split)
 
@@ -420,17 +420,16 @@ module _ (heard : Heard) (left : List Instruction) (texts others : List (List �
   both_differ : Differing one heard left → Differing other heard left → one ≡ other
   both_differ d e =
       let same : d.one ≡ e.one = let both : d.one ∷ d.more ≡ e.one ∷ e.more = sym d.comes ∙ e.comes in cc in
-      let expects : Some (record { wanted = d.wanted; found = d.found }) ≡ Some (record { wanted = e.wanted; found = e.found }) =
-      sym d.expects ∙ ap (λ (o : Instruction). expected o.act heard) same ∙ e.expects in
-      let wanted : d.wanted ≡ e.wanted = cc in
-      let found : d.found ≡ e.found = cc in
+      let expects : wants d.wanted d.found ≡ wants e.wanted e.found = sym d.expects ∙ ap (λ (o : Instruction). expected o.act heard) same ∙ e.expects in
+      let wanted : d.wanted ≡ e.wanted = ap (λ (o : Option Expectation). option_map_or (λ (x : Expectation). x.wanted) o []) expects in
+      let found : d.found ≡ e.found = ap (λ (o : Option Expectation). option_map_or (λ (x : Expectation). x.found) o None) expects in
       let line : d.line ≡ e.line = d.at ∙ ap (λ (o : Instruction). o.line) same ∙ sym e.at in
       d.is ∙ (λ i. Err (Differs (line i) (wanted i) (found i))) ∙ sym e.is
 
   never_both : Differing one heard left → Awaiting other left texts others rest source_2 → ⊥
   never_both d a =
       let same : d.one ≡ a.one = let both : d.one ∷ d.more ≡ a.one ∷ a.more = sym d.comes ∙ a.comes in cc in
-      let none : Some (record { wanted = d.wanted; found = d.found }) ≡ None =
+      let none : wants d.wanted d.found ≡ None =
       sym d.expects ∙ ap (λ (o : Instruction). expected o.act heard) same ∙ ap (λ (t : Act). expected t heard) a.sends in cc
 
   both_await : Awaiting one left texts others rest source → Awaiting other left texts others rest source_2 → one ≡ other
@@ -439,8 +438,8 @@ module _ (heard : Heard) (left : List Instruction) (texts others : List (List �
       let id : a.id ≡ b.id = let both : Send a.line a.id ≡ Send b.line b.id = sym a.sends ∙ ap (λ (o : Instruction). o.act) same ∙ b.sends in cc in
       let awaited : b.waiting.awaited ≡ response a.id = b.awaited ∙ ap response (sym id) in
       let stops = one_stop (IsUnfit (response a.id)) a.since b.since a.waiting.others b.waiting.others (fit a.id a.since a.messages a.are) (fit a.id b.since b.messages b.are)
-          (stuck_there one left texts others rest source a)
-          (subst (λ (t : List ℕ). IsStuck (IsUnfit (response t)) b.waiting.others) (sym id) (stuck_there other left texts others rest source_2 b)) (sym a.came ∙ b.came) in
+      (stuck_there one left texts others rest source a)
+      (subst (λ (t : List ℕ). IsStuck (IsUnfit (response t)) b.waiting.others) (sym id) (stuck_there other left texts others rest source_2 b)) (sym a.came ∙ b.came) in
       one_lack (response a.id) (texts ++ a.since) a.waiting.others rest source source_2 a.waiting b.waiting one other a.awaited awaited a.passed
       (b.passed ∙ ap (λ (l : List (List ℕ)). texts ++ l) (sym stops.0)) refl (sym stops.1) a.verdict b.verdict a.lacks b.lacks
 
@@ -542,7 +541,7 @@ ordered one other script read source source_2 s t f = by f.more f.is where
   by : (more : List Instruction) → t.progress.done ≡ s.progress.done ++ more → one ≡ other
   by [] is =
       let on = plays_on script (packets_in read) s.progress.done s.progress.left s.progress.heard s.progress.others [] t.progress.left t.progress.heard t.progress.others (stands_at script read s.progress)
-          (subst (λ (d : List Instruction). Stands script (packets_in read) d t.progress.left t.progress.heard t.progress.others) is (stands_at script read t.progress)) in
+      (subst (λ (d : List Instruction). Stands script (packets_in read) d t.progress.left t.progress.heard t.progress.others) is (stands_at script read t.progress)) in
       let none : on.0.texts ≡ [] = no_texts on.0.texts (subst (AreMessages on.0.texts) on.0.goes.0 on.0.are) in
       let others : s.progress.others ≡ t.progress.others = on.0.split ∙ ap (λ (l : List (List ℕ)). l ++ t.progress.others) none in
       let texts : s.progress.texts ≡ t.progress.texts =
@@ -555,7 +554,7 @@ ordered one other script read source source_2 s t f = by f.more f.is where
       alike s.progress.heard s.progress.left s.progress.texts s.progress.others (rest_of_packets read) source source_2 one other s.cause cause
   by (first ∷ more) is =
       let on = plays_on script (packets_in read) s.progress.done s.progress.left s.progress.heard s.progress.others (first ∷ more) t.progress.left t.progress.heard t.progress.others (stands_at script read s.progress)
-          (subst (λ (d : List Instruction). Stands script (packets_in read) d t.progress.left t.progress.heard t.progress.others) is (stands_at script read t.progress)) in
+      (subst (λ (d : List Instruction). Stands script (packets_in read) d t.progress.left t.progress.heard t.progress.others) is (stands_at script read t.progress)) in
       absurd (no_further one s.progress.heard s.progress.left s.progress.texts s.progress.others (rest_of_packets read) source s.cause first more t.progress.left t.progress.others t.progress.heard on.0 on.1)
 
 -- what is told decides what was read

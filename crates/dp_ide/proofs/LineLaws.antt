@@ -1,5 +1,5 @@
 -- The lines of a script, and what they say one after another.
-use Rattle.std.proofs.Common.{◌≡◌, ◌≢◌, ◌⊎◌, inl, inr, ℕ, suc, ◌+◌, ◌-◌, ◌<◌, ◌≤◌, Bool, true, false, not, ◌&&◌, cond, eqb, leb, ◌==◌, List, [], ◌∷◌, ◌++◌, length, take, drop, refl, sym, ap, ◌∙◌, subst, append_assoc, append-nil, arith, length-append}
+use Rattle.std.proofs.Common.{◌≡◌, ◌⊎◌, inl, inr, ℕ, suc, ◌+◌, ◌-◌, ◌<◌, ◌≤◌, Bool, true, false, not, eqb, leb, ◌==◌, List, [], ◌∷◌, ◌++◌, length, take, drop, refl, sym, ap, ◌∙◌, subst, append_assoc, append-nil, arith, length-append}
 use Rattle.std.specs.List.{list_all}
 use Rattle.std.proofs.lemmas.Bool.{and_parts, false≢true, le-leb, leb-true, not-true}
 use Rattle.std.proofs.lemmas.List.{drop-drop, drop_all, length-drop, take-append-drop, take_all}
@@ -7,7 +7,7 @@ use Rattle.std.proofs.Math.Nat.{lt_of_not-le}
 use Rattle.dp_ide.specs.declared.error.IdeError.{IdeError}
 use Rattle.dp_ide.specs.declared.error.IdeError.TheVariants as error
 use Rattle.dp_ide.specs.declared.instruction.Instruction.{Instruction}
-use Rattle.dp_ide.specs.Scripts.{AreSaid, IsFirstBad, IsScript, Says, in_front, lines_of}
+use Rattle.dp_ide.specs.Scripts.{AreSaid, IsFirstBad, IsScript, Says, lines_of}
 use Rattle.dp_ide.specs.inner.Reading.{HasSaid, IsRun, ReadFails, SaidBehind}
 
 -- ---- where a line ends

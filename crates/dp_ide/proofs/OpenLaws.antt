@@ -1,12 +1,11 @@
 -- The first message, and the commands of a script.
-use Rattle.std.proofs.Common.{◌≡◌, ◌↔◌, inl, inr, ℕ, zero, suc, ◌<◌, Bool, true, false, List, [], ◌∷◌, ◌++◌, length, refl, sym, ap, ◌∙◌, subst, append-nil, arith}
+use Rattle.std.proofs.Common.{◌≡◌, ◌↔◌, inl, inr, ℕ, zero, suc, Bool, true, false, List, [], ◌∷◌, ◌++◌, length, refl, sym, ap, ◌∙◌, subst, append-nil, arith}
 use Rattle.std.specs.Prelude.{Result, Ok, Err, IfOk, IfErr, IsOk, IsTrue}
 use Rattle.std.specs.List.{All}
 use Rattle.std.specs.Io.KnownBytes.{Consumes}
 use Rattle.std.proofs.lemmas.Bool.{false≢true}
 use Rattle.dp_outside.specs.Changes.{Change}
-use Rattle.dp_wire.specs.Frames.{IsCommand, packet_frame}
-use Rattle.dp_wire.specs.Places.{place_behind}
+use Rattle.dp_wire.specs.Frames.{packet_frame}
 use Rattle.dp_wire.specs.Received.{Received}
 use Rattle.dp_ide.specs.declared.error.IdeError.{IdeError}
 use Rattle.dp_ide.specs.declared.error.IdeError.TheVariants.{BadPacket}
@@ -15,7 +14,7 @@ use Rattle.dp_ide.specs.declared.heard.Message.{Message}
 use Rattle.dp_ide.specs.declared.instruction.Act.{Act}
 use Rattle.dp_ide.specs.declared.instruction.Act.TheVariants.{Send}
 use Rattle.dp_ide.specs.declared.instruction.Instruction.{Instruction}
-use Rattle.dp_ide.specs.Messages.{IsMessage, is_init}
+use Rattle.dp_ide.specs.Messages.{is_init}
 use Rattle.dp_ide.specs.Scripts.{AreSaid, Asks, Says}
 use Rattle.dp_ide.specs.inner.Progress.{TakesNext, LacksNext, NextFails, OpenFails, Stood, IsPlayable}
 use Rattle.dp_ide.proofs.EndLaws.{one_message_of}
@@ -79,16 +78,15 @@ unread why old source none first f = record {
 asked : (one : Instruction) (line : List ℕ) → Asks one.act line → IsPlayable one
 asked one line asks = λ command id is. let spelt : Asks (Send command id) line = subst (λ (a : Act). Asks a line) is asks in spelt.second.is_command
 
+said_playable : (number : ℕ) (line : List ℕ) (said more : List Instruction) → Says number line said → All IsPlayable more → All IsPlayable (said ++ more)
+said_playable number line [] more says all = all
+said_playable number line (one ∷ []) more says all = there where
+  there : All IsPlayable (one ∷ more)
+  there zero d less = asked one line says.1
+  there (suc k) d less = all k d (omega (arith, less))
+said_playable number line (one ∷ other ∷ rest) more says all = absurd says
+
 pub playable : (number : ℕ) (lines : List (List ℕ)) (instructions : List Instruction) → AreSaid number lines instructions → All IsPlayable instructions
 playable number [] instructions are = λ k d less. absurd (omega (arith, less, ap length are))
-playable number (line ∷ lines) instructions are = by are.0 are.2 are.3 where
-  behind : All IsPlayable are.1
-  behind = playable (suc number) lines are.1 are.4
-
-  by : (said : List Instruction) → instructions ≡ said ++ are.1 → Says number line said → All IsPlayable instructions
-  by [] is says = subst (All IsPlayable) (sym is) behind
-  by (one ∷ []) is says = subst (All IsPlayable) (sym is) all where
-    all : All IsPlayable (one ∷ are.1)
-    all zero d less = asked one line says.1
-    all (suc k) d less = behind k d (omega (arith, less))
-  by (one ∷ other ∷ more) is says = absurd says
+playable number (line ∷ lines) instructions are =
+    subst (All IsPlayable) (sym are.2) (said_playable number line are.0 are.1 are.3 (playable (suc number) lines are.1 are.4))

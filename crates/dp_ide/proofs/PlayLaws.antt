@@ -1,20 +1,19 @@
 -- How far the player has come, one packet and one instruction at a time, and what it comes to.
-use Rattle.std.proofs.Common.{◌≡◌, ◌≢◌, ◌⊎◌, inl, inr, ℕ, suc, ◌+◌, ◌<◌, ◌≤◌, Bool, false, List, [], ◌∷◌, ◌++◌, length, take, drop, get_or, drop-cons, Option, Some, None, refl, sym, ap, ◌∙◌, subst, append_assoc, append-nil, arith, length-append, codes}
-use Rattle.std.specs.Prelude.{Result, Ok, Err}
-use Rattle.std.specs.List.{flat_map, list_all, AllByRecursion}
-use Rattle.std.specs.Io.KnownBytes.{Appends, Consumes, Keeps, IsAtEnd}
-use Rattle.std.proofs.KnownBytes.{Appends-nil, Appends-trans, Consumes-nil, Consumes-trans, Consumes-kept}
-use Rattle.std.proofs.lemmas.Bool.{and_parts}
+use Rattle.std.proofs.Common.{◌≡◌, ◌⊎◌, inl, inr, ℕ, suc, ◌+◌, ◌<◌, ◌≤◌, false, List, [], ◌∷◌, ◌++◌, length, take, drop, get_or, drop-cons, Option, refl, sym, ap, ◌∙◌, subst, append_assoc, append-nil, arith, codes}
+use Rattle.std.specs.Prelude.{Ok, Err}
+use Rattle.std.specs.List.{flat_map, AllByRecursion}
+use Rattle.std.specs.Io.KnownBytes.{Appends, Consumes, IsAtEnd}
+use Rattle.std.proofs.KnownBytes.{Appends-nil, Appends-trans, Consumes-nil, Consumes-trans}
 use Rattle.std.proofs.lemmas.List.{take-append-drop}
 use Rattle.std.proofs.lemmas.List.Concat.{flat_map-append}
-use Rattle.std.proofs.Math.Seq.{drop-append_seam, take-append-add}
+use Rattle.std.proofs.Math.Seq.{take-append-add}
 use Rattle.dp_markup.specs.Writing.{written}
 use Rattle.dp_outside.specs.Causes.{Rose}
 use Rattle.dp_outside.specs.Changes.{Change}
 use Rattle.dp_outside.specs.Streams.{AppendsFront}
-use Rattle.dp_wire.specs.Frames.{IsPacketText, command_frame, packet_frame, packets_in, rest_of_packets, BeginsPacket, IsPartialPacket, BeginsNoPacket}
+use Rattle.dp_wire.specs.Frames.{IsPacketText, command_frame, packet_frame, packets_in, rest_of_packets, BeginsPacket, IsPartialPacket}
 use Rattle.dp_wire.specs.Places.{place_behind, IsRefusedAt}
-use Rattle.dp_wire.specs.Received.{Received, last_place}
+use Rattle.dp_wire.specs.Received.{Received}
 use Rattle.dp_wire.proofs.LengthLaws.{partial-none, refused-never}
 use Rattle.dp_wire.proofs.PacketLaws.{packets-first}
 use Rattle.dp_ide.specs.declared.error.IdeError.{IdeError}
@@ -24,11 +23,11 @@ use Rattle.dp_ide.specs.declared.heard.Message.{Message}
 use Rattle.dp_ide.specs.declared.instruction.Act.{Act}
 use Rattle.dp_ide.specs.declared.instruction.Act.TheVariants.{Send, Attr, Code, Prop, Out, Print}
 use Rattle.dp_ide.specs.declared.instruction.Instruction.{Instruction}
-use Rattle.dp_ide.specs.Messages.{IsMessage, AreMessages, is_init, answers, output_in}
-use Rattle.dp_ide.specs.Playing.{Heard, Expectation, Answered, Does, Goes, Played, expected, afterwards, sent, sent_by}
-use Rattle.dp_ide.specs.Plays.{Progress, Comes, Awaited, Waiting, AwaitsInit, AwaitsResponse, Awaits, IsUnfit, Gives, IsBadAt, Lacks, StopsAt, Ends, init, response}
+use Rattle.dp_ide.specs.Messages.{IsMessage, AreMessages, is_init}
+use Rattle.dp_ide.specs.Playing.{Heard, Does, Goes, Played, expected, sent, sent_by}
+use Rattle.dp_ide.specs.Plays.{Progress, Comes, Waiting, IsUnfit, IsBadAt, Lacks, StopsAt, Ends, init, response}
 use Rattle.dp_ide.proofs.AwaitLaws.{each_append, are_append, frames_then, packets_are, rest_is, rose_since, takes_none}
-use Rattle.dp_ide.specs.inner.Progress.{heard_of, Takes, HoldsMore, TakesNext, LacksNext, NextFails, Hears, PassesOver, TakesAnswer, AnswerFails, Stood, Performs, StopsHere, WaitsHere, PerformFails, EndsFrom, OpenFails, printed_line}
+use Rattle.dp_ide.specs.inner.Progress.{heard_of, Takes, LacksNext, Stood, Performs, StopsHere, WaitsHere, PerformFails, EndsFrom, OpenFails, printed_line}
 
 -- ---- instructions
 
@@ -40,8 +39,7 @@ goes_more [] one before between after messages now goes does = (
   after,
   ap (λ l. l ++ now) goes.0 ∙ sym (append-nil now),
   subst (λ (h : Heard). Does one.act h now after) goes.1 does,
-  refl,
-  refl,
+  (refl, refl),
 )
 goes_more (first ∷ ones) one before between after messages now goes does = (
   goes.0,
@@ -67,7 +65,7 @@ stood_as : (read again : List ℕ) (done twice : List Instruction) (held : Recei
 stood_as read again done twice held kept printed more r d p stood =
     subst (λ (l : List ℕ). Stood l twice held kept more) r (subst (λ (l : List Instruction). Stood read l held kept more) d (subst (λ (l : List ℕ). Stood read done held kept l) p stood))
 
-stood_piece : (read piece : List ℕ) (done : List Instruction) (held : Received) (kept : Kept) (printed : List ℕ) → Stood read done held kept printed
+abbrev stood_piece : (read piece : List ℕ) (done : List Instruction) (held : Received) (kept : Kept) (printed : List ℕ) → Stood read done held kept printed
     → Stood (read ++ piece) done (record { held = held.held ++ piece; dropped = held.dropped }) kept printed
 stood_piece read piece done held kept printed stood = record {
   texts = stood.texts;
@@ -155,7 +153,7 @@ performs_then ones more a b c before between after source sink out source_2 sink
 
 -- ---- what it comes to
 
-progress_of : (script done left : List Instruction) (read : List ℕ) (held : Received) (kept : Kept) (printed : List ℕ) → script ≡ done ++ left → Stood read done held kept printed
+abbrev progress_of : (script done left : List Instruction) (read : List ℕ) (held : Received) (kept : Kept) (printed : List ℕ) → script ≡ done ++ left → Stood read done held kept printed
     → Progress script read
 progress_of script done left read held kept printed split stood = record {
   done = done;
@@ -248,7 +246,7 @@ module _ (script done more : List Instruction) (one : Instruction) (split : scri
   abbrev whole_out : Change
   whole_out = record { told_before = out.told_before; told = out_2.told; faults_before = out.faults_before; faults = out_2.faults }
 
-  there : Stood (read ++ performs.piece) done here kept performs.said
+  abbrev there : Stood (read ++ performs.piece) done here kept performs.said
   there = performs.stands read [] [] stood
 
   consumed_here : Consumes told source_2.told_before (read ++ performs.piece)
@@ -366,6 +364,9 @@ module _ (script done more : List Instruction) (one : Instruction) (split : scri
   ends_failing why (inl s) = stops why s.1 s.0
   ends_failing why (inr w) = waits why w
 
+abbrev at_first : List ℕ → Waiting
+at_first read = record { awaited = init; passed = []; others = packets_in read; reached = []; printed = [] }
+
 -- there is no init
 pub ends_unopened : (script : List Instruction) (why : IdeError) (source sink out : Change) → OpenFails why source → sink.told_before ≡ sink.told → out.told_before ≡ out.told
     → Ends script (Err why) source sink out
@@ -373,7 +374,7 @@ ends_unopened script why source sink out fails sends prints = record {
   read = fails.read;
   consumed = fails.consumed;
   how = inr (record {
-    waiting = waiting;
+    waiting = at_first fails.read;
     awaits = record { none_passed = refl; came = refl; none_reached = refl; nothing = refl };
     lacks = by fails.lacks;
     gives = record {
@@ -382,20 +383,17 @@ ends_unopened script why source sink out fails sends prints = record {
     };
   });
 } where
-  abbrev waiting : Waiting
-  waiting = record { awaited = init; passed = []; others = packets_in fails.read; reached = []; printed = [] }
-
   first : 0 ≡ place_behind []
   first = omega arith
 
   by : (LacksNext why (record { held = fails.read; dropped = 0 }) source)
       ⊎ ((text : List ℕ) × (rest : List ℕ) × BeginsPacket fails.read text rest × (why ≡ BadPacket 0)
-      × ((message : Message) → IsMessage text message → is_init message.packet ≡ false)) → Lacks (Err why) waiting (rest_of_packets fails.read) source
+      × ((message : Message) → IsMessage text message → is_init message.packet ≡ false)) → Lacks (Err why) (at_first fails.read) (rest_of_packets fails.read) source
   by (inl lacks) =
-      lacks_of why waiting fails.read (record { held = fails.read; dropped = 0 }) [] source source tt refl first refl (λ text none message is. absurd (none message is)) (omega arith) refl refl lacks
+      lacks_of why (at_first fails.read) fails.read (record { held = fails.read; dropped = 0 }) [] source source tt refl first refl (λ text none message is. absurd (none message is)) (omega arith) refl refl lacks
   by (inr (text, rest, begins, is, none)) =
       let next : packets_in fails.read ≡ text ∷ packets_in rest = ap packets_in begins.whole ∙ packets-first text rest begins.is_text in
-      subst (λ (e : IdeError). Lacks (Err e) waiting (rest_of_packets fails.read) source) (sym is)
+      subst (λ (e : IdeError). Lacks (Err e) (at_first fails.read) (rest_of_packets fails.read) source) (sym is)
       (subst (λ (l : List (List ℕ)). IsBadAt 0 init [] l (rest_of_packets fails.read)) (sym next) (none, first))
 
 -- what stands before an instruction, it, and what stands behind it

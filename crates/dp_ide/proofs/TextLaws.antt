@@ -1,9 +1,7 @@
 -- What a text spells, byte by byte.
-use Rattle.std.proofs.Common.{◌≡◌, ◌≢◌, ◌⊎◌, inl, inr, ℕ, Bool, true, false, cond, eqb, List, [], ◌∷◌, ◌++◌, Option, Some, None, refl, sym, ap, ◌∙◌, subst, append_assoc, append-nil}
+use Rattle.std.proofs.Common.{◌≡◌, ◌≢◌, inl, inr, ℕ, Bool, true, false, cond, eqb, List, [], ◌∷◌, ◌++◌, Option, Some, None, refl, sym, ap, ◌∙◌, subst, append_assoc, append-nil}
 use Rattle.std.proofs.lemmas.Bool.{eqb-true, eqb-false, ne_eqb}
-use Rattle.std.proofs.lemmas.List.{append_cancel_right}
-use Rattle.dp_command.specs.Grammar.{Joined, Repeated}
-use Rattle.dp_ide.specs.Scripts.{Behind, InText, InHexadecimal, Text, byte_of}
+use Rattle.dp_ide.specs.Scripts.{Behind, InText, Text, byte_of}
 use Rattle.dp_ide.specs.inner.Reading.{Reads, ReadsOn, escaped, first_of, in_hexadecimal}
 use Rattle.dp_reply.specs.Contents.{◌>>=◌}
 

@@ -1,9 +1,8 @@
 -- Packets as an IDE looks at them: the element that came, and the packet of DBGp 1.0 that it is.
-use Rattle.std.specs.Prelude.{◌≡◌, ℕ, Bool, true, false, if◌then◌else◌, List, [], ◌∷◌, map, Option, Some, None}
+use Rattle.std.specs.Prelude.{ℕ, Bool, true, false, if◌then◌else◌, List, [], ◌∷◌, map, Option, Some, None}
 use Rattle.std.specs.Option.{option_map_or}
 use Rattle.std.specs.Fmt.{signed_decimal}
 use Rattle.std.specs.Str.{bytes_eq}
-use Rattle.dp_markup.specs.declared.tree.Element.{Element}
 use Rattle.dp_markup.specs.Grammar.{IsMarkup}
 use Rattle.dp_packet.specs.Parts.{flag}
 use Rattle.dp_packet.specs.declared.packet.Packet.{Packet}

@@ -74,12 +74,7 @@ fn compare_content(
 }
 
 /// Compares the output since the last time, which is forgotten where it is what was wanted.
-fn take_output(
-    alloc: Global,
-    line: u64,
-    wanted: &[u8],
-    heard: &mut Heard,
-) -> Result<(), IdeError>
+fn take_output(alloc: Global, line: u64, wanted: &[u8], heard: &mut Heard) -> Result<(), IdeError>
     ensures ok { OnOk result (heard.old.output.items ≡ wanted.now) }
     ensures last { heard.new.last ≡ heard.old.last }
     ensures forgotten { OnOk result (heard.new.output.items ≡ []) }
@@ -209,11 +204,7 @@ fn hear_init(alloc: Global, last: Message) -> Result<Heard, IdeError>
 }
 
 /// Reads the first packet, which is an init.
-fn open<S: Source>(
-    alloc: Global,
-    source: &mut S,
-    packets: &mut Packets,
-) -> Result<Heard, IdeError>
+fn open<S: Source>(alloc: Global, source: &mut S, packets: &mut Packets) -> Result<Heard, IdeError>
     requires nothing { packets.old.held ≡ [] }
     requires first { packets.old.dropped ≡ 0 }
     ensures ok { IfOk result (λ heard. (read : List ℕ) × Consumes (S.left source.old) (S.left source.new) read

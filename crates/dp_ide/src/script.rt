@@ -24,10 +24,12 @@ impl Model for Script {
 
 impl Script {
     ghost use Rattle.std.specs.Prelude.{◌≡◌};
+    ghost use Rattle.dp_ide.specs.Scripts.{IsOfSomeScript};
 
-    /// The instructions. Takes no memory.
+    /// The instructions, which some bytes spell. Takes no memory.
     pub fn instructions(&self) -> &[Instruction]
-        ensures { result.now ≡ self.now }
+        ensures same { result.now ≡ self.now }
+        ensures spelt { IsOfSomeScript self.now }
     {
         self.instructions.as_slice()
     }

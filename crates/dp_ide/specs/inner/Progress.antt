@@ -227,7 +227,6 @@ PerformFails why one old before source sink out =
     (StopsHere why one before sink out × (source.told ≡ source.told_before))
     ⊎ WaitsHere why one old source sink out
 
-
 -- The player stood behind these bytes, where it has heard the init and has sent and printed
 -- nothing; from there it comes to this end.
 abbrev pub EndsFrom : List Instruction → Received → Kept → Result (Unit {0}) IdeError → Change

@@ -1,5 +1,5 @@
 -- What a function that reads a part of a script answers.
-use Rattle.std.specs.Prelude.{◌≡◌, ◌⊎◌, ℕ, ◌≤◌, Bool, true, not, ◌==◌, if◌then◌else◌, List, [], ◌∷◌, ◌++◌, length, take, drop, Option, None, Some, codes, ⊤}
+use Rattle.std.specs.Prelude.{◌≡◌, ◌⊎◌, ℕ, ◌≤◌, true, not, ◌==◌, if◌then◌else◌, List, [], ◌∷◌, ◌++◌, length, take, drop, Option, None, Some, codes, ⊤}
 use Rattle.std.specs.List.{list_all}
 use Rattle.dp_command.specs.Grammar.{Rule, ◌>>◌, Mark}
 use Rattle.dp_ide.specs.declared.error.IdeError.{IdeError}

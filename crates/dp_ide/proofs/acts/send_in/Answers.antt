@@ -1,4 +1,4 @@
-use Rattle.std.proofs.Common.{rules, ◌≡◌, List, ℕ, Option, Some, None, sym, subst, ◌∙◌, ap}
+use Rattle.std.proofs.Common.{rules, ◌≡◌, List, ℕ, Some, None, sym, subst}
 use Rattle.dp_command.specs.Letters as letter
 use Rattle.dp_command.specs.Options.{given}
 use Rattle.dp_wire.specs.Frames.{IsCommand}

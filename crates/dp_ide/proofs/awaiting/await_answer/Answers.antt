@@ -1,4 +1,4 @@
-use Rattle.std.proofs.Common.{◌≡◌, ◌++◌, Bool, true, false, [], refl, subst, arith}
+use Rattle.std.proofs.Common.{◌++◌, Bool, [], refl, subst, arith}
 use Rattle.std.proofs.KnownBytes.{Consumes-nil, Consumes-trans}
 use Rattle.dp_outside.specs.Changes.{change}
 use Rattle.dp_ide.specs.declared.error.IdeError.TheVariants.{Memory}

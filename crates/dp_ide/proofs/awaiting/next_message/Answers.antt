@@ -1,4 +1,4 @@
-use Rattle.std.proofs.Common.{◌≡◌, ◌+◌, ◌-◌, List, ℕ, take, drop, subst}
+use Rattle.std.proofs.Common.{◌+◌, ◌-◌, List, ℕ, take, drop, subst}
 use Rattle.dp_ide.specs.Messages.{IsMessage}
 use Rattle.dp_ide.proofs.AwaitLaws.{takes_front}
 use Rattle.dp_ide.proofs.awaiting.next_message.Goals as goal

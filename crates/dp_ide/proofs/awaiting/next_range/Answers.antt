@@ -1,4 +1,4 @@
-use Rattle.std.proofs.Common.{rules, ◌≡◌, ◌∙◌, inr, ap, refl, Ok, None}
+use Rattle.std.proofs.Common.{rules, ◌∙◌, inr, ap, refl, Ok}
 use Rattle.dp_outside.specs.Changes.{change}
 use Rattle.dp_wire.specs.Frames.{IsPartialPacket}
 use Rattle.dp_wire.specs.Places.{refused_at}

@@ -1,4 +1,4 @@
-use Rattle.std.proofs.Common.{rules, ◌≡◌, ◌-◌, ◌+◌, List, length, take, drop, sym, ap, ◌∙◌, ◌∷◌}
+use Rattle.std.proofs.Common.{rules, ◌+◌, take, sym, ap, ◌∙◌, ◌∷◌}
 use Rattle.dp_ide.specs.Scripts.{lines_of}
 use Rattle.dp_ide.proofs.LineLaws.{rest_is, split_ended, split_last}
 use Rattle.dp_ide.proofs.lines.split_line.Goals as goal

@@ -1,4 +1,4 @@
-use Rattle.std.proofs.Common.{rules, ◌≡◌, ◌<◌, decimal, arith}
+use Rattle.std.proofs.Common.{rules, ◌≡◌, decimal, arith}
 use Rattle.dp_ide.proofs.ActsPlayed.{same_numbers}
 use Rattle.dp_ide.proofs.playing.compare_code.Goals as goal
 

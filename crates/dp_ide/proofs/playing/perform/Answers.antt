@@ -1,4 +1,4 @@
-use Rattle.std.proofs.Common.{◌≡◌, refl, sym, ◌∙◌, subst}
+use Rattle.std.proofs.Common.{refl, sym, ◌∙◌, subst}
 use Rattle.dp_outside.specs.Changes.{change}
 use Rattle.dp_wire.specs.Frames.{IsCommand}
 use Rattle.dp_ide.specs.declared.instruction.Act.TheVariants.{Send, Attr, Prop, Out}

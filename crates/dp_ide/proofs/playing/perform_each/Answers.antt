@@ -1,8 +1,8 @@
-use Rattle.std.proofs.Common.{◌≡◌, ◌+◌, ◌++◌, ◌∷◌, List, [], get_or, length, take, drop, refl, sym, ap, ◌∙◌, subst, arith, take_all}
+use Rattle.std.proofs.Common.{◌≡◌, ◌+◌, ◌++◌, ◌∷◌, List, [], take, drop, refl, sym, ap, ◌∙◌, subst, arith, take_all}
 use Rattle.std.proofs.lemmas.List.{take_more}
 use Rattle.dp_outside.specs.Changes.{change}
 use Rattle.dp_ide.specs.declared.instruction.Instruction.{Instruction}
-use Rattle.dp_ide.specs.inner.Progress.{Performs}
+use Rattle.dp_ide.specs.inner.Progress.{IsPlayable, Performs}
 use Rattle.dp_ide.proofs.PlayLaws.{ends_done, ends_failing, performs_none, performs_then, split_at}
 use Rattle.dp_ide.proofs.playing.perform_each.Goals as goal
 
@@ -14,6 +14,9 @@ loop-one-init g c = (
   performs_none c.args.packets.now c.args.heard.now (change g.S.Source.left g.S.Source.faults c.args.source.now c.args.source.now)
       (change g.K.Sink.taken g.K.Sink.faults c.args.sink.now c.args.sink.now) (change g.O.Sink.taken g.O.Sink.faults c.args.out.now c.args.out.now) refl refl refl,
 )
+
+pub perform-requires : goal.perform-requires
+perform-requires g c = subst IsPlayable (sym c.one-item.is) (c.requires c.loop-one.one-index c.one-item.result (omega arith))
 
 pub returns-in-Err-clause-ends : goal.returns-in-Err-clause-ends
 returns-in-Err-clause-ends g c = λ read told faults stood consumed later.

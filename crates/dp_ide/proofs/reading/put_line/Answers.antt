@@ -1,4 +1,4 @@
-use Rattle.std.proofs.Common.{rules, ◌≡◌, true, [], refl, sym, append-nil}
+use Rattle.std.proofs.Common.{rules, ◌≡◌, true, [], sym, append-nil}
 use Rattle.dp_ide.specs.Scripts.{is_idle}
 use Rattle.dp_ide.proofs.ActLaws.{idle_alone}
 use Rattle.dp_ide.proofs.reading.put_line.Goals as goal

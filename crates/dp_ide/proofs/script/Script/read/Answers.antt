@@ -1,4 +1,4 @@
-use Rattle.std.proofs.Common.{rules, ◌≡◌, ◌+◌, true, eqb, List, ℕ, [], length, arith}
+use Rattle.std.proofs.Common.{rules, ◌≡◌, true, eqb, [], length, arith}
 use Rattle.std.proofs.lemmas.Bool.{eqb-true}
 use Rattle.std.proofs.lemmas.List.{nil_from_length}
 use Rattle.dp_ide.proofs.LineLaws.{no_bad, refused_bad, refused_only, said_all, said_line}

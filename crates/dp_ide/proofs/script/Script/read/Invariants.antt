@@ -1,4 +1,4 @@
-use Rattle.std.proofs.Common.{◌≡◌, ◌+◌, ◌≤◌, length}
+use Rattle.std.proofs.Common.{◌+◌, ◌≤◌, length}
 use Rattle.dp_ide.specs.inner.Reading.{HasSaid}
 use Rattle.dp_ide.proofs.script.Script.read.Given as goal
 
