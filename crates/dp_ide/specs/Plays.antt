@@ -164,7 +164,8 @@ pub record EndsWaiting (end : Result (Unit {0}) IdeError) (script : List Instruc
   pub lacks : Lacks end waiting (rest_of_packets read) source
   pub gives : Gives waiting.reached waiting.printed sink out
 
--- Every end has its cause in what was read: the player stood at an instruction, or awaited a packet.
+-- Every end has its cause in what was read: the player stood at an instruction, or awaited a
+-- packet.
 pub record Ends (script : List Instruction) (end : Result (Unit {0}) IdeError)
     (source sink out : Change) : Type 0 where
   pub read : List ℕ

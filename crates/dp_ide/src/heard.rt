@@ -5,9 +5,9 @@ use dp_packet::Packet;
 
 /// What a packet's text says: its element, and the packet that this is.
 #[derive(Debug, Drop)]
-pub struct Message {
-    pub root: Element,
-    pub packet: Packet,
+pub(crate) struct Message {
+    pub(crate) root: Element,
+    pub(crate) packet: Packet,
 }
 
 /// The last message, and the program's output since it was last asked for.
