@@ -102,6 +102,7 @@ pub fn carry_out_on<'a, H: Shelf, S: Source, K: Sink, E: Sink, N: Net>(
         input,
         out,
         err,
+        net,
     } = objects;
     // What became of each is known by looking at it.
     let _ = &*shelf;

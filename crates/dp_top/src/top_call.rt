@@ -11,7 +11,6 @@ ghost use Rattle.dp_top.specs.Runs.{IsFetched};
 ghost use Rattle.dp_top.specs.Seen.{NoneRose, net_seen, seen};
 ghost use Rattle.dp_top.specs.Tasks.{IsDone, Fails, IsUnread};
 
-use dp_words::read_words;
 use crate::commands::carry_out_on;
 use crate::failures::{report, say};
 use dp_outside::{Net, Shelf, Sink, Source, Spawner};
