@@ -1,8 +1,10 @@
-//! The outside as the system gives it: sources over readers, sinks over writers, a shelf over files. Nothing is claimed
-//! of what these give.
+//! The outside as the system gives it: sources over readers, sinks over writers, a shelf over files, links and gates
+//! over TCP. Nothing is claimed of what these give.
 #![tactic(auto)]
 
 mod adapters;
+mod tcp;
 mod transfers;
 
 pub use adapters::{FileShelf, Reading, Writing};
+pub use tcp::{TcpGate, TcpNet, TcpSink};

@@ -1,5 +1,5 @@
 -- A machine that goes on moment by moment finds the stop of its program, and counts the hits up to there.
-use Rattle.std.proofs.Common.{◌≡◌, ℕ, suc, ◌+◌, Bool, true, false, cond, ◌||◌, List, [], ◌∷◌, drop, Option, Some, None, sym, ap, subst, ◌∙◌, arith}
+use Rattle.std.proofs.Common.{◌≡◌, ℕ, suc, ◌+◌, ◌<◌, Bool, true, false, cond, ◌||◌, List, [], ◌∷◌, drop, length, Option, Some, None, sym, ap, subst, ◌∙◌, arith}
 use Rattle.dp_break.specs.declared.breakpoint.Breakpoint.{Breakpoint}
 use Rattle.dp_break.specs.Passing.{Moments, found, held_after, one_stops}
 use Rattle.dp_break.specs.Tables.{Table}
@@ -8,11 +8,13 @@ use Rattle.dp_tree.specs.declared.bundle.Bundle.{Bundle}
 use Rattle.dp_state.specs.declared.moments.Moment.{Moment}
 use Rattle.dp_state.specs.declared.moments.Outcome.{Outcome}
 use Rattle.dp_state.specs.declared.state.State.{State}
+use Rattle.dp_state.specs.States.{IsOf}
 use Rattle.dp_meaning.specs.declared.writing.NumberedWrite.{NumberedWrite}
 use Rattle.dp_meaning.specs.Trace.{moment_at, program_trace}
-use Rattle.dp_meaning_laws.proofs.Whole.{numbered}
+use Rattle.dp_meaning_laws.proofs.Whole.{end-can, now-can, numbered}
 use Rattle.dp_step.specs.declared.machine.Machine.{Machine}
 use Rattle.dp_step.specs.Stands.{ComesTo, EndsWith, StandsFor}
+use Rattle.dp_step.proofs.Counting.{ends-at-last}
 use Rattle.dp_continuation.specs.declared.arrival.Reached.TheVariants as reached
 use Rattle.dp_continuation.specs.Going.{Reaches, stop_past, table_past}
 use Rattle.dp_continuation.specs.Stops.{depth_of}
@@ -25,17 +27,19 @@ module _ (mode : Moment → Bool) (bundle : Bundle) (bound : ℕ) (writes : List
   abbrev found_past : List Breakpoint → ℕ → Option ℕ × List Breakpoint
   found_past held n = found mode bundle held n (drop n moments)
 
-  -- what is found past n is found past the moment at which the machine stands
-  pub record IsOnWay (n : ℕ) (before table : Table) (machine : Machine) : Type 0 where
+  -- what is found past n is found past the moment at which the machine stands; each moment up to there took one step
+  pub record IsOnWay (n : ℕ) (before table : Table) (machine : Machine) (begun steps : ℕ) : Type 0 where
     pub at : ℕ
     pub stands : StandsFor bundle bound writes at machine
     pub next : table.next ≡ before.next
     pub found : found_past before.held n ≡ found_past table.held at
+    pub counted : steps + n ≡ begun + at
 
   -- ---- a moment
 
-  module _ (n : ℕ) (before table : Table) (old : Machine) (way : IsOnWay n before table old) (moment : Moment)
-      (new : Machine) (comes : ComesTo bundle bound writes way.at moment new) where
+  module _ (n : ℕ) (before table : Table) (old : Machine) (begun steps : ℕ)
+      (way : IsOnWay n before table old begun steps) (moment : Moment) (new : Machine)
+      (comes : ComesTo bundle bound writes way.at moment new) (after : ℕ) (one : after ≡ steps + 1) where
     abbrev here : Moment × State
     here = (moment, new.state)
 
@@ -53,7 +57,7 @@ module _ (mode : Moment → Bool) (bundle : Bundle) (bound : ℕ) (writes : List
 
     -- at which it does not stop
     goes-past : (b : Bool) → b ≡ (mode moment || one_stops bundle table.held [] here) → b ≡ false
-        → IsOnWay n before left new
+        → IsOnWay n before left new begun after
     goes-past b is off =
         let more : way.at + 1 ≡ suc way.at = omega arith in record {
           at = suc way.at;
@@ -61,7 +65,13 @@ module _ (mode : Moment → Bool) (bundle : Bundle) (bound : ℕ) (writes : List
           next = way.next;
           found = past b is ∙ ap (λ (c : Bool). cond c (Some (way.at + 1), left.held) later) off
               ∙ ap (λ (k : ℕ). found mode bundle left.held k (drop (suc way.at) moments)) more;
+          counted = omega (arith, one, way.counted);
         }
+
+    pub counts-moment : after + n ≡ begun + moment.number
+    counts-moment =
+        let number : moment.number ≡ suc way.at = (numbered bundle bound writes way.at here comes.0).0 in
+        omega (arith, one, number, way.counted)
 
     -- at which it stops
     module _ (b : Bool) (is : b ≡ (mode moment || one_stops bundle table.held [] here)) (stops : b ≡ true) where
@@ -87,20 +97,20 @@ module _ (mode : Moment → Bool) (bundle : Bundle) (bound : ℕ) (writes : List
           (found-held bundle mode before.held n (drop n moments))
 
     -- the state is lent, and left as it was
-    module _ (lent program : State) (same : lent ≡ new.state) (kept : program ≡ lent) (after : Table)
-        (counts : after ≡ record table { held = held_after bundle ((moment, lent) ∷ []) table.held })
+    module _ (lent program : State) (same : lent ≡ new.state) (kept : program ≡ lent) (passed : Table)
+        (counts : passed ≡ record table { held = held_after bundle ((moment, lent) ∷ []) table.held })
         (b : Bool) (is : b ≡ (mode moment || one_stops bundle table.held [] (moment, lent))) where
       is-here : b ≡ (mode moment || one_stops bundle table.held [] here)
       is-here = is ∙ ap (λ (s : State). mode moment || one_stops bundle table.held [] (moment, s)) same
 
-      counts-here : after ≡ left
+      counts-here : passed ≡ left
       counts-here = counts
           ∙ ap (λ (s : State). record table { held = held_after bundle ((moment, s) ∷ []) table.held }) same
 
-      pub passes : b ≡ false → IsOnWay n before after (record new { state = program })
+      pub passes : b ≡ false → IsOnWay n before passed (record new { state = program }) begun after
       passes off =
-          subst (λ (t : Table). IsOnWay n before t (record new { state = program })) (sym counts-here)
-          (subst (λ (s : State). IsOnWay n before left (record new { state = s })) (sym (kept ∙ same))
+          subst (λ (t : Table). IsOnWay n before t (record new { state = program }) begun after) (sym counts-here)
+          (subst (λ (s : State). IsOnWay n before left (record new { state = s }) begun after) (sym (kept ∙ same))
           (goes-past b is-here off))
 
       pub reaches : b ≡ true
@@ -111,13 +121,19 @@ module _ (mode : Moment → Bool) (bundle : Bundle) (bound : ℕ) (writes : List
           (reached.Moment moment.number moment.depth) (record new { state = s }))
           (sym (kept ∙ same)) (stops-there b is-here on)
 
-      pub reaches-with : b ≡ true → after ≡ table_past mode bundle bound writes before n
+      pub reaches-with : b ≡ true → passed ≡ table_past mode bundle bound writes before n
       reaches-with on = counts-here ∙ stops-with b is-here on
+
+      pub reaches-of : 0 < length bundle.files → IsOf bundle program
+      reaches-of some =
+          subst (IsOf bundle) (sym (kept ∙ same))
+          (now-can bundle bound writes some (suc way.at) new.state comes.1.state).0
 
   -- ---- the end
 
-  module _ (n : ℕ) (before table : Table) (old : Machine) (way : IsOnWay n before table old) (end : Outcome)
-      (new : Machine) (ends : EndsWith bundle bound writes way.at end new) where
+  module _ (n : ℕ) (before table : Table) (old : Machine) (begun steps : ℕ)
+      (way : IsOnWay n before table old begun steps) (end : Outcome) (new : Machine)
+      (ends : EndsWith bundle bound writes way.at end new) where
     over : found_past before.held n ≡ (None, table.held)
     over = way.found ∙ ap (found mode bundle table.held way.at) (drop-past way.at moments ends.0)
 
@@ -134,3 +150,11 @@ module _ (mode : Moment → Bool) (bundle : Bundle) (bound : ℕ) (writes : List
         (λ i. record { held = (sym over i).1; next = way.next i })
         ∙ ap (λ (l : List Breakpoint). record before { held = l })
         (found-held bundle mode before.held n (drop n moments))
+
+    pub ends-of : 0 < length bundle.files → IsOf bundle new.state
+    ends-of some = subst (IsOf bundle) (sym ends.2) (end-can bundle bound writes some).0
+
+    pub counts-end : (after : ℕ) → after ≡ steps + 0 → after + n ≡ begun + length moments
+    counts-end after none =
+        let last = ends-at-last bundle bound writes way.at end old new way.stands ends in
+        omega (arith, none, last, way.counted)

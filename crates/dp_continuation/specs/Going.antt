@@ -1,6 +1,6 @@
 -- Where a program comes to that goes on past a moment, and what is held of breakpoints then. The
 -- mode is the test by which the command stops.
-use Rattle.std.specs.Prelude.{◌≡◌, ℕ, Bool, List, Option, Some, None}
+use Rattle.std.specs.Prelude.{◌≡◌, ℕ, Bool, List, length, Option, Some, None}
 use Rattle.dp_break.specs.declared.breakpoint.Breakpoint.{Breakpoint}
 use Rattle.dp_break.specs.Passing.{held_after, passed, stop_above}
 use Rattle.dp_break.specs.Tables.{Table}
@@ -70,3 +70,9 @@ IsBrought bundle bound writes n (brought.Ended end program) =
     (now bundle bound writes n ≡ None)
     × (end ≡ outcome bundle bound writes)
     × (program ≡ (program_trace bundle bound writes).state)
+
+-- the number of that moment, or of the last one
+abbrev pub reached_moment : Bundle → ℕ → List NumberedWrite → Reached → ℕ
+reached_moment bundle bound writes (reached.Moment number depth) = number
+reached_moment bundle bound writes (reached.End end) =
+    length (program_trace bundle bound writes).moments

@@ -1,8 +1,8 @@
 //! Going on.
 
-ghost use Rattle.std.specs.Prelude.{◌≡◌, ◌<◌, ◌≤◌, ◌∷◌, ◌||◌, ℕ, List, [], All, length, IfOk, OnOk};
+ghost use Rattle.std.specs.Prelude.{◌≡◌, ◌+◌, ◌<◌, ◌≤◌, ◌∷◌, ◌||◌, ℕ, List, [], All, length, IfOk, OnOk};
 ghost use Rattle.dp_break.specs.Passing.{held_after, one_stops};
-ghost use Rattle.dp_continuation.specs.Going.{Arrives, Reaches, program_in, stop_past, table_past};
+ghost use Rattle.dp_continuation.specs.Going.{Arrives, Reaches, program_in, reached_moment, stop_past, table_past};
 ghost use Rattle.dp_continuation.specs.Stops.{stops};
 ghost use Rattle.dp_meaning.specs.declared.writing.NumberedWrite.{NumberedWrite as AnyWrite};
 ghost use Rattle.dp_meaning.specs.Trace.{outcome as outcome_of, program_trace};
@@ -16,10 +16,12 @@ use dp_break::Breaks;
 use dp_command::Continuation;
 use dp_meaning::{NumberedWrite, Stop, run_to};
 use dp_state::{Moment, Outcome, State};
-use dp_step::{Machine, Progress};
+use dp_step::{Machine, Progress, Steps};
 use dp_tree::Bundle;
 use dp_value::Memory;
 use std::alloc::Global;
+use std::marker::Brand;
+use std::sync::ledger::{Blank, Ledger};
 
 /// Counts the hits of a moment, and says whether the program stops at it.
 fn pass(
@@ -43,24 +45,29 @@ fn pass(
 
 /// Where a machine comes to that goes on from the moment at which it stands, where it is this deep, and what is held of the
 /// breakpoints then: the first moment past it at which the command or a breakpoint stops, or the end. The hits are those of
-/// the moments up to there, each of which is passed once. Where none is held, that costs no more.
+/// the moments up to there, each of which is passed once and takes one step. Where none is held, that costs no more.
 ///
 /// After want of memory nothing is said of the machine and of the breakpoints.
-pub fn go_on_from(
+pub fn go_on_from<L: Ledger>(
     machine: &mut Machine,
     bundle: &Bundle,
     depth: u32,
     mode: Continuation,
     breaks: &mut Breaks,
+    steps: &mut Steps<L>,
 ) -> Result<Reached, Memory>
     ensures reached { (bound : ℕ) (writes : List AnyWrite) (n : ℕ) → StandsFor bundle.now bound writes n machine.old
         → IfOk result (λ reached. Reaches bundle.now bound writes
         (stop_past (stops mode depth) bundle.now bound writes breaks.old.held n) reached machine.new) }
     ensures breaks { (bound : ℕ) (writes : List AnyWrite) (n : ℕ) → StandsFor bundle.now bound writes n machine.old
         → OnOk result (breaks.new ≡ table_past (stops mode depth) bundle.now bound writes breaks.old n) }
+    ensures of { (bound : ℕ) (writes : List AnyWrite) (n : ℕ) → StandsFor bundle.now bound writes n machine.old
+        → 0 < length bundle.now.files → OnOk result (IsOf bundle.now machine.new.state) }
+    ensures counted { (bound : ℕ) (writes : List AnyWrite) (n : ℕ) → StandsFor bundle.now bound writes n machine.old
+        → IfOk result (λ reached. steps.new + n ≡ steps.old + reached_moment bundle.now bound writes reached) }
 {
     for _ in 0..u64::MAX {
-        match machine.step()? {
+        match machine.step(steps)? {
             Progress::At(moment) => {
                 if pass(bundle, mode, depth, &moment, machine.state_mut(), breaks)? {
                     return Ok(Reached::Moment {
@@ -77,12 +84,13 @@ pub fn go_on_from(
 }
 
 /// Where a machine comes to that goes on, with the state there.
-fn go_on_with(
+fn go_on_with<L: Ledger>(
     mut machine: Machine,
     bundle: &Bundle,
     depth: u32,
     mode: Continuation,
     breaks: &mut Breaks,
+    steps: &mut Steps<L>,
 ) -> Result<Arrival, Memory>
     ensures arrival { (bound : ℕ) (writes : List AnyWrite) (n : ℕ) → StandsFor bundle.now bound writes n machine.entry
         → IfOk result (Arrives bundle.now bound writes
@@ -90,17 +98,47 @@ fn go_on_with(
     ensures breaks { (bound : ℕ) (writes : List AnyWrite) (n : ℕ) → StandsFor bundle.now bound writes n machine.entry
         → OnOk result (breaks.new ≡ table_past (stops mode depth) bundle.now bound writes breaks.old n) }
 {
-    match go_on_from(&mut machine, bundle, depth, mode, breaks) {
+    let reached = go_on_from(&mut machine, bundle, depth, mode, breaks, steps);
+    let program = machine.into_state();
+    match reached {
         Ok(Reached::Moment { number, depth }) => Ok(Arrival::Moment {
             number,
             depth,
-            program: machine.into_state(),
+            program,
         }),
-        Ok(Reached::End(outcome)) => Ok(Arrival::End {
-            outcome,
-            program: machine.into_state(),
-        }),
-        Err(_) => Err(Memory),
+        Ok(Reached::End(outcome)) => Ok(Arrival::End { outcome, program }),
+        Err(_) => {
+            drop(program);
+            Err(Memory)
+        }
+    }
+}
+
+/// The same from the beginning of the program, with a ledger for the steps.
+fn go_on_by<L: Ledger>(
+    alloc: Global,
+    bundle: &Bundle,
+    writes: &[NumberedWrite],
+    bound: u64,
+    from: u64,
+    depth: u32,
+    mode: Continuation,
+    breaks: &mut Breaks,
+    blank: Blank,
+) -> Result<Arrival, Memory>
+    requires early { All (λ w. w.moment ≤ from) writes.now }
+    requires name { blank.name ≡ L.name }
+    requires parts { blank.parts ≡ L.parts }
+    requires some { 0 < blank.parts }
+    ensures arrival { IfOk result (Arrives bundle.now bound writes.now
+        (stop_past (stops mode depth) bundle.now bound writes.now breaks.old.held from)) }
+    ensures breaks { OnOk result (breaks.new
+        ≡ table_past (stops mode depth) bundle.now bound writes.now breaks.old from) }
+{
+    let mut steps = Steps::<L>::new(blank);
+    match stand_at(alloc, bundle, writes, bound, from, &mut steps)? {
+        Brought::At(machine) => go_on_with(machine, bundle, depth, mode, breaks, &mut steps),
+        Brought::Ended(outcome, program) => Ok(Arrival::End { outcome, program }),
     }
 }
 
@@ -127,10 +165,11 @@ pub fn go_on(
         ≡ table_past (stops mode depth) bundle.now bound writes.now breaks.old from) }
     ensures of { 0 < length bundle.now.files → IfOk result (λ arrival. IsOf bundle.now (program_in arrival)) }
 {
-    match stand_at(alloc, bundle, writes, bound, from)? {
-        Brought::At(machine) => go_on_with(machine, bundle, depth, mode, breaks),
-        Brought::Ended(outcome, program) => Ok(Arrival::End { outcome, program }),
-    }
+    // Nobody asks for the steps.
+    let blank = Blank::new(1);
+    go_on_by::<Brand>(
+        alloc, bundle, writes, bound, from, depth, mode, breaks, blank,
+    )
 }
 
 /// The end of the program, which no breakpoint keeps.

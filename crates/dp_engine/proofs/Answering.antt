@@ -12,17 +12,19 @@ use Rattle.dp_packet.specs.Text.{text}
 use Rattle.dp_packet.specs.Uris.{file_uri}
 use Rattle.dp_packet.proofs.LengthLaws.{packet_some}
 use Rattle.dp_serving.specs.declared.responder.Answer.{Answer}
-use Rattle.dp_serving.specs.Folds.{Reply, reply_of}
+use Rattle.dp_serving.specs.Folds.{reply_of}
+use Rattle.dp_state.specs.declared.state.State.{State as Program}
 use Rattle.dp_wire.specs.Frames.{IsPacketText}
 use Rattle.dp_engine.specs.declared.session.SessionEnd.{SessionEnd}
-use Rattle.dp_engine.specs.declared.turns.Turn.{Turn as Made}
+use Rattle.dp_engine.specs.declared.telling.Turn.{Turn as Made}
 use Rattle.dp_engine.specs.Answers.{answer, to_ide, to_program, turn, turn_of}
 use Rattle.dp_engine.specs.Refusals.{refusal_of_line}
 use Rattle.dp_engine.specs.Responses.{init_text, main_name, response_text}
-use Rattle.dp_engine.specs.Session.{State, output_so_far, written_between}
+use Rattle.dp_engine.specs.Session.{State, program_of, written_between}
 use Rattle.dp_engine.specs.inner.Sizes.{Fits}
-use Rattle.dp_engine.specs.inner.Turns.{IsTurn, after, given}
+use Rattle.dp_engine.specs.inner.Turns.{IsSent, IsTurn}
 use Rattle.dp_engine.proofs.Fitting.{init_fits}
+use Rattle.dp_engine.proofs.Turning.{output_is}
 
 -- ---- the first packet
 
@@ -56,29 +58,28 @@ response_fits r (Err e) fits is = tt
 -- ---- answers
 
 -- what is sent of a turn is what is sent of the one that is asked for
-given_is : (before state : State) (bytes : List ℕ) (mode : StreamMode) (shown : ℕ) (made : Made) → mode ≡ before.stdout → shown ≡ length (output_so_far before)
-    → IsTurn (turn before bytes) state made → given mode shown made state ≡ answer before bytes
+given_is : (before next : State) (bytes : List ℕ) (mode : StreamMode) (written : List ℕ) (made : Made) (sent : Answer SessionEnd) → mode ≡ before.stdout
+    → written ≡ written_between before next → IsTurn (turn before bytes) next made → IsSent mode written made sent → reply_of sent next ≡ answer before bytes
 unfolding answer
-given_is before state bytes mode shown made m n t =
-    let fresh : drop shown (output_so_far (after made.step state)) ≡ written_between before (turn before bytes).next = λ i. drop (n i) (output_so_far (t.next i)) in λ i. record {
-      packets = to_ide (m i) (fresh i) ++ t.text i ∷ [];
-      program = to_program (m i) (fresh i);
+given_is before next bytes mode written made sent m w t s =
+    let fresh : written ≡ written_between before (turn before bytes).next = w ∙ ap (written_between before) t.next in λ i. record {
+      packets = (s.packets ∙ (λ j. to_ide (m j) (fresh j) ++ t.tells.text j ∷ [])) i;
+      program = (s.program ∙ (λ j. to_program (m j) (fresh j))) i;
       state = t.next i;
-      ended = t.ended i;
+      ended = (s.ended ∙ t.tells.ends) i;
     }
 
-turn_read : (before state : State) (bytes : List ℕ) (line : Option Line) (made : Made) → line ≡ line_of bytes → IsTurn (turn_of line (refusal_of_line before line) before) state made
-    → IsTurn (turn before bytes) state made
+turn_read : (before next : State) (bytes : List ℕ) (line : Option Line) (made : Made) → line ≡ line_of bytes → IsTurn (turn_of line (refusal_of_line before line) before) next made
+    → IsTurn (turn before bytes) next made
 unfolding turn
-turn_read before state bytes line made is t = subst (λ (l : Option Line). IsTurn (turn_of l (refusal_of_line before l) before) state made) is t
+turn_read before next bytes line made is t = subst (λ (l : Option Line). IsTurn (turn_of l (refusal_of_line before l) before) next made) is t
 
-answered_by : {E : Type 0} (made : Result (Answer SessionEnd) E) (next : State) (a b : Reply State SessionEnd) → a ≡ b → IfOk made (λ x. reply_of x next ≡ a) → IfOk made (λ x. reply_of x next ≡ b)
-answered_by (Ok x) next a b same is = is ∙ same
-answered_by (Err e) next a b same is = tt
-
-pub answered : {E : Type 0} (before state next : State) (bytes : List ℕ) (line : Option Line) (mode : StreamMode) (shown : ℕ) (made : Made) (reply : Result (Answer SessionEnd) E)
-    → mode ≡ before.stdout → shown ≡ length (output_so_far before)
-    → line ≡ line_of bytes → IsTurn (turn_of line (refusal_of_line before line) before) state made
-    → IfOk reply (λ x. reply_of x next ≡ given mode shown made state) → IfOk reply (λ x. reply_of x next ≡ answer before bytes)
-answered before state next bytes line mode shown made reply m n is t told =
-    answered_by reply next (given mode shown made state) (answer before bytes) (given_is before state bytes mode shown made m n (turn_read before state bytes line made is t)) told
+pub answered : {E : Type 0} (before next : State) (bytes : List ℕ) (line : Option Line) (mode : StreamMode) (first last : Program) (shown : ℕ) (written : List ℕ) (made : Made) (reply : Result (Answer SessionEnd) E)
+    → mode ≡ before.stdout → first ≡ program_of before → last ≡ program_of next → shown ≡ length first.output → written ≡ drop shown last.output
+    → line ≡ line_of bytes → IsTurn (turn_of line (refusal_of_line before line) before) next made
+    → IfOk reply (IsSent mode written made) → IfOk reply (λ x. reply_of x next ≡ answer before bytes)
+answered before next bytes line mode first last shown written made (Ok x) m f l n w is t s =
+    given_is before next bytes mode written made x m
+    (w ∙ (λ i. drop ((n ∙ ap (λ (p : Program). length p.output) f ∙ ap length (sym (output_is before))) i) ((ap (λ (p : Program). p.output) l ∙ sym (output_is next)) i)))
+    (turn_read before next bytes line made is t) s
+answered before next bytes line mode first last shown written made (Err e) m f l n w is t s = tt

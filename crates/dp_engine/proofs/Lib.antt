@@ -1,13 +1,8 @@
 pub mod WriteAnswers
 pub mod Refusing
-pub mod Growing
 pub mod Fitting
 pub mod Accepting
-pub mod Outputs
 pub mod Streaming
-pub mod Watching
-pub mod Whole
 pub mod ServingLaws
 pub mod Turning
 pub mod Answering
-pub mod Showing

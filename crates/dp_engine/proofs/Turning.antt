@@ -1,10 +1,11 @@
 -- Turns as the code makes them.
-use Rattle.std.proofs.Common.{arith, ◌≡◌, ℕ, ◌<◌, ◌≤◌, Bool, true, false, cond, not, List, [], ◌∷◌, drop, length, Option, Some, None, Result, Ok, Err, refl, sym, ap, subst, ◌∙◌}
-use Rattle.std.specs.Prelude.{codes, if◌then◌else◌, map, option_map, unwrap_or, IfOk, IsFalse, IsTrue, MatchResult}
+use Rattle.std.proofs.Common.{arith, ◌≡◌, ◌≢◌, ℕ, zero, suc, ◌+◌, ◌<◌, ◌≤◌, Bool, true, false, cond, not, List, [], ◌∷◌, drop, length, Option, Some, None, Result, Ok, Err, refl, sym, ap, subst, ◌∙◌}
+use Rattle.std.specs.Prelude.{if◌then◌else◌, map, option_map, unwrap_or, IfOk, IsFalse, IsTrue, MatchResult}
 use Rattle.std.specs.Option.{option_map_or}
 use Rattle.std.proofs.lemmas.Bool.{le-leb}
 use Rattle.std.proofs.lemmas.List.{length-map}
-use Rattle.dp_wire.specs.Frames.{IsPacketText, packet_limit}
+use Rattle.std.proofs.lemmas.Option.{slice_get_within}
+use Rattle.dp_wire.specs.Frames.{packet_limit}
 use Rattle.dp_tree.specs.declared.bundle.Bundle.{Bundle}
 use Rattle.dp_tree.specs.FileNames.{AreFileNames}
 use Rattle.dp_break.specs.Tables.{Table}
@@ -23,48 +24,49 @@ use Rattle.dp_command.specs.declared.line.Line.{Line}
 use Rattle.dp_command.specs.declared.names.CommandName.{CommandName}
 use Rattle.dp_command.specs.Names.{name_of}
 use Rattle.dp_command.specs.Refusals.{admission_refusal, code_of, coded, fits_row, holds_of, id_of}
-use Rattle.dp_continuation.specs.declared.arrival.Arrival.{Arrival}
-use Rattle.dp_continuation.specs.declared.arrival.Arrival.TheVariants.{Moment, End}
-use Rattle.dp_continuation.specs.Going.{Arrives, program_in, stop_past, table_past}
+use Rattle.dp_continuation.specs.Going.{stop_past, table_past}
 use Rattle.dp_continuation.specs.Stops.{stops}
 use Rattle.dp_continuation.proofs.Stopping.{stop_is_there}
 use Rattle.dp_features.specs.Features.{Features}
 use Rattle.dp_meaning.specs.declared.writing.NumberedWrite.{NumberedWrite}
 use Rattle.dp_meaning.specs.declared.writing.Write.{Write}
-use Rattle.dp_meaning.specs.Trace.{program_trace}
+use Rattle.dp_meaning.specs.Trace.{now, outcome, program_trace}
+use Rattle.dp_meaning_laws.proofs.Whole.{end-can, now-can}
 use Rattle.dp_packet.specs.declared.packet.Response.{Response}
 use Rattle.dp_packet.specs.declared.packet.Body.TheVariants as body
 use Rattle.dp_packet.specs.declared.packet.Packet.TheVariants as packet
 use Rattle.dp_packet.specs.Packets.{HasMessage}
 use Rattle.dp_packet.specs.Parts.{Text}
 use Rattle.dp_packet.specs.Text.{text}
-use Rattle.dp_state.specs.declared.moments.Moment.{Moment as Moment_come}
 use Rattle.dp_state.specs.declared.moments.Outcome.{Outcome}
 use Rattle.dp_state.specs.declared.state.State.{State as Program_state}
-use Rattle.dp_state.proofs.Kept.{of-opening}
 use Rattle.dp_state.specs.States.{IsOf, file_of, opening as first_state}
+use Rattle.dp_step.specs.declared.machine.Machine.{Machine}
+use Rattle.dp_step.specs.Stands.{StandsFor}
+use Rattle.dp_step.proofs.Standing.{of_image}
 use Rattle.dp_view_commands.specs.Views.{code_in, view_refusal, view_response}
 use Rattle.dp_write_commands.specs.Asked.{write_asked}
 use Rattle.dp_write_commands.specs.Writing.{code_in as code_written, write_refusal, write_response}
+use Rattle.dp_engine.specs.declared.session.SessionEnd.{SessionEnd}
+use Rattle.dp_engine.specs.declared.session.SessionEnd.TheVariants.{Finished}
 use Rattle.dp_engine.specs.declared.sides.Side.{Side}
 use Rattle.dp_engine.specs.declared.sides.Side.TheVariants.{Breakpoints, Program, Writes}
-use Rattle.dp_engine.specs.declared.states.Phase.TheVariants.{Break as Break_state}
+use Rattle.dp_engine.specs.declared.states.Phase.{Phase}
+use Rattle.dp_engine.specs.declared.states.Phase.TheVariants as phase
 use Rattle.dp_engine.specs.declared.states.Standing.{Standing}
 use Rattle.dp_engine.specs.declared.states.Standing.TheVariants.{Starting, Break, Stopping}
-use Rattle.dp_engine.specs.declared.turns.Step.{Step}
-use Rattle.dp_engine.specs.declared.turns.Step.TheVariants.{Stay, Come}
-use Rattle.dp_engine.specs.declared.turns.Turn.{Turn as Made}
-use Rattle.dp_engine.specs.Answers.{Turn, advanced, asked, at_end, at_stop, breakpoints_done, done_on, goes_on, in_packet, kept_if, moved, performed, refused, response_in, shown, state_response, turn_of, with_write, written}
+use Rattle.dp_engine.specs.declared.telling.Turn.{Turn as Made}
+use Rattle.dp_engine.specs.Answers.{Turn, asked, breakpoints_done, done_on, end_by_stop, gone_on, in_packet, kept_if, moved, performed, refused, response_in, shown, turn_of, with_write, written}
 use Rattle.dp_engine.specs.Refusals.{of_command, own_tests, refusal_of_line, row_tests, tests, tests_on}
-use Rattle.dp_engine.specs.Responses.{response as response_of, response_text, status_response}
-use Rattle.dp_engine.specs.Session.{State, breaks_of, here, output_so_far, program_of, stop_of}
+use Rattle.dp_engine.specs.Responses.{fault_response, response as response_of, response_text}
+use Rattle.dp_engine.specs.Session.{State, here, moments_by, moments_so_far, output_by, output_so_far, program_by, program_of, steps_between, steps_left, unwritten, whole_output}
 use Rattle.dp_engine.specs.Sides.{side_of}
+use Rattle.dp_engine.specs.States.{allows}
 use Rattle.dp_engine.specs.inner.Accepting.{IsMade}
 use Rattle.dp_engine.specs.inner.Sizes.{Fits}
-use Rattle.dp_engine.specs.inner.Standing.{IsAt, IsDeep, known, phase_of, reason_at, standing_in}
-use Rattle.dp_engine.specs.States.{allows, phase_name, reason_name, reason_of}
+use Rattle.dp_engine.specs.inner.Standing.{IsAt, IsDeep, end_of, known, phase_of}
+use Rattle.dp_engine.specs.inner.Turns.{Asks, AsksIn, IsTurn, Tells, answered, answered_by}
 use Rattle.dp_engine.proofs.Refusing.{first_for, writes_at_break}
-use Rattle.dp_engine.specs.inner.Turns.{Asks, IsPast, IsTurn, Leads, Tells, after, answered, answered_by}
 
 -- ---- what a line asks for
 
@@ -132,9 +134,9 @@ id_is line command e = cases (name_of line.name) e where
   cases (Some name) f = let same : id_of line ≡ command.id = cc in sym same
 
 -- a command that writes is asked for in a break
-pub writes_in_break : (state : State) (line : Line) (command : Command) → Asks state line (Ok command) → side_of command.request ≡ Writes → state.phase ≡ Break_state
+pub writes_in_break : (state : State) (line : Line) (command : Command) → Asks state line (Ok command) → side_of command.request ≡ Writes → state.phase ≡ phase.Break
 writes_in_break state line command asks side = by (name_of line.name) asks.1 asks.2 where
-  by : (name : Option CommandName) → option_map (command_as line) name ≡ Some command → of_command (allows state.phase) name ≡ true → state.phase ≡ Break_state
+  by : (name : Option CommandName) → option_map (command_as line) name ≡ Some command → of_command (allows state.phase) name ≡ true → state.phase ≡ phase.Break
   by None e a = absurd cc
   by (Some name) e a =
       let same : (command_as line name).request ≡ command.request = cc in writes_at_break name line state.phase (ap side_of same ∙ side) a
@@ -153,22 +155,24 @@ turn_accepted state next line command name id made n i e h =
       by (Some code) = refl
       by None = ap (λ (x : Text). performed line.name x command.request state) (sym (id_is line command e.1)) ∙ ap (λ (c : Option Command). asked line.name (id_of line) c state) (sym e.1)
 
-pub turn_refused : {E : Type 0} (state next : State) (line : Line) (code : ℕ) (name id : Text) (made : Result Made E) → name ≡ line.name → id ≡ id_of line
+-- a turn that is told so, where the session knows then what is asked for
+pub turns : {E : Type 0} (asked : Turn) (next : State) (made : Result Made E) → IfOk made (Tells asked.response asked.ended) → next ≡ asked.next → IfOk made (IsTurn asked next)
+turns asked next (Ok made) t n = record { tells = t; next = n }
+turns asked next (Err e) t n = tt
+
+pub turn_refused : {E : Type 0} (state : State) (line : Line) (code : ℕ) (name id : Text) (made : Result Made E) → name ≡ line.name → id ≡ id_of line
     → refusal_of_line state (Some line) ≡ Some code
-    → IfOk made (IsTurn (refused name id code state) next) → IfOk made (IsTurn (turn_of (Some line) (refusal_of_line state (Some line)) state) next)
-turn_refused state next line code name id made n i e h =
-    same_turn next _ _ made ((λ k. refused (n k) (i k) code state) ∙ ap (λ (c : Option ℕ). turn_of (Some line) c state) (sym e)) h
+    → IfOk made (Tells (fault_response name id code) None) → IfOk made (IsTurn (turn_of (Some line) (refusal_of_line state (Some line)) state) state)
+turn_refused state line code name id made n i e h =
+    same_turn state _ _ made ((λ k. refused (n k) (i k) code state) ∙ ap (λ (c : Option ℕ). turn_of (Some line) c state) (sym e))
+    (turns (refused name id code state) state made h refl)
 
 -- ---- turns
 
--- a text after which nothing more changes
-abbrev pub staying : Text → Made
-staying text = record { text = text; step = Stay; ended = None }
-
 pub own_refused : {E : Type 0} (state next : State) (name id : Text) (r : Request) (code : ℕ) (made : Result Made E) → first_code (own_tests state name id r) ≡ Some code
-    → next ≡ state → IfOk made (IsTurn (refused name id code next) next) → IfOk made (IsTurn (answered name id r state) next)
+    → next ≡ state → IfOk made (Tells (fault_response name id code) None) → IfOk made (IsTurn (answered name id r state) next)
 own_refused state next name id r code made e n h =
-    same_turn next _ _ made (ap (refused name id code) n ∙ ap (λ (c : Option ℕ). answered_by c name id r state) (sym e)) h
+    same_turn next _ _ made (ap (λ (c : Option ℕ). answered_by c name id r state) (sym e)) (turns (refused name id code state) next made h n)
 
 -- the tests of a request of breakpoints, and of one that looks at the program
 pub breakpoint_first : (state : State) (name id : Text) (r : Request) → side_of r ≡ Breakpoints
@@ -180,27 +184,15 @@ pub view_first : (state : State) (name id : Text) (r : Request) → side_of r �
 view_first state name id r e =
     ap (λ (s : Side). first_code (tests_on s state name id r)) e ∙ first_for (view_refusal state.bundle (here state) state.features (program_of state) name id r)
 
-told : (asked : Turn) (next : State) (response : Response) (made : Made) → Tells response made → response ≡ asked.response → next ≡ asked.next → asked.ended ≡ None → IsTurn asked next made
-told asked next response made t r n e = record {
-  text = t.text ∙ ap response_text r;
-  next = ap (λ (s : Step). after s next) t.stays ∙ n;
-  ended = t.goes_on ∙ sym e;
-  leads = subst (λ (s : Step). Leads s next) (sym t.stays) tt;
-  is_text = t.is_text;
-}
-
-all_told : {E : Type 0} (asked : Turn) (next : State) (response : Response) (made : Result Made E) → IfOk made (Tells response) → response ≡ asked.response → next ≡ asked.next → asked.ended ≡ None
+-- a response that is the one asked for, after which the session goes on
+all_told : {E : Type 0} (asked : Turn) (next : State) (response : Response) (made : Result Made E) → IfOk made (Tells response None) → response ≡ asked.response → next ≡ asked.next → None ≡ asked.ended
     → IfOk made (IsTurn asked next)
-all_told asked next response (Ok made) t r n e = told asked next response made t r n e
-all_told asked next response (Err e) t r n f = tt
+all_told asked next response made t r n e =
+    turns asked next made (subst (λ (x : Option SessionEnd). IfOk made (Tells asked.response x)) e (subst (λ (x : Response). IfOk made (Tells x None)) r t)) n
 
 -- a program whose files have names has a file
 pub has_files : (bundle : Bundle) → AreFileNames (map (λ f. f.name) bundle.files) → 0 < length bundle.files
 has_files bundle names = omega (arith, names.some, length-map bundle.files (λ f. f.name))
-
--- its opening state is of it
-pub opened : (bundle : Bundle) (program : Program_state) → AreFileNames (map (λ f. f.name) bundle.files) → program ≡ first_state bundle → IsOf bundle program
-opened bundle program names is = subst (IsOf bundle) (sym is) (of-opening bundle (has_files bundle names))
 
 -- a response that fits a packet
 pub fits_known : (r : Response) → HasMessage (packet.Response r) → length (text (packet.Response r)) ≤ packet_limit → Fits r
@@ -216,15 +208,33 @@ in_packet_is name id r short =
 pub breakpoints_told : {E : Type 0} (state next : State) (name id : Text) (r : Request) (response : Response) (made : Result Made E) → side_of r ≡ Breakpoints
     → breakpoint_refusal state.bundle (here state) state.breaks r ≡ None → response ≡ breakpoint_response state.bundle name id state.breaks r
     → length (text (packet.Response response)) ≤ packet_limit
-    → next ≡ record state { breaks = breakpoint_table state.bundle (here state) r state.breaks } → IfOk made (Tells response) → IfOk made (IsTurn (answered name id r state) next)
+    → next ≡ record state { breaks = breakpoint_table state.bundle (here state) r state.breaks } → IfOk made (Tells response None) → IfOk made (IsTurn (answered name id r state) next)
 breakpoints_told state next name id r response made side e is short n t =
     same_turn next _ _ made
     (sym (ap (λ (c : Option ℕ). answered_by c name id r state) (breakpoint_first state name id r side ∙ e) ∙ ap (λ (s : Side). done_on s name id r state) side))
     (all_told (breakpoints_done name id r state) next response made t (in_packet_is name id response short ∙ ap (in_packet name id) is) n refl)
 
+-- done where the program stands
+pub breakpoints_are_told : {E : Type 0} (state : State) (program : Program_state) (file : ℕ) (left : Table) (name id : Text) (r : Request) (response : Response) (made : Result Made E)
+    → program ≡ program_of state → file ≡ file_of program → side_of r ≡ Breakpoints
+    → breakpoint_refusal state.bundle file state.breaks r ≡ None → response ≡ breakpoint_response state.bundle name id state.breaks r
+    → length (text (packet.Response response)) ≤ packet_limit → left ≡ breakpoint_table state.bundle file r state.breaks → IfOk made (Tells response None)
+    → IfOk made (IsTurn (answered name id r state) (record state { breaks = left }))
+breakpoints_are_told state program file left name id r response made is f side e told short n t =
+    let there : here state ≡ file = sym (f ∙ ap file_of is) in
+    breakpoints_told state (record state { breaks = left }) name id r response made side (ap (λ (k : ℕ). breakpoint_refusal state.bundle k state.breaks r) there ∙ e) told short
+    (ap (λ (l : Table). record state { breaks = l }) (n ∙ ap (λ (k : ℕ). breakpoint_table state.bundle k r state.breaks) (sym there))) t
+
+-- what is seen of the program where it stands
+pub view_is : (state : State) (program : Program_state) (file : ℕ) (name id : Text) (r : Request) → program ≡ program_of state → file ≡ file_of program
+    → view_response state.bundle (here state) state.features (program_of state) name id r ≡ view_response state.bundle file state.features program name id r
+view_is state program file name id r is f =
+    (λ i. view_response state.bundle (file_of (sym is i)) state.features (sym is i) name id r)
+    ∙ ap (λ (n : ℕ). view_response state.bundle n state.features program name id r) (sym f)
+
 -- what is shown of the program
 pub view_told : {E : Type 0} (state : State) (name id : Text) (r : Request) (response : Response) (made : Result Made E) → side_of r ≡ Program
-    → view_response state.bundle (here state) state.features (program_of state) name id r ≡ Ok response → IfOk made (Tells response) → IfOk made (IsTurn (answered name id r state) state)
+    → view_response state.bundle (here state) state.features (program_of state) name id r ≡ Ok response → IfOk made (Tells response None) → IfOk made (IsTurn (answered name id r state) state)
 unfolding view_refusal
 view_told state name id r response made side e t =
     same_turn state _ _ made
@@ -249,105 +259,151 @@ write_refused state name id r code side e = write_first state name id r side ∙
 
 pub write_told : {E : Type 0} (state next : State) (name id : Text) (r : Request) (w : Write) (response : Response) (made : Result Made E) → side_of r ≡ Writes
     → write_response state.bundle state.features (program_of state) name id r ≡ Ok response → write_asked (program_of state) r ≡ Ok w → next ≡ with_write w state
-    → IfOk made (Tells response) → IfOk made (IsTurn (answered name id r state) next)
+    → IfOk made (Tells response None) → IfOk made (IsTurn (answered name id r state) next)
 unfolding write_refusal
 write_told state next name id r w response made side e asked is t =
     same_turn next _ _ made
     (sym (ap (λ (c : Option ℕ). answered_by c name id r state) (write_first state name id r side ∙ ap code_written e) ∙ ap (λ (s : Side). done_on s name id r state) side))
     (all_told (written name id r state) next response made t (ap (response_in name id) (sym e)) (is ∙ (λ i. kept_if (sym e i) (sym asked i) state)) refl)
 
-module _ (bundle : Bundle) (bound : ℕ) (writes : List NumberedWrite) (moment : ℕ) (standing : Standing) (features : Features) (stdout : StreamMode) (breaks : Table) where
+-- what the program has written so far is what has been written in its state
+pub output_is : (state : State) → output_so_far state ≡ (program_of state).output
+output_is state = by state.phase where
+  there : (o : Option Program_state) → option_map_or (λ (p : Program_state). p.output) o [] ≡ (unwrap_or o (first_state state.bundle)).output
+  there None = refl
+  there (Some p) = refl
+
+  by : (p : Phase) → output_by p state ≡ (program_by p state).output
+  by phase.Starting = there (now state.bundle state.bound state.writes state.moment)
+  by phase.Break = there (now state.bundle state.bound state.writes state.moment)
+  by phase.Stopping = refl
+
+-- what is still written past that is what is left
+pub rest_is : (state : State) (program : Program_state) (shown : ℕ) (rest : List ℕ) → program ≡ program_of state → shown ≡ length program.output
+    → rest ≡ drop shown (whole_output state) → rest ≡ unwritten state
+rest_is state program shown rest is n h = h ∙ ap (λ (k : ℕ). drop k (whole_output state)) (n ∙ ap (λ (p : Program_state). length p.output) is ∙ ap length (sym (output_is state)))
+
+-- a machine that stands at a moment has passed no more than there are
+pub within : (bundle : Bundle) (bound : ℕ) (writes : List NumberedWrite) (n : ℕ) (m : Machine) → StandsFor bundle bound writes n m → n ≤ length (program_trace bundle bound writes).moments
+within bundle bound writes zero m stands = omega arith
+within bundle bound writes (suc k) m stands =
+    let found = of_image _ _ _ stands.state in
+    let there = slice_get_within (program_trace bundle bound writes).moments k found.0 found.1 in omega (arith, there)
+
+-- ---- what a session keeps
+
+module _ (bundle : Bundle) (bound : ℕ) (writes : List NumberedWrite) (moment : ℕ) (standing : Standing) (features : Features) (stdout : StreamMode) (breaks : Table) (machine : Machine) where
   abbrev state : State
   state = known bundle bound writes moment standing features stdout breaks
 
-  -- its program is the one that is kept
-  pub program_is : (program : Program_state) → IsAt standing bundle bound writes moment program → program_of state ≡ program
-  program_is program h = by standing h where
-    by : (s : Standing) → IsAt s bundle bound writes moment program → program_of (known bundle bound writes moment s features stdout breaks) ≡ program
-    by Starting h = ap (λ (o : Option Program_state). unwrap_or o (first_state bundle)) h
-    by Break h = ap (λ (o : Option Program_state). unwrap_or o (first_state bundle)) h.1
-    by (Stopping end) h = sym h.1
+  abbrev Kept : Bool → Type 0
+  Kept failed = IsAt failed standing bundle bound writes moment machine
 
-  -- and what that has written is what is written so far
-  pub output_is : (program : Program_state) → IsAt standing bundle bound writes moment program → program.output ≡ output_so_far state
-  output_is program h = by standing h where
-    by : (s : Standing) → IsAt s bundle bound writes moment program → program.output ≡ output_so_far (known bundle bound writes moment s features stdout breaks)
-    by Starting h = ap (λ (o : Option Program_state). option_map_or (λ (p : Program_state). p.output) o []) (sym h)
-    by Break h = ap (λ (o : Option Program_state). option_map_or (λ (p : Program_state). p.output) o []) (sym h.1)
-    by (Stopping end) h = ap (λ (p : Program_state). p.output) h.1
+  -- its program is the one of the machine
+  pub program_is : (failed : Bool) → failed ≡ false → Kept failed → machine.state ≡ program_of state
+  program_is failed whole h = by standing h where
+    by : (s : Standing) → IsAt failed s bundle bound writes moment machine → machine.state ≡ program_of (known bundle bound writes moment s features stdout breaks)
+    by Starting h = sym (ap (λ (o : Option Program_state). unwrap_or o (first_state bundle)) (h whole).state)
+    by Break h = sym (ap (λ (o : Option Program_state). unwrap_or o (first_state bundle)) (h.1 whole).state)
+    by (Stopping end) h = h.1
 
-  -- so what is shown of it is what is shown of that
-  pub view_is : (program : Program_state) (file : ℕ) (command id : Text) (r : Request) → IsAt standing bundle bound writes moment program → file ≡ file_of program
-      → view_response bundle (here state) features (program_of state) command id r ≡ view_response bundle file features program command id r
-  view_is program file command id r h f =
-      ap (λ (p : Program_state). view_response bundle (file_of p) features p command id r) (program_is program h)
-      ∙ ap (λ (n : ℕ). view_response bundle n features program command id r) (sym f)
+  pub program_can : (failed : Bool) → failed ≡ false → 0 < length bundle.files → Kept failed → IsOf bundle machine.state
+  program_can failed whole some h = by standing h where
+    by : (s : Standing) → IsAt failed s bundle bound writes moment machine → IsOf bundle machine.state
+    by Starting h = (now-can bundle bound writes some moment machine.state (h whole).state).0
+    by Break h = (now-can bundle bound writes some moment machine.state (h.1 whole).state).0
+    by (Stopping end) h = subst (IsOf bundle) (sym h.1) (end-can bundle bound writes some).0
 
-  -- and what is done with its breakpoints is done where it stands
-  pub breakpoints_are_told : {E : Type 0} (program : Program_state) (file : ℕ) (left : Table) (command id : Text) (r : Request) (response : Response) (made : Result Made E) → IsAt standing bundle bound writes moment program
-      → file ≡ file_of program → side_of r ≡ Breakpoints → breakpoint_refusal bundle file breaks r ≡ None → response ≡ breakpoint_response bundle command id breaks r
-      → length (text (packet.Response response)) ≤ packet_limit → left ≡ breakpoint_table bundle file r breaks → IfOk made (Tells response)
-      → IfOk made (IsTurn (answered command id r state) (record state { breaks = left }))
-  breakpoints_are_told program file left command id r response made h f side e is short n t =
-      let there : here state ≡ file = ap file_of (program_is program h) ∙ sym f in
-      breakpoints_told state (record state { breaks = left }) command id r response made side (ap (λ (k : ℕ). breakpoint_refusal bundle k breaks r) there ∙ e) is short
-      (ap (λ (l : Table). record state { breaks = l }) (n ∙ ap (λ (k : ℕ). breakpoint_table bundle k r breaks) (sym there))) t
+  -- before the end it stands at the moment
+  pub stands_there : (failed : Bool) → failed ≡ false → phase_of standing ≢ phase.Stopping → Kept failed → StandsFor bundle bound writes moment machine
+  stands_there failed whole before h = by standing before h where
+    by : (s : Standing) → phase_of s ≢ phase.Stopping → IsAt failed s bundle bound writes moment machine → StandsFor bundle bound writes moment machine
+    by Starting n h = h whole
+    by Break n h = h.1 whole
+    by (Stopping end) n h = absurd (n refl)
 
-  advances_by : (command id : Text) (mode : Continuation) (line : Text) (a : Arrival) (after : Table) → line ≡ response_text (status_response command id (phase_name (phase_of (standing_in a))) (reason_name (reason_at (standing_in a))))
-      → Arrives bundle bound writes (stop_of mode state) a → IsOf bundle (program_in a) → IsPast moment a → after ≡ breaks_of mode state → IsPacketText line
-      → IsTurn (advanced command id mode state) (record state { breaks = after }) (record { text = line; step = Come a; ended = None })
-  advances_by command id mode line (Moment number deep program) after is h of past left fits = record {
-    text = is ∙ ap (λ (o : Option ℕ). response_text (advanced_to o).response) (sym h.0);
-    next = ap (λ (t : Table). at_stop (record state { breaks = t }) number) left ∙ ap (moved (record state { breaks = breaks_of mode state })) (sym h.0);
-    ended = refl;
-    leads = ((refl, h.1, h.2), of, past);
-    is_text = fits;
-  } where
-    advanced_to : Option ℕ → Turn
-    advanced_to o = let next = moved (record state { breaks = breaks_of mode state }) o in goes_on (state_response command id next) next
-  advances_by command id mode line (End end program) after is h of past left fits = record {
-    text = is ∙ ap (λ (o : Outcome). response_text (status_response command id (codes "stopping") (reason_name (reason_of o)))) h.1 ∙ ap (λ (o : Option ℕ). response_text (advanced_to o).response) (sym h.0);
-    next = ap (λ (t : Table). at_end (record state { breaks = t })) left ∙ ap (moved (record state { breaks = breaks_of mode state })) (sym h.0);
-    ended = refl;
-    leads = ((refl, h.1, h.2), of, past);
-    is_text = fits;
-  } where
-    advanced_to : Option ℕ → Turn
-    advanced_to o = let next = moved (record state { breaks = breaks_of mode state }) o in goes_on (state_response command id next) next
+  -- that is as many moments as have come
+  moments_are : phase_of standing ≢ phase.Stopping → moments_so_far state ≡ moment
+  moments_are before = by standing before where
+    by : (s : Standing) → phase_of s ≢ phase.Stopping → moments_by (phase_of s) bundle bound writes moment ≡ moment
+    by Starting n = refl
+    by Break n = refl
+    by (Stopping end) n = absurd (n refl)
 
-  -- where it stops it stands at a later moment
-  comes_later : (mode : Moment_come → Bool) (a : Arrival) → Arrives bundle bound writes (stop_past mode bundle bound writes breaks.held moment) a → IsPast moment a
-  comes_later mode (Moment number deep program) h =
-      let there = stop_is_there mode bundle breaks.held moment (program_trace bundle bound writes).moments number h.0 in omega (arith, there.2, there.3)
-  comes_later mode (End end program) h = tt
+  -- once it has failed, nothing is said of the machine
+  pub nothing_kept : (failed : Bool) (left : Machine) → phase_of standing ≢ phase.Stopping → Kept failed → IsAt true standing bundle bound writes moment left
+  nothing_kept failed left before h = by standing before h where
+    by : (s : Standing) → phase_of s ≢ phase.Stopping → IsAt failed s bundle bound writes moment machine → IsAt true s bundle bound writes moment left
+    by Starting n h = λ e. absurd cc
+    by Break n h = (h.0, λ e. absurd cc)
+    by (Stopping end) n h = absurd (n refl)
 
-  -- the program goes on
-  pub advances : (depth : ℕ) (command id : Text) (mode : Continuation) (arrival : Arrival) (line : Text) (after : Table) → IsDeep bundle bound writes moment depth
-      → Arrives bundle bound writes (stop_past (stops mode depth) bundle bound writes breaks.held moment) arrival → IsOf bundle (program_in arrival)
-      → after ≡ table_past (stops mode depth) bundle bound writes breaks moment
-      → line ≡ response_text (status_response command id (phase_name (phase_of (standing_in arrival))) (reason_name (reason_at (standing_in arrival))))
-      → IsPacketText line → IsTurn (advanced command id mode state) (record state { breaks = after }) (record { text = line; step = Come arrival; ended = None })
-  advances depth command id mode arrival line after deep arrives of left is fits =
-      advances_by command id mode line arrival after is
-      (subst (λ (d : ℕ). Arrives bundle bound writes (stop_past (stops mode d) bundle bound writes breaks.held moment) arrival) deep arrives) of
-      (comes_later (stops mode depth) arrival arrives)
-      (left ∙ ap (λ (d : ℕ). table_past (stops mode d) bundle bound writes breaks moment) deep) fits
+  -- ---- the program goes on
+
+  module _ (depth : ℕ) (deep : IsDeep bundle bound writes moment depth) (mode : Continuation) where
+    abbrev stop_from : ℕ → Option ℕ
+    stop_from d = stop_past (stops mode d) bundle bound writes breaks.held moment
+
+    abbrev table_from : ℕ → Table
+    table_from d = table_past (stops mode d) bundle bound writes breaks moment
+
+    -- to a moment
+    pub goes_to : (number : ℕ) (left : Table) → stop_from depth ≡ Some number → left ≡ table_from depth
+        → known bundle bound writes number Break features stdout left ≡ gone_on mode state
+    goes_to number left stop is = λ i. moved (record state { breaks = (is ∙ ap table_from deep) i }) ((sym stop ∙ ap stop_from deep) i)
+
+    -- to the end
+    pub goes_out : (end : Outcome) (left : Table) → stop_from depth ≡ None → end ≡ outcome bundle bound writes → left ≡ table_from depth
+        → known bundle bound writes moment (Stopping end) features stdout left ≡ gone_on mode state
+    goes_out end left stop ends is =
+        ap (λ (o : Outcome). known bundle bound writes moment (Stopping o) features stdout left) ends
+        ∙ (λ i. moved (record state { breaks = (is ∙ ap table_from deep) i }) ((sym stop ∙ ap stop_from deep) i))
+
+    -- a stop is at a later moment
+    pub comes_later : (number : ℕ) → stop_from depth ≡ Some number → moment < number
+    comes_later number stop =
+        let there = stop_is_there (stops mode depth) bundle breaks.held moment (program_trace bundle bound writes).moments number stop in omega (arith, there.2, there.3)
+
+  -- the steps on the way
+  pub counts_to : (before after number : ℕ) (left : Table) → phase_of standing ≢ phase.Stopping → moment < number → after + moment ≡ before + number
+      → after ≡ before + steps_between state (known bundle bound writes number Break features stdout left)
+  counts_to before after number left n later counted = omega (arith, moments_are n, later, counted)
+
+  pub counts_out : (before after : ℕ) (end : Outcome) (left : Table) → phase_of standing ≢ phase.Stopping → StandsFor bundle bound writes moment machine
+      → after + moment ≡ before + length (program_trace bundle bound writes).moments
+      → after ≡ before + steps_between state (known bundle bound writes moment (Stopping end) features stdout left)
+  counts_out before after end left n stands counted = omega (arith, moments_are n, within bundle bound writes moment machine stands, counted)
+
+  pub counts_left : (before after : ℕ) → phase_of standing ≢ phase.Stopping → StandsFor bundle bound writes moment machine
+      → after + moment ≡ before + length (program_trace bundle bound writes).moments → after ≡ before + steps_left state
+  counts_left before after n stands counted = omega (arith, moments_are n, within bundle bound writes moment machine stands, counted)
 
   -- ---- a write is kept
 
   abbrev with_kept : List NumberedWrite → State
   with_kept kept = known bundle bound kept moment standing features stdout breaks
 
-  pub write_is_told : {E : Type 0} (program after : Program_state) (kept : List NumberedWrite) (command id : Text) (r : Request) (response : Response) (made : Result Made E)
-      → IsAt standing bundle bound writes moment program → side_of r ≡ Writes → IsMade bundle features program after writes kept moment command id r response
-      → IfOk made (Tells response) → IfOk made (IsTurn (answered command id r state) (with_kept kept))
-  write_is_told program after kept command id r response made h side is t =
-      let same = program_is program h in
+  pub write_is_told : {E : Type 0} (after : Program_state) (kept : List NumberedWrite) (command id : Text) (r : Request) (response : Response) (made : Result Made E)
+      → machine.state ≡ program_of state → side_of r ≡ Writes → IsMade bundle features machine.state after writes kept moment command id r response
+      → IfOk made (Tells response None) → IfOk made (IsTurn (answered command id r state) (with_kept kept))
+  write_is_told after kept command id r response made same side is t =
       write_told state (with_kept kept) command id r is.write response made side
-      (ap (λ (p : Program_state). write_response bundle features p command id r) same ∙ is.told) (ap (λ (p : Program_state). write_asked p r) same ∙ is.asks)
+      (ap (λ (p : Program_state). write_response bundle features p command id r) (sym same) ∙ is.told) (ap (λ (p : Program_state). write_asked p r) (sym same) ∙ is.asks)
       (ap with_kept is.list) t
 
-  pub write_is_refused : (program : Program_state) (command id : Text) (r : Request) (code : ℕ) → IsAt standing bundle bound writes moment program → side_of r ≡ Writes
-      → write_response bundle features program command id r ≡ Err code → first_code (own_tests state command id r) ≡ Some code
-  write_is_refused program command id r code h side e =
-      write_refused state command id r code side (ap (λ (p : Program_state). write_response bundle features p command id r) (program_is program h) ∙ e)
+  pub write_is_refused : (command id : Text) (r : Request) (code : ℕ) → machine.state ≡ program_of state → side_of r ≡ Writes
+      → write_response bundle features machine.state command id r ≡ Err code → first_code (own_tests state command id r) ≡ Some code
+  write_is_refused command id r code same side e =
+      write_refused state command id r code side (ap (λ (p : Program_state). write_response bundle features p command id r) (sym same) ∙ e)
+
+  -- in a break no moment has come by that
+  pub write_stays : (kept : List NumberedWrite) → phase_of standing ≡ phase.Break → moments_so_far (with_kept kept) ≡ moments_so_far state
+  write_stays kept at = ap (λ (p : Phase). moments_by p bundle bound kept moment) at ∙ sym (ap (λ (p : Phase). moments_by p bundle bound writes moment) at)
+
+-- how a session ends that is stopped
+pub stops_so : (failed : Bool) (standing : Standing) (bundle : Bundle) (bound : ℕ) (writes : List NumberedWrite) (moment : ℕ) (machine : Machine) (features : Features) (stdout : StreamMode) (breaks : Table)
+    → IsAt failed standing bundle bound writes moment machine
+    → end_of standing ≡ end_by_stop (phase_of standing) (known bundle bound writes moment standing features stdout breaks)
+stops_so failed Starting bundle bound writes moment machine features stdout breaks h = refl
+stops_so failed Break bundle bound writes moment machine features stdout breaks h = refl
+stops_so failed (Stopping end) bundle bound writes moment machine features stdout breaks h = ap Finished h.0

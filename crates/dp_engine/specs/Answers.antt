@@ -120,11 +120,14 @@ detached command id state =
 -- ---- features
 
 -- a feature has a value; of commands it is known that they are there
-abbrev pub feature_told : Text → Text → Text → State → Response
-feature_told command id name state =
+abbrev pub feature_known : Text → Text → Text → Features → Response
+feature_known command id name features =
     feature_response command id name
     (flag (option_map_or (λ feature. true) (feature_named name) (is_some (name_of name))))
-    (option_map (value_of state.features) (feature_named name))
+    (option_map (value_of features) (feature_named name))
+
+abbrev pub feature_told : Text → Text → Text → State → Response
+feature_told command id name state = feature_known command id name state.features
 
 -- the features with one set, where it can have the value
 abbrev pub set_by : Option (Feature × ℕ) → Features → Features

@@ -6,6 +6,5 @@ pub mod Refusals
 pub mod Answers
 pub mod Refused
 pub mod Served
-pub mod Shown
 pub mod Serving
 pub mod inner

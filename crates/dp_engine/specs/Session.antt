@@ -1,5 +1,5 @@
 -- What a session of the engine with one IDE knows.
-use Rattle.std.specs.Prelude.{ℕ, List, [], length, drop, Option, unwrap_or}
+use Rattle.std.specs.Prelude.{ℕ, ◌-◌, List, [], length, drop, Option, unwrap_or}
 use Rattle.std.specs.Option.{option_map_or}
 use Rattle.dp_tree.specs.declared.bundle.Bundle.{Bundle}
 use Rattle.dp_break.specs.Tables.{Table, empty}
@@ -99,6 +99,27 @@ abbrev pub breaks_of : Continuation → State → Table
 breaks_of mode state =
     table_past (stops mode (depth_at state)) state.bundle state.bound state.writes state.breaks
     state.moment
+
+-- ---- steps
+
+-- how many moments of the program's run have come
+abbrev pub moments_by : Phase → Bundle → ℕ → List NumberedWrite → ℕ → ℕ
+moments_by Starting bundle bound writes moment = moment
+moments_by Break bundle bound writes moment = moment
+moments_by Stopping bundle bound writes moment =
+    length (program_trace bundle bound writes).moments
+
+abbrev pub moments_so_far : State → ℕ
+moments_so_far state =
+    moments_by state.phase state.bundle state.bound state.writes state.moment
+
+-- how many come from the one state to the other
+abbrev pub steps_between : State → State → ℕ
+steps_between state next = moments_so_far next - moments_so_far state
+
+-- how many come from here to its end
+abbrev pub steps_left : State → ℕ
+steps_left state = length (trace_of state).moments - moments_so_far state
 
 -- ---- the program's state
 

@@ -2,9 +2,9 @@
 ghost use Rattle.std.specs.Prelude.{◌≡◌, ◌∷◌, [], is_none};
 ghost use Rattle.dp_command.specs.Tests.{first_code};
 ghost use Rattle.dp_features.specs.Features.{is_other_encoding, setting_named};
-ghost use Rattle.dp_engine.specs.inner.Turns.{Asks};
+ghost use Rattle.dp_engine.specs.inner.Turns.{AsksIn};
 
-use crate::session::Session;
+use crate::states::Phase;
 use dp_command::{Command, CommandError, CommandName, Line};
 use dp_features::Setting;
 use std::alloc::Global;
@@ -23,20 +23,18 @@ pub fn feature_refusal(name: &[u8], value: &[u8]) -> Option<u16>
     }
 }
 
-impl<'a> Session<'a> {
-    /// What a line asks for, or the code of the first refusal that is none of the command's own. What is tested before its
-    /// row takes no memory.
-    #[tactic(auto, using(crate::proofs::Turning::read_asks, crate::proofs::Turning::unadmitted))]
-    pub(crate) fn ask(&self, alloc: Global, line: &Line) -> Result<Command, CommandError>
-        ensures { Asks self.now line.now result }
-    {
-        let name = match CommandName::admit(line) {
-            Ok(name) => name,
-            Err(refusal) => return Err(CommandError::Code(refusal.code())),
-        };
-        if !self.standing.phase().allows(name) {
-            return Err(CommandError::Code(5));
-        }
-        Command::read(alloc, line, name)
+/// What a line asks for in a state, or the code of the first refusal that is none of the command's own. What is tested before
+/// its row takes no memory.
+#[tactic(auto, using(crate::proofs::Turning::read_asks, crate::proofs::Turning::unadmitted))]
+pub(crate) fn ask(alloc: Global, phase: Phase, line: &Line) -> Result<Command, CommandError>
+    ensures { AsksIn phase line.now result }
+{
+    let name = match CommandName::admit(line) {
+        Ok(name) => name,
+        Err(refusal) => return Err(CommandError::Code(refusal.code())),
+    };
+    if !phase.allows(name) {
+        return Err(CommandError::Code(5));
     }
+    Command::read(alloc, line, name)
 }

@@ -8,13 +8,14 @@ ghost use Rattle.dp_engine.specs.Responses.{init_text};
 ghost use Rattle.dp_engine.specs.Serving.{Serves};
 ghost use Rattle.dp_engine.specs.Session.{opening};
 
-use crate::session::{Session, SessionEnd};
-use crate::steps::Steps;
+use crate::session::{Answer, Session, SessionEnd};
 use dp_outside::{Sink, Source};
-use dp_serving::{Fault, Over, converse, put_some};
+use dp_serving::{Fault, Over, Responder, converse, put_some};
 use dp_state::Outcome;
-use dp_value::Bytes;
+use dp_step::Steps;
+use dp_value::{Bytes, Memory};
 use std::alloc::Global;
+use std::marker::Model;
 use std::sync::ledger::Ledger;
 
 /// How a session over a link ended.
@@ -48,11 +49,53 @@ pub struct Served {
     pub outcome: Option<Outcome>,
 }
 
+/// A session, and the steps that it counts. Contracts see what the session knows.
+#[derive(Drop)]
+struct Counted<'s, 'a, L: Ledger> {
+    session: Session<'a>,
+    steps: &'s mut Steps<L>,
+}
+
+impl<'s, 'a, L: Ledger> Model for Counted<'s, 'a, L> {
+    ghost use Rattle.std.specs.Coded.{codes};
+    ghost use Rattle.dp_break.specs.Tables.{table_code};
+    ghost use Rattle.dp_tree.specs.contracts.bundle.Bundle as bundle_type;
+    ghost use Rattle.dp_meaning.specs.contracts.writing.NumberedWrite as write_type;
+    ghost use Rattle.dp_engine.specs.Session.{State};
+
+    ghost Value = { State };
+
+    ghost coded = { Prim.hlevel (codes, bundle_type.the_row.coded, write_type.the_row.coded, table_code) };
+
+    ghost view = { λ c. c.session };
+}
+
+impl<'s, 'a, L: Ledger> Responder for Counted<'s, 'a, L> {
+    ghost use Rattle.dp_engine.specs.Answers.{answer};
+
+    type End = SessionEnd;
+
+    ghost step = { answer };
+
+    // The session has an allocator of its own.
+    fn answer(&mut self, _alloc: Global, line: &[u8]) -> Result<Answer, Memory> {
+        self.session.answer(line, self.steps)
+    }
+}
+
 /// A session whose program did not run to its end.
 fn cut_short(end: ServeEnd) -> Served
     ensures { result ≡ record { end = end; outcome = None } }
 {
     Served { end, outcome: None }
+}
+
+/// Leaves the program where it stands.
+fn left(session: Session<'_>, end: ServeEnd) -> Served
+    ensures { result ≡ record { end = end; outcome = None } }
+{
+    drop(session);
+    cut_short(end)
 }
 
 /// Runs the program on to its end, once the session is over.
@@ -65,7 +108,6 @@ fn run_on<E: Sink, L: Ledger>(
     requires { CanRunOn end }
     ensures ran { RanOn end result session.entry (change E.taken E.faults out.old out.new) }
     ensures out_later { E.faults out.old ≤ E.faults out.new }
-    ensures steps { steps.new ≡ steps.old }
 {
     let Ok((rest, outcome)) = session.finish(steps) else {
         return cut_short(ServeEnd::Memory);
@@ -88,10 +130,9 @@ fn close<E: Sink, L: Ledger>(
 ) -> Served
     ensures closes { Closes over result session.entry (change E.taken E.faults out.old out.new) }
     ensures out_later { E.faults out.old ≤ E.faults out.new }
-    ensures steps { steps.new ≡ steps.old }
 {
     match over {
-        Over::Ended(SessionEnd::Killed) => cut_short(ServeEnd::Stopped),
+        Over::Ended(SessionEnd::Killed) => left(session, ServeEnd::Stopped),
         Over::Ended(SessionEnd::Detached) => run_on(session, ServeEnd::Detached, out, steps),
         Over::Ended(SessionEnd::Finished(_)) => run_on(session, ServeEnd::Stopped, out, steps),
         Over::LinkEnd => run_on(session, ServeEnd::LinkEnd, out, steps),
@@ -112,13 +153,12 @@ fn close_cut<E: Sink, L: Ledger>(
 ) -> Served
     ensures closes { ClosesCut fault result session.entry (change E.taken E.faults out.old out.new) }
     ensures out_later { E.faults out.old ≤ E.faults out.new }
-    ensures steps { steps.new ≡ steps.old }
 {
     match fault {
-        Fault::Write(Some(SessionEnd::Killed)) => cut_short(ServeEnd::WriteFault),
+        Fault::Write(Some(SessionEnd::Killed)) => left(session, ServeEnd::WriteFault),
         Fault::Write(_) => run_on(session, ServeEnd::WriteFault, out, steps),
-        Fault::Out => cut_short(ServeEnd::OutFault),
-        Fault::Memory => cut_short(ServeEnd::Memory),
+        Fault::Out => left(session, ServeEnd::OutFault),
+        Fault::Memory => left(session, ServeEnd::Memory),
     }
 }
 
@@ -127,7 +167,7 @@ fn close_cut<E: Sink, L: Ledger>(
 /// The program's own output goes to `out`. Where the link ends or fails first, the program runs on to its end, unless a
 /// command has killed it. It waits in the calls of the link alone.
 ///
-/// No step is counted yet.
+/// The steps that it takes are counted.
 pub fn serve<S: Source, K: Sink, E: Sink, L: Ledger>(
     alloc: Global,
     session: Session<'_>,
@@ -148,9 +188,10 @@ pub fn serve<S: Source, K: Sink, E: Sink, L: Ledger>(
     ensures source_later { S.faults source.old ≤ S.faults source.new }
     ensures sink_later { K.faults sink.old ≤ K.faults sink.new }
     ensures out_later { E.faults out.old ≤ E.faults out.new }
-    ensures steps { steps.new ≡ steps.old }
 {
-    let (over, session) = converse(alloc, session, init.as_slice(), source, sink, out);
+    let counted = Counted { session, steps };
+    let (over, counted) = converse(alloc, counted, init.as_slice(), source, sink, out);
+    let Counted { session, steps } = counted;
     match over {
         Ok(over) => close(session, over, out, steps),
         Err(fault) => close_cut(session, fault, out, steps),

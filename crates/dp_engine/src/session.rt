@@ -1,24 +1,24 @@
 //! One session of the engine with an IDE.
-ghost use Rattle.std.specs.Prelude.{◌≡◌, ◌≤◌, ◌∷◌, ◌++◌, [], drop, length, map, IfOk};
+ghost use Rattle.std.specs.Prelude.{◌≡◌, ◌≢◌, ◌+◌, ◌≤◌, ◌∷◌, ◌++◌, [], drop, length, map, IfOk, OnOk};
 ghost use Rattle.std.specs.List.{AllByRecursion};
 ghost use Rattle.dp_wire.specs.Frames.{IsCommand, IsPacketText};
 ghost use Rattle.dp_engine.specs.Responses.{init_text, main_name};
 ghost use Rattle.dp_engine.specs.inner.Sizes.{IsShortLine};
+ghost use Rattle.dp_engine.specs.inner.Turns.{IsSent};
 ghost use Rattle.dp_command.specs.Lines.{line_of};
 ghost use Rattle.dp_tree.specs.FileNames.{AreFileNames};
 
-use crate::states::Standing;
-use crate::steps::Steps;
+use crate::states::{Phase, Standing};
 use crate::streams::{to_ide, to_program};
-use crate::turns::{Step, Turn};
+use crate::telling::Turn;
 use dp_break::Breaks;
-use dp_command::{Line, LineError, StreamMode, read_line};
-use dp_continuation::{Arrival, run_out};
+use dp_command::{Continuation, Line, LineError, StreamMode, read_line};
+use dp_continuation::{Reached, go_on_from};
 use dp_features::Features;
 use dp_meaning::NumberedWrite;
 use dp_packet::{Init, Packet, file_uri, text_of};
-use dp_serving::Responder;
 use dp_state::{Outcome, State};
+use dp_step::{Machine, Steps};
 use dp_tree::Bundle;
 use dp_value::{Bytes, Items, Memory};
 use std::alloc::Global;
@@ -40,9 +40,7 @@ pub enum SessionEnd {
 pub type Answer = dp_serving::Answer<SessionEnd>;
 
 /// A session. Contracts see what it knows.
-///
-/// It finds the program's state by running it again for each command that goes on.
-#[derive(Debug, Drop)]
+#[derive(Drop)]
 pub struct Session<'a> {
     pub(crate) bundle: &'a Bundle,
     pub(crate) bound: u64,
@@ -54,8 +52,10 @@ pub struct Session<'a> {
     pub(crate) standing: Standing,
     pub(crate) features: Features,
     pub(crate) stdout: StreamMode,
-    /// The program's state at the moment, and the last one after its end.
-    pub(crate) program: State,
+    /// The program, which stands at the moment or has ended.
+    pub(crate) machine: Machine<'a>,
+    /// Whether memory ran out while the program went on: then the machine stands for nothing any more.
+    pub(crate) failed: bool,
     pub(crate) breaks: Breaks,
     pub(crate) alloc: Global,
 }
@@ -64,7 +64,6 @@ impl<'a> Model for Session<'a> {
     ghost use Rattle.std.specs.Coded.{codes};
     ghost use Rattle.std.specs.Prelude.{map};
     ghost use Rattle.dp_break.specs.Tables.{table_code};
-    ghost use Rattle.dp_state.specs.States.{IsOf};
     ghost use Rattle.dp_tree.specs.FileNames.{AreFileNames};
     ghost use Rattle.dp_tree.specs.contracts.bundle.Bundle as bundle_type;
     ghost use Rattle.dp_meaning.specs.contracts.writing.NumberedWrite as write_type;
@@ -74,13 +73,13 @@ impl<'a> Model for Session<'a> {
 
     ghost coded = { Prim.hlevel (codes, bundle_type.the_row.coded, write_type.the_row.coded, table_code) };
 
-    ghost use Rattle.dp_engine.specs.inner.Standing.{known, ArePast, IsAt, IsDeep};
+    ghost use Rattle.dp_engine.specs.inner.Standing.{known, IsAt, IsDeep};
 
     ghost view = { λ s. known s.bundle.now s.bound s.writes.items s.moment s.standing s.features s.stdout s.breaks };
 
-    ghost invariant = { λ s. IsAt s.standing s.bundle.now s.bound s.writes.items s.moment s.program
-        × IsDeep s.bundle.now s.bound s.writes.items s.moment s.depth × ArePast s.moment s.writes.items
-        × AreFileNames (map (λ f. f.name) s.bundle.now.files) × IsOf s.bundle.now s.program };
+    ghost invariant = { λ s. IsAt s.failed s.standing s.bundle.now s.bound s.writes.items s.moment s.machine
+        × IsDeep s.bundle.now s.bound s.writes.items s.moment s.depth
+        × AreFileNames (map (λ f. f.name) s.bundle.now.files) };
 }
 
 /// The line that the bytes spell, if they spell one.
@@ -107,18 +106,35 @@ fn tail(bytes: &[u8], count: usize) -> &[u8]
     }
 }
 
+/// What is sent of a turn in which so much was written.
+fn give(alloc: Global, mode: StreamMode, written: &[u8], turn: Turn) -> Result<Answer, Memory>
+    requires { IsPacketText turn.text }
+    ensures ok { IfOk result (λ answer. IsSent mode written.now turn answer) }
+    ensures are_texts { IfOk result (λ answer. AllByRecursion IsPacketText answer.packets) }
+{
+    let Turn { text, ended } = turn;
+    let packets = to_ide(alloc, mode, written, text)?;
+    let program = to_program(alloc, mode, written)?;
+    Ok(Answer {
+        packets,
+        program,
+        ended,
+    })
+}
+
 impl<'a> Session<'a> {
     ghost use Rattle.dp_engine.specs.Answers as spec;
+    ghost use Rattle.dp_engine.specs.Answers.{gone_on};
     ghost use Rattle.dp_engine.specs.Refusals.{refusal};
     ghost use Rattle.dp_engine.specs.Refused.{IsAnsweredBy};
-    ghost use Rattle.dp_engine.specs.Session.{opening, outcome_of, output_so_far, unwritten};
-    ghost use Rattle.dp_engine.specs.inner.Turns.{after, given, Leads};
+    ghost use Rattle.dp_engine.specs.Session.{opening, outcome_of, program_of, steps_between, steps_left, unwritten};
     ghost use Rattle.dp_serving.specs.Folds.{reply_of};
+    ghost use Rattle.dp_state.specs.States.{IsOf};
 
     /// A session over a program that may have so many moments, in the state starting, and the text of its first packet.
     ///
     /// The key has at most 128 bytes, and the files of the program have names of files.
-    #[tactic(auto, using(crate::proofs::Fitting::main_short, crate::proofs::Turning::opened))]
+    #[tactic(auto, using(crate::proofs::Fitting::main_short))]
     pub fn begin(
         alloc: Global,
         bundle: &'a Bundle,
@@ -131,8 +147,8 @@ impl<'a> Session<'a> {
         ensures text { IfOk result (λ begun. begun.1 ≡ init_text bundle.now key.now) }
         ensures is_text { IfOk result (λ begun. IsPacketText begun.1) }
     {
-        let program = State::opening(alloc, bundle)?;
         let init = first_packet(alloc, bundle, key)?;
+        let machine = Machine::start(alloc, bundle, bound)?;
         let session = Session {
             bundle,
             bound,
@@ -142,7 +158,8 @@ impl<'a> Session<'a> {
             standing: Standing::Starting,
             features: Features::new(),
             stdout: StreamMode::Disable,
-            program,
+            machine,
+            failed: false,
             breaks: Breaks::new(alloc),
             alloc,
         };
@@ -151,126 +168,125 @@ impl<'a> Session<'a> {
 
     /// Answers one whole command, without its NUL. After want of memory it has failed for good: nothing is said of it then.
     ///
-    /// No step is counted yet.
+    /// A command that goes on counts a step for each moment that comes on the way; no other command counts any.
     pub fn answer<L: Ledger>(&mut self, line: &[u8], steps: &mut Steps<L>) -> Result<Answer, Memory>
         requires { IsCommand line.now }
         ensures ok { IfOk result (λ answer. reply_of answer self.new ≡ spec.answer self.old line.now) }
         ensures are_texts { IfOk result (λ answer. AllByRecursion IsPacketText answer.packets) }
         ensures refused { IfOk result (λ answer.
             IsAnsweredBy (refusal self.old line.now) self.old line.now (reply_of answer self.new)) }
-        ensures steps { steps.new ≡ steps.old }
-    {
-        self.respond(line)
-    }
-
-    /// The same, without a look at the steps.
-    fn respond(&mut self, line: &[u8]) -> Result<Answer, Memory>
-        requires { IsCommand line.now }
-        ensures ok { IfOk result (λ answer. reply_of answer self.new ≡ spec.answer self.old line.now) }
-        ensures are_texts { IfOk result (λ answer. AllByRecursion IsPacketText answer.packets) }
-        ensures refused { IfOk result (λ answer.
-            IsAnsweredBy (refusal self.old line.now) self.old line.now (reply_of answer self.new)) }
+        ensures steps { IfOk result (λ answer. steps.new ≡ steps.old + steps_between self.old self.new) }
     {
         let alloc = self.alloc;
         let line = read(alloc, line)?;
         let mode = self.stdout;
-        let shown = self.output().len();
-        let turn = self.turn(alloc, line)?;
-        self.give(alloc, mode, shown, turn)
+        let program = self.program()?;
+        let shown = program.output.len();
+        let turn = self.turn(alloc, line, steps)?;
+        let program = self.program()?;
+        let written = tail(program.output.as_slice(), shown);
+        give(alloc, mode, written, turn)
     }
 
-    /// Makes a turn of a session that had shown so much of its output, and answers what is sent of it.
-    fn give(
+    /// The program's state at the moment, or at its end.
+    pub(crate) fn program(&self) -> Result<&State, Memory>
+        ensures state { IfOk result (λ program. program.now ≡ program_of self.now) }
+        ensures of { IfOk result (λ program. IsOf self.now.bundle program.now) }
+    {
+        if self.failed {
+            Err(Memory)
+        } else {
+            Ok(self.machine.state())
+        }
+    }
+
+    /// Goes on to the next stop or to the end. The hits on the way are counted, and a step for each moment.
+    pub(crate) fn run_on<L: Ledger>(
         &mut self,
-        alloc: Global,
-        mode: StreamMode,
-        shown: usize,
-        turn: Turn,
-    ) -> Result<Answer, Memory>
-        requires leads { Leads turn.step self.old }
-        requires is_text { IsPacketText turn.text }
-        ensures ok { IfOk result (λ answer. reply_of answer self.new ≡ given mode shown turn self.old) }
-        ensures are_texts { IfOk result (λ answer. AllByRecursion IsPacketText answer.packets) }
+        mode: Continuation,
+        steps: &mut Steps<L>,
+    ) -> Result<(), Memory>
+        requires { self.old.phase ≢ Phase.Stopping }
+        ensures goes { OnOk result (self.new ≡ gone_on mode self.old) }
+        ensures steps { OnOk result (steps.new ≡ steps.old + steps_between self.old self.new) }
     {
-        let Turn { text, step, ended } = turn;
-        self.take(step);
-        let written = tail(self.output(), shown);
-        let packets = to_ide(alloc, mode, written, text)?;
-        let program = to_program(alloc, mode, written)?;
-        Ok(Answer {
-            packets,
-            program,
-            ended,
-        })
-    }
-
-    /// What the program has written so far.
-    fn output(&self) -> &[u8]
-        ensures { result.now ≡ output_so_far self.now }
-    {
-        self.program.output.as_slice()
-    }
-
-    /// Comes to where the program has come to.
-    fn come(&mut self, arrival: Arrival)
-        requires { Leads (Step.Come arrival) self.old }
-        ensures { self.new ≡ after (Step.Come arrival) self.old }
-    {
-        match arrival {
-            Arrival::Moment {
-                number,
-                depth,
-                program,
-            } => {
+        if self.failed {
+            return Err(Memory);
+        }
+        let Ok(reached) = go_on_from(
+            &mut self.machine,
+            self.bundle,
+            self.depth,
+            mode,
+            &mut self.breaks,
+            steps,
+        ) else {
+            self.failed = true;
+            return Err(Memory);
+        };
+        match reached {
+            Reached::Moment { number, depth } => {
                 self.moment = number;
                 self.depth = depth;
                 self.standing = Standing::Break;
-                self.program = program;
+                Ok(())
             }
-            Arrival::End { outcome, program } => {
+            Reached::End(outcome) => {
                 self.standing = Standing::Stopping(outcome);
-                self.program = program;
+                Ok(())
             }
-        }
-    }
-
-    /// Makes a step.
-    fn take(&mut self, step: Step)
-        requires { Leads step self.old }
-        ensures { self.new ≡ after step self.old }
-    {
-        // Read through a reference: rattle's borrow checker cannot move features out of the enum.
-        if let Step::Set(features) = &step {
-            self.features = *features;
-        }
-        if let Step::Redirect(mode) = &step {
-            self.stdout = *mode;
-        }
-        if let Step::Come(arrival) = step {
-            self.come(arrival);
         }
     }
 
     /// Runs the program on to its end, if it has not ended, and answers the rest of its output and how it ended.
     ///
-    /// No step is counted yet.
-    pub fn finish<L: Ledger>(self, steps: &mut Steps<L>) -> Result<(Bytes, Outcome), Memory>
+    /// A step is counted for each moment that comes on the way.
+    pub fn finish<L: Ledger>(mut self, steps: &mut Steps<L>) -> Result<(Bytes, Outcome), Memory>
         ensures rest { IfOk result (λ rest. rest.0 ≡ unwritten self.entry) }
         ensures outcome { IfOk result (λ rest. rest.1 ≡ outcome_of self.entry) }
-        ensures steps { steps.new ≡ steps.old }
+        ensures steps { IfOk result (λ rest. steps.new ≡ steps.old + steps_left self.entry) }
     {
-        if let Standing::Stopping(outcome) = self.standing {
-            return Ok((Bytes::of(Vec::new(self.alloc)), outcome));
+        let rest = self.run_out(steps);
+        drop(self);
+        rest
+    }
+
+    /// The same of a session that is lent.
+    fn run_out<L: Ledger>(&mut self, steps: &mut Steps<L>) -> Result<(Bytes, Outcome), Memory>
+        ensures rest { IfOk result (λ rest. rest.0 ≡ unwritten self.old) }
+        ensures outcome { IfOk result (λ rest. rest.1 ≡ outcome_of self.old) }
+        ensures steps { IfOk result (λ rest. steps.new ≡ steps.old + steps_left self.old) }
+    {
+        match self.standing {
+            Standing::Starting => self.run_rest(steps),
+            Standing::Break => self.run_rest(steps),
+            Standing::Stopping(outcome) => Ok((Bytes::of(Vec::new(self.alloc)), outcome)),
         }
-        let (outcome, program) = run_out(
-            self.alloc,
-            self.bundle,
-            self.writes.as_slice(),
-            self.bound,
-        )?;
-        let before = self.output().len();
-        let rest = Bytes::from_slice(self.alloc, tail(program.output.as_slice(), before))?;
-        Ok((rest, outcome))
+    }
+
+    /// The same where the program has not ended.
+    fn run_rest<L: Ledger>(&mut self, steps: &mut Steps<L>) -> Result<(Bytes, Outcome), Memory>
+        requires { self.old.phase ≢ Phase.Stopping }
+        ensures rest { IfOk result (λ rest. rest.0 ≡ unwritten self.old) }
+        ensures outcome { IfOk result (λ rest. rest.1 ≡ outcome_of self.old) }
+        ensures steps { IfOk result (λ rest. steps.new ≡ steps.old + steps_left self.old) }
+    {
+        if self.failed {
+            return Err(Memory);
+        }
+        let shown = self.machine.state().output.len();
+        match self.machine.run_out(steps) {
+            Ok(outcome) => {
+                self.standing = Standing::Stopping(outcome);
+                let written = tail(self.machine.state().output.as_slice(), shown);
+                let rest = Bytes::from_slice(self.alloc, written)?;
+                Ok((rest, outcome))
+            }
+            Err(_) => {
+                self.failed = true;
+                Err(Memory)
+            }
+        }
     }
 }
 
@@ -293,18 +309,5 @@ fn main_file(bundle: &Bundle) -> &[u8]
     match bundle.files.as_slice().first() {
         Some(file) => file.name.as_slice(),
         None => &[],
-    }
-}
-
-impl<'a> Responder for Session<'a> {
-    ghost use Rattle.dp_engine.specs.Answers.{answer};
-
-    type End = SessionEnd;
-
-    ghost step = { answer };
-
-    // The session has an allocator of its own.
-    fn answer(&mut self, _alloc: Global, line: &[u8]) -> Result<Answer, Memory> {
-        self.respond(line)
     }
 }

@@ -1,10 +1,10 @@
 //! The states of a session, their reasons, and which commands they allow.
 ghost use Rattle.std.specs.Prelude.{◌≡◌, ◌≤◌, length};
-ghost use Rattle.dp_engine.specs.inner.Standing.{phase_of, reason_at, standing_in};
+ghost use Rattle.dp_engine.specs.inner.Standing.{end_of, phase_of, reason_at};
 ghost use Rattle.dp_engine.specs.States as spec;
 
+use crate::session::SessionEnd;
 use dp_command::CommandName;
-use dp_continuation::Arrival;
 use dp_state::Outcome;
 
 /// The state of a session: DBGp 1.0, "status".
@@ -37,16 +37,6 @@ pub enum Standing {
 }
 
 impl Standing {
-    /// How a session stands where its program has come to.
-    pub fn at(arrival: &Arrival) -> Standing
-        ensures { result ≡ standing_in arrival.now }
-    {
-        match arrival {
-            Arrival::Moment { .. } => Standing::Break,
-            Arrival::End { outcome, .. } => Standing::Stopping(*outcome),
-        }
-    }
-
     pub fn phase(self) -> Phase
         ensures { result ≡ phase_of self }
     {
@@ -64,6 +54,17 @@ impl Standing {
             Standing::Starting => Reason::Ok,
             Standing::Break => Reason::Ok,
             Standing::Stopping(outcome) => Reason::of(outcome),
+        }
+    }
+
+    /// How a session ends that is stopped: a program that has not ended is killed.
+    pub fn end_by_stop(self) -> SessionEnd
+        ensures { result ≡ end_of self }
+    {
+        match self {
+            Standing::Starting => SessionEnd::Killed,
+            Standing::Break => SessionEnd::Killed,
+            Standing::Stopping(outcome) => SessionEnd::Finished(outcome),
         }
     }
 }

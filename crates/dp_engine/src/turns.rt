@@ -1,109 +1,84 @@
 //! What commands lead to.
-ghost use Rattle.std.specs.Prelude.{◌≡◌, ◌≤◌, length, is_some, IfOk, None, Some};
-ghost use Rattle.dp_command.specs.Names.{name_of};
-ghost use Rattle.dp_features.specs.Features.{feature_named};
-ghost use Rattle.dp_packet.specs.Parts.{flag};
+ghost use Rattle.std.specs.Prelude.{◌≡◌, ◌≢◌, ◌+◌, ◌≤◌, length, IfOk, None, Some};
 ghost use Rattle.dp_engine.specs.Refusals.{refusal_of_line};
+ghost use Rattle.dp_engine.specs.Session.{moments_so_far, steps_between};
 ghost use Rattle.dp_engine.specs.Sides.{side_of};
-ghost use Rattle.dp_engine.specs.inner.Sizes.{Fits, IsCode, IsShort, IsShortLine, IsShortRequest};
-ghost use Rattle.dp_engine.specs.inner.Turns.{Tells};
+ghost use Rattle.dp_engine.specs.inner.Sizes.{IsCode, IsShort, IsShortLine, IsShortRequest};
 
-use crate::refusals::feature_refusal;
+use crate::refusals::{ask, feature_refusal};
 use crate::responses;
 use crate::session::{Session, SessionEnd};
 use crate::sides::Side;
 use crate::states::{Phase, Standing};
+use crate::telling::{Turn, detach, refuse, stop, tell, tell_feature, tell_status};
 use crate::writes::accept;
 use dp_breakpoint_commands::{BreakpointError, answer_breakpoints};
 use dp_command::{
-    Addressee, CommandError, CommandName, Continuation, Finish, Line, Request, Stream, StreamMode,
+    Addressee, CommandError, Continuation, Finish, Line, Request, Stream, StreamMode,
 };
-use dp_continuation::{Arrival, go_on};
-use dp_features::{Feature, Features, Setting};
-use dp_packet::Response;
-use dp_value::{Bytes, Memory};
+use dp_features::Setting;
+use dp_step::Steps;
+use dp_value::Memory;
 use dp_view_commands::{ViewError, view_response};
 use std::alloc::Global;
-
-/// What one command leads to, before anything has changed.
-#[derive(Debug, Drop)]
-pub struct Turn {
-    /// The text of its response.
-    pub text: Bytes,
-    pub step: Step,
-    pub ended: Option<SessionEnd>,
-}
-
-/// What changes of a session.
-#[derive(Debug, Drop)]
-pub enum Step {
-    /// Nothing.
-    Stay,
-    /// Its features.
-    Set(Features),
-    /// Where output goes.
-    Redirect(StreamMode),
-    /// Where the program stands.
-    Come(Arrival),
-}
-
-/// A text after which nothing has changed.
-fn stay(text: Bytes) -> Turn
-    ensures { result ≡ record { text = text; step = Step.Stay; ended = None } }
-{
-    Turn {
-        text,
-        step: Step::Stay,
-        ended: None,
-    }
-}
+use std::sync::ledger::Ledger;
 
 impl<'a> Session<'a> {
     ghost use Rattle.dp_engine.specs.Answers as spec;
-    ghost use Rattle.dp_engine.specs.inner.Turns.{answered, IsTurn};
+    ghost use Rattle.dp_engine.specs.Responses.{fault_response};
+    ghost use Rattle.dp_engine.specs.inner.Turns.{answered, IsTurn, Tells};
 
     /// What a line leads to, or bytes that spell no line.
-    pub(crate) fn turn(&mut self, alloc: Global, line: Option<Line>) -> Result<Turn, Memory>
+    pub(crate) fn turn<L: Ledger>(
+        &mut self,
+        alloc: Global,
+        line: Option<Line>,
+        steps: &mut Steps<L>,
+    ) -> Result<Turn, Memory>
         requires { IsShortLine line }
-        ensures { IfOk result (IsTurn (spec.turn_of line (refusal_of_line self.old line) self.old) self.new) }
+        ensures turn { IfOk result (IsTurn (spec.turn_of line (refusal_of_line self.old line) self.old) self.new) }
+        ensures steps { IfOk result (λ turn. steps.new ≡ steps.old + steps_between self.old self.new) }
     {
         match line {
-            Some(line) => self.turn_on(alloc, &line),
-            None => self.refuse(alloc, &Addressee::nobody(alloc), 1),
+            Some(line) => self.turn_on(alloc, &line, steps),
+            None => refuse(alloc, &Addressee::nobody(alloc), 1),
         }
     }
 
     /// What a line leads to.
-    fn turn_on(&mut self, alloc: Global, line: &Line) -> Result<Turn, Memory>
+    fn turn_on<L: Ledger>(
+        &mut self,
+        alloc: Global,
+        line: &Line,
+        steps: &mut Steps<L>,
+    ) -> Result<Turn, Memory>
         requires { IsShort line.now }
-        ensures { IfOk result (IsTurn (spec.turn_of (Some line.now) (refusal_of_line self.old (Some line.now)) self.old) self.new) }
+        ensures turn { IfOk result (IsTurn (spec.turn_of (Some line.now) (refusal_of_line self.old (Some line.now)) self.old) self.new) }
+        ensures steps { IfOk result (λ turn. steps.new ≡ steps.old + steps_between self.old self.new) }
     {
         let to = Addressee::of(alloc, line)?;
-        match self.ask(alloc, line) {
-            Ok(command) => self.perform(alloc, &to, command.request),
-            Err(CommandError::Code(code)) => self.refuse(alloc, &to, code),
+        match ask(alloc, self.standing.phase(), line) {
+            Ok(command) => self.perform(alloc, &to, command.request, steps),
+            Err(CommandError::Code(code)) => refuse(alloc, &to, code),
             Err(CommandError::Memory) => Err(Memory),
         }
     }
 
-    /// An error changes nothing.
-    fn refuse(&self, alloc: Global, to: &Addressee, code: u16) -> Result<Turn, Memory>
-        requires { IsCode code }
-        ensures { IfOk result (IsTurn (spec.refused to.now.command to.now.id code self.now) self.now) }
-    {
-        let response = responses::fault(alloc, to, code)?;
-        let text = responses::text(alloc, response)?;
-        Ok(stay(text))
-    }
-
     /// What a request leads to.
-    fn perform(&mut self, alloc: Global, to: &Addressee, request: Request) -> Result<Turn, Memory>
+    fn perform<L: Ledger>(
+        &mut self,
+        alloc: Global,
+        to: &Addressee,
+        request: Request,
+        steps: &mut Steps<L>,
+    ) -> Result<Turn, Memory>
         requires short { IsShortRequest request }
         requires writes { side_of request ≡ Side.Writes → self.old.phase ≡ Phase.Break }
-        ensures { IfOk result (IsTurn (answered to.now.command to.now.id request self.old) self.new) }
+        ensures turn { IfOk result (IsTurn (answered to.now.command to.now.id request self.old) self.new) }
+        ensures steps { IfOk result (λ turn. steps.new ≡ steps.old + steps_between self.old self.new) }
     {
         match Side::of(&request) {
-            Side::Session => self.perform_here(alloc, to, &request),
+            Side::Session => self.perform_here(alloc, to, &request, steps),
             Side::Breakpoints => self.perform_on_breakpoints(alloc, to, request),
             Side::Program => self.show(alloc, to, &request),
             Side::Writes => self.write(alloc, to, &request),
@@ -111,29 +86,32 @@ impl<'a> Session<'a> {
     }
 
     /// What a request leads to that is answered from the session.
-    fn perform_here(
+    fn perform_here<L: Ledger>(
         &mut self,
         alloc: Global,
         to: &Addressee,
         request: &Request,
+        steps: &mut Steps<L>,
     ) -> Result<Turn, Memory>
         requires short { IsShortRequest request.now }
         requires side { side_of request.now ≡ Side.Session }
-        ensures { IfOk result (IsTurn (answered to.now.command to.now.id request.now self.old) self.new) }
+        ensures turn { IfOk result (IsTurn (answered to.now.command to.now.id request.now self.old) self.new) }
+        ensures steps { IfOk result (λ turn. steps.new ≡ steps.old + steps_between self.old self.new) }
     {
         match request {
-            Request::Status => self.tell_status(alloc, to),
+            Request::Status => tell_status(alloc, to, self.standing),
             Request::FeatureGet { name: feature } => {
-                self.tell_feature(alloc, to, feature.as_slice())
+                tell_feature(alloc, to, &self.features, feature.as_slice())
             }
             Request::FeatureSet {
                 name: feature,
                 value,
             } => self.put_feature(alloc, to, feature.as_slice(), value.as_slice()),
-            Request::Continue(mode) => self.go_on(alloc, to, *mode),
-            Request::Finish(finish) => self.finish_by(alloc, to, *finish),
+            Request::Continue(mode) => self.go_on(alloc, to, *mode, steps),
+            Request::Finish(Finish::Stop) => stop(alloc, to, self.standing.end_by_stop()),
+            Request::Finish(Finish::Detach) => detach(alloc, to),
             Request::Redirect { stream, mode } => self.redirect(alloc, to, *stream, *mode),
-            _ => self.refuse(alloc, to, 4),
+            _ => refuse(alloc, to, 4),
         }
     }
 
@@ -145,9 +123,14 @@ impl<'a> Session<'a> {
         request: Request,
     ) -> Result<Turn, Memory>
         requires { side_of request ≡ Side.Breakpoints }
-        ensures { IfOk result (IsTurn (answered to.now.command to.now.id request self.old) self.new) }
+        ensures turn { IfOk result (IsTurn (answered to.now.command to.now.id request self.old) self.new) }
+        ensures stays { moments_so_far self.new ≡ moments_so_far self.old }
     {
-        let file = self.program.file();
+        let Ok(program) = self.program() else {
+            drop(request);
+            return Err(Memory);
+        };
+        let file = program.file();
         match answer_breakpoints(alloc, self.bundle, file, to, request, &mut self.breaks) {
             Ok(response) => tell(alloc, response),
             Err(BreakpointError::Code(code)) => self.refuse(alloc, to, code),
@@ -160,19 +143,19 @@ impl<'a> Session<'a> {
         requires { side_of request.now ≡ Side.Program }
         ensures { IfOk result (IsTurn (answered to.now.command to.now.id request.now self.now) self.now) }
     {
-        let file = self.program.file();
+        let program = self.program()?;
         let shown = view_response(
             alloc,
             self.bundle,
-            file,
+            program.file(),
             &self.features,
-            &self.program,
+            program,
             to,
             request,
         );
         match shown {
             Ok(response) => tell(alloc, response),
-            Err(ViewError::Code(code)) => self.refuse(alloc, to, code),
+            Err(ViewError::Code(code)) => refuse(alloc, to, code),
             Err(ViewError::Memory) => Err(Memory),
         }
     }
@@ -181,13 +164,17 @@ impl<'a> Session<'a> {
     fn write(&mut self, alloc: Global, to: &Addressee, request: &Request) -> Result<Turn, Memory>
         requires side { side_of request.now ≡ Side.Writes }
         requires stands { self.old.phase ≡ Phase.Break }
-        ensures { IfOk result (IsTurn (answered to.now.command to.now.id request.now self.old) self.new) }
+        ensures turn { IfOk result (IsTurn (answered to.now.command to.now.id request.now self.old) self.new) }
+        ensures stays { moments_so_far self.new ≡ moments_so_far self.old }
     {
+        if self.failed {
+            return Err(Memory);
+        }
         let made = accept(
             alloc,
             self.bundle,
             &self.features,
-            &mut self.program,
+            self.machine.state_mut(),
             &mut self.writes,
             self.moment,
             to,
@@ -200,229 +187,89 @@ impl<'a> Session<'a> {
         }
     }
 
-    /// The state and the reason last given.
-    fn tell_status(&self, alloc: Global, to: &Addressee) -> Result<Turn, Memory>
-        ensures { IfOk result (IsTurn (spec.goes_on (spec.state_response to.now.command to.now.id self.now) self.now) self.now) }
+    /// An error changes nothing.
+    fn refuse(&self, alloc: Global, to: &Addressee, code: u16) -> Result<Turn, Memory>
+        requires { IsCode code }
+        ensures { IfOk result (Tells (fault_response to.now.command to.now.id code) None) }
     {
-        let status = self.standing.phase().name();
-        let reason = self.standing.reason().name();
-        let response = responses::status(alloc, to, status, reason)?;
-        let text = responses::text(alloc, response)?;
-        Ok(stay(text))
-    }
-
-    /// A feature's value, or whether there is a command of this name.
-    fn tell_feature(&self, alloc: Global, to: &Addressee, feature: &[u8]) -> Result<Turn, Memory>
-        requires feature { length feature.now ≤ 1048576 }
-        ensures { IfOk result (IsTurn (spec.goes_on (spec.feature_told to.now.command to.now.id feature.now self.now) self.now) self.now) }
-    {
-        match Feature::of(feature) {
-            Some(found) => self.tell_value(alloc, to, feature, found),
-            None => self.tell_command(alloc, to, feature),
-        }
-    }
-
-    /// A feature's value.
-    fn tell_value(
-        &self,
-        alloc: Global,
-        to: &Addressee,
-        feature: &[u8],
-        found: Feature,
-    ) -> Result<Turn, Memory>
-        requires feature { length feature.now ≤ 1048576 }
-        requires found { feature_named feature.now ≡ Some found }
-        ensures { IfOk result (IsTurn (spec.goes_on (spec.feature_told to.now.command to.now.id feature.now self.now) self.now) self.now) }
-    {
-        let value = self.features.value(alloc, found)?;
-        let response = responses::feature(alloc, to, feature, b"1", Some(value))?;
-        let text = responses::text(alloc, response)?;
-        Ok(stay(text))
-    }
-
-    /// Whether there is a command of a name that no feature has.
-    fn tell_command(&self, alloc: Global, to: &Addressee, feature: &[u8]) -> Result<Turn, Memory>
-        requires feature { length feature.now ≤ 1048576 }
-        requires absent { feature_named feature.now ≡ None }
-        ensures { IfOk result (IsTurn (spec.goes_on (spec.feature_told to.now.command to.now.id feature.now self.now) self.now) self.now) }
-    {
-        let supported = supported(feature);
-        let response = responses::feature(alloc, to, feature, supported, None)?;
-        let text = responses::text(alloc, response)?;
-        Ok(stay(text))
+        refuse(alloc, to, code)
     }
 
     /// Sets a feature to a value, if it can have it.
     fn put_feature(
-        &self,
+        &mut self,
         alloc: Global,
         to: &Addressee,
         feature: &[u8],
         value: &[u8],
     ) -> Result<Turn, Memory>
         requires feature { length feature.now ≤ 1048576 }
-        ensures { IfOk result (IsTurn (answered to.now.command to.now.id (Request.FeatureSet feature.now value.now) self.now) self.now) }
+        ensures turn { IfOk result (IsTurn (answered to.now.command to.now.id (Request.FeatureSet feature.now value.now) self.old) self.new) }
+        ensures stays { moments_so_far self.new ≡ moments_so_far self.old }
     {
-        match feature_refusal(feature, value) {
-            Some(code) => self.refuse(alloc, to, code),
-            None => self.set_feature(alloc, to, feature, value),
+        if let Some(code) = feature_refusal(feature, value) {
+            return refuse(alloc, to, code);
         }
-    }
-
-    /// Sets a feature to a value that it can have.
-    fn set_feature(
-        &self,
-        alloc: Global,
-        to: &Addressee,
-        feature: &[u8],
-        value: &[u8],
-    ) -> Result<Turn, Memory>
-        requires feature { length feature.now ≤ 1048576 }
-        ensures { IfOk result (IsTurn (spec.feature_put to.now.command to.now.id feature.now value.now self.now) self.now) }
-    {
-        let features = match Setting::of(feature, value) {
-            Some(setting) => self.features.with(setting),
-            None => self.features,
-        };
+        if let Some(setting) = Setting::of(feature, value) {
+            self.features = self.features.with(setting);
+        }
         let response = responses::feature_set(alloc, to, feature)?;
-        let text = responses::text(alloc, response)?;
-        Ok(Turn {
-            text,
-            step: Step::Set(features),
-            ended: None,
-        })
+        tell(alloc, response)
     }
 
-    /// Tells where output goes.
+    /// Tells where output goes. The program's output goes there from now on.
     fn redirect(
-        &self,
+        &mut self,
         alloc: Global,
         to: &Addressee,
         stream: Stream,
         mode: StreamMode,
     ) -> Result<Turn, Memory>
-        ensures { IfOk result (IsTurn (spec.redirected to.now.command to.now.id stream mode self.now) self.now) }
+        ensures turn { IfOk result (IsTurn (spec.redirected to.now.command to.now.id stream mode self.old) self.new) }
+        ensures stays { moments_so_far self.new ≡ moments_so_far self.old }
     {
-        match stream {
-            Stream::Stdout => self.redirect_output(alloc, to, mode),
-            Stream::Stderr => tell(alloc, responses::success(alloc, to, false)?),
-        }
-    }
-
-    /// The program's output goes there from now on.
-    fn redirect_output(
-        &self,
-        alloc: Global,
-        to: &Addressee,
-        mode: StreamMode,
-    ) -> Result<Turn, Memory>
-        ensures { IfOk result (IsTurn (spec.redirected to.now.command to.now.id Stream.Stdout mode self.now) self.now) }
-    {
-        let response = responses::success(alloc, to, true)?;
-        let text = responses::text(alloc, response)?;
-        Ok(Turn {
-            text,
-            step: Step::Redirect(mode),
-            ended: None,
-        })
+        let succeeds = match stream {
+            Stream::Stdout => {
+                self.stdout = mode;
+                true
+            }
+            Stream::Stderr => false,
+        };
+        let response = responses::success(alloc, to, succeeds)?;
+        tell(alloc, response)
     }
 
     /// A continuation. Once the program has ended it ends the session.
-    fn go_on(&mut self, alloc: Global, to: &Addressee, mode: Continuation) -> Result<Turn, Memory>
-        ensures { IfOk result (IsTurn (spec.continued to.now.command to.now.id mode self.old.phase self.old) self.new) }
+    fn go_on<L: Ledger>(
+        &mut self,
+        alloc: Global,
+        to: &Addressee,
+        mode: Continuation,
+        steps: &mut Steps<L>,
+    ) -> Result<Turn, Memory>
+        ensures turn { IfOk result (IsTurn (spec.continued to.now.command to.now.id mode self.old.phase self.old) self.new) }
+        ensures steps { IfOk result (λ turn. steps.new ≡ steps.old + steps_between self.old self.new) }
     {
         match self.standing {
-            Standing::Starting => self.advance(alloc, to, mode),
-            Standing::Break => self.advance(alloc, to, mode),
-            Standing::Stopping(outcome) => self.stop(alloc, to, SessionEnd::Finished(outcome)),
+            Standing::Starting => self.advance(alloc, to, mode, steps),
+            Standing::Break => self.advance(alloc, to, mode, steps),
+            Standing::Stopping(outcome) => stop(alloc, to, SessionEnd::Finished(outcome)),
         }
     }
 
-    /// Goes on to the next stop or to the end. The hits on the way are counted at once.
-    fn advance(&mut self, alloc: Global, to: &Addressee, mode: Continuation) -> Result<Turn, Memory>
-        ensures { IfOk result (IsTurn (spec.advanced to.now.command to.now.id mode self.old) self.new) }
+    /// Goes on to the next stop or to the end, and tells which.
+    fn advance<L: Ledger>(
+        &mut self,
+        alloc: Global,
+        to: &Addressee,
+        mode: Continuation,
+        steps: &mut Steps<L>,
+    ) -> Result<Turn, Memory>
+        requires { self.old.phase ≢ Phase.Stopping }
+        ensures turn { IfOk result (IsTurn (spec.advanced to.now.command to.now.id mode self.old) self.new) }
+        ensures steps { IfOk result (λ turn. steps.new ≡ steps.old + steps_between self.old self.new) }
     {
-        let arrival = go_on(
-            alloc,
-            self.bundle,
-            self.writes.as_slice(),
-            self.bound,
-            self.moment,
-            self.depth,
-            mode,
-            &mut self.breaks,
-        )?;
-        let standing = Standing::at(&arrival);
-        let status = standing.phase().name();
-        let reason = standing.reason().name();
-        let response = responses::status(alloc, to, status, reason)?;
-        let text = responses::text(alloc, response)?;
-        Ok(Turn {
-            text,
-            step: Step::Come(arrival),
-            ended: None,
-        })
+        self.run_on(mode, steps)?;
+        tell_status(alloc, to, self.standing)
     }
-
-    /// A command that ends the session.
-    fn finish_by(&self, alloc: Global, to: &Addressee, finish: Finish) -> Result<Turn, Memory>
-        ensures { IfOk result (IsTurn (spec.performed to.now.command to.now.id (Request.Finish finish) self.now) self.now) }
-    {
-        match finish {
-            Finish::Stop => self.stop(alloc, to, self.end_by_stop()),
-            Finish::Detach => {
-                let response = responses::status(alloc, to, b"stopping", b"ok")?;
-                let text = responses::text(alloc, response)?;
-                Ok(ending(text, SessionEnd::Detached))
-            }
-        }
-    }
-
-    /// The session ends so, and tells that it has stopped.
-    fn stop(&self, alloc: Global, to: &Addressee, end: SessionEnd) -> Result<Turn, Memory>
-        ensures { IfOk result (IsTurn (record { response = spec.stopped_response to.now.command to.now.id; next = self.now; ended = Some end }) self.now) }
-    {
-        let response = responses::status(alloc, to, b"stopped", b"ok")?;
-        let text = responses::text(alloc, response)?;
-        Ok(ending(text, end))
-    }
-
-    /// A program that has not ended is killed.
-    fn end_by_stop(&self) -> SessionEnd
-        ensures { result ≡ spec.end_by_stop self.now.phase self.now }
-    {
-        match self.standing {
-            Standing::Starting => SessionEnd::Killed,
-            Standing::Break => SessionEnd::Killed,
-            Standing::Stopping(outcome) => SessionEnd::Finished(outcome),
-        }
-    }
-}
-
-/// The text of a response after which nothing has changed.
-fn tell(alloc: Global, response: Response) -> Result<Turn, Memory>
-    requires { Fits response }
-    ensures { IfOk result (Tells response) }
-{
-    let text = responses::text(alloc, response)?;
-    Ok(stay(text))
-}
-
-/// A text after which the session has ended.
-fn ending(text: Bytes, end: SessionEnd) -> Turn
-    ensures { result ≡ record { text = text; step = Step.Stay; ended = Some end } }
-{
-    Turn {
-        text,
-        step: Step::Stay,
-        ended: Some(end),
-    }
-}
-
-/// How it is told whether a command has this name.
-fn supported(name: &[u8]) -> &'static [u8]
-    ensures text { result.now ≡ flag (is_some (name_of name.now)) }
-    ensures short { length result.now ≤ 16 }
-{
-    responses::flag(CommandName::of(name).is_some())
 }

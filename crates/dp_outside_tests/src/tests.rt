@@ -1,6 +1,6 @@
 //! The objects in memory and the adapters, called as a program calls them.
 
-use dp_adapters::{FileShelf, Reading, Writing};
+use dp_adapters::{FileShelf, Reading, TcpNet, Writing};
 use dp_outside::{
     ByteSink, ByteSource, Dialer, Failed, Faults, Gate, Hook, Host, Job, MapShelf, Memory, Net,
     NoGate, NoNet, NoSpawner, Shelf, ShelfError, Sink, Source, Spawner, SureByteSink,
@@ -9,6 +9,7 @@ use dp_outside::{
 use std::alloc::Global;
 use std::fs::Files;
 use std::io::{ErrorKind, Read, Write};
+use std::net::{Net as Sockets, TcpListener, TcpStream};
 use std::sync::Wait;
 use std::test::Fail;
 use std::thread::Threads;
@@ -459,5 +460,45 @@ fn jobs_run_or_come_back(rt: HostRuntime) -> Result<(), Fail> {
     assert!(rt; none.beside(Doubles(3), Doubles(4)).is_err());
     assert_eq!(rt; results(alloc, &mut none, 2)?.as_slice(), [0, 0].as_slice());
     assert!(rt; none.twin().beside(Doubles(3), Doubles(4)).is_err());
+    Ok(())
+}
+
+// A port that nothing listens at.
+fn free_port<R: Sockets<Listener = TcpListener, Stream = TcpStream>>(rt: &R) -> io::Result<u16> {
+    let listener = TcpListener::bind(rt, "127.0.0.1:0")?;
+    Ok(listener.local_addr()?.port())
+}
+
+// What comes over a link of this net to its own gate, with '|' for each end of a take and '!' for each refusal.
+fn links_to_itself<N: Net>(alloc: Global, net: &mut N, port: u16) -> Result<Vec<u8>, Fail> {
+    let host = Host::of(b"127.0.0.1").ok_or("a host")?;
+    let mut first = net.gate(port).ok().ok_or("a gate")?;
+    let mut gate = first.twin().ok().ok_or("its twin")?;
+    let (mut near, mut near_out) = net.dial(&host, port).ok().ok_or("a link")?;
+    let (mut far, mut far_out, peer) = gate.accept().ok().ok_or("its other end")?;
+    let mut seen = Vec::from_slice(alloc, peer.text())?;
+    seen.extend_from_slice(&puts(alloc, &mut near_out, &["ab", "c"])?)?;
+    seen.extend_from_slice(&takes(alloc, &mut far, 1, 4)?)?;
+    seen.extend_from_slice(&takes(alloc, &mut near, 1, 1)?)?;
+    seen.extend_from_slice(&puts(alloc, &mut near_out, &["d"])?)?;
+    far_out.finish();
+    gate.retire(far, far_out);
+    net.retire(near, near_out);
+    net.shut(gate);
+    net.shut(first);
+    if net.dial(&host, port).is_err() {
+        seen.push(b'!')?;
+    }
+    Ok(seen)
+}
+
+#[test]
+fn links_go_over_loopback(rt: HostRuntime) -> Result<(), Fail> {
+    let port = free_port(&rt)?;
+    let mut net = TcpNet::new(rt.alloc(), &rt);
+    let seen = links_to_itself(rt.alloc(), &mut net, port)?;
+    assert_eq!(rt; seen.as_slice(), b"127.0.0.1++a|b|c|||!!".as_slice());
+    assert_eq!(rt; net.faults.count(), 1);
+    assert_eq!(rt; net.returned.count(), 1);
     Ok(())
 }

@@ -1,5 +1,5 @@
 -- What is done at once, and what follows it.
-use Rattle.std.proofs.Common.{◌≡◌, Result, Ok, Err, ap}
+use Rattle.std.proofs.Common.{◌≡◌, Result, Ok, Err, ap, subst, sym}
 use Rattle.dp_state.specs.declared.state.State.{State}
 use Rattle.dp_actions.specs.declared.halt.Halt.{Halt}
 use Rattle.dp_actions.specs.declared.halt.Halt.TheVariants.{Memory, Finished, Stopped}
@@ -8,7 +8,8 @@ use Rattle.dp_actions.specs.AtOnce.{AtOnce}
 use Rattle.dp_actions.specs.Run.{Run, and_then}
 use Rattle.dp_actions.specs.Setting.{Setting}
 use Rattle.dp_actions.proofs.Acting.{first_done}
-use Rattle.dp_step.specs.Rest.{Follows}
+use Rattle.dp_step_parts.specs.Rest.{Follows}
+use Rattle.dp_step.specs.declared.work.Next.{Next}
 use Rattle.dp_step.specs.inner.Leads.{Leads}
 
 module _ {A : Type 0} where
@@ -23,3 +24,8 @@ module _ {A : Type 0} where
   -- a part whose first step gives something
   pub then_done : (r : Run A) (a : A) (t : State) (next : A → State → Run Signal) → AtOnce r (Ok a) t → and_then r next ≡ next a t
   then_done r a t next h = first_done next h
+
+-- a part that does the same leads to the same
+pub leads_as : (setting : Setting) (part same : Follows → Run Signal) (x : Result Next Halt) (t : State) → ((k : Follows) → part k ≡ same k)
+    → Leads setting same x t → Leads setting part x t
+leads_as setting part same x t e h = subst (λ (p : Follows → Run Signal). Leads setting p x t) (λ i k. sym (e k) i) h

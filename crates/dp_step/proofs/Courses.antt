@@ -1,5 +1,5 @@
 -- What follows a moment of a run, and the trace from there on.
-use Rattle.std.proofs.Common.{◌≡◌, ℕ, zero, suc, ◌+◌, ◌<◌, ◌≤◌, Bool, true, false, List, [], ◌∷◌, Option, Some, None, refl, sym, ap, ◌∙◌, subst, arith, eq-eqb}
+use Rattle.std.proofs.Common.{◌≡◌, ℕ, zero, suc, ◌+◌, ◌<◌, ◌≤◌, Bool, true, false, [], Option, Some, None, refl, sym, ap, ◌∙◌, subst, arith, eq-eqb}
 use Rattle.std.proofs.lemmas.Bool.{le-ltb, lt-ltb, ne_eqb}
 use Rattle.std.specs.Prelude.{slice_get, if◌then◌else◌, nat_lt, nat_eq}
 use Rattle.dp_state.specs.declared.moments.Moment.{Moment}
@@ -8,7 +8,7 @@ use Rattle.dp_state.specs.declared.moments.Outcome.TheVariants.{Bound}
 use Rattle.dp_state.specs.declared.state.State.{State}
 use Rattle.dp_actions.specs.Run.{Run, Done, Over, At}
 use Rattle.dp_meaning.specs.Stopping.{following}
-use Rattle.dp_meaning.specs.Trace.{Ended, Trace, moment_of, outcome_of, trace, with_moment}
+use Rattle.dp_meaning.specs.Trace.{Ended, Trace, moment_of, trace, with_moment}
 use Rattle.dp_meaning.specs.Writes.{Writes, arrived, written}
 use Rattle.dp_meaning.proofs.Steady.{IsSteady}
 use Rattle.dp_meaning.proofs.WrittenMoments.{moments-written}

@@ -1,10 +1,7 @@
 -- A statement by what is done first and what waits for it.
-use Rattle.std.proofs.Common.{◌≡◌, ℕ, zero, suc, ◌+◌, Bool, true, false, List, [], ◌∷◌, map, drop, length, get_or, ◌<◌, Option, Some, None, refl, sym, ap, ◌∙◌, arith, drop-cons}
-use Rattle.std.specs.Prelude.{if◌then◌else◌, option_map}
+use Rattle.std.proofs.Common.{◌≡◌, ℕ, ◌+◌, List, ◌∷◌, map, drop, length, get_or, ◌<◌, Option, sym, ap, ◌∙◌}
 use Rattle.dp_tree.specs.declared.tree.Arm.{Arm}
-use Rattle.dp_tree.specs.declared.tree.Binding.{Binding}
 use Rattle.dp_tree.specs.declared.tree.Expression.{Expression}
-use Rattle.dp_tree.specs.declared.tree.Item.{Item}
 use Rattle.dp_tree.specs.declared.tree.Place.{Place}
 use Rattle.dp_tree.specs.declared.tree.Statement.{Statement}
 use Rattle.dp_tree.specs.declared.tree.StatementKind.{StatementKind}
@@ -12,27 +9,18 @@ use Rattle.dp_tree.specs.declared.tree.StatementKind.TheVariants as kind
 use Rattle.dp_state.specs.declared.moments.MomentKind.TheVariants as moment
 use Rattle.dp_state.specs.declared.state.State.{State}
 use Rattle.dp_state.specs.Places.{keys_of_indices, unset}
-use Rattle.dp_value.specs.declared.value.Value.{Value}
 use Rattle.dp_actions.specs.declared.signal.Signal.{Signal}
-use Rattle.dp_actions.specs.declared.signal.Signal.TheVariants.{Next}
-use Rattle.dp_meaning.specs.Expressions.{evaluation, evaluations, expression_run, items_run, place_run}
-use Rattle.dp_actions.specs.Run.{Run, Done, At, and_then, taken, ◌>>=◌}
+use Rattle.dp_meaning.specs.Expressions.{evaluation, evaluations, expression_run, place_run}
+use Rattle.dp_actions.specs.Run.{Run, At, and_then, taken, ◌>>=◌}
 use Rattle.dp_actions.specs.Setting.{Setting, Part}
 use Rattle.dp_meaning.specs.inner.Parts.{kind_run}
-use Rattle.dp_meaning.specs.Statements.{arm_run}
-use Rattle.dp_meaning.specs.Expressions.{item_run_of}
-use Rattle.dp_meaning.specs.Statements.{ArmRun, KindRun, arms_run, body_run, branch, echoes, echoed, go_on, statement_run}
+use Rattle.dp_meaning.specs.Statements.{ArmRun, KindRun, body_run, branch, echoes, echoed, go_on, statement_run}
 use Rattle.dp_actions.proofs.Runs.{and_then-assoc}
 use Rattle.dp_actions.specs.Places.{PlaceRun, unset_run}
 use Rattle.dp_meaning.proofs.Layers.{kind-If, run-arm, run-place, run-statement}
-use Rattle.dp_step.specs.Rest.{Follows, arms_part, branch_of, keyed_after, next_to, to_signal, to_value}
-use Rattle.dp_step.proofs.FirstParts.{item-keyed, items-first}
-
--- the part of a list from a position on, by the member at that position
-pub from-member : {A : Type 0} (l : List A) (n : ℕ) (x : A) → n < length l → x ≡ get_or l n x → drop n l ≡ x ∷ drop (n + 1) l
-from-member l n x h e =
-    let next : n + 1 ≡ suc n = omega arith in
-    drop-cons l n x h ∙ ap (λ y. y ∷ drop (suc n) l) (sym e) ∙ ap (λ m. x ∷ drop m l) (sym next)
+use Rattle.dp_step.specs.Rest.{arms_part, branch_of, next_to}
+use Rattle.dp_step_parts.specs.Rest.{Follows, to_signal}
+use Rattle.dp_step_parts.proofs.FirstParts.{from-member}
 
 module _ (setting : Setting) (k : Follows) (s : State) where
   pub statement-is : (statement : Statement) (is : StatementKind) → statement.kind ≡ is → (layer : KindRun) → kind_run is ≡ layer
@@ -46,13 +34,6 @@ module _ (setting : Setting) (k : Follows) (s : State) where
       → At moment.Place line s f ≡ (At moment.Place line s g >>= to_signal k)
   unfolding and_then
   placed-is line f g e = λ i. At moment.Place line s (λ t. e t i)
-
-  -- an item whose key is evaluated first
-  pub keyed-first : (all : List Item) (at : ℕ) (first : Item) → at < length all → first ≡ get_or all at first → (array : Value) (key : Expression)
-      → first.key ≡ Some key → (evaluation key setting s >>= λ v t. keyed_after setting (drop at all) v array k t)
-      ≡ (items_run (map item_run_of (drop at all)) array setting s >>= to_value k)
-  keyed-first all at first h e array key is =
-      rw (from-member all at first h e) (sym (items-first setting k s _ _ array ∙ item-keyed setting k s _ first array key is))
 
   pub body-first : (first : Statement) (rest : List Statement)
       → (body_run (first ∷ rest) setting s >>= to_signal k)

@@ -1,11 +1,13 @@
 pub mod AtOnce
-pub mod Begins
-pub mod FirstParts
-pub mod Receiving
+pub mod Calling
 pub mod FirstStatements
 pub mod TurnLaws
 pub mod Goings
 pub mod Smalls
+pub mod Ends
 pub mod Courses
 pub mod Standing
 pub mod WritesMade
+pub mod Writings
+pub mod Counting
+pub mod SameSettings

@@ -1,5 +1,5 @@
 -- A small step of a machine, by what it does with the pending work.
-use Rattle.std.proofs.Common.{◌≡◌, Bool, ℕ, zero, suc, ◌-◌, ◌<◌, List, [], ◌∷◌, ◌++◌, length, reverse, Option, Some, None, Result, Ok, Err, refl, sym, ap, ◌∙◌, subst, arith}
+use Rattle.std.proofs.Common.{◌≡◌, Bool, ℕ, ◌-◌, List, [], ◌∷◌, ◌++◌, reverse, Option, Some, None, Result, Ok, Err, refl, sym, ap, ◌∙◌, subst}
 use Rattle.std.proofs.lemmas.List.{reverse-append}
 use Rattle.dp_tree.specs.declared.bundle.Bundle.{Bundle}
 use Rattle.dp_tree.specs.declared.tree.Function.{Function}
@@ -17,28 +17,25 @@ use Rattle.dp_actions.specs.declared.halt.Halt.{Halt}
 use Rattle.dp_actions.specs.declared.halt.Halt.TheVariants.{Memory, Finished, Stopped}
 use Rattle.dp_actions.specs.declared.signal.Signal.{Signal}
 use Rattle.dp_actions.specs.AtOnce.{AtOnce}
-use Rattle.dp_meaning.specs.Programs.{file_run, function_run, leaving, left_call, left_file, setting_of}
+use Rattle.dp_meaning.specs.Programs.{leaving, left_file, setting_of}
 use Rattle.dp_actions.specs.Bodies.{statements_of}
-use Rattle.dp_actions.specs.Run.{Run, Done, Over, At, and_then, taken, fatal, ◌>>=◌}
+use Rattle.dp_actions.specs.Run.{Run, Over, At, and_then, taken, ◌>>=◌}
 use Rattle.dp_actions.specs.Setting.{Setting}
 use Rattle.dp_meaning.specs.Statements.{body_run}
-use Rattle.dp_meaning.proofs.CallLaws.{file-is, setting-bound, setting-bundle, suc-call, suc-include, zero-call, zero-include}
+use Rattle.dp_meaning.proofs.CallLaws.{file-is, suc-call, suc-include, zero-call, zero-include}
 use Rattle.dp_actions.proofs.Runs.{and_then-assoc, and_then-same}
 use Rattle.dp_step.specs.declared.machine.Machine.{Machine}
-use Rattle.dp_step.specs.declared.work.Given.{Given}
-use Rattle.dp_step.specs.declared.work.Given.TheVariants as given
+use Rattle.dp_step_parts.specs.declared.work.Given.{Given}
+use Rattle.dp_step_parts.specs.declared.work.Given.TheVariants as given
 use Rattle.dp_step.specs.declared.work.Hand.{Hand}
-use Rattle.dp_step.specs.declared.work.Hand.TheVariants as hand
-use Rattle.dp_step.specs.declared.work.Next.{Next}
 use Rattle.dp_step.specs.declared.work.Small.{Small}
 use Rattle.dp_step.specs.declared.work.Waiting.{Waiting}
 use Rattle.dp_step.specs.declared.work.Waiting.TheVariants as waiting
-use Rattle.dp_step.specs.declared.work.Work.{Work}
-use Rattle.dp_step.specs.Rest.{Follows, behind, hand_rest, next_rest, small_rest, to_signal, to_value, waiting_rest, work_rest}
+use Rattle.dp_step.specs.Rest.{behind, hand_rest, next_rest, small_rest, waiting_rest}
+use Rattle.dp_step_parts.specs.Rest.{Follows, to_signal, to_value}
 use Rattle.dp_step.specs.Stands.{depth_after, pending_rest, rest_of}
 use Rattle.dp_step.specs.inner.Goes.{Goes}
 use Rattle.dp_step.specs.inner.Moves.{IsOver, Moves, MovesBy, body_with, ends_call, file_with, follows_of, leave_if, rest_with, setting_at, small_with}
-use Rattle.dp_step.proofs.AtOnce.{then_done}
 
 -- ---- the innermost item
 

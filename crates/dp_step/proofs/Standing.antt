@@ -1,7 +1,7 @@
 -- A step of a machine is a step of the program that it stands for.
-use Rattle.std.proofs.Common.{◌≡◌, ℕ, zero, suc, ◌<◌, ◌≤◌, false, List, [], ◌∷◌, Option, Some, None, refl, sym, ap, ◌∙◌, subst, arith}
+use Rattle.std.proofs.Common.{◌≡◌, ℕ, zero, suc, ◌<◌, false, List, [], ◌∷◌, Option, Some, None, refl, sym, ap, ◌∙◌, subst, arith}
 use Rattle.std.proofs.lemmas.Bool.{ne_eqb}
-use Rattle.std.specs.Prelude.{if◌then◌else◌, nat_eq, option_map, Result, Ok, Err, slice_get}
+use Rattle.std.specs.Prelude.{nat_eq, option_map, Ok, Err, slice_get}
 use Rattle.dp_tree.specs.declared.bundle.Bundle.{Bundle}
 use Rattle.dp_state.specs.declared.moments.Moment.{Moment}
 use Rattle.dp_state.specs.declared.state.State.{State}
@@ -16,7 +16,7 @@ use Rattle.dp_actions.specs.Run.{Run, Done, Over, At, and_then}
 use Rattle.dp_actions.specs.Setting.{Setting}
 use Rattle.dp_meaning.specs.Statements.{body_run}
 use Rattle.dp_meaning.specs.Stopping.{following}
-use Rattle.dp_meaning.specs.Trace.{Trace, now, outcome_of, program_trace, trace}
+use Rattle.dp_meaning.specs.Trace.{Trace, outcome_of, program_trace, trace}
 use Rattle.dp_meaning.specs.Writes.{Writes, written, written_by, writes_of}
 use Rattle.dp_meaning.proofs.Steady.{IsSteady, steady-program}
 use Rattle.dp_actions.proofs.Runs.{and_then-Done}
@@ -27,10 +27,10 @@ use Rattle.dp_step.specs.declared.machine.Arrival.TheVariants as arrival
 use Rattle.dp_step.specs.declared.machine.Machine.{Machine}
 use Rattle.dp_step.specs.declared.machine.Progress.{Progress}
 use Rattle.dp_step.specs.declared.machine.Progress.TheVariants as progress
-use Rattle.dp_step.specs.Rest.{to_signal}
-use Rattle.dp_step.specs.Stands.{ComesTo, EndsWith, GoesOn, IsAfter, NoneAbove, StandsFor, pending_rest, rest_of}
+use Rattle.dp_step_parts.specs.Rest.{to_signal}
+use Rattle.dp_step.specs.Stands.{ComesTo, EndsWith, GoesOn, NoneAbove, StandsFor, pending_rest, rest_of}
 use Rattle.dp_step.specs.inner.Moves.{Arrives, Comes, Goes, GoesBy, IsEnd, IsOver, Moves, arrived_at}
-use Rattle.dp_step.proofs.Courses.{Past, first-following, first-moment, goes_past, none-in-bound}
+use Rattle.dp_step.proofs.Courses.{first-following, first-moment, goes_past, none-in-bound}
 
 -- the member of a list whose image is there
 pub of_image : {A B : Type 0} (f : A → B) (o : Option A) (b : B) → option_map f o ≡ Some b → (a : A) × (o ≡ Some a) × (f a ≡ b)

@@ -1,6 +1,6 @@
 -- Turns of loops, by what is done first.
-use Rattle.std.proofs.Common.{◌≡◌, ℕ, zero, suc, ◌+◌, ◌-◌, ◌<◌, ◌≤◌, Bool, true, false, List, [], ◌∷◌, drop, length, refl, sym, ap, ◌∙◌, arith}
-use Rattle.std.specs.Prelude.{if◌then◌else◌, nat_le, slice_get, Option, Some, None, Result, Ok, Err}
+use Rattle.std.proofs.Common.{◌≡◌, ℕ, zero, suc, ◌+◌, ◌-◌, ◌<◌, List, [], ◌∷◌, drop, length, refl, sym, ap, ◌∙◌, arith}
+use Rattle.std.specs.Prelude.{slice_get, Some, Ok, Err}
 use Rattle.dp_state.specs.declared.moments.MomentKind.TheVariants as moment
 use Rattle.dp_state.specs.declared.state.State.{State}
 use Rattle.dp_value.specs.declared.key.Key.{Key}
@@ -22,12 +22,12 @@ use Rattle.dp_step.specs.declared.work.DoTurns.{DoTurns}
 use Rattle.dp_step.specs.declared.work.EachTurns.{EachTurns}
 use Rattle.dp_step.specs.declared.work.Head.{Head}
 use Rattle.dp_step.specs.declared.work.Turns.{Turns}
-use Rattle.dp_step.specs.Rest.{Follows, after_of, do_test, do_tested, do_turns_of, each_from, each_turn, tests_of, to_signal, turns_decided, turns_next, turns_of, turns_tested}
+use Rattle.dp_step.specs.Rest.{after_of, do_test, do_tested, do_turns_of, each_from, each_turn, tests_of, turns_decided, turns_next, turns_of, turns_tested}
+use Rattle.dp_step_parts.specs.Rest.{Follows, to_signal}
 use Rattle.dp_step.specs.inner.Leads.{Leads}
 use Rattle.dp_actions.specs.declared.halt.Halt.{Halt}
 use Rattle.dp_actions.specs.AtOnce.{AtOnce}
-use Rattle.dp_step.proofs.AtOnce.{leads_off, then_done}
-use Rattle.dp_step.proofs.Receiving.{leads_as}
+use Rattle.dp_step.proofs.AtOnce.{leads_as, leads_off, then_done}
 
 -- another signal than that to go on
 pub goes-off : (g : Signal) (next : State → Run Signal) (s : State) → (g ≡ Next → ⊥) → go_on g next s ≡ Done g s

@@ -1,5 +1,5 @@
 -- Writes at a moment change the state there, and leave what was and what is to be done.
-use Rattle.std.proofs.Common.{◌≡◌, ℕ, zero, suc, ◌+◌, ◌<◌, ◌≤◌, Bool, true, false, List, [], ◌∷◌, ◌++◌, Some, None, refl, sym, ap, ◌∙◌, append-nil, arith}
+use Rattle.std.proofs.Common.{◌≡◌, ℕ, zero, suc, ◌+◌, ◌<◌, ◌≤◌, Bool, true, false, List, [], ◌∷◌, ◌++◌, Some, None, refl, sym, ap, ◌∙◌, append-nil, arith, subst}
 use Rattle.std.proofs.lemmas.Bool.{ne_eqb}
 use Rattle.std.proofs.lemmas.Bool.Decides.{nat_tests}
 use Rattle.std.specs.Prelude.{if◌then◌else◌, nat_eq, nat_lt, option_map, slice_get}
@@ -11,6 +11,7 @@ use Rattle.dp_state.specs.States.{opening}
 use Rattle.dp_actions.specs.Run.{Run, Done, Over, At}
 use Rattle.dp_actions.specs.Setting.{Setting}
 use Rattle.dp_meaning.specs.declared.writing.NumberedWrite.{NumberedWrite}
+use Rattle.dp_meaning.specs.declared.writing.Write.{Write}
 use Rattle.dp_meaning.specs.Programs.{program_run}
 use Rattle.dp_meaning.specs.Stopping.{following}
 use Rattle.dp_meaning.specs.Trace.{Ended, Trace, moment_of, program_trace, trace, with_moment}
@@ -20,6 +21,9 @@ use Rattle.dp_meaning.proofs.WrittenMoments.{moments-written}
 use Rattle.dp_step.specs.declared.machine.Machine.{Machine}
 use Rattle.dp_step.specs.Stands.{NoneAbove, StandsFor, rest_of}
 use Rattle.dp_step.proofs.Standing.{of_image}
+
+nat_eq-same : (n : ℕ) → nat_eq n n ≡ true
+nat_eq-same n = grind (arith, nat_tests)
 
 -- ---- writes by their numbers
 
@@ -286,3 +290,19 @@ module _ (bundle : Bundle) (bound : ℕ) (ws vs : List NumberedWrite) (old : Mac
       ∙ sym (written-of (evaluation_setting bundle) vs (suc k) old.state)
       ∙ sym (state ∙ (λ i. written_by (evaluation_setting (stands.same_bundle i)) vs
       (number-is bundle bound ws (suc k) old stands i) old.state)))
+
+-- one write is made at the moment
+pub one-made : (bundle : Bundle) (bound : ℕ) (ws : List NumberedWrite) (n : ℕ) (w : Write) (old new : Machine)
+    → StandsFor bundle bound ws (suc n) old → new ≡ record old { state = new.state }
+    → new.state ≡ one_write (evaluation_setting old.bundle.now) w old.state
+    → StandsFor bundle bound (ws ++ record { moment = suc n; write = w } ∷ []) (suc n) new
+unfolding rest_of
+one-made bundle bound ws n w old new stands same state =
+    let number = number-is bundle bound ws (suc n) old stands in
+    let this : NumberedWrite = record { moment = suc n; write = w } in
+    let alone : of_number (suc n) (this ∷ []) ≡ this ∷ [] = ap (λ (b : Bool). if b then this ∷ [] else []) (nat_eq-same (suc n)) in
+    subst (λ l. StandsFor bundle bound (ws ++ l) (suc n) new) alone
+    (all-made bundle bound ws (this ∷ []) old (suc n) new stands (λ none. omega (arith, number, none))
+    (ap (λ (m : Machine). m.bundle.now) same) (ap (λ (m : Machine). m.bound) same) (λ s. ap (λ (m : Machine). rest_of m s) same)
+    (state ∙ sym (ap (λ (b : Bool). if b then one_write (evaluation_setting old.bundle.now) w old.state else old.state)
+    (ap (nat_eq (suc n)) number ∙ nat_eq-same (suc n)))))

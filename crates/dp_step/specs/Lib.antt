@@ -1,4 +1,5 @@
 pub mod Lending
 pub mod Rest
 pub mod Stands
+pub mod Written
 pub mod inner

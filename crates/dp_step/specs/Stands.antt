@@ -1,5 +1,6 @@
 -- What a machine stands for: a program with its writes, at a moment.
-use Rattle.std.specs.Prelude.{◌≡◌, ℕ, zero, suc, ◌≤◌, List, [], ◌∷◌, reverse, Some, None}
+use Rattle.std.specs.Prelude.{◌≡◌, ℕ, zero, suc, ◌≤◌, List, [], ◌∷◌, reverse}
+use Rattle.std.specs.Prelude.{Some, None, Result, Ok, Err}
 use Rattle.dp_tree.specs.declared.bundle.Bundle.{Bundle}
 use Rattle.dp_state.specs.declared.moments.Moment.{Moment}
 use Rattle.dp_state.specs.declared.moments.Outcome.{Outcome}
@@ -10,7 +11,7 @@ use Rattle.dp_actions.specs.declared.signal.Signal.TheVariants.{Next}
 use Rattle.dp_meaning.specs.declared.writing.NumberedWrite.{NumberedWrite}
 use Rattle.dp_meaning.specs.Programs.{program_run, setting_of}
 use Rattle.dp_actions.specs.Bodies.{statements_of}
-use Rattle.dp_actions.specs.Run.{Run, Done}
+use Rattle.dp_actions.specs.Run.{Run, Done, Over}
 use Rattle.dp_meaning.specs.Statements.{body_run}
 use Rattle.dp_meaning.specs.Stopping.{following}
 use Rattle.dp_meaning.specs.Trace.{moment_at, now, outcome, program_trace}
@@ -18,11 +19,13 @@ use Rattle.dp_meaning.specs.Writes.{writes_of}
 use Rattle.dp_step.specs.declared.machine.Machine.{Machine}
 use Rattle.dp_step.specs.declared.machine.Progress.{Progress}
 use Rattle.dp_step.specs.declared.machine.Progress.TheVariants as progress
-use Rattle.dp_step.specs.declared.work.Given.{Given}
-use Rattle.dp_step.specs.declared.work.Given.TheVariants as given
+use Rattle.dp_step_parts.specs.declared.work.Given.{Given}
+use Rattle.dp_step_parts.specs.declared.work.Given.TheVariants as given
+use Rattle.dp_step.specs.declared.work.Hand.TheVariants as hand
 use Rattle.dp_step.specs.declared.work.Waiting.{Waiting}
 use Rattle.dp_step.specs.declared.work.Waiting.TheVariants as waiting
-use Rattle.dp_step.specs.Rest.{Follows, hand_rest, waiting_rest}
+use Rattle.dp_step.specs.Rest.{hand_rest, waiting_rest}
+use Rattle.dp_step_parts.specs.Rest.{Follows}
 
 -- ---- all that a machine has to do
 
@@ -92,3 +95,24 @@ EndsWith bundle bound writes n o m =
 abbrev pub GoesOn : Bundle → ℕ → List NumberedWrite → ℕ → Progress → Machine → Type 0
 GoesOn bundle bound writes n (progress.At moment) m = ComesTo bundle bound writes n moment m
 GoesOn bundle bound writes n (progress.Ended o) m = EndsWith bundle bound writes n o m
+
+-- how many steps it counts
+abbrev pub steps_of : Progress → ℕ
+steps_of (progress.At moment) = 1
+steps_of (progress.Ended o) = 0
+
+-- ---- ends
+
+-- the program of a machine has ended so: nothing is left to do
+abbrev pub HasEnded : Outcome → Machine → Type 0
+HasEnded o m = (s : State) → rest_of m s ≡ Over o s
+
+-- memory has run out: it answers so from then on
+abbrev pub HasFailed : Machine → Type 0
+HasFailed m = m.hand ≡ hand.Failed
+
+-- how a step leaves the machine, by what it answers
+abbrev pub Leaves : {E : Type 0} → Result Progress E → Machine → Type 0
+Leaves (Ok (progress.At moment)) m = Unit {0}
+Leaves (Ok (progress.Ended o)) m = HasEnded o m
+Leaves (Err e) m = HasFailed m

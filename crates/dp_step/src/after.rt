@@ -9,17 +9,18 @@ ghost use Rattle.dp_actions.specs.Loops.{bind as bind_run, entries};
 ghost use Rattle.dp_actions.specs.Run.{Done, and_then, taken};
 ghost use Rattle.dp_actions.specs.Setting.{Setting};
 ghost use Rattle.dp_actions.specs.Effects.{with_globals};
-ghost use Rattle.dp_step.specs.Rest.{after_rest, each_turn, next_to, to_signal, unset_after};
+ghost use Rattle.dp_step.specs.Rest.{after_rest, each_turn, next_to, unset_after, values_rest};
+ghost use Rattle.dp_step_parts.specs.Rest.{to_signal};
 ghost use Rattle.dp_step.specs.declared.work.AfterValue.TheVariants as any_after;
 ghost use Rattle.dp_step.specs.inner.Leads.{Leads};
 
-use crate::loops::{do_tested, entry_count, tested};
+use crate::loops::{do_tested, entry_count, test_holds, tested};
 use crate::next::signal;
-use crate::receive::holds;
 use crate::statements::branch;
-use crate::work::{AfterValue, EachTurns, ForSignal, Hand, Next, Work};
+use crate::work::{AfterValue, EachTurns, ForSignal, ForValues, Hand, Next, Work};
 use dp_actions::{Halt, Signal, bind_all, bind_entry, exit_value, print_value, unset_place};
 use dp_state::State;
+use dp_step_parts::holds;
 use dp_tree::{Binding, Expression, Place};
 use dp_value::{Bytes, Items, Value};
 use std::alloc::Global;
@@ -48,6 +49,32 @@ pub(crate) fn receive_after<'p>(
             hand: Hand::EachTurn(turns, value, 0),
             waits: None,
         }),
+    }
+}
+
+/// Values are given to a statement or a call that waits for them.
+pub(crate) fn receive_values<'p>(
+    alloc: Global,
+    work: ForValues<'p>,
+    values: Items<Value>,
+    state: &mut State,
+) -> Result<Next<'p>, Halt>
+    ensures { (setting : Setting) → Leads setting (λ k. values_rest setting work.entry values k state.old) result state.new }
+{
+    match work {
+        ForValues::Call(file, function) => Ok(Next {
+            hand: Hand::Call(file, function, values),
+            waits: None,
+        }),
+        ForValues::Unset(name, rest) => unset_next(alloc, name, values, rest, state),
+        ForValues::Turns(turns, left) => {
+            drop(values);
+            Ok(Next {
+                hand: Hand::Turn(turns, left),
+                waits: None,
+            })
+        }
+        ForValues::Tests(turns, left) => Ok(tested(turns, left, test_holds(values))),
     }
 }
 
@@ -85,7 +112,7 @@ fn exit_with<'p>(value: Value, state: &mut State) -> Result<Next<'p>, Halt>
 }
 
 /// A place of an `unset` is taken away.
-pub(crate) fn unset_next<'p>(
+fn unset_next<'p>(
     alloc: Global,
     name: &Bytes,
     indices: Items<Value>,

@@ -1,34 +1,35 @@
 //! What is in hand is done as far as one small step goes.
 
 ghost use Rattle.dp_actions.specs.Setting.{Setting};
-ghost use Rattle.dp_actions.specs.Run.{Run};
+ghost use Rattle.dp_actions.specs.Run.{Run, and_then};
+ghost use Rattle.dp_meaning.specs.Expressions.{evaluation};
 ghost use Rattle.dp_actions.specs.declared.signal.Signal.{Signal as AnySignal};
 ghost use Rattle.dp_state.specs.declared.state.State.{State as AnyState};
 ghost use Rattle.std.specs.Prelude.{◌≡◌, None};
 ghost use Rattle.dp_state.specs.States.{left};
 ghost use Rattle.dp_actions.specs.Bodies.{returned as value_returned};
-ghost use Rattle.dp_step.specs.Rest.{Follows, hand_rest, next_rest, small_rest, to_value as given_value, work_rest};
+ghost use Rattle.dp_step.specs.Rest.{hand_rest, next_rest, small_rest, work_rest};
+ghost use Rattle.dp_step_parts.specs.Leads.{Leads as PartLeads};
+ghost use Rattle.dp_step_parts.specs.Rest.{Follows, to_value as given_value};
+ghost use Rattle.dp_step_parts.specs.Rest.{hand_rest as part_hand_rest, next_rest as part_next_rest};
 ghost use Rattle.dp_step.specs.declared.work.Work.TheVariants as any_work;
 ghost use Rattle.dp_step.specs.inner.Leads.{Leads};
 ghost use Rattle.dp_step.specs.inner.Goes.{Goes};
 
-use crate::after::{bind, global, receive_after};
-use crate::begin::{begin, find};
-use crate::lists::{isset, items, links, under, values};
+use crate::after::{bind, global, receive_after, receive_values};
+use crate::calls::{begin_call, include};
 use crate::loops::{do_turn, each_turn, receive_signal, turn};
 use crate::next::give;
-use crate::receive::{receive_part, receive_value, receive_values};
 use crate::statements::{arms, each, echo, run, run_arm, run_at, unset};
-use crate::work::{
-    AfterValue, ForPart, ForSignal, ForValue, ForValues, Given, Hand, Next, Small, Work,
-};
+use crate::work::{AfterValue, ForSignal, ForValues, Hand, Next, Small, Work};
 use dp_actions::{Halt, Signal, returned};
 use dp_state::State;
-use dp_tree::Bundle;
+use dp_step_parts::{Given, Hand as PartHand, Next as PartNext, first_of as first_part, give_to};
+use dp_tree::{Bundle, Expression, Inclusion};
 use dp_value::Value;
 use std::alloc::Global;
 
-/// What is in hand is done as far as one step goes: a part of an expression.
+/// What is in hand is done as far as one step goes.
 pub(crate) fn first_of<'p>(
     alloc: Global,
     bundle: &'p Bundle,
@@ -39,32 +40,77 @@ pub(crate) fn first_of<'p>(
     ensures { (setting : Setting) → setting.bundle ≡ bundle.now → setting.bound ≡ bound → Goes setting (λ k. hand_rest setting hand.entry k state.old) result state.new }
 {
     match hand {
-        Hand::Evaluate(e) => moved(begin(alloc, bundle, e, state)),
-        Hand::Find(e) => Ok(Small {
-            moment: None,
-            next: find(e),
-        }),
-        Hand::Values(before, rest, at) => Ok(Small {
-            moment: None,
-            next: values(before, rest, at),
-        }),
-        Hand::Items(array, rest, at) => Ok(Small {
-            moment: None,
-            next: items(array, rest, at),
-        }),
-        Hand::Links(left, rest, at) => Ok(Small {
-            moment: None,
-            next: links(left, rest, at),
-        }),
-        Hand::Under(how, value, rest, at) => Ok(Small {
-            moment: None,
-            next: under(how, value, rest, at),
-        }),
-        Hand::Isset(rest) => Ok(Small {
-            moment: None,
-            next: isset(alloc, rest),
-        }),
+        Hand::Part(part) => first_of_part(alloc, bundle, part, state),
         hand => first_of_statement(alloc, bound, hand, state),
+    }
+}
+
+/// A part of an expression.
+fn first_of_part<'p>(
+    alloc: Global,
+    bundle: &'p Bundle,
+    part: PartHand<'p>,
+    state: &State,
+) -> Result<Small<'p>, Halt>
+    ensures { (setting : Setting) → setting.bundle ≡ bundle.now → Goes setting (λ k. part_hand_rest setting part.entry k state.now) result state.now }
+{
+    match part {
+        PartHand::Evaluate(e) => evaluate(alloc, bundle, e, state),
+        part => widened(first_part(alloc, part, state)),
+    }
+}
+
+/// An expression.
+fn evaluate<'p>(
+    alloc: Global,
+    bundle: &'p Bundle,
+    e: &'p Expression,
+    state: &State,
+) -> Result<Small<'p>, Halt>
+    ensures { (setting : Setting) → setting.bundle ≡ bundle.now → Goes setting (λ k. and_then (evaluation e.now setting state.now) (given_value k)) result state.now }
+{
+    match e {
+        Expression::Call(name, arguments) => {
+            moved(begin_call(alloc, bundle, name, arguments, state))
+        }
+        Expression::Include(how, file) => Ok(Small {
+            moment: None,
+            next: Next {
+                hand: Hand::Part(PartHand::Evaluate(file.as_ref())),
+                waits: Some(Work::Include(*how)),
+            },
+        }),
+        e => widened(first_part(alloc, PartHand::Evaluate(e), state)),
+    }
+}
+
+/// A step in an expression is one of the machine, without a moment.
+fn widened<'p>(next: Result<PartNext<'p>, Halt>) -> Result<Small<'p>, Halt>
+    ensures { (setting : Setting) (part : Follows → Run AnySignal) (t : AnyState) → PartLeads setting part next.entry t → Goes setting part result t }
+{
+    match next {
+        Ok(next) => Ok(Small {
+            moment: None,
+            next: widen(next),
+        }),
+        Err(why) => Err(why),
+    }
+}
+
+/// What is to be done next of an expression is what is to be done next.
+fn widen<'p>(next: PartNext<'p>) -> Next<'p>
+    ensures { (setting : Setting) (k : Follows) (s : AnyState) → next_rest setting result k s ≡ part_next_rest setting next.entry k s }
+{
+    let PartNext { hand, waits } = next;
+    match waits {
+        None => Next {
+            hand: Hand::Part(hand),
+            waits: None,
+        },
+        Some(work) => Next {
+            hand: Hand::Part(hand),
+            waits: Some(Work::Part(work)),
+        },
     }
 }
 
@@ -160,60 +206,40 @@ pub(crate) fn receive<'p>(
     ensures { (setting : Setting) → setting.bundle ≡ bundle.now → Goes setting (λ k. work_rest setting work.entry k given state.old) result state.new }
 {
     match work {
-        Work::ForPart(work) => to_part(alloc, work, given, state),
-        Work::ForValue(work) => to_value(alloc, bundle, work, given, state),
+        Work::Part(work) => widened(give_to(alloc, work, given, state)),
+        Work::Include(how) => to_include(alloc, bundle, how, given, state),
         Work::AfterValue(work) => to_after(alloc, work, given, state),
         Work::ForValues(work) => to_values(alloc, work, given, state),
         Work::ForSignal(work) => Ok(to_signal(alloc, work, given)),
     }
 }
 
-/// Something is given to a list of parts.
-fn to_part<'p>(
+/// Something is given to an inclusion.
+fn to_include<'p>(
     alloc: Global,
-    work: ForPart<'p>,
+    bundle: &'p Bundle,
+    how: Inclusion,
     given: Given,
     state: &State,
 ) -> Result<Small<'p>, Halt>
-    ensures { (setting : Setting) → Goes setting (λ k. work_rest setting (any_work.ForPart work.entry) k given state.now) result state.now }
+    ensures { (setting : Setting) → setting.bundle ≡ bundle.now → Goes setting (λ k. work_rest setting (any_work.Include how) k given state.now) result state.now }
 {
     match given {
-        Given::Value(value) => moved(receive_part(alloc, work, value, state)),
-        other => {
-            drop(work);
-            Ok(Small {
-                moment: None,
-                next: Next {
-                    hand: Hand::Give(other),
-                    waits: None,
-                },
-            })
-        }
+        Given::Value(value) => moved(include(alloc, bundle, how, value, state)),
+        other => Ok(passed_on(other)),
     }
 }
 
-/// Something is given to an expression.
-fn to_value<'p>(
-    alloc: Global,
-    bundle: &'p Bundle,
-    work: ForValue<'p>,
-    given: Given,
-    state: &mut State,
-) -> Result<Small<'p>, Halt>
-    ensures { (setting : Setting) → setting.bundle ≡ bundle.now → Goes setting (λ k. work_rest setting (any_work.ForValue work.entry) k given state.old) result state.new }
+/// What was given is given to what waits behind.
+fn passed_on<'p>(given: Given) -> Small<'p>
+    ensures { (setting : Setting) (k : Follows) (s : AnyState) → small_rest setting result k s ≡ k given s }
 {
-    match given {
-        Given::Value(value) => moved(receive_value(alloc, bundle, work, value, state)),
-        other => {
-            drop(work);
-            Ok(Small {
-                moment: None,
-                next: Next {
-                    hand: Hand::Give(other),
-                    waits: None,
-                },
-            })
-        }
+    Small {
+        moment: None,
+        next: Next {
+            hand: Hand::Part(PartHand::Give(given)),
+            waits: None,
+        },
     }
 }
 
@@ -230,13 +256,7 @@ fn to_after<'p>(
         Given::Value(value) => moved(receive_after(alloc, work, value, state)),
         other => {
             drop(work);
-            Ok(Small {
-                moment: None,
-                next: Next {
-                    hand: Hand::Give(other),
-                    waits: None,
-                },
-            })
+            Ok(passed_on(other))
         }
     }
 }
@@ -254,13 +274,7 @@ fn to_values<'p>(
         Given::Values(values) => moved(receive_values(alloc, work, values, state)),
         other => {
             drop(work);
-            Ok(Small {
-                moment: None,
-                next: Next {
-                    hand: Hand::Give(other),
-                    waits: None,
-                },
-            })
+            Ok(passed_on(other))
         }
     }
 }
@@ -273,13 +287,7 @@ fn to_signal<'p>(alloc: Global, work: ForSignal<'p>, given: Given) -> Small<'p>
         Given::Signal(given) => receive_signal(alloc, work, given),
         other => {
             drop(work);
-            Small {
-                moment: None,
-                next: Next {
-                    hand: Hand::Give(other),
-                    waits: None,
-                },
-            }
+            passed_on(other)
         }
     }
 }

@@ -2,16 +2,18 @@
 #![tactic(auto)]
 
 mod after;
-mod begin;
+mod calls;
+mod ending;
 mod hands;
-mod lists;
 mod loops;
 mod machine;
 mod next;
-mod receive;
 mod small;
 mod statements;
+mod steps;
 mod work;
 mod writing;
 
 pub use machine::{Machine, Progress};
+pub use steps::Steps;
+pub use writing::StepError;

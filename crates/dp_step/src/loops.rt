@@ -6,15 +6,16 @@ ghost use Rattle.dp_meaning.specs.Expressions.{evaluations};
 ghost use Rattle.dp_actions.specs.Loops.{entries, last_holds as ends_true, turn_over as over};
 ghost use Rattle.dp_actions.specs.Run.{and_then};
 ghost use Rattle.dp_actions.specs.Setting.{Setting};
-ghost use Rattle.dp_step.specs.Rest.{Follows, do_decided, do_test, do_turns_of, each_from, next_rest, signal_rest, small_rest, tests_of, to_signal, turns_decided, turns_next, turns_of, turns_tested};
+ghost use Rattle.dp_step.specs.Rest.{do_decided, do_test, do_turns_of, each_from, next_rest, signal_rest, small_rest, tests_of, turns_decided, turns_next, turns_of, turns_tested};
+ghost use Rattle.dp_step_parts.specs.Rest.{Follows, to_signal};
 
-use crate::begin::values_first;
-use crate::next::signal;
+use crate::next::{signal, values_first};
 use crate::work::{
     AfterValue, DoTurns, EachTurns, ForSignal, ForValues, Hand, Head, Next, Small, Turns, Work,
 };
 use dp_actions::{Signal, Turn, last_holds, turn_over};
 use dp_state::{MomentKind, Outcome};
+use dp_step_parts::Hand as PartHand;
 use dp_value::{Items, Value};
 use std::alloc::Global;
 
@@ -44,10 +45,14 @@ fn tests_first<'p>(alloc: Global, turns: Turns<'p>, left: u64) -> Next<'p>
 {
     match turns.head {
         Head::While(test) => Next {
-            hand: Hand::Evaluate(test),
+            hand: Hand::Part(PartHand::Evaluate(test)),
             waits: Some(Work::AfterValue(AfterValue::Test(turns, left))),
         },
-        Head::For(tests, _) => values_first(alloc, tests, ForValues::Tests(turns, left)),
+        Head::For(tests, _) => values_first(
+            alloc,
+            tests,
+            Work::ForValues(ForValues::Tests(turns, left)),
+        ),
     }
 }
 
@@ -185,7 +190,11 @@ fn turns_on<'p>(alloc: Global, turns: Turns<'p>, left: u64) -> Next<'p>
             hand: Hand::Turn(turns, left),
             waits: None,
         },
-        Head::For(_, after) => values_first(alloc, after, ForValues::Turns(turns, left)),
+        Head::For(_, after) => values_first(
+            alloc,
+            after,
+            Work::ForValues(ForValues::Turns(turns, left)),
+        ),
     }
 }
 
@@ -197,7 +206,7 @@ fn do_over<'p>(turns: DoTurns<'p>, left: u64, given: Signal) -> Small<'p>
         Turn::On => Small {
             moment: Some((MomentKind::Place, turns.line)),
             next: Next {
-                hand: Hand::Evaluate(turns.test),
+                hand: Hand::Part(PartHand::Evaluate(turns.test)),
                 waits: Some(Work::AfterValue(AfterValue::DoTest(turns, left))),
             },
         },

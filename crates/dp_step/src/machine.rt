@@ -1,9 +1,11 @@
 //! A program that stops at each of its moments.
 
-ghost use Rattle.std.specs.Prelude.{◌≡◌, IfOk, option_map};
+ghost use Rattle.std.specs.Prelude.{◌≡◌, ◌+◌, IfOk, option_map};
+ghost use Rattle.dp_step.specs.Stands.{steps_of};
 ghost use Rattle.dp_step.specs.inner.Moves.{IsEnd, arrived_at};
 
 use crate::small::{file_hand, put_hand};
+use crate::steps::Steps;
 use crate::work::{Hand, Waiting};
 use dp_actions::Halt;
 use dp_meaning::moment_of;
@@ -11,6 +13,7 @@ use dp_state::{FRAME_LIMIT, Moment, MomentKind, Outcome, State};
 use dp_tree::Bundle;
 use dp_value::Memory;
 use std::alloc::Global;
+use std::sync::ledger::Ledger;
 
 /// A program that has come to a moment, or is before its first one: its state, what is in hand, and the pending work, of
 /// which the last item is the innermost. `depth` is how many frames more can be on the stack.
@@ -43,10 +46,12 @@ pub(crate) enum Arrival {
 }
 
 impl<'p> Machine<'p> {
-    ghost use Rattle.std.specs.Prelude.{◌≡◌, ℕ, List, [], IfOk};
+    ghost use Rattle.std.specs.Prelude.{◌≡◌, ℕ, ◌+◌, List, [], IfOk, OnOk, true, false};
     ghost use Rattle.dp_tree.specs.declared.bundle.Bundle.{Bundle as SomeBundle};
     ghost use Rattle.dp_meaning.specs.declared.writing.NumberedWrite.{NumberedWrite};
-    ghost use Rattle.dp_step.specs.Stands.{GoesOn, StandsFor, rest_of};
+    ghost use Rattle.dp_state.specs.declared.moments.Outcome.{Outcome as SomeOutcome};
+    ghost use Rattle.dp_step.specs.declared.machine.Progress.TheVariants as any_progress;
+    ghost use Rattle.dp_step.specs.Stands.{GoesOn, HasEnded, HasFailed, Leaves, StandsFor, rest_of, steps_of};
     ghost use Rattle.dp_step.specs.inner.Moves.{Arrives, Comes, Goes};
 
     /// A program before its first moment. A run has at most `bound` moments.
@@ -72,9 +77,52 @@ impl<'p> Machine<'p> {
         &self.state
     }
 
-    /// Goes on to the next moment, or to the end of the program. After want of memory nothing is said of the machine.
-    pub fn step(&mut self) -> Result<Progress, Memory>
-        ensures { (bundle : SomeBundle) (bound : ℕ) (writes : List NumberedWrite) (n : ℕ) → StandsFor bundle bound writes n self.old → IfOk result (λ progress. GoesOn bundle bound writes n progress self.new) }
+    /// Goes on to the next moment, or to the end of the program, and counts a step for a moment. Once the program has ended
+    /// it answers the same end; once memory has run out it answers so for good.
+    pub fn step<L: Ledger>(&mut self, steps: &mut Steps<L>) -> Result<Progress, Memory>
+        ensures goes_on { (bundle : SomeBundle) (bound : ℕ) (writes : List NumberedWrite) (n : ℕ) → StandsFor bundle bound writes n self.old → IfOk result (λ progress. GoesOn bundle bound writes n progress self.new) }
+        ensures counted { IfOk result (λ progress. steps.new ≡ steps.old + steps_of progress) }
+        ensures leaves { Leaves result self.new }
+        ensures stays { (o : SomeOutcome) → HasEnded o self.old → IfOk result (λ progress. (progress ≡ any_progress.Ended o) × (self.new.state ≡ self.old.state)) }
+        ensures fails { HasFailed self.old → OnOk result ⊥ }
+    {
+        if self.has_failed() {
+            Err(Memory)
+        } else {
+            match self.next_moment() {
+                Ok(progress) => {
+                    count(&progress, steps);
+                    Ok(progress)
+                }
+                Err(_) => Err(self.fail()),
+            }
+        }
+    }
+
+    /// Whether memory has run out.
+    fn has_failed(&self) -> bool
+        ensures failed { result ≡ true → HasFailed self.now }
+        ensures not_failed { result ≡ false → HasFailed self.now → ⊥ }
+    {
+        match &self.hand {
+            Hand::Failed => true,
+            _ => false,
+        }
+    }
+
+    /// From now on it answers want of memory.
+    pub(crate) fn fail(&mut self) -> Memory
+        ensures { HasFailed self.new }
+    {
+        put_hand(&mut self.hand, Hand::Failed);
+        Memory
+    }
+
+    /// Goes on to the next moment, or to the end of the program.
+    fn next_moment(&mut self) -> Result<Progress, Memory>
+        ensures goes_on { (bundle : SomeBundle) (bound : ℕ) (writes : List NumberedWrite) (n : ℕ) → StandsFor bundle bound writes n self.old → IfOk result (λ progress. GoesOn bundle bound writes n progress self.new) }
+        ensures ends { OnOk result (Leaves result self.new) }
+        ensures stays { (o : SomeOutcome) → HasEnded o self.old → IfOk result (λ progress. (progress ≡ any_progress.Ended o) × (self.new.state ≡ self.old.state)) }
     {
         match self.advance() {
             Ok(Arrival::Moment(kind, line)) => self.come(kind, line),
@@ -98,10 +146,7 @@ impl<'p> Machine<'p> {
             self.state.count();
             match moment_of(kind, &self.state) {
                 Ok(moment) => Ok(Progress::At(moment)),
-                Err(_) => {
-                    put_hand(&mut self.hand, Hand::Failed);
-                    Err(Memory)
-                }
+                Err(_) => Err(Memory),
             }
         }
     }
@@ -127,6 +172,16 @@ impl<'p> Machine<'p> {
             Ok(moment) => Ok(arrival_of(moment)),
             Err(why) => ended(why),
         }
+    }
+}
+
+/// A moment is a step.
+fn count<L: Ledger>(progress: &Progress, steps: &mut Steps<L>)
+    ensures { steps.new ≡ steps.old + steps_of progress.now }
+{
+    match progress {
+        Progress::At(_) => steps.tick(),
+        Progress::Ended(_) => {}
     }
 }
 

@@ -7,16 +7,19 @@ ghost use Rattle.dp_actions.specs.Run.{and_then};
 ghost use Rattle.dp_actions.specs.Setting.{Setting};
 ghost use Rattle.dp_meaning.specs.Statements.{body_run};
 ghost use Rattle.dp_state.specs.States.{line_of};
-ghost use Rattle.dp_step.specs.Rest.{Follows, behind, hand_rest, to_signal, waiting_rest};
+ghost use Rattle.dp_step.specs.Rest.{behind, hand_rest, waiting_rest};
+ghost use Rattle.dp_step_parts.specs.Rest.{Follows, to_signal};
 ghost use Rattle.dp_step.specs.declared.work.Waiting.TheVariants as any_waiting;
 ghost use Rattle.dp_step.specs.inner.Moves.{ends_call as call_ends, leave_if};
 
 use crate::hands::{first_of, receive};
 use crate::machine::Machine;
-use crate::work::{Given, Hand, Next, Small, Waiting, Work};
+use crate::work::{Hand, Next, Small, Waiting, Work};
 use dp_actions::{Halt, Signal, enter_call, enter_file, fatal};
+use dp_meaning::value_in_place;
 use dp_state::{FatalKind, MomentKind, Outcome};
-use dp_tree::{Bundle, Function};
+use dp_step_parts::{Given, Hand as PartHand};
+use dp_tree::{Bundle, Expression, Function, is_pure};
 use dp_value::{Items, Memory, Value};
 use std::mem;
 
@@ -25,6 +28,7 @@ impl<'p> Machine<'p> {
     ghost use Rattle.dp_state.specs.declared.state.State.{State as AnyState};
     ghost use Rattle.dp_step.specs.Stands.{rest_of};
     ghost use Rattle.dp_step.specs.declared.work.Hand.TheVariants as any_hand;
+    ghost use Rattle.dp_step_parts.specs.declared.work.Hand.TheVariants as any_part;
     ghost use Rattle.dp_step.specs.inner.Moves.{Moves, body_with, end_with, file_with, next_with, rest_with, small_with, work_with};
 
     /// A small step. It may come to a moment of a kind, on a line of the top frame.
@@ -32,10 +36,36 @@ impl<'p> Machine<'p> {
         ensures { Moves self.old (rest_of self.old self.old.state) result self.new }
     {
         match mem::replace(&mut self.hand, Hand::Failed) {
-            Hand::Give(given) => self.take(given),
+            Hand::Part(part) => self.part(part),
             Hand::Call(file, function, values) => self.call(file, function, values),
             Hand::Include(file) => self.include(file),
             hand => self.first(hand),
+        }
+    }
+
+    /// A small step with a part of an expression that was in hand.
+    fn part(&mut self, part: PartHand<'p>) -> Result<Option<(MomentKind, u32)>, Halt>
+        ensures { Moves self.old (rest_with self.old (any_hand.Part part.entry) self.old.state) result self.new }
+    {
+        match part {
+            PartHand::Give(given) => self.take(given),
+            PartHand::Evaluate(e) => self.evaluate_whole(e),
+            part => self.first(Hand::Part(part)),
+        }
+    }
+
+    /// A small step with an expression. One that changes nothing is evaluated whole, in the state as it is; where that is
+    /// fatal it is done part by part, so that the end is that of its part.
+    fn evaluate_whole(&mut self, e: &'p Expression) -> Result<Option<(MomentKind, u32)>, Halt>
+        ensures { Moves self.old (rest_with self.old (any_hand.Part (any_part.Evaluate e.entry)) self.old.state) result self.new }
+    {
+        if !is_pure(e) {
+            return self.first(Hand::Part(PartHand::Evaluate(e)));
+        }
+        match value_in_place(self.alloc, &mut self.state, self.bundle, e) {
+            Ok(Some(value)) => self.take(Given::Value(value)),
+            Ok(None) => self.first(Hand::Part(PartHand::Evaluate(e))),
+            Err(_) => Err(Halt::Memory),
         }
     }
 
@@ -51,7 +81,7 @@ impl<'p> Machine<'p> {
 
     /// Something is given to the innermost item of the pending work.
     fn take(&mut self, given: Given) -> Result<Option<(MomentKind, u32)>, Halt>
-        ensures { Moves self.old (rest_with self.old (any_hand.Give given) self.old.state) result self.new }
+        ensures { Moves self.old (rest_with self.old (any_hand.Part (any_part.Give given)) self.old.state) result self.new }
     {
         match self.pending.pop() {
             None => {
@@ -218,8 +248,8 @@ fn call_hand<'p>(given: Given) -> Hand<'p>
 {
     match given {
         Given::Signal(signal) => Hand::Left(signal),
-        Given::Value(value) => Hand::Give(Given::Value(value)),
-        Given::Values(values) => Hand::Give(Given::Values(values)),
+        Given::Value(value) => Hand::Part(PartHand::Give(Given::Value(value))),
+        Given::Values(values) => Hand::Part(PartHand::Give(Given::Values(values))),
     }
 }
 
@@ -229,8 +259,8 @@ fn file_left<'p>(given: Given) -> Hand<'p>
 {
     match given {
         Given::Signal(signal) => Hand::LeftFile(signal),
-        Given::Value(value) => Hand::Give(Given::Value(value)),
-        Given::Values(values) => Hand::Give(Given::Values(values)),
+        Given::Value(value) => Hand::Part(PartHand::Give(Given::Value(value))),
+        Given::Values(values) => Hand::Part(PartHand::Give(Given::Values(values))),
     }
 }
 
@@ -255,6 +285,6 @@ pub(crate) fn file_hand<'p>(bundle: &'p Bundle, file: u32) -> Hand<'p>
 {
     match bundle.files.as_slice().get(file as usize) {
         Some(file) => Hand::Each(&file.tree.body, 0),
-        None => Hand::Give(Given::Signal(Signal::Next)),
+        None => Hand::Part(PartHand::Give(Given::Signal(Signal::Next))),
     }
 }

@@ -7,15 +7,16 @@ ghost use Rattle.dp_actions.specs.Places.{unset_run};
 ghost use Rattle.dp_actions.specs.Run.{and_then};
 ghost use Rattle.dp_actions.specs.Setting.{Setting};
 ghost use Rattle.dp_meaning.specs.Statements.{body_run, echoes, end_run, return_run, statement_run};
-ghost use Rattle.dp_step.specs.Rest.{Follows, arms_part, branch_decided, first_body_run, first_run, next_rest, next_to, small_rest, to_signal};
+ghost use Rattle.dp_step.specs.Rest.{arms_part, branch_decided, first_body_run, first_run, next_rest, next_to, small_rest};
+ghost use Rattle.dp_step_parts.specs.Rest.{Follows, to_signal};
 
-use crate::begin::values_first;
-use crate::next::signal;
+use crate::next::{signal, values_first};
 use crate::work::{
     AfterValue, DoTurns, EachTurns, ForSignal, ForValues, Hand, Head, Next, Small, Turns, Work,
 };
 use dp_actions::Signal;
 use dp_state::{MomentKind, Outcome};
+use dp_step_parts::Hand as PartHand;
 use dp_tree::{Arm, Boxed, Expression, Place, Statement, StatementKind};
 use dp_value::{Items, Value};
 use std::alloc::Global;
@@ -29,7 +30,7 @@ pub(crate) fn run<'p>(alloc: Global, bound: u64, statement: &'p Statement) -> Sm
         StatementKind::Expression(e) => Small {
             moment: Some((MomentKind::Place, line)),
             next: Next {
-                hand: Hand::Evaluate(e),
+                hand: Hand::Part(PartHand::Evaluate(e)),
                 waits: Some(Work::AfterValue(AfterValue::Discard)),
             },
         },
@@ -103,7 +104,7 @@ pub(crate) fn run<'p>(alloc: Global, bound: u64, statement: &'p Statement) -> Sm
                 head: Head::For(tests, after),
                 body,
             };
-            let work = ForValues::Turns(turns, bound);
+            let work = Work::ForValues(ForValues::Turns(turns, bound));
             Small {
                 moment: Some((MomentKind::Place, line)),
                 next: values_first(alloc, before, work),
@@ -122,7 +123,7 @@ pub(crate) fn run<'p>(alloc: Global, bound: u64, statement: &'p Statement) -> Sm
             Small {
                 moment: Some((MomentKind::Place, line)),
                 next: Next {
-                    hand: Hand::Evaluate(subject),
+                    hand: Hand::Part(PartHand::Evaluate(subject)),
                     waits: Some(Work::AfterValue(AfterValue::Subject(turns))),
                 },
             }
@@ -198,7 +199,7 @@ fn return_value<'p>(value: &'p Option<Expression>) -> Next<'p>
     match value {
         None => signal(Signal::Return(Value::Null)),
         Some(e) => Next {
-            hand: Hand::Evaluate(e),
+            hand: Hand::Part(PartHand::Evaluate(e)),
             waits: Some(Work::AfterValue(AfterValue::ReturnIt)),
         },
     }
@@ -214,7 +215,7 @@ fn exit<'p>(value: &'p Option<Expression>) -> Next<'p>
             waits: None,
         },
         Some(e) => Next {
-            hand: Hand::Evaluate(e),
+            hand: Hand::Part(PartHand::Evaluate(e)),
             waits: Some(Work::AfterValue(AfterValue::ExitWith)),
         },
     }
@@ -240,7 +241,7 @@ pub(crate) fn echo<'p>(all: &'p Items<Expression>, at: usize) -> Next<'p>
     match all.as_slice().get(at) {
         None => signal(Signal::Next),
         Some(first) => Next {
-            hand: Hand::Evaluate(first),
+            hand: Hand::Part(PartHand::Evaluate(first)),
             waits: Some(Work::AfterValue(AfterValue::Echoed(all, at + 1))),
         },
     }
@@ -262,7 +263,7 @@ pub(crate) fn arms<'p>(
         Some(first) => Small {
             moment: Some((MomentKind::Place, first.line)),
             next: Next {
-                hand: Hand::Evaluate(&first.test),
+                hand: Hand::Part(PartHand::Evaluate(&first.test)),
                 waits: Some(Work::AfterValue(AfterValue::Branch(all, at, otherwise))),
             },
         },
@@ -318,7 +319,7 @@ pub(crate) fn unset<'p>(alloc: Global, places: &'p [Place]) -> Next<'p>
         Some((first, rest)) => values_first(
             alloc,
             &first.indices,
-            ForValues::Unset(&first.name, rest),
+            Work::ForValues(ForValues::Unset(&first.name, rest)),
         ),
     }
 }

@@ -1,20 +1,11 @@
 //! What a machine has in hand, and the pending work that waits for it. Each item is a part of the program half done, with
 //! the values that it has read, and lends its tree.
 
-use dp_actions::{Reading, Signal};
+use dp_actions::Signal;
 use dp_state::{MomentKind, Outcome};
-use dp_tree::{
-    Arm, Binding, Boxed, Expression, Function, Inclusion, Item, Link, Order, Place, Statement,
-};
-use dp_value::{BinaryOp, Builtin, Bytes, Items, UnaryOp, Value};
-
-/// What a finished part gives to the one that waits for it.
-#[derive(Drop)]
-pub(crate) enum Given {
-    Value(Value),
-    Values(Items<Value>),
-    Signal(Signal),
-}
+use dp_step_parts::{Hand as PartHand, Work as PartWork};
+use dp_tree::{Arm, Binding, Boxed, Expression, Function, Inclusion, Place, Statement};
+use dp_value::{Bytes, Items, Value};
 
 /// What stands at the head of a loop of turns.
 #[derive(Clone, Copy)]
@@ -52,21 +43,8 @@ pub(crate) struct EachTurns<'p> {
 /// What is to be done first. Parts that are left of a list are those from a position on.
 #[derive(Drop)]
 pub(crate) enum Hand<'p> {
-    /// A part is finished.
-    Give(Given),
-    Evaluate(&'p Expression),
-    /// To the left of `??`.
-    Find(&'p Boxed<Expression>),
-    /// The values so far, and the expressions that are left.
-    Values(Items<Value>, &'p Items<Expression>, usize),
-    /// A literal so far, and its items that are left.
-    Items(Value, &'p Items<Item>, usize),
-    /// The left operand, and what is joined to it.
-    Links(Value, &'p Items<Link>, usize),
-    /// A value, and the indices under which it is read.
-    Under(Reading, Value, &'p Items<Expression>, usize),
-    /// Places that are set as far as the first of these.
-    Isset(&'p [Place]),
+    /// A part of an expression.
+    Part(PartHand<'p>),
     /// A call of a function of the file of this number.
     Call(u32, &'p Function, Items<Value>),
     /// An inclusion of the file of this number.
@@ -105,45 +83,6 @@ pub(crate) enum Hand<'p> {
     Failed,
 }
 
-/// A list of parts that waits for the value of one of them.
-#[derive(Drop)]
-pub(crate) enum ForPart<'p> {
-    /// The values before it, and the expressions behind it.
-    More(Items<Value>, &'p Items<Expression>, usize),
-    /// The literal before an item that goes last, and the items behind it.
-    PushItem(Value, &'p Items<Item>, usize),
-    /// The literal before the item at a position, whose key is evaluated.
-    KeyItem(Value, &'p Items<Item>, usize),
-    /// The literal before an item, its key, and the items behind it.
-    PutItem(Value, Value, &'p Items<Item>, usize),
-    /// The first operand of a chain is evaluated.
-    Links(&'p Items<Link>),
-    /// The right operand of `||` or `&&` decides.
-    Tested(&'p Items<Link>, usize),
-    /// The left operand of an operator, and what is joined behind it.
-    Operate(BinaryOp, Value, &'p Items<Link>, usize),
-    /// What is read under indices is evaluated.
-    Under(Reading, &'p Items<Expression>),
-    /// A value whose index is evaluated, and the indices behind it.
-    Entry(Reading, Value, &'p Items<Expression>, usize),
-}
-
-/// An expression that waits for the value of a part.
-#[derive(Drop)]
-pub(crate) enum ForValue<'p> {
-    Unary(UnaryOp),
-    /// The left operand of `??` is evaluated.
-    Coalesce(&'p Boxed<Expression>),
-    /// The test of a conditional is evaluated.
-    Choose(&'p Option<Boxed<Expression>>, &'p Boxed<Expression>),
-    /// The name of a file is evaluated.
-    Include(Inclusion),
-    /// The right side of an assignment under these indices.
-    Assign(&'p Bytes, Items<Value>, bool),
-    /// The right side of a compound assignment, whose old value is read.
-    Combine(BinaryOp, &'p Bytes, Items<Value>, Value),
-}
-
 /// A statement that waits for a value.
 #[derive(Drop)]
 pub(crate) enum AfterValue<'p> {
@@ -165,18 +104,11 @@ pub(crate) enum AfterValue<'p> {
     Subject(EachTurns<'p>),
 }
 
-/// What waits for values.
+/// What waits for values, beside expressions.
 #[derive(Drop)]
 pub(crate) enum ForValues<'p> {
-    Builtin(Builtin),
     /// A function of the file of this number.
     Call(u32, &'p Function),
-    Assign(&'p Bytes, bool, &'p Boxed<Expression>),
-    Compound(BinaryOp, &'p Bytes, &'p Boxed<Expression>),
-    CoalesceAssign(&'p Bytes, &'p Boxed<Expression>),
-    Step(UnaryOp, Order, &'p Bytes),
-    /// A place, and the places behind it.
-    Isset(&'p Bytes, &'p [Place]),
     /// A place, and the places behind it.
     Unset(&'p Bytes, &'p [Place]),
     /// What comes before the turns of a `for`, or between two of them, of which at most so many are left.
@@ -201,8 +133,10 @@ pub(crate) enum ForSignal<'p> {
 /// A part that waits for what is in hand.
 #[derive(Drop)]
 pub(crate) enum Work<'p> {
-    ForPart(ForPart<'p>),
-    ForValue(ForValue<'p>),
+    /// A part of an expression.
+    Part(PartWork<'p>),
+    /// The name of a file is evaluated.
+    Include(Inclusion),
     AfterValue(AfterValue<'p>),
     ForValues(ForValues<'p>),
     ForSignal(ForSignal<'p>),

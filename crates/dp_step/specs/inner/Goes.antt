@@ -7,7 +7,8 @@ use Rattle.dp_actions.specs.declared.signal.Signal.{Signal}
 use Rattle.dp_actions.specs.Run.{Run, Over}
 use Rattle.dp_actions.specs.Setting.{Setting}
 use Rattle.dp_step.specs.declared.work.Small.{Small}
-use Rattle.dp_step.specs.Rest.{Follows, small_rest}
+use Rattle.dp_step.specs.Rest.{small_rest}
+use Rattle.dp_step_parts.specs.Rest.{Follows}
 
 abbrev pub GoesBy : Setting → (Follows → Run Signal) → Result Small Halt → State → Type 0
 GoesBy setting part (Ok small) t = (k : Follows) → part k ≡ small_rest setting small k t

@@ -7,7 +7,8 @@ use Rattle.dp_actions.specs.declared.signal.Signal.{Signal}
 use Rattle.dp_actions.specs.Run.{Run, Over}
 use Rattle.dp_actions.specs.Setting.{Setting}
 use Rattle.dp_step.specs.declared.work.Next.{Next}
-use Rattle.dp_step.specs.Rest.{Follows, next_rest}
+use Rattle.dp_step.specs.Rest.{next_rest}
+use Rattle.dp_step_parts.specs.Rest.{Follows}
 
 abbrev pub LeadsBy : Setting → (Follows → Run Signal) → Result Next Halt → State → Type 0
 LeadsBy setting part (Ok next) t = (k : Follows) → part k ≡ next_rest setting next k t

@@ -1,5 +1,6 @@
 -- One small step of a machine.
-use Rattle.std.specs.Prelude.{◌≡◌, ℕ, ◌-◌, ◌<◌, ◌≤◌, Bool, true, false, if◌then◌else◌, Option, Some, None, Result, Ok, Err, reverse}
+use Rattle.std.specs.Prelude.{◌≡◌, ℕ, ◌-◌, ◌<◌, ◌≤◌, Bool, true, false, if◌then◌else◌}
+use Rattle.std.specs.Prelude.{Option, Some, None, Result, Ok, Err, reverse}
 use Rattle.dp_state.specs.declared.moments.MomentKind.{MomentKind}
 use Rattle.dp_state.specs.declared.moments.MomentKind.TheVariants as moment
 use Rattle.dp_state.specs.declared.moments.Outcome.{Outcome}
@@ -21,16 +22,17 @@ use Rattle.dp_step.specs.declared.machine.Arrival.{Arrival}
 use Rattle.dp_step.specs.declared.machine.Arrival.TheVariants as arrival
 use Rattle.dp_step.specs.declared.machine.Progress.{Progress}
 use Rattle.dp_step.specs.declared.machine.Progress.TheVariants as progress
-use Rattle.dp_step.specs.declared.work.Given.{Given}
-use Rattle.dp_step.specs.declared.work.Given.TheVariants as given
+use Rattle.dp_step_parts.specs.declared.work.Given.{Given}
+use Rattle.dp_step_parts.specs.declared.work.Given.TheVariants as given
 use Rattle.dp_step.specs.declared.work.Hand.{Hand}
 use Rattle.dp_step.specs.declared.work.Next.{Next}
 use Rattle.dp_step.specs.declared.work.Small.{Small}
 use Rattle.dp_step.specs.declared.work.Waiting.{Waiting}
 use Rattle.dp_step.specs.declared.work.Work.{Work}
-use Rattle.dp_step.specs.Rest.{Follows, behind, hand_rest, next_rest, small_rest, to_value}
+use Rattle.dp_step.specs.Rest.{behind, hand_rest, next_rest, small_rest}
+use Rattle.dp_step_parts.specs.Rest.{Follows, to_value}
 use Rattle.dp_step.specs.Rest.{waiting_rest, work_rest}
-use Rattle.dp_step.specs.Stands.{depth_after, pending_rest, rest_of}
+use Rattle.dp_step.specs.Stands.{HasEnded, depth_after, pending_rest, rest_of}
 
 -- ---- what a machine has to do beside its hand
 
@@ -144,6 +146,7 @@ ComesBy kind line old (progress.At moment) new =
     × (new.state ≡ arrived line old.state) × ((s : State) → rest_of new s ≡ rest_of old s)
 ComesBy kind line old (progress.Ended outcome) new =
     (old.bound ≤ old.state.moments) × (outcome ≡ way.Bound) × (new.state ≡ old.state)
+    × HasEnded way.Bound new
 
 pub record Comes (kind : MomentKind) (line : ℕ) (old : Machine) (came : Progress) (new : Machine)
     : Type 0 where

@@ -6,6 +6,7 @@ use Rattle.dp_continuation.proofs.Passing.{IsOnWay}
 use Rattle.dp_continuation.proofs.going.go_on_from.Given as goal
 
 abbrev pub invariant-loop : goal.invariant-loop
-invariant-loop l =
+invariant-loop g l =
     (bound : ℕ) (writes : List NumberedWrite) (n : ℕ) → StandsFor l.bundle bound writes n l.fn.machine
     → IsOnWay (stops l.mode l.depth) l.bundle bound writes n l.fn.breaks l.breaks l.machine
+    l.fn.steps l.steps

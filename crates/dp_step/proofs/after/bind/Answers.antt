@@ -1,8 +1,8 @@
-use Rattle.std.proofs.Common.{refl, sym, ◌∙◌, arith}
+use Rattle.std.proofs.Common.{refl, arith}
 use Rattle.std.proofs.Math.ListN.{drop_of_length-le}
 use Rattle.dp_actions.specs.Loops.{entries}
 use Rattle.dp_actions.specs.Run.{and_then}
-use Rattle.dp_step.proofs.Begins.{anything}
+use Rattle.dp_step_parts.proofs.Begins.{anything}
 use Rattle.dp_step.proofs.TurnLaws.{bind-err, bind-ok}
 use Rattle.dp_step.proofs.after.bind.Goals as goal
 

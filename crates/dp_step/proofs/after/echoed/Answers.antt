@@ -1,7 +1,6 @@
-use Rattle.std.proofs.Common.{refl, sym, ◌∙◌}
+use Rattle.std.proofs.Common.{refl, ◌∙◌}
 use Rattle.dp_actions.proofs.Runs.{and_then-assoc}
-use Rattle.dp_step.proofs.AtOnce.{leads_off, then_done}
-use Rattle.dp_step.proofs.Receiving.{leads_as}
+use Rattle.dp_step.proofs.AtOnce.{leads_as, leads_off, then_done}
 use Rattle.dp_step.proofs.after.echoed.Goals as goal
 
 pub returns-in-Ok : goal.returns-in-Ok

@@ -1,4 +1,4 @@
-use Rattle.std.proofs.Common.{refl, sym, ◌∙◌}
+use Rattle.std.proofs.Common.{refl, ◌∙◌}
 use Rattle.dp_step.proofs.AtOnce.{leads_off, then_done}
 use Rattle.dp_step.proofs.after.global.Goals as goal
 

@@ -1,4 +1,4 @@
-use Rattle.std.proofs.Common.{refl, sym, ◌∙◌}
+use Rattle.std.proofs.Common.{refl, sym}
 use Rattle.dp_step.proofs.after.receive_after.Goals as goal
 
 pub returns-in-Discard : goal.returns-in-Discard

@@ -1,4 +1,3 @@
-use Rattle.std.proofs.Common.{refl, sym, ◌∙◌}
 use Rattle.dp_actions.specs.Run.{and_then}
 use Rattle.dp_step.proofs.Goings.{goes_as}
 use Rattle.dp_step.proofs.hands.first_of_statement.Goals as goal

@@ -1,4 +1,4 @@
-use Rattle.std.proofs.Common.{refl, sym, ◌∙◌}
+use Rattle.std.proofs.Common.{refl}
 use Rattle.dp_step.proofs.hands.leave.Goals as goal
 
 pub returns : goal.returns

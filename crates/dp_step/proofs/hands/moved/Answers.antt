@@ -1,3 +1,4 @@
+use Rattle.std.proofs.Common.{refl}
 use Rattle.dp_step.proofs.Goings.{goes_off, goes_on}
 use Rattle.dp_step.proofs.hands.moved.Goals as goal
 

@@ -1,12 +1,11 @@
-use Rattle.std.proofs.Common.{refl}
 use Rattle.dp_step.proofs.Goings.{goes_as}
 use Rattle.dp_step.proofs.hands.receive.Goals as goal
 
-pub returns-in-ForPart : goal.returns-in-ForPart
-returns-in-ForPart c = λ setting same. rw c.in-ForPart.is (c.to_part.ensures setting)
+pub returns-in-Part : goal.returns-in-Part
+returns-in-Part c = λ setting same. rw c.in-Part.is (c.widened.ensures setting _ _ (c.give_to.ensures setting))
 
-pub returns-in-ForValue : goal.returns-in-ForValue
-returns-in-ForValue c = λ setting same. rw c.in-ForValue.is (c.to_value.ensures setting same)
+pub returns-in-Include : goal.returns-in-Include
+returns-in-Include c = λ setting same. rw c.in-Include.is (c.to_include.ensures setting same)
 
 pub returns-in-AfterValue : goal.returns-in-AfterValue
 returns-in-AfterValue c = λ setting same. rw c.in-AfterValue.is (c.to_after.ensures setting)

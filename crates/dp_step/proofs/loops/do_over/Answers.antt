@@ -1,5 +1,5 @@
-use Rattle.std.proofs.Common.{refl, sym, ◌∙◌}
-use Rattle.dp_step.specs.Rest.{do_test, each_from, turns_next}
+use Rattle.std.proofs.Common.{sym, ◌∙◌}
+use Rattle.dp_step.specs.Rest.{do_test}
 use Rattle.dp_step.proofs.TurnLaws.{do-test, over-on, over-out}
 use Rattle.dp_step.proofs.loops.do_over.Goals as goal
 

@@ -1,6 +1,6 @@
-use Rattle.std.proofs.Common.{refl, sym, ◌∙◌}
-use Rattle.dp_step.specs.Rest.{do_test, each_from, turns_next}
-use Rattle.dp_step.proofs.TurnLaws.{do-test, over-on, over-out}
+use Rattle.std.proofs.Common.{sym, ◌∙◌}
+use Rattle.dp_step.specs.Rest.{each_from}
+use Rattle.dp_step.proofs.TurnLaws.{over-on, over-out}
 use Rattle.dp_step.proofs.loops.each_over.Goals as goal
 
 pub returns-in-On : goal.returns-in-On

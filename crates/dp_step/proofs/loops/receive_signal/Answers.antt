@@ -1,7 +1,6 @@
-use Rattle.std.proofs.Common.{refl, sym, ap, ◌∙◌}
+use Rattle.std.proofs.Common.{refl, sym, ap}
 use Rattle.dp_actions.specs.Run.{and_then}
-use Rattle.dp_actions.proofs.Runs.{and_then-assoc}
-use Rattle.dp_step.specs.Rest.{to_signal}
+use Rattle.dp_step_parts.specs.Rest.{to_signal}
 use Rattle.dp_step.proofs.TurnLaws.{goes-off}
 use Rattle.dp_step.proofs.loops.receive_signal.Goals as goal
 

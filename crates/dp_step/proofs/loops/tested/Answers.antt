@@ -1,4 +1,4 @@
-use Rattle.std.proofs.Common.{refl, sym, ◌∙◌}
+use Rattle.std.proofs.Common.{refl, sym}
 use Rattle.dp_actions.specs.Run.{and_then}
 use Rattle.dp_actions.proofs.Runs.{and_then-assoc}
 use Rattle.dp_step.proofs.loops.tested.Goals as goal

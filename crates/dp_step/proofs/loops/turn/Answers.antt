@@ -1,4 +1,4 @@
-use Rattle.std.proofs.Common.{refl, sym, ◌∙◌, arith}
+use Rattle.std.proofs.Common.{refl, ◌∙◌, arith}
 use Rattle.dp_actions.specs.Run.{and_then}
 use Rattle.dp_step.proofs.TurnLaws.{at-same, turn-first}
 use Rattle.dp_step.proofs.loops.turn.Goals as goal

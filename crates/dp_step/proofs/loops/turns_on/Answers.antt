@@ -1,4 +1,4 @@
-use Rattle.std.proofs.Common.{refl, ◌∙◌}
+use Rattle.std.proofs.Common.{◌∙◌}
 use Rattle.dp_actions.specs.Run.{and_then}
 use Rattle.dp_step.proofs.TurnLaws.{next-by}
 use Rattle.dp_step.proofs.loops.turns_on.Goals as goal

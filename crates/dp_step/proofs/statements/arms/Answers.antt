@@ -1,4 +1,3 @@
-use Rattle.std.proofs.Common.{refl, sym, ◌∙◌}
 use Rattle.std.proofs.Math.ListN.{drop_of_length-le}
 use Rattle.dp_step.proofs.FirstStatements.{arms-first}
 use Rattle.dp_step.proofs.statements.arms.Goals as goal

@@ -1,9 +1,9 @@
-use Rattle.std.proofs.Common.{refl, sym, ◌∙◌}
+use Rattle.std.proofs.Common.{refl, sym}
 use Rattle.dp_meaning.specs.Expressions.{evaluation}
 use Rattle.dp_actions.specs.Run.{and_then}
 use Rattle.dp_meaning.specs.Statements.{returning}
 use Rattle.dp_actions.proofs.Runs.{and_then-assoc}
-use Rattle.dp_step.specs.Rest.{to_signal}
+use Rattle.dp_step_parts.specs.Rest.{to_signal}
 use Rattle.dp_step.proofs.statements.return_value.Goals as goal
 
 pub returns-in-None : goal.returns-in-None

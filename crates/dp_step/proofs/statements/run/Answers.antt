@@ -1,11 +1,11 @@
-use Rattle.std.proofs.Common.{map, refl, sym, ap, ◌∙◌}
+use Rattle.std.proofs.Common.{map, sym, ◌∙◌}
 use Rattle.dp_actions.specs.declared.signal.Signal.TheVariants.{Next}
 use Rattle.dp_meaning.specs.Expressions.{evaluation, place_run}
 use Rattle.dp_actions.specs.Places.{unset_run}
 use Rattle.dp_actions.specs.Run.{Done, and_then}
-use Rattle.dp_step.specs.Rest.{to_signal}
+use Rattle.dp_step_parts.specs.Rest.{to_signal}
 use Rattle.dp_actions.proofs.Runs.{and_then-assoc}
-use Rattle.dp_meaning.proofs.Layers.{kind-Block, kind-Break, kind-Continue, kind-DoWhile, kind-Echo, kind-Empty, kind-Exit, kind-Expression, kind-For, kind-Foreach, kind-Global, kind-If, kind-Return, kind-Unset, kind-While}
+use Rattle.dp_meaning.proofs.Layers.{kind-Block, kind-Break, kind-Continue, kind-DoWhile, kind-Echo, kind-Empty, kind-Exit, kind-Expression, kind-For, kind-Foreach, kind-Global, kind-Return, kind-Unset, kind-While}
 use Rattle.dp_step.proofs.FirstStatements.{if-is, placed-is, statement-is}
 use Rattle.dp_step.proofs.statements.run.Goals as goal
 

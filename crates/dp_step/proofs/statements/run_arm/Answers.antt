@@ -1,7 +1,7 @@
-use Rattle.std.proofs.Common.{refl, sym, ◌∙◌}
+use Rattle.std.proofs.Common.{refl}
 use Rattle.std.proofs.Math.ListN.{drop_of_length-le}
 use Rattle.dp_actions.specs.Run.{and_then}
-use Rattle.dp_step.proofs.FirstStatements.{from-member}
+use Rattle.dp_step_parts.proofs.FirstParts.{from-member}
 use Rattle.dp_step.proofs.statements.run_arm.Goals as goal
 
 pub returns-in-None : goal.returns-in-None

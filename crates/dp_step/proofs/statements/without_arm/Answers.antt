@@ -1,4 +1,4 @@
-use Rattle.std.proofs.Common.{refl, sym, ◌∙◌}
+use Rattle.std.proofs.Common.{refl}
 use Rattle.dp_actions.specs.Run.{and_then}
 use Rattle.dp_step.proofs.statements.without_arm.Goals as goal
 

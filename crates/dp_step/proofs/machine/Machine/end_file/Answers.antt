@@ -1,4 +1,4 @@
-use Rattle.std.proofs.Common.{refl, sym, ap, ◌∙◌}
+use Rattle.std.proofs.Common.{refl, sym, ◌∙◌}
 use Rattle.dp_step.proofs.Smalls.{rest-by}
 use Rattle.dp_step.proofs.machine.Machine.end_file.Goals as goal
 

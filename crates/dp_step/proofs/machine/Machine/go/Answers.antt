@@ -1,4 +1,3 @@
-use Rattle.std.proofs.Common.{refl, sym, ap, ◌∙◌}
 use Rattle.std.proofs.lemmas.Result.{IfOk-weaker}
 use Rattle.dp_step.proofs.Standing.{goes-by, goes-end}
 use Rattle.dp_step.proofs.machine.Machine.go.Goals as goal

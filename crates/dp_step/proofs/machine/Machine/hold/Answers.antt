@@ -1,4 +1,4 @@
-use Rattle.std.proofs.Common.{refl, sym, ap, ◌∙◌}
+use Rattle.std.proofs.Common.{refl, ◌∙◌}
 use Rattle.std.proofs.lemmas.Result.{on_ok_weaker}
 use Rattle.dp_step.proofs.Smalls.{beside, rest-by}
 use Rattle.dp_step.proofs.machine.Machine.hold.Goals as goal

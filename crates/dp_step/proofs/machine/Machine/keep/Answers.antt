@@ -1,4 +1,3 @@
-use Rattle.std.proofs.Common.{refl}
 use Rattle.dp_step.proofs.Smalls.{kept}
 use Rattle.dp_step.proofs.machine.Machine.keep.Goals as goal
 

@@ -2,8 +2,8 @@ use Rattle.std.proofs.Common.{refl, sym, ◌∙◌}
 use Rattle.dp_step.proofs.Smalls.{moves_hand}
 use Rattle.dp_step.proofs.machine.Machine.small.Goals as goal
 
-pub returns-in-Give : goal.returns-in-Give
-returns-in-Give c = moves_hand c.args.self.now _ _ _ _ (sym c.replace.ensures.value ∙ c.in-Give.is) refl refl c.take.ensures
+pub returns-in-Part : goal.returns-in-Part
+returns-in-Part c = moves_hand c.args.self.now _ _ _ _ (sym c.replace.ensures.value ∙ c.in-Part.is) refl refl c.part.ensures
 
 pub returns-in-Call : goal.returns-in-Call
 returns-in-Call c = moves_hand c.args.self.now _ _ _ _ (sym c.replace.ensures.value ∙ c.in-Call.is) refl refl c.call.ensures

@@ -1,5 +1,0 @@
-use Rattle.dp_engine.proofs.Growing.{alone_grows}
-use Rattle.dp_engine.proofs.laws.more_commands_only_add.Goals as goal
-
-pub returns : goal.returns
-returns c = λ bundle bound key bytes more. alone_grows bundle bound key bytes more

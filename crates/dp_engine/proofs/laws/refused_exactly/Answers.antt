@@ -1,5 +1,0 @@
-use Rattle.dp_engine.proofs.Refusing as law
-use Rattle.dp_engine.proofs.laws.refused_exactly.Goals as goal
-
-pub returns : goal.returns
-returns c = λ state bytes. law.refused_exactly state bytes

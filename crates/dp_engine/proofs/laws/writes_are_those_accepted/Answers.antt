@@ -1,8 +1,0 @@
-use Rattle.dp_engine.proofs.Showing.{keeps_no_other, keeps_write}
-use Rattle.dp_engine.proofs.laws.writes_are_those_accepted.Goals as goal
-
-pub returns-clause-accepted : goal.returns-clause-accepted
-returns-clause-accepted c = λ state bytes line command taken side. keeps_write state bytes line command taken side
-
-pub returns-clause-none_else : goal.returns-clause-none_else
-returns-clause-none_else c = λ state bytes none. keeps_no_other state bytes none

@@ -1,0 +1,139 @@
+//! What a command tells, where nothing else is done for it.
+ghost use Rattle.std.specs.Prelude.{◌≡◌, ◌≤◌, codes, length, is_some, IfOk, None, Some};
+ghost use Rattle.dp_command.specs.Names.{name_of};
+ghost use Rattle.dp_features.specs.Features.{feature_named};
+ghost use Rattle.dp_packet.specs.Parts.{flag};
+ghost use Rattle.dp_engine.specs.Answers as spec;
+ghost use Rattle.dp_engine.specs.Responses.{fault_response, status_response};
+ghost use Rattle.dp_engine.specs.States.{phase_name, reason_name};
+ghost use Rattle.dp_engine.specs.inner.Sizes.{Fits, IsCode};
+ghost use Rattle.dp_engine.specs.inner.Standing.{phase_of, reason_at};
+ghost use Rattle.dp_engine.specs.inner.Turns.{Tells};
+
+use crate::responses;
+use crate::session::SessionEnd;
+use crate::states::Standing;
+use dp_command::{Addressee, CommandName};
+use dp_features::{Feature, Features};
+use dp_packet::Response;
+use dp_value::{Bytes, Memory};
+use std::alloc::Global;
+
+/// What one command tells, and how it has ended its session, if it has.
+#[derive(Debug, Drop)]
+pub struct Turn {
+    /// The text of its response.
+    pub text: Bytes,
+    pub ended: Option<SessionEnd>,
+}
+
+/// A response, after which the session has ended so, or goes on.
+fn told(alloc: Global, response: Response, ended: Option<SessionEnd>) -> Result<Turn, Memory>
+    requires { Fits response }
+    ensures { IfOk result (Tells response ended) }
+{
+    let text = responses::text(alloc, response)?;
+    Ok(Turn { text, ended })
+}
+
+/// A response, after which the session goes on.
+pub fn tell(alloc: Global, response: Response) -> Result<Turn, Memory>
+    requires { Fits response }
+    ensures { IfOk result (Tells response None) }
+{
+    told(alloc, response, None)
+}
+
+/// An error with this code.
+pub fn refuse(alloc: Global, to: &Addressee, code: u16) -> Result<Turn, Memory>
+    requires { IsCode code }
+    ensures { IfOk result (Tells (fault_response to.now.command to.now.id code) None) }
+{
+    let response = responses::fault(alloc, to, code)?;
+    tell(alloc, response)
+}
+
+/// The state and the reason of a session that stands so.
+pub fn tell_status(alloc: Global, to: &Addressee, standing: Standing) -> Result<Turn, Memory>
+    ensures { IfOk result (Tells (status_response to.now.command to.now.id
+        (phase_name (phase_of standing)) (reason_name (reason_at standing))) None) }
+{
+    let status = standing.phase().name();
+    let reason = standing.reason().name();
+    let response = responses::status(alloc, to, status, reason)?;
+    tell(alloc, response)
+}
+
+/// A feature's value, or whether there is a command of this name.
+pub fn tell_feature(
+    alloc: Global,
+    to: &Addressee,
+    features: &Features,
+    feature: &[u8],
+) -> Result<Turn, Memory>
+    requires { length feature.now ≤ 1048576 }
+    ensures { IfOk result (Tells (spec.feature_known to.now.command to.now.id feature.now features.now) None) }
+{
+    match Feature::of(feature) {
+        Some(found) => tell_value(alloc, to, features, feature, found),
+        None => tell_command(alloc, to, features, feature),
+    }
+}
+
+/// A feature's value.
+fn tell_value(
+    alloc: Global,
+    to: &Addressee,
+    features: &Features,
+    feature: &[u8],
+    found: Feature,
+) -> Result<Turn, Memory>
+    requires feature { length feature.now ≤ 1048576 }
+    requires found { feature_named feature.now ≡ Some found }
+    ensures { IfOk result (Tells (spec.feature_known to.now.command to.now.id feature.now features.now) None) }
+{
+    let value = features.value(alloc, found)?;
+    let response = responses::feature(alloc, to, feature, b"1", Some(value))?;
+    tell(alloc, response)
+}
+
+/// Whether there is a command of a name that no feature has.
+fn tell_command(
+    alloc: Global,
+    to: &Addressee,
+    features: &Features,
+    feature: &[u8],
+) -> Result<Turn, Memory>
+    requires feature { length feature.now ≤ 1048576 }
+    requires absent { feature_named feature.now ≡ None }
+    ensures { IfOk result (Tells (spec.feature_known to.now.command to.now.id feature.now features.now) None) }
+{
+    let supported = supported(feature);
+    let response = responses::feature(alloc, to, feature, supported, None)?;
+    tell(alloc, response)
+}
+
+/// How it is told whether a command has this name.
+fn supported(name: &[u8]) -> &'static [u8]
+    ensures text { result.now ≡ flag (is_some (name_of name.now)) }
+    ensures short { length result.now ≤ 16 }
+{
+    responses::flag(CommandName::of(name).is_some())
+}
+
+/// The session has stopped, and ends so.
+pub fn stop(alloc: Global, to: &Addressee, end: SessionEnd) -> Result<Turn, Memory>
+    ensures { IfOk result (Tells (spec.stopped_response to.now.command to.now.id) (Some end)) }
+{
+    let response = responses::status(alloc, to, b"stopped", b"ok")?;
+    told(alloc, response, Some(end))
+}
+
+/// The session ends, and the program runs on by itself.
+pub fn detach(alloc: Global, to: &Addressee) -> Result<Turn, Memory>
+    ensures { IfOk result (Tells
+        (status_response to.now.command to.now.id (codes "stopping") (codes "ok")) (Some SessionEnd.Detached)) }
+{
+    let response = responses::status(alloc, to, b"stopping", b"ok")?;
+    told(alloc, response, Some(SessionEnd::Detached))
+}

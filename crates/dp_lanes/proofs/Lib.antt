@@ -1,0 +1,4 @@
+pub mod DigitLaws
+pub mod RestLaws
+pub mod StreamLaws
+pub mod LaneLaws

@@ -1,0 +1,5 @@
+pub mod HexLaws
+pub mod WordLaws
+pub mod SpellingLaws
+pub mod ListLaws
+pub mod LineLaws

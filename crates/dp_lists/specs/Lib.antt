@@ -1,0 +1,3 @@
+-- Begin with Lists: the text of an event list.
+pub mod Lists
+pub mod inner

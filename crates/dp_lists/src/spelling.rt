@@ -1,0 +1,167 @@
+//! The event that a line spells.
+ghost use Rattle.std.specs.Prelude.{◌≡◌, [], ◌∷◌, ◌++◌, ◌&&◌, ◌<◌, length, IfOk, IfSome, option_map, nat_le};
+ghost use Rattle.std.specs.List.{list_all};
+ghost use Rattle.dp_lists.specs.inner.Reading.{FirstOf};
+ghost use Rattle.dp_value.specs.Decimals.{decimal_in};
+ghost use Rattle.std.specs.Option.{option_copied};
+ghost use Rattle.dp_lists.specs.inner.Spelling as spec;
+
+use crate::event::{Act, Event};
+use crate::hex::bytes_in;
+use dp_value::{Bytes, Memory, decimal};
+use std::alloc::Global;
+
+/// The first place of a byte.
+pub(crate) fn first_of(byte: u8, bytes: &[u8]) -> Option<usize>
+    ensures first { FirstOf byte bytes.now result }
+    ensures within { IfSome result (λ at. at < length bytes.now) }
+{
+    for (at, b) in bytes.iter().enumerate() {
+        if *b == byte {
+            return Some(at);
+        }
+    }
+    None
+}
+
+/// What stands before the first blank, and what behind it.
+fn first_word(bytes: &[u8]) -> (&[u8], Option<&[u8]>)
+    ensures word { result.0.now ≡ spec.word_of bytes.now }
+    ensures part { option_copied result.1 ≡ spec.part_of bytes.now }
+{
+    match first_of(b' ', bytes) {
+        Some(at) => (&bytes[..at], Some(&bytes[at + 1..])),
+        None => (bytes, None),
+    }
+}
+
+/// Whether each byte is printable ASCII and no blank.
+fn are_graphic(bytes: &[u8]) -> bool
+    ensures { result ≡ list_all (λ b. nat_le 0x21 b && nat_le b 0x7e) bytes.now }
+{
+    bytes.iter().all(|b| 0x21 <= *b && *b <= 0x7e)
+}
+
+/// Whether bytes are a name of at most so many bytes.
+fn is_name(bytes: &[u8], most: usize) -> bool
+    ensures { result ≡ spec.is_name most bytes.now }
+{
+    1 <= bytes.len() && bytes.len() <= most && are_graphic(bytes)
+}
+
+fn link_in(text: &[u8]) -> Option<u32>
+    ensures { result ≡ spec.link_in text.now }
+{
+    let link = decimal(text, 4_294_967_294)?;
+    if link == 0 { None } else { Some(link as u32) }
+}
+
+fn act_alone(alloc: Global, word: &[u8]) -> Result<Option<Act>, Memory>
+    ensures { IfOk result (λ act. act ≡ spec.act_alone word.now) }
+{
+    if word == b"close".as_slice() {
+        Ok(Some(Act::Close))
+    } else if word == b"say".as_slice() {
+        Ok(Some(Act::Give(Bytes::from_slice(alloc, b"\0")?)))
+    } else {
+        Ok(None)
+    }
+}
+
+fn ide(alloc: Global, part: &[u8]) -> Result<Option<Act>, Memory>
+    ensures { IfOk result (λ act. act ≡ spec.name_in 64 Act.Ide part.now) }
+{
+    if is_name(part, 64) {
+        Ok(Some(Act::Ide(Bytes::from_slice(alloc, part)?)))
+    } else {
+        Ok(None)
+    }
+}
+
+fn engine(alloc: Global, part: &[u8]) -> Result<Option<Act>, Memory>
+    ensures { IfOk result (λ act. act ≡ spec.name_in 128 Act.Engine part.now) }
+{
+    if is_name(part, 128) {
+        Ok(Some(Act::Engine(Bytes::from_slice(alloc, part)?)))
+    } else {
+        Ok(None)
+    }
+}
+
+fn give(alloc: Global, part: &[u8]) -> Result<Option<Act>, Memory>
+    ensures { IfOk result (λ act. act ≡ option_map Act.Give (spec.bytes_in part.now)) }
+{
+    match bytes_in(alloc, part)? {
+        Some(bytes) => Ok(Some(Act::Give(Bytes::of(bytes)))),
+        None => Ok(None),
+    }
+}
+
+fn say(alloc: Global, part: &[u8]) -> Result<Act, Memory>
+    ensures { IfOk result (λ act. act ≡ Act.Give (part.now ++ 0 ∷ [])) }
+{
+    let mut bytes = Vec::from_slice(alloc, part)?;
+    bytes.push(0)?;
+    Ok(Act::Give(Bytes::of(bytes)))
+}
+
+fn read_of(part: &[u8]) -> Option<Act>
+    ensures { result ≡ option_map Act.Move (decimal_in 4294967295 part.now) }
+{
+    match decimal(part, 4_294_967_295) {
+        Some(count) => Some(Act::Move(count as u32)),
+        None => None,
+    }
+}
+
+fn act_with(alloc: Global, word: &[u8], part: &[u8]) -> Result<Option<Act>, Memory>
+    ensures { IfOk result (λ act. act ≡ spec.act_with word.now part.now) }
+{
+    if word == b"ide".as_slice() {
+        ide(alloc, part)
+    } else if word == b"engine".as_slice() {
+        engine(alloc, part)
+    } else if word == b"give".as_slice() {
+        give(alloc, part)
+    } else if word == b"say".as_slice() {
+        Ok(Some(say(alloc, part)?))
+    } else if word == b"move".as_slice() {
+        Ok(read_of(part))
+    } else {
+        Ok(None)
+    }
+}
+
+fn act_in(alloc: Global, word: &[u8], part: Option<&[u8]>) -> Result<Option<Act>, Memory>
+    ensures { IfOk result (λ act. act ≡ spec.act_in word.now (option_copied part.entry)) }
+{
+    match part {
+        None => act_alone(alloc, word),
+        Some(part) => act_with(alloc, word, part),
+    }
+}
+
+fn event_in(alloc: Global, word: &[u8], rest: &[u8]) -> Result<Option<Event>, Memory>
+    ensures { IfOk result (λ event. event ≡ spec.event_in word.now rest.now) }
+{
+    let (text, part) = first_word(rest);
+    let Some(link) = link_in(text) else {
+        return Ok(None);
+    };
+    match act_in(alloc, word, part)? {
+        Some(act) => Ok(Some(Event { link, act })),
+        None => Ok(None),
+    }
+}
+
+/// The event that a line spells, if it spells one.
+#[tactic(auto, unfolding(crate::specs::inner::Spelling::spelled))]
+pub(crate) fn spelled(alloc: Global, line: &[u8]) -> Result<Option<Event>, Memory>
+    ensures { IfOk result (λ event. event ≡ spec.spelled line.now) }
+{
+    let (word, rest) = first_word(line);
+    match rest {
+        Some(rest) => event_in(alloc, word, rest),
+        None => Ok(None),
+    }
+}

@@ -1,0 +1,8 @@
+pub mod KeyLaws
+pub mod CallLaws
+pub mod ReplyLaws
+pub mod PassLaws
+pub mod HearLaws
+pub mod TurnLaws
+pub mod ProxyLaws
+pub mod StepLaws

@@ -1,0 +1,24 @@
+//! The core of a proxy between engines and IDEs: lanes that pass whole frames alone, what an IDE asks of the registry, the
+//! key with which an engine comes, and the events of all links.
+#![tactic(auto)]
+
+mod calls;
+mod errors;
+mod events;
+mod hearing;
+mod inits;
+mod kept;
+mod passes;
+mod proxy;
+mod replies;
+mod turning;
+
+pub use calls::{Call, call_of};
+pub use dp_lanes::{Lane, LaneKind, PIECE_LIMIT};
+pub use dp_registry::{Refusal, Registry};
+pub use dp_value::Memory;
+pub use errors::{InitError, ProxyError};
+pub use events::{Act, Effect, Event};
+pub use inits::key_of_init;
+pub use proxy::Proxy;
+pub use replies::{registration, reply_of};

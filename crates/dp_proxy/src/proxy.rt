@@ -1,0 +1,65 @@
+//! The core: what each event leads to, over all links.
+ghost use Rattle.std.specs.Prelude.{[], List};
+ghost use Rattle.dp_proxy.specs.declared.events.Event.{Event as Came};
+ghost use Rattle.dp_proxy.specs.Pasts.{past_of};
+ghost use Rattle.dp_proxy.specs.Standing.{Stands, StandsAfter};
+ghost use Rattle.dp_proxy.specs.Steps.{Answers, HasHost};
+
+use crate::errors::ProxyError;
+use crate::events::{Effect, Event};
+use crate::kept::{Links, Step};
+use crate::turning::turn;
+use dp_registry::Registry;
+use std::alloc::Global;
+use std::marker::Model;
+
+/// A proxy without its links: which IDE holds which key, and what came of each link that was not handed out. Contracts see
+/// the journal of its registry, and what is kept of each link.
+#[derive(Debug, Drop)]
+pub struct Proxy {
+    alloc: Global,
+    registry: Registry,
+    links: Links,
+}
+
+impl Model for Proxy {
+    ghost use Rattle.dp_proxy.specs.Standing.{AreSound, Keeps};
+
+    ghost Value = { Keeps };
+
+    ghost view = { λ p. record { journal = p.registry; links = p.links } };
+
+    ghost invariant = { λ p. AreSound (record { journal = p.registry; links = p.links }) };
+}
+
+impl Proxy {
+    /// A proxy before any event. Takes no memory.
+    pub fn new(alloc: Global) -> Proxy
+        ensures { Stands result [] }
+    {
+        Proxy {
+            alloc,
+            registry: Registry::new(alloc),
+            links: Links::new(alloc),
+        }
+    }
+
+    /// Takes one event. An IDE that connects has a host.
+    ///
+    /// `BadInit` exactly for an engine that comes on a link that was not made, with what is no key; nothing changes.
+    /// `BadFrame` exactly where a lane is bad and the event completes no frame; it closes the link. After want of
+    /// memory the proxy has failed for good.
+    pub fn step(&mut self, event: &Event) -> Result<Effect, ProxyError>
+        requires host { HasHost event.now.act }
+        ensures answers { (events : List Came) → Stands self.old events
+            → Answers (past_of events) event.now.link event.now.act result }
+        ensures stands { (events : List Came) → Stands self.old events
+            → StandsAfter self.new events event.now result }
+    {
+        let kept = self.links.take(event.link);
+        let step = turn(self.alloc, &mut self.registry, kept, &event.act)?;
+        let Step { kept, told } = step;
+        self.links.put(event.link, kept)?;
+        told
+    }
+}

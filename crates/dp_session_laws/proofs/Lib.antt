@@ -1,0 +1,5 @@
+pub mod Growing
+pub mod Outputs
+pub mod Watching
+pub mod Whole
+pub mod Showing

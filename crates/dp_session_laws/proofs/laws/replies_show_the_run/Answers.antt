@@ -1,0 +1,9 @@
+use Rattle.dp_session_laws.proofs.Showing.{shows_program}
+use Rattle.dp_session_laws.proofs.Watching as law
+use Rattle.dp_session_laws.proofs.laws.replies_show_the_run.Goals as goal
+
+pub returns-clause-stands : goal.returns-clause-stands
+returns-clause-stands c = λ bundle bound bytes. law.stands bundle bound bytes
+
+pub returns-clause-shown : goal.returns-clause-shown
+returns-clause-shown c = λ state bytes line command taken side. shows_program state bytes line command taken side

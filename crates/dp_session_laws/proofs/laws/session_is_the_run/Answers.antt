@@ -1,0 +1,5 @@
+use Rattle.dp_session_laws.proofs.Watching.{is_run}
+use Rattle.dp_session_laws.proofs.laws.session_is_the_run.Goals as goal
+
+pub returns : goal.returns
+returns c = λ bundle bound bytes. is_run bundle bound bytes

@@ -1,0 +1,2 @@
+pub mod AllOutput
+pub mod Shown

@@ -1,9 +1,0 @@
-use Rattle.std.proofs.Common.{refl, sym, ap, ◌∙◌}
-use Rattle.dp_step.proofs.Goings.{goes_as, passes-to_part}
-use Rattle.dp_step.proofs.hands.to_part.Goals as goal
-
-pub returns-in-Value : goal.returns-in-Value
-returns-in-Value c = λ setting. rw c.in-Value.is (c.moved.ensures setting _ _ (c.receive_part.ensures setting))
-
-pub returns-in_default : goal.returns-in_default
-returns-in_default c = λ setting. goes_as setting _ _ _ (λ k. (sym (passes-to_part setting c.args.work k c.args.given c.args.state.now c.in_default.not-Value)))

@@ -1,8 +1,0 @@
-use Rattle.std.proofs.Common.{refl, sym, ◌∙◌}
-use Rattle.dp_step.proofs.receive.isset_found.Goals as goal
-
-pub returns-then-missing : goal.returns-then-missing
-returns-then-missing c = λ setting k s. rw (c.give.ensures, sym c.is_missing-missing.ensures ∙ c.if-missing.true) refl
-
-pub returns-else-missing : goal.returns-else-missing
-returns-else-missing c = λ setting k s. rw (sym c.is_missing-missing.ensures ∙ c.if-missing.false) refl

@@ -1,0 +1,5 @@
+pub mod AtOnce
+pub mod Begins
+pub mod FirstParts
+pub mod Passing
+pub mod Receiving

@@ -1,0 +1,140 @@
+//! The beginning of an expression: what is done first, and what waits for it.
+
+ghost use Rattle.std.specs.Prelude.{◌≡◌};
+ghost use Rattle.dp_state.specs.declared.state.State.{State as AnyState};
+ghost use Rattle.dp_meaning.specs.Expressions.{evaluation, evaluations, expression_run};
+ghost use Rattle.dp_actions.specs.Run.{and_then};
+ghost use Rattle.dp_actions.specs.Setting.{Setting};
+ghost use Rattle.dp_step_parts.specs.Rest.{Follows, next_rest, to_value, to_values, work_rest};
+ghost use Rattle.dp_step_parts.specs.declared.work.Work.TheVariants as any_work;
+ghost use Rattle.dp_step_parts.specs.Leads.{Leads};
+
+use crate::next::{give, given};
+use crate::work::{ForPart, ForValue, ForValues, Hand, Next, Work};
+use dp_actions::{Halt, Reading, text_value, variable_value};
+use dp_state::State;
+use dp_tree::{Boxed, Expression};
+use dp_value::{Items, PhpArray, Value};
+use std::alloc::Global;
+
+/// The values of expressions, and what waits for them.
+pub(crate) fn values_first<'p>(
+    alloc: Global,
+    all: &'p Items<Expression>,
+    work: ForValues<'p>,
+) -> Next<'p>
+    ensures { (setting : Setting) (k : Follows) (s : AnyState) → next_rest setting result k s ≡ and_then (evaluations all.now setting s) (to_values (work_rest setting (any_work.ForValues work.entry) k)) }
+{
+    Next {
+        hand: Hand::Values(Items::of(Vec::new(alloc)), all, 0),
+        waits: Some(Work::ForValues(work)),
+    }
+}
+
+/// An expression to the left of `??`.
+pub(crate) fn find<'p>(e: &'p Boxed<Expression>) -> Next<'p>
+    ensures { (setting : Setting) (k : Follows) (s : AnyState) → next_rest setting result k s ≡ and_then ((expression_run e.now).found setting s) (to_value k) }
+{
+    match e.as_ref() {
+        Expression::Index(base, indices) => Next {
+            hand: Hand::Find(base),
+            waits: Some(Work::ForPart(ForPart::Under(Reading::Found, indices))),
+        },
+        other => Next {
+            hand: Hand::Evaluate(other),
+            waits: None,
+        },
+    }
+}
+
+/// An expression.
+pub(crate) fn begin<'p>(alloc: Global, e: &'p Expression, state: &State) -> Result<Next<'p>, Halt>
+    ensures { (setting : Setting) → Leads setting (λ k. and_then (evaluation e.now setting state.now) (to_value k)) result state.now }
+{
+    match e {
+        Expression::Null => Ok(give(Value::Null)),
+        Expression::Bool(b) => Ok(give(Value::Bool(*b))),
+        Expression::Number(n) => Ok(give(Value::Int(*n))),
+        Expression::Text(bytes) => given(text_value(bytes)),
+        Expression::Variable(name) => given(variable_value(name, state)),
+        Expression::Array(items) => {
+            let empty = Value::Array(PhpArray::new(alloc));
+            Ok(Next {
+                hand: Hand::Items(empty, items, 0),
+                waits: None,
+            })
+        }
+        Expression::Isset(places) => Ok(Next {
+            hand: Hand::Isset(places.as_slice()),
+            waits: None,
+        }),
+        operator => Ok(begin_operator(alloc, operator)),
+    }
+}
+
+/// An operator, by its first operand.
+fn begin_operator<'p>(alloc: Global, e: &'p Expression) -> Next<'p>
+    ensures { (setting : Setting) (k : Follows) (s : AnyState) → next_rest setting result k s ≡ and_then (evaluation e.now setting s) (to_value k) }
+{
+    match e {
+        Expression::Index(base, indices) => Next {
+            hand: Hand::Evaluate(base.as_ref()),
+            waits: Some(Work::ForPart(ForPart::Under(Reading::Plain, indices))),
+        },
+        Expression::Unary(op, operand) => Next {
+            hand: Hand::Evaluate(operand.as_ref()),
+            waits: Some(Work::ForValue(ForValue::Unary(*op))),
+        },
+        Expression::Chain(first, links) => Next {
+            hand: Hand::Evaluate(first.as_ref()),
+            waits: Some(Work::ForPart(ForPart::Links(links))),
+        },
+        Expression::Coalesce(left, right) => Next {
+            hand: Hand::Find(left),
+            waits: Some(Work::ForValue(ForValue::Coalesce(right))),
+        },
+        Expression::Conditional(test, middle, otherwise) => Next {
+            hand: Hand::Evaluate(test.as_ref()),
+            waits: Some(Work::ForValue(ForValue::Choose(middle, otherwise))),
+        },
+        change => begin_change(alloc, change),
+    }
+}
+
+/// A change of a place, by the indices of the place. The beginnings of a call and of an inclusion are not here: they stay in
+/// hand.
+fn begin_change<'p>(alloc: Global, e: &'p Expression) -> Next<'p>
+    ensures { (setting : Setting) (k : Follows) (s : AnyState) → next_rest setting result k s ≡ and_then (evaluation e.now setting s) (to_value k) }
+{
+    match e {
+        Expression::Step(op, order, place) => values_first(
+            alloc,
+            &place.indices,
+            ForValues::Step(*op, *order, &place.name),
+        ),
+        Expression::Assign(place, right) => values_first(
+            alloc,
+            &place.indices,
+            ForValues::Assign(&place.name, false, right),
+        ),
+        Expression::Push(place, right) => values_first(
+            alloc,
+            &place.indices,
+            ForValues::Assign(&place.name, true, right),
+        ),
+        Expression::Compound(op, place, right) => values_first(
+            alloc,
+            &place.indices,
+            ForValues::Compound(*op, &place.name, right),
+        ),
+        Expression::CoalesceAssign(place, right) => values_first(
+            alloc,
+            &place.indices,
+            ForValues::CoalesceAssign(&place.name, right),
+        ),
+        other => Next {
+            hand: Hand::Evaluate(other),
+            waits: None,
+        },
+    }
+}
