@@ -131,7 +131,7 @@ fn program_of(program: Program<'_>) -> Option<Program<'_>>
 
 /// The bound that a word gives, or that which stands where none is given.
 fn bound_given(word: Option<&str>) -> Option<u64>
-    ensures { result ≡ bound_in (option_map (λ w. w.now) word) }
+    ensures { result ≡ bound_in (option_map (λ w. w.now) word.entry) }
 {
     match word {
         None => Some(DEFAULT_BOUND),
