@@ -1,12 +1,13 @@
 //! The words of a command line.
-ghost use Rattle.std.specs.Prelude.{◌≡◌, ◌↔◌, ◌∷◌, [], ℕ, List, Option, Some, None, IsTrue, IfOk, IfSome, IfNone, Ok, map, string_bytes};
+ghost use Rattle.std.specs.Prelude.{◌≡◌, ◌↔◌, ◌∷◌, [], ℕ, List, Option, Some, None, IsTrue, IfOk, IfSome, IfNone, Ok, codes, map, string_bytes};
 ghost use Rattle.std.specs.List.{list_all};
 ghost use Rattle.std.specs.Option.{option_map};
-ghost use Rattle.dp_words.specs.CommandLine.{Address as AnyAddress, AreFileWords, Ask, Asks, Dials, Follows, IsFileWord, IsHostWord, IsKey, IsSession, Replays, Speaks, Task, ask_of, between, bound_of, port_of};
-ghost use Rattle.dp_words.specs.inner.Commands.{address_told, ask_told, parsed_told, task_of, IsOther};
+ghost use Rattle.dp_words.specs.CommandLine.{Address as AnyAddress, AreFileWords, Ask, Asks, Dials, Follows, IsHostWord, IsKey, IsSession, Speaks, Task, ask_of, between, bound_of, port_of};
+ghost use Rattle.dp_words.specs.Commands.{address_told, ask_told, task_of};
+ghost use Rattle.dp_words.specs.inner.Commands.{parsed_told};
 ghost use Rattle.dp_words.specs.inner.Parsed.{IsParsed, ask_in, bound_in};
 
-use crate::names::{are_files, is_file, is_option};
+use crate::names::{are_files, is_option};
 use crate::parser::{Parsed, parse};
 use crate::plain::are_plain;
 use dp_outside::Host;
@@ -41,20 +42,6 @@ pub struct Engine<'a> {
     pub talk: Talk<'a>,
 }
 
-/// A script that is played over one link to a port.
-#[derive(Clone, Copy, Debug)]
-pub struct Ide<'a> {
-    pub port: u16,
-    pub script: &'a str,
-}
-
-/// A list of events over a program.
-#[derive(Clone, Copy, Debug)]
-pub struct Replay<'a> {
-    pub events: &'a str,
-    pub program: Program<'a>,
-}
-
 /// What the program is asked for.
 #[derive(Clone, Copy, Debug)]
 pub enum Command<'a> {
@@ -64,10 +51,6 @@ pub enum Command<'a> {
     Talk(Talk<'a>),
     /// One session over a link.
     Engine(Engine<'a>),
-    /// A script over a link.
-    Ide(Ide<'a>),
-    /// The transcript of events.
-    Replay(Replay<'a>),
     /// The elements of the packets that are read.
     Show,
 }
@@ -131,7 +114,7 @@ fn program_of(program: Program<'_>) -> Option<Program<'_>>
 
 /// The bound that a word gives, or that which stands where none is given.
 fn bound_given(word: Option<&str>) -> Option<u64>
-    ensures { result ≡ bound_in (option_map (λ w. w.now) word) }
+    ensures { result ≡ bound_in (option_map (λ w. w.now) word.entry) }
 {
     match word {
         None => Some(DEFAULT_BOUND),
@@ -263,72 +246,24 @@ fn read_engine<'a>(parsed: Parsed<'a>) -> Option<Engine<'a>>
     }
 }
 
-/// What the words behind `ide` ask for.
-fn read_ide<'a>(parsed: Parsed<'a>) -> Option<Ide<'a>>
-    ensures found { IfSome result (λ i. (number : List ℕ) × ((parsed_told parsed.entry).bound ≡ None) × ((parsed_told parsed.entry).words ≡ number ∷ i.script.now ∷ [])
-        × (port_of number ≡ Some i.port) × IsFileWord i.script.now) }
-    ensures none { IfNone result ((number script : List ℕ) (n : ℕ) → (parsed_told parsed.entry).bound ≡ None → (parsed_told parsed.entry).words ≡ number ∷ script ∷ []
-        → port_of number ≡ Some n → IsFileWord script → ⊥) }
-{
-    if parsed.bound.is_some() {
-        return None;
-    }
-    match parsed.words {
-        [number, script] => ide_of(number.as_str(), script.as_str()),
-        _ => None,
-    }
-}
-
-/// The script that is played over a link to a port.
-fn ide_of<'a>(number: &str, script: &'a str) -> Option<Ide<'a>>
-    ensures found { IfSome result (λ i. (i.script.now ≡ script.now) × (port_of number.now ≡ Some i.port) × IsFileWord script.now) }
-    ensures none { IfNone result ((n : ℕ) → port_of number.now ≡ Some n → IsFileWord script.now → ⊥) }
-{
-    if !is_file(script) {
-        return None;
-    }
-    match read_port(number) {
-        None => None,
-        Some(port) => Some(Ide { port, script }),
-    }
-}
-
-/// The events of a list over the program of these files.
-fn replay_of<'a>(events: &'a str, program: Program<'a>) -> Option<Replay<'a>>
-    ensures found { IfSome result (λ r. (r.events.now ≡ events.now) × (ask_told r.program ≡ ask_told program.entry)
-        × IsFileWord events.now × AreFileWords (ask_told program.entry).names) }
-    ensures none { IfNone result (IsFileWord events.now → AreFileWords (ask_told program.entry).names → ⊥) }
-{
-    if !is_file(events) {
-        return None;
-    }
-    match program_of(program) {
-        None => None,
-        Some(program) => Some(Replay { events, program }),
-    }
-}
-
-/// What the words behind `replay` ask for.
-fn read_replay<'a>(parsed: Parsed<'a>) -> Option<Replay<'a>>
-    ensures found { IfSome result (λ r. (behind : List (List ℕ)) → ask_of behind ≡ ask_in (parsed_told parsed.entry)
-        → Replays behind r.events.now (ask_told r.program)) }
-    ensures none { IfNone result ((behind : List (List ℕ)) (events : List ℕ) (ask : Ask)
-        → ask_of behind ≡ ask_in (parsed_told parsed.entry) → Replays behind events ask → ⊥) }
-{
-    match program_in(parsed) {
-        None => None,
-        Some(Program { bound, files }) => match files.split_first() {
-            None => None,
-            Some((events, files)) => replay_of(events.as_str(), Program { bound, files }),
-        },
-    }
-}
-
 /// Whether nothing stands behind the command.
 fn is_alone(parsed: Parsed<'_>) -> bool
     ensures { IsTrue result ↔ (((parsed_told parsed.entry).bound ≡ None) × ((parsed_told parsed.entry).words ≡ [])) }
 {
     parsed.bound.is_none() && parsed.words.is_empty()
+}
+
+/// What `show` asks for, behind which nothing stands.
+fn read_show<'a>(parsed: Parsed<'a>) -> Option<Command<'a>>
+    ensures found { IfSome result (λ command. (words : List (List ℕ)) → IsParsed words (parsed_told parsed.entry) → parsed.entry.name.now ≡ codes "show"
+        → Asks words (task_of command)) }
+    ensures none { IfNone result ((words : List (List ℕ)) → IsParsed words (parsed_told parsed.entry) → Asks words Task.show → ⊥) }
+{
+    if is_alone(parsed) {
+        Some(Command::Show)
+    } else {
+        None
+    }
 }
 
 /// What is asked for that is read so.
@@ -354,31 +289,10 @@ fn command_of<'a>(parsed: Parsed<'a>) -> Option<Command<'a>>
             None => None,
         };
     }
-    other_command(parsed)
-}
-
-/// The same of the other commands.
-fn other_command<'a>(parsed: Parsed<'a>) -> Option<Command<'a>>
-    ensures found { IfSome result (λ command. (words : List (List ℕ)) → IsParsed words (parsed_told parsed.entry) → Asks words (task_of command)) }
-    ensures none { IfNone result ((words : List (List ℕ)) (task : Task) → IsParsed words (parsed_told parsed.entry) → Asks words task → IsOther task → ⊥) }
-{
-    if parsed.name == "ide" {
-        return match read_ide(parsed) {
-            Some(ide) => Some(Command::Ide(ide)),
-            None => None,
-        };
+    if parsed.name == "show" {
+        return read_show(parsed);
     }
-    if parsed.name == "replay" {
-        return match read_replay(parsed) {
-            Some(replay) => Some(Command::Replay(replay)),
-            None => None,
-        };
-    }
-    if parsed.name == "show" && is_alone(parsed) {
-        Some(Command::Show)
-    } else {
-        None
-    }
+    None
 }
 
 /// What the words ask for, and `None` exactly where they ask for nothing, unless memory ran out. The words are tested first:

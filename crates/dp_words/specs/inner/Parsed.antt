@@ -21,3 +21,5 @@ pub record IsParsed (words : List (List ℕ)) (p : Parsed) : Type 0 where
   pub words_are : words ≡ p.name ∷ behind
   pub asked : ask_of behind ≡ ask_in p
   pub unbound : p.bound ≡ None → behind ≡ p.words
+  pub bounded : (number : List ℕ) → p.bound ≡ Some number
+      → behind ≡ codes "--bound" ∷ number ∷ p.words
