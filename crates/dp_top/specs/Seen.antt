@@ -4,7 +4,6 @@ use Rattle.dp_outside.specs.Causes.{Rose}
 use Rattle.dp_outside.specs.Changes.{Change}
 use Rattle.dp_outside.specs.Links.{Dial, Door, Link}
 use Rattle.dp_outside.specs.declared.links.Dialer as dialer_of
-use Rattle.dp_outside.specs.declared.links.Net as net_of
 use Rattle.dp_outside.specs.declared.shelves.Shelf as shelf_of
 use Rattle.dp_outside.specs.declared.sinks.Sink as sink_of
 use Rattle.dp_outside.specs.declared.sources.Source as source_of
@@ -36,24 +35,24 @@ pub record Seen : Type 0 where
   pub err : Stream
   pub net : Net
 
-abbrev pub net_seen : {N : Type 0} → dialer_of.Ghosts N → net_of.Ghosts N → N → Net
-net_seen d n net = record {
+abbrev pub net_seen : {N In Out : Type 0} → dialer_of.Ghosts N In Out → (N → Option (List Door)) → N → Net
+net_seen d shut net = record {
   dials = d.dials net;
   retired = d.retired net;
-  shut = n.shut_doors net;
+  shut = shut net;
   faults = d.faults net;
   returned = d.returned net;
 }
 
-abbrev pub seen : {H S K E N : Type 0}
+abbrev pub seen : {H S K E N In Out : Type 0}
     → shelf_of.Ghosts H → source_of.Ghosts S → sink_of.Ghosts K → sink_of.Ghosts E
-    → dialer_of.Ghosts N → net_of.Ghosts N → H → S → K → E → N → Seen
-seen h s k e d n shelf input out err net = record {
+    → dialer_of.Ghosts N In Out → (N → Option (List Door)) → H → S → K → E → N → Seen
+seen h s k e d shut shelf input out err net = record {
   shelf = record { files = h.files shelf; fetched = h.fetched shelf; faults = h.faults shelf };
   input = record { told = s.left input; faults = s.faults input };
   out = record { told = k.taken out; faults = k.faults out };
   err = record { told = e.taken err; faults = e.faults err };
-  net = net_seen d n net;
+  net = net_seen d shut net;
 }
 
 -- what became of a source or a sink

@@ -74,20 +74,20 @@ pub fn carry_out_on<'a, H: Shelf, S: Source, K: Sink, E: Sink, N: Net>(
     requires asked { (words : List (List ℕ)) × Asks words (task_of command) }
 
     ensures ends { MatchResult result
-        (λ status. Does status (task_of command.entry) (seen H.Shelf S.Source K.Sink E.Sink N.Dialer N.Net shelf.old input.old out.old err.old net.old)
-        (seen H.Shelf S.Source K.Sink E.Sink N.Dialer N.Net shelf.new input.new out.new err.new net.new))
+        (λ status. Does status (task_of command.entry) (seen H.Shelf S.Source K.Sink E.Sink N.Dialer N.shut_doors shelf.old input.old out.old err.old net.old)
+        (seen H.Shelf S.Source K.Sink E.Sink N.Dialer N.shut_doors shelf.new input.new out.new err.new net.new))
         (λ why. Caused why.failure why.name.now (task_of command.entry)
-        (seen H.Shelf S.Source K.Sink E.Sink N.Dialer N.Net shelf.old input.old out.old err.old net.old)
-        (seen H.Shelf S.Source K.Sink E.Sink N.Dialer N.Net shelf.new input.new out.new err.new net.new)) }
+        (seen H.Shelf S.Source K.Sink E.Sink N.Dialer N.shut_doors shelf.old input.old out.old err.old net.old)
+        (seen H.Shelf S.Source K.Sink E.Sink N.Dialer N.shut_doors shelf.new input.new out.new err.new net.new)) }
     ensures status { IfOk result (λ status. status ≤ 199) }
     // Files that make a program are no bad source, and those that make none are one, unless the shelf failed.
     ensures held { (ask : Ask) → ask_in (task_of command.entry) ≡ Some ask
-        → AreHeld ask result (seen H.Shelf S.Source K.Sink E.Sink N.Dialer N.Net shelf.old input.old out.old err.old net.old)
-        (seen H.Shelf S.Source K.Sink E.Sink N.Dialer N.Net shelf.new input.new out.new err.new net.new) }
+        → AreHeld ask result (seen H.Shelf S.Source K.Sink E.Sink N.Dialer N.shut_doors shelf.old input.old out.old err.old net.old)
+        (seen H.Shelf S.Source K.Sink E.Sink N.Dialer N.shut_doors shelf.new input.new out.new err.new net.new) }
     ensures show_shelf { task_of command.entry ≡ Task.show → H.faults shelf.new ≡ H.faults shelf.old }
     ensures fetched { IsFetched (ask_in (task_of command.entry)) (H.fetched shelf.old) (H.fetched shelf.new) }
-    ensures goes_on { Continues (seen H.Shelf S.Source K.Sink E.Sink N.Dialer N.Net shelf.old input.old out.old err.old net.old)
-        (seen H.Shelf S.Source K.Sink E.Sink N.Dialer N.Net shelf.new input.new out.new err.new net.new) }
+    ensures goes_on { Continues (seen H.Shelf S.Source K.Sink E.Sink N.Dialer N.shut_doors shelf.old input.old out.old err.old net.old)
+        (seen H.Shelf S.Source K.Sink E.Sink N.Dialer N.shut_doors shelf.new input.new out.new err.new net.new) }
 {
     let mut objects = Objects {
         shelf,

@@ -37,9 +37,9 @@ fn serve_linked<'a, N: Net, K: Sink>(
     requires named { map (λ file. file.name) bundle.now.files ≡ (ask_told request.talk.program).names }
     ensures ends { MatchResult result
         (λ status. EngagedSo status bundle.now (address_told request.entry.address) request.entry.talk.key.now (ask_told request.entry.talk.program)
-        (change K.taken K.faults out.old out.new) (net_seen N.Dialer N.Net net.old) (net_seen N.Dialer N.Net net.new))
+        (change K.taken K.faults out.old out.new) (net_seen N.Dialer N.shut_doors net.old) (net_seen N.Dialer N.shut_doors net.new))
         (λ why. UnengagedSo why.failure why.name.now bundle.now (address_told request.entry.address) request.entry.talk.key.now (ask_told request.entry.talk.program)
-        (change K.taken K.faults out.old out.new) (net_seen N.Dialer N.Net net.old) (net_seen N.Dialer N.Net net.new)) }
+        (change K.taken K.faults out.old out.new) (net_seen N.Dialer N.shut_doors net.old) (net_seen N.Dialer N.shut_doors net.new)) }
     ensures status { IfOk result (λ status. status ≤ 199) }
     ensures held { (made : Made) (before after : ℕ) → IsHeld (Ok made) result before after }
     ensures out_later { K.faults out.old ≤ K.faults out.new }
@@ -80,9 +80,9 @@ fn serve_over<'a, N: Net, K: Sink>(
     requires named { map (λ file. file.name) bundle.now.files ≡ (ask_told request.talk.program).names }
     ensures ends { MatchResult result
         (λ status. EngagedSo status bundle.now (address_told request.entry.address) request.entry.talk.key.now (ask_told request.entry.talk.program)
-        (change K.taken K.faults out.old out.new) (net_seen N.Dialer N.Net net.old) (net_seen N.Dialer N.Net net.new))
+        (change K.taken K.faults out.old out.new) (net_seen N.Dialer N.shut_doors net.old) (net_seen N.Dialer N.shut_doors net.new))
         (λ why. UnengagedSo why.failure why.name.now bundle.now (address_told request.entry.address) request.entry.talk.key.now (ask_told request.entry.talk.program)
-        (change K.taken K.faults out.old out.new) (net_seen N.Dialer N.Net net.old) (net_seen N.Dialer N.Net net.new)) }
+        (change K.taken K.faults out.old out.new) (net_seen N.Dialer N.shut_doors net.old) (net_seen N.Dialer N.shut_doors net.new)) }
     ensures status { IfOk result (λ status. status ≤ 199) }
     ensures held { (made : Made) (before after : ℕ) → IsHeld (Ok made) result before after }
     ensures out_later { K.faults out.old ≤ K.faults out.new }

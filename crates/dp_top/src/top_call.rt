@@ -1,5 +1,5 @@
 //! The top call.
-ghost use Rattle.std.specs.Prelude.{◌≡◌, ◌↔◌, ◌⊎◌, ◌<◌, ◌≤◌, ℕ, List, Some, Ok, Err, codes, map, string_bytes};
+ghost use Rattle.std.specs.Prelude.{false, ◌≡◌, ◌↔◌, ◌⊎◌, ◌<◌, ◌≤◌, ℕ, List, Some, Ok, Err, codes, map, string_bytes};
 ghost use Rattle.dp_outside.specs.Causes.{Rose};
 ghost use Rattle.dp_outside.specs.Changes.{change, IsUntouched};
 ghost use Rattle.dp_tree.specs.declared.bundle.Bundle.{Bundle};
@@ -61,36 +61,36 @@ pub fn top<R: Wait + Sync, H: Shelf, S: Source, K: Sink, E: Sink, N: Net, P: Spa
     ensures usage_out { result ≡ 200 → IsUntouched (change K.taken K.faults out.old out.new) }
     ensures usage_shelf { result ≡ 200 → H.faults shelf.new ≡ H.faults shelf.old }
     ensures usage_fetched { result ≡ 200 → H.fetched shelf.new ≡ H.fetched shelf.old }
-    ensures usage_net { result ≡ 200 → net_seen N.Dialer N.Net net.new ≡ net_seen N.Dialer N.Net net.old }
+    ensures usage_net { result ≡ 200 → net_seen N.Dialer N.shut_doors net.new ≡ net_seen N.Dialer N.shut_doors net.old }
 
     ensures done { result ≤ 199 → IsDone result (map string_bytes words.now)
-        (seen H.Shelf S.Source K.Sink E.Sink N.Dialer N.Net shelf.old input.old out.old err.old net.old)
-        (seen H.Shelf S.Source K.Sink E.Sink N.Dialer N.Net shelf.new input.new out.new err.new net.new) }
+        (seen H.Shelf S.Source K.Sink E.Sink N.Dialer N.shut_doors shelf.old input.old out.old err.old net.old)
+        (seen H.Shelf S.Source K.Sink E.Sink N.Dialer N.shut_doors shelf.new input.new out.new err.new net.new) }
     // Memory may run out as the words are read.
     ensures fails { 200 < result → Fails result (map string_bytes words.now)
-        (seen H.Shelf S.Source K.Sink E.Sink N.Dialer N.Net shelf.old input.old out.old err.old net.old)
-        (seen H.Shelf S.Source K.Sink E.Sink N.Dialer N.Net shelf.new input.new out.new err.new net.new)
-        ⊎ IsUnread result (seen H.Shelf S.Source K.Sink E.Sink N.Dialer N.Net shelf.old input.old out.old err.old net.old)
-        (seen H.Shelf S.Source K.Sink E.Sink N.Dialer N.Net shelf.new input.new out.new err.new net.new) }
+        (seen H.Shelf S.Source K.Sink E.Sink N.Dialer N.shut_doors shelf.old input.old out.old err.old net.old)
+        (seen H.Shelf S.Source K.Sink E.Sink N.Dialer N.shut_doors shelf.new input.new out.new err.new net.new)
+        ⊎ IsUnread result (seen H.Shelf S.Source K.Sink E.Sink N.Dialer N.shut_doors shelf.old input.old out.old err.old net.old)
+        (seen H.Shelf S.Source K.Sink E.Sink N.Dialer N.shut_doors shelf.new input.new out.new err.new net.new) }
 
     // Where the shelf tells the files, they make a program, and no count rose, it is run to its end, and all that it wrote
     // is put.
     ensures complete_run { (ask : Ask) (program : Bundle) → IsRun (map string_bytes words.now) ask
         → Holds (H.files shelf.old) ask.names (Ok program)
-        → NoneRose (seen H.Shelf S.Source K.Sink E.Sink N.Dialer N.Net shelf.old input.old out.old err.old net.old)
-        (seen H.Shelf S.Source K.Sink E.Sink N.Dialer N.Net shelf.new input.new out.new err.new net.new)
+        → NoneRose (seen H.Shelf S.Source K.Sink E.Sink N.Dialer N.shut_doors shelf.old input.old out.old err.old net.old)
+        (seen H.Shelf S.Source K.Sink E.Sink N.Dialer N.shut_doors shelf.new input.new out.new err.new net.new)
         → (result ≤ 199) ⊎ (result ≡ 255) ⊎ (result ≡ 209) }
     // Likewise the session is served whole, or what is no command is told.
     ensures complete_talk { (key : List ℕ) (ask : Ask) (program : Bundle) → IsTalk (map string_bytes words.now) key ask
         → Holds (H.files shelf.old) ask.names (Ok program)
-        → NoneRose (seen H.Shelf S.Source K.Sink E.Sink N.Dialer N.Net shelf.old input.old out.old err.old net.old)
-        (seen H.Shelf S.Source K.Sink E.Sink N.Dialer N.Net shelf.new input.new out.new err.new net.new)
+        → NoneRose (seen H.Shelf S.Source K.Sink E.Sink N.Dialer N.shut_doors shelf.old input.old out.old err.old net.old)
+        (seen H.Shelf S.Source K.Sink E.Sink N.Dialer N.shut_doors shelf.new input.new out.new err.new net.new)
         → (result ≤ 199) ⊎ (result ≡ 207) ⊎ (result ≡ 210) ⊎ (result ≡ 255) ⊎ (result ≡ 209) }
     // Likewise over a link that was dialled.
     ensures complete_engine { (address : Address) (key : List ℕ) (ask : Ask) (program : Bundle) → IsEngine (map string_bytes words.now) address key ask
         → Holds (H.files shelf.old) ask.names (Ok program)
-        → NoneRose (seen H.Shelf S.Source K.Sink E.Sink N.Dialer N.Net shelf.old input.old out.old err.old net.old)
-        (seen H.Shelf S.Source K.Sink E.Sink N.Dialer N.Net shelf.new input.new out.new err.new net.new)
+        → NoneRose (seen H.Shelf S.Source K.Sink E.Sink N.Dialer N.shut_doors shelf.old input.old out.old err.old net.old)
+        (seen H.Shelf S.Source K.Sink E.Sink N.Dialer N.shut_doors shelf.new input.new out.new err.new net.new)
         → (result ≤ 199) ⊎ (result ≡ 207) ⊎ (result ≡ 210) ⊎ (result ≡ 255) ⊎ (result ≡ 209) }
     // Where they make none, that is told, unless the shelf fails first.
     ensures refused { (task : Task) (ask : Ask) (why : BundleError) → Asks (map string_bytes words.now) task → ask_in task ≡ Some ask
@@ -98,8 +98,8 @@ pub fn top<R: Wait + Sync, H: Shelf, S: Source, K: Sink, E: Sink, N: Net, P: Spa
         → (result ≡ 201) ⊎ (result ≡ 209) ⊎ Rose (H.faults shelf.old) (H.faults shelf.new) }
     // Where no count rose, every packet is shown, or the input ended inside one, or what is no packet is told.
     ensures complete_show { Asks (map string_bytes words.now) Task.show
-        → NoneRose (seen H.Shelf S.Source K.Sink E.Sink N.Dialer N.Net shelf.old input.old out.old err.old net.old)
-        (seen H.Shelf S.Source K.Sink E.Sink N.Dialer N.Net shelf.new input.new out.new err.new net.new)
+        → NoneRose (seen H.Shelf S.Source K.Sink E.Sink N.Dialer N.shut_doors shelf.old input.old out.old err.old net.old)
+        (seen H.Shelf S.Source K.Sink E.Sink N.Dialer N.shut_doors shelf.new input.new out.new err.new net.new)
         → (result ≡ 0) ⊎ (result ≡ 206) ⊎ (result ≡ 207) ⊎ (result ≡ 209) }
 
     ensures show_shelf { Asks (map string_bytes words.now) Task.show → H.faults shelf.new ≡ H.faults shelf.old }
@@ -109,7 +109,7 @@ pub fn top<R: Wait + Sync, H: Shelf, S: Source, K: Sink, E: Sink, N: Net, P: Spa
     ensures files { H.files shelf.new ≡ H.files shelf.old }
     // The network is used by `engine` alone.
     ensures offline { (task : Task) → Asks (map string_bytes words.now) task → uses_net task ≡ false
-        → net_seen N.Dialer N.Net net.new ≡ net_seen N.Dialer N.Net net.old }
+        → net_seen N.Dialer N.shut_doors net.new ≡ net_seen N.Dialer N.shut_doors net.old }
     ensures net_later { N.faults net.old ≤ N.faults net.new }
     ensures returned_later { N.returned net.old ≤ N.returned net.new }
     ensures spawner { P.faults spawner.new ≡ P.faults spawner.old }
