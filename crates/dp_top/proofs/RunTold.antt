@@ -18,14 +18,11 @@ use Rattle.dp_run.specs.Runs.{of_program}
 use Rattle.dp_top.specs.declared.failures.Failure.{Failure}
 use Rattle.dp_top.specs.declared.failures.Failure.TheVariants.{NoFile}
 use Rattle.dp_top.specs.declared.failures.Refused.{Refused}
-use Rattle.dp_top.specs.CommandLine.{Ask}
+use Rattle.dp_words.specs.CommandLine.{Ask}
 use Rattle.dp_top.specs.Failures.{status_of}
 use Rattle.dp_top.specs.Runs.{IsFetched, failure_of, program_failure}
-use Rattle.dp_top.specs.inner.Held.{IsBadSource, IsHeld}
+use Rattle.dp_top.specs.inner.Held.{IsBadSource, IsGood, IsHeld}
 use Rattle.dp_top.specs.Sources.{failure_of as failure_of_source}
-
-abbrev pub IsGood : Failure → Type 0
-IsGood failure = (status_of failure ≢ 201) × (failure ≢ NoFile)
 
 good : (why : ProgramError) → is_bad_file why ≡ false → IsGood (program_failure why)
 good (none.Shelf file) h = ((λ e. omega (arith, e)), (λ e. cc))

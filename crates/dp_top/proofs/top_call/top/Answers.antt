@@ -1,7 +1,7 @@
 use Rattle.std.proofs.Common.{Err, inl, arith}
 use Rattle.dp_top.proofs.TaskLaws.{asks_fetched, fails_told, told_above, complete_show_fails, shows_well, asks_show, asks_program, refused_told, complete_run_told, complete_talk_told}
-use Rattle.dp_top.specs.CommandLine.{run, talk, show}
-use Rattle.dp_top.specs.inner.Commands.{task_of}
+use Rattle.dp_words.specs.CommandLine.{run, talk, show}
+use Rattle.dp_words.specs.Commands.{task_of}
 use Rattle.dp_top.proofs.top_call.top.Goals as goal
 
 pub returns-in-None-clause-complete_talk : goal.returns-in-None-clause-complete_talk
