@@ -1,7 +1,10 @@
 -- What serving a session over a dialled link came to decides the end of `engine`.
-use Rattle.std.proofs.Common.{◌≡◌, ℕ, List, Result, Ok, Err, refl, inl, inr}
+use Rattle.std.proofs.Common.{◌≡◌, ℕ, ◌+◌, ◌≤◌, List, [], ◌∷◌, None, Some, Result, Ok, Err, refl, ap, ◌∙◌, subst, inl, inr, arith}
 use Rattle.std.specs.Prelude.{MatchResult}
+use Rattle.dp_outside.specs.Causes.{Rose}
 use Rattle.dp_outside.specs.Changes.{Change}
+use Rattle.dp_outside.specs.Links.{CountsReturned, Link}
+use Rattle.dp_outside.specs.Telling.{grown}
 use Rattle.dp_tree.specs.declared.bundle.Bundle.{Bundle}
 use Rattle.dp_run.specs.declared.error.ProgramError.{ProgramError}
 use Rattle.dp_run.specs.Programs.{Make, NoProgram}
@@ -10,11 +13,46 @@ use Rattle.dp_top.specs.declared.failures.Failure.TheVariants as failure
 use Rattle.dp_top.specs.declared.failures.Refused.{Refused}
 use Rattle.dp_words.specs.CommandLine.{Address, Ask}
 use Rattle.dp_top.specs.Engine.{Engages, EngineFails, IsApart, IsIdle}
-use Rattle.dp_top.specs.Links.{IsDialled}
+use Rattle.dp_top.specs.Links.{IsDialled, IsUndialled, dial_of}
 use Rattle.dp_top.specs.Runs.{IsProgramTold}
 use Rattle.dp_top.specs.Seen.{Net, Seen, changed}
 use Rattle.dp_top.specs.inner.Dialled.{EngagedSo, UnengagedSo}
 use Rattle.dp_top.specs.inner.Sessions.{ServedSo, UnservedSo}
+
+-- the address of this host, and the port of another
+abbrev at_host : List ℕ → Address → Address
+at_host host address = record { host = host; port = address.port }
+
+-- a dial that failed
+pub not_given : (address : Address) (host : List ℕ) (old new : Net) → host ≡ address.host
+    → new.dials ≡ grown old.dials (dial_of (at_host host address) None ∷ []) → new.retired ≡ old.retired → Rose old.faults new.faults
+    → new.returned ≡ old.returned → IsUndialled address old new
+not_given address host old new same dialled retired rose returned = record {
+  dialled = dialled ∙ ap (λ (h : List ℕ). grown old.dials (dial_of (at_host h address) None ∷ [])) same;
+  retired = retired;
+  faults = rose;
+  returned = returned;
+}
+
+-- a dial that gave a link, which came back
+pub taken_back : (address : Address) (host : List ℕ) (given back : Link) (first source last sink : ℕ) (old over new : Net) → host ≡ address.host → first ≡ 0 → last ≡ 0
+    → over.dials ≡ grown old.dials (dial_of (at_host host address) (Some given) ∷ []) → over.retired ≡ old.retired → old.faults ≤ over.faults
+    → over.returned ≡ old.returned → new.dials ≡ over.dials → new.retired ≡ grown over.retired (back ∷ []) → new.faults ≡ over.faults
+    → CountsReturned (source + sink) over.returned new.returned
+    → IsDialled address (record { told_before = given.left; told = back.left; faults_before = first; faults = source })
+    (record { told_before = given.taken; told = back.taken; faults_before = last; faults = sink }) old new
+taken_back address host given back first source last sink old over new same none nothing dials kept later returned told came stays counts = record {
+  given = given;
+  back = back;
+  used = record {
+    source_is = λ i. record { told_before = given.left; told = back.left; faults_before = none i; faults = source };
+    sink_is = λ i. record { told_before = given.taken; told = back.taken; faults_before = nothing i; faults = sink };
+  };
+  dialled = told ∙ dials ∙ ap (λ (h : List ℕ). grown old.dials (dial_of (at_host h address) (Some given) ∷ [])) same;
+  retired = came ∙ ap (λ r. grown r (back ∷ [])) kept;
+  faults = omega (arith, later, stays);
+  returned = subst (λ (n : ℕ). CountsReturned (source + sink) n new.returned) returned counts;
+}
 
 pub served_over : (program : Bundle) (address : Address) (key : List ℕ) (ask : Ask) (source sink out : Change) (old new : Net) → IsDialled address source sink old new
     → (result : Result ℕ Refused)

@@ -1,6 +1,6 @@
 -- A link over the network that a command used, by what the network tells: how it was given, and how
 -- it came back.
-use Rattle.std.specs.Prelude.{◌≡◌, ℕ, ◌+◌, List, [], ◌∷◌, Option, None, Some}
+use Rattle.std.specs.Prelude.{◌≡◌, ℕ, ◌+◌, ◌≤◌, List, [], ◌∷◌, Option, None, Some}
 use Rattle.dp_outside.specs.Causes.{Rose}
 use Rattle.dp_outside.specs.Changes.{Change}
 use Rattle.dp_outside.specs.Links.{CountsReturned, Dial, Link}
@@ -29,7 +29,7 @@ pub record IsDialled (address : Address) (source sink : Change) (old new : Net) 
   pub used : IsUsed given back source sink
   pub dialled : new.dials ≡ grown old.dials (dial_of address (Some given) ∷ [])
   pub retired : new.retired ≡ grown old.retired (back ∷ [])
-  pub faults : new.faults ≡ old.faults
+  pub faults : old.faults ≤ new.faults
   pub returned : CountsReturned (source.faults + sink.faults) old.returned new.returned
 
 -- One dial, of this address, failed.

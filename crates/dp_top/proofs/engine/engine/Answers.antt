@@ -8,7 +8,7 @@ use Rattle.dp_top.proofs.EngineLaws.{none_engaged, program_engaged}
 use Rattle.dp_top.proofs.engine.engine.Goals as goal
 
 pub fetch_program-requires : goal.fetch_program-requires
-fetch_program-requires g c = names_of c.args.request.talk.program.files.now c.requires.files
+fetch_program-requires g c = names_of c.args.request.talk.program.files.now c.requires.session.files
 
 pub returns-in-Ok-clause-ends : goal.returns-in-Ok-clause-ends
 returns-in-Ok-clause-ends g c = rw (← c.objects.view_is)
