@@ -1,5 +1,5 @@
 -- What serving a session over a dialled link came to decides the end of `engine`.
-use Rattle.std.proofs.Common.{◌≡◌, ℕ, ◌+◌, ◌≤◌, List, [], ◌∷◌, None, Some, Result, Ok, Err, refl, ap, ◌∙◌, subst, inl, inr, arith}
+use Rattle.std.proofs.Common.{◌≡◌, ℕ, ◌+◌, ◌≤◌, List, [], ◌∷◌, None, Some, Result, Ok, Err, ap, ◌∙◌, subst, inl, inr, arith}
 use Rattle.std.specs.Prelude.{MatchResult}
 use Rattle.dp_outside.specs.Causes.{Rose}
 use Rattle.dp_outside.specs.Changes.{Change}
@@ -8,7 +8,6 @@ use Rattle.dp_outside.specs.Telling.{grown}
 use Rattle.dp_tree.specs.declared.bundle.Bundle.{Bundle}
 use Rattle.dp_run.specs.declared.error.ProgramError.{ProgramError}
 use Rattle.dp_run.specs.Programs.{Make, NoProgram}
-use Rattle.dp_top.specs.declared.failures.Failure.{Failure}
 use Rattle.dp_top.specs.declared.failures.Failure.TheVariants as failure
 use Rattle.dp_top.specs.declared.failures.Refused.{Refused}
 use Rattle.dp_words.specs.CommandLine.{Address, Ask}
@@ -63,14 +62,17 @@ pub served_over : (program : Bundle) (address : Address) (key : List ℕ) (ask :
 served_over program address key ask source sink out old new dialled (Ok status) h =
     record { served = h.served; source = source; sink = sink; dialled = dialled; serves = h.serves; told = h.told }
 served_over program address key ask source sink out old new dialled (Err why) (inl memory) =
-    inl (memory.0, record {
-      source = source;
-      sink = sink;
-      source_stays = memory.1.input_stays;
-      sink_stays = memory.1.out_stays;
-      dialled = dialled;
-      out_stays = memory.1.err_stays;
-    })
+    inl (
+      memory.0,
+      record {
+        source = source;
+        sink = sink;
+        source_stays = memory.1.input_stays;
+        sink_stays = memory.1.out_stays;
+        dialled = dialled;
+        out_stays = memory.1.err_stays;
+      },
+    )
 served_over program address key ask source sink out old new dialled (Err why) (inr h) =
     inr (inr (record { served = h.served; source = source; sink = sink; dialled = dialled; serves = h.serves; told = h.told }))
 
@@ -84,15 +86,18 @@ module _ (address : Address) (key : List ℕ) (ask : Ask) (old new : Seen) (apar
     is = record { program = program; made = made; source = h.source; sink = h.sink; dialled = h.dialled; serves = h.serves; apart = apart };
     told = h.told;
   }
-  program_engaged program made (Err why) (inl memory) = inl (memory.0, inr (inl (record {
-    source = memory.1.source;
-    sink = memory.1.sink;
-    source_stays = memory.1.source_stays;
-    sink_stays = memory.1.sink_stays;
-    dialled = memory.1.dialled;
-    out = memory.1.out_stays;
-    apart = apart;
-  })))
+  program_engaged program made (Err why) (inl memory) = inl (
+    memory.0,
+    inr (inl (record {
+      source = memory.1.source;
+      sink = memory.1.sink;
+      source_stays = memory.1.source_stays;
+      sink_stays = memory.1.sink_stays;
+      dialled = memory.1.dialled;
+      out = memory.1.out_stays;
+      apart = apart;
+    })),
+  )
   program_engaged program made (Err why) (inr (inl none)) =
       inr (inr (inl (none.is_why, none.is_name, record { program = program; made = made; undialled = none.undialled; out = none.out_stays; apart = apart })))
   program_engaged program made (Err why) (inr (inr h)) = inr (inr (inr (record {

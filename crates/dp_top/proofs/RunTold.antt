@@ -1,5 +1,5 @@
 -- What is told of files and of the end of a run, by what the files are.
-use Rattle.std.proofs.Common.{◌≡◌, ◌≢◌, ℕ, ◌+◌, false, List, Result, Ok, Err, length, take, refl, sym, ap, ◌∙◌, subst, inl, inr, arith}
+use Rattle.std.proofs.Common.{◌≡◌, ℕ, ◌+◌, false, List, Result, Ok, Err, length, take, refl, sym, ap, ◌∙◌, subst, inl, inr, arith}
 use Rattle.std.specs.Prelude.{⊤, Option, None, Some}
 use Rattle.std.proofs.lemmas.List.{take_all}
 use Rattle.dp_outside.specs.Telling.{grown}
@@ -16,11 +16,8 @@ use Rattle.dp_run.specs.declared.error.RunError.{RunError}
 use Rattle.dp_run.specs.declared.error.RunError.TheVariants as run
 use Rattle.dp_run.specs.Programs.{Asks, IsHeld as IsRunHeld, Told, is_bad_file, refusal}
 use Rattle.dp_run.specs.Runs.{of_program}
-use Rattle.dp_top.specs.declared.failures.Failure.{Failure}
-use Rattle.dp_top.specs.declared.failures.Failure.TheVariants.{NoFile}
 use Rattle.dp_top.specs.declared.failures.Refused.{Refused}
 use Rattle.dp_words.specs.CommandLine.{Ask}
-use Rattle.dp_top.specs.Failures.{status_of}
 use Rattle.dp_top.specs.Runs.{IsFetched, failure_of, program_failure}
 use Rattle.dp_top.specs.inner.Held.{IsBadSource, IsGood, IsHeld}
 use Rattle.dp_top.specs.Sources.{failure_of as failure_of_source}

@@ -1,5 +1,5 @@
 -- What serving a session came to decides the end of `talk`.
-use Rattle.std.proofs.Common.{◌≡◌, ◌≤◌, ℕ, List, [], ◌∷◌, map, Option, None, Some, Result, Ok, Err, refl, sym, ap, ◌∙◌, subst, inl, inr, arith, String, string_bytes, Global}
+use Rattle.std.proofs.Common.{◌≡◌, ◌≤◌, ℕ, List, [], map, Option, None, Some, Result, Ok, Err, refl, sym, ap, ◌∙◌, subst, inl, inr, arith, String, string_bytes, Global}
 use Rattle.std.specs.Prelude.{IfOk, IfErr, MatchResult}
 use Rattle.dp_outside.specs.Changes.{Change}
 use Rattle.dp_tree.specs.declared.bundle.Bundle.{Bundle}

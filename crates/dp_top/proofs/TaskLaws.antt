@@ -1,5 +1,5 @@
 -- The answers of the call: what the words ask for, why it failed, and what is told of it.
-use Rattle.std.proofs.Common.{◌≡◌, ◌⊎◌, ℕ, ◌<◌, ◌≤◌, List, Option, None, Some, Result, Ok, Err, refl, sym, ap, ◌∙◌, subst, arith, inl, inr, ⊎_elim, codes, [], ◌∷◌, zero, suc, ◌+◌, false, get_or, drop}
+use Rattle.std.proofs.Common.{◌≡◌, ◌⊎◌, ℕ, ◌<◌, ◌≤◌, List, Option, None, Some, Ok, Err, refl, sym, ap, ◌∙◌, subst, arith, inl, inr, ⊎_elim, codes, [], ◌∷◌, zero, suc, ◌+◌, false, get_or, drop}
 use Rattle.dp_outside.specs.Causes.{Rose}
 use Rattle.dp_outside.specs.Changes.{Change}
 use Rattle.dp_show.specs.declared.error.ShowError.{ShowError}
@@ -9,7 +9,6 @@ use Rattle.dp_show.proofs.ShowLaws.{cut_of}
 use Rattle.dp_top.specs.declared.failures.Failure.{Failure}
 use Rattle.dp_top.specs.declared.failures.Failure.TheVariants as failure
 use Rattle.dp_tree.specs.declared.bundle.Bundle.{Bundle}
-use Rattle.dp_bundle.specs.declared.errors.BundleError.{BundleError}
 use Rattle.dp_engine.specs.declared.serving.ServeEnd.{ServeEnd}
 use Rattle.dp_engine.specs.declared.serving.ServeEnd.TheVariants as serve
 use Rattle.dp_engine.specs.Serving.{CutBy, EndsBy, IsCut, ServesTo}
@@ -96,7 +95,7 @@ one_task words (engine address key ask) (engine other k asked) p q =
     let ports : Some address.port ≡ Some other.port =
     sym p.dials.port ∙ ap (λ (o : Option Ask). port_of (word_at 1 (names_in o))) same ∙ q.dials.port in
     λ i. engine (record { host = word_at 0 (names_in (same i)); port = number_in (ports i) }) (word_at 2 (names_in (same i)))
-        (record { bound = bound_in (same i); names = drop 3 (names_in (same i)) })
+    (record { bound = bound_in (same i); names = drop 3 (names_in (same i)) })
 one_task words show show p q = refl
 one_task words (run ask) (talk k other) p q = absurd (omega (arith, apart words (run ask) (talk k other) p q))
 one_task words (run ask) (engine a k other) p q = absurd (omega (arith, apart words (run ask) (engine a k other) p q))

@@ -8,7 +8,6 @@ ghost use Rattle.dp_top.specs.inner.Kept.{Continues, GoesOn};
 ghost use Rattle.dp_top.specs.Seen.{seen};
 ghost use Rattle.dp_top.specs.Tasks.{failure_of, Does, Caused};
 
-use dp_words::Command;
 use crate::engine::engine;
 use crate::failures::{Failure, Refused};
 use crate::objects::Objects;
@@ -16,6 +15,7 @@ use crate::run::run;
 use crate::talk::talk;
 use dp_outside::{Net, Shelf, Sink, Source};
 use dp_show::{ShowError, show};
+use dp_words::Command;
 use std::alloc::Global;
 
 /// The failure that an end of `show` is.

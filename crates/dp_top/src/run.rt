@@ -10,10 +10,10 @@ ghost use Rattle.dp_words.specs.Commands.{ask_told};
 ghost use Rattle.dp_top.specs.Runs.{IsFetched, IsProgramTold, IsRunTold, failure_of, name_at as name_in, name_told, program_failure, program_name, RunFails};
 ghost use Rattle.dp_top.specs.inner.Held.{IsHeld};
 
-use dp_words::Program;
 use crate::failures::{Failure, Refused, refusal};
 use dp_outside::{Shelf, Sink};
 use dp_run::{ProgramError, RunError};
+use dp_words::Program;
 use std::alloc::Global;
 
 /// The name of the file of this number.

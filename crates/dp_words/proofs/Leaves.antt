@@ -347,7 +347,9 @@ some_refused k more rest = refl
 
 pub alone_refused : (name v : Text) (vs : List Text) → is_plain v ≡ true → (more : Kinds) × (fault (alone name) (v ∷ vs) ≡ kind.UnknownArgument ∷ more)
 unfolding walk_fault
-alone_refused name v vs h =
-    ([], ap (λ (k : Kinds). or_else (or_else k (walk_fault (alone name) [] (walked (alone name).rules [] start v) vs))
-    (tail_fault (alone name) (walk (alone name).rules [] nothing_held (v ∷ vs)).held))
-    (ap₂ or_else (no_flag (alone name) v start.held (plain_is v h)) (ap (fault_met (alone name)) (met [] idle v start.held (plain_is v h)))))
+alone_refused name v vs h = (
+  [],
+  ap (λ (k : Kinds). or_else (or_else k (walk_fault (alone name) [] (walked (alone name).rules [] start v) vs))
+      (tail_fault (alone name) (walk (alone name).rules [] nothing_held (v ∷ vs)).held))
+      (ap₂ or_else (no_flag (alone name) v start.held (plain_is v h)) (ap (fault_met (alone name)) (met [] idle v start.held (plain_is v h)))),
+)

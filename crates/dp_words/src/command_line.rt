@@ -211,7 +211,12 @@ fn address_of<'a>(host: &'a str, port: &str) -> Option<Address<'a>>
 }
 
 /// The session of a key over a program, and where its IDE waits.
-fn engine_of<'a>(host: &'a str, port: &str, key: &'a str, program: Program<'a>) -> Option<Engine<'a>>
+fn engine_of<'a>(
+    host: &'a str,
+    port: &str,
+    key: &'a str,
+    program: Program<'a>,
+) -> Option<Engine<'a>>
     ensures found { IfSome result (λ e. (e.address.host.now ≡ host.now) × IsHostWord host.now × (port_of port.now ≡ Some e.address.port)
         × (e.talk.key.now ≡ key.now) × (ask_told e.talk.program ≡ ask_told program.entry) × IsSession key.now (ask_told program.entry)) }
     ensures none { IfNone result (IsHostWord host.now → (n : ℕ) → port_of port.now ≡ Some n → IsSession key.now (ask_told program.entry) → ⊥) }

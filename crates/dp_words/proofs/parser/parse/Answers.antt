@@ -30,6 +30,6 @@ returns-in-Err-clause-none c = λ none task asks.
     let app = c.in_ok-program.ensures in
     let kinds = c.in-Err.ensures.kinds (ap is_simple_and_free app ∙ free) in
     ⊎_elim (λ (r : IsRead words).
-        let among : HasKind [] c.in-Err.why = subst (λ (k : Kinds). HasKind k c.in-Err.why) (ap (λ (a : App). fault_of a words) app ∙ r.0) kinds in
-        ⊎_elim (λ out. (rw none at c.refused.ensures).1 out) (λ f. f) among)
+    let among : HasKind [] c.in-Err.why = subst (λ (k : Kinds). HasKind k c.in-Err.why) (ap (λ (a : App). fault_of a words) app ∙ r.0) kinds in
+    ⊎_elim (λ out. (rw none at c.refused.ensures).1 out) (λ f. f) among)
     (λ (u : IsUnread words). u.1 task asks) (reads words c.requires.plain small)
