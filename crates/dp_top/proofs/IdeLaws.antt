@@ -1,5 +1,5 @@
 -- What playing a script over a link came to decides the end of `ide`.
-use Rattle.std.proofs.Common.{◌≡◌, ◌≢◌, ◌⊎◌, inl, inr, ℕ, zero, suc, ◌+◌, ◌<◌, ◌≤◌, List, [], ◌∷◌, ◌++◌, length, take, Option, None, Some, IsSome, Result, Ok, Err, refl, sym, ap, ◌∙◌, subst, arith}
+use Rattle.std.proofs.Common.{◌≡◌, ◌⊎◌, inl, inr, ℕ, ◌+◌, ◌<◌, ◌≤◌, List, [], ◌∷◌, ◌++◌, length, take, Option, None, Some, IsSome, Result, Ok, Err, refl, sym, ap, ◌∙◌, subst, arith}
 use Rattle.std.specs.Prelude.{MatchResult, IfOk, IfErr}
 use Rattle.dp_outside.specs.Causes.{Rose}
 use Rattle.dp_outside.specs.Changes.{Change, IsUntouched}
@@ -11,18 +11,18 @@ use Rattle.dp_ide.specs.declared.error.IdeError.{IdeError}
 use Rattle.dp_ide.specs.declared.error.IdeError.TheVariants as ends
 use Rattle.dp_ide.specs.declared.instruction.Instruction.{Instruction}
 use Rattle.dp_ide.specs.Plays.{Ends, EndsPlaying, EndsWaiting}
-use Rattle.dp_ide.specs.Scripts.{IsFirstBad, IsScript}
+use Rattle.dp_ide.specs.Scripts.{IsFirstBad}
 use Rattle.dp_ide.proofs.LineLaws.{no_bad}
 use Rattle.dp_top.specs.declared.failures.Failure.{Failure}
 use Rattle.dp_top.specs.declared.failures.Failure.TheVariants as failure
 use Rattle.dp_top.specs.declared.failures.Refused.{Refused}
 use Rattle.dp_top.specs.Engine.{IsApart, IsIdle}
 use Rattle.dp_top.specs.Failures.{status_of}
-use Rattle.dp_top.specs.Ide.{EndsSo, IdeFails, IsBadAt, IsHeldScript, IsNoScript, IsPlayed, IsUnmet, Plays, Unread, failure_of, script_limit}
-use Rattle.dp_top.specs.Links.{IsAccepted, IsGated, IsUncalled, IsUsed, Tells}
+use Rattle.dp_top.specs.Ide.{IdeFails, IsBadAt, IsHeldScript, IsNoScript, IsPlayed, Plays, Unread, failure_of, script_limit}
+use Rattle.dp_top.specs.Links.{IsAccepted, IsGated, IsUncalled, Tells}
 use Rattle.dp_top.specs.Seen.{Net, NoneRose, Seen, changed}
 use Rattle.dp_top.specs.Tasks.{Caused, Does}
-use Rattle.dp_top.specs.inner.Gated.{Called, DoorSeen, GatedSo, IsBadScript, IsToldBy, IsWholeScript, MetSo, NoCall, PlayedSo, UnreadSo}
+use Rattle.dp_top.specs.inner.Gated.{Called, DoorSeen, GatedSo, IsBadScript, IsToldBy, MetSo, NoCall, PlayedSo, UnreadSo}
 use Rattle.dp_top.proofs.TaskLaws.{one_task, returned_rose}
 use Rattle.dp_words.specs.CommandLine.{Asks, IsIde, Task, ide}
 
