@@ -31,7 +31,8 @@ fn admit_all(registry: &mut Registry, count: u64) {
     }
 }
 
-/// Asks for a session and for another. Where the registry is full then, the former ends, and one is asked for again.
+/// Asks for a session and for another. Where the registry is full then, the former ends, and one is asked
+/// for again.
 fn admit_three(registry: &mut Registry, text: &mut String) -> Result<(), Memory> {
     let first = registry.admit(b"A".as_slice());
     put_answer(text, &first)?;
@@ -47,7 +48,8 @@ fn admit_three(registry: &mut Registry, text: &mut String) -> Result<(), Memory>
     Ok(())
 }
 
-/// What engines are answered that come once so many sessions are live under one key, and how many entries there are then.
+/// What engines are answered that come once so many sessions are live under one key, and how many entries
+/// there are then.
 pub(crate) fn told_full(alloc: Global, input: &[u8]) -> Result<String, Memory> {
     let mut registry = Registry::new(alloc);
     let mut text = String::new(alloc);
