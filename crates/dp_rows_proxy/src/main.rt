@@ -1,4 +1,4 @@
-//! The rows of calls of the proxy's parts: event lists, lanes, what an IDE asks, the keys of engines, the registry. Makes
+//! The rows of calls of the proxy's parts: event lists, lanes, what an IDE asks, keys of engines, the registry. Makes
 //! each call, and prints for each file of rows how many there are and each that differs.
 #![tactic(auto)]
 
