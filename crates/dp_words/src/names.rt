@@ -5,13 +5,13 @@ ghost use Rattle.std.specs.List.{list_all};
 ghost use Rattle.std.specs.Str.{bytes_eq};
 ghost use Rattle.dp_value.specs.Names.{without_slash as bare};
 ghost use Rattle.dp_wire.specs.Frames.{has_no_nul};
-ghost use Rattle.dp_top.specs.CommandLine.{AreFileWords, IsFileName, IsFileWord, are_apart as all_apart, is_option};
+ghost use Rattle.dp_words.specs.CommandLine.{AreFileWords, IsFileName, IsFileWord, are_apart as all_apart, is_option};
 
 use dp_tree::{FILE_COUNT_LIMIT, FILE_NAME_LIMIT};
 use dp_value::are_alike;
 
 /// Whether the bytes are the name of a file.
-pub fn is_file_name(name: &[u8]) -> bool
+pub(crate) fn is_file_name(name: &[u8]) -> bool
     ensures { IsTrue result ↔ IsFileName name.now }
 {
     if name.is_empty() {
@@ -30,7 +30,7 @@ fn are_no_nul(name: &[u8]) -> bool
 }
 
 /// Whether a word asks for an option: it begins with `-`.
-pub fn is_option(word: &[u8]) -> bool
+pub(crate) fn is_option(word: &[u8]) -> bool
     ensures { result ≡ is_option word.now }
 {
     match word {
@@ -80,7 +80,7 @@ fn are_apart(names: &[String]) -> bool
 
 /// Whether words are the names of a program's files.
 #[tactic(auto, using(crate::proofs::NameLaws::files_if, crate::proofs::NameLaws::files_some, crate::proofs::NameLaws::files_few, crate::proofs::NameLaws::files_named))]
-pub fn are_files(words: &[String]) -> bool
+pub(crate) fn are_files(words: &[String]) -> bool
     ensures { IsTrue result ↔ AreFileWords (map string_bytes words.now) }
 {
     if words.is_empty() {

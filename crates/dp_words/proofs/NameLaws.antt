@@ -10,7 +10,8 @@ use Rattle.std.proofs.lemmas.Str.{IsUtf8-string_bytes}
 use Rattle.dp_value.specs.Names.{without_slash}
 use Rattle.dp_tree.specs.FileNames.{AreFileNames}
 use Rattle.dp_wire.specs.Frames.{has_no_nul}
-use Rattle.dp_top.specs.CommandLine.{AreFileWords, IsFileWord, are_apart}
+use Rattle.dp_words.specs.CommandLine.{AreFileWords, IsFileWord, are_apart}
+use Rattle.dp_words.specs.inner.Plain.{is_plain}
 
 -- a name and others
 pub apart_cons : (name : String Global) (others : List (String Global)) →
@@ -113,3 +114,7 @@ one_named words i item bytes before more same spelled tells =
 
 pub all_named : (words : List (String Global)) (i : ℕ) → All IsNamed (take i words) → length words ≤ i → (IsTrue true → All IsNamed words) × (All IsNamed words → IsTrue true)
 all_named words i all over = ((λ _. subst (All IsNamed) (take_all i words over) all), (λ _. refl))
+
+-- words that are plain, as the strings that hold them
+pub plain_map : (words : List (String Global)) → list_all is_plain (map string_bytes words) ≡ list_all (λ word. is_plain (string_bytes word)) words
+plain_map words = list_all-map is_plain string_bytes words

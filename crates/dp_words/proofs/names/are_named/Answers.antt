@@ -1,5 +1,5 @@
-use Rattle.dp_top.proofs.NameLaws.{all_named, one_named}
-use Rattle.dp_top.proofs.names.are_named.Goals as goal
+use Rattle.dp_words.proofs.NameLaws.{all_named, one_named}
+use Rattle.dp_words.proofs.names.are_named.Goals as goal
 
 pub loop-word-preserved : goal.loop-word-preserved
 loop-word-preserved c =

@@ -3,6 +3,7 @@ use Rattle.std.specs.Prelude.{◌≡◌, ℕ, zero, suc, ◌≤◌, nat_le, Bool
 use Rattle.std.specs.List.{list_all}
 use Rattle.std.specs.Str.{bytes_eq}
 use Rattle.dp_tree.specs.FileNames.{file_count_limit, file_name_limit}
+use Rattle.dp_outside.specs.Hosts.{IsHost}
 use Rattle.dp_value.specs.Names.{without_slash}
 use Rattle.dp_value.specs.Decimals.{decimal_in}
 use Rattle.dp_wire.specs.Frames.{has_no_nul}
@@ -110,21 +111,63 @@ pub record IsTalk (words : List (List ℕ)) (key : List ℕ) (ask : Ask) : Type 
   pub words_are : words ≡ codes "talk" ∷ behind
   pub speaks : Speaks behind key ask
 
+-- a word that is the name or address of a machine, and asks for no option
+pub record IsHostWord (word : List ℕ) : Type 0 where
+  pub is_host : IsHost word
+  pub is_none : is_option word ≡ false
+
+abbrev pub port_limit : ℕ
+port_limit = 65535
+
+-- the port that a word is: a decimal from 1 to the most
+abbrev pub port_of : List ℕ → Option ℕ
+port_of word = not_zero (decimal_in port_limit word)
+
+-- where an IDE waits for an engine
+pub record Address : Type 0 where
+  pub host : List ℕ
+  pub port : ℕ
+
+-- what stands behind `engine`
+pub record Dials (words : List (List ℕ)) (address : Address) (key : List ℕ) (ask : Ask)
+    : Type 0 where
+  pub number : List ℕ
+  pub asked : ask_of words
+      ≡ Some (record { bound = ask.bound; names = address.host ∷ number ∷ key ∷ ask.names })
+  pub host : IsHostWord address.host
+  pub port : port_of number ≡ Some address.port
+  pub session : IsSession key ask
+
+-- the words are `engine [--bound N] HOST PORT KEY FILE..`
+pub record IsEngine (words : List (List ℕ)) (address : Address) (key : List ℕ) (ask : Ask)
+    : Type 0 where
+  pub behind : List (List ℕ)
+  pub words_are : words ≡ codes "engine" ∷ behind
+  pub dials : Dials behind address key ask
+
 -- ---- what is asked for
 
 pub data Task : Type 0 where
   run : Ask → Task
   talk : (key : List ℕ) → Ask → Task
+  engine : Address → (key : List ℕ) → Ask → Task
   show : Task
 
 -- the words ask for this
 abbrev pub Asks : List (List ℕ) → Task → Type 0
 Asks words (run ask) = IsRun words ask
 Asks words (talk key ask) = IsTalk words key ask
+Asks words (engine address key ask) = IsEngine words address key ask
 Asks words show = words ≡ codes "show" ∷ []
 
 -- the program that it is for, where it is for one
 abbrev pub ask_in : Task → Option Ask
 ask_in (run ask) = Some ask
 ask_in (talk key ask) = Some ask
+ask_in (engine address key ask) = Some ask
 ask_in show = None
+
+-- whether it is done over the network
+abbrev pub uses_net : Task → Bool
+uses_net (engine address key ask) = true
+uses_net task = false

@@ -1,0 +1,40 @@
+-- A link over the network that a command used, by what the network tells: how it was given, and how
+-- it came back.
+use Rattle.std.specs.Prelude.{◌≡◌, ℕ, ◌+◌, ◌≤◌, List, [], ◌∷◌, Option, None, Some}
+use Rattle.dp_outside.specs.Causes.{Rose}
+use Rattle.dp_outside.specs.Changes.{Change}
+use Rattle.dp_outside.specs.Links.{CountsReturned, Dial, Link}
+use Rattle.dp_outside.specs.Telling.{grown}
+use Rattle.dp_words.specs.CommandLine.{Address}
+use Rattle.dp_top.specs.Seen.{Net}
+
+-- what became of a source or a sink that began with no fault
+abbrev pub between : Option (List ℕ) → Option (List ℕ) → ℕ → Change
+between given back faults =
+    record { told_before = given; told = back; faults_before = 0; faults = faults }
+
+-- the link told this when it was given and that when it came back; its source and its sink had
+-- failed so often
+pub record IsUsed (given back : Link) (source sink : Change) : Type 0 where
+  pub source_is : source ≡ between given.left back.left source.faults
+  pub sink_is : sink ≡ between given.taken back.taken sink.faults
+
+abbrev pub dial_of : Address → Option Link → Dial
+dial_of address made = record { host = address.host; port = address.port; made = made }
+
+-- One dial, of this address, gave the link, and it came back.
+pub record IsDialled (address : Address) (source sink : Change) (old new : Net) : Type 0 where
+  pub given : Link
+  pub back : Link
+  pub used : IsUsed given back source sink
+  pub dialled : new.dials ≡ grown old.dials (dial_of address (Some given) ∷ [])
+  pub retired : new.retired ≡ grown old.retired (back ∷ [])
+  pub faults : old.faults ≤ new.faults
+  pub returned : CountsReturned (source.faults + sink.faults) old.returned new.returned
+
+-- One dial, of this address, failed.
+pub record IsUndialled (address : Address) (old new : Net) : Type 0 where
+  pub dialled : new.dials ≡ grown old.dials (dial_of address None ∷ [])
+  pub retired : new.retired ≡ old.retired
+  pub faults : Rose old.faults new.faults
+  pub returned : new.returned ≡ old.returned
