@@ -1,9 +1,9 @@
-mod ActLaws
-mod ActsPlayed
-mod AwaitLaws
-mod EndLaws
-mod LineLaws
-mod OpenLaws
-mod PlaceLaws
-mod PlayLaws
-mod TextLaws
+pub mod ActLaws
+pub mod ActsPlayed
+pub mod AwaitLaws
+pub mod EndLaws
+pub mod LineLaws
+pub mod OpenLaws
+pub mod PlaceLaws
+pub mod PlayLaws
+pub mod TextLaws
