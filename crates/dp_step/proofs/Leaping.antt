@@ -1,5 +1,5 @@
 -- A machine that nothing stops comes to the end of its program.
-use Rattle.std.proofs.Common.{◌≡◌, ℕ, zero, suc, ◌+◌, ◌-◌, ◌≤◌, Bool, true, false, List, [], length, Option, Some, None, Ok, Err, refl, sym, ap, ◌∙◌, subst, arith}
+use Rattle.std.proofs.Common.{◌≡◌, ℕ, zero, suc, ◌+◌, ◌-◌, ◌<◌, ◌≤◌, Bool, true, false, List, [], ◌∷◌, length, Option, Some, None, Result, Ok, Err, refl, sym, ap, ◌∙◌, subst, arith}
 use Rattle.std.proofs.lemmas.Bool.{le-ltb, lt-ltb}
 use Rattle.std.proofs.lemmas.Option.{slice_get_within}
 use Rattle.std.specs.Prelude.{if◌then◌else◌, nat_lt}
@@ -9,6 +9,7 @@ use Rattle.dp_state.specs.declared.moments.MomentKind.{MomentKind}
 use Rattle.dp_state.specs.declared.moments.Outcome.{Outcome}
 use Rattle.dp_state.specs.declared.moments.Outcome.TheVariants as way
 use Rattle.dp_state.specs.declared.state.State.{State}
+use Rattle.dp_actions.specs.declared.halt.Halt.{Halt}
 use Rattle.dp_actions.specs.declared.halt.Halt.TheVariants as halt
 use Rattle.dp_actions.specs.declared.signal.Signal.{Signal}
 use Rattle.dp_actions.specs.Expressions.{evaluations}
@@ -37,7 +38,7 @@ use Rattle.dp_step.specs.declared.work.Head.{Head}
 use Rattle.dp_step.specs.declared.work.Turns.{Turns}
 use Rattle.dp_step.specs.declared.work.Hand.TheVariants as hand
 use Rattle.dp_step.specs.inner.Leaps.{HasRun, Leaps, LeapsBy, RunsOut, driven, part_with}
-use Rattle.dp_step.specs.inner.Moves.{Comes, Goes, IsOver, follows_of, rest_with, setting_at}
+use Rattle.dp_step.specs.inner.Moves.{Arrives, Comes, Goes, IsOver, follows_of, rest_with, setting_at}
 use Rattle.dp_step.specs.Rest.{after_of, tests_of}
 use Rattle.dp_step.specs.Stands.{NoneAbove, StandsFor, rest_of}
 use Rattle.dp_step.proofs.Smalls.{rest-by}
