@@ -1,0 +1,2 @@
+-- What only the proof of a replay speaks of. No public clause cites these.
+pub mod Standing

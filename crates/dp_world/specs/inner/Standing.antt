@@ -1,0 +1,32 @@
+-- What an engine in memory stands for.
+use Rattle.std.specs.Prelude.{◌≡◌, ℕ, ◌≤◌, List, length, take, flat_map}
+use Rattle.dp_tree.specs.declared.bundle.Bundle.{Bundle}
+use Rattle.dp_engine.specs.Served.{alone_with, answers_to}
+use Rattle.dp_wire.specs.Frames.{command_frame, commands_in, packet_frame, packets_in}
+use Rattle.dp_lanes.specs.declared.lane.LaneKind.TheVariants.{Up, Down}
+use Rattle.dp_proxy.specs.declared.events.Act.{Act}
+use Rattle.dp_proxy.specs.Links.{stream}
+use Rattle.dp_world.specs.declared.engine.Engine.{Engine}
+
+-- it has taken these commands
+pub record Serves (bundle : Bundle) (bound : ℕ) (key : List ℕ) (lines : List (List ℕ))
+    (engine : Engine) : Type 0 where
+  pub sent : engine.sent.items ≡ alone_with bundle bound key lines
+  pub own : engine.own.items ≡ (answers_to bundle bound lines).program
+  pub session : engine.session ≡ (answers_to bundle bound lines).state
+  pub ended : engine.ended ≡ (answers_to bundle bound lines).ended
+  pub given : engine.given.items ≡ flat_map command_frame lines
+
+-- The engine of a session in which this has happened: it was given the whole commands that came,
+-- what was read is a front of what it has sent, and of that the whole packets were received.
+pub record EngineStands (bundle : Bundle) (bound : ℕ) (key : List ℕ) (acts : List Act)
+    (engine : Engine) : Type 0 where
+  pub serves : Serves bundle bound key (commands_in (stream Down acts)) engine
+  pub up : stream Up acts ≡ take (length (stream Up acts)) engine.sent.items
+  pub received : engine.received ≡ length (flat_map packet_frame (packets_in (stream Up acts)))
+  pub within : length (stream Up acts) ≤ engine.read
+  pub read : engine.read ≤ length engine.sent.items
+
+-- no more was read of it
+abbrev pub IsReadFor : List Act → Engine → Type 0
+IsReadFor acts engine = engine.read ≡ length (stream Up acts)

@@ -1,0 +1,9 @@
+//! Lists of events, replayed with engines in memory: the transcript says what each IDE and each engine received.
+#![tactic(auto)]
+
+mod engine;
+mod errors;
+mod laws;
+
+pub use errors::ReplayError;
+pub use laws::headline;
