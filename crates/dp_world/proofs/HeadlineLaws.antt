@@ -7,7 +7,7 @@ use Rattle.std.proofs.lemmas.Bool.Decides.{nat_tests}
 use Rattle.std.proofs.lemmas.Grind.{fold-append}
 use Rattle.std.proofs.lemmas.List.Concat.{flat_map-append}
 use Rattle.dp_tree.specs.declared.bundle.Bundle.{Bundle}
-use Rattle.dp_engine.specs.Served.{alone, Begins}
+use Rattle.dp_engine.specs.Served.{alone}
 use Rattle.dp_lanes.specs.declared.lane.LaneKind.{LaneKind}
 use Rattle.dp_lanes.specs.declared.lane.LaneKind.TheVariants.{Up, Down}
 use Rattle.dp_lists.specs.declared.event.Act.{Act}
@@ -23,6 +23,7 @@ use Rattle.dp_proxy.proofs.TurnLaws.{engine_comes, given_before, moved_before, c
 use Rattle.dp_registry.specs.declared.entry.Entry.{Entry}
 use Rattle.dp_registry.specs.declared.pass.Pass.{Pass}
 use Rattle.dp_registry.specs.Verdicts.{admit_verdict}
+use Rattle.dp_world.proofs.EngineLaws.{Begins}
 use Rattle.dp_world.specs.Engines.{next_sent, act_of, followed, past_of, acts_on, by_itself, alone_on}
 use Rattle.dp_world.specs.Headline.{IsSession, Receives, Holds}
 use Rattle.dp_world.specs.Transcript.{session_of, shown, shown_at, shown_of, transcript}

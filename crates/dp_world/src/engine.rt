@@ -1,10 +1,13 @@
 //! An engine in memory, with its session.
-ghost use Rattle.std.specs.Prelude.{◌≡◌, ◌≤◌, ◌+◌, [], ◌++◌, ℕ, List, length, map, take, drop, IfOk, OnOk, OnErr};
+ghost use Rattle.std.specs.Prelude.{◌≡◌, ◌≤◌, ◌<◌, ◌+◌, [], ◌∷◌, ◌++◌, ℕ, List, flat_map, length, map, take, drop, IfOk, IfSome, MatchOption, OnOk, OnErr};
+ghost use Rattle.std.specs.List.{AllByRecursion};
 ghost use Rattle.dp_engine.specs.Served.{ending_after, rest_after};
+ghost use Rattle.dp_engine.specs.Session.{outcome_of, unwritten};
 ghost use Rattle.dp_tree.specs.FileNames.{AreFileNames};
 ghost use Rattle.dp_tree.specs.declared.bundle.Bundle.{Bundle as Program};
-ghost use Rattle.dp_wire.specs.Frames.{commands_in, rest_of};
-ghost use Rattle.dp_world.specs.inner.Standing.{Serves};
+ghost use Rattle.dp_wire.specs.Frames.{IsCommand, IsPacketText, commands_in, packet_frame, rest_of};
+ghost use Rattle.dp_wire.specs.inner.Held.{FirstNul};
+ghost use Rattle.dp_world.specs.inner.Standing.{GoesOn, IsFirst, Serves};
 
 use dp_engine::{Answer, Session, SessionEnd, Steps};
 use dp_state::Outcome;
@@ -58,12 +61,11 @@ impl<'a> Engine<'a> {
         ensures received { IfOk result (λ engine. engine.received ≡ 0) }
     {
         let (session, init) = Session::begin(alloc, bundle, key, bound)?;
-        let mut sent = Vec::new(alloc);
-        put_packet(alloc, &mut sent, init.as_slice())?;
+        let frame = packet_bytes(alloc, init.as_slice())?;
         Ok(Engine {
             session,
             ended: None,
-            sent,
+            sent: frame.into_vec(),
             read: 0,
             received: 0,
             given: Vec::new(alloc),
@@ -79,8 +81,7 @@ impl<'a> Engine<'a> {
         ensures err { OnErr result (self.new ≡ self.old) }
     {
         let left = self.sent.len() - self.read;
-        let count = left.min(most as usize);
-        let end = self.read + count;
+        let end = self.read + left.min(most as usize);
         let piece = Bytes::from_slice(alloc, &self.sent[self.read..end])?;
         self.read = end;
         Ok(piece)
@@ -107,39 +108,55 @@ impl<'a> Engine<'a> {
         ensures serves { (bundle : Program) (bound : ℕ) (key : List ℕ) (lines : List (List ℕ))
             → Serves bundle bound key lines self.old
             → OnOk result (Serves bundle bound key (lines ++ commands_in commands.now) self.new) }
-        ensures read { self.new.read ≡ self.old.read }
-        ensures received { self.new.received ≡ self.old.received }
+        ensures read { OnOk result (self.new.read ≡ self.old.read) }
+        ensures received { OnOk result (self.new.received ≡ self.old.received) }
     {
         self.given.extend_from_slice(commands)?;
+        self.answer_all(alloc, commands, steps)
+    }
+
+    /// Answers whole commands, each with its NUL, up to one that ends the session.
+    fn answer_all<L: Ledger>(
+        &mut self,
+        alloc: Global,
+        commands: &[u8],
+        steps: &mut Steps<L>,
+    ) -> Result<(), Memory>
+        requires { rest_of commands.now ≡ [] }
+        ensures goes_on { OnOk result (GoesOn (commands_in commands.now) self.old self.new) }
+        ensures given { OnOk result (self.new.given.items ≡ self.old.given.items) }
+    {
         let mut rest = commands;
-        'commands: while let Some(at) = first_nul(rest) {
-            self.command(alloc, &rest[..at], steps)?;
-            rest = &rest[at + 1..];
+        'commands: while let Some((line, more)) = first_command(rest) {
+            self.answer(alloc, line, steps)?;
+            rest = more;
         }
         Ok(())
     }
 
-    /// Takes a command, unless one has ended the session.
-    fn command<L: Ledger>(
+    /// Answers a command, unless one has ended the session.
+    fn answer<L: Ledger>(
         &mut self,
         alloc: Global,
         line: &[u8],
         steps: &mut Steps<L>,
-    ) -> Result<(), Memory> {
+    ) -> Result<(), Memory>
+        requires { IsCommand line.now }
+        ensures goes_on { OnOk result (GoesOn (line.now ∷ []) self.old self.new) }
+        ensures given { OnOk result (self.new.given.items ≡ self.old.given.items) }
+    {
         if self.ended.is_some() {
             return Ok(());
         }
         let answer = self.session.answer(line, steps)?;
-        self.put(alloc, answer)
-    }
-
-    /// Takes an answer: its packets are sent, and what the program wrote goes to its own output.
-    fn put(&mut self, alloc: Global, answer: Answer) -> Result<(), Memory> {
-        for text in answer.packets.as_slice() {
-            put_packet(alloc, &mut self.sent, text.as_slice())?;
-        }
-        self.own.extend_from_slice(answer.program.as_slice())?;
-        self.ended = answer.ended;
+        let Answer {
+            packets,
+            program,
+            ended,
+        } = answer;
+        put_packets(alloc, packets.as_slice(), &mut self.sent)?;
+        self.own.extend_from_slice(program.as_slice())?;
+        self.ended = ended;
         Ok(())
     }
 
@@ -151,6 +168,94 @@ impl<'a> Engine<'a> {
             ≡ self.entry.own.items ++ rest_after self.entry.ended self.entry.session) }
         ensures outcome { IfOk result (λ end. end.outcome ≡ ending_after self.entry.ended self.entry.session) }
     {
-        Err(Memory)
+        let Engine {
+            session,
+            ended,
+            sent: mut received,
+            read: _,
+            received: count,
+            given,
+            mut own,
+        } = self;
+        received.truncate(count);
+        let outcome = run_out(session, ended, &mut own, steps)?;
+        Ok(Ended {
+            received,
+            given,
+            own,
+            outcome,
+        })
     }
+}
+
+/// Puts the packets of these texts behind what is there.
+fn put_packets(alloc: Global, texts: &[Bytes], sent: &mut Vec<u8>) -> Result<(), Memory>
+    requires { AllByRecursion IsPacketText texts.now }
+    ensures { OnOk result (sent.new.items ≡ sent.old.items ++ flat_map packet_frame texts.now) }
+{
+    for text in texts {
+        let frame = packet_bytes(alloc, text.as_slice())?;
+        sent.extend_from_slice(frame.as_slice())?;
+    }
+    Ok(())
+}
+
+/// Runs the program on to its end, unless a command has killed it.
+fn run_out<L: Ledger>(
+    session: Session<'_>,
+    ended: Option<SessionEnd>,
+    own: &mut Vec<u8>,
+    steps: &mut Steps<L>,
+) -> Result<Option<Outcome>, Memory>
+    ensures own { OnOk result (own.new.items ≡ own.old.items ++ rest_after ended session.entry) }
+    ensures outcome { IfOk result (λ outcome. outcome ≡ ending_after ended session.entry) }
+{
+    match ended {
+        Some(SessionEnd::Killed) => {
+            drop(session);
+            Ok(None)
+        }
+        Some(SessionEnd::Detached) => run_on(session, own, steps),
+        Some(SessionEnd::Finished(_)) => run_on(session, own, steps),
+        None => run_on(session, own, steps),
+    }
+}
+
+/// Runs the program on to its end.
+fn run_on<L: Ledger>(
+    session: Session<'_>,
+    own: &mut Vec<u8>,
+    steps: &mut Steps<L>,
+) -> Result<Option<Outcome>, Memory>
+    ensures own { OnOk result (own.new.items ≡ own.old.items ++ unwritten session.entry) }
+    ensures outcome { IfOk result (λ outcome. outcome ≡ Some (outcome_of session.entry)) }
+{
+    let (rest, outcome) = session.finish(steps)?;
+    own.extend_from_slice(rest.as_slice())?;
+    Ok(Some(outcome))
+}
+
+/// The first of whole commands, without its NUL, and those behind it; none of no commands.
+fn first_command(commands: &[u8]) -> Option<(&[u8], &[u8])>
+    requires { rest_of commands.now ≡ [] }
+    ensures { MatchOption result (commands_in commands.now ≡ []) (λ first.
+        IsFirst commands.now first.0.now first.1.now) }
+{
+    match first_nul(commands) {
+        Some(at) => Some((&commands[..at], &commands[at + 1..])),
+        None => None,
+    }
+}
+
+/// The place of the first NUL.
+fn first_nul(bytes: &[u8]) -> Option<usize>
+    ensures first { FirstNul bytes.now result }
+    ensures within { IfSome result (λ at. at < length bytes.now) }
+{
+    for (at, byte) in bytes.iter().enumerate() {
+        if *byte == 0 {
+            return Some(at);
+        }
+    }
+    None
 }

@@ -1,12 +1,23 @@
 -- What an engine in memory stands for.
-use Rattle.std.specs.Prelude.{◌≡◌, ℕ, ◌≤◌, List, length, take, flat_map}
+use Rattle.std.specs.Prelude.{◌≡◌, ℕ, ◌≤◌, ◌<◌, List, [], ◌∷◌, ◌++◌, length, take, flat_map, Option, Some, None}
 use Rattle.dp_tree.specs.declared.bundle.Bundle.{Bundle}
+use Rattle.dp_engine.specs.declared.session.SessionEnd.{SessionEnd}
+use Rattle.dp_engine.specs.Answers.{answer}
 use Rattle.dp_engine.specs.Served.{alone_with, answers_to}
-use Rattle.dp_wire.specs.Frames.{command_frame, commands_in, packet_frame, packets_in}
+use Rattle.dp_engine.specs.Session.{State}
+use Rattle.dp_serving.specs.Folds.{Reply, replies}
+use Rattle.dp_wire.specs.Frames.{IsCommand, command_frame, commands_in, rest_of, packet_frame, packets_in}
 use Rattle.dp_lanes.specs.declared.lane.LaneKind.TheVariants.{Up, Down}
 use Rattle.dp_proxy.specs.declared.events.Act.{Act}
 use Rattle.dp_proxy.specs.Links.{stream}
 use Rattle.dp_world.specs.declared.engine.Engine.{Engine}
+
+-- of whole commands the first, and those behind it
+pub record IsFirst (commands line more : List ℕ) : Type 0 where
+  pub is_command : IsCommand line
+  pub first : commands_in commands ≡ line ∷ commands_in more
+  pub whole : rest_of more ≡ []
+  pub shorter : length more < length commands
 
 -- it has taken these commands
 pub record Serves (bundle : Bundle) (bound : ℕ) (key : List ℕ) (lines : List (List ℕ))
@@ -16,6 +27,22 @@ pub record Serves (bundle : Bundle) (bound : ℕ) (key : List ℕ) (lines : List
   pub session : engine.session ≡ (answers_to bundle bound lines).state
   pub ended : engine.ended ≡ (answers_to bundle bound lines).ended
   pub given : engine.given.items ≡ flat_map command_frame lines
+
+-- what more commands lead to: nothing once one has ended the session
+abbrev pub going_on : Option SessionEnd → State → List (List ℕ) → Reply State SessionEnd
+going_on None state lines = replies answer state lines
+going_on (Some end) state lines =
+    record { packets = []; program = []; state = state; ended = Some end }
+
+-- it goes on with what these commands lead to
+pub record GoesOn (lines : List (List ℕ)) (old new : Engine) : Type 0 where
+  pub sent : new.sent.items ≡ old.sent.items
+      ++ flat_map packet_frame (going_on old.ended old.session lines).packets
+  pub own : new.own.items ≡ old.own.items ++ (going_on old.ended old.session lines).program
+  pub session : new.session ≡ (going_on old.ended old.session lines).state
+  pub ended : new.ended ≡ (going_on old.ended old.session lines).ended
+  pub read : new.read ≡ old.read
+  pub received : new.received ≡ old.received
 
 -- The engine of a session in which this has happened: it was given the whole commands that came,
 -- what was read is a front of what it has sent, and of that the whole packets were received.
