@@ -1,21 +1,29 @@
 -- What an engine in memory comes to with more commands.
-use Rattle.std.proofs.Common.{◌≡◌, ℕ, ◌≤◌, true, List, [], ◌∷◌, ◌++◌, length, Option, Some, None, refl, sym, ap, subst, ◌∙◌, append_assoc, append-nil, arith, length-append}
+use Rattle.std.proofs.Common.{◌≡◌, ℕ, ◌≤◌, true, List, [], ◌∷◌, ◌++◌, length, take, drop, Option, Some, None, Result, Ok, Err, refl, sym, ap, subst, ◌∙◌, append_assoc, append-nil, arith, length-append}
 use Rattle.std.specs.List.{flat_map, AllByRecursion}
+use Rattle.std.specs.Result.{OnOk}
+use Rattle.std.proofs.lemmas.List.{take_at, take-append-drop}
 use Rattle.std.proofs.lemmas.List.Concat.{flat_map-append}
 use Rattle.dp_tree.specs.declared.bundle.Bundle.{Bundle}
 use Rattle.dp_engine.specs.declared.session.SessionEnd.{SessionEnd}
 use Rattle.dp_engine.specs.Answers.{answer}
 use Rattle.dp_engine.specs.Responses.{init_text}
-use Rattle.dp_engine.specs.Served.{alone, alone_with, answers_to}
+use Rattle.dp_engine.specs.Served.{alone, alone_with, answers_to, ending_after, rest_after}
 use Rattle.dp_engine.specs.Session.{State, opening}
 use Rattle.dp_serving.specs.Folds.{Reply, followed, replies}
 use Rattle.dp_serving.proofs.GrowthLaws.{served_goes_on}
 use Rattle.dp_serving.proofs.ServingLaws.{replies_append, replies_one, followed_open, followed_over}
-use Rattle.dp_wire.specs.Frames.{has_no_nul, Splits, IsCommand, command_frame, commands_in, rest_of, packet_frame}
+use Rattle.dp_wire.specs.Frames.{has_no_nul, Splits, IsCommand, command_frame, commands_in, rest_of, packet_frame, packets_in, rest_of_packets}
 use Rattle.dp_wire.proofs.FrameLaws.{no_nul-at, same_text, commands-partial}
 use Rattle.dp_wire.proofs.SplitLaws.{framed, commands_split, one_split_lem}
+use Rattle.dp_wire.proofs.PacketLaws.{packets_split}
+use Rattle.dp_lanes.specs.declared.lane.LaneKind.TheVariants.{Up, Down}
+use Rattle.dp_proxy.specs.declared.events.Act.{Act}
+use Rattle.dp_proxy.specs.Links.{stream}
+use Rattle.dp_world.specs.declared.engine.Ended.{Ended}
 use Rattle.dp_world.specs.declared.engine.Engine.{Engine}
-use Rattle.dp_world.specs.inner.Standing.{Serves, GoesOn, going_on}
+use Rattle.dp_world.specs.Transcript.{received}
+use Rattle.dp_world.specs.inner.Standing.{IsFirst, Serves, GoesOn, going_on, EngineStands, Shows}
 
 -- ---- whole commands
 
@@ -43,6 +51,14 @@ module _ (bytes text more : List ℕ) (clean : has_no_nul text ≡ true) (is : b
         no_more = split.no_more;
       } in
       one_split_lem bytes (commands_in bytes) (text ∷ commands_in more) (rest_of bytes) (rest_of more) (commands_split bytes) longer
+
+  pub first_is : IsFirst bytes text more
+  first_is = record {
+    is_command = is_command;
+    first = next_command.0;
+    whole = sym next_command.1 ∙ whole;
+    shorter = omega (arith, ap length is, length-append text (0 ∷ more));
+  }
 
 -- ---- going on
 
@@ -94,7 +110,7 @@ module _ (taken more : List (List ℕ)) (x y z : Engine) (a : GoesOn taken x y) 
       let f = going_on x.ended x.session taken in
       let n = going_on y.ended y.session more in
       let sent : flat_map packet_frame (going_on x.ended x.session (taken ++ more)).packets ≡ flat_map packet_frame f.packets ++ flat_map packet_frame n.packets =
-          ap (λ (r : Reply State SessionEnd). flat_map packet_frame r.packets) both ∙ flat_map-append packet_frame f.packets n.packets in
+      ap (λ (r : Reply State SessionEnd). flat_map packet_frame r.packets) both ∙ flat_map-append packet_frame f.packets n.packets in
       record {
         sent = b.sent ∙ ap (λ l. l ++ flat_map packet_frame n.packets) a.sent
             ∙ append_assoc x.sent.items (flat_map packet_frame f.packets) (flat_map packet_frame n.packets) ∙ ap (λ l. x.sent.items ++ l) (sym sent);
@@ -120,7 +136,7 @@ module _ (bundle : Bundle) (bound : ℕ) (key : List ℕ) (lines more : List (Li
       let n = going_on x.ended x.session more in
       let first = packet_frame (init_text bundle key) in
       let sent : flat_map packet_frame (answers_to bundle bound (lines ++ more)).packets ≡ flat_map packet_frame f.packets ++ flat_map packet_frame n.packets =
-          ap (λ (r : Reply State SessionEnd). flat_map packet_frame r.packets) all_answers ∙ flat_map-append packet_frame f.packets n.packets in
+      ap (λ (r : Reply State SessionEnd). flat_map packet_frame r.packets) all_answers ∙ flat_map-append packet_frame f.packets n.packets in
       record {
         sent = g.sent ∙ ap (λ l. l ++ flat_map packet_frame n.packets) s.sent
             ∙ append_assoc first (flat_map packet_frame f.packets) (flat_map packet_frame n.packets) ∙ ap (λ l. first ++ l) (sym sent);
@@ -135,6 +151,17 @@ pub whole_commands : (bytes : List ℕ) → rest_of bytes ≡ [] → bytes ≡ f
 whole_commands bytes whole =
     (commands_split bytes).whole ∙ ap (λ r. flat_map command_frame (commands_in bytes) ++ r) whole ∙ append-nil (flat_map command_frame (commands_in bytes))
 
+-- it takes whole commands: they are put behind those that it was given, and answered
+pub takes_all : {E : Type 0} (r : Result (Unit {0}) E) (bytes : List ℕ) (x put y : Engine) → rest_of bytes ≡ []
+    → put.given.items ≡ x.given.items ++ bytes → OnOk r (GoesOn (commands_in bytes) (record x { given = put.given }) y) → OnOk r (y.given.items ≡ put.given.items)
+    → (bundle : Bundle) (bound : ℕ) (key : List ℕ) (lines : List (List ℕ)) → Serves bundle bound key lines x
+    → OnOk r (Serves bundle bound key (lines ++ commands_in bytes) y)
+takes_all (Err e) bytes x put y whole given g same bundle bound key lines s = tt
+takes_all (Ok done) bytes x put y whole given g same bundle bound key lines s =
+    serves_on bundle bound key lines (commands_in bytes) x y s
+    (record { sent = g.sent; own = g.own; session = g.session; ended = g.ended; read = g.read; received = g.received })
+    (same ∙ given ∙ ap (λ l. x.given.items ++ l) (whole_commands bytes whole))
+
 -- ---- more bytes only add to what is sent
 
 abbrev pub Begins : List ℕ → List ℕ → Type 0
@@ -144,10 +171,36 @@ pub grows : (bundle : Bundle) (bound : ℕ) (key bytes more : List ℕ) → Begi
 grows bundle bound key bytes more =
     let g = served_goes_on answer (opening bundle bound) bytes more in
     let first = packet_frame (init_text bundle key) in
-    let before = replies answer (opening bundle bound) (commands_in bytes) in
-    (
+    let before = replies answer (opening bundle bound) (commands_in bytes) in (
       flat_map packet_frame g.packets,
       ap (λ p. first ++ flat_map packet_frame p) g.more_packets
-      ∙ ap (λ l. first ++ l) (flat_map-append packet_frame before.packets g.packets)
-      ∙ sym (append_assoc first (flat_map packet_frame before.packets) (flat_map packet_frame g.packets)),
+          ∙ ap (λ l. first ++ l) (flat_map-append packet_frame before.packets g.packets)
+          ∙ sym (append_assoc first (flat_map packet_frame before.packets) (flat_map packet_frame g.packets)),
     )
+
+-- ---- the end of a session
+
+module _ (bundle : Bundle) (bound : ℕ) (key : List ℕ) (acts : List Act) (engine : Engine) (stands : EngineStands bundle bound key acts engine) where
+  pub received_is : take engine.received engine.sent.items ≡ received bundle bound key (stream Down acts) (length (stream Up acts))
+  received_is =
+      let up = stream Up acts in
+      let frames = flat_map packet_frame (packets_in up) in
+      let behind = drop (length up) engine.sent.items in
+      let sent : engine.sent.items ≡ frames ++ (rest_of_packets up ++ behind) =
+      sym (take-append-drop (length up) engine.sent.items) ∙ ap (λ l. l ++ behind) (sym stands.up ∙ (packets_split up).whole)
+      ∙ append_assoc frames (rest_of_packets up) behind in
+      let front : up ≡ take (length up) (alone bundle bound key (stream Down acts)) = stands.up ∙ ap (take (length up)) stands.serves.sent in
+      ap (λ n. take n engine.sent.items) stands.received ∙ ap (take (length frames)) sent ∙ take_at frames (rest_of_packets up ++ behind) (length frames) refl
+      ∙ ap (λ l. flat_map packet_frame (packets_in l)) front
+
+  pub ended_shows : (end : Ended) → end.received.items ≡ take engine.received engine.sent.items → end.given.items ≡ engine.given.items
+      → end.own.items ≡ engine.own.items ++ rest_after engine.ended engine.session → end.outcome ≡ ending_after engine.ended engine.session
+      → Shows bundle bound key (stream Down acts) (length (stream Up acts)) end
+  ended_shows end front given own outcome =
+      let s = stands.serves in
+      record {
+        received = front ∙ received_is;
+        commands = given ∙ s.given;
+        output = own ∙ (λ i. s.own i ++ rest_after (s.ended i) (s.session i));
+        outcome = outcome ∙ (λ i. ending_after (s.ended i) (s.session i));
+      }

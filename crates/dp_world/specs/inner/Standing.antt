@@ -1,16 +1,20 @@
 -- What an engine in memory stands for.
-use Rattle.std.specs.Prelude.{◌≡◌, ℕ, ◌≤◌, ◌<◌, List, [], ◌∷◌, ◌++◌, length, take, flat_map, Option, Some, None}
+use Rattle.std.specs.Prelude.{◌≡◌, ℕ, ◌≤◌, ◌<◌, List, [], ◌∷◌, ◌++◌, length, take, flat_map}
+use Rattle.std.specs.Prelude.{Option, Some, None}
 use Rattle.dp_tree.specs.declared.bundle.Bundle.{Bundle}
 use Rattle.dp_engine.specs.declared.session.SessionEnd.{SessionEnd}
 use Rattle.dp_engine.specs.Answers.{answer}
-use Rattle.dp_engine.specs.Served.{alone_with, answers_to}
+use Rattle.dp_engine.specs.Served.{alone_with, answers_to, ending, own}
 use Rattle.dp_engine.specs.Session.{State}
 use Rattle.dp_serving.specs.Folds.{Reply, replies}
-use Rattle.dp_wire.specs.Frames.{IsCommand, command_frame, commands_in, rest_of, packet_frame, packets_in}
+use Rattle.dp_wire.specs.Frames.{IsCommand, command_frame, commands_in, rest_of}
+use Rattle.dp_wire.specs.Frames.{packet_frame, packets_in}
 use Rattle.dp_lanes.specs.declared.lane.LaneKind.TheVariants.{Up, Down}
 use Rattle.dp_proxy.specs.declared.events.Act.{Act}
 use Rattle.dp_proxy.specs.Links.{stream}
+use Rattle.dp_world.specs.declared.engine.Ended.{Ended}
 use Rattle.dp_world.specs.declared.engine.Engine.{Engine}
+use Rattle.dp_world.specs.Transcript as whole
 
 -- of whole commands the first, and those behind it
 pub record IsFirst (commands line more : List ℕ) : Type 0 where
@@ -57,3 +61,12 @@ pub record EngineStands (bundle : Bundle) (bound : ℕ) (key : List ℕ) (acts :
 -- no more was read of it
 abbrev pub IsReadFor : List Act → Engine → Type 0
 IsReadFor acts engine = engine.read ≡ length (stream Up acts)
+
+-- the end of a session is that of the engine, served alone with what its IDE has given, of which so
+-- much was read
+pub record Shows (bundle : Bundle) (bound : ℕ) (key given : List ℕ) (read : ℕ) (end : Ended)
+    : Type 0 where
+  pub received : end.received.items ≡ whole.received bundle bound key given read
+  pub commands : end.given.items ≡ flat_map command_frame (commands_in given)
+  pub output : end.own.items ≡ own bundle bound given
+  pub outcome : end.outcome ≡ ending bundle bound given
