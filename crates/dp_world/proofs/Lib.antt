@@ -1,2 +1,5 @@
 pub mod EngineLaws
 pub mod HeadlineLaws
+pub mod ActLaws
+pub mod PassingLaws
+pub mod WorldLaws

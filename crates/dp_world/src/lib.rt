@@ -4,6 +4,12 @@
 mod engine;
 mod errors;
 mod laws;
+mod lines;
+mod links;
+mod shown;
+mod world;
+mod writing;
 
 pub use errors::ReplayError;
 pub use laws::headline;
+pub use writing::replay;
