@@ -3,3 +3,4 @@ pub mod HeadlineLaws
 pub mod ActLaws
 pub mod PassingLaws
 pub mod WorldLaws
+pub mod WritingLaws

@@ -67,6 +67,14 @@ put_behind (e ∷ links) number kept none = by (nat_eq number e.0) refl where
       let less : kept_at links number ≡ None = rw isnt at none in
       rw isnt (ap (λ l. e.0 ∷ l) (put_behind links number kept less))
 
+pub put_is : (links after : List (ℕ × Shown)) (number : ℕ) (kept : Shown) → kept_at links number ≡ None → after ≡ insert_entry nat_eq links number kept
+    → ((other : ℕ) → kept_at after other ≡ cond (nat_eq number other) (Some kept) (kept_at links other)) → IsPut links after number (Some kept)
+put_is links after number kept none entries updates = record {
+  keys = ap keys_of entries ∙ put_behind links number kept none;
+  here = let self : nat_eq number number ≡ true = eq-eqb number number refl in updates number ∙ rw self refl;
+  others = λ other isnt. updates other ∙ rw isnt refl;
+}
+
 pub made_more : (bundle : Bundle) (bound : ℕ) (links after : List (ℕ × Shown)) (number : ℕ) (kept : Option Shown) (link : Link)
     → (is_some kept ≡ true) × IsShownAt bundle bound link kept → IsPut links after number kept → IsMadeIn bundle bound links after number link
 made_more bundle bound links after number kept link shown put = record {

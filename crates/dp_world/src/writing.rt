@@ -1,14 +1,15 @@
 //! The transcript, written on a sink.
-ghost use Rattle.std.specs.Prelude.{◌≡◌, ◌≤◌, ℕ, map, IfOk};
+ghost use Rattle.std.specs.Prelude.{◌≡◌, ◌≤◌, ◌++◌, ℕ, map, OnOk};
 ghost use Rattle.dp_outside.specs.Changes.{change};
 ghost use Rattle.dp_proxy.specs.Pasts.{Link, Past};
 ghost use Rattle.dp_tree.specs.FileNames.{AreFileNames};
 ghost use Rattle.dp_tree.specs.declared.bundle.Bundle.{Bundle as Program};
 ghost use Rattle.dp_world.specs.Replays.{Replays};
 ghost use Rattle.dp_world.specs.Transcript as spec;
-ghost use Rattle.dp_world.specs.inner.Showing.{AreShown, IsShown};
-ghost use Rattle.dp_world.specs.inner.Writing.{Writes, lines_of as lines_of_all};
+ghost use Rattle.dp_world.specs.inner.Showing.{AreShown, Has, IsShown};
+ghost use Rattle.dp_world.specs.inner.Writing.{Writes, lines_of};
 
+use crate::engine::Engine;
 use crate::errors::ReplayError;
 use crate::lines::{admission, refusal, registration, service};
 use crate::shown::Shown;
@@ -22,36 +23,46 @@ use indexmap::IndexMap;
 use std::alloc::Global;
 use std::sync::ledger::Ledger;
 
-/// The lines of one link. An engine's program runs on to its end.
-fn lines_of<L: Ledger>(
-    alloc: Global,
+/// Puts the lines of a session, whose program runs on to its end.
+fn session<L: Ledger>(
+    text: &mut Vec<u8>,
+    link: u32,
+    key: &[u8],
+    host: &[u8],
+    port: u16,
+    engine: Engine,
+    steps: &mut Steps<L>,
+) -> Result<(), Memory>
+    ensures { (bundle : Program) (bound : ℕ) (of : Link) → Has bundle bound of key.now host.now port engine.entry
+        → OnOk result (text.new.items ≡ text.old.items ++ spec.shown bundle bound link of) }
+{
+    admission(text, link, key, host, port)?;
+    let end = engine.finish(steps)?;
+    service(text, &end)
+}
+
+/// Puts the lines of one link.
+fn put_lines<L: Ledger>(
+    text: &mut Vec<u8>,
     link: u32,
     shown: Shown,
     steps: &mut Steps<L>,
-) -> Result<Vec<u8>, Memory>
+) -> Result<(), Memory>
     ensures { (bundle : Program) (bound : ℕ) (of : Link) → IsShown bundle bound of shown.entry
-        → IfOk result (λ text. text.items ≡ spec.shown bundle bound link of) }
+        → OnOk result (text.new.items ≡ text.old.items ++ spec.shown bundle bound link of) }
 {
-    let mut text = Vec::new(alloc);
     match shown {
         Shown::Registration { host, reply } => {
-            registration(&mut text, link, host.as_slice(), reply.as_slice())?;
+            registration(text, link, host.as_slice(), reply.as_slice())
         }
-        Shown::Refused { key, why } => {
-            refusal(&mut text, link, key.as_slice(), &why)?;
-        }
+        Shown::Refused { key, why } => refusal(text, link, key.as_slice(), &why),
         Shown::Session {
             key,
             host,
             port,
             engine,
-        } => {
-            admission(&mut text, link, key.as_slice(), host.as_slice(), port)?;
-            let end = engine.finish(steps)?;
-            service(&mut text, &end)?;
-        }
+        } => session(text, link, key.as_slice(), host.as_slice(), port, engine, steps),
     }
-    Ok(text)
 }
 
 /// Writes the lines of one link.
@@ -66,7 +77,8 @@ fn write_one<K: Sink, L: Ledger>(
         → Writes result (spec.shown bundle bound link of) (change K.taken K.faults out.old out.new) }
     ensures later { K.faults out.old ≤ K.faults out.new }
 {
-    let text = lines_of(alloc, link, shown, steps)?;
+    let mut text = Vec::new(alloc);
+    put_lines(&mut text, link, shown, steps)?;
     match out.put(text.as_slice()) {
         Ok(()) => Ok(()),
         Err(_) => Err(ReplayError::OutFault),
@@ -81,14 +93,12 @@ fn write_all<K: Sink, L: Ledger>(
     steps: &mut Steps<L>,
 ) -> Result<(), ReplayError>
     ensures writes { (bundle : Program) (bound : ℕ) (past : Past) → AreShown bundle bound past links.entry.entries
-        → Writes result (lines_of_all bundle bound past links.entry.entries) (change K.taken K.faults out.old out.new) }
+        → Writes result (lines_of bundle bound past links.entry.entries) (change K.taken K.faults out.old out.new) }
     ensures later { K.faults out.old ≤ K.faults out.new }
 {
-    'links: for (link, shown) in links {
-        match write_one(alloc, link, shown, out, steps) {
-            Ok(()) => {}
-            Err(why) => return Err(why),
-        }
+    let mut left = links.into_iter();
+    'links: while let Some((link, shown)) = left.next() {
+        write_one(alloc, link, shown, out, steps)?;
     }
     Ok(())
 }
