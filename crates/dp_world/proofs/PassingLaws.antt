@@ -41,13 +41,10 @@ listening_asks name heard host reply (Moved bytes) p q = (p, q)
 
 -- where the session ends, nothing is handed out
 ends_told : (acts : List Act) (act : Act) (e : Effect) → ends acts act ≡ true → passed acts act ≡ Some e → e ≡ Nothing
-ends_told acts Closed e t is = by (told_is ToIde [] (is_broken acts) e is) where
-  by : (([] ≡ []) × (e ≡ Nothing)) ⊎ (e ≡ ToIde []) → e ≡ Nothing
-  by (inl none) = none.1
-  by (inr some) = clash (is_broken acts) is some where
-    clash : (b : Bool) → told ToIde [] b ≡ Some e → e ≡ ToIde [] → e ≡ Nothing
-    clash true h s = absurd cc
-    clash false h s = sym (same_Some Nothing e h)
+ends_told acts Closed e t is = closed (is_broken acts) is where
+  closed : (b : Bool) → told ToIde [] b ≡ Some e → e ≡ Nothing
+  closed true h = absurd cc
+  closed false h = sym (same_Some Nothing e h)
 ends_told acts (Given bytes) e t is = absurd (false≢true (ap is_none (sym is) ∙ t))
 ends_told acts (Moved bytes) e t is = absurd (false≢true (ap is_none (sym is) ∙ t))
 ends_told acts (Ide host) e t is = absurd (false≢true t)
@@ -110,7 +107,7 @@ module _ (bundle : Bundle) (bound : ℕ) (journal : List Entry) (act : Act) wher
     passed_on : (a : Act) → IsReadWith acts a engine → ends acts a ≡ false → (e : Effect) (now : Shown) → passed acts a ≡ Some e → After (Session name host port engine) e now
         → IsShown bundle bound (Joined key pass (acts ++ a ∷ [])) now
     passed_on (Given bytes) ready t e now is after = by (told_is ToEngine (handed Down acts (Given bytes)) (is_broken (acts ++ Given bytes ∷ [])) e is) where
-      abbrev none_up : handed Up acts (Given bytes) ≡ []
+      none_up : handed Up acts (Given bytes) ≡ []
       none_up = act_law.nothing_handed Up acts (Given bytes) refl
 
       by : ((handed Down acts (Given bytes) ≡ []) × (e ≡ Nothing)) ⊎ (e ≡ ToEngine (handed Down acts (Given bytes))) → IsShown bundle bound (Joined key pass (acts ++ Given bytes ∷ [])) now
@@ -123,7 +120,7 @@ module _ (bundle : Bundle) (bound : ℕ) (journal : List Entry) (act : Act) wher
           let s = act_law.takes bundle bound key acts engine stands (Given bytes) ready taken.0 refl taken.2 in
           subst (IsShown bundle bound (Joined key pass (acts ++ Given bytes ∷ []))) (sym taken.1) (to, s.0, s.1)
     passed_on (Moved bytes) ready t e now is after = by (told_is ToIde (handed Up acts (Moved bytes)) (is_broken (acts ++ Moved bytes ∷ [])) e is) where
-      abbrev none_down : handed Down acts (Moved bytes) ≡ []
+      none_down : handed Down acts (Moved bytes) ≡ []
       none_down = act_law.nothing_handed Down acts (Moved bytes) refl
 
       by : ((handed Up acts (Moved bytes) ≡ []) × (e ≡ Nothing)) ⊎ (e ≡ ToIde (handed Up acts (Moved bytes))) → IsShown bundle bound (Joined key pass (acts ++ Moved bytes ∷ [])) now

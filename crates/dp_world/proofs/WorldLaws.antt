@@ -1,11 +1,12 @@
 -- One event more: the proxy and what is kept of the links stand for the events with it.
-use Rattle.std.proofs.Common.{◌≡◌, ℕ, ◌==◌, ◌||◌, ◌&&◌, Bool, true, false, cond, if◌then◌else◌, List, [], ◌∷◌, ◌++◌, map, filter, fold, nat_eq, take, length, get_or, zero, suc, ◌+◌, ◌<◌, OnOk, append_assoc, add-one, Option, Some, None, is_some, refl, sym, ap, subst, ◌∙◌, append-nil, map-append, arith}
+use Rattle.std.proofs.Common.{◌≡◌, ℕ, ◌==◌, ◌||◌, ◌&&◌, Bool, true, false, cond, if◌then◌else◌, List, [], ◌∷◌, ◌++◌, map, filter, fold, nat_eq, take, length, get_or, zero, suc, ◌+◌, ◌<◌, OnOk, append_assoc, add-one, Option, Some, None, is_some, refl, sym, ap, subst, ◌∙◌, append-nil, arith}
 use Rattle.std.proofs.Common.{Result, Ok, Err}
 use Rattle.std.specs.Map.{lookup, keys_of}
 use Rattle.std.specs.List.{list_any}
 use Rattle.std.proofs.lemmas.Bool.{eqb-true, eq-eqb, false≢true, or_parts}
 use Rattle.std.proofs.lemmas.Bool.Decides.{nat_tests}
 use Rattle.std.proofs.lemmas.Grind.{fold-append}
+use Rattle.std.proofs.lemmas.List.{map-append}
 use Rattle.std.proofs.lemmas.List.Elements.{filter-append}
 use Rattle.indexmap.specs.IndexMap.{insert_entry}
 use Rattle.dp_tree.specs.declared.bundle.Bundle.{Bundle}
@@ -36,7 +37,7 @@ use Rattle.dp_world.proofs.PassingLaws.{kept_passed, kept_takes, kept_broken, so
 was_made : (link : ℕ) (events : List Event) → was makes link events ≡ false → list_any (λ k. nat_eq link k) (made events) ≡ false
 was_made link [] none = refl
 was_made link (e ∷ events) none = by (makes e.act) refl (was_made link events rest.1) where
-  abbrev rest : (((e.link == link) && makes e.act) ≡ false) × (was makes link events ≡ false)
+  rest : (((e.link == link) && makes e.act) ≡ false) × (was makes link events ≡ false)
   rest = or_parts ((e.link == link) && makes e.act) (was makes link events) none
 
   by : (t : Bool) → makes e.act ≡ t → list_any (λ k. nat_eq link k) (made events) ≡ false → list_any (λ k. nat_eq link k) (made (e ∷ events)) ≡ false
@@ -60,12 +61,13 @@ none_kept (e ∷ links) number h =
 pub put_behind : (links : List (ℕ × Shown)) (number : ℕ) (kept : Shown) → kept_at links number ≡ None
     → keys_of (insert_entry nat_eq links number kept) ≡ keys_of links ++ number ∷ []
 put_behind [] number kept none = refl
-put_behind (e ∷ links) number kept none = by (nat_eq number e.0) refl where
-  by : (t : Bool) → nat_eq number e.0 ≡ t → keys_of (insert_entry nat_eq (e ∷ links) number kept) ≡ keys_of (e ∷ links) ++ number ∷ []
-  by true is = let clash : Some e.1 ≡ None = rw is at none in absurd cc
-  by false isnt =
+put_behind (e ∷ links) number kept none = by (put_behind links number kept) (nat_eq number e.0) refl where
+  by : (kept_at links number ≡ None → keys_of (insert_entry nat_eq links number kept) ≡ keys_of links ++ number ∷ [])
+      → (t : Bool) → nat_eq number e.0 ≡ t → keys_of (insert_entry nat_eq (e ∷ links) number kept) ≡ keys_of (e ∷ links) ++ number ∷ []
+  by rest true is = let clash : Some e.1 ≡ None = rw is at none in absurd cc
+  by rest false isnt =
       let less : kept_at links number ≡ None = rw isnt at none in
-      rw isnt (ap (λ l. e.0 ∷ l) (put_behind links number kept less))
+      rw isnt (ap (λ l. e.0 ∷ l) (rest less))
 
 pub put_is : (links after : List (ℕ × Shown)) (number : ℕ) (kept : Shown) → kept_at links number ≡ None → after ≡ insert_entry nat_eq links number kept
     → ((other : ℕ) → kept_at after other ≡ cond (nat_eq number other) (Some kept) (kept_at links other)) → IsPut links after number (Some kept)
