@@ -220,8 +220,11 @@ module _ (bundle : Bundle) (bound : ℕ) (key : List ℕ) (acts : List Act) (eng
         let before = stands.received in
         let frames = ap length (frames_act Up acts act) in
         let whole = ap length (packets_split s).whole in
-        omega (arith, length-append (flat_map packet_frame (packets_in s)) (rest_of_packets s),
-        length-append (flat_map packet_frame (packets_in (stream Up acts))) (handed Up acts act))
+        omega (
+          arith,
+          length-append (flat_map packet_frame (packets_in s)) (rest_of_packets s),
+          length-append (flat_map packet_frame (packets_in (stream Up acts))) (handed Up acts act),
+        )
 
     pub receives : brought Down act ≡ []
         → EngineStands bundle bound key (acts ++ act ∷ []) (record engine { received = engine.received + length (handed Up acts act) })

@@ -96,12 +96,7 @@ fn host_line(text: &mut Vec<u8>, word: &[u8], link: u32, host: &[u8]) -> Result<
 }
 
 /// The lines of an IDE of this host that was sent this reply.
-pub fn registration(
-    text: &mut Vec<u8>,
-    link: u32,
-    host: &[u8],
-    reply: &[u8],
-) -> Result<(), Memory>
+pub fn registration(text: &mut Vec<u8>, link: u32, host: &[u8], reply: &[u8]) -> Result<(), Memory>
     ensures { OnOk result (text.new.items ≡ text.old.items ++ spec.registration link host.now reply.now) }
 {
     host_line(text, b"registration", link, host)?;
@@ -172,7 +167,13 @@ fn status(outcome: Option<Outcome>) -> u64
         None => 210,
         Some(Outcome::Done) => 0,
         Some(Outcome::Exit(number)) => u64::from(number),
-        Some(Outcome::Fatal { kind: _, file: _, line: _ }) => 255,
+        Some(
+            Outcome::Fatal {
+                kind: _,
+                file: _,
+                line: _,
+            },
+        ) => 255,
         Some(Outcome::Bound) => 255,
     }
 }

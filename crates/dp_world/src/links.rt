@@ -93,7 +93,11 @@ fn joined<'a>(
             let key = key.try_clone()?;
             Ok(Some(Shown::Refused { key, why }))
         }
-        Effect::Admitted { session: _, host, port } => {
+        Effect::Admitted {
+            session: _,
+            host,
+            port,
+        } => {
             let engine = Engine::begin(alloc, bundle, key.as_slice(), bound)?;
             let key = key.try_clone()?;
             Ok(Some(Shown::Session {

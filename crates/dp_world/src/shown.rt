@@ -12,9 +12,15 @@ use std::sync::ledger::Ledger;
 #[derive(Drop)]
 pub(crate) enum Shown<'a> {
     /// An IDE of this host, and what it was sent: nothing, where it was not answered.
-    Registration { host: Bytes, reply: Bytes },
+    Registration {
+        host: Bytes,
+        reply: Bytes,
+    },
     /// An engine that was refused.
-    Refused { key: Bytes, why: Refusal },
+    Refused {
+        key: Bytes,
+        why: Refusal,
+    },
     /// An engine with a session, and where its IDE is reached.
     Session {
         key: Bytes,
@@ -34,7 +40,12 @@ impl<'a> Shown<'a> {
         ensures { IfOk result (λ bytes. Reads self.old count bytes self.new) }
     {
         match self {
-            Shown::Session { key: _, host: _, port: _, engine } => engine.next(alloc, count),
+            Shown::Session {
+                key: _,
+                host: _,
+                port: _,
+                engine,
+            } => engine.next(alloc, count),
             _ => Ok(Bytes::of(Vec::new(alloc))),
         }
     }
@@ -53,7 +64,13 @@ impl<'a> Shown<'a> {
         requires { IsTaken self.old (told.ToIde frames.now) }
         ensures { self.new ≡ received self.old frames.now }
     {
-        if let Shown::Session { key: _, host: _, port: _, engine } = self {
+        if let Shown::Session {
+            key: _,
+            host: _,
+            port: _,
+            engine,
+        } = self
+        {
             engine.receive(frames);
         }
     }
@@ -69,7 +86,12 @@ impl<'a> Shown<'a> {
         ensures { OnOk result (Takes self.old commands.now self.new) }
     {
         match self {
-            Shown::Session { key: _, host: _, port: _, engine } => engine.take(alloc, commands, steps),
+            Shown::Session {
+                key: _,
+                host: _,
+                port: _,
+                engine,
+            } => engine.take(alloc, commands, steps),
             _ => Ok(()),
         }
     }
@@ -95,7 +117,11 @@ impl<'a> Shown<'a> {
             }
             Effect::ToEngine(commands) => self.take(alloc, commands.as_slice(), steps),
             Effect::Nothing => Ok(()),
-            Effect::Admitted { session: _, host: _, port: _ } => Ok(()),
+            Effect::Admitted {
+                session: _,
+                host: _,
+                port: _,
+            } => Ok(()),
             Effect::Turned(_) => Ok(()),
         }
     }

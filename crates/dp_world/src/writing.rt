@@ -61,7 +61,15 @@ fn put_lines<L: Ledger>(
             host,
             port,
             engine,
-        } => session(text, link, key.as_slice(), host.as_slice(), port, engine, steps),
+        } => session(
+            text,
+            link,
+            key.as_slice(),
+            host.as_slice(),
+            port,
+            engine,
+            steps,
+        ),
     }
 }
 

@@ -12,8 +12,8 @@ pub returns-in_ok-host-in-Ide : goal.returns-in_ok-host-in-Ide
 returns-in_ok-host-in-Ide c = λ journal is told. (
   refl,
   subst (λ (a : Act). Asks (turn journal New (act_of c.args.bundle.now c.args.bound New a)).link c.in_ok-host-in-Ide.host c.of-reply.result) (sym c.in-Ide.is)
-  (subst (λ (t : Turn). Asks t.link c.in_ok-host-in-Ide.host c.of-reply.result) (sym (ide_comes journal c.in-Ide.host))
-  (c.in_ok-host-in-Ide.ensures, c.of-reply.ensures ∙ c.new.ensures.items)),
+      (subst (λ (t : Turn). Asks t.link c.in_ok-host-in-Ide.host c.of-reply.result) (sym (ide_comes journal c.in-Ide.host))
+      (c.in_ok-host-in-Ide.ensures, c.of-reply.ensures ∙ c.new.ensures.items)),
 )
 
 pub returns-in-Engine : goal.returns-in-Engine
