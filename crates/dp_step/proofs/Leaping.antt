@@ -1,5 +1,5 @@
 -- A machine that nothing stops comes to the end of its program.
-use Rattle.std.proofs.Common.{◌≡◌, ℕ, zero, suc, ◌+◌, ◌-◌, ◌<◌, ◌≤◌, Bool, true, false, List, [], ◌∷◌, length, Option, Some, None, Result, Ok, Err, refl, sym, ap, ◌∙◌, subst, arith}
+use Rattle.std.proofs.Common.{◌≡◌, ℕ, zero, suc, ◌+◌, ◌-◌, ◌≤◌, Bool, true, false, List, [], length, Option, Some, None, Ok, Err, refl, sym, ap, ◌∙◌, subst, arith}
 use Rattle.std.proofs.lemmas.Bool.{le-ltb, lt-ltb}
 use Rattle.std.proofs.lemmas.Option.{slice_get_within}
 use Rattle.std.specs.Prelude.{if◌then◌else◌, nat_lt}
@@ -9,7 +9,6 @@ use Rattle.dp_state.specs.declared.moments.MomentKind.{MomentKind}
 use Rattle.dp_state.specs.declared.moments.Outcome.{Outcome}
 use Rattle.dp_state.specs.declared.moments.Outcome.TheVariants as way
 use Rattle.dp_state.specs.declared.state.State.{State}
-use Rattle.dp_actions.specs.declared.halt.Halt.{Halt}
 use Rattle.dp_actions.specs.declared.halt.Halt.TheVariants as halt
 use Rattle.dp_actions.specs.declared.signal.Signal.{Signal}
 use Rattle.dp_actions.specs.Expressions.{evaluations}
@@ -38,7 +37,7 @@ use Rattle.dp_step.specs.declared.work.Head.{Head}
 use Rattle.dp_step.specs.declared.work.Turns.{Turns}
 use Rattle.dp_step.specs.declared.work.Hand.TheVariants as hand
 use Rattle.dp_step.specs.inner.Leaps.{HasRun, Leaps, LeapsBy, RunsOut, driven, part_with}
-use Rattle.dp_step.specs.inner.Moves.{Arrives, Comes, Goes, IsOver, follows_of, rest_with, setting_at}
+use Rattle.dp_step.specs.inner.Moves.{Comes, Goes, IsOver, follows_of, rest_with, setting_at}
 use Rattle.dp_step.specs.Rest.{after_of, tests_of}
 use Rattle.dp_step.specs.Stands.{NoneAbove, StandsFor, rest_of}
 use Rattle.dp_step.proofs.Smalls.{rest-by}
@@ -72,7 +71,8 @@ pub leaps_put : (m mid new : Machine) (h : Hand) (end : Option Outcome) → mid.
     → mid.hand ≡ h → mid.pending.items ≡ m.pending.items → mid.state ≡ m.state
     → Leaps mid (rest_of mid mid.state) end new → Leaps m (rest_with m h m.state) end new
 leaps_put m mid new h end bundle bound depth in-hand items state leaps =
-    leaps_as m mid new _ _ end (sym (rest-by mid m.bundle.now m.bound m.depth h m.pending.items bundle bound depth in-hand items m.state)
+    leaps_as m mid new _ _ end (sym (rest-by mid m.bundle.now m.bound m.depth h m.pending.items bundle bound depth
+    in-hand items m.state)
     ∙ ap (rest_of mid) (sym state)) bound leaps
 
 -- turns, by their head

@@ -15,7 +15,9 @@ returns-in-While c =
     (c.gave.ensures (λ setting s. turns c.args.left loop.line (evaluations (c.in-While.test.now ∷ []) setting)
     (evaluations [] setting)
     (statement_run loop.body.now setting) s) m.state
-    (record { by = rw (c.whole.ensures, c.from_ref-tests.ensures.value, c.as_ref-body.ensures) at c.turns-done.ensures }))
+    (record {
+      by = rw (c.whole.ensures, c.from_ref-tests.ensures.value, c.as_ref-body.ensures) at c.turns-done.ensures;
+    }))
 
 pub returns-in-For : goal.returns-in-For
 returns-in-For c =
@@ -26,4 +28,11 @@ returns-in-For c =
     (c.gave-in-For.ensures (λ setting s. turns c.args.left loop.line (evaluations c.in-For.tests.now setting)
     (evaluations c.in-For.after.now setting)
     (statement_run loop.body.now setting) s) m.state
-    (record { by = rw (c.whole-in-For.ensures, c.as_slice-tests.ensures, c.as_slice-after.ensures, c.as_ref-body.ensures) at c.turns-done-in-For.ensures }))
+    (record {
+      by = rw (
+        c.whole-in-For.ensures,
+        c.as_slice-tests.ensures,
+        c.as_slice-after.ensures,
+        c.as_ref-body.ensures,
+      ) at c.turns-done-in-For.ensures;
+    }))
