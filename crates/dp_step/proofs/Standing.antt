@@ -66,12 +66,12 @@ module _ (bundle : Bundle) (bound : ℕ) (writes : List NumberedWrite) where
 
 -- ---- a step
 
-raised : (n : ℕ) (writes : List NumberedWrite) → NoneAbove n writes → NoneAbove (suc n) writes
+pub raised : (n : ℕ) (writes : List NumberedWrite) → NoneAbove n writes → NoneAbove (suc n) writes
 raised n [] h = tt
 raised n (w ∷ ws) h = (omega (arith, h.0), raised n ws h.1)
 
 -- above the number of the last of them nothing is written
-nothing-by : (setting : Setting) (n : ℕ) (writes : List NumberedWrite) (s : State) → NoneAbove n writes → written_by setting writes (suc n) s ≡ s
+pub nothing-by : (setting : Setting) (n : ℕ) (writes : List NumberedWrite) (s : State) → NoneAbove n writes → written_by setting writes (suc n) s ≡ s
 nothing-by setting n [] s h = refl
 nothing-by setting n (w ∷ ws) s h =
     let off : nat_eq w.moment (suc n) ≡ false = ne_eqb _ _ (λ x. omega (arith, h.0)) in

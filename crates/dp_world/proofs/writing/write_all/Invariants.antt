@@ -1,0 +1,17 @@
+use Rattle.std.proofs.Common.{◌≡◌, ◌≤◌, ◌++◌, ℕ, List, length}
+use Rattle.std.specs.Io.KnownBytes.{Appends}
+use Rattle.dp_tree.specs.declared.bundle.Bundle.{Bundle}
+use Rattle.dp_proxy.specs.Pasts.{Past}
+use Rattle.dp_world.specs.declared.shown.Shown.{Shown}
+use Rattle.dp_world.specs.inner.Writing.{AllShown, lines_of}
+use Rattle.dp_world.proofs.writing.write_all.Given as goal
+
+abbrev pub invariant-links : goal.invariant-links
+invariant-links g l =
+    (g.K.Sink.faults l.fn.out ≤ g.K.Sink.faults l.out)
+    × ((done : List (ℕ × Shown)) × (l.initial.left ≡ done ++ l.left)
+    × ((bundle : Bundle) → (bound : ℕ) → (past : Past) → AllShown bundle bound past l.initial.left
+    → Appends (g.K.Sink.taken l.fn.out) (g.K.Sink.taken l.out) (lines_of bundle bound past done)))
+
+abbrev pub decreases-links : goal.decreases-links
+decreases-links g l = length l.left

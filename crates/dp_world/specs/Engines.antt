@@ -1,0 +1,50 @@
+-- What has come of a list of events, where each engine sends what it sends when it is served alone.
+use Rattle.std.specs.Prelude.{ℕ, ◌==◌, List, [], length, take, drop, filter, map, fold}
+use Rattle.dp_tree.specs.declared.bundle.Bundle.{Bundle}
+use Rattle.dp_engine.specs.Served.{alone}
+use Rattle.dp_registry.specs.declared.pass.Pass.{Pass}
+use Rattle.dp_proxy.specs.declared.events.Act.{Act as ProxyAct}
+use Rattle.dp_proxy.specs.declared.events.Act.TheVariants as proxy
+use Rattle.dp_lanes.specs.declared.lane.LaneKind.TheVariants.{Up, Down}
+use Rattle.dp_proxy.specs.Links.{stream}
+use Rattle.dp_proxy.specs.Pasts.{Link, Joined, Past, start, came, turn, acts_of}
+use Rattle.dp_lists.specs.declared.event.Act.{Act}
+use Rattle.dp_lists.specs.declared.event.Act.TheVariants.{Ide, Engine, Give, Move, Close}
+use Rattle.dp_lists.specs.declared.event.Event.{Event}
+
+-- The next bytes of an engine, at most so many: behind those that were read, of what it sends,
+-- served alone, for the bytes that its IDE has given.
+abbrev pub next_sent : Bundle → ℕ → Link → ℕ → List ℕ
+next_sent bundle bound (Joined key pass acts) count =
+    take count (drop (length (stream Up acts)) (alone bundle bound key (stream Down acts)))
+next_sent bundle bound link count = []
+
+-- what an event brings to the proxy
+abbrev pub act_of : Bundle → ℕ → Link → Act → ProxyAct
+act_of bundle bound link (Ide host) = proxy.Ide host
+act_of bundle bound link (Engine key) = proxy.Engine key
+act_of bundle bound link (Give bytes) = proxy.Given bytes
+act_of bundle bound link (Move count) = proxy.Moved (next_sent bundle bound link count)
+act_of bundle bound link Close = proxy.Closed
+
+abbrev pub followed : Bundle → ℕ → Past → Event → Past
+followed bundle bound past e = came past e.link (act_of bundle bound (past.link e.link) e.act)
+
+-- what has come of these events
+abbrev pub past_of : Bundle → ℕ → List Event → Past
+past_of bundle bound events = fold (followed bundle bound) start events
+
+-- ---- one session by itself
+
+-- what happens on a link
+abbrev pub acts_on : ℕ → List Event → List Act
+acts_on link events = map (λ e. e.act) (filter (λ e. e.link == link) events)
+
+-- what becomes of a session by what happens on its own link, where there is no other
+abbrev pub by_itself : Bundle → ℕ → List ℕ → Pass → List Act → Link
+by_itself bundle bound key pass acts =
+    fold (λ link act. (turn [] link (act_of bundle bound link act)).link) (Joined key pass []) acts
+
+-- what was given and read there until it ended
+abbrev pub alone_on : Bundle → ℕ → List ℕ → Pass → List Act → List ProxyAct
+alone_on bundle bound key pass acts = acts_of (by_itself bundle bound key pass acts)

@@ -1,0 +1,67 @@
+-- THE HEADLINE of `replay`
+--
+-- For every list of connections, registrations, pieces and closures, each IDE receives exactly the
+-- whole packets that its engine, served alone with that IDE's commands, would send for the session
+-- its key gave it, and nothing of another's.
+--
+-- `headline` of dp_world proves `Holds` below for every program, bound and list of events, and
+-- `replay` writes the `transcript` of the list. The words:
+--
+-- - *Every list*: any list of events in which a link is made once and before its use (Lists). Its
+--   pieces may cut commands and packets anywhere.
+-- - *The session its key gave it*: when the engine connects, the registry answers its key by the
+--   calls before it, and by nothing else (dp_registry: Journal, Verdicts). A later registration or
+--   stop changes nothing of it.
+-- - *Each IDE receives*: the `ide` line of the session, which goes to the address in the pass.
+-- - *Whole packets*: those in the bytes that were read of the engine. Half a packet is never sent.
+-- - *Served alone*: `alone` of dp_engine, in which there is one engine, one IDE and no proxy.
+-- - *With that IDE's commands*: those among the bytes that it gave until its session ended.
+-- - *Nothing of another's*: what becomes of a session is a function of its key, its pass and what
+--   happens on its own link.
+--
+-- What each reply shows is said with `alone` (dp_engine: `replies_show_the_run`): the program's
+-- run, with the accepted writes, at that step. While none was accepted, output and result are those
+-- of the run without a debugger (`watching_changes_nothing`).
+use Rattle.std.specs.Prelude.{◌≡◌, ℕ, ◌≤◌, List, [], ◌∷◌, ◌++◌, length, Ok}
+use Rattle.dp_tree.specs.declared.bundle.Bundle.{Bundle}
+use Rattle.dp_engine.specs.Served.{alone}
+use Rattle.dp_registry.specs.declared.pass.Pass.{Pass}
+use Rattle.dp_registry.specs.Verdicts.{admit_verdict}
+use Rattle.dp_lanes.specs.declared.lane.LaneKind.TheVariants.{Up, Down}
+use Rattle.dp_proxy.specs.Links.{stream}
+use Rattle.dp_lists.specs.declared.event.Act.TheVariants.{Engine}
+use Rattle.dp_lists.specs.declared.event.Event.{Event}
+use Rattle.dp_world.specs.Engines.{past_of, acts_on, alone_on}
+use Rattle.dp_lists.specs.Lists.{AllFit}
+use Rattle.dp_world.specs.Transcript.{session_of, shown_of, transcript}
+
+-- in this list an engine connects here with a key, and the registry gives it a session
+pub record IsSession (bundle : Bundle) (bound : ℕ) (events : List Event) (link : ℕ)
+    (key : List ℕ) (pass : Pass) : Type 0 where
+  pub before : List Event
+  pub after : List Event
+  pub connects : events ≡ before ++ (record { link = link; act = Engine key }) ∷ after
+  pub gives : admit_verdict (past_of bundle bound before).journal key ≡ Ok pass
+
+-- What its IDE has given and how much was read of the engine, when the session ended or at the end
+-- of the list, is told by its own link alone; and of the transcript this session has its five
+-- lines, and these say just that.
+pub record Receives (bundle : Bundle) (bound : ℕ) (events : List Event) (link : ℕ)
+    (key : List ℕ) (pass : Pass) (its : IsSession bundle bound events link key pass)
+    : Type 0 where
+  pub given : List ℕ
+  pub read : ℕ
+  pub its_ide : given ≡ stream Down (alone_on bundle bound key pass (acts_on link its.after))
+  pub its_engine :
+      read ≡ length (stream Up (alone_on bundle bound key pass (acts_on link its.after)))
+  pub sent : read ≤ length (alone bundle bound key given)
+  pub stands : transcript bundle bound events
+      ≡ shown_of bundle bound (past_of bundle bound events) its.before
+      ++ session_of bundle bound link key pass given read
+      ++ shown_of bundle bound (past_of bundle bound events) its.after
+
+abbrev pub Holds : Bundle → ℕ → List Event → Type 0
+Holds bundle bound events =
+    AllFit [] events → (link : ℕ) (key : List ℕ) (pass : Pass)
+    → (its : IsSession bundle bound events link key pass)
+    → Receives bundle bound events link key pass its

@@ -1,0 +1,15 @@
+//! Lists of events, replayed with engines in memory: the transcript says what each IDE and each engine received.
+#![tactic(auto)]
+
+mod engine;
+mod errors;
+mod laws;
+mod lines;
+mod links;
+mod shown;
+mod world;
+mod writing;
+
+pub use errors::ReplayError;
+pub use laws::headline;
+pub use writing::replay;

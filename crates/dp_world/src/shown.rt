@@ -1,0 +1,128 @@
+//! What the transcript shows of a link.
+ghost use Rattle.std.specs.Prelude.{◌≡◌, IfOk, OnOk};
+
+use crate::engine::Engine;
+use dp_engine::Steps;
+use dp_proxy::{Effect, Refusal};
+use dp_value::{Bytes, Memory};
+use std::alloc::Global;
+use std::sync::ledger::Ledger;
+
+/// What the transcript shows of a link that was made.
+#[derive(Drop)]
+pub(crate) enum Shown<'a> {
+    /// An IDE of this host, and what it was sent: nothing, where it was not answered.
+    Registration {
+        host: Bytes,
+        reply: Bytes,
+    },
+    /// An engine that was refused.
+    Refused {
+        key: Bytes,
+        why: Refusal,
+    },
+    /// An engine with a session, and where its IDE is reached.
+    Session {
+        key: Bytes,
+        host: Bytes,
+        port: u16,
+        engine: Engine<'a>,
+    },
+}
+
+impl<'a> Shown<'a> {
+    ghost use Rattle.dp_proxy.specs.declared.events.Effect.TheVariants as told;
+    ghost use Rattle.dp_world.specs.inner.Passing.{IsReadable, Reads, replied, received, IsTaken, Takes, After};
+
+    /// The next bytes of its engine, at most so many; none where there is no engine.
+    pub fn read(&mut self, alloc: Global, count: u32) -> Result<Bytes, Memory>
+        requires { IsReadable self.old }
+        ensures { IfOk result (λ bytes. Reads self.old count bytes self.new) }
+    {
+        match self {
+            Shown::Session {
+                key: _,
+                host: _,
+                port: _,
+                engine,
+            } => engine.next(alloc, count),
+            _ => Ok(Bytes::of(Vec::new(alloc))),
+        }
+    }
+
+    /// An IDE that asked is sent this.
+    fn reply_with(&mut self, frame: Bytes)
+        ensures { self.new ≡ replied self.old frame }
+    {
+        if let Shown::Registration { host: _, reply } = self {
+            *reply = frame;
+        }
+    }
+
+    /// The IDE of a session receives these frames.
+    fn receive(&mut self, frames: &[u8])
+        requires { IsTaken self.old (told.ToIde frames.now) }
+        ensures { self.new ≡ received self.old frames.now }
+    {
+        if let Shown::Session {
+            key: _,
+            host: _,
+            port: _,
+            engine,
+        } = self
+        {
+            engine.receive(frames);
+        }
+    }
+
+    /// The engine of a session takes these whole commands.
+    fn take<L: Ledger>(
+        &mut self,
+        alloc: Global,
+        commands: &[u8],
+        steps: &mut Steps<L>,
+    ) -> Result<(), Memory>
+        requires { IsTaken self.old (told.ToEngine commands.now) }
+        ensures { OnOk result (Takes self.old commands.now self.new) }
+    {
+        match self {
+            Shown::Session {
+                key: _,
+                host: _,
+                port: _,
+                engine,
+            } => engine.take(alloc, commands, steps),
+            _ => Ok(()),
+        }
+    }
+
+    /// Takes what an act on its link has led to.
+    pub fn pass<L: Ledger>(
+        &mut self,
+        alloc: Global,
+        effect: Effect,
+        steps: &mut Steps<L>,
+    ) -> Result<(), Memory>
+        requires { IsTaken self.old effect }
+        ensures { OnOk result (After self.old effect self.new) }
+    {
+        match effect {
+            Effect::Reply(frame) => {
+                self.reply_with(frame);
+                Ok(())
+            }
+            Effect::ToIde(frames) => {
+                self.receive(frames.as_slice());
+                Ok(())
+            }
+            Effect::ToEngine(commands) => self.take(alloc, commands.as_slice(), steps),
+            Effect::Nothing => Ok(()),
+            Effect::Admitted {
+                session: _,
+                host: _,
+                port: _,
+            } => Ok(()),
+            Effect::Turned(_) => Ok(()),
+        }
+    }
+}
