@@ -1,5 +1,6 @@
 pub mod Engine
 pub mod Failures
+pub mod Ide
 pub mod Links
 pub mod Runs
 pub mod Seen

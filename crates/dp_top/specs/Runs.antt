@@ -39,11 +39,15 @@ abbrev pub IsProgramTold : Failure → List ℕ → Ask → ProgramError → Typ
 IsProgramTold failure name ask why =
     (failure ≡ program_failure why) × (name ≡ program_name ask.names why)
 
--- Only files of a program that is asked for are fetched, each once, in the order of its names: all,
--- or the first of them. Where no program is asked for nothing is fetched.
+-- Of these names files are fetched, each once, in their order: all, or the first of them.
+abbrev pub AreFetched : List (List ℕ) → Told → Told → Type 0
+AreFetched names before after = (count : ℕ) × (after ≡ grown before (take count names))
+
+-- Only files of a program that is asked for are fetched. Where no program is asked for nothing is
+-- fetched.
 abbrev pub IsFetched : Option Ask → Told → Told → Type 0
 IsFetched None before after = after ≡ before
-IsFetched (Some ask) before after = (count : ℕ) × (after ≡ grown before (take count ask.names))
+IsFetched (Some ask) before after = AreFetched ask.names before after
 
 -- ---- the end of a run
 

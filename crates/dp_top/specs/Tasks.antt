@@ -1,16 +1,18 @@
 -- The answers of the top call: what each task does, and why it fails.
-use Rattle.std.specs.Prelude.{◌≡◌, ℕ, ◌≤◌, List, [], Ok, Err, codes}
+use Rattle.std.specs.Prelude.{◌≡◌, ℕ, ◌≤◌, List, [], ◌∷◌, Ok, Err, codes}
 use Rattle.dp_outside.specs.Changes.{Change, IsUntouched}
 use Rattle.dp_show.specs.declared.error.ShowError.{ShowError}
 use Rattle.dp_show.specs.declared.error.ShowError.TheVariants as ends
 use Rattle.dp_show.specs.Shows.{Shows, Ends}
 use Rattle.dp_top.specs.declared.failures.Failure.{Failure}
-use Rattle.dp_top.specs.declared.failures.Failure.TheVariants.{TooLong, Source, ShelfFailed, NoFile, Fatal, Bound, Output, PeerEnd, Packet, Network, Stopped, Memory}
-use Rattle.dp_words.specs.CommandLine.{Task, run, talk, engine, show, Asks}
+use Rattle.dp_top.specs.declared.failures.Failure.TheVariants.{TooLong, Source, ShelfFailed, NoFile, Fatal, Bound, Output, Script, Differs, PeerEnd, Packet, Network, Stopped, Memory}
+use Rattle.dp_words.specs.CommandLine.{Task, run, talk, engine, ide, show, Asks, ask_in}
 use Rattle.dp_top.specs.Engine.{Engages, EngineFails}
+use Rattle.dp_top.specs.Ide.{Plays, IdeFails}
 use Rattle.dp_top.specs.Failures.{status_of, line_of, Says}
 use Rattle.dp_run.specs.Runs.{Runs}
-use Rattle.dp_top.specs.Runs.{RunFails}
+use Rattle.dp_run.specs.Programs.{Told}
+use Rattle.dp_top.specs.Runs.{AreFetched, IsFetched, RunFails}
 use Rattle.dp_top.specs.Seen.{Seen, Stream, changed}
 use Rattle.dp_top.specs.Talk.{Talks, TalkFails}
 
@@ -38,6 +40,8 @@ ShowCaused ShelfFailed input out = ⊥
 ShowCaused (Fatal kind line) input out = ⊥
 ShowCaused (Bound steps) input out = ⊥
 ShowCaused NoFile input out = ⊥
+ShowCaused (Script line) input out = ⊥
+ShowCaused (Differs line wanted found) input out = ⊥
 
 -- ---- each task
 
@@ -55,6 +59,7 @@ Does status (run ask) old new =
     × IsStill old.input new.input × IsStill old.err new.err × IsOffline old new
 Does status (talk key ask) old new = Talks status key ask old new × IsOffline old new
 Does status (engine address key ask) old new = Engages status address key ask old new
+Does status (ide port script) old new = Plays status port script old new
 Does status show old new =
     (status ≡ 0) × Shows (Ok tt) (changed old.input new.input) (changed old.out new.out)
     × IsStill old.err new.err × IsOffline old new
@@ -69,9 +74,15 @@ Caused failure name (talk key ask) old new =
     TalkFails failure name key ask old new × IsOffline old new
 Caused failure name (engine address key ask) old new =
     EngineFails failure name address key ask old new
+Caused failure name (ide port script) old new = IdeFails failure name port script old new
 Caused failure name show old new =
     (name ≡ []) × ShowCaused failure (changed old.input new.input) (changed old.out new.out)
     × IsStill old.err new.err × IsOffline old new
+
+-- only files that a task names are fetched, each once, in their order
+abbrev pub IsFetchedFor : Task → Told → Told → Type 0
+IsFetchedFor (ide port script) before after = AreFetched (script ∷ []) before after
+IsFetchedFor task before after = IsFetched (ask_in task) before after
 
 -- ---- the answers
 

@@ -36,12 +36,16 @@ fn judge_end<'a>(program: Program<'a>, outcome: Option<Outcome>) -> Result<u8, R
 fn judge<'a>(program: Program<'a>, unsent: Failure, served: Served) -> Result<u8, Refused<'a>>
     ensures { told_in result ≡ judged_by unsent (ask_told program.entry) served.outcome served.end }
 {
+    if let ServeEnd::WriteFault = served.end {
+        return Err(Refused::unnamed(unsent));
+    }
+    drop(unsent);
     match served.end {
         ServeEnd::Stopped => judge_end(program, served.outcome),
         ServeEnd::Detached => judge_end(program, served.outcome),
         ServeEnd::LinkEnd => judge_end(program, served.outcome),
         ServeEnd::ReadFault => Err(Refused::unnamed(Failure::Network)),
-        ServeEnd::WriteFault => Err(Refused::unnamed(unsent)),
+        ServeEnd::WriteFault => unreachable!(),
         ServeEnd::OutFault => Err(Refused::unnamed(Failure::Output)),
         ServeEnd::BadCommandFrame { offset } => Err(Refused::unnamed(Failure::Packet { offset })),
         ServeEnd::ByteLimit => Err(Refused::unnamed(Failure::Packet {
@@ -88,6 +92,9 @@ pub(crate) fn serve_program<'a, S: Source, K: Sink, E: Sink, L: Ledger>(
             let served = serve(alloc, session, init, input, out, err, &mut steps);
             judge(request.program, unsent, served)
         }
-        Err(_) => Err(Refused::unnamed(Failure::Memory)),
+        Err(_) => {
+            drop(unsent);
+            Err(Refused::unnamed(Failure::Memory))
+        }
     }
 }

@@ -71,6 +71,10 @@ pub engine_known : Known (codes "engine") (S true (codes "engine"))
 unfolding clap_on_literals
 engine_known = record { met_so = refl; taken = refl; found = λ b. refl; rows = λ b. refl }
 
+pub ide_known : Known (codes "ide") (S false (codes "ide"))
+unfolding clap_on_literals
+ide_known = record { met_so = refl; taken = refl; found = λ b. refl; rows = λ b. refl }
+
 pub show_known : Known (codes "show") (alone (codes "show"))
 unfolding clap_on_literals
 show_known = record { met_so = refl; taken = refl; found = λ b. refl; rows = λ b. refl }

@@ -10,7 +10,7 @@ use Rattle.clap.specs.Faults.{fault_of}
 use Rattle.clap.specs.Lexer.{usize_max}
 use Rattle.clap.specs.Simple.{Shape, subcommand_of}
 use Rattle.clap.specs.Walk.{Row, Text, answers_to}
-use Rattle.dp_words.specs.CommandLine.{Ask, Asks, Task, Address, Dials, IsFileWord, IsKey, run, talk, engine, show, ask_of, bound_limit, bound_of, default_bound, is_option, not_zero, port_limit, port_of, with_bound}
+use Rattle.dp_words.specs.CommandLine.{Ask, Asks, Task, Address, Dials, IsFileWord, IsKey, run, talk, engine, ide, show, IsIde, ask_of, bound_limit, bound_of, default_bound, is_option, not_zero, port_limit, port_of, with_bound}
 use Rattle.dp_value.specs.Decimals.{decimal_in}
 use Rattle.std.proofs.lemmas.Bool.Decides.{nat_tests}
 use Rattle.dp_words.specs.inner.Parsed.{IsParsed, Parsed, ask_in}
@@ -18,7 +18,7 @@ use Rattle.dp_words.specs.inner.Plain.{are_bounded, are_plain, has_bound, is_pla
 use Rattle.dp_words.specs.inner.Rows.{rows_with}
 use Rattle.dp_words.specs.inner.Shapes.{program}
 use Rattle.dp_words.proofs.Leaves.{S, alone, alone_fine, alone_refused, both, bound_alone, bound_level, bound_rows, fault, no_words as no_words_behind, plain_level, plain_rows}
-use Rattle.dp_words.proofs.Programs.{Known, fault_known, rows_known, run_known, talk_known, engine_known, show_known, names, no_words, unknown}
+use Rattle.dp_words.proofs.Programs.{Known, fault_known, rows_known, run_known, talk_known, engine_known, ide_known, show_known, names, no_words, unknown}
 
 -- ---- what tasks want
 
@@ -26,6 +26,7 @@ abbrev name_of : Task → Text
 name_of (run ask) = codes "run"
 name_of (talk key ask) = codes "talk"
 name_of (engine address key ask) = codes "engine"
+name_of (ide port script) = codes "ide"
 name_of show = codes "show"
 
 -- the first of the words names the task
@@ -33,6 +34,7 @@ abbrev named : (words : List Text) (task : Task) → Asks words task → (behind
 named words (run ask) h = (h.behind, h.words_are)
 named words (talk key ask) h = (h.behind, h.words_are)
 named words (engine address key ask) h = (h.behind, h.words_are)
+named words (ide port script) h = (h.number ∷ script ∷ [], h.words_are)
 named words show h = ([], h)
 
 -- a program has a file
@@ -43,18 +45,21 @@ abbrev WantsFiles : Task → List Text → Type 0
 WantsFiles (run ask) behind = IsFiled behind
 WantsFiles (talk key ask) behind = IsFiled behind
 WantsFiles (engine address key ask) behind = IsFiled behind
+WantsFiles (ide port script) behind = (number : Text) × (behind ≡ number ∷ script ∷ [])
 WantsFiles show behind = behind ≡ []
 
 wants : (words : List Text) (task : Task) (h : Asks words task) → WantsFiles task (named words task h).0
 wants words (run ask) h = (ask, h.follows.asked, h.follows.files.some)
 wants words (talk key ask) h = (_, h.speaks.asked, omega (arith))
 wants words (engine address key ask) h = (_, h.dials.asked, omega (arith))
+wants words (ide port script) h = (h.number, refl)
 wants words show h = refl
 
 needs_files : (task : Task) (behind : List Text) → has_bound (name_of task) ≡ true → WantsFiles task behind → IsFiled behind
 needs_files (run ask) behind e h = h
 needs_files (talk key ask) behind e h = h
 needs_files (engine address key ask) behind e h = h
+needs_files (ide port script) behind e h = absurd cc
 needs_files show behind e h = absurd cc
 
 -- the name and the words behind it
@@ -166,8 +171,16 @@ module _ (name : Text) (has : has_bound name ≡ true) (known : Known name (S tr
 is_name : (name other : Text) → name ≡ other → bytes_eq other name ≡ true
 is_name name other e = (bytes_eq-Decides other name).1 (sym e)
 
+no_ide : (task : Task) → codes "ide" ≡ name_of task → (behind : List Text) → WantsFiles task behind → behind ≡ [] → ⊥
+no_ide (ide port script) e behind w nil = let two : _ ≡ [] = sym w.1 ∙ nil in absurd (omega (arith, ap (λ (l : List Text). length l) two))
+no_ide (run ask) e behind w nil = let t : false ≡ true = is_name (codes "ide") _ e in absurd cc
+no_ide (talk key ask) e behind w nil = let t : false ≡ true = is_name (codes "ide") _ e in absurd cc
+no_ide (engine address key ask) e behind w nil = let t : false ≡ true = is_name (codes "ide") _ e in absurd cc
+no_ide show e behind w nil = let t : false ≡ true = is_name (codes "ide") _ e in absurd cc
+
 no_show : (task : Task) → codes "show" ≡ name_of task → (behind : List Text) → WantsFiles task behind → behind ≡ []
 no_show show e behind w = w
+no_show (ide port script) e behind w = let t : false ≡ true = is_name (codes "show") _ e in absurd cc
 no_show (run ask) e behind w = let t : false ≡ true = is_name (codes "show") _ e in absurd cc
 no_show (talk key ask) e behind w = let t : false ≡ true = is_name (codes "show") _ e in absurd cc
 no_show (engine address key ask) e behind w = let t : false ≡ true = is_name (codes "show") _ e in absurd cc
@@ -176,7 +189,17 @@ no_command : (task : Task) → find (answers_to (name_of task)) names ≡ None �
 no_command (run ask) e = absurd cc
 no_command (talk key ask) e = absurd cc
 no_command (engine address key ask) e = absurd cc
+no_command (ide port script) e = absurd cc
 no_command show e = absurd cc
+
+ide_read : (behind : List Text) → list_all is_plain behind ≡ true → length behind ≤ usize_max → Reading (codes "ide" ∷ behind)
+ide_read [] h small = inr (
+  faulty (codes "ide") (S false (codes "ide")) ide_known [] _ tt (no_words_behind false (codes "ide")),
+  λ task asks. no_ide task (same_name (codes "ide") [] task asks) _ (wants (codes "ide" ∷ []) task asks) (sym (same_behind (codes "ide") [] task asks)),
+)
+ide_read (v ∷ vs) h small =
+    let parts = both (is_plain v) (list_all is_plain vs) h in
+    plain_read false (codes "ide") ide_known v vs parts.0 parts.1 small
 
 show_read : (behind : List Text) → list_all is_plain behind ≡ true → Reading (codes "show" ∷ behind)
 show_read [] h = inl (
@@ -209,10 +232,11 @@ abbrev label : Text → Text × List Text
 label name = (name, [])
 
 -- the command that is found, by which names it has
-abbrev found_by : Bool → Bool → Bool → Bool → Option (Text × List Text)
-found_by a b c d =
+abbrev found_by : Bool → Bool → Bool → Bool → Bool → Option (Text × List Text)
+found_by a b c d e =
     if a || false then Some (label (codes "run")) else (if b || false then Some (label (codes "talk"))
-    else (if c || false then Some (label (codes "engine")) else (if d || false then Some (label (codes "show")) else None)))
+    else (if c || false then Some (label (codes "engine")) else (if d || false then Some (label (codes "ide"))
+    else (if e || false then Some (label (codes "show")) else None))))
 
 abbrev fits : Text → List Text → Type 0
 fits name behind = (if has_bound name then are_bounded behind else list_all is_plain behind) ≡ true
@@ -228,13 +252,15 @@ reads (name ∷ behind) h small =
     (λ e. subst (λ n. fits n behind → Reading (n ∷ behind)) e (λ f. bounded_read (codes "talk") refl talk_known behind f few) parts.1) (λ no_talk.
     choose (codes "engine") name
     (λ e. subst (λ n. fits n behind → Reading (n ∷ behind)) e (λ f. bounded_read (codes "engine") refl engine_known behind f few) parts.1) (λ no_engine.
+    choose (codes "ide") name
+    (λ e. subst (λ n. fits n behind → Reading (n ∷ behind)) e (λ f. ide_read behind f few) parts.1) (λ no_ide_name.
     choose (codes "show") name
     (λ e. subst (λ n. fits n behind → Reading (n ∷ behind)) e (λ f. show_read behind f) parts.1) (λ no_show_name.
-    let none : find (answers_to name) names ≡ None = λ i. found_by (no_run i) (no_talk i) (no_engine i) (no_show_name i) in
+    let none : find (answers_to name) names ≡ None = λ i. found_by (no_run i) (no_talk i) (no_engine i) (no_ide_name i) (no_show_name i) in
     inr (
       subst HasFault (sym (unknown name behind parts.0 none)) tt,
       λ task asks. no_command task (subst (λ (n : Text). find (answers_to n) names ≡ None) (same_name name behind task asks) none),
-    )))))
+    ))))))
 
 -- ---- what is asked for passes the first test
 
@@ -317,12 +343,16 @@ asks_behind (engine address key ask) words h b =
     (more_plain address.host (d.number ∷ key ∷ ask.names) (plain_if address.host d.host.is_host.some d.host.is_none)
     (more_plain d.number (key ∷ ask.names) (port_plain d.number address.port d.port)
     (more_plain key ask.names (key_plain key d.session.is_key d.session.is_none) (files_plain ask.names d.session.files.named))))
+asks_behind (ide port script) words h b = absurd cc
 asks_behind show words h b = absurd cc
 
 pub asks_plain : (words : List Text) (task : Task) → Asks words task → are_plain words ≡ true
 asks_plain words (run ask) h = ap are_plain h.words_are ∙ asks_behind (run ask) words h refl
 asks_plain words (talk key ask) h = ap are_plain h.words_are ∙ asks_behind (talk key ask) words h refl
 asks_plain words (engine address key ask) h = ap are_plain h.words_are ∙ asks_behind (engine address key ask) words h refl
+asks_plain words (ide port script) h =
+    ap are_plain h.words_are
+    ∙ more_plain h.number (script ∷ []) (port_plain h.number port h.is_port) (more_plain script [] (plain_if script h.is_script.is_name.some h.is_script.is_none) refl)
 asks_plain words show h = ap are_plain h
 
 -- ---- what is read asks for something
@@ -343,21 +373,50 @@ no_engine_read words (engine address key ask) p is name none asks =
     none asks.behind address key ask (ap ask_of (sym (behind_read words (engine address key ask) p is asks)) ∙ is.asked) asks.dials
 no_engine_read words (run ask) p is name none asks = not_named (codes "engine") (run ask) (sym name ∙ name_read words (run ask) p is asks) refl
 no_engine_read words (talk key ask) p is name none asks = not_named (codes "engine") (talk key ask) (sym name ∙ name_read words (talk key ask) p is asks) refl
+no_engine_read words (ide port script) p is name none asks = not_named (codes "engine") (ide port script) (sym name ∙ name_read words (ide port script) p is asks) refl
 no_engine_read words show p is name none asks = not_named (codes "engine") show (sym name ∙ name_read words show p is asks) refl
+
+pub no_ide_read : (words : List Text) (task : Task) (p : Parsed) → IsParsed words p → p.name ≡ codes "ide"
+    → ((port : ℕ) (script : List ℕ) → IsIde words port script → ⊥) → Asks words task → ⊥
+no_ide_read words (ide port script) p is name none asks = none port script asks
+no_ide_read words (run ask) p is name none asks = not_named (codes "ide") (run ask) (sym name ∙ name_read words (run ask) p is asks) refl
+no_ide_read words (talk key ask) p is name none asks = not_named (codes "ide") (talk key ask) (sym name ∙ name_read words (talk key ask) p is asks) refl
+no_ide_read words (engine address key ask) p is name none asks =
+    not_named (codes "ide") (engine address key ask) (sym name ∙ name_read words (engine address key ask) p is asks) refl
+no_ide_read words show p is name none asks = not_named (codes "ide") show (sym name ∙ name_read words show p is asks) refl
 
 pub no_show_read : (words : List Text) (task : Task) (p : Parsed) → IsParsed words p → p.name ≡ codes "show" → (Asks words show → ⊥) → Asks words task → ⊥
 no_show_read words show p is name none asks = none asks
+no_show_read words (ide port script) p is name none asks = not_named (codes "show") (ide port script) (sym name ∙ name_read words (ide port script) p is asks) refl
 no_show_read words (run ask) p is name none asks = not_named (codes "show") (run ask) (sym name ∙ name_read words (run ask) p is asks) refl
 no_show_read words (talk key ask) p is name none asks = not_named (codes "show") (talk key ask) (sym name ∙ name_read words (talk key ask) p is asks) refl
 no_show_read words (engine address key ask) p is name none asks =
     not_named (codes "show") (engine address key ask) (sym name ∙ name_read words (engine address key ask) p is asks) refl
 
 pub no_name_read : (words : List Text) (task : Task) (p : Parsed) → IsParsed words p → (p.name ≡ codes "run" → ⊥) → (p.name ≡ codes "talk" → ⊥) → (p.name ≡ codes "engine" → ⊥)
-    → (p.name ≡ codes "show" → ⊥) → Asks words task → ⊥
-no_name_read words (run ask) p is a b c d asks = a (name_read words (run ask) p is asks)
-no_name_read words (talk key ask) p is a b c d asks = b (name_read words (talk key ask) p is asks)
-no_name_read words (engine address key ask) p is a b c d asks = c (name_read words (engine address key ask) p is asks)
-no_name_read words show p is a b c d asks = d (name_read words show p is asks)
+    → (p.name ≡ codes "ide" → ⊥) → (p.name ≡ codes "show" → ⊥) → Asks words task → ⊥
+no_name_read words (run ask) p is a b c i d asks = a (name_read words (run ask) p is asks)
+no_name_read words (talk key ask) p is a b c i d asks = b (name_read words (talk key ask) p is asks)
+no_name_read words (engine address key ask) p is a b c i d asks = c (name_read words (engine address key ask) p is asks)
+no_name_read words (ide port script) p is a b c i d asks = i (name_read words (ide port script) p is asks)
+no_name_read words show p is a b c i d asks = d (name_read words show p is asks)
+
+-- behind `ide` stand the words that were read, and no bound
+pub ide_parsed : (words : List Text) (p : Parsed) (number script : Text) → IsParsed words p → p.name ≡ codes "ide" → p.bound ≡ None → p.words ≡ number ∷ script ∷ []
+    → words ≡ codes "ide" ∷ number ∷ script ∷ []
+ide_parsed words p number script is name none two = is.words_are ∙ ap₂ (λ (n : Text) (l : List Text). n ∷ l) name (is.unbound none ∙ two)
+
+pub ide_unbound : (words : List Text) (p : Parsed) (number script : Text) → IsParsed words p → words ≡ codes "ide" ∷ number ∷ script ∷ [] → (port : ℕ) → port_of number ≡ Some port
+    → (p.bound ≡ None) × (p.words ≡ number ∷ script ∷ [])
+ide_unbound words p number script is asks port is_port = by p.bound refl where
+  behind : is.behind ≡ number ∷ script ∷ []
+  behind = ap (λ (l : List Text). drop 1 l) (sym is.words_are ∙ asks)
+
+  by : (b : Option Text) → p.bound ≡ b → (p.bound ≡ None) × (p.words ≡ number ∷ script ∷ [])
+  by None e = (e, sym (is.unbound e) ∙ behind)
+  by (Some n) e =
+      let first : number ≡ codes "--bound" = ap (λ (l : List Text). get_or l 0 []) (sym behind ∙ is.bounded n e) in
+      let plain : false ≡ true = sym (ap is_plain first) ∙ port_plain number port is_port in absurd cc
 
 pub show_alone : (words : List Text) (p : Parsed) → IsParsed words p → words ≡ codes "show" ∷ [] → (p.bound ≡ None) × (p.words ≡ [])
 show_alone words p is asks = by p.bound refl where

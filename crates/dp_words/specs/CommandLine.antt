@@ -145,12 +145,20 @@ pub record IsEngine (words : List (List ℕ)) (address : Address) (key : List �
   pub words_are : words ≡ codes "engine" ∷ behind
   pub dials : Dials behind address key ask
 
+-- the words are `ide PORT SCRIPT`
+pub record IsIde (words : List (List ℕ)) (port : ℕ) (script : List ℕ) : Type 0 where
+  pub number : List ℕ
+  pub words_are : words ≡ codes "ide" ∷ number ∷ script ∷ []
+  pub is_port : port_of number ≡ Some port
+  pub is_script : IsFileWord script
+
 -- ---- what is asked for
 
 pub data Task : Type 0 where
   run : Ask → Task
   talk : (key : List ℕ) → Ask → Task
   engine : Address → (key : List ℕ) → Ask → Task
+  ide : (port : ℕ) → (script : List ℕ) → Task
   show : Task
 
 -- the words ask for this
@@ -158,6 +166,7 @@ abbrev pub Asks : List (List ℕ) → Task → Type 0
 Asks words (run ask) = IsRun words ask
 Asks words (talk key ask) = IsTalk words key ask
 Asks words (engine address key ask) = IsEngine words address key ask
+Asks words (ide port script) = IsIde words port script
 Asks words show = words ≡ codes "show" ∷ []
 
 -- the program that it is for, where it is for one
@@ -165,9 +174,20 @@ abbrev pub ask_in : Task → Option Ask
 ask_in (run ask) = Some ask
 ask_in (talk key ask) = Some ask
 ask_in (engine address key ask) = Some ask
+ask_in (ide port script) = None
 ask_in show = None
+
+abbrev pub names_asked : Option Ask → List (List ℕ)
+names_asked None = []
+names_asked (Some ask) = ask.names
+
+-- the names of the files that it is for, in order
+abbrev pub files_in : Task → List (List ℕ)
+files_in (ide port script) = script ∷ []
+files_in task = names_asked (ask_in task)
 
 -- whether it is done over the network
 abbrev pub uses_net : Task → Bool
 uses_net (engine address key ask) = true
+uses_net (ide port script) = true
 uses_net task = false

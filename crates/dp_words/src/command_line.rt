@@ -2,12 +2,12 @@
 ghost use Rattle.std.specs.Prelude.{◌≡◌, ◌↔◌, ◌∷◌, [], ℕ, List, Option, Some, None, IsTrue, IfOk, IfSome, IfNone, Ok, codes, map, string_bytes};
 ghost use Rattle.std.specs.List.{list_all};
 ghost use Rattle.std.specs.Option.{option_map};
-ghost use Rattle.dp_words.specs.CommandLine.{Address as AnyAddress, AreFileWords, Ask, Asks, Dials, Follows, IsHostWord, IsKey, IsSession, Speaks, Task, ask_of, between, bound_of, port_of};
+ghost use Rattle.dp_words.specs.CommandLine.{Address as AnyAddress, AreFileWords, Ask, Asks, Dials, Follows, IsFileWord, IsHostWord, IsIde, IsKey, IsSession, Speaks, Task, ask_of, between, bound_of, port_of};
 ghost use Rattle.dp_words.specs.Commands.{address_told, ask_told, task_of};
 ghost use Rattle.dp_words.specs.inner.Commands.{parsed_told};
 ghost use Rattle.dp_words.specs.inner.Parsed.{IsParsed, ask_in, bound_in};
 
-use crate::names::{are_files, is_option};
+use crate::names::{are_files, is_file, is_option};
 use crate::parser::{Parsed, parse};
 use crate::plain::are_plain;
 use dp_outside::Host;
@@ -42,6 +42,13 @@ pub struct Engine<'a> {
     pub talk: Talk<'a>,
 }
 
+/// A script that is played over one link to a port.
+#[derive(Clone, Copy, Debug)]
+pub struct Ide<'a> {
+    pub port: u16,
+    pub script: &'a str,
+}
+
 /// What the program is asked for.
 #[derive(Clone, Copy, Debug)]
 pub enum Command<'a> {
@@ -51,6 +58,8 @@ pub enum Command<'a> {
     Talk(Talk<'a>),
     /// One session over a link.
     Engine(Engine<'a>),
+    /// A script over a link.
+    Ide(Ide<'a>),
     /// The elements of the packets that are read.
     Show,
 }
@@ -251,6 +260,46 @@ fn read_engine<'a>(parsed: Parsed<'a>) -> Option<Engine<'a>>
     }
 }
 
+/// The script that is played over a link to a port.
+fn ide_of<'a>(number: &str, script: &'a str) -> Option<Ide<'a>>
+    ensures found { IfSome result (λ i. (i.script.now ≡ script.now) × (port_of number.now ≡ Some i.port) × IsFileWord script.now) }
+    ensures none { IfNone result ((n : ℕ) → port_of number.now ≡ Some n → IsFileWord script.now → ⊥) }
+{
+    if !is_file(script) {
+        return None;
+    }
+    match read_port(number) {
+        None => None,
+        Some(port) => Some(Ide { port, script }),
+    }
+}
+
+/// The script of two words.
+fn script_of<'a>(words: &'a [String]) -> Option<Ide<'a>>
+    ensures found { IfSome result (λ i. (number : List ℕ) × (map string_bytes words.now ≡ number ∷ i.script.now ∷ [])
+        × (port_of number ≡ Some i.port) × IsFileWord i.script.now) }
+    ensures none { IfNone result ((number script : List ℕ) (n : ℕ) → map string_bytes words.now ≡ number ∷ script ∷ []
+        → port_of number ≡ Some n → IsFileWord script → ⊥) }
+{
+    match words {
+        [number, script] => ide_of(number.as_str(), script.as_str()),
+        _ => None,
+    }
+}
+
+/// What `ide` asks for, where no bound is given.
+fn read_ide<'a>(parsed: Parsed<'a>) -> Option<Ide<'a>>
+    ensures found { IfSome result (λ i. (words : List (List ℕ)) → IsParsed words (parsed_told parsed.entry) → parsed.entry.name.now ≡ codes "ide"
+        → IsIde words i.port i.script.now) }
+    ensures none { IfNone result ((words : List (List ℕ)) (port : ℕ) (script : List ℕ) → IsParsed words (parsed_told parsed.entry)
+        → IsIde words port script → ⊥) }
+{
+    if parsed.bound.is_some() {
+        return None;
+    }
+    script_of(parsed.words)
+}
+
 /// Whether nothing stands behind the command.
 fn is_alone(parsed: Parsed<'_>) -> bool
     ensures { IsTrue result ↔ (((parsed_told parsed.entry).bound ≡ None) × ((parsed_told parsed.entry).words ≡ [])) }
@@ -291,6 +340,12 @@ fn command_of<'a>(parsed: Parsed<'a>) -> Option<Command<'a>>
     if parsed.name == "engine" {
         return match read_engine(parsed) {
             Some(engine) => Some(Command::Engine(engine)),
+            None => None,
+        };
+    }
+    if parsed.name == "ide" {
+        return match read_ide(parsed) {
+            Some(ide) => Some(Command::Ide(ide)),
             None => None,
         };
     }

@@ -40,7 +40,7 @@ pub(crate) fn is_option(word: &[u8]) -> bool
 }
 
 /// Whether a word is the name of a file, and asks for no option.
-fn is_file(word: &str) -> bool
+pub(crate) fn is_file(word: &str) -> bool
     ensures { IsTrue result ↔ IsFileWord word.now }
 {
     is_file_name(word.as_bytes()) && !is_option(word.as_bytes())

@@ -44,6 +44,13 @@ fn bound_argument<'a>(alloc: Global) -> Arg<'a>
         .action(ArgAction::Set)
 }
 
+/// A command with words behind it.
+fn unbounded<'a>(alloc: Global, name: &'a str) -> Result<Command<'a>, AllocError>
+    ensures { IfOk result (λ c. shape_of c ≡ shape.unbounded name.entry.now) }
+{
+    Command::new(alloc, name).arg(words_argument(alloc))
+}
+
 /// A command with a bound, if it is given, and words behind it.
 fn bounded<'a>(alloc: Global, name: &'a str) -> Result<Command<'a>, AllocError>
     ensures { IfOk result (λ c. shape_of c ≡ shape.bounded name.entry.now) }
@@ -73,6 +80,7 @@ fn program<'a>(alloc: Global) -> Result<Command<'a>, AllocError>
         .subcommand(bounded(alloc, "run")?)?
         .subcommand(bounded(alloc, "talk")?)?
         .subcommand(bounded(alloc, "engine")?)?
+        .subcommand(unbounded(alloc, "ide")?)?
         .subcommand(Command::new(alloc, "show"))
 }
 

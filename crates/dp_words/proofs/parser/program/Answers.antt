@@ -4,7 +4,7 @@ use Rattle.clap.specs.Words.{App, Shape, app_of, shape_of, with_subcommand}
 use Rattle.clap.specs.declared.builder.command.Command.{Command}
 use Rattle.clap.specs.declared.builder.command.Command.TheViews.{out-Command}
 use Rattle.clap.proofs.SimpleLemmas.{plain_fields}
-use Rattle.dp_words.specs.inner.Shapes.{bounded, program, settings, wordless}
+use Rattle.dp_words.specs.inner.Shapes.{bounded, program, settings, unbounded, wordless}
 use Rattle.dp_words.proofs.parser.program.Goals as goal
 
 -- a command of a plain shape has no global argument
@@ -16,8 +16,10 @@ returns c =
     let run_is : shape_of c.in_ok-bounded.field-0 ≡ bounded (codes "run") = search rules in
     let talk_is : shape_of c.in_ok-bounded-2.field-0 ≡ bounded (codes "talk") = search rules in
     let engine_is : shape_of c.in_ok-bounded-3.field-0 ≡ bounded (codes "engine") = search rules in
+    let ide_is : shape_of c.in_ok-unbounded.field-0 ≡ unbounded (codes "ide") = search rules in
     let show_is : shape_of c.new.result ≡ wordless (codes "show") = ap (λ (a : App). a.top) c.new.ensures.app in
     let one = c.in_ok-subcommand.ensures.shape (local _ _ run_is refl) ∙ ap₂ with_subcommand c.settings.ensures run_is in
     let two = c.in_ok-subcommand-2.ensures.shape (local _ _ talk_is refl) ∙ ap₂ with_subcommand one talk_is in
     let three = c.in_ok-subcommand-3.ensures.shape (local _ _ engine_is refl) ∙ ap₂ with_subcommand two engine_is in
-    IfOk-weaker c.subcommand-4.result _ _ (λ r h. h.shape c.new.ensures.local ∙ ap₂ with_subcommand three show_is) c.subcommand-4.ensures
+    let four = c.in_ok-subcommand-4.ensures.shape (local _ _ ide_is refl) ∙ ap₂ with_subcommand three ide_is in
+    IfOk-weaker c.subcommand-5.result _ _ (λ r h. h.shape c.new.ensures.local ∙ ap₂ with_subcommand four show_is) c.subcommand-5.ensures
