@@ -63,16 +63,21 @@ impl<'a> Engine<'a> {
         ensures received { IfOk result (λ engine. engine.received ≡ 0) }
     {
         let (session, init) = Session::begin(alloc, bundle, key, bound)?;
-        let frame = packet_bytes(alloc, init.as_slice())?;
-        Ok(Engine {
-            session,
-            ended: None,
-            sent: frame.into_vec(),
-            read: 0,
-            received: 0,
-            given: Vec::new(alloc),
-            own: Vec::new(alloc),
-        })
+        match packet_bytes(alloc, init.as_slice()) {
+            Ok(frame) => Ok(Engine {
+                session,
+                ended: None,
+                sent: frame.into_vec(),
+                read: 0,
+                received: 0,
+                given: Vec::new(alloc),
+                own: Vec::new(alloc),
+            }),
+            Err(Memory) => {
+                drop(session);
+                Err(Memory)
+            }
+        }
     }
 
     /// Reads at most so many bytes more of what it has sent. On want of memory none was read.

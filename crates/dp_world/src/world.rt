@@ -90,7 +90,13 @@ pub(crate) fn follow<'a, L: Ledger>(
 {
     let mut world = World::new(alloc);
     'events: for event in events {
-        world.take(alloc, bundle, bound, event, steps)?;
+        match world.take(alloc, bundle, bound, event, steps) {
+            Ok(()) => {}
+            Err(Memory) => {
+                drop(world);
+                return Err(Memory);
+            }
+        }
     }
     let World { proxy: _, links } = world;
     Ok(links)

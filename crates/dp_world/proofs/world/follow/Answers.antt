@@ -22,7 +22,7 @@ events-preserved g c =
     subst (λ (es : List Event). WorldStands c.args.bundle.now c.args.bound es c.take.new.self.proxy
     c.take.new.self.links.entries)
     (sym (take_item c.args.events.now i c.event-item.result less c.event-item.is))
-    (c.in_ok-take.ensures (take i c.args.events.now) c.events.invariant
+    (c.in-Ok.ensures (take i c.args.events.now) c.events.invariant
     (fit_item [] c.args.events.now i c.event-item.result c.requires.fit less c.event-item.is))
 
 pub returns-clause-shown : goal.returns-clause-shown
