@@ -1,12 +1,13 @@
-//! The program `dbgp`: hands its words, files and standard streams to the top call, and ends with its answer.
+//! The program `dbgp`: hands its words, files, standard streams and network to the top call, and ends with its answer.
 #![tactic(auto)]
 
-use dp_adapters::{FileShelf, Reading, Writing};
-use dp_outside::{NoNet, NoSpawner};
+use dp_adapters::{FileShelf, Reading, TcpNet, Writing};
+use dp_outside::NoSpawner;
 use dp_top::top;
 use std::alloc::{AllocError, Global};
 use std::fs::Files;
 use std::io::{ErrorKind, Read, Write};
+use std::net::{Net as Sockets, TcpListener, TcpStream};
 use std::process::ExitCode;
 use std::rt::Env;
 use std::sync::Wait;
@@ -36,7 +37,14 @@ fn words(rt: &(impl Env + AllocGlobal)) -> Result<Vec<String>, AllocError> {
 
 /// Makes the real objects, and calls the top call.
 fn call<
-    R: Threads + Wait + Sync + Send + Env + AllocGlobal + Files,
+    R: Threads
+        + Wait
+        + Sync
+        + Send
+        + Env
+        + AllocGlobal
+        + Files
+        + Sockets<Listener = TcpListener, Stream = TcpStream>,
     I: Read + Drop,
     O: Write + Drop,
     E: Write + Drop,
@@ -48,7 +56,7 @@ fn call<
     let mut input = Reading::new(stdin);
     let mut out = Writing::new(stdout);
     let mut err = Writing::new(stderr);
-    let mut net = NoNet::new();
+    let mut net = TcpNet::new(rt.alloc(), rt);
     let mut spawner: NoSpawner<R> = NoSpawner::new();
     top(
         rt,

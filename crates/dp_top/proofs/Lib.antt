@@ -1,4 +1,4 @@
-pub mod NameLaws
 pub mod RunTold
 pub mod TalkLaws
 pub mod TaskLaws
+pub mod EngineLaws

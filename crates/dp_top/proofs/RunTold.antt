@@ -1,6 +1,6 @@
 -- What is told of files and of the end of a run, by what the files are.
-use Rattle.std.proofs.Common.{◌≡◌, ◌≢◌, ℕ, ◌+◌, false, List, Result, Ok, Err, length, take, refl, sym, ap, ◌∙◌, subst, inl, inr, arith}
-use Rattle.std.specs.Prelude.{⊤, Some}
+use Rattle.std.proofs.Common.{◌≡◌, ℕ, ◌+◌, false, List, Result, Ok, Err, length, take, refl, sym, ap, ◌∙◌, subst, inl, inr, arith}
+use Rattle.std.specs.Prelude.{⊤, Option, None, Some}
 use Rattle.std.proofs.lemmas.List.{take_all}
 use Rattle.dp_outside.specs.Telling.{grown}
 use Rattle.dp_tree.specs.declared.bundle.Bundle.{Bundle}
@@ -9,23 +9,18 @@ use Rattle.dp_bundle.specs.declared.errors.BundleError.TheVariants as unmade
 use Rattle.dp_lexer.specs.declared.errors.LexError.TheVariants as lex
 use Rattle.dp_parse.specs.declared.errors.ParseError.{ParseError}
 use Rattle.dp_parse.specs.declared.errors.ParseError.TheVariants as parse
+use Rattle.dp_run.proofs.Growing.{grown_by_none}
 use Rattle.dp_run.specs.declared.error.ProgramError.{ProgramError}
 use Rattle.dp_run.specs.declared.error.ProgramError.TheVariants as none
 use Rattle.dp_run.specs.declared.error.RunError.{RunError}
 use Rattle.dp_run.specs.declared.error.RunError.TheVariants as run
 use Rattle.dp_run.specs.Programs.{Asks, IsHeld as IsRunHeld, Told, is_bad_file, refusal}
 use Rattle.dp_run.specs.Runs.{of_program}
-use Rattle.dp_top.specs.declared.failures.Failure.{Failure}
-use Rattle.dp_top.specs.declared.failures.Failure.TheVariants.{NoFile}
 use Rattle.dp_top.specs.declared.failures.Refused.{Refused}
-use Rattle.dp_top.specs.CommandLine.{Ask}
-use Rattle.dp_top.specs.Failures.{status_of}
+use Rattle.dp_words.specs.CommandLine.{Ask}
 use Rattle.dp_top.specs.Runs.{IsFetched, failure_of, program_failure}
-use Rattle.dp_top.specs.inner.Held.{IsBadSource, IsHeld}
+use Rattle.dp_top.specs.inner.Held.{IsBadSource, IsGood, IsHeld}
 use Rattle.dp_top.specs.Sources.{failure_of as failure_of_source}
-
-abbrev pub IsGood : Failure → Type 0
-IsGood failure = (status_of failure ≢ 201) × (failure ≢ NoFile)
 
 good : (why : ProgramError) → is_bad_file why ≡ false → IsGood (program_failure why)
 good (none.Shelf file) h = ((λ e. omega (arith, e)), (λ e. cc))
@@ -87,3 +82,8 @@ fetched A (Err (none.Missing file)) before after ask e = (file + 1, e)
 fetched A (Err (none.TooLong file)) before after ask e = all_fetched before after ask.names e
 fetched A (Err (none.Source file why)) before after ask e = all_fetched before after ask.names e
 fetched A (Err none.Memory) before after ask e = e
+
+-- nothing was
+pub nothing_fetched : (asked : Option Ask) (told : Told) → IsFetched asked told told
+nothing_fetched None told = refl
+nothing_fetched (Some ask) told = (0, grown_by_none told)

@@ -1,5 +1,5 @@
 -- What serving a session came to decides the end of `talk`.
-use Rattle.std.proofs.Common.{◌≡◌, ◌≤◌, ℕ, List, [], ◌∷◌, map, Option, None, Some, Result, Ok, Err, refl, sym, ap, ◌∙◌, subst, inl, inr, arith, String, string_bytes, Global}
+use Rattle.std.proofs.Common.{◌≡◌, ◌≤◌, ℕ, List, [], map, Option, None, Some, Result, Ok, Err, refl, sym, ap, ◌∙◌, subst, inl, inr, arith, String, string_bytes, Global}
 use Rattle.std.specs.Prelude.{IfOk, IfErr, MatchResult}
 use Rattle.dp_outside.specs.Changes.{Change}
 use Rattle.dp_tree.specs.declared.bundle.Bundle.{Bundle}
@@ -24,14 +24,13 @@ use Rattle.dp_state.specs.declared.moments.Outcome.TheVariants as way
 use Rattle.dp_top.specs.declared.failures.Failure.{Failure}
 use Rattle.dp_top.specs.declared.failures.Failure.TheVariants as failure
 use Rattle.dp_top.specs.declared.failures.Refused.{Refused}
-use Rattle.dp_top.specs.CommandLine.{AreFileWords, Ask}
+use Rattle.dp_words.specs.CommandLine.{AreFileWords, Ask}
 use Rattle.dp_top.specs.Runs.{IsProgramTold, IsRunTold}
-use Rattle.dp_top.specs.inner.Held.{IsHeld}
+use Rattle.dp_top.specs.inner.Held.{IsGood, IsHeld}
 use Rattle.dp_top.specs.Seen.{Seen, changed}
-use Rattle.dp_top.specs.Talk.{AreIdle, Talks, TalkFails, Told, end_told, ended, judged, judged_by, unnamed}
+use Rattle.dp_top.specs.Talk.{AreIdle, Talks, TalkFails, Told, end_told, ended, judged_by, unnamed}
 use Rattle.dp_top.specs.inner.Sessions.{ServedSo, UnservedSo, told_in}
-use Rattle.dp_top.proofs.NameLaws.{names_of}
-use Rattle.dp_top.proofs.RunTold.{IsGood}
+use Rattle.dp_words.proofs.NameLaws.{names_of}
 
 -- ---- what is told
 
@@ -45,8 +44,9 @@ pub end_failure : (ask : Ask) (refused : Refused) (why : RunError) (outcome : Ou
     → told_in (Err refused) ≡ ended ask (Some outcome)
 end_failure ask refused why outcome told e = (λ i. Err (told.0 i, told.1 i)) ∙ ap (end_told ask) e
 
-pub by_its_end : (ask : Ask) (served : Served) (end : ServeEnd) (told : Told) → served.end ≡ end → told ≡ judged_by ask served.outcome end → told ≡ judged ask served
-by_its_end ask served end told is e = e ∙ ap (judged_by ask served.outcome) (sym is)
+pub by_its_end : (unsent : Failure) (ask : Ask) (served : Served) (end : ServeEnd) (told : Told) → served.end ≡ end → told ≡ judged_by unsent ask served.outcome end
+    → told ≡ judged_by unsent ask served.outcome served.end
+by_its_end unsent ask served end told is e = e ∙ ap (judged_by unsent ask served.outcome) (sym is)
 
 -- ---- no end of a session is a bad source
 
@@ -61,20 +61,21 @@ good_end ask (Some (way.Exit status)) = tt
 good_end ask (Some (way.Fatal kind file line)) = ((λ e. omega (arith, e)), (λ e. cc))
 good_end ask (Some way.Bound) = ((λ e. omega (arith, e)), (λ e. cc))
 
-good_judged : (ask : Ask) (outcome : Option Outcome) (end : ServeEnd) → IsGoodTold (judged_by ask outcome end)
-good_judged ask outcome Stopped = good_end ask outcome
-good_judged ask outcome Detached = good_end ask outcome
-good_judged ask outcome LinkEnd = good_end ask outcome
-good_judged ask outcome ReadFault = ((λ e. omega (arith, e)), (λ e. cc))
-good_judged ask outcome WriteFault = ((λ e. omega (arith, e)), (λ e. cc))
-good_judged ask outcome OutFault = ((λ e. omega (arith, e)), (λ e. cc))
-good_judged ask outcome (BadCommandFrame offset) = ((λ e. omega (arith, e)), (λ e. cc))
-good_judged ask outcome ByteLimit = ((λ e. omega (arith, e)), (λ e. cc))
-good_judged ask outcome Memory = ((λ e. omega (arith, e)), (λ e. cc))
+good_judged : (unsent : Failure) → IsGood unsent → (ask : Ask) (outcome : Option Outcome) (end : ServeEnd) → IsGoodTold (judged_by unsent ask outcome end)
+good_judged unsent good ask outcome Stopped = good_end ask outcome
+good_judged unsent good ask outcome Detached = good_end ask outcome
+good_judged unsent good ask outcome LinkEnd = good_end ask outcome
+good_judged unsent good ask outcome ReadFault = ((λ e. omega (arith, e)), (λ e. cc))
+good_judged unsent good ask outcome WriteFault = good
+good_judged unsent good ask outcome OutFault = ((λ e. omega (arith, e)), (λ e. cc))
+good_judged unsent good ask outcome (BadCommandFrame offset) = ((λ e. omega (arith, e)), (λ e. cc))
+good_judged unsent good ask outcome ByteLimit = ((λ e. omega (arith, e)), (λ e. cc))
+good_judged unsent good ask outcome Memory = ((λ e. omega (arith, e)), (λ e. cc))
 
-pub good_served : (ask : Ask) (served : Served) (result : Result ℕ Refused) → told_in result ≡ judged ask served → IfErr result (λ why. IsGood why.failure)
-good_served ask served (Ok status) told = tt
-good_served ask served (Err why) told = subst IsGoodTold (sym told) (good_judged ask served.outcome served.end)
+pub good_served : (unsent : Failure) → IsGood unsent → (ask : Ask) (served : Served) (result : Result ℕ Refused)
+    → told_in result ≡ judged_by unsent ask served.outcome served.end → IfErr result (λ why. IsGood why.failure)
+good_served unsent good ask served (Ok status) told = tt
+good_served unsent good ask served (Err why) told = subst IsGoodTold (sym told) (good_judged unsent good ask served.outcome served.end)
 
 pub good_memory : (refused : Refused) → refused.failure ≡ failure.Memory → IsGood refused.failure
 good_memory refused memory = subst IsGood (sym memory) ((λ e. omega (arith, e)), (λ e. cc))
@@ -93,8 +94,8 @@ ended_small ask (Some gone) state status e = end_small ask state status (outcome
 ended_small ask (Some (Finished o)) state status e = end_small ask state status (outcome_of state) refl e
 ended_small ask None state status e = end_small ask state status (outcome_of state) refl e
 
-module _ (ask : Ask) (served : Served) (program : Bundle) (key : List ℕ) (input out err : Change) where
-  small : (status : ℕ) (end : ServeEnd) → ServesTo end served program ask.bound key input out err → judged_by ask served.outcome end ≡ Ok status → status ≤ 199
+module _ (unsent : Failure) (ask : Ask) (served : Served) (program : Bundle) (key : List ℕ) (input out err : Change) where
+  small : (status : ℕ) (end : ServeEnd) → ServesTo end served program ask.bound key input out err → judged_by unsent ask served.outcome end ≡ Ok status → status ≤ 199
   small status Stopped s e = ended_small ask _ _ status (ap (ended ask) (sym s.outcome) ∙ e)
   small status Detached s e = ended_small ask _ _ status (ap (ended ask) (sym s.outcome) ∙ e)
   small status LinkEnd s e = ended_small ask _ _ status (ap (ended ask) (sym s.outcome) ∙ e)
@@ -105,13 +106,13 @@ module _ (ask : Ask) (served : Served) (program : Bundle) (key : List ℕ) (inpu
   small status ByteLimit s e = absurd (cc)
   small status Memory s e = absurd (cc)
 
-  pub small_served : (result : Result ℕ Refused) → told_in result ≡ judged ask served → Serves served program ask.bound key input out err → IfOk result (λ status. status ≤ 199)
+  pub small_served : (result : Result ℕ Refused) → told_in result ≡ judged_by unsent ask served.outcome served.end → Serves served program ask.bound key input out err → IfOk result (λ status. status ≤ 199)
   small_served (Ok status) told s = small status served.end s (sym told)
   small_served (Err why) told s = tt
 
   -- what was served is what is told
-  pub served_told : (result : Result ℕ Refused) → told_in result ≡ judged ask served → Serves served program ask.bound key input out err
-      → MatchResult result (λ status. ServedSo status program key ask input out err) (λ why. UnservedSo why.failure why.name.now program key ask input out err)
+  pub served_told : (result : Result ℕ Refused) → told_in result ≡ judged_by unsent ask served.outcome served.end → Serves served program ask.bound key input out err
+      → MatchResult result (λ status. ServedSo unsent status program key ask input out err) (λ why. UnservedSo unsent why.failure why.name.now program key ask input out err)
   served_told (Ok status) told s = record { served = served; serves = s; told = sym told }
   served_told (Err why) told s = inr (record { served = served; serves = s; told = sym told })
 
@@ -119,8 +120,8 @@ module _ (ask : Ask) (served : Served) (program : Bundle) (key : List ℕ) (inpu
 
 module _ (key : List ℕ) (ask : Ask) (old new : Seen) where
   pub program_served : (program : Bundle) → Make old.shelf.files ask.names (Ok program) → (result : Result ℕ Refused)
-      → MatchResult result (λ status. ServedSo status program key ask (changed old.input new.input) (changed old.out new.out) (changed old.err new.err))
-      (λ why. UnservedSo why.failure why.name.now program key ask (changed old.input new.input) (changed old.out new.out) (changed old.err new.err))
+      → MatchResult result (λ status. ServedSo failure.Output status program key ask (changed old.input new.input) (changed old.out new.out) (changed old.err new.err))
+      (λ why. UnservedSo failure.Output why.failure why.name.now program key ask (changed old.input new.input) (changed old.out new.out) (changed old.err new.err))
       → MatchResult result (λ status. Talks status key ask old new) (λ why. TalkFails why.failure why.name.now key ask old new)
   program_served program made (Ok status) h = record { served = h.served; is = record { program = program; made = made; serves = h.serves }; told = h.told }
   program_served program made (Err why) (inl memory) = inl (memory.0, inl memory.1)

@@ -1,5 +1,5 @@
 -- The answers of the call: what the words ask for, why it failed, and what is told of it.
-use Rattle.std.proofs.Common.{◌≡◌, ◌⊎◌, ℕ, ◌<◌, ◌≤◌, List, Option, None, Some, Result, Ok, Err, refl, sym, ap, ◌∙◌, subst, arith, inl, inr, ⊎_elim, codes, [], ◌∷◌}
+use Rattle.std.proofs.Common.{◌≡◌, ◌⊎◌, ℕ, ◌<◌, ◌≤◌, List, Option, None, Some, Ok, Err, refl, sym, ap, ◌∙◌, subst, arith, inl, inr, ⊎_elim, codes, [], ◌∷◌, zero, suc, ◌+◌, false, get_or, drop}
 use Rattle.dp_outside.specs.Causes.{Rose}
 use Rattle.dp_outside.specs.Changes.{Change}
 use Rattle.dp_show.specs.declared.error.ShowError.{ShowError}
@@ -9,7 +9,6 @@ use Rattle.dp_show.proofs.ShowLaws.{cut_of}
 use Rattle.dp_top.specs.declared.failures.Failure.{Failure}
 use Rattle.dp_top.specs.declared.failures.Failure.TheVariants as failure
 use Rattle.dp_tree.specs.declared.bundle.Bundle.{Bundle}
-use Rattle.dp_bundle.specs.declared.errors.BundleError.{BundleError}
 use Rattle.dp_engine.specs.declared.serving.ServeEnd.{ServeEnd}
 use Rattle.dp_engine.specs.declared.serving.ServeEnd.TheVariants as serve
 use Rattle.dp_engine.specs.Serving.{CutBy, EndsBy, IsCut, ServesTo}
@@ -23,53 +22,93 @@ use Rattle.dp_run.specs.Runs.{RunCaused}
 use Rattle.dp_state.specs.declared.moments.Outcome.{Outcome}
 use Rattle.dp_state.specs.declared.moments.Outcome.TheVariants as way
 use Rattle.dp_top.specs.declared.failures.Refused.{Refused}
-use Rattle.dp_top.specs.CommandLine.{Ask, IsRun, IsTalk, Task, run, talk, show, Asks, ask_in, ask_of}
+use Rattle.dp_words.specs.CommandLine.{Address, Ask, IsEngine, IsRun, IsTalk, Task, run, talk, engine, show, Asks, ask_in, ask_of, port_of, uses_net}
+use Rattle.dp_outside.specs.Links.{CountsReturned}
+use Rattle.dp_top.specs.Engine.{EngineFails, EndsSo as EngineEnds}
+use Rattle.dp_top.specs.Links.{IsDialled}
 use Rattle.dp_top.specs.Failures.{status_of, line_of, Says}
 use Rattle.dp_top.specs.Runs.{IsFetched, RunFails, failure_of as failure_told, program_failure}
-use Rattle.dp_top.specs.inner.Held.{AreHeld, IsBadSource}
+use Rattle.dp_top.specs.inner.Held.{AreHeld, IsBadSource, IsGood}
 use Rattle.dp_top.specs.Seen.{NoneRose, Seen, Stream, changed}
 use Rattle.dp_top.specs.Talk.{EndsSo, TalkFails, Told, ended, judged_by}
 use Rattle.dp_top.specs.Tasks.{failure_of, ShowCaused, Does, Caused, Fails, before_line}
-use Rattle.dp_top.proofs.RunTold.{IsGood, bad_source}
+use Rattle.dp_top.proofs.RunTold.{bad_source}
 
-abbrev asked_for : ℕ → List (List ℕ) → Ask
-asked_for bound names = record { bound = bound; names = names }
+-- the name of a task
+abbrev name_of : Task → List ℕ
+name_of (run ask) = codes "run"
+name_of (talk key ask) = codes "talk"
+name_of (engine address key ask) = codes "engine"
+name_of show = codes "show"
 
--- a key and a program
-one_session : (key k : List ℕ) (ask other : Ask)
-    → Some (asked_for ask.bound (key ∷ ask.names)) ≡ Some (asked_for other.bound (k ∷ other.names)) → talk key ask ≡ talk k other
-one_session key k ask other asked =
-    let whole : asked_for ask.bound (key ∷ ask.names) ≡ asked_for other.bound (k ∷ other.names) = cc in
-    let bounds : ask.bound ≡ other.bound = ap (λ (a : Ask). a.bound) whole in
-    let words : key ∷ ask.names ≡ k ∷ other.names = ap (λ (a : Ask). a.names) whole in
-    let keys : key ≡ k = cc in
-    let names : ask.names ≡ other.names = cc in
-    λ i. talk (keys i) (asked_for (bounds i) (names i))
+abbrev first_of : List (List ℕ) → List ℕ
+first_of [] = []
+first_of (word ∷ words) = word
 
-abbrev first_letter : List (List ℕ) → ℕ
-first_letter [] = 0
-first_letter ([] ∷ words) = 0
-first_letter ((letter ∷ word) ∷ words) = letter
+abbrev behind_of : List (List ℕ) → List (List ℕ)
+behind_of [] = []
+behind_of (word ∷ words) = words
+
+named : (words : List (List ℕ)) (task : Task) → Asks words task → first_of words ≡ name_of task
+named words (run ask) h = ap first_of h.words_are
+named words (talk key ask) h = ap first_of h.words_are
+named words (engine address key ask) h = ap first_of h.words_are
+named words show h = ap first_of h
+
+abbrev letters : List ℕ → ℕ
+letters [] = 0
+letters (a ∷ []) = a
+letters (a ∷ b ∷ more) = a
+
+apart : (words : List (List ℕ)) (task other : Task) → Asks words task → Asks words other → letters (name_of task) ≡ letters (name_of other)
+apart words task other p q = ap letters (sym (named words task p) ∙ named words other q)
+
+abbrev bound_in : Option Ask → ℕ
+bound_in None = 0
+bound_in (Some ask) = ask.bound
+
+abbrev names_in : Option Ask → List (List ℕ)
+names_in None = []
+names_in (Some ask) = ask.names
+
+-- the same words ask for the same
+asks_same : (words behind other : List (List ℕ)) (name : List ℕ) (a b : Option Ask) → words ≡ name ∷ behind → words ≡ name ∷ other → ask_of behind ≡ a → ask_of other ≡ b → a ≡ b
+asks_same words behind other name a b p q asked asks = sym asked ∙ ap (λ (l : List (List ℕ)). ask_of (behind_of l)) (sym p ∙ q) ∙ asks
+
+abbrev number_in : Option ℕ → ℕ
+number_in None = 0
+number_in (Some n) = n
+
+abbrev word_at : ℕ → List (List ℕ) → List ℕ
+word_at n words = get_or words n []
 
 -- the words ask for one task
 one_task : (words : List (List ℕ)) (task other : Task) → Asks words task → Asks words other → task ≡ other
-one_task words (talk key ask) (talk k other) p q =
-    let same : codes "talk" ∷ p.behind ≡ codes "talk" ∷ q.behind = sym p.words_are ∙ q.words_are in
-    let behind : p.behind ≡ q.behind = cc in
-    one_session key k ask other (sym p.speaks.asked ∙ ap ask_of behind ∙ q.speaks.asked)
-one_task words (talk key ask) show p q = absurd (omega (arith, ap first_letter (sym p.words_are ∙ q)))
-one_task words show (talk k ask) p q = absurd (omega (arith, ap first_letter (sym p ∙ q.words_are)))
-one_task words show show p q = refl
 one_task words (run ask) (run other) p q =
-    let same : codes "run" ∷ p.behind ≡ codes "run" ∷ q.behind = sym p.words_are ∙ q.words_are in
-    let behind : p.behind ≡ q.behind = cc in
-    let asked : Some ask ≡ Some other = sym p.follows.asked ∙ ap ask_of behind ∙ q.follows.asked in
-    let asks : ask ≡ other = cc in
-    λ i. run (asks i)
-one_task words (run ask) (talk k other) p q = let same : codes "run" ∷ p.behind ≡ codes "talk" ∷ q.behind = sym p.words_are ∙ q.words_are in absurd (cc)
-one_task words (run ask) show p q = let same : codes "run" ∷ p.behind ≡ codes "show" ∷ [] = sym p.words_are ∙ q in absurd (cc)
-one_task words (talk key ask) (run other) p q = let same : codes "talk" ∷ p.behind ≡ codes "run" ∷ q.behind = sym p.words_are ∙ q.words_are in absurd (cc)
-one_task words show (run ask) p q = let same : codes "show" ∷ [] ≡ codes "run" ∷ q.behind = sym p ∙ q.words_are in absurd (cc)
+    let same = asks_same words p.behind q.behind (codes "run") _ _ p.words_are q.words_are p.follows.asked q.follows.asked in
+    λ i. run (record { bound = bound_in (same i); names = names_in (same i) })
+one_task words (talk key ask) (talk k other) p q =
+    let same = asks_same words p.behind q.behind (codes "talk") _ _ p.words_are q.words_are p.speaks.asked q.speaks.asked in
+    λ i. talk (word_at 0 (names_in (same i))) (record { bound = bound_in (same i); names = drop 1 (names_in (same i)) })
+one_task words (engine address key ask) (engine other k asked) p q =
+    let same = asks_same words p.behind q.behind (codes "engine") _ _ p.words_are q.words_are p.dials.asked q.dials.asked in
+    let ports : Some address.port ≡ Some other.port =
+    sym p.dials.port ∙ ap (λ (o : Option Ask). port_of (word_at 1 (names_in o))) same ∙ q.dials.port in
+    λ i. engine (record { host = word_at 0 (names_in (same i)); port = number_in (ports i) }) (word_at 2 (names_in (same i)))
+    (record { bound = bound_in (same i); names = drop 3 (names_in (same i)) })
+one_task words show show p q = refl
+one_task words (run ask) (talk k other) p q = absurd (omega (arith, apart words (run ask) (talk k other) p q))
+one_task words (run ask) (engine a k other) p q = absurd (omega (arith, apart words (run ask) (engine a k other) p q))
+one_task words (run ask) show p q = absurd (omega (arith, apart words (run ask) show p q))
+one_task words (talk key ask) (run other) p q = absurd (omega (arith, apart words (talk key ask) (run other) p q))
+one_task words (talk key ask) (engine a k other) p q = absurd (omega (arith, apart words (talk key ask) (engine a k other) p q))
+one_task words (talk key ask) show p q = absurd (omega (arith, apart words (talk key ask) show p q))
+one_task words (engine a key ask) (run other) p q = absurd (omega (arith, apart words (engine a key ask) (run other) p q))
+one_task words (engine a key ask) (talk k other) p q = absurd (omega (arith, apart words (engine a key ask) (talk k other) p q))
+one_task words (engine a key ask) show p q = absurd (omega (arith, apart words (engine a key ask) show p q))
+one_task words show (run ask) p q = absurd (omega (arith, apart words show (run ask) p q))
+one_task words show (talk k ask) p q = absurd (omega (arith, apart words show (talk k ask) p q))
+one_task words show (engine a k ask) p q = absurd (omega (arith, apart words show (engine a k ask) p q))
 
 -- ---- failures
 
@@ -99,6 +138,7 @@ show_cut failure.NoFile input out h = absurd h
 abbrev memory_name : Task → List ℕ → List ℕ
 memory_name (run ask) name = []
 memory_name (talk key ask) name = name
+memory_name (engine address key ask) name = name
 memory_name show name = name
 
 -- want of memory once a session was served, or there was none
@@ -107,11 +147,19 @@ talk_starved failed name key ask old new (inl memory) = inl (refl, memory.1)
 talk_starved failed name key ask old new (inr (inl u)) = inl (refl, inl u.idle)
 talk_starved failed name key ask old new (inr (inr h)) = inl (refl, inr (h.served, h.is))
 
+engine_starved : (failed : Failure) (name : List ℕ) (address : Address) (key : List ℕ) (ask : Ask) (old new : Seen)
+    → EngineFails failed name address key ask old new → EngineFails failure.Memory name address key ask old new
+engine_starved failed name address key ask old new (inl memory) = inl (refl, memory.1)
+engine_starved failed name address key ask old new (inr (inl u)) = inl (refl, inl u.idle)
+engine_starved failed name address key ask old new (inr (inr (inl alone))) = inl (refl, inr (inr (inl alone.2)))
+engine_starved failed name address key ask old new (inr (inr (inr h))) = inl (refl, inr (inr (inr (h.served, h.is))))
+
 -- want of memory may come in place of any failure
 memory_instead : (failed : Failure) (name : List ℕ) (task : Task) (old new : Seen) → Caused failed name task old new → Caused failure.Memory (memory_name task name) task old new
-memory_instead failed name (run ask) old new h = (record { why = h.0.why; caused = h.0.caused; told = inr (refl, refl) }, h.1, h.2)
-memory_instead failed name (talk key ask) old new h = talk_starved failed name key ask old new h
-memory_instead failed name show old new h = (h.0, show_cut failed _ _ h.1, h.2)
+memory_instead failed name (run ask) old new h = (record { why = h.0.why; caused = h.0.caused; told = inr (refl, refl) }, h.1, h.2, h.3)
+memory_instead failed name (talk key ask) old new h = (talk_starved failed name key ask old new h.0, h.1)
+memory_instead failed name (engine address key ask) old new h = engine_starved failed name address key ask old new h
+memory_instead failed name show old new h = (h.0, show_cut failed _ _ h.1, h.2, h.3)
 
 -- the failure is told, or there is no memory for its line
 pub fails_told : (status : ℕ) (words : List (List ℕ)) (task : Task) (name : List ℕ) (old new : Seen) (err : Stream) (failed : Failure) → Asks words task
@@ -193,7 +241,7 @@ module _ (failed : Failure) (name key : List ℕ) (ask : Ask) (old new : Seen) (
     out_fault : h.served.end ≡ serve.OutFault → IsCutShort → Rose old.err.faults new.err.faults
     out_fault is cut = (cut_by serve.OutFault is cut).0
 
-    by_end : (e : ServeEnd) → h.served.end ≡ e → ServesTo e h.served h.is.program ask.bound key (changed old.input new.input) (changed old.out new.out) (changed old.err new.err) → judged_by ask h.served.outcome e ≡ Err (failed, name) → IsTalkEnd failed
+    by_end : (e : ServeEnd) → h.served.end ≡ e → ServesTo e h.served h.is.program ask.bound key (changed old.input new.input) (changed old.out new.out) (changed old.err new.err) → judged_by failure.Output ask h.served.outcome e ≡ Err (failed, name) → IsTalkEnd failed
     by_end serve.Stopped is s e = by_outcome h.served.outcome e
     by_end serve.Detached is s e = by_outcome h.served.outcome e
     by_end serve.LinkEnd is s e = by_outcome h.served.outcome e
@@ -222,7 +270,7 @@ pub complete_talk_told : (status : ℕ) (words : List (List ℕ)) (task : Task) 
 complete_talk_told status words task old new refused A B asks caused held told key ask program is holds none =
     let same = one_task words task (talk key ask) asks is in
     let fails = subst (λ (t : Task). Caused refused.failure refused.name.now t old new) same caused in
-    by told (talk_end refused.failure refused.name.now key ask old new ((held ask (ap ask_in same)).by_files (Ok program) holds) none fails) where
+    by told (talk_end refused.failure refused.name.now key ask old new ((held ask (ap ask_in same)).by_files (Ok program) holds) none fails.0) where
       by : ((status ≡ status_of refused.failure) × A) ⊎ ((status ≡ 209) × B)
           → (status_of refused.failure ≡ 207) ⊎ (status_of refused.failure ≡ 210) ⊎ (status_of refused.failure ≡ 255) ⊎ (status_of refused.failure ≡ 209)
           → (status ≤ 199) ⊎ (status ≡ 207) ⊎ (status ≡ 210) ⊎ (status ≡ 255) ⊎ (status ≡ 209)
@@ -231,6 +279,104 @@ complete_talk_told status words task old new refused A B asks caused held told k
       by (inl t) (inr (inl e)) = inr (inr (inl (t.0 ∙ e)))
       by (inl t) (inr (inr (inl e))) = inr (inr (inr (inl (t.0 ∙ e))))
       by (inl t) (inr (inr (inr e))) = inr (inr (inr (inr (t.0 ∙ e))))
+
+-- ---- `engine`
+
+returned_rose : (failed before after : ℕ) → CountsReturned failed before after → 0 < failed → Rose before after
+returned_rose zero before after h some = absurd (omega (arith, some))
+returned_rose (suc n) before after h some = h
+
+-- where no count rose and the files are not told as bad, what fails is a packet, the program's end, a stop or memory
+module _ (failed : Failure) (name : List ℕ) (address : Address) (key : List ℕ) (ask : Ask) (old new : Seen) (good : IsGood failed) (none : NoneRose old new) where
+  link_sound : (source sink : Change) → IsDialled address source sink old.net new.net → 0 < source.faults + sink.faults → ⊥
+  link_sound source sink d some = none.returned_not (returned_rose (source.faults + sink.faults) old.net.returned new.net.returned d.returned some)
+
+  begun_at : (source sink : Change) → IsDialled address source sink old.net new.net → (source.faults_before ≡ 0) × (sink.faults_before ≡ 0)
+  begun_at source sink d = (ap (λ (c : Change). c.faults_before) d.used.source_is, ap (λ (c : Change). c.faults_before) d.used.sink_is)
+
+  abbrev IsServedHere : Type 0
+  IsServedHere = EngineEnds failed name address key ask old new
+
+  module _ (h : EngineEnds failed name address key ask old new) where
+    source_fault : (ended_by : Option SessionEnd) (rest read : List ℕ) → h.served.end ≡ serve.ReadFault → EndsBy h.served.end ended_by rest read h.is.source → ⊥
+    source_fault ended_by rest read is ends =
+        let rose : Rose h.is.source.faults_before h.is.source.faults =
+        (subst (λ (e : ServeEnd). EndsBy e ended_by rest read h.is.source) is ends).2 in
+        link_sound h.is.source h.is.sink h.is.dialled (omega (arith, rose))
+
+    abbrev IsLinkCut : Type 0
+    IsLinkCut = IsCut h.served h.is.program ask.bound key h.is.source h.is.sink (changed old.out new.out)
+
+    link_cut_by : (e : ServeEnd) → h.served.end ≡ e → (cut : IsLinkCut) → CutBy e h.served.outcome h.is.program ask.bound cut.taken h.is.sink (changed old.out new.out)
+    link_cut_by e is cut = subst (λ (e : ServeEnd). CutBy e h.served.outcome h.is.program ask.bound cut.taken h.is.sink (changed old.out new.out)) is cut.by
+
+    sink_fault : h.served.end ≡ serve.WriteFault → IsLinkCut → ⊥
+    sink_fault is cut =
+        let rose : Rose h.is.sink.faults_before h.is.sink.faults = (link_cut_by serve.WriteFault is cut).0 in
+        link_sound h.is.source h.is.sink h.is.dialled (omega (arith, rose))
+
+    engine_by_end : (e : ServeEnd) → h.served.end ≡ e → ServesTo e h.served h.is.program ask.bound key h.is.source h.is.sink (changed old.out new.out)
+        → judged_by failure.Network ask h.served.outcome e ≡ Err (failed, name) → IsTalkEnd failed name key ask old new good none failed
+    engine_by_end serve.Stopped is s e = by_outcome failed name key ask old new good none h.served.outcome e
+    engine_by_end serve.Detached is s e = by_outcome failed name key ask old new good none h.served.outcome e
+    engine_by_end serve.LinkEnd is s e = by_outcome failed name key ask old new good none h.served.outcome e
+    engine_by_end serve.ReadFault is s e = absurd (source_fault _ _ _ is s.ends)
+    engine_by_end serve.WriteFault is s e = absurd (sink_fault is s)
+    engine_by_end serve.OutFault is s e = absurd (none.out_not (link_cut_by serve.OutFault is s).0)
+    engine_by_end (serve.BadCommandFrame offset) is s e =
+        let same : failure.Packet offset ≡ failed = ap (failure_in failed name key ask old new good none) e in inl (sym (ap status_of same))
+    engine_by_end serve.ByteLimit is s e =
+        let same : failure.Packet 4294967295 ≡ failed = ap (failure_in failed name key ask old new good none) e in inl (sym (ap status_of same))
+    engine_by_end serve.Memory is s e =
+        let same : failure.Memory ≡ failed = ap (failure_in failed name key ask old new good none) e in inr (inr (inr (sym (ap status_of same))))
+
+  engine_end : EngineFails failed name address key ask old new → IsTalkEnd failed name key ask old new good none failed
+  engine_end (inl memory) = inr (inr (inr (ap status_of memory.0)))
+  engine_end (inr (inl u)) = unserved failed name key ask old new good none u.cause u.caused u.told.0
+  engine_end (inr (inr (inl alone))) = absurd (none.net_not alone.2.undialled.faults)
+  engine_end (inr (inr (inr h))) = engine_by_end h h.served.end refl h.is.serves h.told
+
+pub complete_engine_told : (status : ℕ) (words : List (List ℕ)) (task : Task) (old new : Seen) (refused : Refused) (A B : Type 0) → Asks words task
+    → Caused refused.failure refused.name.now task old new → IsNoBadTask task refused old new
+    → ((status ≡ status_of refused.failure) × A) ⊎ ((status ≡ 209) × B)
+    → (address : Address) (key : List ℕ) (ask : Ask) (program : Bundle) → IsEngine words address key ask → Holds old.shelf.files ask.names (Ok program) → NoneRose old new
+    → (status ≤ 199) ⊎ (status ≡ 207) ⊎ (status ≡ 210) ⊎ (status ≡ 255) ⊎ (status ≡ 209)
+complete_engine_told status words task old new refused A B asks caused held told address key ask program is holds none =
+    let same = one_task words task (engine address key ask) asks is in
+    let fails = subst (λ (t : Task). Caused refused.failure refused.name.now t old new) same caused in
+    by told (engine_end refused.failure refused.name.now address key ask old new ((held ask (ap ask_in same)).by_files (Ok program) holds) none fails) where
+      by : ((status ≡ status_of refused.failure) × A) ⊎ ((status ≡ 209) × B)
+          → (status_of refused.failure ≡ 207) ⊎ (status_of refused.failure ≡ 210) ⊎ (status_of refused.failure ≡ 255) ⊎ (status_of refused.failure ≡ 209)
+          → (status ≤ 199) ⊎ (status ≡ 207) ⊎ (status ≡ 210) ⊎ (status ≡ 255) ⊎ (status ≡ 209)
+      by (inr t) e = inr (inr (inr (inr t.0)))
+      by (inl t) (inl e) = inr (inl (t.0 ∙ e))
+      by (inl t) (inr (inl e)) = inr (inr (inl (t.0 ∙ e)))
+      by (inl t) (inr (inr (inl e))) = inr (inr (inr (inl (t.0 ∙ e))))
+      by (inl t) (inr (inr (inr e))) = inr (inr (inr (inr (t.0 ∙ e))))
+
+-- ---- the network
+
+done_offline : (status : ℕ) (task : Task) (old new : Seen) → Does status task old new → uses_net task ≡ false → new.net ≡ old.net
+done_offline status (run ask) old new h e = h.3
+done_offline status (talk key ask) old new h e = h.1
+done_offline status (engine address key ask) old new h e = absurd cc
+done_offline status show old new h e = h.3
+
+caused_offline : (failed : Failure) (name : List ℕ) (task : Task) (old new : Seen) → Caused failed name task old new → uses_net task ≡ false → new.net ≡ old.net
+caused_offline failed name (run ask) old new h e = h.3
+caused_offline failed name (talk key ask) old new h e = h.1
+caused_offline failed name (engine address key ask) old new h e = absurd cc
+caused_offline failed name show old new h e = h.3
+
+pub asks_offline : (words : List (List ℕ)) (task other : Task) → Asks words task → Asks words other → uses_net other ≡ false → uses_net task ≡ false
+asks_offline words task other p q e = ap uses_net (one_task words task other p q) ∙ e
+
+pub offline_done : (status : ℕ) (words : List (List ℕ)) (task other : Task) (old new : Seen) → Asks words task → Does status task old new → Asks words other → uses_net other ≡ false → new.net ≡ old.net
+offline_done status words task other old new p does q e = done_offline status task old new does (asks_offline words task other p q e)
+
+pub offline_caused : (failed : Failure) (name : List ℕ) (words : List (List ℕ)) (task other : Task) (old new : Seen) → Asks words task → Caused failed name task old new → Asks words other
+    → uses_net other ≡ false → new.net ≡ old.net
+offline_caused failed name words task other old new p caused q e = caused_offline failed name task old new caused (asks_offline words task other p q e)
 
 -- ---- `run`
 

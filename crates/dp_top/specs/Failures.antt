@@ -1,5 +1,5 @@
 -- What is told of a failure: a status, and a line on the error output.
-use Rattle.std.specs.Prelude.{◌⊎◌, ℕ, List, ◌++◌, codes}
+use Rattle.std.specs.Prelude.{◌⊎◌, ℕ, List, ◌++◌, codes, Option, Some, None}
 use Rattle.std.specs.Fmt.{decimal}
 use Rattle.std.specs.Io.KnownBytes.{Appends}
 use Rattle.dp_outside.specs.Causes.{Rose}
@@ -9,7 +9,7 @@ use Rattle.dp_tree.specs.FileNames.{file_limit}
 use Rattle.dp_state.specs.declared.moments.FatalKind.{FatalKind}
 use Rattle.dp_state.specs.declared.moments.FatalKind.TheVariants as kinds
 use Rattle.dp_top.specs.declared.failures.Failure.{Failure}
-use Rattle.dp_top.specs.declared.failures.Failure.TheVariants.{TooLong, Source, ShelfFailed, NoFile, Fatal, Bound, Output, PeerEnd, Packet, Network, Stopped, Memory}
+use Rattle.dp_top.specs.declared.failures.Failure.TheVariants.{TooLong, Source, ShelfFailed, NoFile, Fatal, Bound, Output, Script, Differs, PeerEnd, Packet, Network, Stopped, Memory}
 use Rattle.dp_top.specs.Sources.{reason_name, bad_source}
 
 -- the status that the call answers
@@ -21,6 +21,8 @@ status_of NoFile = 202
 status_of (Fatal kind line) = 255
 status_of (Bound steps) = 255
 status_of Output = 203
+status_of (Script line) = 204
+status_of (Differs line wanted found) = 205
 status_of PeerEnd = 206
 status_of (Packet offset) = 207
 status_of Network = 208
@@ -49,6 +51,21 @@ fatal_line kind name line =
     codes "fatal " ++ kind ++ codes " in " ++ name ++ codes " on line " ++ decimal line
     ++ codes "\n"
 
+-- the line on a script whose line of this number is none
+abbrev pub script_line : ℕ → List ℕ
+script_line line = codes "bad script line " ++ decimal line ++ codes "\n"
+
+-- what was found, or that nothing was
+abbrev pub found_text : Option (List ℕ) → List ℕ
+found_text None = codes "nothing"
+found_text (Some found) = found
+
+-- the line on an expectation that differs: its line, what was wanted and what was found, as bytes
+abbrev pub differs_line : ℕ → List ℕ → Option (List ℕ) → List ℕ
+differs_line line wanted found =
+    codes "differs line " ++ decimal line ++ codes " wanted " ++ wanted ++ codes " found "
+    ++ found_text found ++ codes "\n"
+
 -- the line on the error output
 abbrev pub line_of : Failure → List ℕ → List ℕ
 line_of TooLong name = bad_source name (codes "TooLong") file_limit
@@ -58,6 +75,8 @@ line_of NoFile name = codes "no file " ++ name ++ codes "\n"
 line_of (Fatal kind line) name = fatal_line (kind_name kind) name line
 line_of (Bound steps) name = codes "bound reached after " ++ decimal steps ++ codes " steps\n"
 line_of Output name = codes "output failed\n"
+line_of (Script line) name = script_line line
+line_of (Differs line wanted found) name = differs_line line wanted found
 line_of PeerEnd name = codes "peer ended\n"
 line_of (Packet offset) name = codes "bad packet offset " ++ decimal offset ++ codes "\n"
 line_of Network name = codes "network failed\n"

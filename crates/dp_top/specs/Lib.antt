@@ -1,5 +1,7 @@
-pub mod CommandLine
+pub mod Engine
 pub mod Failures
+pub mod Ide
+pub mod Links
 pub mod Runs
 pub mod Seen
 pub mod Sources

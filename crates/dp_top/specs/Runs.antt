@@ -10,7 +10,7 @@ use Rattle.dp_run.specs.Programs.{Files, Told}
 use Rattle.dp_run.specs.Runs.{RunCaused}
 use Rattle.dp_top.specs.declared.failures.Failure.{Failure}
 use Rattle.dp_top.specs.declared.failures.Failure.TheVariants.{TooLong, ShelfFailed, NoFile, Fatal, Bound, Output, Memory}
-use Rattle.dp_top.specs.CommandLine.{Ask}
+use Rattle.dp_words.specs.CommandLine.{Ask}
 use Rattle.dp_top.specs.Sources.{failure_of as failure_of_source}
 
 -- the name of the file of a number, from 0; nothing where there is none
@@ -39,11 +39,15 @@ abbrev pub IsProgramTold : Failure → List ℕ → Ask → ProgramError → Typ
 IsProgramTold failure name ask why =
     (failure ≡ program_failure why) × (name ≡ program_name ask.names why)
 
--- Only files of a program that is asked for are fetched, each once, in the order of its names: all,
--- or the first of them. Where no program is asked for nothing is fetched.
+-- Of these names files are fetched, each once, in their order: all, or the first of them.
+abbrev pub AreFetched : List (List ℕ) → Told → Told → Type 0
+AreFetched names before after = (count : ℕ) × (after ≡ grown before (take count names))
+
+-- Only files of a program that is asked for are fetched. Where no program is asked for nothing is
+-- fetched.
 abbrev pub IsFetched : Option Ask → Told → Told → Type 0
 IsFetched None before after = after ≡ before
-IsFetched (Some ask) before after = (count : ℕ) × (after ≡ grown before (take count ask.names))
+IsFetched (Some ask) before after = AreFetched ask.names before after
 
 -- ---- the end of a run
 

@@ -2,6 +2,8 @@
 use Rattle.std.specs.Prelude.{ℕ, List, Option}
 use Rattle.dp_outside.specs.Causes.{Rose}
 use Rattle.dp_outside.specs.Changes.{Change}
+use Rattle.dp_outside.specs.Links.{Dial, Door, Link}
+use Rattle.dp_outside.specs.declared.links.Dialer as dialer_of
 use Rattle.dp_outside.specs.declared.shelves.Shelf as shelf_of
 use Rattle.dp_outside.specs.declared.sinks.Sink as sink_of
 use Rattle.dp_outside.specs.declared.sources.Source as source_of
@@ -17,20 +19,40 @@ pub record Shelf : Type 0 where
   pub fetched : Told
   pub faults : ℕ
 
+-- the network: its dials, the links that came back, and the gates that were shut, where it tells
+-- them; how often it has failed, and how often something came back that had
+pub record Net : Type 0 where
+  pub dials : Option (List Dial)
+  pub retired : Option (List Link)
+  pub shut : Option (List Door)
+  pub faults : ℕ
+  pub returned : ℕ
+
 pub record Seen : Type 0 where
   pub shelf : Shelf
   pub input : Stream
   pub out : Stream
   pub err : Stream
+  pub net : Net
 
-abbrev pub seen : {H S K E : Type 0}
-    → shelf_of.Ghosts H → source_of.Ghosts S → sink_of.Ghosts K → sink_of.Ghosts E → H → S → K → E
-    → Seen
-seen h s k e shelf input out err = record {
+abbrev pub net_seen : {N In Out : Type 0} → dialer_of.Ghosts N In Out → (N → Option (List Door)) → N → Net
+net_seen d shut net = record {
+  dials = d.dials net;
+  retired = d.retired net;
+  shut = shut net;
+  faults = d.faults net;
+  returned = d.returned net;
+}
+
+abbrev pub seen : {H S K E N In Out : Type 0}
+    → shelf_of.Ghosts H → source_of.Ghosts S → sink_of.Ghosts K → sink_of.Ghosts E
+    → dialer_of.Ghosts N In Out → (N → Option (List Door)) → H → S → K → E → N → Seen
+seen h s k e d shut shelf input out err net = record {
   shelf = record { files = h.files shelf; fetched = h.fetched shelf; faults = h.faults shelf };
   input = record { told = s.left input; faults = s.faults input };
   out = record { told = k.taken out; faults = k.faults out };
   err = record { told = e.taken err; faults = e.faults err };
+  net = net_seen d shut net;
 }
 
 -- what became of a source or a sink
@@ -48,3 +70,5 @@ pub record NoneRose (old new : Seen) : Type 0 where
   pub input_not : Rose old.input.faults new.input.faults → ⊥
   pub out_not : Rose old.out.faults new.out.faults → ⊥
   pub err_not : Rose old.err.faults new.err.faults → ⊥
+  pub net_not : Rose old.net.faults new.net.faults → ⊥
+  pub returned_not : Rose old.net.returned new.net.returned → ⊥

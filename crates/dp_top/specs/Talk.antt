@@ -14,7 +14,7 @@ use Rattle.dp_serving.specs.Serving.{byte_limit}
 use Rattle.dp_state.specs.declared.moments.Outcome.{Outcome}
 use Rattle.dp_top.specs.declared.failures.Failure.{Failure}
 use Rattle.dp_top.specs.declared.failures.Failure.TheVariants as failure
-use Rattle.dp_top.specs.CommandLine.{Ask}
+use Rattle.dp_words.specs.CommandLine.{Ask}
 use Rattle.dp_top.specs.Runs.{IsProgramTold, failure_of, name_told}
 use Rattle.dp_top.specs.Seen.{Seen, changed}
 
@@ -37,20 +37,21 @@ abbrev pub ended : Ask → Option Outcome → Told
 ended ask None = unnamed failure.Stopped
 ended ask (Some outcome) = end_told ask (judged_end outcome)
 
--- how serving a session ended
-abbrev pub judged_by : Ask → Option Outcome → ServeEnd → Told
-judged_by ask outcome Stopped = ended ask outcome
-judged_by ask outcome Detached = ended ask outcome
-judged_by ask outcome LinkEnd = ended ask outcome
-judged_by ask outcome ReadFault = unnamed failure.Network
-judged_by ask outcome WriteFault = unnamed failure.Output
-judged_by ask outcome OutFault = unnamed failure.Output
-judged_by ask outcome (BadCommandFrame offset) = unnamed (failure.Packet offset)
-judged_by ask outcome ByteLimit = unnamed (failure.Packet byte_limit)
-judged_by ask outcome Memory = unnamed failure.Memory
+-- how serving a session ended, where a fault of the link's sink is this failure
+abbrev pub judged_by : Failure → Ask → Option Outcome → ServeEnd → Told
+judged_by unsent ask outcome Stopped = ended ask outcome
+judged_by unsent ask outcome Detached = ended ask outcome
+judged_by unsent ask outcome LinkEnd = ended ask outcome
+judged_by unsent ask outcome ReadFault = unnamed failure.Network
+judged_by unsent ask outcome WriteFault = unnamed unsent
+judged_by unsent ask outcome OutFault = unnamed failure.Output
+judged_by unsent ask outcome (BadCommandFrame offset) = unnamed (failure.Packet offset)
+judged_by unsent ask outcome ByteLimit = unnamed (failure.Packet byte_limit)
+judged_by unsent ask outcome Memory = unnamed failure.Memory
 
+-- over the program's own input and output a fault of the link is one of the output
 abbrev pub judged : Ask → Served → Told
-judged ask served = judged_by ask served.outcome served.end
+judged ask served = judged_by failure.Output ask served.outcome served.end
 
 -- ---- what it does
 

@@ -1,15 +1,18 @@
 -- The answers of the top call: what each task does, and why it fails.
-use Rattle.std.specs.Prelude.{◌≡◌, ℕ, ◌≤◌, List, [], Ok, Err}
+use Rattle.std.specs.Prelude.{◌≡◌, ℕ, ◌≤◌, List, [], ◌∷◌, Ok, Err, codes}
 use Rattle.dp_outside.specs.Changes.{Change, IsUntouched}
 use Rattle.dp_show.specs.declared.error.ShowError.{ShowError}
 use Rattle.dp_show.specs.declared.error.ShowError.TheVariants as ends
 use Rattle.dp_show.specs.Shows.{Shows, Ends}
 use Rattle.dp_top.specs.declared.failures.Failure.{Failure}
-use Rattle.dp_top.specs.declared.failures.Failure.TheVariants.{TooLong, Source, ShelfFailed, NoFile, Fatal, Bound, Output, PeerEnd, Packet, Network, Stopped, Memory}
-use Rattle.dp_top.specs.CommandLine.{Task, run, talk, show, Asks}
+use Rattle.dp_top.specs.declared.failures.Failure.TheVariants.{TooLong, Source, ShelfFailed, NoFile, Fatal, Bound, Output, Script, Differs, PeerEnd, Packet, Network, Stopped, Memory}
+use Rattle.dp_words.specs.CommandLine.{Task, run, talk, engine, ide, show, Asks, ask_in}
+use Rattle.dp_top.specs.Engine.{Engages, EngineFails}
+use Rattle.dp_top.specs.Ide.{Plays, IdeFails}
 use Rattle.dp_top.specs.Failures.{status_of, line_of, Says}
 use Rattle.dp_run.specs.Runs.{Runs}
-use Rattle.dp_top.specs.Runs.{RunFails}
+use Rattle.dp_run.specs.Programs.{Told}
+use Rattle.dp_top.specs.Runs.{AreFetched, IsFetched, RunFails}
 use Rattle.dp_top.specs.Seen.{Seen, Stream, changed}
 use Rattle.dp_top.specs.Talk.{Talks, TalkFails}
 
@@ -37,38 +40,62 @@ ShowCaused ShelfFailed input out = ⊥
 ShowCaused (Fatal kind line) input out = ⊥
 ShowCaused (Bound steps) input out = ⊥
 ShowCaused NoFile input out = ⊥
+ShowCaused (Script line) input out = ⊥
+ShowCaused (Differs line wanted found) input out = ⊥
 
 -- ---- each task
 
 abbrev pub IsStill : Stream → Stream → Type 0
 IsStill old new = IsUntouched (changed old new)
 
+-- the network was not used
+abbrev pub IsOffline : Seen → Seen → Type 0
+IsOffline old new = new.net ≡ old.net
+
 -- it went well, with this status
 abbrev pub Does : ℕ → Task → Seen → Seen → Type 0
 Does status (run ask) old new =
     Runs status old.shelf.files ask.names ask.bound (changed old.out new.out)
-    × IsStill old.input new.input × IsStill old.err new.err
-Does status (talk key ask) old new = Talks status key ask old new
+    × IsStill old.input new.input × IsStill old.err new.err × IsOffline old new
+Does status (talk key ask) old new = Talks status key ask old new × IsOffline old new
+Does status (engine address key ask) old new = Engages status address key ask old new
+Does status (ide port script) old new = Plays status port script old new
 Does status show old new =
     (status ≡ 0) × Shows (Ok tt) (changed old.input new.input) (changed old.out new.out)
-    × IsStill old.err new.err
+    × IsStill old.err new.err × IsOffline old new
 
 -- why it failed; the name is that of the file that the failure is of, else nothing
 abbrev pub Caused : Failure → List ℕ → Task → Seen → Seen → Type 0
 Caused failure name (run ask) old new =
     RunFails failure name old.shelf.files old.shelf.faults new.shelf.faults ask
     (changed old.out new.out)
-    × IsStill old.input new.input × IsStill old.err new.err
-Caused failure name (talk key ask) old new = TalkFails failure name key ask old new
+    × IsStill old.input new.input × IsStill old.err new.err × IsOffline old new
+Caused failure name (talk key ask) old new =
+    TalkFails failure name key ask old new × IsOffline old new
+Caused failure name (engine address key ask) old new =
+    EngineFails failure name address key ask old new
+Caused failure name (ide port script) old new = IdeFails failure name port script old new
 Caused failure name show old new =
     (name ≡ []) × ShowCaused failure (changed old.input new.input) (changed old.out new.out)
-    × IsStill old.err new.err
+    × IsStill old.err new.err × IsOffline old new
+
+-- only files that a task names are fetched, each once, in their order
+abbrev pub IsFetchedFor : Task → Told → Told → Type 0
+IsFetchedFor (ide port script) before after = AreFetched (script ∷ []) before after
+IsFetchedFor task before after = IsFetched (ask_in task) before after
 
 -- ---- the answers
 
 -- these objects before a line was put on the error output, which was this then
 abbrev pub before_line : Seen → Stream → Seen
-before_line new err = record { shelf = new.shelf; input = new.input; out = new.out; err = err }
+before_line new err =
+    record {
+      shelf = new.shelf;
+      input = new.input;
+      out = new.out;
+      err = err;
+      net = new.net;
+    }
 
 -- A status is that of a failure: it has its cause, and then its line is said.
 pub record Fails (status : ℕ) (words : List (List ℕ)) (old new : Seen) : Type 0 where
@@ -87,3 +114,12 @@ pub record IsDone (status : ℕ) (words : List (List ℕ)) (old new : Seen) : Ty
   pub task : Task
   pub asks : Asks words task
   pub does : Does status task old new
+
+-- Memory ran out as the words were read: that is said, and nothing else was done.
+pub record IsUnread (status : ℕ) (old new : Seen) : Type 0 where
+  pub is_status : status ≡ 209
+  pub shelf : new.shelf ≡ old.shelf
+  pub input : IsStill old.input new.input
+  pub out : IsStill old.out new.out
+  pub net : IsOffline old new
+  pub says : Says (changed old.err new.err) (codes "out of memory\n")

@@ -1,5 +1,6 @@
 -- What only proofs use. No clause of the top call cites these.
-pub mod Commands
+pub mod Dialled
+pub mod Gated
 pub mod Held
 pub mod Kept
 pub mod Sessions

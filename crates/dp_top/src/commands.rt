@@ -1,20 +1,21 @@
 //! What each command does.
 ghost use Rattle.std.specs.Prelude.{◌≡◌, ◌≤◌, ℕ, List, Some, IfOk, MatchResult};
-ghost use Rattle.dp_top.specs.CommandLine.{Ask, Task, Asks, ask_in};
-ghost use Rattle.dp_top.specs.inner.Commands.{task_of};
+ghost use Rattle.dp_words.specs.CommandLine.{Ask, Task, Asks, ask_in};
+ghost use Rattle.dp_words.specs.Commands.{task_of};
 ghost use Rattle.dp_top.specs.Runs.{IsFetched};
 ghost use Rattle.dp_top.specs.inner.Held.{AreHeld};
 ghost use Rattle.dp_top.specs.inner.Kept.{Continues, GoesOn};
 ghost use Rattle.dp_top.specs.Seen.{seen};
 ghost use Rattle.dp_top.specs.Tasks.{failure_of, Does, Caused};
 
-use crate::command_line::Command;
+use crate::engine::engine;
 use crate::failures::{Failure, Refused};
 use crate::objects::Objects;
 use crate::run::run;
 use crate::talk::talk;
-use dp_outside::{Shelf, Sink, Source};
+use dp_outside::{Net, Shelf, Sink, Source};
 use dp_show::{ShowError, show};
+use dp_words::Command;
 use std::alloc::Global;
 
 /// The failure that an end of `show` is.
@@ -31,10 +32,10 @@ fn failure_of(why: ShowError) -> Failure
 }
 
 /// Does what a command asks for, and answers the status of what went well.
-pub(crate) fn carry_out<'a, H: Shelf, S: Source, K: Sink, E: Sink>(
+pub(crate) fn carry_out<'a, H: Shelf, S: Source, K: Sink, E: Sink, N: Net>(
     alloc: Global,
     command: Command<'a>,
-    objects: &mut Objects<H, S, K, E>,
+    objects: &mut Objects<H, S, K, E, N>,
 ) -> Result<u8, Refused<'a>>
     requires asked { (words : List (List ℕ)) × Asks words (task_of command) }
 
@@ -52,6 +53,7 @@ pub(crate) fn carry_out<'a, H: Shelf, S: Source, K: Sink, E: Sink>(
     match command {
         Command::Run(program) => run(alloc, program, objects.shelf, objects.out),
         Command::Talk(request) => talk(alloc, request, objects),
+        Command::Engine(request) => engine(alloc, request, objects),
         Command::Show => match show(alloc, objects.input, objects.out) {
             Ok(()) => Ok(0),
             Err(why) => Err(Refused::unnamed(failure_of(why))),
@@ -60,37 +62,39 @@ pub(crate) fn carry_out<'a, H: Shelf, S: Source, K: Sink, E: Sink>(
 }
 
 /// The same with the objects one by one.
-pub fn carry_out_on<'a, H: Shelf, S: Source, K: Sink, E: Sink>(
+pub fn carry_out_on<'a, H: Shelf, S: Source, K: Sink, E: Sink, N: Net>(
     alloc: Global,
     command: Command<'a>,
     shelf: &mut H,
     input: &mut S,
     out: &mut K,
     err: &mut E,
+    net: &mut N,
 ) -> Result<u8, Refused<'a>>
     requires asked { (words : List (List ℕ)) × Asks words (task_of command) }
 
     ensures ends { MatchResult result
-        (λ status. Does status (task_of command.entry) (seen H.Shelf S.Source K.Sink E.Sink shelf.old input.old out.old err.old)
-        (seen H.Shelf S.Source K.Sink E.Sink shelf.new input.new out.new err.new))
+        (λ status. Does status (task_of command.entry) (seen H.Shelf S.Source K.Sink E.Sink N.Dialer N.shut_doors shelf.old input.old out.old err.old net.old)
+        (seen H.Shelf S.Source K.Sink E.Sink N.Dialer N.shut_doors shelf.new input.new out.new err.new net.new))
         (λ why. Caused why.failure why.name.now (task_of command.entry)
-        (seen H.Shelf S.Source K.Sink E.Sink shelf.old input.old out.old err.old)
-        (seen H.Shelf S.Source K.Sink E.Sink shelf.new input.new out.new err.new)) }
+        (seen H.Shelf S.Source K.Sink E.Sink N.Dialer N.shut_doors shelf.old input.old out.old err.old net.old)
+        (seen H.Shelf S.Source K.Sink E.Sink N.Dialer N.shut_doors shelf.new input.new out.new err.new net.new)) }
     ensures status { IfOk result (λ status. status ≤ 199) }
     // Files that make a program are no bad source, and those that make none are one, unless the shelf failed.
     ensures held { (ask : Ask) → ask_in (task_of command.entry) ≡ Some ask
-        → AreHeld ask result (seen H.Shelf S.Source K.Sink E.Sink shelf.old input.old out.old err.old)
-        (seen H.Shelf S.Source K.Sink E.Sink shelf.new input.new out.new err.new) }
+        → AreHeld ask result (seen H.Shelf S.Source K.Sink E.Sink N.Dialer N.shut_doors shelf.old input.old out.old err.old net.old)
+        (seen H.Shelf S.Source K.Sink E.Sink N.Dialer N.shut_doors shelf.new input.new out.new err.new net.new) }
     ensures show_shelf { task_of command.entry ≡ Task.show → H.faults shelf.new ≡ H.faults shelf.old }
     ensures fetched { IsFetched (ask_in (task_of command.entry)) (H.fetched shelf.old) (H.fetched shelf.new) }
-    ensures goes_on { Continues (seen H.Shelf S.Source K.Sink E.Sink shelf.old input.old out.old err.old)
-        (seen H.Shelf S.Source K.Sink E.Sink shelf.new input.new out.new err.new) }
+    ensures goes_on { Continues (seen H.Shelf S.Source K.Sink E.Sink N.Dialer N.shut_doors shelf.old input.old out.old err.old net.old)
+        (seen H.Shelf S.Source K.Sink E.Sink N.Dialer N.shut_doors shelf.new input.new out.new err.new net.new) }
 {
     let mut objects = Objects {
         shelf,
         input,
         out,
         err,
+        net,
     };
     let done = carry_out(alloc, command, &mut objects);
     let Objects {
@@ -98,11 +102,13 @@ pub fn carry_out_on<'a, H: Shelf, S: Source, K: Sink, E: Sink>(
         input,
         out,
         err,
+        net,
     } = objects;
     // What became of each is known by looking at it.
     let _ = &*shelf;
     let _ = &*input;
     let _ = &*out;
     let _ = &*err;
+    let _ = &*net;
     done
 }

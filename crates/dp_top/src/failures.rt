@@ -2,7 +2,7 @@
 ghost use Rattle.std.specs.Prelude.{◌≡◌, ◌⊎◌, ◌≤◌, ◌++◌, ℕ, IfOk, codes, decimal};
 ghost use Rattle.dp_outside.specs.Changes.{change};
 ghost use Rattle.dp_top.specs.Sources.{failure_of, reason_name, bad_source};
-ghost use Rattle.dp_top.specs.Failures.{status_of, line_of, kind_name, fatal_line, Says};
+ghost use Rattle.dp_top.specs.Failures.{status_of, line_of, kind_name, fatal_line, found_text, script_line, Says};
 
 use dp_lexer::LexError;
 use dp_outside::Sink;
@@ -42,7 +42,7 @@ impl Reason {
 }
 
 /// Why a command fails.
-#[derive(Clone, Copy, Debug, PartialEq, Eq)]
+#[derive(Debug, Drop)]
 pub enum Failure {
     /// The file is longer than 1,048,576 bytes.
     TooLong,
@@ -58,7 +58,15 @@ pub enum Failure {
     Bound { steps: u64 },
     /// An output failed.
     Output,
-    /// The input ended inside a frame.
+    /// The script has a line that is none of a script, the first of which has this number; 0 where it is too long.
+    Script { line: u64 },
+    /// On this line of the script something else was found than it wants, or nothing.
+    Differs {
+        line: u64,
+        wanted: Bytes,
+        found: Option<Bytes>,
+    },
+    /// The input ended inside a frame, or a link before a packet that was awaited.
     PeerEnd,
     /// No command and no packet stands at this offset from the first byte read.
     Packet { offset: u64 },
@@ -71,7 +79,7 @@ pub enum Failure {
 }
 
 /// A failure, and the name of the file that it is of, where it is of one, else nothing.
-#[derive(Clone, Copy, Debug)]
+#[derive(Debug, Drop)]
 pub struct Refused<'a> {
     pub failure: Failure,
     pub name: &'a [u8],
@@ -145,8 +153,8 @@ fn source(reason: Reason, number: u64) -> Failure
 
 impl Failure {
     /// The status that the call answers.
-    fn status(self) -> u8
-        ensures { result ≡ status_of self }
+    fn status(&self) -> u8
+        ensures { result ≡ status_of self.now }
     {
         match self {
             Failure::TooLong => 201,
@@ -159,6 +167,12 @@ impl Failure {
             Failure::Fatal { kind: _, line: _ } => 255,
             Failure::Bound { steps: _ } => 255,
             Failure::Output => 203,
+            Failure::Script { line: _ } => 204,
+            Failure::Differs {
+                line: _,
+                wanted: _,
+                found: _,
+            } => 205,
             Failure::PeerEnd => 206,
             Failure::Packet { offset: _ } => 207,
             Failure::Network => 208,
@@ -168,19 +182,25 @@ impl Failure {
     }
 
     /// The line on the error output.
-    fn line(self, alloc: Global, file: &[u8]) -> Result<Bytes, Memory>
-        ensures { IfOk result (λ line. line ≡ line_of self file.now) }
+    fn line(&self, alloc: Global, file: &[u8]) -> Result<Bytes, Memory>
+        ensures { IfOk result (λ line. line ≡ line_of self.now file.now) }
     {
         match self {
             Failure::TooLong => bad_source(alloc, file, b"TooLong", FILE_LIMIT as u64),
-            Failure::Source { reason, number } => bad_source(alloc, file, reason.name(), number),
+            Failure::Source { reason, number } => bad_source(alloc, file, reason.name(), *number),
             Failure::ShelfFailed => named(alloc, b"shelf failed ", file, b"\n"),
             Failure::NoFile => named(alloc, b"no file ", file, b"\n"),
-            Failure::Fatal { kind, line } => fatal(alloc, kind_name(kind), file, line),
-            Failure::Bound { steps } => bound_reached(alloc, steps),
+            Failure::Fatal { kind, line } => fatal(alloc, kind_name(*kind), file, *line),
+            Failure::Bound { steps } => bound_reached(alloc, *steps),
             Failure::Output => Bytes::from_slice(alloc, b"output failed\n"),
+            Failure::Script { line } => bad_script(alloc, *line),
+            Failure::Differs {
+                line,
+                wanted,
+                found,
+            } => differs(alloc, *line, wanted.as_slice(), found_text(found)),
             Failure::PeerEnd => Bytes::from_slice(alloc, b"peer ended\n"),
-            Failure::Packet { offset } => bad_packet(alloc, offset),
+            Failure::Packet { offset } => bad_packet(alloc, *offset),
             Failure::Network => Bytes::from_slice(alloc, b"network failed\n"),
             Failure::Stopped => Bytes::from_slice(alloc, b"stopped by the IDE\n"),
             Failure::Memory => Bytes::from_slice(alloc, b"out of memory\n"),
@@ -269,6 +289,40 @@ fn bad_packet(alloc: Global, offset: u64) -> Result<Bytes, Memory>
     named(alloc, b"bad packet offset ", digits.as_bytes(), b"\n")
 }
 
+/// The line on a script that is none.
+fn bad_script(alloc: Global, line: u64) -> Result<Bytes, Memory>
+    ensures { IfOk result (λ text. text ≡ script_line line) }
+{
+    let digits = line.to_string(alloc)?;
+    named(alloc, b"bad script line ", digits.as_bytes(), b"\n")
+}
+
+/// What was found, or that nothing was.
+fn found_text(found: &Option<Bytes>) -> &[u8]
+    ensures { result.now ≡ found_text found.now }
+{
+    match found {
+        Some(found) => found.as_slice(),
+        None => b"nothing",
+    }
+}
+
+/// The line on an expectation that differs.
+fn differs(alloc: Global, line: u64, wanted: &[u8], found: &[u8]) -> Result<Bytes, Memory>
+    ensures { IfOk result (λ text. text ≡ codes "differs line " ++ decimal line ++ codes " wanted " ++ wanted.now
+        ++ codes " found " ++ found.now ++ codes "\n") }
+{
+    let digits = line.to_string(alloc)?;
+    let mut text = Vec::from_slice(alloc, b"differs line ")?;
+    text.extend_from_slice(digits.as_bytes())?;
+    text.extend_from_slice(b" wanted ")?;
+    text.extend_from_slice(wanted)?;
+    text.extend_from_slice(b" found ")?;
+    text.extend_from_slice(found)?;
+    text.extend_from_slice(b"\n")?;
+    Ok(Bytes::of(text))
+}
+
 /// Puts a line. A line that the output refuses is dropped.
 pub fn say<E: Sink>(err: &mut E, line: &[u8])
     ensures says { Says (change E.taken E.faults err.old err.new) line.now }
@@ -278,8 +332,8 @@ pub fn say<E: Sink>(err: &mut E, line: &[u8])
 }
 
 /// Tells a failure on the error output, and answers its status; want of memory where there is none for its line.
-pub fn report<E: Sink>(alloc: Global, failure: Failure, file: &[u8], err: &mut E) -> u8
-    ensures told { ((result ≡ status_of failure) × Says (change E.taken E.faults err.old err.new) (line_of failure file.now))
+pub fn report<E: Sink>(alloc: Global, failure: &Failure, file: &[u8], err: &mut E) -> u8
+    ensures told { ((result ≡ status_of failure.now) × Says (change E.taken E.faults err.old err.new) (line_of failure.now file.now))
         ⊎ ((result ≡ 209) × Says (change E.taken E.faults err.old err.new) (codes "out of memory\n")) }
     ensures later { E.faults err.old ≤ E.faults err.new }
 {
@@ -290,7 +344,7 @@ pub fn report<E: Sink>(alloc: Global, failure: Failure, file: &[u8], err: &mut E
         }
         Err(_) => {
             say(err, b"out of memory\n");
-            Failure::Memory.status()
+            209
         }
     }
 }

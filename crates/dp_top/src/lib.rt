@@ -1,12 +1,12 @@
 //! The top call: the words of a command line, and what they do.
 #![tactic(auto)]
 
-mod command_line;
 mod commands;
+mod engine;
 mod failures;
-mod names;
 mod objects;
 mod run;
+mod sessions;
 mod talk;
 mod top_call;
 

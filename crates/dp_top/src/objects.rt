@@ -1,33 +1,35 @@
 //! The objects of the outside that a command is lent.
 
-use dp_outside::{Shelf, Sink, Source};
+use dp_outside::{Net, Shelf, Sink, Source};
 use std::marker::Model;
 
 /// The objects of the outside that a command is lent, each behind a lifetime of its own. Contracts see what they tell,
 /// how often each has failed, and which objects they are: by that the function that made the record, and takes it apart,
 /// knows what became of each.
 #[derive(Drop)]
-pub(crate) struct Objects<'h, 's, 'k, 'e, H: Shelf, S: Source, K: Sink, E: Sink> {
+pub(crate) struct Objects<'h, 's, 'k, 'e, 'n, H: Shelf, S: Source, K: Sink, E: Sink, N: Net> {
     pub(crate) shelf: &'h mut H,
     pub(crate) input: &'s mut S,
     pub(crate) out: &'k mut K,
     pub(crate) err: &'e mut E,
+    pub(crate) net: &'n mut N,
 }
 
-impl<'h, 's, 'k, 'e, H: Shelf, S: Source, K: Sink, E: Sink> Model
-    for Objects<'h, 's, 'k, 'e, H, S, K, E> {
+impl<'h, 's, 'k, 'e, 'n, H: Shelf, S: Source, K: Sink, E: Sink, N: Net> Model
+    for Objects<'h, 's, 'k, 'e, 'n, H, S, K, E, N> {
     ghost use Rattle.dp_top.specs.inner.Kept.{Lent};
     ghost use Rattle.dp_top.specs.Seen.{seen};
 
     ghost Value = { Lent };
 
     ghost view = { λ o. record {
-      seen = seen H.Shelf S.Source K.Sink E.Sink o.shelf.now o.input.now o.out.now o.err.now;
+      seen = seen H.Shelf S.Source K.Sink E.Sink N.Dialer N.shut_doors o.shelf.now o.input.now o.out.now o.err.now o.net.now;
       names = record {
         shelf = o.shelf.ghost_name;
         input = o.input.ghost_name;
         out = o.out.ghost_name;
         err = o.err.ghost_name;
+        net = o.net.ghost_name;
       };
     } };
 }

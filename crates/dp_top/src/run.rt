@@ -5,15 +5,15 @@ ghost use Rattle.dp_tree.specs.declared.bundle.Bundle.{Bundle};
 ghost use Rattle.dp_bundle.specs.declared.errors.BundleError.{BundleError as Unmade};
 ghost use Rattle.dp_run.specs.Programs.{Holds};
 ghost use Rattle.dp_run.specs.Runs.{Runs};
-ghost use Rattle.dp_top.specs.CommandLine.{AreFileWords};
-ghost use Rattle.dp_top.specs.inner.Commands.{ask_told};
+ghost use Rattle.dp_words.specs.CommandLine.{AreFileWords};
+ghost use Rattle.dp_words.specs.Commands.{ask_told};
 ghost use Rattle.dp_top.specs.Runs.{IsFetched, IsProgramTold, IsRunTold, failure_of, name_at as name_in, name_told, program_failure, program_name, RunFails};
 ghost use Rattle.dp_top.specs.inner.Held.{IsHeld};
 
-use crate::command_line::Program;
 use crate::failures::{Failure, Refused, refusal};
 use dp_outside::{Shelf, Sink};
 use dp_run::{ProgramError, RunError};
+use dp_words::Program;
 use std::alloc::Global;
 
 /// The name of the file of this number.

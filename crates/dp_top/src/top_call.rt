@@ -1,20 +1,20 @@
 //! The top call.
-ghost use Rattle.std.specs.Prelude.{◌≡◌, ◌↔◌, ◌⊎◌, ◌<◌, ◌≤◌, ℕ, List, Some, Ok, Err, codes, map, string_bytes};
+ghost use Rattle.std.specs.Prelude.{false, ◌≡◌, ◌↔◌, ◌⊎◌, ◌<◌, ◌≤◌, ℕ, List, Some, Ok, Err, codes, map, string_bytes};
 ghost use Rattle.dp_outside.specs.Causes.{Rose};
 ghost use Rattle.dp_outside.specs.Changes.{change, IsUntouched};
 ghost use Rattle.dp_tree.specs.declared.bundle.Bundle.{Bundle};
 ghost use Rattle.dp_bundle.specs.declared.errors.BundleError.{BundleError};
-ghost use Rattle.dp_top.specs.CommandLine.{Ask, IsRun, IsTalk, Task, Asks, ask_in};
+ghost use Rattle.dp_words.specs.CommandLine.{Address, Ask, IsEngine, IsRun, IsTalk, Task, Asks, ask_in, uses_net};
 ghost use Rattle.dp_top.specs.Failures.{Says};
 ghost use Rattle.dp_run.specs.Programs.{Holds};
 ghost use Rattle.dp_top.specs.Runs.{IsFetched};
-ghost use Rattle.dp_top.specs.Seen.{NoneRose, seen};
-ghost use Rattle.dp_top.specs.Tasks.{IsDone, Fails};
+ghost use Rattle.dp_top.specs.Seen.{NoneRose, net_seen, seen};
+ghost use Rattle.dp_top.specs.Tasks.{IsDone, Fails, IsUnread};
 
-use crate::command_line::read_words;
 use crate::commands::carry_out_on;
 use crate::failures::{report, say};
 use dp_outside::{Net, Shelf, Sink, Source, Spawner};
+use dp_words::read_words;
 use std::alloc::Global;
 use std::sync::Wait;
 
@@ -22,7 +22,8 @@ use std::sync::Wait;
 ///
 /// `words` are the command line without the program's name: `run [--bound N] FILE..` runs the program of the files, of
 /// which the first is the main one, and puts its output on `out`; `talk [--bound N] KEY FILE..` serves a session of KEY
-/// over the program, with `input` and `out` as the link, and the program's own output on `err`; `show` reads framed packets
+/// over the program, with `input` and `out` as the link, and the program's own output on `err`; `engine [--bound N] HOST PORT
+/// KEY FILE..` serves one over a link that `net` dials, with the program's own output on `out`; `show` reads framed packets
 /// from `input` and prints the element of each on `out`, in canonical text with a line feed.
 ///
 /// | status | comes | line on `err` |
@@ -34,12 +35,13 @@ use std::sync::Wait;
 /// | 203 | an output failed | `output failed` |
 /// | 206 | the input of `show` ended inside a frame | `peer ended` |
 /// | 207 | bytes stand in no command's or packet's place, a packet's text is no markup, or too many came | `bad packet offset N` |
-/// | 208 | the input failed | `network failed` |
+/// | 208 | the input or a dial failed, or a link of `engine` | `network failed` |
 /// | 209 | want of memory | `out of memory` |
 /// | 210 | a command stopped the program before its end | `stopped by the IDE` |
 /// | 255 | the program could not go on, or would have had more moments than N | `fatal KIND in NAME on line N`, `bound reached after N steps` |
 ///
-/// It waits in the calls of `input` alone. `show` does not use the shelf, nor `run` the input; `net` and `spawner` are not used.
+/// It waits in the calls of `input` and of a link alone. `show` does not use the shelf, nor `run` and `engine` the input;
+/// `net` is used by `engine` alone, and `spawner` is not used.
 pub fn top<R: Wait + Sync, H: Shelf, S: Source, K: Sink, E: Sink, N: Net, P: Spawner>(
     rt: &R,
     alloc: Global,
@@ -51,32 +53,44 @@ pub fn top<R: Wait + Sync, H: Shelf, S: Source, K: Sink, E: Sink, N: Net, P: Spa
     net: &mut N,
     spawner: &mut P,
 ) -> u8
-    ensures usage { (result ≡ 200) ↔ ((task : Task) → Asks (map string_bytes words.now) task → ⊥) }
+    ensures usage { result ≡ 200 → (task : Task) → Asks (map string_bytes words.now) task → ⊥ }
+    // Words that ask for nothing are told, unless memory ran out as they were read.
+    ensures usage_only { ((task : Task) → Asks (map string_bytes words.now) task → ⊥) → (result ≡ 200) ⊎ (result ≡ 209) }
     ensures usage_told { result ≡ 200 → Says (change E.taken E.faults err.old err.new) (codes "usage\n") }
     ensures usage_input { result ≡ 200 → IsUntouched (change S.left S.faults input.old input.new) }
     ensures usage_out { result ≡ 200 → IsUntouched (change K.taken K.faults out.old out.new) }
     ensures usage_shelf { result ≡ 200 → H.faults shelf.new ≡ H.faults shelf.old }
     ensures usage_fetched { result ≡ 200 → H.fetched shelf.new ≡ H.fetched shelf.old }
+    ensures usage_net { result ≡ 200 → net_seen N.Dialer N.shut_doors net.new ≡ net_seen N.Dialer N.shut_doors net.old }
 
     ensures done { result ≤ 199 → IsDone result (map string_bytes words.now)
-        (seen H.Shelf S.Source K.Sink E.Sink shelf.old input.old out.old err.old)
-        (seen H.Shelf S.Source K.Sink E.Sink shelf.new input.new out.new err.new) }
+        (seen H.Shelf S.Source K.Sink E.Sink N.Dialer N.shut_doors shelf.old input.old out.old err.old net.old)
+        (seen H.Shelf S.Source K.Sink E.Sink N.Dialer N.shut_doors shelf.new input.new out.new err.new net.new) }
+    // Memory may run out as the words are read.
     ensures fails { 200 < result → Fails result (map string_bytes words.now)
-        (seen H.Shelf S.Source K.Sink E.Sink shelf.old input.old out.old err.old)
-        (seen H.Shelf S.Source K.Sink E.Sink shelf.new input.new out.new err.new) }
+        (seen H.Shelf S.Source K.Sink E.Sink N.Dialer N.shut_doors shelf.old input.old out.old err.old net.old)
+        (seen H.Shelf S.Source K.Sink E.Sink N.Dialer N.shut_doors shelf.new input.new out.new err.new net.new)
+        ⊎ IsUnread result (seen H.Shelf S.Source K.Sink E.Sink N.Dialer N.shut_doors shelf.old input.old out.old err.old net.old)
+        (seen H.Shelf S.Source K.Sink E.Sink N.Dialer N.shut_doors shelf.new input.new out.new err.new net.new) }
 
     // Where the shelf tells the files, they make a program, and no count rose, it is run to its end, and all that it wrote
     // is put.
     ensures complete_run { (ask : Ask) (program : Bundle) → IsRun (map string_bytes words.now) ask
         → Holds (H.files shelf.old) ask.names (Ok program)
-        → NoneRose (seen H.Shelf S.Source K.Sink E.Sink shelf.old input.old out.old err.old)
-        (seen H.Shelf S.Source K.Sink E.Sink shelf.new input.new out.new err.new)
+        → NoneRose (seen H.Shelf S.Source K.Sink E.Sink N.Dialer N.shut_doors shelf.old input.old out.old err.old net.old)
+        (seen H.Shelf S.Source K.Sink E.Sink N.Dialer N.shut_doors shelf.new input.new out.new err.new net.new)
         → (result ≤ 199) ⊎ (result ≡ 255) ⊎ (result ≡ 209) }
     // Likewise the session is served whole, or what is no command is told.
     ensures complete_talk { (key : List ℕ) (ask : Ask) (program : Bundle) → IsTalk (map string_bytes words.now) key ask
         → Holds (H.files shelf.old) ask.names (Ok program)
-        → NoneRose (seen H.Shelf S.Source K.Sink E.Sink shelf.old input.old out.old err.old)
-        (seen H.Shelf S.Source K.Sink E.Sink shelf.new input.new out.new err.new)
+        → NoneRose (seen H.Shelf S.Source K.Sink E.Sink N.Dialer N.shut_doors shelf.old input.old out.old err.old net.old)
+        (seen H.Shelf S.Source K.Sink E.Sink N.Dialer N.shut_doors shelf.new input.new out.new err.new net.new)
+        → (result ≤ 199) ⊎ (result ≡ 207) ⊎ (result ≡ 210) ⊎ (result ≡ 255) ⊎ (result ≡ 209) }
+    // Likewise over a link that was dialled.
+    ensures complete_engine { (address : Address) (key : List ℕ) (ask : Ask) (program : Bundle) → IsEngine (map string_bytes words.now) address key ask
+        → Holds (H.files shelf.old) ask.names (Ok program)
+        → NoneRose (seen H.Shelf S.Source K.Sink E.Sink N.Dialer N.shut_doors shelf.old input.old out.old err.old net.old)
+        (seen H.Shelf S.Source K.Sink E.Sink N.Dialer N.shut_doors shelf.new input.new out.new err.new net.new)
         → (result ≤ 199) ⊎ (result ≡ 207) ⊎ (result ≡ 210) ⊎ (result ≡ 255) ⊎ (result ≡ 209) }
     // Where they make none, that is told, unless the shelf fails first.
     ensures refused { (task : Task) (ask : Ask) (why : BundleError) → Asks (map string_bytes words.now) task → ask_in task ≡ Some ask
@@ -84,8 +98,8 @@ pub fn top<R: Wait + Sync, H: Shelf, S: Source, K: Sink, E: Sink, N: Net, P: Spa
         → (result ≡ 201) ⊎ (result ≡ 209) ⊎ Rose (H.faults shelf.old) (H.faults shelf.new) }
     // Where no count rose, every packet is shown, or the input ended inside one, or what is no packet is told.
     ensures complete_show { Asks (map string_bytes words.now) Task.show
-        → NoneRose (seen H.Shelf S.Source K.Sink E.Sink shelf.old input.old out.old err.old)
-        (seen H.Shelf S.Source K.Sink E.Sink shelf.new input.new out.new err.new)
+        → NoneRose (seen H.Shelf S.Source K.Sink E.Sink N.Dialer N.shut_doors shelf.old input.old out.old err.old net.old)
+        (seen H.Shelf S.Source K.Sink E.Sink N.Dialer N.shut_doors shelf.new input.new out.new err.new net.new)
         → (result ≡ 0) ⊎ (result ≡ 206) ⊎ (result ≡ 207) ⊎ (result ≡ 209) }
 
     ensures show_shelf { Asks (map string_bytes words.now) Task.show → H.faults shelf.new ≡ H.faults shelf.old }
@@ -93,21 +107,29 @@ pub fn top<R: Wait + Sync, H: Shelf, S: Source, K: Sink, E: Sink, N: Net, P: Spa
     ensures fetched { (task : Task) → Asks (map string_bytes words.now) task
         → IsFetched (ask_in task) (H.fetched shelf.old) (H.fetched shelf.new) }
     ensures files { H.files shelf.new ≡ H.files shelf.old }
-    ensures net { N.faults net.new ≡ N.faults net.old }
+    // The network is used by `engine` alone.
+    ensures offline { (task : Task) → Asks (map string_bytes words.now) task → uses_net task ≡ false
+        → net_seen N.Dialer N.shut_doors net.new ≡ net_seen N.Dialer N.shut_doors net.old }
+    ensures net_later { N.faults net.old ≤ N.faults net.new }
+    ensures returned_later { N.returned net.old ≤ N.returned net.new }
     ensures spawner { P.faults spawner.new ≡ P.faults spawner.old }
     ensures shelf_later { H.faults shelf.old ≤ H.faults shelf.new }
     ensures input_later { S.faults input.old ≤ S.faults input.new }
     ensures out_later { K.faults out.old ≤ K.faults out.new }
     ensures err_later { E.faults err.old ≤ E.faults err.new }
 {
-    match read_words(words) {
-        None => {
+    match read_words(alloc, words) {
+        Ok(None) => {
             say(err, b"usage\n");
             200
         }
-        Some(command) => match carry_out_on(alloc, command, shelf, input, out, err) {
+        Ok(Some(command)) => match carry_out_on(alloc, command, shelf, input, out, err, net) {
             Ok(status) => status,
             Err(refused) => report(alloc, refused.failure, refused.name, err),
         },
+        Err(_) => {
+            say(err, b"out of memory\n");
+            209
+        }
     }
 }

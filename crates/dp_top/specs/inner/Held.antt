@@ -7,13 +7,17 @@ use Rattle.dp_top.specs.declared.failures.Failure.{Failure}
 use Rattle.dp_top.specs.declared.failures.Failure.TheVariants.{NoFile, Memory}
 use Rattle.dp_top.specs.declared.failures.Refused.{Refused}
 use Rattle.dp_run.specs.Programs.{Holds}
-use Rattle.dp_top.specs.CommandLine.{Ask}
+use Rattle.dp_words.specs.CommandLine.{Ask}
 use Rattle.dp_top.specs.Failures.{status_of}
 use Rattle.dp_top.specs.Seen.{Seen}
 
 -- it is told as a bad source, or memory ran out
 abbrev pub IsBadSource : Failure → Type 0
 IsBadSource failure = (status_of failure ≡ 201) ⊎ (failure ≡ Memory)
+
+-- it is no bad source, and no file that is lacking
+abbrev pub IsGood : Failure → Type 0
+IsGood failure = (status_of failure ≢ 201) × (failure ≢ NoFile)
 
 -- files that make a program are no bad source, and those that make none are one, unless the shelf
 -- failed

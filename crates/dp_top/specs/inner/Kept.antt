@@ -9,6 +9,7 @@ pub record Names : Type 0 where
   pub input : GName
   pub out : GName
   pub err : GName
+  pub net : GName
 
 pub record Lent : Type 0 where
   pub seen : Seen
@@ -21,6 +22,8 @@ pub record Continues (old new : Seen) : Type 0 where
   pub input : old.input.faults ≤ new.input.faults
   pub out : old.out.faults ≤ new.out.faults
   pub err : old.err.faults ≤ new.err.faults
+  pub net : old.net.faults ≤ new.net.faults
+  pub returned : old.net.returned ≤ new.net.returned
 
 -- likewise, and they are the same objects
 pub record GoesOn (old new : Lent) : Type 0 where

@@ -7,28 +7,31 @@ use Rattle.dp_engine.specs.Serving.{Serves}
 use Rattle.dp_top.specs.declared.failures.Failure.{Failure}
 use Rattle.dp_top.specs.declared.failures.Failure.TheVariants as failure
 use Rattle.dp_top.specs.declared.failures.Refused.{Refused}
-use Rattle.dp_top.specs.CommandLine.{Ask}
-use Rattle.dp_top.specs.Talk.{IsIdle, Told, judged}
+use Rattle.dp_words.specs.CommandLine.{Ask}
+use Rattle.dp_top.specs.Talk.{IsIdle, Told, judged_by}
 
 -- what the code tells
 abbrev pub told_in : Result ℕ Refused → Told
 told_in (Ok status) = Ok status
 told_in (Err why) = Err (why.failure, why.name.now)
 
--- a session over this program went well, with this status
-pub record ServedSo (status : ℕ) (program : Bundle) (key : List ℕ) (ask : Ask)
+-- a session over this program went well, with this status; a fault of the link's sink is the first
+-- failure
+pub record ServedSo (unsent : Failure) (status : ℕ) (program : Bundle) (key : List ℕ) (ask : Ask)
     (input out err : Change) : Type 0 where
   pub served : Served
   pub serves : Serves served program ask.bound key input out err
-  pub told : judged ask served ≡ Ok status
+  pub told : judged_by unsent ask served.outcome served.end ≡ Ok status
 
-pub record EndedSo (why : Failure) (name : List ℕ) (program : Bundle) (key : List ℕ) (ask : Ask)
-    (input out err : Change) : Type 0 where
+pub record EndedSo (unsent why : Failure) (name : List ℕ) (program : Bundle) (key : List ℕ)
+    (ask : Ask) (input out err : Change) : Type 0 where
   pub served : Served
   pub serves : Serves served program ask.bound key input out err
-  pub told : judged ask served ≡ Err (why, name)
+  pub told : judged_by unsent ask served.outcome served.end ≡ Err (why, name)
 
 -- one failed so, or memory ran out before it began
-abbrev pub UnservedSo : Failure → List ℕ → Bundle → List ℕ → Ask → Change → Change → Change → Type 0
-UnservedSo why name program key ask input out err =
-    ((why ≡ failure.Memory) × IsIdle input out err) ⊎ EndedSo why name program key ask input out err
+abbrev pub UnservedSo : Failure → Failure → List ℕ → Bundle → List ℕ → Ask
+    → Change → Change → Change → Type 0
+UnservedSo unsent why name program key ask input out err =
+    ((why ≡ failure.Memory) × IsIdle input out err)
+    ⊎ EndedSo unsent why name program key ask input out err

@@ -1,8 +1,8 @@
 use Rattle.std.proofs.Common.{ℕ, Ok, Err, inl}
 use Rattle.std.specs.Prelude.{⊤}
 use Rattle.dp_run.specs.Runs.{of_program}
-use Rattle.dp_top.specs.inner.Commands.{ask_told}
-use Rattle.dp_top.proofs.NameLaws.{names_of}
+use Rattle.dp_words.specs.Commands.{ask_told}
+use Rattle.dp_words.proofs.NameLaws.{names_of}
 use Rattle.dp_top.proofs.RunTold.{fetched, held_run, held_status}
 use Rattle.dp_top.proofs.run.run.Goals as goal
 

@@ -1,7 +1,7 @@
 use Rattle.std.proofs.Common.{Ok, Err, refl}
 use Rattle.dp_tree.specs.declared.bundle.Bundle.{Bundle}
-use Rattle.dp_top.specs.inner.Commands.{ask_told}
-use Rattle.dp_top.proofs.NameLaws.{names_of}
+use Rattle.dp_words.specs.Commands.{ask_told}
+use Rattle.dp_words.proofs.NameLaws.{names_of}
 use Rattle.dp_top.proofs.RunTold.{fetched, held_failure}
 use Rattle.dp_top.proofs.TalkLaws.{held_served, none_served, program_served}
 use Rattle.dp_top.proofs.talk.talk.Goals as goal

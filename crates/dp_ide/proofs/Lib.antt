@@ -1,0 +1,9 @@
+pub mod ActLaws
+pub mod ActsPlayed
+pub mod AwaitLaws
+pub mod EndLaws
+pub mod LineLaws
+pub mod OpenLaws
+pub mod PlaceLaws
+pub mod PlayLaws
+pub mod TextLaws

@@ -1,0 +1,9 @@
+use Rattle.std.proofs.Common.{rules, ◌≡◌, true, [], sym, append-nil}
+use Rattle.dp_ide.specs.Scripts.{is_idle}
+use Rattle.dp_ide.proofs.ActLaws.{idle_alone}
+use Rattle.dp_ide.proofs.reading.put_line.Goals as goal
+
+pub returns-then-is_idle-clause-ok : goal.returns-then-is_idle-clause-ok
+returns-then-is_idle-clause-ok c =
+    let idle : is_idle c.args.line.now ≡ true = search rules in
+    ([], sym (append-nil c.args.said.now.items), idle, idle_alone c.args.number c.args.line.now idle)

@@ -1,0 +1,129 @@
+-- Scripts of the IDE: one instruction a line. Empty lines and lines that begin with `#` do nothing.
+use Rattle.std.specs.Prelude.{◌≡◌, ◌≢◌, ◌⊎◌, ℕ, suc, ◌+◌, ◌*◌, ◌≤◌, Bool, true, not, ◌==◌, if◌then◌else◌, List, [], ◌∷◌, ◌++◌, length, Option, Some, codes}
+use Rattle.std.specs.List.{list_all}
+use Rattle.dp_command.specs.declared.line.Line.{Line}
+use Rattle.dp_command.specs.Grammar.{Rule, ◌>>◌, Mark, Repeated, spelt}
+use Rattle.dp_command.specs.Letters as letter
+use Rattle.dp_command.specs.Options.{given}
+use Rattle.dp_markup.specs.Classes.{hexadecimal_behind}
+use Rattle.dp_reply.specs.Contents.{◌>>=◌, most_16}
+use Rattle.dp_value.specs.Decimals.{decimal_in}
+use Rattle.dp_wire.specs.Frames.{IsCommand}
+use Rattle.dp_ide.specs.declared.instruction.Act.{Act}
+use Rattle.dp_ide.specs.declared.instruction.Act.TheVariants.{Send, Attr, Code, Prop, Out, Print}
+use Rattle.dp_ide.specs.declared.instruction.Instruction.{Instruction}
+
+-- ---- lines
+
+-- a byte in front of the first line
+abbrev pub in_front : ℕ → List (List ℕ) → List (List ℕ)
+in_front byte [] = (byte ∷ []) ∷ []
+in_front byte (line ∷ lines) = (byte ∷ line) ∷ lines
+
+-- Each line ends with a line feed; the last one may lack it.
+abbrev pub lines_of : List ℕ → List (List ℕ)
+lines_of [] = []
+lines_of (byte ∷ bytes) =
+    if byte == 10 then [] ∷ lines_of bytes else in_front byte (lines_of bytes)
+
+-- ---- names and texts
+
+-- NAME: at least one byte and no space
+abbrev pub has_no_space : List ℕ → Bool
+has_no_space bytes = list_all (λ byte. not (byte == 32)) bytes
+
+pub record Name (name bytes : List ℕ) : Type 0 where
+  pub same : bytes ≡ name
+  pub some_byte : 1 ≤ length name
+  pub whole : has_no_space name ≡ true
+
+-- the number that a hexadecimal digit is, of either case
+abbrev pub digit_of : ℕ → Option ℕ
+digit_of digit = hexadecimal_behind 0 digit
+
+-- the byte that two of them make
+abbrev pub byte_of : ℕ → ℕ → Option ℕ
+byte_of high low = digit_of high >>= λ h. digit_of low >>= λ l. Some (h * 16 + l)
+
+-- `\xHH`
+pub record InHexadecimal (byte : ℕ) (bytes : List ℕ) : Type 0 where
+  pub high : ℕ
+  pub low : ℕ
+  pub whole : bytes ≡ 92 ∷ 120 ∷ high ∷ low ∷ []
+  pub digits : byte_of high low ≡ Some byte
+
+-- A byte stands for itself, but for a backslash: `\n` is a line feed, `\\` a backslash, and `\xHH`
+-- any byte.
+abbrev pub InText : ℕ → Rule
+InText byte bytes =
+    ((byte ≢ 92) × (bytes ≡ byte ∷ []))
+    ⊎ ((byte ≡ 10) × (bytes ≡ codes "\\n"))
+    ⊎ ((byte ≡ 92) × (bytes ≡ codes "\\\\"))
+    ⊎ InHexadecimal byte bytes
+
+-- TEXT, which may be empty
+abbrev pub Text : List ℕ → Rule
+Text text = Repeated InText text
+
+-- [ SP TEXT ]
+abbrev pub Behind : List ℕ → Rule
+Behind text bytes = ((text ≡ []) × (bytes ≡ [])) ⊎ (Mark (codes " ") >> Text text) bytes
+
+-- N: a decimal up to 65,535
+abbrev pub Number : ℕ → Rule
+Number n bytes = decimal_in most_16 bytes ≡ Some n
+
+-- LINE: a command line with an `-i`; the id is the value of the first one, whatever it is
+pub record Command (line id bytes : List ℕ) : Type 0 where
+  pub same : bytes ≡ line
+  pub is_command : IsCommand line
+  pub parts : Line
+  pub is_spelt : spelt line parts
+  pub asks : given letter.i parts.options ≡ Some id
+
+-- ---- instructions
+
+-- the line asks for this
+abbrev pub Asks : Act → Rule
+Asks (Send line id) = Mark (codes "send ") >> Command line id
+Asks (Attr name text) = Mark (codes "attr ") >> Name name >> Behind text
+Asks (Code n) = Mark (codes "code ") >> Number n
+Asks (Prop name text) = Mark (codes "prop ") >> Name name >> Behind text
+Asks (Out text) = Mark (codes "out") >> Behind text
+Asks Print = Mark (codes "print")
+
+abbrev pub is_idle : List ℕ → Bool
+is_idle [] = true
+is_idle (byte ∷ line) = byte == 35
+
+-- the line of this number says nothing, or one instruction
+abbrev pub Says : ℕ → List ℕ → List Instruction → Type 0
+Says number line [] = is_idle line ≡ true
+Says number line (one ∷ []) = (one.line ≡ number) × Asks one.act line
+Says number line (one ∷ other ∷ more) = ⊥
+
+-- The lines, of which the first has this number, say these instructions, one line after another.
+abbrev pub AreSaid : ℕ → List (List ℕ) → List Instruction → Type 0
+AreSaid number [] instructions = instructions ≡ []
+AreSaid number (line ∷ lines) instructions =
+    (said : List Instruction) × (more : List Instruction) × (instructions ≡ said ++ more)
+    × Says number line said × AreSaid (suc number) lines more
+
+-- the bytes are a script of these instructions; lines are counted from 1
+abbrev pub IsScript : List ℕ → List Instruction → Type 0
+IsScript bytes instructions = AreSaid 1 (lines_of bytes) instructions
+
+-- some bytes are a script of these instructions
+abbrev pub IsOfSomeScript : List Instruction → Type 0
+IsOfSomeScript instructions = (bytes : List ℕ) × IsScript bytes instructions
+
+-- the line of this number is the first that is no line of a script
+pub record IsFirstBad (bytes : List ℕ) (number : ℕ) : Type 0 where
+  pub before : List (List ℕ)
+  pub line : List ℕ
+  pub after : List (List ℕ)
+  pub split : lines_of bytes ≡ before ++ line ∷ after
+  pub place : number ≡ length before + 1
+  pub said : List Instruction
+  pub good : AreSaid 1 before said
+  pub bad : (any : List Instruction) → Says number line any → ⊥

@@ -1,0 +1,94 @@
+-- What a function that reads a part of a script answers.
+use Rattle.std.specs.Prelude.{◌≡◌, ◌⊎◌, ℕ, ◌≤◌, true, not, ◌==◌, if◌then◌else◌, List, [], ◌∷◌, ◌++◌, length, take, drop, Option, None, Some, codes, ⊤}
+use Rattle.std.specs.List.{list_all}
+use Rattle.dp_command.specs.Grammar.{Rule, ◌>>◌, Mark}
+use Rattle.dp_ide.specs.declared.error.IdeError.{IdeError}
+use Rattle.dp_ide.specs.declared.error.IdeError.TheVariants as error
+use Rattle.dp_ide.specs.declared.instruction.Act.{Act}
+use Rattle.dp_ide.specs.declared.instruction.Act.TheVariants.{Send, Attr, Code, Prop, Out, Print}
+use Rattle.dp_ide.specs.declared.instruction.Instruction.{Instruction}
+use Rattle.dp_ide.specs.Scripts.{AreSaid, Behind, Command, Name, Number, Says, Text, byte_of, lines_of}
+use Rattle.dp_reply.specs.Contents.{◌>>=◌}
+
+-- the one that the bytes spell by the rule, or that they spell none
+abbrev pub Reads : {A : Type 0} → (A → List ℕ → Type 0) → List ℕ → Option A → Type 0
+Reads {A = A} rule bytes None = (one : A) → rule one bytes → ⊥
+Reads {A = A} rule bytes (Some one) =
+    rule one bytes × ((other : A) → rule other bytes → other ≡ one)
+
+-- what stands first in a text, as one byte, and what is behind it
+abbrev pub in_hexadecimal : List ℕ → Option (ℕ × List ℕ)
+in_hexadecimal [] = None
+in_hexadecimal (high ∷ []) = None
+in_hexadecimal (high ∷ low ∷ rest) = byte_of high low >>= λ byte. Some (byte, rest)
+
+abbrev pub escaped : List ℕ → Option (ℕ × List ℕ)
+escaped [] = None
+escaped (byte ∷ rest) =
+    if byte == 110 then Some (10, rest) else if byte == 92 then Some (92, rest)
+    else if byte == 120 then in_hexadecimal rest else None
+
+abbrev pub first_of : List ℕ → Option (ℕ × List ℕ)
+first_of [] = None
+first_of (byte ∷ rest) = if byte == 92 then escaped rest else Some (byte, rest)
+
+-- This text was read, and the rest is still to be read: whatever the rest spells comes behind it.
+pub record ReadsOn (bytes text rest : List ℕ) : Type 0 where
+  pub goes : (later : List ℕ) → Text later rest → Text (text ++ later) bytes
+  pub comes : (all : List ℕ) → Text all bytes
+      → (later : List ℕ) × (all ≡ text ++ later) × Text later rest
+
+-- so many bytes stand before the first of this kind, or before the end
+pub record IsRun (mark : ℕ) (bytes : List ℕ) (count : ℕ) : Type 0 where
+  pub within : count ≤ length bytes
+  pub before : list_all (λ byte. not (byte == mark)) (take count bytes) ≡ true
+  pub stops : (drop count bytes ≡ [])
+      ⊎ ((rest : List ℕ) × (drop count bytes ≡ mark ∷ rest))
+
+-- ---- each instruction behind its word
+
+abbrev pub IsNamed : List ℕ × List ℕ → Rule
+IsNamed named = Name named.0 >> Behind named.1
+
+abbrev pub is_send : Act → Rule
+is_send (Send line id) = Command line id
+is_send other = λ bytes. ⊥
+
+abbrev pub is_attr : Act → Rule
+is_attr (Attr name text) = IsNamed (name, text)
+is_attr other = λ bytes. ⊥
+
+abbrev pub is_prop : Act → Rule
+is_prop (Prop name text) = IsNamed (name, text)
+is_prop other = λ bytes. ⊥
+
+abbrev pub is_code : Act → Rule
+is_code (Code n) = Number n
+is_code other = λ bytes. ⊥
+
+abbrev pub is_out : Act → Rule
+is_out (Out text) = Mark (codes "out") >> Behind text
+is_out Print = Mark (codes "print")
+is_out other = λ bytes. ⊥
+
+-- ---- whole lines
+
+-- what the line says stands behind what was said before, and it says nothing else
+abbrev pub SaidBehind : ℕ → List ℕ → List Instruction → List Instruction → Type 0
+SaidBehind number line old new =
+    (said : List Instruction) × (new ≡ old ++ said) × Says number line said
+    × ((other : List Instruction) → Says number line other → other ≡ said)
+
+abbrev pub ReadFails : ℕ → List ℕ → IdeError → Type 0
+ReadFails number line (error.BadScript bad) =
+    (bad ≡ number) × ((any : List Instruction) → Says number line any → ⊥)
+ReadFails number line error.Memory = ⊤
+ReadFails number line other = ⊥
+
+-- the lines before the rest say these instructions and no others
+pub record HasSaid (bytes rest : List ℕ) (number : ℕ) (said : List Instruction) : Type 0 where
+  pub before : List (List ℕ)
+  pub split : lines_of bytes ≡ before ++ lines_of rest
+  pub count : number ≡ length before
+  pub good : AreSaid 1 before said
+  pub only : (other : List Instruction) → AreSaid 1 before other → other ≡ said

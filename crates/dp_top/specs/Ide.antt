@@ -1,0 +1,112 @@
+-- The command `ide`: what it does, and why it fails.
+use Rattle.std.specs.Prelude.{◌≡◌, ◌⊎◌, ℕ, ◌<◌, ◌≤◌, List, [], length, Result, Ok, Err}
+use Rattle.dp_outside.specs.Causes.{Rose}
+use Rattle.dp_outside.specs.Changes.{Change, IsUntouched}
+use Rattle.dp_outside.specs.Files.{Fetches, Lacks}
+use Rattle.dp_run.specs.Programs.{Files}
+use Rattle.dp_ide.specs.declared.error.IdeError.{IdeError}
+use Rattle.dp_ide.specs.declared.error.IdeError.TheVariants as ends
+use Rattle.dp_ide.specs.declared.instruction.Instruction.{Instruction}
+use Rattle.dp_ide.specs.Scripts.{IsFirstBad, IsScript}
+use Rattle.dp_ide.specs.Plays.{Ends}
+use Rattle.dp_top.specs.declared.failures.Failure.{Failure}
+use Rattle.dp_top.specs.declared.failures.Failure.TheVariants as failure
+use Rattle.dp_top.specs.Engine.{IsApart, IsIdle}
+use Rattle.dp_top.specs.Links.{IsAccepted, IsUncalled}
+use Rattle.dp_top.specs.Seen.{Seen, changed}
+
+-- ---- the script
+
+-- the most bytes of a script
+abbrev pub script_limit : ℕ
+script_limit = 1048576
+
+-- the file is a script of these instructions
+pub record IsHeldScript (files : Files) (name : List ℕ) (instructions : List Instruction) : Type 0
+  where
+    pub content : List ℕ
+    pub fetched : Fetches files name script_limit content
+    pub fits : length content ≤ script_limit
+    pub is_script : IsScript content instructions
+
+-- Where a file is no script: the first line that is none of a script, or 0 where it is too long.
+abbrev pub IsBadAt : List ℕ → ℕ → Type 0
+IsBadAt content line =
+    ((line ≡ 0) × (script_limit < length content))
+    ⊎ ((length content ≤ script_limit) × IsFirstBad content line)
+
+pub record IsNoScript (files : Files) (name : List ℕ) (line : ℕ) : Type 0 where
+  pub content : List ℕ
+  pub fetched : Fetches files name script_limit content
+  pub bad : IsBadAt content line
+
+-- ---- what it does
+
+-- the script was played over the one link of one gate, and ended so
+pub record IsPlayed (end : Result (Unit {0}) IdeError) (port : ℕ) (script : List ℕ)
+    (old new : Seen) : Type 0 where
+  pub instructions : List Instruction
+  pub held : IsHeldScript old.shelf.files script instructions
+  pub source : Change
+  pub sink : Change
+  pub accepted : IsAccepted port source sink old.net new.net
+  pub ends : Ends instructions end source sink (changed old.out new.out)
+  pub apart : IsApart old new
+
+abbrev pub Plays : ℕ → ℕ → List ℕ → Seen → Seen → Type 0
+Plays status port script old new = (status ≡ 0) × IsPlayed (Ok tt) port script old new
+
+-- ---- why it fails
+
+-- the failure that an end of playing is
+abbrev pub failure_of : IdeError → Failure
+failure_of (ends.BadScript line) = failure.Script line
+failure_of (ends.Differs line wanted found) = failure.Differs line wanted found
+failure_of ends.PeerEnd = failure.PeerEnd
+failure_of (ends.BadPacket offset) = failure.Packet offset
+failure_of ends.ReadFault = failure.Network
+failure_of ends.WriteFault = failure.Network
+failure_of ends.OutFault = failure.Output
+failure_of ends.Memory = failure.Memory
+
+-- there is no script: the shelf failed, lacks it, or what it has is none
+abbrev pub Unread : Failure → List ℕ → List ℕ → Files → ℕ → ℕ → Type 0
+Unread failure.ShelfFailed name script files before after = (name ≡ script) × Rose before after
+Unread failure.NoFile name script files before after = (name ≡ script) × Lacks files script
+Unread (failure.Script line) name script files before after =
+    (name ≡ []) × IsNoScript files script line
+Unread other name script files before after = ⊥
+
+-- there is a script, and no link came
+pub record IsUnmet (port : ℕ) (script : List ℕ) (old new : Seen) : Type 0 where
+  pub instructions : List Instruction
+  pub held : IsHeldScript old.shelf.files script instructions
+  pub uncalled : IsUncalled port old.net new.net
+  pub out : IsUntouched (changed old.out new.out)
+  pub apart : IsApart old new
+
+-- it was played, and its end is this failure
+pub record EndsSo (why : Failure) (name : List ℕ) (port : ℕ) (script : List ℕ) (old new : Seen)
+    : Type 0 where
+  pub end : IdeError
+  pub played : IsPlayed (Err end) port script old new
+  pub is_why : why ≡ failure_of end
+  pub is_name : name ≡ []
+
+-- memory ran out before a gate was opened, for the line on a link that did not come, or once the
+-- script was played
+abbrev pub IsStarved : ℕ → List ℕ → Seen → Seen → Type 0
+IsStarved port script old new =
+    IsIdle old new ⊎ IsUnmet port script old new
+    ⊎ ((end : Result (Unit {0}) IdeError) × IsPlayed end port script old new)
+
+abbrev pub IsAlone : Failure → List ℕ → ℕ → List ℕ → Seen → Seen → Type 0
+IsAlone why name port script old new =
+    (why ≡ failure.Network) × (name ≡ []) × IsUnmet port script old new
+
+-- why it failed
+abbrev pub IdeFails : Failure → List ℕ → ℕ → List ℕ → Seen → Seen → Type 0
+IdeFails why name port script old new =
+    ((why ≡ failure.Memory) × IsStarved port script old new)
+    ⊎ (Unread why name script old.shelf.files old.shelf.faults new.shelf.faults × IsIdle old new)
+    ⊎ IsAlone why name port script old new ⊎ EndsSo why name port script old new

@@ -1,0 +1,87 @@
+-- A link over the network that a command used, by what the network tells: how it was given, and how
+-- it came back.
+use Rattle.std.specs.Prelude.{◌≡◌, ◌⊎◌, ℕ, ◌+◌, ◌<◌, ◌≤◌, List, [], ◌∷◌, Option, None, Some, ⊤}
+use Rattle.dp_outside.specs.Causes.{Rose}
+use Rattle.dp_outside.specs.Changes.{Change}
+use Rattle.dp_outside.specs.Links.{CountsReturned, Dial, Door, Link}
+use Rattle.dp_outside.specs.Telling.{grown}
+use Rattle.dp_words.specs.CommandLine.{Address}
+use Rattle.dp_top.specs.Seen.{Net}
+
+-- what became of a source or a sink that began with no fault
+abbrev pub between : Option (List ℕ) → Option (List ℕ) → ℕ → Change
+between given back faults =
+    record { told_before = given; told = back; faults_before = 0; faults = faults }
+
+-- the link told this when it was given and that when it came back; its source and its sink had
+-- failed so often
+pub record IsUsed (given back : Link) (source sink : Change) : Type 0 where
+  pub source_is : source ≡ between given.left back.left source.faults
+  pub sink_is : sink ≡ between given.taken back.taken sink.faults
+
+abbrev pub dial_of : Address → Option Link → Dial
+dial_of address made = record { host = address.host; port = address.port; made = made }
+
+-- One dial, of this address, gave the link, and it came back.
+pub record IsDialled (address : Address) (source sink : Change) (old new : Net) : Type 0 where
+  pub given : Link
+  pub back : Link
+  pub used : IsUsed given back source sink
+  pub dialled : new.dials ≡ grown old.dials (dial_of address (Some given) ∷ [])
+  pub retired : new.retired ≡ grown old.retired (back ∷ [])
+  pub faults : old.faults ≤ new.faults
+  pub returned : CountsReturned (source.faults + sink.faults) old.returned new.returned
+
+-- One dial, of this address, failed.
+pub record IsUndialled (address : Address) (old new : Net) : Type 0 where
+  pub dialled : new.dials ≡ grown old.dials (dial_of address None ∷ [])
+  pub retired : new.retired ≡ old.retired
+  pub faults : Rose old.faults new.faults
+  pub returned : new.returned ≡ old.returned
+
+-- ---- links that others make
+
+-- where the list is told, it is this one
+abbrev pub Tells : Option (List Link) → List Link → Type 0
+Tells None links = ⊤
+Tells (Some told) links = told ≡ links
+
+-- One gate, at this port, gave these links and took these back. When it was shut it had failed, or
+-- links that had failed had come back to it, so often.
+pub record IsGated (port : ℕ) (given back : List Link) (failed : ℕ) (old new : Net) : Type 0 where
+  pub door : Door
+  pub at : door.port ≡ port
+  pub gave : Tells door.accepted given
+  pub took : Tells door.retired back
+  pub shut : new.shut ≡ grown old.shut (door ∷ [])
+  pub dials : new.dials ≡ old.dials
+  pub retired : new.retired ≡ old.retired
+  pub faults : old.faults ≤ new.faults
+  pub returned : CountsReturned failed old.returned new.returned
+
+-- One gate, at this port, gave one link, and took it back. A link that had failed is counted.
+pub record IsAccepted (port : ℕ) (source sink : Change) (old new : Net) : Type 0 where
+  pub given : Link
+  pub back : Link
+  pub used : IsUsed given back source sink
+  pub failed : ℕ
+  pub counted : 0 < source.faults + sink.faults → 0 < failed
+  pub gated : IsGated port (given ∷ []) (back ∷ []) failed old new
+
+-- No gate could be opened.
+pub record IsUngated (old new : Net) : Type 0 where
+  pub dials : new.dials ≡ old.dials
+  pub retired : new.retired ≡ old.retired
+  pub shut : new.shut ≡ old.shut
+  pub faults : Rose old.faults new.faults
+  pub returned : new.returned ≡ old.returned
+
+-- The gate failed, and gave no link.
+pub record IsShutUnused (port : ℕ) (old new : Net) : Type 0 where
+  pub failed : ℕ
+  pub counted : 0 < failed
+  pub gated : IsGated port [] [] failed old new
+
+-- no link came
+abbrev pub IsUncalled : ℕ → Net → Net → Type 0
+IsUncalled port old new = IsUngated old new ⊎ IsShutUnused port old new

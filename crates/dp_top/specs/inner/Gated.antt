@@ -1,0 +1,63 @@
+-- What the code tells of a script that is played over a link that another machine makes.
+use Rattle.std.specs.Prelude.{◌≡◌, ℕ, ◌+◌, ◌<◌, List, [], ◌∷◌, Option, None, Some, Result, Ok, Err}
+use Rattle.dp_outside.specs.Changes.{Change, IsUntouched}
+use Rattle.dp_outside.specs.Links.{Link}
+use Rattle.dp_ide.specs.declared.error.IdeError.{IdeError}
+use Rattle.dp_ide.specs.declared.instruction.Instruction.{Instruction}
+use Rattle.dp_ide.specs.Plays.{Ends}
+use Rattle.dp_top.specs.declared.failures.Failure.{Failure}
+use Rattle.dp_top.specs.declared.failures.Failure.TheVariants as failure
+use Rattle.dp_top.specs.Ide.{failure_of}
+use Rattle.dp_top.specs.Links.{IsAccepted, IsUncalled, IsUsed, Tells}
+use Rattle.dp_top.specs.Seen.{Net}
+
+-- what a gate tells, and how often it and what came back to it failed
+pub record DoorSeen : Type 0 where
+  pub accepted : Option (List Link)
+  pub retired : Option (List Link)
+  pub faults : ℕ
+  pub returned : ℕ
+
+-- a new gate gave no link
+pub record NoCall (door : DoorSeen) (out : Change) : Type 0 where
+  pub gave : Tells door.accepted []
+  pub took : Tells door.retired []
+  pub failed : 0 < door.faults
+  pub out_stays : IsUntouched out
+
+-- a new gate gave one link, over which the script was played, and took it back
+pub record Called (end : Result (Unit {0}) IdeError) (instructions : List Instruction)
+    (door : DoorSeen) (out : Change) : Type 0 where
+  pub given : Link
+  pub back : Link
+  pub source : Change
+  pub sink : Change
+  pub used : IsUsed given back source sink
+  pub gave : Tells door.accepted (given ∷ [])
+  pub took : Tells door.retired (back ∷ [])
+  pub counted : 0 < source.faults + sink.faults → 0 < door.faults + door.returned
+  pub ends : Ends instructions end source sink out
+
+abbrev pub MetSo : Option (Result (Unit {0}) IdeError) → List Instruction → DoorSeen → Change
+    → Type 0
+MetSo None instructions door out = NoCall door out
+MetSo (Some end) instructions door out = Called end instructions door out
+
+-- likewise of a gate that a network opened and shut
+pub record PlayedSo (end : Result (Unit {0}) IdeError) (port : ℕ) (instructions : List Instruction)
+    (out : Change) (old new : Net) : Type 0 where
+  pub source : Change
+  pub sink : Change
+  pub accepted : IsAccepted port source sink old new
+  pub ends : Ends instructions end source sink out
+
+abbrev pub GatedSo : Option (Result (Unit {0}) IdeError) → ℕ → List Instruction → Change → Net
+    → Net → Type 0
+GatedSo None port instructions out old new = IsUncalled port old new × IsUntouched out
+GatedSo (Some end) port instructions out old new = PlayedSo end port instructions out old new
+
+-- the failure that is told
+abbrev pub IsToldBy : Option (Result (Unit {0}) IdeError) → Failure → Type 0
+IsToldBy None why = why ≡ failure.Network
+IsToldBy (Some (Ok u)) why = ⊥
+IsToldBy (Some (Err end)) why = why ≡ failure_of end

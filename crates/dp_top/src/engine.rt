@@ -1,0 +1,122 @@
+//! The command `engine`: one session over a link that is dialled.
+ghost use Rattle.std.specs.Prelude.{◌≡◌, ◌≤◌, ℕ, map, Ok, Some, IfOk, MatchResult};
+ghost use Rattle.dp_outside.specs.Changes.{change};
+ghost use Rattle.dp_words.specs.CommandLine.{IsHostWord, IsSession};
+ghost use Rattle.dp_words.specs.Commands.{address_told, ask_told};
+ghost use Rattle.dp_tree.specs.declared.bundle.Bundle.{Bundle as Made};
+ghost use Rattle.dp_top.specs.Engine.{Engages, EngineFails};
+ghost use Rattle.dp_top.specs.Runs.{IsFetched};
+ghost use Rattle.dp_top.specs.Seen.{net_seen};
+ghost use Rattle.dp_top.specs.inner.Dialled.{EngagedSo, UnengagedSo};
+ghost use Rattle.dp_top.specs.inner.Held.{AreHeld, IsHeld};
+ghost use Rattle.dp_top.specs.inner.Kept.{GoesOn};
+
+use crate::failures::{Failure, Refused};
+use crate::objects::Objects;
+use crate::run::told_of_files;
+use crate::sessions::serve_program;
+use dp_outside::{Host, Net, Shelf, Sink, Source};
+use dp_run::fetch_program;
+use dp_tree::Bundle;
+use dp_words::Engine;
+use std::alloc::Global;
+use std::marker::Brand;
+use std::sync::ledger::Blank;
+
+/// Serves one session over a link to a machine, and takes the link back.
+fn serve_linked<'a, N: Net, K: Sink>(
+    alloc: Global,
+    request: Engine<'a>,
+    host: &Host,
+    bundle: &Bundle,
+    net: &mut N,
+    out: &mut K,
+) -> Result<u8, Refused<'a>>
+    requires host { host.now ≡ request.address.host.now }
+    requires session { IsSession request.talk.key.now (ask_told request.talk.program) }
+    requires named { map (λ file. file.name) bundle.now.files ≡ (ask_told request.talk.program).names }
+    ensures ends { MatchResult result
+        (λ status. EngagedSo status bundle.now (address_told request.entry.address) request.entry.talk.key.now (ask_told request.entry.talk.program)
+        (change K.taken K.faults out.old out.new) (net_seen N.Dialer N.shut_doors net.old) (net_seen N.Dialer N.shut_doors net.new))
+        (λ why. UnengagedSo why.failure why.name.now bundle.now (address_told request.entry.address) request.entry.talk.key.now (ask_told request.entry.talk.program)
+        (change K.taken K.faults out.old out.new) (net_seen N.Dialer N.shut_doors net.old) (net_seen N.Dialer N.shut_doors net.new)) }
+    ensures status { IfOk result (λ status. status ≤ 199) }
+    ensures held { (made : Made) (before after : ℕ) → IsHeld (Ok made) result before after }
+    ensures out_later { K.faults out.old ≤ K.faults out.new }
+    ensures net_later { N.faults net.old ≤ N.faults net.new }
+    ensures returned_later { N.returned net.old ≤ N.returned net.new }
+{
+    match net.dial(host, request.address.port) {
+        Err(_) => Err(Refused::unnamed(Failure::Network)),
+        Ok((mut source, mut sink)) => {
+            // Nobody asks for the steps.
+            let blank = Blank::new(1);
+            let done = serve_program::<N::In, N::Out, K, Brand>(
+                alloc,
+                request.talk,
+                Failure::Network,
+                bundle,
+                &mut source,
+                &mut sink,
+                out,
+                blank,
+            );
+            net.retire(source, sink);
+            done
+        }
+    }
+}
+
+/// Serves one session over a link to an address, and takes the link back.
+fn serve_over<'a, N: Net, K: Sink>(
+    alloc: Global,
+    request: Engine<'a>,
+    bundle: &Bundle,
+    net: &mut N,
+    out: &mut K,
+) -> Result<u8, Refused<'a>>
+    requires host { IsHostWord request.address.host.now }
+    requires session { IsSession request.talk.key.now (ask_told request.talk.program) }
+    requires named { map (λ file. file.name) bundle.now.files ≡ (ask_told request.talk.program).names }
+    ensures ends { MatchResult result
+        (λ status. EngagedSo status bundle.now (address_told request.entry.address) request.entry.talk.key.now (ask_told request.entry.talk.program)
+        (change K.taken K.faults out.old out.new) (net_seen N.Dialer N.shut_doors net.old) (net_seen N.Dialer N.shut_doors net.new))
+        (λ why. UnengagedSo why.failure why.name.now bundle.now (address_told request.entry.address) request.entry.talk.key.now (ask_told request.entry.talk.program)
+        (change K.taken K.faults out.old out.new) (net_seen N.Dialer N.shut_doors net.old) (net_seen N.Dialer N.shut_doors net.new)) }
+    ensures status { IfOk result (λ status. status ≤ 199) }
+    ensures held { (made : Made) (before after : ℕ) → IsHeld (Ok made) result before after }
+    ensures out_later { K.faults out.old ≤ K.faults out.new }
+    ensures net_later { N.faults net.old ≤ N.faults net.new }
+    ensures returned_later { N.returned net.old ≤ N.returned net.new }
+{
+    match Host::of(request.address.host.as_bytes()) {
+        Some(host) => serve_linked(alloc, request, &host, bundle, net, out),
+        // A word that is no host asks for nothing, so this is proved not to come.
+        None => unreachable!(),
+    }
+}
+
+/// Serves one session over a link to the address; the program's own output goes to `out`.
+pub(crate) fn engine<'a, H: Shelf, S: Source, K: Sink, E: Sink, N: Net>(
+    alloc: Global,
+    request: Engine<'a>,
+    objects: &mut Objects<H, S, K, E, N>,
+) -> Result<u8, Refused<'a>>
+    requires host { IsHostWord request.address.host.now }
+    requires session { IsSession request.talk.key.now (ask_told request.talk.program) }
+    ensures ends { MatchResult result
+        (λ status. Engages status (address_told request.entry.address) request.entry.talk.key.now (ask_told request.entry.talk.program)
+        objects.old.seen objects.new.seen)
+        (λ why. EngineFails why.failure why.name.now (address_told request.entry.address) request.entry.talk.key.now
+        (ask_told request.entry.talk.program) objects.old.seen objects.new.seen) }
+    ensures status { IfOk result (λ status. status ≤ 199) }
+    // Files that make a program are no bad source, and those that make none are one, unless the shelf failed.
+    ensures held { AreHeld (ask_told request.entry.talk.program) result objects.old.seen objects.new.seen }
+    ensures fetched { IsFetched (Some (ask_told request.entry.talk.program)) objects.old.seen.shelf.fetched objects.new.seen.shelf.fetched }
+    ensures goes_on { GoesOn objects.old objects.new }
+{
+    match fetch_program(alloc, request.talk.program.files, objects.shelf) {
+        Ok(bundle) => serve_over(alloc, request, &bundle, objects.net, objects.out),
+        Err(why) => Err(told_of_files(request.talk.program, why)),
+    }
+}

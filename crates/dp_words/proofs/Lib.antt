@@ -1,0 +1,4 @@
+pub mod NameLaws
+pub mod Leaves
+pub mod Programs
+pub mod Readings

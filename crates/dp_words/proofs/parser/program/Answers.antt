@@ -1,0 +1,25 @@
+use Rattle.std.proofs.Common.{◌≡◌, ℕ, List, false, true, Bool, rules, ap, ap₂, sym, ◌∙◌, refl, codes}
+use Rattle.std.proofs.lemmas.Result.{IfOk-weaker}
+use Rattle.clap.specs.Words.{App, Shape, app_of, shape_of, with_subcommand}
+use Rattle.clap.specs.declared.builder.command.Command.{Command}
+use Rattle.clap.specs.declared.builder.command.Command.TheViews.{out-Command}
+use Rattle.clap.proofs.SimpleLemmas.{plain_fields}
+use Rattle.dp_words.specs.inner.Shapes.{bounded, program, settings, unbounded, wordless}
+use Rattle.dp_words.proofs.parser.program.Goals as goal
+
+-- a command of a plain shape has no global argument
+local : (c : Command) (s : Shape) → shape_of c ≡ s → s.is_plain ≡ true → (out-Command c).has_globals ≡ false
+local c s is plain = (plain_fields c (ap (λ (x : Shape). x.is_plain) is ∙ plain)).globals
+
+pub returns : goal.returns
+returns c =
+    let run_is : shape_of c.in_ok-bounded.field-0 ≡ bounded (codes "run") = search rules in
+    let talk_is : shape_of c.in_ok-bounded-2.field-0 ≡ bounded (codes "talk") = search rules in
+    let engine_is : shape_of c.in_ok-bounded-3.field-0 ≡ bounded (codes "engine") = search rules in
+    let ide_is : shape_of c.in_ok-unbounded.field-0 ≡ unbounded (codes "ide") = search rules in
+    let show_is : shape_of c.new.result ≡ wordless (codes "show") = ap (λ (a : App). a.top) c.new.ensures.app in
+    let one = c.in_ok-subcommand.ensures.shape (local _ _ run_is refl) ∙ ap₂ with_subcommand c.settings.ensures run_is in
+    let two = c.in_ok-subcommand-2.ensures.shape (local _ _ talk_is refl) ∙ ap₂ with_subcommand one talk_is in
+    let three = c.in_ok-subcommand-3.ensures.shape (local _ _ engine_is refl) ∙ ap₂ with_subcommand two engine_is in
+    let four = c.in_ok-subcommand-4.ensures.shape (local _ _ ide_is refl) ∙ ap₂ with_subcommand three ide_is in
+    IfOk-weaker c.subcommand-5.result _ _ (λ r h. h.shape c.new.ensures.local ∙ ap₂ with_subcommand four show_is) c.subcommand-5.ensures

@@ -1,0 +1,193 @@
+-- The words of a command line, without the program's name, and what they ask for.
+use Rattle.std.specs.Prelude.{◌≡◌, ℕ, zero, suc, ◌≤◌, nat_le, Bool, true, false, ◌&&◌, not, if◌then◌else◌, List, [], ◌∷◌, length, All, codes, ◌==◌, Option, Some, None, option_map}
+use Rattle.std.specs.List.{list_all}
+use Rattle.std.specs.Str.{bytes_eq}
+use Rattle.dp_tree.specs.FileNames.{file_count_limit, file_name_limit}
+use Rattle.dp_outside.specs.Hosts.{IsHost}
+use Rattle.dp_value.specs.Names.{without_slash}
+use Rattle.dp_value.specs.Decimals.{decimal_in}
+use Rattle.dp_wire.specs.Frames.{has_no_nul}
+
+abbrev pub between : ℕ → ℕ → ℕ → Bool
+between low high byte = nat_le low byte && nat_le byte high
+
+-- the key of an IDE: 1 to 128 bytes, each from 0x21 to 0x7e
+pub record IsKey (key : List ℕ) : Type 0 where
+  pub some : 1 ≤ length key
+  pub short : length key ≤ 128
+  pub graphic : list_all (between 33 126) key ≡ true
+
+-- the name of a file: 1 to 255 bytes without NUL
+pub record IsFileName (name : List ℕ) : Type 0 where
+  pub some : 1 ≤ length name
+  pub short : length name ≤ file_name_limit
+  pub no_nul : has_no_nul name ≡ true
+
+-- a word that begins with `-` asks for an option, and none is known
+abbrev pub is_option : List ℕ → Bool
+is_option [] = false
+is_option (byte ∷ word) = byte == 45
+
+-- a word that is the name of a file, and asks for no option
+pub record IsFileWord (word : List ℕ) : Type 0 where
+  pub is_name : IsFileName word
+  pub is_none : is_option word ≡ false
+
+-- ---- the words behind a command
+
+-- how many moments a program may have where the words do not say it, and the most that they may ask
+-- for
+abbrev pub default_bound : ℕ
+default_bound = 1000000
+
+abbrev pub bound_limit : ℕ
+bound_limit = 100000000
+
+abbrev pub not_zero : Option ℕ → Option ℕ
+not_zero None = None
+not_zero (Some zero) = None
+not_zero (Some (suc n)) = Some (suc n)
+
+-- the bound that a word is: a decimal from 1 to the most
+abbrev pub bound_of : List ℕ → Option ℕ
+bound_of word = not_zero (decimal_in bound_limit word)
+
+-- a program that is asked for: how many moments it may have, and the names of its files
+pub record Ask : Type 0 where
+  pub bound : ℕ
+  pub names : List (List ℕ)
+
+abbrev pub with_bound : List (List ℕ) → Option Ask
+with_bound [] = None
+with_bound (number ∷ names) =
+    option_map (λ bound. record { bound = bound; names = names }) (bound_of number)
+
+-- the words are the names, behind `--bound N` or without it
+abbrev pub ask_of : List (List ℕ) → Option Ask
+ask_of [] = Some (record { bound = default_bound; names = [] })
+ask_of (word ∷ words) =
+    if bytes_eq word (codes "--bound") then with_bound words
+    else Some (record { bound = default_bound; names = word ∷ words })
+
+-- whether no two names are the same without one leading `/` of each
+abbrev pub are_apart : List (List ℕ) → Bool
+are_apart [] = true
+are_apart (name ∷ names) =
+    list_all (λ other. not (bytes_eq (without_slash name) (without_slash other))) names
+    && are_apart names
+
+-- the names of a program's files: 1 to the most, apart also without one leading `/`
+pub record AreFileWords (names : List (List ℕ)) : Type 0 where
+  pub some : 1 ≤ length names
+  pub few : length names ≤ file_count_limit
+  pub named : All IsFileWord names
+  pub apart : are_apart names ≡ true
+
+-- what stands behind `run`
+pub record Follows (words : List (List ℕ)) (ask : Ask) : Type 0 where
+  pub asked : ask_of words ≡ Some ask
+  pub files : AreFileWords ask.names
+
+-- the words are `run [--bound N] FILE..`
+pub record IsRun (words : List (List ℕ)) (ask : Ask) : Type 0 where
+  pub behind : List (List ℕ)
+  pub words_are : words ≡ codes "run" ∷ behind
+  pub follows : Follows behind ask
+
+-- the session of a key over a program
+pub record IsSession (key : List ℕ) (ask : Ask) : Type 0 where
+  pub is_key : IsKey key
+  pub is_none : is_option key ≡ false
+  pub files : AreFileWords ask.names
+
+-- what stands behind `talk`
+pub record Speaks (words : List (List ℕ)) (key : List ℕ) (ask : Ask) : Type 0 where
+  pub asked : ask_of words ≡ Some (record { bound = ask.bound; names = key ∷ ask.names })
+  pub session : IsSession key ask
+
+-- the words are `talk [--bound N] KEY FILE..`
+pub record IsTalk (words : List (List ℕ)) (key : List ℕ) (ask : Ask) : Type 0 where
+  pub behind : List (List ℕ)
+  pub words_are : words ≡ codes "talk" ∷ behind
+  pub speaks : Speaks behind key ask
+
+-- a word that is the name or address of a machine, and asks for no option
+pub record IsHostWord (word : List ℕ) : Type 0 where
+  pub is_host : IsHost word
+  pub is_none : is_option word ≡ false
+
+abbrev pub port_limit : ℕ
+port_limit = 65535
+
+-- the port that a word is: a decimal from 1 to the most
+abbrev pub port_of : List ℕ → Option ℕ
+port_of word = not_zero (decimal_in port_limit word)
+
+-- where an IDE waits for an engine
+pub record Address : Type 0 where
+  pub host : List ℕ
+  pub port : ℕ
+
+-- what stands behind `engine`
+pub record Dials (words : List (List ℕ)) (address : Address) (key : List ℕ) (ask : Ask)
+    : Type 0 where
+  pub number : List ℕ
+  pub asked : ask_of words
+      ≡ Some (record { bound = ask.bound; names = address.host ∷ number ∷ key ∷ ask.names })
+  pub host : IsHostWord address.host
+  pub port : port_of number ≡ Some address.port
+  pub session : IsSession key ask
+
+-- the words are `engine [--bound N] HOST PORT KEY FILE..`
+pub record IsEngine (words : List (List ℕ)) (address : Address) (key : List ℕ) (ask : Ask)
+    : Type 0 where
+  pub behind : List (List ℕ)
+  pub words_are : words ≡ codes "engine" ∷ behind
+  pub dials : Dials behind address key ask
+
+-- the words are `ide PORT SCRIPT`
+pub record IsIde (words : List (List ℕ)) (port : ℕ) (script : List ℕ) : Type 0 where
+  pub number : List ℕ
+  pub words_are : words ≡ codes "ide" ∷ number ∷ script ∷ []
+  pub is_port : port_of number ≡ Some port
+  pub is_script : IsFileWord script
+
+-- ---- what is asked for
+
+pub data Task : Type 0 where
+  run : Ask → Task
+  talk : (key : List ℕ) → Ask → Task
+  engine : Address → (key : List ℕ) → Ask → Task
+  ide : (port : ℕ) → (script : List ℕ) → Task
+  show : Task
+
+-- the words ask for this
+abbrev pub Asks : List (List ℕ) → Task → Type 0
+Asks words (run ask) = IsRun words ask
+Asks words (talk key ask) = IsTalk words key ask
+Asks words (engine address key ask) = IsEngine words address key ask
+Asks words (ide port script) = IsIde words port script
+Asks words show = words ≡ codes "show" ∷ []
+
+-- the program that it is for, where it is for one
+abbrev pub ask_in : Task → Option Ask
+ask_in (run ask) = Some ask
+ask_in (talk key ask) = Some ask
+ask_in (engine address key ask) = Some ask
+ask_in (ide port script) = None
+ask_in show = None
+
+abbrev pub names_asked : Option Ask → List (List ℕ)
+names_asked None = []
+names_asked (Some ask) = ask.names
+
+-- the names of the files that it is for, in order
+abbrev pub files_in : Task → List (List ℕ)
+files_in (ide port script) = script ∷ []
+files_in task = names_asked (ask_in task)
+
+-- whether it is done over the network
+abbrev pub uses_net : Task → Bool
+uses_net (engine address key ask) = true
+uses_net (ide port script) = true
+uses_net task = false

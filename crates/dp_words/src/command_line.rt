@@ -1,0 +1,371 @@
+//! The words of a command line.
+ghost use Rattle.std.specs.Prelude.{◌≡◌, ◌↔◌, ◌∷◌, [], ℕ, List, Option, Some, None, IsTrue, IfOk, IfSome, IfNone, Ok, codes, map, string_bytes};
+ghost use Rattle.std.specs.List.{list_all};
+ghost use Rattle.std.specs.Option.{option_map};
+ghost use Rattle.dp_words.specs.CommandLine.{Address as AnyAddress, AreFileWords, Ask, Asks, Dials, Follows, IsFileWord, IsHostWord, IsIde, IsKey, IsSession, Speaks, Task, ask_of, between, bound_of, port_of};
+ghost use Rattle.dp_words.specs.Commands.{address_told, ask_told, task_of};
+ghost use Rattle.dp_words.specs.inner.Commands.{parsed_told};
+ghost use Rattle.dp_words.specs.inner.Parsed.{IsParsed, ask_in, bound_in};
+
+use crate::names::{are_files, is_file, is_option};
+use crate::parser::{Parsed, parse};
+use crate::plain::are_plain;
+use dp_outside::Host;
+use dp_value::{Memory, decimal};
+use std::alloc::Global;
+
+/// A program that is asked for: how many moments it may have, and the names of its files.
+#[derive(Clone, Copy, Debug)]
+pub struct Program<'a> {
+    pub bound: u64,
+    pub files: &'a [String],
+}
+
+/// A session that is asked for: its key, and its program.
+#[derive(Clone, Copy, Debug)]
+pub struct Talk<'a> {
+    pub key: &'a str,
+    pub program: Program<'a>,
+}
+
+/// Where an IDE waits for an engine.
+#[derive(Clone, Copy, Debug)]
+pub struct Address<'a> {
+    pub host: &'a str,
+    pub port: u16,
+}
+
+/// A session over a link that is dialled.
+#[derive(Clone, Copy, Debug)]
+pub struct Engine<'a> {
+    pub address: Address<'a>,
+    pub talk: Talk<'a>,
+}
+
+/// A script that is played over one link to a port.
+#[derive(Clone, Copy, Debug)]
+pub struct Ide<'a> {
+    pub port: u16,
+    pub script: &'a str,
+}
+
+/// What the program is asked for.
+#[derive(Clone, Copy, Debug)]
+pub enum Command<'a> {
+    /// The run of a program.
+    Run(Program<'a>),
+    /// One session over a program.
+    Talk(Talk<'a>),
+    /// One session over a link.
+    Engine(Engine<'a>),
+    /// A script over a link.
+    Ide(Ide<'a>),
+    /// The elements of the packets that are read.
+    Show,
+}
+
+/// Whether the bytes are the key of an IDE.
+fn is_key(key: &[u8]) -> bool
+    ensures { IsTrue result ↔ IsKey key.now }
+{
+    if key.is_empty() {
+        return false;
+    }
+    if key.len() > 128 {
+        return false;
+    }
+    are_graphic(key)
+}
+
+fn are_graphic(key: &[u8]) -> bool
+    ensures { result ≡ list_all (between 33 126) key.now }
+{
+    key.iter().all(|byte| is_graphic(*byte))
+}
+
+fn is_graphic(byte: u8) -> bool
+    ensures { result ≡ between 33 126 byte }
+{
+    33 <= byte && byte <= 126
+}
+
+/// How many moments a program may have where the words do not say it.
+pub const DEFAULT_BOUND: u64 = 1_000_000;
+
+/// The most moments that the words may ask for.
+pub const BOUND_LIMIT: u64 = 100_000_000;
+
+/// The bound that a word is: a decimal from 1 to the most.
+fn read_bound(word: &str) -> Option<u64>
+    ensures { result ≡ bound_of word.now }
+{
+    match decimal(word.as_bytes(), BOUND_LIMIT) {
+        None => None,
+        Some(bound) => {
+            if bound == 0 {
+                return None;
+            }
+            Some(bound)
+        }
+    }
+}
+
+/// The program of these files, where they are names of files.
+fn program_of(program: Program<'_>) -> Option<Program<'_>>
+    ensures found { IfSome result (λ p. (ask_told p ≡ ask_told program.entry) × AreFileWords (ask_told p).names) }
+    ensures none { IfNone result (AreFileWords (ask_told program.entry).names → ⊥) }
+{
+    if are_files(program.files) {
+        return Some(program);
+    }
+    None
+}
+
+/// The bound that a word gives, or that which stands where none is given.
+fn bound_given(word: Option<&str>) -> Option<u64>
+    ensures { result ≡ bound_in (option_map (λ w. w.now) word.entry) }
+{
+    match word {
+        None => Some(DEFAULT_BOUND),
+        Some(word) => read_bound(word),
+    }
+}
+
+/// The program of the words, as names, with their bound.
+fn program_in<'a>(parsed: Parsed<'a>) -> Option<Program<'a>>
+    ensures { option_map ask_told result ≡ ask_in (parsed_told parsed.entry) }
+{
+    let bound = bound_given(parsed.bound)?;
+    Some(Program {
+        bound,
+        files: parsed.words,
+    })
+}
+
+/// What the words behind `run` ask for.
+fn read_run<'a>(parsed: Parsed<'a>) -> Option<Program<'a>>
+    ensures found { IfSome result (λ p. (behind : List (List ℕ)) → ask_of behind ≡ ask_in (parsed_told parsed.entry) → Follows behind (ask_told p)) }
+    ensures none { IfNone result ((behind : List (List ℕ)) (ask : Ask) → ask_of behind ≡ ask_in (parsed_told parsed.entry) → Follows behind ask → ⊥) }
+{
+    match program_in(parsed) {
+        None => None,
+        Some(program) => program_of(program),
+    }
+}
+
+/// The session of this key over the program of these files.
+fn talk_of<'a>(key: &'a str, program: Program<'a>) -> Option<Talk<'a>>
+    ensures found { IfSome result (λ t. (t.key.now ≡ key.now) × (ask_told t.program ≡ ask_told program.entry) × IsSession key.now (ask_told program.entry)) }
+    ensures none { IfNone result (IsSession key.now (ask_told program.entry) → ⊥) }
+{
+    if !is_key(key.as_bytes()) {
+        return None;
+    }
+    if is_option(key.as_bytes()) {
+        return None;
+    }
+    match program_of(program) {
+        None => None,
+        Some(program) => Some(Talk { key, program }),
+    }
+}
+
+/// What the words behind `talk` ask for.
+fn read_talk<'a>(parsed: Parsed<'a>) -> Option<Talk<'a>>
+    ensures found { IfSome result (λ t. (behind : List (List ℕ)) → ask_of behind ≡ ask_in (parsed_told parsed.entry) → Speaks behind t.key.now (ask_told t.program)) }
+    ensures none { IfNone result ((behind key : _) (ask : Ask) → ask_of behind ≡ ask_in (parsed_told parsed.entry) → Speaks behind key ask → ⊥) }
+{
+    match program_in(parsed) {
+        None => None,
+        Some(Program { bound, files }) => match files.split_first() {
+            None => None,
+            Some((key, files)) => talk_of(key.as_str(), Program { bound, files }),
+        },
+    }
+}
+
+/// The most that a port may be.
+const PORT_LIMIT: u64 = 65_535;
+
+/// The port that a word is: a decimal from 1 to the most.
+fn read_port(word: &str) -> Option<u16>
+    ensures { result ≡ port_of word.now }
+{
+    match decimal(word.as_bytes(), PORT_LIMIT) {
+        None => None,
+        Some(port) => {
+            if port == 0 {
+                return None;
+            }
+            Some(port as u16)
+        }
+    }
+}
+
+/// The address that two words are.
+fn address_of<'a>(host: &'a str, port: &str) -> Option<Address<'a>>
+    ensures found { IfSome result (λ a. (a.host.now ≡ host.now) × IsHostWord host.now × (port_of port.now ≡ Some a.port)) }
+    ensures none { IfNone result (IsHostWord host.now → (n : ℕ) → port_of port.now ≡ Some n → ⊥) }
+{
+    if is_option(host.as_bytes()) {
+        return None;
+    }
+    if Host::of(host.as_bytes()).is_none() {
+        return None;
+    }
+    match read_port(port) {
+        None => None,
+        Some(port) => Some(Address { host, port }),
+    }
+}
+
+/// The session of a key over a program, and where its IDE waits.
+fn engine_of<'a>(
+    host: &'a str,
+    port: &str,
+    key: &'a str,
+    program: Program<'a>,
+) -> Option<Engine<'a>>
+    ensures found { IfSome result (λ e. (e.address.host.now ≡ host.now) × IsHostWord host.now × (port_of port.now ≡ Some e.address.port)
+        × (e.talk.key.now ≡ key.now) × (ask_told e.talk.program ≡ ask_told program.entry) × IsSession key.now (ask_told program.entry)) }
+    ensures none { IfNone result (IsHostWord host.now → (n : ℕ) → port_of port.now ≡ Some n → IsSession key.now (ask_told program.entry) → ⊥) }
+{
+    match address_of(host, port) {
+        None => None,
+        Some(address) => match talk_of(key, program) {
+            None => None,
+            Some(talk) => Some(Engine { address, talk }),
+        },
+    }
+}
+
+/// What the words behind `engine` ask for.
+fn read_engine<'a>(parsed: Parsed<'a>) -> Option<Engine<'a>>
+    ensures found { IfSome result (λ e. (behind : List (List ℕ)) → ask_of behind ≡ ask_in (parsed_told parsed.entry)
+        → Dials behind (address_told e.address) e.talk.key.now (ask_told e.talk.program)) }
+    ensures none { IfNone result ((behind : List (List ℕ)) (address : AnyAddress) (key : List ℕ) (ask : Ask)
+        → ask_of behind ≡ ask_in (parsed_told parsed.entry) → Dials behind address key ask → ⊥) }
+{
+    match program_in(parsed) {
+        None => None,
+        Some(Program { bound, files }) => match files {
+            [host, port, key, files @ ..] => engine_of(
+                host.as_str(),
+                port.as_str(),
+                key.as_str(),
+                Program { bound, files },
+            ),
+            _ => None,
+        },
+    }
+}
+
+/// The script that is played over a link to a port.
+fn ide_of<'a>(number: &str, script: &'a str) -> Option<Ide<'a>>
+    ensures found { IfSome result (λ i. (i.script.now ≡ script.now) × (port_of number.now ≡ Some i.port) × IsFileWord script.now) }
+    ensures none { IfNone result ((n : ℕ) → port_of number.now ≡ Some n → IsFileWord script.now → ⊥) }
+{
+    if !is_file(script) {
+        return None;
+    }
+    match read_port(number) {
+        None => None,
+        Some(port) => Some(Ide { port, script }),
+    }
+}
+
+/// The script of two words.
+fn script_of<'a>(words: &'a [String]) -> Option<Ide<'a>>
+    ensures found { IfSome result (λ i. (number : List ℕ) × (map string_bytes words.now ≡ number ∷ i.script.now ∷ [])
+        × (port_of number ≡ Some i.port) × IsFileWord i.script.now) }
+    ensures none { IfNone result ((number script : List ℕ) (n : ℕ) → map string_bytes words.now ≡ number ∷ script ∷ []
+        → port_of number ≡ Some n → IsFileWord script → ⊥) }
+{
+    match words {
+        [number, script] => ide_of(number.as_str(), script.as_str()),
+        _ => None,
+    }
+}
+
+/// What `ide` asks for, where no bound is given.
+fn read_ide<'a>(parsed: Parsed<'a>) -> Option<Ide<'a>>
+    ensures found { IfSome result (λ i. (words : List (List ℕ)) → IsParsed words (parsed_told parsed.entry) → parsed.entry.name.now ≡ codes "ide"
+        → IsIde words i.port i.script.now) }
+    ensures none { IfNone result ((words : List (List ℕ)) (port : ℕ) (script : List ℕ) → IsParsed words (parsed_told parsed.entry)
+        → IsIde words port script → ⊥) }
+{
+    if parsed.bound.is_some() {
+        return None;
+    }
+    script_of(parsed.words)
+}
+
+/// Whether nothing stands behind the command.
+fn is_alone(parsed: Parsed<'_>) -> bool
+    ensures { IsTrue result ↔ (((parsed_told parsed.entry).bound ≡ None) × ((parsed_told parsed.entry).words ≡ [])) }
+{
+    parsed.bound.is_none() && parsed.words.is_empty()
+}
+
+/// What `show` asks for, behind which nothing stands.
+fn read_show<'a>(parsed: Parsed<'a>) -> Option<Command<'a>>
+    ensures found { IfSome result (λ command. (words : List (List ℕ)) → IsParsed words (parsed_told parsed.entry) → parsed.entry.name.now ≡ codes "show"
+        → Asks words (task_of command)) }
+    ensures none { IfNone result ((words : List (List ℕ)) → IsParsed words (parsed_told parsed.entry) → Asks words Task.show → ⊥) }
+{
+    if is_alone(parsed) {
+        Some(Command::Show)
+    } else {
+        None
+    }
+}
+
+/// What is asked for that is read so.
+fn command_of<'a>(parsed: Parsed<'a>) -> Option<Command<'a>>
+    ensures found { IfSome result (λ command. (words : List (List ℕ)) → IsParsed words (parsed_told parsed.entry) → Asks words (task_of command)) }
+    ensures none { IfNone result ((words : List (List ℕ)) (task : Task) → IsParsed words (parsed_told parsed.entry) → Asks words task → ⊥) }
+{
+    if parsed.name == "run" {
+        return match read_run(parsed) {
+            Some(program) => Some(Command::Run(program)),
+            None => None,
+        };
+    }
+    if parsed.name == "talk" {
+        return match read_talk(parsed) {
+            Some(talk) => Some(Command::Talk(talk)),
+            None => None,
+        };
+    }
+    if parsed.name == "engine" {
+        return match read_engine(parsed) {
+            Some(engine) => Some(Command::Engine(engine)),
+            None => None,
+        };
+    }
+    if parsed.name == "ide" {
+        return match read_ide(parsed) {
+            Some(ide) => Some(Command::Ide(ide)),
+            None => None,
+        };
+    }
+    if parsed.name == "show" {
+        return read_show(parsed);
+    }
+    None
+}
+
+/// What the words ask for, and `None` exactly where they ask for nothing, unless memory ran out. The words are tested first:
+/// none is empty, and none begins with `-` but a `--bound` directly behind a command that may have one, and before a word.
+pub fn read_words<'a>(alloc: Global, words: &'a [String]) -> Result<Option<Command<'a>>, Memory>
+    ensures found { IfOk result (λ read. IfSome read (λ command. Asks (map string_bytes words.now) (task_of command))) }
+    ensures none { result ≡ Ok None → (task : Task) → Asks (map string_bytes words.now) task → ⊥ }
+{
+    if !are_plain(words) {
+        return Ok(None);
+    }
+    match parse(alloc, words)? {
+        None => Ok(None),
+        Some(parsed) => Ok(command_of(parsed)),
+    }
+}

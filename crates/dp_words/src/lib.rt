@@ -1,0 +1,10 @@
+//! The words of a command line, and what they ask for.
+#![tactic(auto)]
+
+mod command_line;
+mod names;
+mod parser;
+mod plain;
+
+pub use command_line::{Address, Command, Engine, Ide, Program, Talk, read_words};
+pub use dp_value::Memory;
