@@ -25,10 +25,10 @@ use Rattle.dp_run.specs.declared.error.ProgramError.{ProgramError}
 use Rattle.dp_run.specs.declared.error.ProgramError.TheVariants as none
 use Rattle.dp_run.specs.declared.error.RunError.{RunError}
 use Rattle.dp_run.specs.declared.error.RunError.TheVariants as run
-use Rattle.dp_run.specs.Programs.{AreFetched, Asks, Comes, Files, Holds, IsHeld, Make, NoProgram, Told, is_bad_file}
+use Rattle.dp_run.specs.Programs.{AreFetched, Asks, Comes, Files, Holds, IsHeld, Make, NoProgram, Told, is_bad_file, IsMade, IsRefused, IsUnread}
 use Rattle.dp_run.specs.Programs.{refusal}
 use Rattle.dp_run.specs.Runs.{Ends, RunCaused, Runs, judged, of_program}
-use Rattle.dp_run.specs.inner.Steps.{FetchCaused, IsMade, IsNext, IsPlainPut, IsPlainUnput, IsRefused, IsUnread}
+use Rattle.dp_run.specs.inner.Steps.{FetchCaused, IsNext, IsPlainPut, IsPlainUnput}
 
 -- ---- what is fetched, one file after another
 

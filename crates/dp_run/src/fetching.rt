@@ -4,8 +4,8 @@ ghost use Rattle.std.specs.Prelude.{◌≡◌, ◌≤◌, ◌<◌, ◌++◌, ◌
 ghost use Rattle.dp_outside.specs.Files.{Fetches};
 ghost use Rattle.dp_outside.specs.Telling.{grown};
 ghost use Rattle.dp_tree.specs.FileNames.{file_limit};
-ghost use Rattle.dp_run.specs.Programs.{AreFetched, Asks, NoProgram};
-ghost use Rattle.dp_run.specs.inner.Steps.{FetchCaused, IsNext, IsUnread};
+ghost use Rattle.dp_run.specs.Programs.{AreFetched, Asks, IsUnread, NoProgram};
+ghost use Rattle.dp_run.specs.inner.Steps.{FetchCaused, IsNext};
 
 use crate::error::ProgramError;
 use dp_outside::{Shelf, ShelfError};
@@ -76,8 +76,8 @@ fn fetch_next<H: Shelf>(
     }
 }
 
-/// Fetches files, in their order.
-pub(crate) fn fetch_all<H: Shelf>(
+/// Fetches files, each once, in their order, up to one that is not fetched. None of them is read.
+pub fn fetch_files<H: Shelf>(
     alloc: Global,
     names: &[String],
     shelf: &mut H,

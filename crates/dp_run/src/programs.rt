@@ -5,11 +5,10 @@ ghost use Rattle.dp_bundle.specs.Bundles.{AreForBundle, Makes};
 ghost use Rattle.dp_tree.specs.FileNames.{AreFileNames};
 ghost use Rattle.dp_tree.specs.declared.bundle.Bundle.{Bundle as Program};
 ghost use Rattle.dp_bundle.specs.declared.errors.BundleError.{BundleError as Unmade};
-ghost use Rattle.dp_run.specs.Programs.{Asks, Holds, IsHeld, Make, NoProgram};
-ghost use Rattle.dp_run.specs.inner.Steps.{IsMade, IsRefused};
+ghost use Rattle.dp_run.specs.Programs.{Asks, Holds, IsHeld, IsMade, IsRefused, Make, NoProgram};
 
 use crate::error::ProgramError;
-use crate::fetching::fetch_all;
+use crate::fetching::fetch_files;
 use dp_bundle::FromTexts;
 use dp_outside::Shelf;
 use dp_tree::Bundle;
@@ -17,7 +16,10 @@ use dp_value::{Bytes, Items};
 use std::alloc::Global;
 
 /// The program that fetched files make.
-fn make(alloc: Global, fetched: Items<(Bytes, Bytes)>) -> Result<Bundle, ProgramError>
+pub fn make_program(
+    alloc: Global,
+    fetched: Items<(Bytes, Bytes)>,
+) -> Result<Bundle, ProgramError>
     requires { AreForBundle fetched }
     ensures ok { IfOk result (λ program. Makes fetched (Ok program)) }
     ensures err { IfErr result (λ why. IsMade fetched why) }
@@ -50,8 +52,8 @@ pub fn fetch_program<H: Shelf>(
     ensures later { H.faults shelf.old ≤ H.faults shelf.new }
     ensures files { H.files shelf.new ≡ H.files shelf.old }
 {
-    match fetch_all(alloc, names, shelf) {
-        Ok(fetched) => make(alloc, fetched),
+    match fetch_files(alloc, names, shelf) {
+        Ok(fetched) => make_program(alloc, fetched),
         Err(why) => Err(why),
     }
 }

@@ -1,5 +1,5 @@
 use Rattle.dp_run.proofs.RunLaws.{made_ok, made_err, only_ok, only_err}
-use Rattle.dp_run.proofs.programs.make.Goals as goal
+use Rattle.dp_run.proofs.programs.make_program.Goals as goal
 
 pub returns-in-Ok-clause-ok : goal.returns-in-Ok-clause-ok
 returns-in-Ok-clause-ok c = made_ok c.args.fetched c.in-Ok.program c.in-Ok.ensures.made
