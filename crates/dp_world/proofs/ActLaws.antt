@@ -1,7 +1,7 @@
 -- What an act of a session changes of what its engine stands for.
-use Rattle.std.proofs.Common.{◌≡◌, ℕ, ◌+◌, ◌-◌, ◌<◌, ◌≤◌, min, List, [], ◌∷◌, ◌++◌, length, take, drop, flat_map, refl, sym, ap, subst, ◌∙◌}
+use Rattle.std.proofs.Common.{◌≡◌, ℕ, ◌+◌, ◌≤◌, List, [], ◌∷◌, ◌++◌, length, take, drop, flat_map, refl, sym, ap, subst, ◌∙◌}
 use Rattle.std.proofs.Common.{append_assoc, append-nil, arith, length-append, length-take, length-drop}
-use Rattle.std.proofs.lemmas.List.{take-append-le, take-append-drop, length-take-le}
+use Rattle.std.proofs.lemmas.List.{take-append-le, take-append-drop}
 use Rattle.std.proofs.lemmas.List.Concat.{flat_map-append}
 use Rattle.std.proofs.Math.Seq.{take-append_seam, drop-append_seam}
 use Rattle.std.specs.List.{AllByRecursion}
@@ -15,7 +15,7 @@ use Rattle.dp_lanes.specs.declared.lane.LaneKind.TheVariants.{Up, Down}
 use Rattle.dp_lanes.specs.Lanes.{frame, texts_in, rest_in}
 use Rattle.dp_lanes.specs.Places.{IsText}
 use Rattle.dp_proxy.specs.declared.events.Act.{Act}
-use Rattle.dp_proxy.specs.declared.events.Act.TheVariants.{Given, Moved}
+use Rattle.dp_proxy.specs.declared.events.Act.TheVariants.{Moved}
 use Rattle.dp_proxy.specs.Links.{brought, stream, completed, handed}
 use Rattle.dp_proxy.proofs.PassLaws.{stream_push}
 use Rattle.dp_world.specs.declared.engine.Engine.{Engine}

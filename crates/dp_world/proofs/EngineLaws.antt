@@ -1,5 +1,5 @@
 -- What an engine in memory comes to with more commands.
-use Rattle.std.proofs.Common.{◌≡◌, ℕ, ◌≤◌, true, List, [], ◌∷◌, ◌++◌, length, take, drop, Option, Some, None, Result, Ok, Err, refl, sym, ap, subst, ◌∙◌, append_assoc, append-nil, arith, length-append}
+use Rattle.std.proofs.Common.{◌≡◌, ℕ, true, List, [], ◌∷◌, ◌++◌, length, take, drop, Option, Some, None, Result, Ok, Err, refl, sym, ap, subst, ◌∙◌, append_assoc, append-nil, arith, length-append}
 use Rattle.std.specs.List.{flat_map, AllByRecursion}
 use Rattle.std.specs.Result.{OnOk}
 use Rattle.std.proofs.lemmas.List.{take_at, take-append-drop}
@@ -8,13 +8,13 @@ use Rattle.dp_tree.specs.declared.bundle.Bundle.{Bundle}
 use Rattle.dp_engine.specs.declared.session.SessionEnd.{SessionEnd}
 use Rattle.dp_engine.specs.Answers.{answer}
 use Rattle.dp_engine.specs.Responses.{init_text}
-use Rattle.dp_engine.specs.Served.{alone, alone_with, answers_to, ending_after, rest_after}
+use Rattle.dp_engine.specs.Served.{alone, answers_to, ending_after, rest_after}
 use Rattle.dp_engine.specs.Session.{State, opening}
 use Rattle.dp_serving.specs.Folds.{Reply, followed, replies}
 use Rattle.dp_serving.proofs.GrowthLaws.{served_goes_on}
-use Rattle.dp_serving.proofs.ServingLaws.{replies_append, replies_one, followed_open, followed_over}
+use Rattle.dp_serving.proofs.ServingLaws.{replies_append, followed_open, followed_over}
 use Rattle.dp_wire.specs.Frames.{has_no_nul, Splits, IsCommand, command_frame, commands_in, rest_of, packet_frame, packets_in, rest_of_packets}
-use Rattle.dp_wire.proofs.FrameLaws.{no_nul-at, same_text, commands-partial}
+use Rattle.dp_wire.proofs.FrameLaws.{same_text}
 use Rattle.dp_wire.proofs.SplitLaws.{framed, commands_split, one_split_lem}
 use Rattle.dp_wire.proofs.PacketLaws.{packets_split}
 use Rattle.dp_lanes.specs.declared.lane.LaneKind.TheVariants.{Up, Down}

@@ -1,30 +1,27 @@
 -- What becomes of a session is told by its own link, and its engine has sent what was read of it.
-use Rattle.std.proofs.Common.{◌≡◌, ◌⊎◌, ℕ, ◌+◌, ◌-◌, ◌≤◌, ◌==◌, min, Bool, true, false, ◌&&◌, ◌||◌, if◌then◌else◌, List, [], ◌∷◌, ◌++◌, length, take, drop}
-use Rattle.std.proofs.Common.{flat_map, fold, filter, map, Option, Some, None, Ok, refl, sym, ap, subst, ◌∙◌, inl, inr, append_assoc, append-nil, arith}
+use Rattle.std.proofs.Common.{◌≡◌, ◌⊎◌, ℕ, ◌≤◌, ◌==◌, Bool, true, false, ◌&&◌, List, [], ◌∷◌, ◌++◌, length, take, drop}
+use Rattle.std.proofs.Common.{fold, Ok, refl, sym, ap, subst, ◌∙◌, inl, inr, append_assoc, append-nil, arith}
 use Rattle.std.proofs.Common.{length-append, length-take, length-drop}
-use Rattle.std.proofs.lemmas.Bool.{eqb-true, eq-eqb, or_parts, cases_Bool}
+use Rattle.std.proofs.lemmas.Bool.{eqb-true, eq-eqb, or_parts}
 use Rattle.std.proofs.lemmas.Bool.Decides.{nat_tests}
 use Rattle.std.proofs.lemmas.Grind.{fold-append}
 use Rattle.std.proofs.lemmas.List.Concat.{flat_map-append}
 use Rattle.dp_tree.specs.declared.bundle.Bundle.{Bundle}
 use Rattle.dp_engine.specs.Served.{alone}
-use Rattle.dp_lanes.specs.declared.lane.LaneKind.{LaneKind}
 use Rattle.dp_lanes.specs.declared.lane.LaneKind.TheVariants.{Up, Down}
 use Rattle.dp_lists.specs.declared.event.Act.{Act}
 use Rattle.dp_lists.specs.declared.event.Act.TheVariants.{Ide, Engine, Give, Move, Close}
 use Rattle.dp_lists.specs.declared.event.Event.{Event}
 use Rattle.dp_lists.specs.Lists.{AllFit, Fits, makes, was}
 use Rattle.dp_proxy.specs.declared.events.Act.{Act as ProxyAct}
-use Rattle.dp_proxy.specs.declared.events.Act.TheVariants as proxy
-use Rattle.dp_proxy.specs.Links.{stream, brought, ends, passed}
-use Rattle.dp_proxy.specs.Pasts.{Link, New, Joined, Ended, Past, Turn, start, came, turn, opened, acts_of}
+use Rattle.dp_proxy.specs.Links.{stream, brought, ends}
+use Rattle.dp_proxy.specs.Pasts.{Link, New, Joined, Ended, Past, Turn, start, came, turn, acts_of}
 use Rattle.dp_proxy.proofs.PassLaws.{stream_push}
 use Rattle.dp_proxy.proofs.TurnLaws.{engine_comes, given_before, moved_before, closed_before, joined_on, joined_over, over_still}
 use Rattle.dp_registry.specs.declared.entry.Entry.{Entry}
 use Rattle.dp_registry.specs.declared.pass.Pass.{Pass}
-use Rattle.dp_registry.specs.Verdicts.{admit_verdict}
 use Rattle.dp_world.proofs.EngineLaws.{Begins}
-use Rattle.dp_world.specs.Engines.{next_sent, act_of, followed, past_of, acts_on, by_itself, alone_on}
+use Rattle.dp_world.specs.Engines.{act_of, followed, past_of, acts_on, by_itself, alone_on}
 use Rattle.dp_world.specs.Headline.{IsSession, Receives, Holds}
 use Rattle.dp_world.specs.Transcript.{session_of, shown, shown_at, shown_of, transcript}
 

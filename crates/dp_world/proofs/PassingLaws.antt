@@ -1,5 +1,5 @@
 -- What is kept of a link stands for it after an act.
-use Rattle.std.proofs.Common.{◌≡◌, ◌⊎◌, ℕ, Bool, true, false, List, [], ◌∷◌, ◌++◌, ◌+◌, length, take, drop, Option, Some, None, is_none, if◌then◌else◌, refl, sym, ap, subst, ◌∙◌, inl, inr}
+use Rattle.std.proofs.Common.{◌≡◌, ◌⊎◌, ℕ, Bool, true, false, List, [], ◌∷◌, ◌++◌, ◌+◌, length, take, drop, Option, Some, None, is_none, refl, sym, ap, subst, ◌∙◌, inl, inr}
 use Rattle.std.proofs.lemmas.Bool.{false≢true}
 use Rattle.std.proofs.lemmas.Option.{same_Some}
 use Rattle.dp_tree.specs.declared.bundle.Bundle.{Bundle}
@@ -14,7 +14,7 @@ use Rattle.dp_proxy.specs.Links.{brought, handed, is_broken, told, passed, ends}
 use Rattle.dp_proxy.specs.Pasts.{Link, New, Asking, Settled, Joined, Ended, Refused, Turn, turn, quiet, question, listening, opened}
 use Rattle.dp_proxy.specs.Replies.{reply_frame}
 use Rattle.dp_proxy.specs.Standing.{IsOver}
-use Rattle.dp_proxy.proofs.TurnLaws.{ide_comes, engine_comes, given_before, moved_before, closed_before, asked_more, asked_all, settled, joined_on, joined_over, over_still}
+use Rattle.dp_proxy.proofs.TurnLaws.{ide_comes, engine_comes, given_before, moved_before, closed_before, asked_more, asked_all, joined_on, joined_over, over_still}
 use Rattle.dp_registry.specs.Verdicts.{admit_verdict}
 use Rattle.dp_world.specs.declared.engine.Engine.{Engine}
 use Rattle.dp_world.specs.declared.shown.Shown.{Shown}

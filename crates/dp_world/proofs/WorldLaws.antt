@@ -1,7 +1,7 @@
 -- One event more: the proxy and what is kept of the links stand for the events with it.
-use Rattle.std.proofs.Common.{◌≡◌, ℕ, ◌==◌, ◌||◌, ◌&&◌, Bool, true, false, cond, if◌then◌else◌, List, [], ◌∷◌, ◌++◌, map, filter, fold, nat_eq, take, length, get_or, zero, suc, ◌+◌, ◌<◌, OnOk, append_assoc, add-one, Option, Some, None, is_some, refl, sym, ap, subst, ◌∙◌, append-nil, arith}
+use Rattle.std.proofs.Common.{◌≡◌, ℕ, ◌==◌, ◌&&◌, Bool, true, false, cond, if◌then◌else◌, List, [], ◌∷◌, ◌++◌, map, filter, nat_eq, take, length, get_or, zero, suc, ◌+◌, ◌<◌, OnOk, append_assoc, add-one, Option, Some, None, is_some, refl, sym, ap, subst, ◌∙◌, append-nil, arith}
 use Rattle.std.proofs.Common.{Result, Ok, Err}
-use Rattle.std.specs.Map.{lookup, keys_of}
+use Rattle.std.specs.Map.{keys_of}
 use Rattle.std.specs.List.{list_any}
 use Rattle.std.proofs.lemmas.Bool.{eqb-true, eq-eqb, false≢true, or_parts}
 use Rattle.std.proofs.lemmas.Bool.Decides.{nat_tests}
@@ -10,7 +10,6 @@ use Rattle.std.proofs.lemmas.List.{map-append}
 use Rattle.std.proofs.lemmas.List.Elements.{filter-append}
 use Rattle.indexmap.specs.IndexMap.{insert_entry}
 use Rattle.dp_tree.specs.declared.bundle.Bundle.{Bundle}
-use Rattle.dp_registry.specs.declared.entry.Entry.{Entry}
 use Rattle.dp_lists.specs.declared.event.Act.{Act}
 use Rattle.dp_lists.specs.declared.event.Act.TheVariants.{Ide, Engine, Give, Move, Close}
 use Rattle.dp_lists.specs.declared.event.Event.{Event}

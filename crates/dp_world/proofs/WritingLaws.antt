@@ -1,5 +1,5 @@
 -- The transcript, as it is written link by link.
-use Rattle.std.proofs.Common.{◌≡◌, ℕ, ◌+◌, ◌≤◌, Bool, true, false, cond, if◌then◌else◌, List, [], ◌∷◌, ◌++◌, length, take, map, filter, flat_map, codes}
+use Rattle.std.proofs.Common.{◌≡◌, ℕ, ◌≤◌, Bool, true, false, List, [], ◌∷◌, ◌++◌, length, take, flat_map, codes}
 use Rattle.std.proofs.Common.{Option, Some, None, Result, Ok, Err, nat_eq, decimal, refl, sym, ap, subst, ◌∙◌, append_assoc, append-nil, arith}
 use Rattle.std.specs.Io.KnownBytes.{Appends}
 use Rattle.std.specs.List.{AllByRecursion, IsDistinct}
@@ -26,9 +26,8 @@ use Rattle.dp_world.specs.declared.engine.Engine.{Engine}
 use Rattle.dp_world.specs.declared.errors.ReplayError.{ReplayError}
 use Rattle.dp_world.specs.declared.errors.ReplayError.TheVariants.{OutFault, Memory}
 use Rattle.dp_world.specs.declared.shown.Shown.{Shown}
-use Rattle.dp_world.specs.Engines.{past_of}
 use Rattle.dp_world.specs.Replays.{Replays}
-use Rattle.dp_world.specs.Transcript.{line, session, session_of, served, shown, shown_at, shown_of, status, transcript}
+use Rattle.dp_world.specs.Transcript.{line, session, session_of, shown, shown_of, status, transcript}
 use Rattle.dp_world.specs.inner.Showing.{IsTo, Has, IsShown, IsShownAt, AreShown, kept_at, made}
 use Rattle.dp_world.specs.inner.Standing.{EngineStands}
 use Rattle.dp_world.specs.inner.Writing.{Writes, lines_at, lines_of, AllShown}

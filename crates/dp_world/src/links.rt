@@ -98,10 +98,10 @@ fn joined<'a>(
             host,
             port,
         } => {
+            let name = key.try_clone()?;
             let engine = Engine::begin(alloc, bundle, key.as_slice(), bound)?;
-            let key = key.try_clone()?;
             Ok(Some(Shown::Session {
-                key,
+                key: name,
                 host,
                 port,
                 engine,
@@ -147,7 +147,7 @@ fn put<'a>(
         → OnOk result (IsPut links.old.entries links.new.entries link kept.entry) }
 {
     if let Some(shown) = kept {
-        links.insert(link, shown)?;
+        drop(links.insert(link, shown)?);
     }
     Ok(())
 }

@@ -36,8 +36,8 @@ fn session<L: Ledger>(
     ensures { (bundle : Program) (bound : ℕ) (of : Link) → Has bundle bound of key.now host.now port engine.entry
         → OnOk result (text.new.items ≡ text.old.items ++ spec.shown bundle bound link of) }
 {
-    admission(text, link, key, host, port)?;
     let end = engine.finish(steps)?;
+    admission(text, link, key, host, port)?;
     service(text, &end)
 }
 

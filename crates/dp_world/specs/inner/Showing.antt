@@ -1,5 +1,5 @@
 -- What is kept of the links for the transcript, by what has come of the events.
-use Rattle.std.specs.Prelude.{◌≡◌, ℕ, ◌+◌, ◌≤◌, ◌==◌, false, List, [], ◌∷◌, ◌++◌, length, take, drop}
+use Rattle.std.specs.Prelude.{◌≡◌, ℕ, ◌==◌, false, List, [], ◌∷◌, ◌++◌, length, take}
 use Rattle.std.specs.Prelude.{map, filter, nat_eq, Option, Some, None}
 use Rattle.std.specs.Map.{lookup, keys_of}
 use Rattle.dp_tree.specs.declared.bundle.Bundle.{Bundle}

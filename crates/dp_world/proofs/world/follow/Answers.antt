@@ -1,4 +1,4 @@
-use Rattle.std.proofs.Common.{◌≡◌, ◌<◌, ◌≤◌, List, [], take, length, sym, subst, arith}
+use Rattle.std.proofs.Common.{◌<◌, List, [], take, length, sym, subst, arith}
 use Rattle.std.proofs.lemmas.List.{take_all}
 use Rattle.dp_lists.specs.declared.event.Event.{Event}
 use Rattle.dp_world.specs.Engines.{past_of}

@@ -1,4 +1,4 @@
-use Rattle.std.proofs.Common.{◌≡◌, List, true, false, sym, ◌∙◌}
+use Rattle.std.proofs.Common.{sym, ◌∙◌}
 use Rattle.std.proofs.Common.{Ok}
 use Rattle.dp_world.specs.Engines.{past_of}
 use Rattle.dp_world.proofs.WorldLaws as law
