@@ -2,3 +2,4 @@ pub mod RunTold
 pub mod TalkLaws
 pub mod TaskLaws
 pub mod EngineLaws
+pub mod IdeLaws

@@ -22,23 +22,26 @@ use Rattle.dp_run.specs.Runs.{RunCaused}
 use Rattle.dp_state.specs.declared.moments.Outcome.{Outcome}
 use Rattle.dp_state.specs.declared.moments.Outcome.TheVariants as way
 use Rattle.dp_top.specs.declared.failures.Refused.{Refused}
-use Rattle.dp_words.specs.CommandLine.{Address, Ask, IsEngine, IsRun, IsTalk, Task, run, talk, engine, show, Asks, ask_in, ask_of, port_of, uses_net}
+use Rattle.dp_words.specs.CommandLine.{Address, Ask, IsEngine, IsRun, IsTalk, Task, run, talk, engine, ide, show, Asks, ask_in, ask_of, port_of, uses_net}
 use Rattle.dp_outside.specs.Links.{CountsReturned}
 use Rattle.dp_top.specs.Engine.{EngineFails, EndsSo as EngineEnds}
 use Rattle.dp_top.specs.Links.{IsDialled}
 use Rattle.dp_top.specs.Failures.{status_of, line_of, Says}
-use Rattle.dp_top.specs.Runs.{IsFetched, RunFails, failure_of as failure_told, program_failure}
+use Rattle.dp_top.specs.Ide.{IdeFails}
+use Rattle.dp_top.specs.Runs.{RunFails, failure_of as failure_told, program_failure}
 use Rattle.dp_top.specs.inner.Held.{AreHeld, IsBadSource, IsGood}
 use Rattle.dp_top.specs.Seen.{NoneRose, Seen, Stream, changed}
 use Rattle.dp_top.specs.Talk.{EndsSo, TalkFails, Told, ended, judged_by}
-use Rattle.dp_top.specs.Tasks.{failure_of, ShowCaused, Does, Caused, Fails, before_line}
-use Rattle.dp_top.proofs.RunTold.{bad_source}
+use Rattle.dp_top.specs.Tasks.{failure_of, ShowCaused, Does, Caused, Fails, IsFetchedFor, before_line}
+use Rattle.dp_top.proofs.RunTold.{bad_source, nothing_fetched}
+use Rattle.dp_run.proofs.Growing.{grown_by_none}
 
 -- the name of a task
 abbrev name_of : Task → List ℕ
 name_of (run ask) = codes "run"
 name_of (talk key ask) = codes "talk"
 name_of (engine address key ask) = codes "engine"
+name_of (ide port script) = codes "ide"
 name_of show = codes "show"
 
 abbrev first_of : List (List ℕ) → List ℕ
@@ -53,6 +56,7 @@ named : (words : List (List ℕ)) (task : Task) → Asks words task → first_of
 named words (run ask) h = ap first_of h.words_are
 named words (talk key ask) h = ap first_of h.words_are
 named words (engine address key ask) h = ap first_of h.words_are
+named words (ide port script) h = ap first_of h.words_are
 named words show h = ap first_of h
 
 abbrev letters : List ℕ → ℕ
@@ -83,7 +87,7 @@ abbrev word_at : ℕ → List (List ℕ) → List ℕ
 word_at n words = get_or words n []
 
 -- the words ask for one task
-one_task : (words : List (List ℕ)) (task other : Task) → Asks words task → Asks words other → task ≡ other
+pub one_task : (words : List (List ℕ)) (task other : Task) → Asks words task → Asks words other → task ≡ other
 one_task words (run ask) (run other) p q =
     let same = asks_same words p.behind q.behind (codes "run") _ _ p.words_are q.words_are p.follows.asked q.follows.asked in
     λ i. run (record { bound = bound_in (same i); names = names_in (same i) })
@@ -97,6 +101,18 @@ one_task words (engine address key ask) (engine other k asked) p q =
     λ i. engine (record { host = word_at 0 (names_in (same i)); port = number_in (ports i) }) (word_at 2 (names_in (same i)))
     (record { bound = bound_in (same i); names = drop 3 (names_in (same i)) })
 one_task words show show p q = refl
+one_task words (ide port script) (ide other s) p q =
+    let same : codes "ide" ∷ p.number ∷ script ∷ [] ≡ codes "ide" ∷ q.number ∷ s ∷ [] = sym p.words_are ∙ q.words_are in
+    let ports : Some port ≡ Some other = sym p.is_port ∙ ap (λ (l : List (List ℕ)). port_of (word_at 1 l)) same ∙ q.is_port in
+    λ i. ide (number_in (ports i)) (word_at 2 (same i))
+one_task words (ide port script) (run ask) p q = absurd (omega (arith, apart words (ide port script) (run ask) p q))
+one_task words (run ask) (ide port script) p q = absurd (omega (arith, apart words (run ask) (ide port script) p q))
+one_task words (ide port script) (talk key ask) p q = absurd (omega (arith, apart words (ide port script) (talk key ask) p q))
+one_task words (talk key ask) (ide port script) p q = absurd (omega (arith, apart words (talk key ask) (ide port script) p q))
+one_task words (ide port script) (engine a key ask) p q = absurd (omega (arith, apart words (ide port script) (engine a key ask) p q))
+one_task words (engine a key ask) (ide port script) p q = absurd (omega (arith, apart words (engine a key ask) (ide port script) p q))
+one_task words (ide port script) show p q = absurd (omega (arith, apart words (ide port script) show p q))
+one_task words show (ide port script) p q = absurd (omega (arith, apart words show (ide port script) p q))
 one_task words (run ask) (talk k other) p q = absurd (omega (arith, apart words (run ask) (talk k other) p q))
 one_task words (run ask) (engine a k other) p q = absurd (omega (arith, apart words (run ask) (engine a k other) p q))
 one_task words (run ask) show p q = absurd (omega (arith, apart words (run ask) show p q))
@@ -133,12 +149,15 @@ show_cut failure.ShelfFailed input out h = absurd h
 show_cut (failure.Fatal kind line) input out h = absurd h
 show_cut (failure.Bound steps) input out h = absurd h
 show_cut failure.NoFile input out h = absurd h
+show_cut (failure.Script line) input out h = absurd h
+show_cut (failure.Differs line wanted found) input out h = absurd h
 
 -- the name that is told with want of memory
 abbrev memory_name : Task → List ℕ → List ℕ
 memory_name (run ask) name = []
 memory_name (talk key ask) name = name
 memory_name (engine address key ask) name = name
+memory_name (ide port script) name = name
 memory_name show name = name
 
 -- want of memory once a session was served, or there was none
@@ -154,11 +173,19 @@ engine_starved failed name address key ask old new (inr (inl u)) = inl (refl, in
 engine_starved failed name address key ask old new (inr (inr (inl alone))) = inl (refl, inr (inr (inl alone.2)))
 engine_starved failed name address key ask old new (inr (inr (inr h))) = inl (refl, inr (inr (inr (h.served, h.is))))
 
+ide_starved : (failed : Failure) (name : List ℕ) (port : ℕ) (script : List ℕ) (old new : Seen) → IdeFails failed name port script old new
+    → IdeFails failure.Memory name port script old new
+ide_starved failed name port script old new (inl memory) = inl (refl, memory.1)
+ide_starved failed name port script old new (inr (inl u)) = inl (refl, inl u.1)
+ide_starved failed name port script old new (inr (inr (inl alone))) = inl (refl, inr (inl alone.2))
+ide_starved failed name port script old new (inr (inr (inr h))) = inl (refl, inr (inr (Err h.end, h.played)))
+
 -- want of memory may come in place of any failure
 memory_instead : (failed : Failure) (name : List ℕ) (task : Task) (old new : Seen) → Caused failed name task old new → Caused failure.Memory (memory_name task name) task old new
 memory_instead failed name (run ask) old new h = (record { why = h.0.why; caused = h.0.caused; told = inr (refl, refl) }, h.1, h.2, h.3)
 memory_instead failed name (talk key ask) old new h = (talk_starved failed name key ask old new h.0, h.1)
 memory_instead failed name (engine address key ask) old new h = engine_starved failed name address key ask old new h
+memory_instead failed name (ide port script) old new h = ide_starved failed name port script old new h
 memory_instead failed name show old new h = (h.0, show_cut failed _ _ h.1, h.2, h.3)
 
 -- the failure is told, or there is no memory for its line
@@ -178,6 +205,8 @@ above (failure.Source reason number) = omega arith
 above failure.Stopped = omega arith
 above failure.ShelfFailed = omega arith
 above failure.NoFile = omega arith
+above (failure.Script line) = omega arith
+above (failure.Differs line wanted found) = omega arith
 above (failure.Fatal kind line) = omega arith
 above (failure.Bound steps) = omega arith
 above failure.Output = omega arith
@@ -282,7 +311,7 @@ complete_talk_told status words task old new refused A B asks caused held told k
 
 -- ---- `engine`
 
-returned_rose : (failed before after : ℕ) → CountsReturned failed before after → 0 < failed → Rose before after
+pub returned_rose : (failed before after : ℕ) → CountsReturned failed before after → 0 < failed → Rose before after
 returned_rose zero before after h some = absurd (omega (arith, some))
 returned_rose (suc n) before after h some = h
 
@@ -360,12 +389,14 @@ done_offline : (status : ℕ) (task : Task) (old new : Seen) → Does status tas
 done_offline status (run ask) old new h e = h.3
 done_offline status (talk key ask) old new h e = h.1
 done_offline status (engine address key ask) old new h e = absurd cc
+done_offline status (ide port script) old new h e = absurd cc
 done_offline status show old new h e = h.3
 
 caused_offline : (failed : Failure) (name : List ℕ) (task : Task) (old new : Seen) → Caused failed name task old new → uses_net task ≡ false → new.net ≡ old.net
 caused_offline failed name (run ask) old new h e = h.3
 caused_offline failed name (talk key ask) old new h e = h.1
 caused_offline failed name (engine address key ask) old new h e = absurd cc
+caused_offline failed name (ide port script) old new h e = absurd cc
 caused_offline failed name show old new h e = h.3
 
 pub asks_offline : (words : List (List ℕ)) (task other : Task) → Asks words task → Asks words other → uses_net other ≡ false → uses_net task ≡ false
@@ -439,6 +470,8 @@ show_fails failure.ShelfFailed input out i o h = absurd h
 show_fails (failure.Fatal kind line) input out i o h = absurd h
 show_fails (failure.Bound steps) input out i o h = absurd h
 show_fails failure.NoFile input out i o h = absurd h
+show_fails (failure.Script line) input out i o h = absurd h
+show_fails (failure.Differs line wanted found) input out i o h = absurd h
 
 pub complete_show_fails : (status : ℕ) (words : List (List ℕ)) (old new : Seen) → Fails status words old new
     → Asks words show → NoneRose old new → (status ≡ 0) ⊎ (status ≡ 206) ⊎ (status ≡ 207) ⊎ (status ≡ 209)
@@ -459,5 +492,12 @@ pub shows_well : (status : ℕ) (words : List (List ℕ)) (task : Task) (old new
 shows_well status words task old new asks does is = (subst (λ (t : Task). Does status t old new) (one_task words task show asks is) does).0
 
 -- what was fetched for the task that is asked for
-pub asks_fetched : (words : List (List ℕ)) (task other : Task) (before after : FetchedTold) → Asks words task → IsFetched (ask_in task) before after → Asks words other → IsFetched (ask_in other) before after
-asks_fetched words task other before after asks is asked = subst (λ (t : Task). IsFetched (ask_in t) before after) (one_task words task other asks asked) is
+pub asks_fetched : (words : List (List ℕ)) (task other : Task) (before after : FetchedTold) → Asks words task → IsFetchedFor task before after → Asks words other → IsFetchedFor other before after
+asks_fetched words task other before after asks is asked = subst (λ (t : Task). IsFetchedFor t before after) (one_task words task other asks asked) is
+
+pub none_fetched : (task : Task) (told : FetchedTold) → IsFetchedFor task told told
+none_fetched (run ask) told = nothing_fetched (Some ask) told
+none_fetched (talk key ask) told = nothing_fetched (Some ask) told
+none_fetched (engine address key ask) told = nothing_fetched (Some ask) told
+none_fetched (ide port script) told = (0, grown_by_none told)
+none_fetched show told = refl

@@ -2,14 +2,14 @@
 ghost use Rattle.std.specs.Prelude.{◌≡◌, ◌≤◌, ℕ, List, Some, IfOk, MatchResult};
 ghost use Rattle.dp_words.specs.CommandLine.{Ask, Task, Asks, ask_in};
 ghost use Rattle.dp_words.specs.Commands.{task_of};
-ghost use Rattle.dp_top.specs.Runs.{IsFetched};
 ghost use Rattle.dp_top.specs.inner.Held.{AreHeld};
 ghost use Rattle.dp_top.specs.inner.Kept.{Continues, GoesOn};
 ghost use Rattle.dp_top.specs.Seen.{seen};
-ghost use Rattle.dp_top.specs.Tasks.{failure_of, Does, Caused};
+ghost use Rattle.dp_top.specs.Tasks.{failure_of, Does, Caused, IsFetchedFor};
 
 use crate::engine::engine;
 use crate::failures::{Failure, Refused};
+use crate::ide::ide;
 use crate::objects::Objects;
 use crate::run::run;
 use crate::talk::talk;
@@ -17,6 +17,7 @@ use dp_outside::{Net, Shelf, Sink, Source};
 use dp_show::{ShowError, show};
 use dp_words::Command;
 use std::alloc::Global;
+use std::sync::Wait;
 
 /// The failure that an end of `show` is.
 fn failure_of(why: ShowError) -> Failure
@@ -32,7 +33,8 @@ fn failure_of(why: ShowError) -> Failure
 }
 
 /// Does what a command asks for, and answers the status of what went well.
-pub(crate) fn carry_out<'a, H: Shelf, S: Source, K: Sink, E: Sink, N: Net>(
+pub(crate) fn carry_out<'a, R: Wait + Sync, H: Shelf, S: Source, K: Sink, E: Sink, N: Net>(
+    rt: &R,
     alloc: Global,
     command: Command<'a>,
     objects: &mut Objects<H, S, K, E, N>,
@@ -47,13 +49,14 @@ pub(crate) fn carry_out<'a, H: Shelf, S: Source, K: Sink, E: Sink, N: Net>(
     // Files that make a program are no bad source, and those that make none are one, unless the shelf failed.
     ensures held { (ask : Ask) → ask_in (task_of command.entry) ≡ Some ask → AreHeld ask result objects.old.seen objects.new.seen }
     ensures show_shelf { task_of command.entry ≡ Task.show → objects.new.seen.shelf.faults ≡ objects.old.seen.shelf.faults }
-    ensures fetched { IsFetched (ask_in (task_of command.entry)) objects.old.seen.shelf.fetched objects.new.seen.shelf.fetched }
+    ensures fetched { IsFetchedFor (task_of command.entry) objects.old.seen.shelf.fetched objects.new.seen.shelf.fetched }
     ensures goes_on { GoesOn objects.old objects.new }
 {
     match command {
         Command::Run(program) => run(alloc, program, objects.shelf, objects.out),
         Command::Talk(request) => talk(alloc, request, objects),
         Command::Engine(request) => engine(alloc, request, objects),
+        Command::Ide(request) => ide(rt, alloc, request, objects),
         Command::Show => match show(alloc, objects.input, objects.out) {
             Ok(()) => Ok(0),
             Err(why) => Err(Refused::unnamed(failure_of(why))),
@@ -62,7 +65,8 @@ pub(crate) fn carry_out<'a, H: Shelf, S: Source, K: Sink, E: Sink, N: Net>(
 }
 
 /// The same with the objects one by one.
-pub fn carry_out_on<'a, H: Shelf, S: Source, K: Sink, E: Sink, N: Net>(
+pub fn carry_out_on<'a, R: Wait + Sync, H: Shelf, S: Source, K: Sink, E: Sink, N: Net>(
+    rt: &R,
     alloc: Global,
     command: Command<'a>,
     shelf: &mut H,
@@ -85,7 +89,7 @@ pub fn carry_out_on<'a, H: Shelf, S: Source, K: Sink, E: Sink, N: Net>(
         → AreHeld ask result (seen H.Shelf S.Source K.Sink E.Sink N.Dialer N.shut_doors shelf.old input.old out.old err.old net.old)
         (seen H.Shelf S.Source K.Sink E.Sink N.Dialer N.shut_doors shelf.new input.new out.new err.new net.new) }
     ensures show_shelf { task_of command.entry ≡ Task.show → H.faults shelf.new ≡ H.faults shelf.old }
-    ensures fetched { IsFetched (ask_in (task_of command.entry)) (H.fetched shelf.old) (H.fetched shelf.new) }
+    ensures fetched { IsFetchedFor (task_of command.entry) (H.fetched shelf.old) (H.fetched shelf.new) }
     ensures goes_on { Continues (seen H.Shelf S.Source K.Sink E.Sink N.Dialer N.shut_doors shelf.old input.old out.old err.old net.old)
         (seen H.Shelf S.Source K.Sink E.Sink N.Dialer N.shut_doors shelf.new input.new out.new err.new net.new) }
 {
@@ -96,7 +100,7 @@ pub fn carry_out_on<'a, H: Shelf, S: Source, K: Sink, E: Sink, N: Net>(
         err,
         net,
     };
-    let done = carry_out(alloc, command, &mut objects);
+    let done = carry_out(rt, alloc, command, &mut objects);
     let Objects {
         shelf,
         input,

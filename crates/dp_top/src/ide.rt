@@ -1,17 +1,16 @@
 //! The command `ide`: a script that is played over a link that an engine makes.
-ghost use Rattle.std.specs.Prelude.{◌≡◌, ◌≤◌, ℕ, [], ◌∷◌, Option, Ok, Some, IfOk, IfErr, MatchResult};
+ghost use Rattle.std.specs.Prelude.{◌≡◌, ◌≤◌, [], ◌∷◌, Ok, Some, IfOk, IfErr, MatchResult};
 ghost use Rattle.dp_outside.specs.Changes.{change};
 ghost use Rattle.dp_outside.specs.Telling.{BeginsEmpty, grown};
-ghost use Rattle.dp_top.specs.Ide.{IdeFails, IsHeldScript, Plays, Unread, failure_of};
+ghost use Rattle.dp_top.specs.Ide.{IdeFails, IsHeldScript, Plays, failure_of};
 ghost use Rattle.dp_top.specs.Seen.{net_seen};
-ghost use Rattle.dp_top.specs.inner.Gated.{GatedSo, IsToldBy, MetSo};
+ghost use Rattle.dp_top.specs.inner.Gated.{GatedSo, IsBadScript, IsToldBy, IsWholeScript, MetSo, UnreadSo};
 ghost use Rattle.dp_top.specs.inner.Kept.{GoesOn};
-ghost use Rattle.dp_top.specs.declared.failures.Failure.TheVariants.{Memory as WantOfMemory};
 
 use crate::failures::{Failure, Refused};
 use crate::objects::Objects;
 use dp_ide::{IdeError, Script, play};
-use dp_outside::{Bytes1, Gate, Net, Shelf, ShelfError, Sink, Source};
+use dp_outside::{Gate, Net, Shelf, ShelfError, Sink, Source};
 use dp_words::Ide;
 use std::alloc::Global;
 use std::sync::Wait;

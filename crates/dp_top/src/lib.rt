@@ -4,6 +4,7 @@
 mod commands;
 mod engine;
 mod failures;
+mod ide;
 mod objects;
 mod run;
 mod sessions;

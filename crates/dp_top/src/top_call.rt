@@ -1,15 +1,16 @@
 //! The top call.
-ghost use Rattle.std.specs.Prelude.{false, ◌≡◌, ◌↔◌, ◌⊎◌, ◌<◌, ◌≤◌, ℕ, List, Some, Ok, Err, codes, map, string_bytes};
+ghost use Rattle.std.specs.Prelude.{false, ◌≡◌, ◌↔◌, ◌⊎◌, ◌<◌, ◌≤◌, ℕ, List, IsSome, Some, Ok, Err, codes, map, string_bytes};
 ghost use Rattle.dp_outside.specs.Causes.{Rose};
 ghost use Rattle.dp_outside.specs.Changes.{change, IsUntouched};
 ghost use Rattle.dp_tree.specs.declared.bundle.Bundle.{Bundle};
 ghost use Rattle.dp_bundle.specs.declared.errors.BundleError.{BundleError};
-ghost use Rattle.dp_words.specs.CommandLine.{Address, Ask, IsEngine, IsRun, IsTalk, Task, Asks, ask_in, uses_net};
+ghost use Rattle.dp_words.specs.CommandLine.{Address, Ask, IsEngine, IsIde, IsRun, IsTalk, Task, Asks, ask_in, uses_net};
 ghost use Rattle.dp_top.specs.Failures.{Says};
 ghost use Rattle.dp_run.specs.Programs.{Holds};
-ghost use Rattle.dp_top.specs.Runs.{IsFetched};
+ghost use Rattle.dp_ide.specs.declared.instruction.Instruction.{Instruction};
+ghost use Rattle.dp_top.specs.Ide.{IsHeldScript, IsNoScript};
 ghost use Rattle.dp_top.specs.Seen.{NoneRose, net_seen, seen};
-ghost use Rattle.dp_top.specs.Tasks.{IsDone, Fails, IsUnread};
+ghost use Rattle.dp_top.specs.Tasks.{IsDone, Fails, IsFetchedFor, IsUnread};
 
 use crate::commands::carry_out_on;
 use crate::failures::{report, say};
@@ -23,25 +24,28 @@ use std::sync::Wait;
 /// `words` are the command line without the program's name: `run [--bound N] FILE..` runs the program of the files, of
 /// which the first is the main one, and puts its output on `out`; `talk [--bound N] KEY FILE..` serves a session of KEY
 /// over the program, with `input` and `out` as the link, and the program's own output on `err`; `engine [--bound N] HOST PORT
-/// KEY FILE..` serves one over a link that `net` dials, with the program's own output on `out`; `show` reads framed packets
-/// from `input` and prints the element of each on `out`, in canonical text with a line feed.
+/// KEY FILE..` serves one over a link that `net` dials, with the program's own output on `out`; `ide PORT SCRIPT` plays the
+/// script over the link that an engine makes to the port, and what it prints goes to `out`; `show` reads framed packets from
+/// `input` and prints the element of each on `out`, in canonical text with a line feed.
 ///
 /// | status | comes | line on `err` |
 /// |---|---|---|
-/// | 0 to 199 | the program exited so, or came to its end (0); all packets are shown (0) | none |
+/// | 0 to 199 | the program exited so, or came to its end (0); all packets are shown (0); the script was played (0) | none |
 /// | 200 | the words ask for nothing | `usage` |
 /// | 201 | a file is too long or no program | `bad source NAME REASON NUMBER` |
 /// | 202 | the shelf failed, or lacks a file | `shelf failed NAME`, `no file NAME` |
 /// | 203 | an output failed | `output failed` |
-/// | 206 | the input of `show` ended inside a frame | `peer ended` |
-/// | 207 | bytes stand in no command's or packet's place, a packet's text is no markup, or too many came | `bad packet offset N` |
-/// | 208 | the input or a dial failed, or a link of `engine` | `network failed` |
+/// | 204 | a line is none of a script; N is the first, or 0 where the file is too long | `bad script line N` |
+/// | 205 | line N of the script wants W, and F is found, or nothing | `differs line N wanted W found F` |
+/// | 206 | the input of `show` ended inside a frame, or the link of `ide` before a packet that was awaited | `peer ended` |
+/// | 207 | bytes stand in no command's or packet's place, a text is no packet, or too many came | `bad packet offset N` |
+/// | 208 | the input or a dial failed, no link came, or it failed | `network failed` |
 /// | 209 | want of memory | `out of memory` |
 /// | 210 | a command stopped the program before its end | `stopped by the IDE` |
 /// | 255 | the program could not go on, or would have had more moments than N | `fatal KIND in NAME on line N`, `bound reached after N steps` |
 ///
-/// It waits in the calls of `input` and of a link alone. `show` does not use the shelf, nor `run` and `engine` the input;
-/// `net` is used by `engine` alone, and `spawner` is not used.
+/// It waits in the calls of `input`, of a gate and of a link alone. `show` does not use the shelf, nor `run`, `engine` and `ide`
+/// the input; `net` is used by `engine` and `ide` alone, and `spawner` is not used.
 pub fn top<R: Wait + Sync, H: Shelf, S: Source, K: Sink, E: Sink, N: Net, P: Spawner>(
     rt: &R,
     alloc: Global,
@@ -102,12 +106,26 @@ pub fn top<R: Wait + Sync, H: Shelf, S: Source, K: Sink, E: Sink, N: Net, P: Spa
         (seen H.Shelf S.Source K.Sink E.Sink N.Dialer N.shut_doors shelf.new input.new out.new err.new net.new)
         → (result ≡ 0) ⊎ (result ≡ 206) ⊎ (result ≡ 207) ⊎ (result ≡ 209) }
 
+    // A file that is no script is told at its first line that is none, or at line 0 where it is too long, unless the shelf fails.
+    ensures script_refused { (port line : ℕ) (script : List ℕ) → IsIde (map string_bytes words.now) port script
+        → IsSome (H.files shelf.old) → IsNoScript (H.files shelf.old) script line
+        → (result ≡ 204) ⊎ (result ≡ 209) ⊎ Rose (H.faults shelf.old) (H.faults shelf.new) }
+    ensures script_held { (port : ℕ) (script : List ℕ) (instructions : List Instruction) → IsIde (map string_bytes words.now) port script
+        → IsSome (H.files shelf.old) → IsHeldScript (H.files shelf.old) script instructions → result ≡ 204 → ⊥ }
+    // Where it is one, and no count rose, the script is played to its end, or what differs, the link's end or what is no packet
+    // is told.
+    ensures complete_ide { (port : ℕ) (script : List ℕ) (instructions : List Instruction) → IsIde (map string_bytes words.now) port script
+        → IsSome (H.files shelf.old) → IsHeldScript (H.files shelf.old) script instructions
+        → NoneRose (seen H.Shelf S.Source K.Sink E.Sink N.Dialer N.shut_doors shelf.old input.old out.old err.old net.old)
+        (seen H.Shelf S.Source K.Sink E.Sink N.Dialer N.shut_doors shelf.new input.new out.new err.new net.new)
+        → (result ≡ 0) ⊎ (result ≡ 205) ⊎ (result ≡ 206) ⊎ (result ≡ 207) ⊎ (result ≡ 209) }
+
     ensures show_shelf { Asks (map string_bytes words.now) Task.show → H.faults shelf.new ≡ H.faults shelf.old }
     // Only files that the words name are fetched, each once, in their order; for `show` none.
     ensures fetched { (task : Task) → Asks (map string_bytes words.now) task
-        → IsFetched (ask_in task) (H.fetched shelf.old) (H.fetched shelf.new) }
+        → IsFetchedFor task (H.fetched shelf.old) (H.fetched shelf.new) }
     ensures files { H.files shelf.new ≡ H.files shelf.old }
-    // The network is used by `engine` alone.
+    // The network is used by `engine` and `ide` alone.
     ensures offline { (task : Task) → Asks (map string_bytes words.now) task → uses_net task ≡ false
         → net_seen N.Dialer N.shut_doors net.new ≡ net_seen N.Dialer N.shut_doors net.old }
     ensures net_later { N.faults net.old ≤ N.faults net.new }
@@ -123,9 +141,9 @@ pub fn top<R: Wait + Sync, H: Shelf, S: Source, K: Sink, E: Sink, N: Net, P: Spa
             say(err, b"usage\n");
             200
         }
-        Ok(Some(command)) => match carry_out_on(alloc, command, shelf, input, out, err, net) {
+        Ok(Some(command)) => match carry_out_on(rt, alloc, command, shelf, input, out, err, net) {
             Ok(status) => status,
-            Err(refused) => report(alloc, refused.failure, refused.name, err),
+            Err(refused) => report(alloc, &refused.failure, refused.name, err),
         },
         Err(_) => {
             say(err, b"out of memory\n");

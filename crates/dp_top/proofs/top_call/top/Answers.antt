@@ -1,7 +1,7 @@
 use Rattle.std.proofs.Common.{rules, Ok, Err, ap, map, string_bytes, inl, arith}
-use Rattle.dp_top.proofs.RunTold.{nothing_fetched}
-use Rattle.dp_top.proofs.TaskLaws.{asks_fetched, fails_told, told_above, complete_show_fails, shows_well, asks_show, asks_program, refused_told, complete_run_told, complete_talk_told, complete_engine_told, offline_done, offline_caused}
-use Rattle.dp_words.specs.CommandLine.{run, talk, engine, show, Asks, ask_in}
+use Rattle.dp_top.proofs.TaskLaws.{asks_fetched, fails_told, told_above, complete_show_fails, shows_well, asks_show, asks_program, refused_told, complete_run_told, complete_talk_told, complete_engine_told, none_fetched, offline_done, offline_caused}
+use Rattle.dp_top.proofs.IdeLaws.{complete_ide_told, plays_well, script_held_told, script_refused_done, script_refused_told}
+use Rattle.dp_words.specs.CommandLine.{run, talk, engine, ide, show, Asks, ask_in}
 use Rattle.dp_words.specs.Commands.{task_of}
 use Rattle.dp_top.proofs.top_call.top.Goals as goal
 
@@ -11,7 +11,7 @@ carry_out_on-requires-clause-asked g c =
     search (rules, found)
 
 pub returns-in-Err-clause-fetched : goal.returns-in-Err-clause-fetched
-returns-in-Err-clause-fetched g c = λ task asks. nothing_fetched (ask_in task) _
+returns-in-Err-clause-fetched g c = λ task asks. none_fetched task _
 
 pub returns-in-Ok-None-clause-complete_talk : goal.returns-in-Ok-None-clause-complete_talk
 returns-in-Ok-None-clause-complete_talk g c = λ key ask program is held none. absurd (c.in-Ok-None.ensures.none (ap Ok c.in-Ok-None.field-0-is) (talk key ask) is)
@@ -123,3 +123,41 @@ returns-in-Err-carry_out_on-clause-fetched g c = λ task asks. asks_fetched _ (t
 
 pub returns-in-Ok-clause-fetched : goal.returns-in-Ok-clause-fetched
 returns-in-Ok-clause-fetched g c = λ task asks. asks_fetched _ (task_of c.in-Ok-Some.command) task _ _ (rw c.in-Ok-Some.field-0-is at c.in-Ok-Some.ensures.found) c.in-Ok.ensures.fetched asks
+
+pub returns-in-Ok-None-clause-script_refused : goal.returns-in-Ok-None-clause-script_refused
+returns-in-Ok-None-clause-script_refused g c = λ port line script is told bad. absurd (c.in-Ok-None.ensures.none (ap Ok c.in-Ok-None.field-0-is) (ide port script) is)
+
+pub returns-in-Ok-None-clause-complete_ide : goal.returns-in-Ok-None-clause-complete_ide
+returns-in-Ok-None-clause-complete_ide g c = λ port script instructions is told held none. absurd (c.in-Ok-None.ensures.none (ap Ok c.in-Ok-None.field-0-is) (ide port script) is)
+
+pub returns-in-Err-carry_out_on-clause-script_refused : goal.returns-in-Err-carry_out_on-clause-script_refused
+returns-in-Err-carry_out_on-clause-script_refused g c =
+    script_refused_told c.report.result _ (task_of c.in-Ok-Some.command) _ _ c.in-Err-carry_out_on.refused _ _ (rw c.in-Ok-Some.field-0-is at c.in-Ok-Some.ensures.found) c.in-Err-carry_out_on.ensures.ends c.report.ensures.told
+
+pub returns-in-Err-carry_out_on-clause-script_held : goal.returns-in-Err-carry_out_on-clause-script_held
+returns-in-Err-carry_out_on-clause-script_held g c =
+    script_held_told c.report.result _ (task_of c.in-Ok-Some.command) _ _ c.in-Err-carry_out_on.refused _ _ (rw c.in-Ok-Some.field-0-is at c.in-Ok-Some.ensures.found) c.in-Err-carry_out_on.ensures.ends c.report.ensures.told
+
+pub returns-in-Err-carry_out_on-clause-complete_ide : goal.returns-in-Err-carry_out_on-clause-complete_ide
+returns-in-Err-carry_out_on-clause-complete_ide g c = λ port script instructions is told held none.
+    complete_ide_told c.report.result _ (task_of c.in-Ok-Some.command) _ _ c.in-Err-carry_out_on.refused _ _ (rw c.in-Ok-Some.field-0-is at c.in-Ok-Some.ensures.found) c.in-Err-carry_out_on.ensures.ends c.report.ensures.told
+    port script instructions is told held
+    (record {
+      shelf = none.shelf;
+      input_not = none.input_not;
+      out_not = none.out_not;
+      err_not = λ rose. none.err_not (omega (arith, rose, c.report.ensures.later));
+      net_not = none.net_not;
+      returned_not = none.returned_not;
+    })
+
+pub returns-in-Ok-clause-script_refused : goal.returns-in-Ok-clause-script_refused
+returns-in-Ok-clause-script_refused g c = λ port line script is told bad.
+    absurd (script_refused_done _ _ (task_of c.in-Ok-Some.command) _ _ (rw c.in-Ok-Some.field-0-is at c.in-Ok-Some.ensures.found) c.in-Ok.ensures.ends port line script is told bad)
+
+pub returns-in-Ok-clause-script_held : goal.returns-in-Ok-clause-script_held
+returns-in-Ok-clause-script_held g c = λ port script instructions is told held e. omega (arith, c.in-Ok.ensures.status, e)
+
+pub returns-in-Ok-clause-complete_ide : goal.returns-in-Ok-clause-complete_ide
+returns-in-Ok-clause-complete_ide g c = λ port script instructions is told held none.
+    inl (plays_well _ _ (task_of c.in-Ok-Some.command) _ _ (rw c.in-Ok-Some.field-0-is at c.in-Ok-Some.ensures.found) c.in-Ok.ensures.ends port script is)
