@@ -1,3 +1,4 @@
+pub mod Free
 pub mod Lists
 pub mod Passing
 pub mod Stopping

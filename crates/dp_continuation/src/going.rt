@@ -1,12 +1,14 @@
 //! Going on.
 
-ghost use Rattle.std.specs.Prelude.{◌≡◌, ◌+◌, ◌<◌, ◌∷◌, ◌||◌, ℕ, List, [], length, IfOk, OnOk};
+ghost use Rattle.std.specs.Prelude.{◌≡◌, ◌+◌, ◌<◌, ◌∷◌, ◌||◌, ℕ, List, [], length, None, true, false, IfOk, OnOk};
 ghost use Rattle.dp_break.specs.Passing.{held_after, one_stops};
 ghost use Rattle.dp_continuation.specs.Going.{Reaches, reached_moment, stop_past, table_past};
 ghost use Rattle.dp_continuation.specs.Stops.{stops};
 ghost use Rattle.dp_meaning.specs.declared.writing.NumberedWrite.{NumberedWrite as AnyWrite};
+ghost use Rattle.dp_state.specs.declared.moments.Moment.{Moment as AnyMoment};
 ghost use Rattle.dp_state.specs.States.{IsOf};
 ghost use Rattle.dp_step.specs.Stands.{StandsFor};
+ghost use Rattle.dp_tree.specs.declared.bundle.Bundle.{Bundle as SomeBundle};
 
 use crate::reached::Reached;
 use crate::stops::is_stop;
@@ -38,12 +40,39 @@ fn pass(
     Ok(is_stop(mode, depth, moment) || stop)
 }
 
-/// Where a machine comes to that goes on from the moment at which it stands, where it is this deep, and what is held of the
-/// breakpoints then: the first moment past it at which the command or a breakpoint stops, or the end. The hits are those of
-/// the moments up to there, each of which is passed once and takes one step. Where none is held, that costs no more.
+/// Where a machine comes to that goes on from the moment at which it stands, where it is this deep, and what is held of
+/// the breakpoints then: the first moment past it at which the command or a breakpoint stops, or the end. The hits are
+/// those of the moments up to there, each of which is passed once and takes one step. Where none is held and the command
+/// is `run`, it goes as fast as a program that nothing stops.
 ///
 /// After want of memory nothing is said of the machine and of the breakpoints.
 pub fn go_on_from<L: Ledger>(
+    machine: &mut Machine,
+    bundle: &Bundle,
+    depth: u32,
+    mode: Continuation,
+    breaks: &mut Breaks,
+    steps: &mut Steps<L>,
+) -> Result<Reached, Memory>
+    ensures reached { (bound : ℕ) (writes : List AnyWrite) (n : ℕ) → StandsFor bundle.now bound writes n machine.old
+        → IfOk result (λ reached. Reaches bundle.now bound writes
+        (stop_past (stops mode depth) bundle.now bound writes breaks.old.held n) reached machine.new) }
+    ensures breaks { (bound : ℕ) (writes : List AnyWrite) (n : ℕ) → StandsFor bundle.now bound writes n machine.old
+        → OnOk result (breaks.new ≡ table_past (stops mode depth) bundle.now bound writes breaks.old n) }
+    ensures of { (bound : ℕ) (writes : List AnyWrite) (n : ℕ) → StandsFor bundle.now bound writes n machine.old
+        → 0 < length bundle.now.files → OnOk result (IsOf bundle.now machine.new.state) }
+    ensures counted { (bound : ℕ) (writes : List AnyWrite) (n : ℕ) → StandsFor bundle.now bound writes n machine.old
+        → IfOk result (λ reached. steps.new + n ≡ steps.old + reached_moment bundle.now bound writes reached) }
+{
+    if is_free(mode, breaks) {
+        run_free(machine, steps)
+    } else {
+        go_on_watched(machine, bundle, depth, mode, breaks, steps)
+    }
+}
+
+/// The same, one moment after another.
+fn go_on_watched<L: Ledger>(
     machine: &mut Machine,
     bundle: &Bundle,
     depth: u32,
@@ -76,4 +105,33 @@ pub fn go_on_from<L: Ledger>(
     }
     // No run has so many moments.
     Err(Memory)
+}
+
+/// To the end of the program, which nothing stops before.
+fn run_free<L: Ledger>(machine: &mut Machine, steps: &mut Steps<L>) -> Result<Reached, Memory>
+    ensures reached { (bundle : SomeBundle) (bound : ℕ) (writes : List AnyWrite) (n : ℕ)
+        → StandsFor bundle bound writes n machine.old
+        → IfOk result (λ reached. Reaches bundle bound writes None reached machine.new) }
+    ensures of { (bundle : SomeBundle) (bound : ℕ) (writes : List AnyWrite) (n : ℕ)
+        → StandsFor bundle bound writes n machine.old
+        → 0 < length bundle.files → OnOk result (IsOf bundle machine.new.state) }
+    ensures counted { (bundle : SomeBundle) (bound : ℕ) (writes : List AnyWrite) (n : ℕ)
+        → StandsFor bundle bound writes n machine.old
+        → IfOk result (λ reached. steps.new + n ≡ steps.old + reached_moment bundle bound writes reached) }
+{
+    let outcome = machine.run_out(steps)?;
+    Ok(Reached::End(outcome))
+}
+
+/// Whether neither the command nor a breakpoint stops at any moment.
+fn is_free(mode: Continuation, breaks: &Breaks) -> bool
+    ensures none { result ≡ true → breaks.now.held ≡ [] }
+    ensures mode { result ≡ true → (depth : ℕ) (moment : AnyMoment) → stops mode depth moment ≡ false }
+{
+    match mode {
+        Continuation::Run => breaks.list().is_empty(),
+        Continuation::StepInto => false,
+        Continuation::StepOver => false,
+        Continuation::StepOut => false,
+    }
 }

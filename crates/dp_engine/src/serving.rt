@@ -167,7 +167,7 @@ fn close_cut<E: Sink, L: Ledger>(
 /// The program's own output goes to `out`. Where the link ends or fails first, the program runs on to its end, unless a
 /// command has killed it. It waits in the calls of the link alone.
 ///
-/// The steps that it takes are counted.
+/// The steps that it takes are counted; no clause says how many these are.
 pub fn serve<S: Source, K: Sink, E: Sink, L: Ledger>(
     alloc: Global,
     session: Session<'_>,

@@ -22,3 +22,4 @@ pub mod PureLaws
 pub mod Exits
 pub mod ValueLaws
 pub mod InPlace
+pub mod Wholes

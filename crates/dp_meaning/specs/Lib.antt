@@ -4,4 +4,5 @@ pub mod Writes
 pub mod Trace
 pub mod Stopping
 pub mod Pure
+pub mod Whole
 pub mod inner

@@ -20,6 +20,7 @@ mod stop;
 mod stops;
 mod values;
 mod watched;
+mod whole;
 mod writing;
 mod written;
 
@@ -31,4 +32,5 @@ pub use running::{run_to, run_until};
 pub use stop::Stop;
 pub use stops::Stops;
 pub use values::{value_in, value_in_place};
+pub use whole::Whole;
 pub use writing::{NumberedWrite, Write, WriteAnswer, WriteFault};

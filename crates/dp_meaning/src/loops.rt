@@ -10,25 +10,27 @@ use dp_tree::{Binding, Expression, Statement};
 use dp_value::Value;
 
 impl<O: Outside> Evaluator<'_, O> {
+    ghost use Rattle.std.specs.Prelude.{drop};
     ghost use Rattle.dp_meaning.specs.inner.Drive.{Evaluates};
     ghost use Rattle.dp_meaning.specs.inner.Evaluation.{for_part, foreach_part, goes_by};
     ghost use Rattle.dp_actions.specs.Expressions.{evaluation, evaluations, expression_run};
     ghost use Rattle.dp_actions.specs.Loops.{do_turns, each_run, entries, turns};
     ghost use Rattle.dp_meaning.specs.Statements.{statement_run};
 
-    /// The turns of a `while` or a `for`.
+    /// The turns of a `while` or a `for`, at most so many.
     #[cycle(evaluate)]
     pub(crate) fn turns(
         &self,
+        left: u64,
         line: u32,
         tests: &[Expression],
         after: &[Expression],
         body: &Statement,
         state: &mut State,
     ) -> Result<Signal, Halt>
-        ensures { Evaluates (O.rules self.now.outside.now) (turns self.now.bound line (evaluations tests.now (goes_by self.now)) (evaluations after.now (goes_by self.now)) (statement_run body.now (goes_by self.now)) state.old) result state.new }
+        ensures { Evaluates (O.rules self.now.outside.now) (turns left line (evaluations tests.now (goes_by self.now)) (evaluations after.now (goes_by self.now)) (statement_run body.now (goes_by self.now)) state.old) result state.new }
     {
-        for _turn in 0..self.bound {
+        for _turn in 0..left {
             self.place(line, state)?;
             let values = self.values(tests, state)?;
             let on = last_holds(values.as_slice());
@@ -61,21 +63,22 @@ impl<O: Outside> Evaluator<'_, O> {
     {
         let done = self.values(before, state)?;
         drop(done);
-        self.turns(line, tests, after, body, state)
+        self.turns(self.bound, line, tests, after, body, state)
     }
 
-    /// The turns of a `do`.
+    /// The turns of a `do`, at most so many.
     #[cycle(evaluate)]
     pub(crate) fn do_turns(
         &self,
+        left: u64,
         line: u32,
         test: &Expression,
         body: &Statement,
         state: &mut State,
     ) -> Result<Signal, Halt>
-        ensures { Evaluates (O.rules self.now.outside.now) (do_turns self.now.bound line (evaluation test.now (goes_by self.now)) (statement_run body.now (goes_by self.now)) state.old) result state.new }
+        ensures { Evaluates (O.rules self.now.outside.now) (do_turns left line (evaluation test.now (goes_by self.now)) (statement_run body.now (goes_by self.now)) state.old) result state.new }
     {
-        for _turn in 0..self.bound {
+        for _turn in 0..left {
             match turn_over(self.statement(body, state)?) {
                 Turn::On => {}
                 Turn::Out(signal) => return Ok(signal),
@@ -102,27 +105,28 @@ impl<O: Outside> Evaluator<'_, O> {
         ensures { Evaluates (O.rules self.now.outside.now) (foreach_part line binding.now (expression_run subject.now) (statement_run body.now) (goes_by self.now) state.old) result state.new }
     {
         let subject = self.expression(subject, state)?;
-        let answer = self.each(line, binding, &subject, body, state);
+        let answer = self.each(0, line, binding, &subject, body, state);
         drop(subject);
         answer
     }
 
-    /// The turns of a `foreach`.
+    /// The turns of a `foreach` from the entry at a position on.
     #[cycle(evaluate)]
-    fn each(
+    pub(crate) fn each(
         &self,
+        from: usize,
         line: u32,
         binding: &Binding,
         subject: &Value,
         body: &Statement,
         state: &mut State,
     ) -> Result<Signal, Halt>
-        ensures { Evaluates (O.rules self.now.outside.now) (each_run line binding.now (entries subject.now) (statement_run body.now (goes_by self.now)) state.old) result state.new }
+        ensures { Evaluates (O.rules self.now.outside.now) (each_run line binding.now (drop from (entries subject.now)) (statement_run body.now (goes_by self.now)) state.old) result state.new }
     {
         let Value::Array(array) = subject else {
             return Ok(Signal::Next);
         };
-        for at in 0..array.len() {
+        for at in from..array.len() {
             self.place(line, state)?;
             bind_entry(binding, array, at, state)?;
             match turn_over(self.statement(body, state)?) {

@@ -59,13 +59,20 @@ impl<O: Outside> Evaluator<'_, O> {
                 self.arms(arms.as_slice(), otherwise, state)
             }
             StatementKind::While { test, body } => {
-                self.turns(line, slice::from_ref(test), &[], body.as_ref(), state)
+                self.turns(
+                    self.bound,
+                    line,
+                    slice::from_ref(test),
+                    &[],
+                    body.as_ref(),
+                    state,
+                )
             }
             StatementKind::DoWhile {
                 body,
                 line: end,
                 test,
-            } => self.do_turns(*end, test, body.as_ref(), state),
+            } => self.do_turns(self.bound, *end, test, body.as_ref(), state),
             StatementKind::For {
                 before,
                 tests,

@@ -11,3 +11,4 @@ pub mod WritesMade
 pub mod Writings
 pub mod Counting
 pub mod SameSettings
+pub mod Leaping

@@ -2,3 +2,4 @@
 pub mod Leads
 pub mod Goes
 pub mod Moves
+pub mod Leaps

@@ -1,20 +1,36 @@
-//! The end of the program of a machine.
+//! The end of the program of a machine, which nothing stops before.
 
-use crate::machine::{Machine, Progress};
+ghost use Rattle.std.specs.Prelude.{◌≡◌, ◌-◌};
+
+use crate::machine::{Arrival, Machine, Progress};
+use crate::small::put_hand;
 use crate::steps::Steps;
+use crate::work::{DoTurns, EachTurns, Hand, Head, Turns};
+use dp_actions::{Halt, Signal};
+use dp_meaning::Whole;
 use dp_state::Outcome;
-use dp_value::Memory;
+use dp_step_parts::{Given, Hand as PartHand};
+use dp_tree::Statement;
+use dp_value::{Items, Memory, Value};
 use std::sync::ledger::Ledger;
+use std::{mem, slice};
 
-impl Machine<'_> {
+impl<'p> Machine<'p> {
     ghost use Rattle.std.specs.Prelude.{◌≡◌, ◌+◌, ℕ, List, length, IfOk};
     ghost use Rattle.dp_tree.specs.declared.bundle.Bundle.{Bundle as SomeBundle};
     ghost use Rattle.dp_meaning.specs.declared.writing.NumberedWrite.{NumberedWrite};
     ghost use Rattle.dp_meaning.specs.Trace.{outcome, program_trace};
-    ghost use Rattle.dp_step.specs.Stands.{StandsFor};
+    ghost use Rattle.dp_step.specs.Stands.{StandsFor, rest_of};
+    ghost use Rattle.dp_step.specs.declared.work.Hand.TheVariants as any_hand;
+    ghost use Rattle.dp_actions.specs.declared.signal.Signal.{Signal as AnySignal};
+    ghost use Rattle.dp_actions.specs.Setting.{Part};
+    ghost use Rattle.dp_state.specs.declared.state.State.{State as AnyState};
+    ghost use Rattle.dp_step.specs.inner.Leaps.{HasRun, Leaps, RunsOut, part_with, whole_of};
+    ghost use Rattle.dp_step.specs.inner.Moves.{rest_with};
 
-    /// Goes on to the end of the program, and answers its outcome; each moment that is left takes one step. After want of
-    /// memory nothing is said of the machine.
+    /// Goes on to the end of the program, and answers its outcome; each moment that is left takes one step. Nothing stops
+    /// it, so it goes as fast as the evaluator: a statement, or the turns that are left of a loop, are run whole. After
+    /// want of memory nothing is said of the machine.
     pub fn run_out<L: Ledger>(&mut self, steps: &mut Steps<L>) -> Result<Outcome, Memory>
         ensures end { (bundle : SomeBundle) (bound : ℕ) (writes : List NumberedWrite) (n : ℕ)
             → StandsFor bundle bound writes n self.old
@@ -24,14 +40,177 @@ impl Machine<'_> {
             → StandsFor bundle bound writes n self.old
             → IfOk result (λ end. steps.new + n ≡ steps.old + length (program_trace bundle bound writes).moments) }
     {
+        let before = self.state.moments;
+        let outcome = self.finish()?;
+        steps.tick_all(risen(before, self.state.moments));
+        Ok(outcome)
+    }
+
+    /// To the end.
+    fn finish(&mut self) -> Result<Outcome, Memory>
+        ensures { IfOk result (λ end. RunsOut self.old (rest_of self.old self.old.state) end self.new) }
+    {
         for _ in 0..u64::MAX {
-            let progress = self.step(steps)?;
-            match progress {
-                Progress::At(_) => {}
-                Progress::Ended(outcome) => return Ok(outcome),
+            match self.leap()? {
+                None => {}
+                Some(outcome) => {
+                    put_hand(&mut self.hand, Hand::Over(outcome));
+                    return Ok(outcome);
+                }
             }
         }
-        // No run has so many moments.
+        // No run has so many small steps.
         Err(Memory)
     }
+
+    /// A statement or the turns of a loop, where they are in hand, and else a small step and its moment.
+    fn leap(&mut self) -> Result<Option<Outcome>, Memory>
+        ensures { IfOk result (λ end. Leaps self.old (rest_of self.old self.old.state) end self.new) }
+    {
+        match mem::replace(&mut self.hand, Hand::Failed) {
+            Hand::Run(statement) => {
+                let done = self.whole().statement(statement.as_ref(), &mut self.state);
+                self.gave(done)
+            }
+            Hand::RunAt(all, at) => self.statement_at(all, at),
+            Hand::Turn(turns, left) => self.turns(turns, left),
+            Hand::DoTurn(turns, left) => self.do_turns(turns, left),
+            Hand::EachTurn(turns, subject, at) => self.entries(turns, subject, at),
+            hand => self.other(hand),
+        }
+    }
+
+    /// The statement at a position.
+    fn statement_at(
+        &mut self,
+        all: &'p Items<Statement>,
+        at: usize,
+    ) -> Result<Option<Outcome>, Memory>
+        ensures { IfOk result (λ end. Leaps self.old
+            (rest_with self.old (any_hand.RunAt all.entry at) self.old.state) end self.new) }
+    {
+        match all.as_slice().get(at) {
+            None => self.other(Hand::RunAt(all, at)),
+            Some(statement) => {
+                let done = self.whole().statement(statement, &mut self.state);
+                self.gave(done)
+            }
+        }
+    }
+
+    /// Turns of a `while` or a `for`.
+    fn turns(&mut self, turns: Turns<'p>, left: u64) -> Result<Option<Outcome>, Memory>
+        ensures { IfOk result (λ end. Leaps self.old
+            (rest_with self.old (any_hand.Turn turns.entry left) self.old.state) end self.new) }
+    {
+        let body = turns.body.as_ref();
+        match turns.head {
+            Head::While(test) => {
+                let tests = slice::from_ref(test);
+                let done = self
+                    .whole()
+                    .turns(left, turns.line, tests, &[], body, &mut self.state);
+                self.gave(done)
+            }
+            Head::For(tests, after) => {
+                let tests = tests.as_slice();
+                let after = after.as_slice();
+                let done = self
+                    .whole()
+                    .turns(left, turns.line, tests, after, body, &mut self.state);
+                self.gave(done)
+            }
+        }
+    }
+
+    /// Turns of a `do`.
+    fn do_turns(&mut self, turns: DoTurns<'p>, left: u64) -> Result<Option<Outcome>, Memory>
+        ensures { IfOk result (λ end. Leaps self.old
+            (rest_with self.old (any_hand.DoTurn turns.entry left) self.old.state) end self.new) }
+    {
+        let body = turns.body.as_ref();
+        let done = self
+            .whole()
+            .do_turns(left, turns.line, turns.test, body, &mut self.state);
+        self.gave(done)
+    }
+
+    /// Turns of a `foreach`.
+    fn entries(
+        &mut self,
+        turns: EachTurns<'p>,
+        subject: Value,
+        at: usize,
+    ) -> Result<Option<Outcome>, Memory>
+        ensures { IfOk result (λ end. Leaps self.old
+            (rest_with self.old (any_hand.EachTurn turns.entry subject at) self.old.state) end self.new) }
+    {
+        let body = turns.body.as_ref();
+        let done = self.whole().entries(
+            at,
+            turns.line,
+            turns.binding,
+            &subject,
+            body,
+            &mut self.state,
+        );
+        drop(subject);
+        self.gave(done)
+    }
+
+    /// What parts of the program are run by.
+    fn whole(&self) -> Whole<'p>
+        ensures { result ≡ whole_of self.now }
+    {
+        Whole {
+            bundle: self.bundle,
+            alloc: self.alloc,
+            bound: self.bound,
+            depth: self.depth,
+        }
+    }
+
+    /// What was run whole gave this, which is given to what waits for it.
+    fn gave(&mut self, done: Result<Signal, Halt>) -> Result<Option<Outcome>, Memory>
+        ensures { (part : Part AnySignal) (s : AnyState) → HasRun self.old part done s
+            → IfOk result (λ end. Leaps self.old (part_with self.old part s) end self.new) }
+    {
+        match done {
+            Ok(signal) => {
+                let given = Given::Signal(signal);
+                put_hand(&mut self.hand, Hand::Part(PartHand::Give(given)));
+                Ok(None)
+            }
+            Err(Halt::Finished(outcome)) => Ok(Some(outcome)),
+            Err(other) => {
+                drop(other);
+                Err(Memory)
+            }
+        }
+    }
+
+    /// A small step with what was in hand, and the moment to which it comes.
+    fn other(&mut self, hand: Hand<'p>) -> Result<Option<Outcome>, Memory>
+        ensures { IfOk result (λ end. Leaps self.old (rest_with self.old hand.entry self.old.state) end self.new) }
+    {
+        put_hand(&mut self.hand, hand);
+        match self.go()? {
+            None => Ok(None),
+            Some(Arrival::End(outcome)) => Ok(Some(outcome)),
+            Some(Arrival::Moment(kind, line)) => match self.come(kind, line)? {
+                Progress::At(moment) => {
+                    drop(moment);
+                    Ok(None)
+                }
+                Progress::Ended(outcome) => Ok(Some(outcome)),
+            },
+        }
+    }
+}
+
+/// By how many a number has risen.
+fn risen(before: u64, after: u64) -> u64
+    ensures { result ≡ after - before }
+{
+    after.saturating_sub(before)
 }

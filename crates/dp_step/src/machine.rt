@@ -135,7 +135,7 @@ impl<'p> Machine<'p> {
     }
 
     /// A moment comes, unless it is beyond the bound.
-    fn come(&mut self, kind: MomentKind, line: u32) -> Result<Progress, Memory>
+    pub(crate) fn come(&mut self, kind: MomentKind, line: u32) -> Result<Progress, Memory>
         ensures { IfOk result (λ progress. Comes kind line self.old progress self.new) }
     {
         if self.state.moments >= self.bound {
@@ -165,7 +165,7 @@ impl<'p> Machine<'p> {
     }
 
     /// A small step, and whether it came to a moment or to the end.
-    fn go(&mut self) -> Result<Option<Arrival>, Memory>
+    pub(crate) fn go(&mut self) -> Result<Option<Arrival>, Memory>
         ensures { IfOk result (λ arrival. Goes self.old (rest_of self.old self.old.state) arrival self.new) }
     {
         match self.small() {

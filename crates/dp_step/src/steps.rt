@@ -3,7 +3,7 @@
 use std::marker::Model;
 use std::sync::ledger::{Blank, Book, Ledger, Share};
 
-/// A counter of steps. It takes no bytes, and only [`Steps::tick`] changes it.
+/// A counter of steps. It takes no bytes, and only [`Steps::tick`] and [`Steps::tick_all`] change it.
 #[derive(Drop)]
 pub struct Steps<L: Ledger> {
     book: Book<L>,
@@ -39,5 +39,12 @@ impl<L: Ledger> Steps<L> {
         ensures { self.new ≡ self.old + 1 }
     {
         self.book.add(&mut self.share, 1);
+    }
+
+    /// Counts so many steps. Takes no memory.
+    pub fn tick_all(&mut self, count: u64)
+        ensures { self.new ≡ self.old + count }
+    {
+        self.book.add(&mut self.share, count);
     }
 }

@@ -1,80 +1,19 @@
-use Rattle.std.proofs.Common.{refl}
-use Rattle.dp_continuation.proofs.Passing.{counts-end, counts-moment, ends-of, ends-there, ends-with, passes, reaches, reaches-of, reaches-with}
+use Rattle.std.proofs.lemmas.Result.{IfOk-weaker}
+use Rattle.dp_continuation.specs.Stops.{stops}
+use Rattle.dp_continuation.proofs.Free.{free-reaches, free-table, on_ok_always}
 use Rattle.dp_continuation.proofs.going.go_on_from.Goals as goal
 
-pub loop-init : goal.loop-init
-loop-init g c = λ bound writes n stands. record {
-  at = n;
-  stands = stands;
-  next = refl;
-  found = refl;
-  counted = refl;
-}
+pub returns-then-is_free-clause-reached : goal.returns-then-is_free-clause-reached
+returns-then-is_free-clause-reached g c = λ bound writes n stands.
+    let free = c.is_free.ensures in
+    IfOk-weaker c.run_free.result _ _ (λ came h. free-reaches (stops c.args.mode c.args.depth)
+    (free.mode c.if-is_free.true c.args.depth) c.args.bundle.now bound
+    writes c.args.breaks.now.held (free.none c.if-is_free.true) n came c.run_free.new.machine h)
+    (c.run_free.ensures.reached c.args.bundle.now bound writes n stands)
 
-pub returns-then-branch-clause-reached : goal.returns-then-branch-clause-reached
-returns-then-branch-clause-reached g c = λ bound writes n stands.
-    let way = c.loop.invariant bound writes n stands in
-    let comes = rw c.in-At.is at (c.in_ok-moment.ensures.goes_on c.args.bundle.now bound writes way.at way.stands) in
-    let one = rw c.in-At.is at c.in_ok-moment.ensures.counted in
-    let pass = c.in_ok-pass-in-At.ensures in
-    reaches _ _ _ _ _ _ _ _ _ _ way c.in-At.moment c.step.new.self comes _ one c.state_mut.result.now c.pass.new.program
-    c.state_mut.ensures.state pass.same c.pass.new.breaks pass.breaks _ pass.stop c.if-branch.true
-
-pub returns-then-branch-clause-breaks : goal.returns-then-branch-clause-breaks
-returns-then-branch-clause-breaks g c = λ bound writes n stands.
-    let way = c.loop.invariant bound writes n stands in
-    let comes = rw c.in-At.is at (c.in_ok-moment.ensures.goes_on c.args.bundle.now bound writes way.at way.stands) in
-    let one = rw c.in-At.is at c.in_ok-moment.ensures.counted in
-    let pass = c.in_ok-pass-in-At.ensures in
-    reaches-with _ _ _ _ _ _ _ _ _ _ way c.in-At.moment c.step.new.self comes _ one c.state_mut.result.now c.pass.new.program
-    c.state_mut.ensures.state pass.same c.pass.new.breaks pass.breaks _ pass.stop c.if-branch.true
-
-pub returns-then-branch-clause-of : goal.returns-then-branch-clause-of
-returns-then-branch-clause-of g c = λ bound writes n stands.
-    let way = c.loop.invariant bound writes n stands in
-    let comes = rw c.in-At.is at (c.in_ok-moment.ensures.goes_on c.args.bundle.now bound writes way.at way.stands) in
-    let one = rw c.in-At.is at c.in_ok-moment.ensures.counted in
-    let pass = c.in_ok-pass-in-At.ensures in
-    reaches-of _ _ _ _ _ _ _ _ _ _ way c.in-At.moment c.step.new.self comes _ one c.state_mut.result.now c.pass.new.program
-    c.state_mut.ensures.state pass.same c.pass.new.breaks pass.breaks _ pass.stop
-
-pub returns-then-branch-clause-counted : goal.returns-then-branch-clause-counted
-returns-then-branch-clause-counted g c = λ bound writes n stands.
-    let way = c.loop.invariant bound writes n stands in
-    let comes = rw c.in-At.is at (c.in_ok-moment.ensures.goes_on c.args.bundle.now bound writes way.at way.stands) in
-    let one = rw c.in-At.is at c.in_ok-moment.ensures.counted in
-    counts-moment _ _ _ _ _ _ _ _ _ _ way c.in-At.moment c.step.new.self comes _ one
-
-pub loop-preserved : goal.loop-preserved
-loop-preserved g c = λ bound writes n stands.
-    let way = c.loop.invariant bound writes n stands in
-    let comes = rw c.in-At.is at (c.in_ok-moment.ensures.goes_on c.args.bundle.now bound writes way.at way.stands) in
-    let one = rw c.in-At.is at c.in_ok-moment.ensures.counted in
-    let pass = c.in_ok-pass-in-At.ensures in
-    passes _ _ _ _ _ _ _ _ _ _ way c.in-At.moment c.step.new.self comes _ one c.state_mut.result.now c.pass.new.program
-    c.state_mut.ensures.state pass.same c.pass.new.breaks pass.breaks _ pass.stop c.if-branch.false
-
-pub returns-in-Ended-clause-reached : goal.returns-in-Ended-clause-reached
-returns-in-Ended-clause-reached g c = λ bound writes n stands.
-    let way = c.loop.invariant bound writes n stands in
-    ends-there _ _ _ _ _ _ _ _ _ _ way c.in-Ended.outcome c.step.new.self
-    (rw c.in-Ended.is at (c.in_ok-moment.ensures.goes_on c.args.bundle.now bound writes way.at way.stands))
-
-pub returns-in-Ended-clause-breaks : goal.returns-in-Ended-clause-breaks
-returns-in-Ended-clause-breaks g c = λ bound writes n stands.
-    let way = c.loop.invariant bound writes n stands in
-    ends-with _ _ _ _ _ _ _ _ _ _ way c.in-Ended.outcome c.step.new.self
-    (rw c.in-Ended.is at (c.in_ok-moment.ensures.goes_on c.args.bundle.now bound writes way.at way.stands))
-
-pub returns-in-Ended-clause-of : goal.returns-in-Ended-clause-of
-returns-in-Ended-clause-of g c = λ bound writes n stands.
-    let way = c.loop.invariant bound writes n stands in
-    ends-of _ _ _ _ _ _ _ _ _ _ way c.in-Ended.outcome c.step.new.self
-    (rw c.in-Ended.is at (c.in_ok-moment.ensures.goes_on c.args.bundle.now bound writes way.at way.stands))
-
-pub returns-in-Ended-clause-counted : goal.returns-in-Ended-clause-counted
-returns-in-Ended-clause-counted g c = λ bound writes n stands.
-    let way = c.loop.invariant bound writes n stands in
-    counts-end _ _ _ _ _ _ _ _ _ _ way c.in-Ended.outcome c.step.new.self
-    (rw c.in-Ended.is at (c.in_ok-moment.ensures.goes_on c.args.bundle.now bound writes way.at way.stands)) _
-    (rw c.in-Ended.is at c.in_ok-moment.ensures.counted)
+pub returns-then-is_free-clause-breaks : goal.returns-then-is_free-clause-breaks
+returns-then-is_free-clause-breaks g c = λ bound writes n stands.
+    let free = c.is_free.ensures in
+    on_ok_always c.run_free.result (free-table (stops c.args.mode c.args.depth)
+    (free.mode c.if-is_free.true c.args.depth) c.args.bundle.now bound writes
+    c.args.breaks.now (free.none c.if-is_free.true) n)

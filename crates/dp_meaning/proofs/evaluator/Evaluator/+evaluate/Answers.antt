@@ -679,20 +679,20 @@ exit-returns-in-Some g t c = rw c.in-Some.is (then_on c.expression.ensures c.the
 
 pub turns-returns-in_err-place : goal.turns-returns-in_err-place
 turns-returns-in_err-place g t c =
-    exits _ _ c.from_residual.ensures.1 (c.loop-turn.invariant _ _ (turn-stops _ (c.args.self.now.bound - c.loop-turn._turn) c.args.line
+    exits _ _ c.from_residual.ensures.1 (c.loop-turn.invariant _ _ (turn-stops _ (c.args.left - c.loop-turn._turn) c.args.line
     (evaluations c.args.tests.now (goes_by c.args.self.now)) (evaluations c.args.after.now (goes_by c.args.self.now))
     (statement_run c.args.body.now (goes_by c.args.self.now)) (omega arith) _ _ _ c.in_err-place.ensures))
 
 pub turns-returns-in_err-values : goal.turns-returns-in_err-values
 turns-returns-in_err-values g t c =
     exits _ _ c.from_residual-in_err-values.ensures.1 (c.loop-turn.invariant _ _ (test-breaks _
-    (c.args.self.now.bound - c.loop-turn._turn) c.args.line (evaluations c.args.tests.now (goes_by c.args.self.now))
+    (c.args.left - c.loop-turn._turn) c.args.line (evaluations c.args.tests.now (goes_by c.args.self.now))
     (evaluations c.args.after.now (goes_by c.args.self.now)) (statement_run c.args.body.now (goes_by c.args.self.now))
     (omega arith) _ _ c.in_ok-place.ensures _ _ c.in_err-values.ensures))
 
 pub turns-returns-then-not-on : goal.turns-returns-then-not-on
 turns-returns-then-not-on g t c =
-    c.loop-turn.invariant _ _ (turns-end _ (c.args.self.now.bound - c.loop-turn._turn) c.args.line (evaluations c.args.tests.now
+    c.loop-turn.invariant _ _ (turns-end _ (c.args.left - c.loop-turn._turn) c.args.line (evaluations c.args.tests.now
     (goes_by c.args.self.now)) (evaluations c.args.after.now (goes_by c.args.self.now)) (statement_run c.args.body.now
     (goes_by c.args.self.now)) (omega arith) _ _ c.in_ok-place.ensures _ _ c.in_ok-values.ensures (rw c.as_slice.ensures at
     (sym c.last_holds-on.ensures ∙ c.if-not-on.true)))
@@ -700,14 +700,14 @@ turns-returns-then-not-on g t c =
 pub turns-returns-in_err-statement : goal.turns-returns-in_err-statement
 turns-returns-in_err-statement g t c =
     exits _ _ c.from_residual-in_err-statement.ensures.1 (c.loop-turn.invariant _ _ (body-breaks _
-    (c.args.self.now.bound - c.loop-turn._turn) c.args.line (evaluations c.args.tests.now (goes_by c.args.self.now))
+    (c.args.left - c.loop-turn._turn) c.args.line (evaluations c.args.tests.now (goes_by c.args.self.now))
     (evaluations c.args.after.now (goes_by c.args.self.now)) (statement_run c.args.body.now (goes_by c.args.self.now))
     (omega arith) _ _ c.in_ok-place.ensures _ _ c.in_ok-values.ensures (rw c.as_slice.ensures at
     (sym c.last_holds-on.ensures ∙ c.if-not-on.false)) _ _ c.in_err-statement.ensures))
 
 pub turns-returns-in-Out : goal.turns-returns-in-Out
 turns-returns-in-Out g t c =
-    c.loop-turn.invariant _ _ (body-out _ (c.args.self.now.bound - c.loop-turn._turn) c.args.line (evaluations c.args.tests.now
+    c.loop-turn.invariant _ _ (body-out _ (c.args.left - c.loop-turn._turn) c.args.line (evaluations c.args.tests.now
     (goes_by c.args.self.now)) (evaluations c.args.after.now (goes_by c.args.self.now)) (statement_run c.args.body.now
     (goes_by c.args.self.now)) (omega arith) _ _ c.in_ok-place.ensures _ _ c.in_ok-values.ensures (rw c.as_slice.ensures at
     (sym c.last_holds-on.ensures ∙ c.if-not-on.false)) _ _ c.in_ok-statement.ensures _ (sym c.turn_over.ensures ∙ c.in-Out.is))
@@ -715,7 +715,7 @@ turns-returns-in-Out g t c =
 pub turns-returns-in_err-done : goal.turns-returns-in_err-done
 turns-returns-in_err-done g t c =
     exits _ _ c.from_residual-in_err-done.ensures.1 (c.loop-turn.invariant _ _ (next-breaks _
-    (c.args.self.now.bound - c.loop-turn._turn) c.args.line (evaluations c.args.tests.now (goes_by c.args.self.now))
+    (c.args.left - c.loop-turn._turn) c.args.line (evaluations c.args.tests.now (goes_by c.args.self.now))
     (evaluations c.args.after.now (goes_by c.args.self.now)) (statement_run c.args.body.now (goes_by c.args.self.now))
     (omega arith) _ _ c.in_ok-place.ensures _ _ c.in_ok-values.ensures (rw c.as_slice.ensures at
     (sym c.last_holds-on.ensures ∙ c.if-not-on.false)) _ _ c.in_ok-statement.ensures
@@ -723,58 +723,58 @@ turns-returns-in_err-done g t c =
 
 pub turns-loop-turn-preserved : goal.turns-loop-turn-preserved
 turns-loop-turn-preserved g t c =
-    λ x u e. let n : c.args.self.now.bound - (c.loop-turn._turn + 1) ≡ c.args.self.now.bound - c.loop-turn._turn - 1 = omega arith in
-    c.loop-turn.invariant x u (turn-goes-on _ (c.args.self.now.bound - c.loop-turn._turn) c.args.line (evaluations c.args.tests.now
+    λ x u e. let n : c.args.left - (c.loop-turn._turn + 1) ≡ c.args.left - c.loop-turn._turn - 1 = omega arith in
+    c.loop-turn.invariant x u (turn-goes-on _ (c.args.left - c.loop-turn._turn) c.args.line (evaluations c.args.tests.now
     (goes_by c.args.self.now)) (evaluations c.args.after.now (goes_by c.args.self.now)) (statement_run c.args.body.now
     (goes_by c.args.self.now)) (omega arith) _ _ c.in_ok-place.ensures _ _ c.in_ok-values.ensures (rw c.as_slice.ensures at
     (sym c.last_holds-on.ensures ∙ c.if-not-on.false)) _ _ c.in_ok-statement.ensures
     (sym c.turn_over.ensures ∙ c.in-On.is) _ _ x u c.in_ok-done.ensures (rw n at e))
 
 pub turns-returns : goal.turns-returns
-turns-returns g t c = let n : c.args.self.now.bound - c.loop-turn._turn ≡ 0 = omega arith in c.loop-turn.invariant _ _ (rw n ends)
+turns-returns g t c = let n : c.args.left - c.loop-turn._turn ≡ 0 = omega arith in c.loop-turn.invariant _ _ (rw n ends)
 
 pub do_turns-returns-in_err-statement : goal.do_turns-returns-in_err-statement
 do_turns-returns-in_err-statement g t c =
-    exits _ _ c.from_residual.ensures.1 (c.loop-turn.invariant _ _ (do-body-breaks _ (c.args.self.now.bound - c.loop-turn._turn) c.args.line
+    exits _ _ c.from_residual.ensures.1 (c.loop-turn.invariant _ _ (do-body-breaks _ (c.args.left - c.loop-turn._turn) c.args.line
     (evaluation c.args.test.now (goes_by c.args.self.now)) (statement_run c.args.body.now (goes_by c.args.self.now))
     (omega arith) _ _ _ c.in_err-statement.ensures))
 
 pub do_turns-returns-in-Out : goal.do_turns-returns-in-Out
 do_turns-returns-in-Out g t c =
-    c.loop-turn.invariant _ _ (do-body-out _ (c.args.self.now.bound - c.loop-turn._turn) c.args.line (evaluation c.args.test.now
+    c.loop-turn.invariant _ _ (do-body-out _ (c.args.left - c.loop-turn._turn) c.args.line (evaluation c.args.test.now
     (goes_by c.args.self.now)) (statement_run c.args.body.now (goes_by c.args.self.now)) (omega arith) _ _ _ c.in_ok-statement.ensures _
     (sym c.turn_over.ensures ∙ c.in-Out.is))
 
 pub do_turns-returns-in_err-place : goal.do_turns-returns-in_err-place
 do_turns-returns-in_err-place g t c =
     exits _ _ c.from_residual-in_err-place.ensures.1 (c.loop-turn.invariant _ _ (do-stops _
-    (c.args.self.now.bound - c.loop-turn._turn) c.args.line (evaluation c.args.test.now (goes_by c.args.self.now))
+    (c.args.left - c.loop-turn._turn) c.args.line (evaluation c.args.test.now (goes_by c.args.self.now))
     (statement_run c.args.body.now (goes_by c.args.self.now)) (omega arith) _ _ _ c.in_ok-statement.ensures
     (sym c.turn_over.ensures ∙ c.in-On.is) _ _ c.in_err-place.ensures))
 
 pub do_turns-returns-in_err-holds : goal.do_turns-returns-in_err-holds
 do_turns-returns-in_err-holds g t c =
     exits _ _ c.from_residual-in_err-holds.ensures.1 (c.loop-turn.invariant _ _ (do-test-breaks _
-    (c.args.self.now.bound - c.loop-turn._turn) c.args.line (evaluation c.args.test.now (goes_by c.args.self.now))
+    (c.args.left - c.loop-turn._turn) c.args.line (evaluation c.args.test.now (goes_by c.args.self.now))
     (statement_run c.args.body.now (goes_by c.args.self.now)) (omega arith) _ _ _ c.in_ok-statement.ensures
     (sym c.turn_over.ensures ∙ c.in-On.is) _ c.in_ok-place.ensures _ _ (then_on c.expression.ensures (c.in_err-holds.ensures _))))
 
 pub do_turns-returns-then-not-holds : goal.do_turns-returns-then-not-holds
 do_turns-returns-then-not-holds g t c =
-    c.loop-turn.invariant _ _ (do-end _ (c.args.self.now.bound - c.loop-turn._turn) c.args.line (evaluation c.args.test.now
+    c.loop-turn.invariant _ _ (do-end _ (c.args.left - c.loop-turn._turn) c.args.line (evaluation c.args.test.now
     (goes_by c.args.self.now)) (statement_run c.args.body.now (goes_by c.args.self.now)) (omega arith) _ _ _ c.in_ok-statement.ensures
     (sym c.turn_over.ensures ∙ c.in-On.is) _ c.in_ok-place.ensures _ _ (then_on c.expression.ensures (c.in_ok-holds.ensures _)) c.if-not-holds.true)
 
 pub do_turns-loop-turn-preserved : goal.do_turns-loop-turn-preserved
 do_turns-loop-turn-preserved g t c =
-    λ x u e. let n : c.args.self.now.bound - (c.loop-turn._turn + 1) ≡ c.args.self.now.bound - c.loop-turn._turn - 1 = omega arith in
-    c.loop-turn.invariant x u (do-goes-on _ (c.args.self.now.bound - c.loop-turn._turn) c.args.line (evaluation c.args.test.now
+    λ x u e. let n : c.args.left - (c.loop-turn._turn + 1) ≡ c.args.left - c.loop-turn._turn - 1 = omega arith in
+    c.loop-turn.invariant x u (do-goes-on _ (c.args.left - c.loop-turn._turn) c.args.line (evaluation c.args.test.now
     (goes_by c.args.self.now)) (statement_run c.args.body.now (goes_by c.args.self.now)) (omega arith) _ _ _ c.in_ok-statement.ensures
     (sym c.turn_over.ensures ∙ c.in-On.is) _ c.in_ok-place.ensures _ _ (then_on c.expression.ensures (c.in_ok-holds.ensures _))
     c.if-not-holds.false x u (rw n at e))
 
 pub do_turns-returns : goal.do_turns-returns
-do_turns-returns g t c = let n : c.args.self.now.bound - c.loop-turn._turn ≡ 0 = omega arith in c.loop-turn.invariant _ _ (rw n ends)
+do_turns-returns g t c = let n : c.args.left - c.loop-turn._turn ≡ 0 = omega arith in c.loop-turn.invariant _ _ (rw n ends)
 
 pub each-loop-at-init : goal.each-loop-at-init
 each-loop-at-init g t c = λ x u e. rw c.in-Array.is e

@@ -212,23 +212,23 @@ invariant-arms-loop-arm g l = (x : Result Signal Halt) (t : State)
 
 abbrev pub invariant-turns-loop-turn : goal.invariant-turns-loop-turn
 invariant-turns-loop-turn g l = (x : Result Signal Halt) (t : State)
-    → Evaluates (g.O.Outside.rules l.self.outside.now) (turns (l.self.bound - l._turn) l.line (evaluations l.tests (goes_by l.self))
+    → Evaluates (g.O.Outside.rules l.self.outside.now) (turns (l.left - l._turn) l.line (evaluations l.tests (goes_by l.self))
     (evaluations l.after (goes_by l.self)) (statement_run l.body (goes_by l.self)) l.state) x t
-    → Evaluates (g.O.Outside.rules l.self.outside.now) (turns l.self.bound l.line (evaluations l.tests (goes_by l.self)) (evaluations l.after
+    → Evaluates (g.O.Outside.rules l.self.outside.now) (turns l.left l.line (evaluations l.tests (goes_by l.self)) (evaluations l.after
     (goes_by l.self)) (statement_run l.body (goes_by l.self)) l.fn.state) x t
 
 abbrev pub invariant-do_turns-loop-turn : goal.invariant-do_turns-loop-turn
 invariant-do_turns-loop-turn g l = (x : Result Signal Halt) (t : State)
-    → Evaluates (g.O.Outside.rules l.self.outside.now) (do_turns (l.self.bound - l._turn) l.line (evaluation l.test (goes_by l.self))
+    → Evaluates (g.O.Outside.rules l.self.outside.now) (do_turns (l.left - l._turn) l.line (evaluation l.test (goes_by l.self))
     (statement_run l.body (goes_by l.self)) l.state) x t
-    → Evaluates (g.O.Outside.rules l.self.outside.now) (do_turns l.self.bound l.line (evaluation l.test (goes_by l.self)) (statement_run l.body
+    → Evaluates (g.O.Outside.rules l.self.outside.now) (do_turns l.left l.line (evaluation l.test (goes_by l.self)) (statement_run l.body
     (goes_by l.self)) l.fn.state) x t
 
 abbrev pub invariant-each-loop-at : goal.invariant-each-loop-at
 invariant-each-loop-at g l = (x : Result Signal Halt) (t : State)
     → Evaluates (g.O.Outside.rules l.self.outside.now) (each_run l.line l.binding (drop l.at l.array.pairs) (statement_run l.body
     (goes_by l.self)) l.state) x t
-    → Evaluates (g.O.Outside.rules l.self.outside.now) (each_run l.line l.binding (entries l.fn.subject) (statement_run l.body
+    → Evaluates (g.O.Outside.rules l.self.outside.now) (each_run l.line l.binding (drop l.from (entries l.fn.subject)) (statement_run l.body
     (goes_by l.self)) l.fn.state) x t
 
 abbrev pub invariant-under-loop-e : goal.invariant-under-loop-e

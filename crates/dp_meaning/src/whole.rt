@@ -1,0 +1,104 @@
+//! Parts of a program that are run whole: nothing is written at their moments, and nothing stops them.
+
+use crate::evaluator::Evaluator;
+use crate::quiet::Quiet;
+use dp_actions::{Halt, Signal};
+use dp_state::State;
+use dp_tree::{Binding, Bundle, Expression, Statement};
+use dp_value::Value;
+use std::alloc::Global;
+
+/// What parts of a program go by that are run whole from a state: a run has at most `bound` moments, and at most
+/// `depth` frames more can be on the stack.
+#[derive(Clone, Copy)]
+pub struct Whole<'a> {
+    pub bundle: &'a Bundle,
+    pub alloc: Global,
+    pub bound: u64,
+    pub depth: u64,
+}
+
+impl Whole<'_> {
+    ghost use Rattle.std.specs.Prelude.{◌≡◌, drop};
+    ghost use Rattle.dp_actions.specs.Expressions.{evaluation, evaluations};
+    ghost use Rattle.dp_actions.specs.Loops.{do_turns, each_run, entries, turns};
+    ghost use Rattle.dp_meaning.specs.Statements.{statement_run};
+    ghost use Rattle.dp_meaning.specs.Whole.{RunsWhole};
+
+    /// A statement.
+    pub fn statement(&self, statement: &Statement, state: &mut State) -> Result<Signal, Halt>
+        ensures { RunsWhole self.now (statement_run statement.now) result state.old state.new }
+    {
+        let quiet = Quiet { bound: self.bound };
+        self.evaluator(&quiet).statement(statement, state)
+    }
+
+    /// The turns of a `while` or a `for`, at most so many: before each come its tests, and behind its body what comes
+    /// between two of them.
+    pub fn turns(
+        &self,
+        left: u64,
+        line: u32,
+        tests: &[Expression],
+        after: &[Expression],
+        body: &Statement,
+        state: &mut State,
+    ) -> Result<Signal, Halt>
+        ensures { RunsWhole self.now (λ setting s. turns left line (evaluations tests.now setting)
+            (evaluations after.now setting) (statement_run body.now setting) s) result state.old state.new }
+    {
+        let quiet = Quiet { bound: self.bound };
+        self.evaluator(&quiet)
+            .turns(left, line, tests, after, body, state)
+    }
+
+    /// The turns of a `do`, at most so many.
+    pub fn do_turns(
+        &self,
+        left: u64,
+        line: u32,
+        test: &Expression,
+        body: &Statement,
+        state: &mut State,
+    ) -> Result<Signal, Halt>
+        ensures { RunsWhole self.now (λ setting s. do_turns left line (evaluation test.now setting)
+            (statement_run body.now setting) s) result state.old state.new }
+    {
+        let quiet = Quiet { bound: self.bound };
+        self.evaluator(&quiet)
+            .do_turns(left, line, test, body, state)
+    }
+
+    /// The turns of a `foreach` from the entry at a position on.
+    pub fn entries(
+        &self,
+        from: usize,
+        line: u32,
+        binding: &Binding,
+        subject: &Value,
+        body: &Statement,
+        state: &mut State,
+    ) -> Result<Signal, Halt>
+        ensures { RunsWhole self.now (λ setting s. each_run line binding.now (drop from (entries subject.now))
+            (statement_run body.now setting) s) result state.old state.new }
+    {
+        let quiet = Quiet { bound: self.bound };
+        self.evaluator(&quiet)
+            .each(from, line, binding, subject, body, state)
+    }
+
+    /// The evaluator that does it.
+    fn evaluator<'b>(&'b self, quiet: &'b Quiet) -> Evaluator<'b, Quiet>
+        ensures by { (result.bundle.now ≡ self.now.bundle.now) × (result.bound ≡ self.now.bound)
+            × (result.depth ≡ self.now.depth) }
+        ensures quiet { result.outside.now ≡ quiet.now }
+    {
+        Evaluator {
+            bundle: self.bundle,
+            outside: quiet,
+            alloc: self.alloc,
+            bound: self.bound,
+            depth: self.depth,
+        }
+    }
+}

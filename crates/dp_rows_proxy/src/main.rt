@@ -1,0 +1,34 @@
+//! The rows of calls of the proxy's parts: event lists, lanes, what an IDE asks, keys of engines, the registry. Makes
+//! each call, and prints for each file of rows how many there are and each that differs.
+#![tactic(auto)]
+
+mod asked;
+mod calls;
+mod lanes;
+mod lists;
+mod registries;
+
+use calls::differences_of;
+use dp_rows::{Memory, Report, RowFile, read_files, rows_of};
+use std::alloc::Global;
+use std::io;
+
+/// Makes the calls of the rows of a file, and reports them.
+fn put_file(alloc: Global, report: &mut Report, file: &RowFile) -> Result<(), Memory> {
+    let lines = file.lines(alloc)?;
+    let rows = rows_of(alloc, lines.as_slice())?;
+    for row in rows.iter() {
+        let differences = differences_of(alloc, row)?;
+        report.put_row(row, &differences)?;
+    }
+    report.put_file(file.name.as_str())
+}
+
+fn main(rt: HostRuntime) -> io::Result<()> {
+    let mut report = Report::new(rt.alloc());
+    for file in read_files(&rt)?.iter() {
+        put_file(rt.alloc(), &mut report, file)?;
+    }
+    print!(rt; "{}", report.as_str())?;
+    Ok(())
+}

@@ -1,0 +1,16 @@
+use Rattle.std.proofs.Common.{refl}
+use Rattle.std.proofs.lemmas.Result.{IfOk-weaker}
+use Rattle.dp_actions.specs.Expressions.{evaluation}
+use Rattle.dp_actions.specs.Loops.{do_turns}
+use Rattle.dp_meaning.specs.Statements.{statement_run}
+use Rattle.dp_step.proofs.Leaping.{leaps_as}
+use Rattle.dp_step.proofs.machine.Machine.do_turns.Goals as goal
+
+pub returns : goal.returns
+returns c =
+    let m = c.args.self.now in
+    let loop = c.args.turns in
+    IfOk-weaker c.gave.result _ _ (λ end leaps. leaps_as m _ c.gave.new.self _ _ end refl refl leaps)
+    (c.gave.ensures (λ setting s. do_turns c.args.left loop.line (evaluation loop.test.now setting)
+    (statement_run loop.body.now setting) s) m.state
+    (record { by = rw (c.whole.ensures, c.as_ref-body.ensures) at c.do_turns-done.ensures }))

@@ -1,0 +1,22 @@
+use Rattle.std.proofs.Common.{refl, ◌∙◌}
+use Rattle.dp_step.specs.Stands.{rest_of}
+use Rattle.dp_step.proofs.Leaping.{leap-on, leap-out}
+use Rattle.dp_step.proofs.machine.Machine.finish.Goals as goal
+
+pub loop-init : goal.loop-init
+loop-init c = record { same = refl; same_bound = refl }
+
+pub loop-preserved : goal.loop-preserved
+loop-preserved c =
+    let leaps = rw c.in-None.is at c.in_ok-leap.ensures in record {
+      same = leap-on c.args.self.now c.loop.self c.leap.new.self
+          (rest_of c.args.self.now c.args.self.now.state) c.loop.invariant.same
+          c.loop.invariant.same_bound leaps;
+      same_bound = leaps.same_bound ∙ c.loop.invariant.same_bound;
+    }
+
+pub returns-in-Some : goal.returns-in-Some
+returns-in-Some c =
+    leap-out c.args.self.now c.loop.self c.leap.new.self (rest_of c.args.self.now c.args.self.now.state)
+    c.loop.invariant.same
+    c.loop.invariant.same_bound c.in-Some.outcome (rw c.in-Some.is at c.in_ok-leap.ensures)
