@@ -22,6 +22,7 @@ pub fn make_program(
 ) -> Result<Bundle, ProgramError>
     requires { AreForBundle fetched }
     ensures ok { IfOk result (λ program. Makes fetched (Ok program)) }
+    ensures named { IfOk result (λ program. map (λ file. file.name) program.files ≡ map (λ file. file.0) fetched) }
     ensures err { IfErr result (λ why. IsMade fetched why) }
     // Files make one thing alone.
     ensures only { (asked : Result Program Unmade) → Makes fetched asked → IsRefused asked result }

@@ -183,13 +183,13 @@ Asks words (ide port script) = IsIde words port script
 Asks words (replay events ask) = IsReplay words events ask
 Asks words show = words ≡ codes "show" ∷ []
 
--- the program that it is for, where it is for one
+-- the program that all its files make, where they are those of one
 abbrev pub ask_in : Task → Option Ask
 ask_in (run ask) = Some ask
 ask_in (talk key ask) = Some ask
 ask_in (engine address key ask) = Some ask
 ask_in (ide port script) = None
-ask_in (replay events ask) = Some ask
+ask_in (replay events ask) = None
 ask_in show = None
 
 abbrev pub names_asked : Option Ask → List (List ℕ)
