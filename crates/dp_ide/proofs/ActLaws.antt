@@ -22,7 +22,8 @@ pub reads_as : {A B : Type 0} (rule : A → List ℕ → Type 0) (wider : B → 
     → ((a : A) → rule a xs → wider (make a) ys) → ((b : B) → wider b ys → (a : A) × (b ≡ make a) × rule a xs)
     → (found : Option A) → Reads rule xs found → Reads wider ys (option_map make found)
 reads_as rule wider make xs ys into from None none = λ b is. let f = from b is in none f.0 f.2
-reads_as rule wider make xs ys into from (Some a) is = (into a is.0, λ b also. let f = from b also in f.1 ∙ ap make (is.1 f.0 f.2))
+reads_as rule wider make xs ys into from (Some a) is =
+    (into a is.0, λ b also. let f = from b also in f.1 ∙ ap make (is.1 f.0 f.2))
 
 -- ---- behind a word
 
@@ -30,7 +31,8 @@ marked : (mark rest : List ℕ) (rule : Rule) → rule rest → (Mark mark >> ru
 marked mark rest rule is = record { front = mark; back = rest; whole = refl; first = refl; second = is }
 
 unmarked : (mark rest : List ℕ) (rule : Rule) → (Mark mark >> rule) (mark ++ rest) → rule rest
-unmarked mark rest rule is = subst rule (append_cancel_left mark is.back rest (ap (λ l. l ++ is.back) (sym is.first) ∙ sym is.whole)) is.second
+unmarked mark rest rule is =
+    subst rule (append_cancel_left mark is.back rest (ap (λ l. l ++ is.back) (sym is.first) ∙ sym is.whole)) is.second
 
 abbrev Begins : List ℕ → List ℕ → Type 0
 Begins mark bytes = (rest : List ℕ) × (bytes ≡ mark ++ rest)
@@ -78,7 +80,8 @@ only_prop Print rest is = absurd (apart 111 105 _ _ refl (ap (drop 2) is))
 abbrev Lacked : List ℕ → List ℕ → Type 0
 Lacked mark bytes = (rest : List ℕ) → bytes ≢ mark ++ rest
 
-only_other : (act : Act) (line : List ℕ) → Lacked (codes "send ") line → Lacked (codes "attr ") line → Lacked (codes "code ") line → Lacked (codes "prop ") line → Asks act line → is_out act line
+only_other : (act : Act) (line : List ℕ) → Lacked (codes "send ") line → Lacked (codes "attr ") line
+    → Lacked (codes "code ") line → Lacked (codes "prop ") line → Asks act line → is_out act line
 only_other (Send l id) line s a c p is = let b = begun (codes "send ") _ _ is in absurd (s b.0 b.1)
 only_other (Attr name text) line s a c p is = let b = begun (codes "attr ") _ _ is in absurd (a b.0 b.1)
 only_other (Code n) line s a c p is = let b = begun (codes "code ") _ _ is in absurd (c b.0 b.1)
@@ -127,30 +130,41 @@ out_asks (Out text) line is = is
 out_asks Print line is = is
 
 -- the two rules answer alike
-same_reads : (rule wider : Act → List ℕ → Type 0) (xs ys : List ℕ) → ((act : Act) → rule act xs → wider act ys) → ((act : Act) → wider act ys → rule act xs)
+same_reads : (rule wider : Act → List ℕ → Type 0) (xs ys : List ℕ) → ((act : Act) → rule act xs → wider act ys)
+    → ((act : Act) → wider act ys → rule act xs)
     → (found : Option Act) → Reads rule xs found → Reads wider ys found
 same_reads rule wider xs ys into from None none = λ act is. none act (from act is)
 same_reads rule wider xs ys into from (Some act) is = (into act is.0, λ other also. is.1 other (from other also))
 
-pub reads_send : (line rest : List ℕ) (found : Option Act) → line ≡ codes "send " ++ rest → Reads is_send rest found → Reads Asks line found
+pub reads_send : (line rest : List ℕ) (found : Option Act) → line ≡ codes "send " ++ rest → Reads is_send rest found
+    → Reads Asks line found
 reads_send line rest found same is =
-    subst (λ (l : List ℕ). Reads Asks l found) (sym same) (same_reads is_send Asks rest (codes "send " ++ rest) (λ act. send_asks act rest) (λ act. only_send act rest) found is)
+    subst (λ (l : List ℕ). Reads Asks l found) (sym same) (same_reads is_send Asks rest (codes "send " ++ rest)
+    (λ act. send_asks act rest) (λ act. only_send act rest) found is)
 
-pub reads_attr : (line rest : List ℕ) (found : Option Act) → line ≡ codes "attr " ++ rest → Reads is_attr rest found → Reads Asks line found
+pub reads_attr : (line rest : List ℕ) (found : Option Act) → line ≡ codes "attr " ++ rest → Reads is_attr rest found
+    → Reads Asks line found
 reads_attr line rest found same is =
-    subst (λ (l : List ℕ). Reads Asks l found) (sym same) (same_reads is_attr Asks rest (codes "attr " ++ rest) (λ act. attr_asks act rest) (λ act. only_attr act rest) found is)
+    subst (λ (l : List ℕ). Reads Asks l found) (sym same) (same_reads is_attr Asks rest (codes "attr " ++ rest)
+    (λ act. attr_asks act rest) (λ act. only_attr act rest) found is)
 
-pub reads_code : (line rest : List ℕ) (found : Option Act) → line ≡ codes "code " ++ rest → Reads is_code rest found → Reads Asks line found
+pub reads_code : (line rest : List ℕ) (found : Option Act) → line ≡ codes "code " ++ rest → Reads is_code rest found
+    → Reads Asks line found
 reads_code line rest found same is =
-    subst (λ (l : List ℕ). Reads Asks l found) (sym same) (same_reads is_code Asks rest (codes "code " ++ rest) (λ act. code_asks act rest) (λ act. only_code act rest) found is)
+    subst (λ (l : List ℕ). Reads Asks l found) (sym same) (same_reads is_code Asks rest (codes "code " ++ rest)
+    (λ act. code_asks act rest) (λ act. only_code act rest) found is)
 
-pub reads_prop : (line rest : List ℕ) (found : Option Act) → line ≡ codes "prop " ++ rest → Reads is_prop rest found → Reads Asks line found
+pub reads_prop : (line rest : List ℕ) (found : Option Act) → line ≡ codes "prop " ++ rest → Reads is_prop rest found
+    → Reads Asks line found
 reads_prop line rest found same is =
-    subst (λ (l : List ℕ). Reads Asks l found) (sym same) (same_reads is_prop Asks rest (codes "prop " ++ rest) (λ act. prop_asks act rest) (λ act. only_prop act rest) found is)
+    subst (λ (l : List ℕ). Reads Asks l found) (sym same) (same_reads is_prop Asks rest (codes "prop " ++ rest)
+    (λ act. prop_asks act rest) (λ act. only_prop act rest) found is)
 
-pub reads_other : (line : List ℕ) (found : Option Act) → Lacked (codes "send ") line → Lacked (codes "attr ") line → Lacked (codes "code ") line → Lacked (codes "prop ") line
+pub reads_other : (line : List ℕ) (found : Option Act) → Lacked (codes "send ") line → Lacked (codes "attr ") line
+    → Lacked (codes "code ") line → Lacked (codes "prop ") line
     → Reads is_out line found → Reads Asks line found
-reads_other line found s a c p is = same_reads is_out Asks line line (λ act. out_asks act line) (λ act. only_other act line s a c p) found is
+reads_other line found s a c p is =
+    same_reads is_out Asks line line (λ act. out_asks act line) (λ act. only_other act line s a c p) found is
 
 -- ---- an `out` or a `print`
 
@@ -164,10 +178,12 @@ reads_print line same = (same, alone) where
   alone (Out text) is = let b = begun (codes "out") _ _ is in absurd (apart 112 111 _ _ refl (sym same ∙ b.1))
   alone Print is = refl
 
-pub reads_out : (line rest : List ℕ) (found : Option (List ℕ)) → line ≡ codes "out" ++ rest → Reads Behind rest found → Reads is_out line (option_map Out found)
+pub reads_out : (line rest : List ℕ) (found : Option (List ℕ)) → line ≡ codes "out" ++ rest → Reads Behind rest found
+    → Reads is_out line (option_map Out found)
 reads_out line rest found same is =
     subst (λ (l : List ℕ). Reads is_out l (option_map Out found)) (sym same)
-    (reads_as Behind is_out Out rest (codes "out" ++ rest) (λ text h. marked (codes "out") rest (Behind text) h) from found is) where
+    (reads_as Behind is_out Out rest (codes "out" ++ rest) (λ text h. marked (codes "out") rest (Behind text) h) from
+    found is) where
       from : (act : Act) → is_out act (codes "out" ++ rest) → (text : List ℕ) × (act ≡ Out text) × Behind text rest
       from (Send l id) h = absurd h
       from (Attr name text) h = absurd h
@@ -191,7 +207,8 @@ reads_neither line print out = no where
 abbrev StopsAt : ℕ → List ℕ → Type 0
 StopsAt mark bytes = (bytes ≡ []) ⊎ ((rest : List ℕ) × (bytes ≡ mark ∷ rest))
 
-meets : (mark c : ℕ) (cs back : List ℕ) → StopsAt mark back → Lacks mark (c ∷ cs) → (more : List ℕ) → back ≡ c ∷ more → ⊥
+meets : (mark c : ℕ) (cs back : List ℕ) → StopsAt mark back → Lacks mark (c ∷ cs) → (more : List ℕ) → back ≡ c ∷ more
+    → ⊥
 meets mark c cs back (inl none) lacks more same = let both : [] ≡ c ∷ more = sym none ∙ same in cc
 meets mark c cs back (inr (rest, is)) lacks more same =
     let both : mark ∷ rest ≡ c ∷ more = sym is ∙ same in
@@ -199,7 +216,8 @@ meets mark c cs back (inr (rest, is)) lacks more same =
     eqb-false c mark (lacks_head mark c cs lacks) is_mark
 
 -- what stands before the first of a kind is one
-runs_meet : (mark : ℕ) (one other back rest : List ℕ) → Lacks mark one → Lacks mark other → StopsAt mark back → StopsAt mark rest → one ++ back ≡ other ++ rest → (one ≡ other) × (back ≡ rest)
+runs_meet : (mark : ℕ) (one other back rest : List ℕ) → Lacks mark one → Lacks mark other → StopsAt mark back
+    → StopsAt mark rest → one ++ back ≡ other ++ rest → (one ≡ other) × (back ≡ rest)
 runs_meet mark [] [] back rest p q s t e = (refl, e)
 runs_meet mark [] (c ∷ cs) back rest p q s t e = absurd (meets mark c cs back s q (cs ++ rest) e)
 runs_meet mark (b ∷ bs) [] back rest p q s t e = absurd (meets mark b bs rest t p (bs ++ back) (sym e))
@@ -222,29 +240,35 @@ module _ (bytes : List ℕ) (n : ℕ) (run : IsRun 32 bytes n) where
     front = take n bytes;
     back = drop n bytes;
     whole = split;
-    first = record { same = refl; some_byte = omega (arith, some, run.within, length-take n bytes); whole = run.before };
+    first =
+        record { same = refl; some_byte = omega (arith, some, run.within, length-take n bytes); whole = run.before };
     second = is;
   }
 
   meet : (named : List ℕ × List ℕ) (is : IsNamed named bytes) → (take n bytes ≡ is.front) × (drop n bytes ≡ is.back)
   meet named is =
-      runs_meet 32 (take n bytes) is.front (drop n bytes) is.back run.before (subst (Lacks 32) (sym is.first.same) is.first.whole) run.stops (behind_stops named.1 is.back is.second)
+      runs_meet 32 (take n bytes) is.front (drop n bytes) is.back run.before
+      (subst (Lacks 32) (sym is.first.same) is.first.whole) run.stops (behind_stops named.1 is.back is.second)
       (sym split ∙ is.whole)
 
-  from : (named : List ℕ × List ℕ) → IsNamed named bytes → (text : List ℕ) × (named ≡ (take n bytes, text)) × Behind text (drop n bytes)
+  from : (named : List ℕ × List ℕ) → IsNamed named bytes
+      → (text : List ℕ) × (named ≡ (take n bytes, text)) × Behind text (drop n bytes)
   from named is =
       let same = meet named is in
       (named.1, (λ i. (sym (same.0 ∙ is.first.same) i, named.1)), subst (Behind named.1) (sym same.1) is.second)
 
-  pub reads_named : 0 < n → (found : Option (List ℕ)) → Reads Behind (drop n bytes) found → Reads IsNamed bytes (option_map (λ (text : List ℕ). (take n bytes, text)) found)
-  reads_named some found is = reads_as Behind IsNamed (λ text. (take n bytes, text)) (drop n bytes) bytes (into some) from found is
+  pub reads_named : 0 < n → (found : Option (List ℕ)) → Reads Behind (drop n bytes) found
+      → Reads IsNamed bytes (option_map (λ (text : List ℕ). (take n bytes, text)) found)
+  reads_named some found is =
+      reads_as Behind IsNamed (λ text. (take n bytes, text)) (drop n bytes) bytes (into some) from found is
 
   pub reads_unnamed : n ≡ 0 → Reads IsNamed bytes None
   reads_unnamed none = λ named is.
       let same = meet named is in
       absurd (omega (arith, none, length-take n bytes, ap length same.0, ap length is.first.same, is.first.some_byte))
 
-pub named_attr : (bytes : List ℕ) (found : Option (List ℕ × List ℕ)) → Reads IsNamed bytes found → Reads is_attr bytes (option_map (λ n. Attr n.0 n.1) found)
+pub named_attr : (bytes : List ℕ) (found : Option (List ℕ × List ℕ)) → Reads IsNamed bytes found
+    → Reads is_attr bytes (option_map (λ n. Attr n.0 n.1) found)
 named_attr bytes found is = reads_as IsNamed is_attr (λ n. Attr n.0 n.1) bytes bytes (λ n h. h) back found is where
   back : (act : Act) → is_attr act bytes → (n : List ℕ × List ℕ) × (act ≡ Attr n.0 n.1) × IsNamed n bytes
   back (Send l id) h = absurd h
@@ -254,7 +278,8 @@ named_attr bytes found is = reads_as IsNamed is_attr (λ n. Attr n.0 n.1) bytes 
   back (Out text) h = absurd h
   back Print h = absurd h
 
-pub named_prop : (bytes : List ℕ) (found : Option (List ℕ × List ℕ)) → Reads IsNamed bytes found → Reads is_prop bytes (option_map (λ n. Prop n.0 n.1) found)
+pub named_prop : (bytes : List ℕ) (found : Option (List ℕ × List ℕ)) → Reads IsNamed bytes found
+    → Reads is_prop bytes (option_map (λ n. Prop n.0 n.1) found)
 named_prop bytes found is = reads_as IsNamed is_prop (λ n. Prop n.0 n.1) bytes bytes (λ n h. h) back found is where
   back : (act : Act) → is_prop act bytes → (n : List ℕ × List ℕ) × (act ≡ Prop n.0 n.1) × IsNamed n bytes
   back (Send l id) h = absurd h
@@ -266,7 +291,8 @@ named_prop bytes found is = reads_as IsNamed is_prop (λ n. Prop n.0 n.1) bytes 
 
 -- ---- a number
 
-pub reads_number : (bytes : List ℕ) (found : Option ℕ) → found ≡ decimal_in most_16 bytes → Reads is_code bytes (option_map Code found)
+pub reads_number : (bytes : List ℕ) (found : Option ℕ) → found ≡ decimal_in most_16 bytes
+    → Reads is_code bytes (option_map Code found)
 reads_number bytes None same = no where
   no : (act : Act) → is_code act bytes → ⊥
   no (Send l id) is = absurd is
@@ -287,14 +313,16 @@ reads_number bytes (Some n) same = (sym same, alone) where
 -- ---- a command
 
 pub run_no_nul : (line : List ℕ) (n : ℕ) → IsRun 0 line n → n ≡ length line → has_no_nul line ≡ true
-run_no_nul line n run all = subst (λ (l : List ℕ). has_no_nul l ≡ true) (take_all n line (omega (arith, all))) run.before
+run_no_nul line n run all =
+    subst (λ (l : List ℕ). has_no_nul l ≡ true) (take_all n line (omega (arith, all))) run.before
 
 pub run_all : (line : List ℕ) (n : ℕ) → IsRun 0 line n → has_no_nul line ≡ true → n ≡ length line
 run_all line n run none = stop run.stops where
   stop : (drop n line ≡ []) ⊎ ((rest : List ℕ) × (drop n line ≡ 0 ∷ rest)) → n ≡ length line
   stop (inl end) = omega (arith, run.within, ap length end, length-drop n line)
   stop (inr (rest, is)) =
-      absurd (no_nul-at (take n line) rest (subst (λ (l : List ℕ). has_no_nul l ≡ true) (sym (take-append-drop n line) ∙ ap (λ l. take n line ++ l) is) none))
+      absurd (no_nul-at (take n line) rest (subst (λ (l : List ℕ). has_no_nul l ≡ true)
+      (sym (take-append-drop n line) ∙ ap (λ l. take n line ++ l) is) none))
 
 module _ (line : List ℕ) where
   no_send : ((l id : List ℕ) → Command l id line → ⊥) → Reads is_send line None
@@ -315,23 +343,27 @@ module _ (line : List ℕ) where
 
   module _ (parts : Line) (only : (other : Line) → spelt line other → other ≡ parts) where
     asked : (l id : List ℕ) → Command l id line → given letter.i parts.options ≡ Some id
-    asked l id is = ap (λ (p : Line). given letter.i p.options) (sym (only is.parts (subst (λ (b : List ℕ). spelt b is.parts) (sym is.same) is.is_spelt))) ∙ is.asks
+    asked l id is =
+        ap (λ (p : Line). given letter.i p.options) (sym (only is.parts
+        (subst (λ (b : List ℕ). spelt b is.parts) (sym is.same) is.is_spelt))) ∙ is.asks
 
     pub no_id : given letter.i parts.options ≡ None → Reads is_send line None
     no_id none = no_send (λ l id is. let both : None ≡ Some id = sym none ∙ asked l id is in cc)
 
-    pub reads_command : (id : List ℕ) → IsCommand line → spelt line parts → given letter.i parts.options ≡ Some id → Reads is_send line (Some (Send line id))
-    reads_command id is spells asks = (record { same = refl; is_command = is; parts = parts; is_spelt = spells; asks = asks }, alone) where
-      alone : (act : Act) → is_send act line → act ≡ Send line id
-      alone (Send l other) h =
-          let both : Some id ≡ Some other = sym asks ∙ asked l other h in
-          let one : other ≡ id = cc in
-          λ i. Send (sym h.same i) (one i)
-      alone (Attr name text) h = absurd h
-      alone (Code n) h = absurd h
-      alone (Prop name text) h = absurd h
-      alone (Out text) h = absurd h
-      alone Print h = absurd h
+    pub reads_command : (id : List ℕ) → IsCommand line → spelt line parts → given letter.i parts.options ≡ Some id
+        → Reads is_send line (Some (Send line id))
+    reads_command id is spells asks =
+        (record { same = refl; is_command = is; parts = parts; is_spelt = spells; asks = asks }, alone) where
+          alone : (act : Act) → is_send act line → act ≡ Send line id
+          alone (Send l other) h =
+              let both : Some id ≡ Some other = sym asks ∙ asked l other h in
+              let one : other ≡ id = cc in
+              λ i. Send (sym h.same i) (one i)
+          alone (Attr name text) h = absurd h
+          alone (Code n) h = absurd h
+          alone (Prop name text) h = absurd h
+          alone (Out text) h = absurd h
+          alone Print h = absurd h
 
 -- ---- answers
 
@@ -352,7 +384,8 @@ asks_idle (Prop name text) line is = let b = begun (codes "prop ") _ _ is in beg
 asks_idle (Out text) line is = let b = begun (codes "out") _ _ is in begins_idle 111 _ line refl b.1
 asks_idle Print line is = begins_idle 112 _ line refl is
 
-pub idle_alone : (number : ℕ) (line : List ℕ) → is_idle line ≡ true → (other : List Instruction) → Says number line other → other ≡ []
+pub idle_alone : (number : ℕ) (line : List ℕ) → is_idle line ≡ true → (other : List Instruction)
+    → Says number line other → other ≡ []
 idle_alone number line idle [] says = refl
 idle_alone number line idle (one ∷ []) says = absurd (asks_idle one.act line says.1 idle)
 idle_alone number line idle (one ∷ more ∷ others) says = absurd says

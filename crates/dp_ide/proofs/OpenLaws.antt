@@ -21,11 +21,13 @@ use Rattle.dp_ide.proofs.EndLaws.{one_message_of}
 
 -- ---- the init
 
-module _ (old new : Received) (source : Change) (last : Message) (none : old.held ≡ []) (first : old.dropped ≡ 0) (t : TakesNext old new source last) where
+module _ (old new : Received) (source : Change) (last : Message) (none : old.held ≡ []) (first : old.dropped ≡ 0)
+    (t : TakesNext old new source last) where
   whole : t.piece ≡ (packet_frame t.text ++ []) ++ new.held
   whole = ap (λ (l : List ℕ). l ++ t.piece) (sym none) ∙ t.takes.whole
 
-  stood : (heard : Kept) → is_init last.packet ≡ true → heard.last ≡ last → heard.output.items ≡ [] → Stood t.piece [] new heard []
+  stood : (heard : Kept) → is_init last.packet ≡ true → heard.last ≡ last → heard.output.items ≡ []
+      → Stood t.piece [] new heard []
   stood heard is same empty = record {
     texts = t.text ∷ [];
     each = t.takes.each;
@@ -42,16 +44,20 @@ module _ (old new : Received) (source : Change) (last : Message) (none : old.hel
     };
   }
 
-  pub opened : (r : Result Kept IdeError) → IsOk r ↔ IsTrue (is_init last.packet) → IfOk r (λ heard. (heard.last ≡ last) × (heard.output.items ≡ []))
+  pub opened : (r : Result Kept IdeError) → IsOk r ↔ IsTrue (is_init last.packet)
+      → IfOk r (λ heard. (heard.last ≡ last) × (heard.output.items ≡ []))
       → IfOk r (λ heard. (read : List ℕ) × Consumes source.told_before source.told read × Stood read [] new heard [])
   opened (Ok heard) is h = (t.piece, t.consumed, stood heard (is.0 refl) h.0 h.1)
   opened (Err why) is h = tt
 
-  not_init : (r : Result Kept IdeError) (why : IdeError) → r ≡ Err why → IsOk r ↔ IsTrue (is_init last.packet) → (b : Bool) → is_init last.packet ≡ b → b ≡ false
+  not_init : (r : Result Kept IdeError) (why : IdeError) → r ≡ Err why → IsOk r ↔ IsTrue (is_init last.packet)
+      → (b : Bool) → is_init last.packet ≡ b → b ≡ false
   not_init r why same is false e = refl
-  not_init r why same is true e = let ok : IsOk r = is.1 e in absurd (false≢true (subst (λ (x : Result Kept IdeError). IsOk x) same ok))
+  not_init r why same is true e =
+      let ok : IsOk r = is.1 e in absurd (false≢true (subst (λ (x : Result Kept IdeError). IsOk x) same ok))
 
-  pub unopened : (r : Result Kept IdeError) → IsOk r ↔ IsTrue (is_init last.packet) → IfErr r (λ why. why ≡ BadPacket 0) → IfErr r (λ why. OpenFails why source)
+  pub unopened : (r : Result Kept IdeError) → IsOk r ↔ IsTrue (is_init last.packet) → IfErr r (λ why. why ≡ BadPacket 0)
+      → IfErr r (λ why. OpenFails why source)
   unopened (Ok heard) is h = tt
   unopened (Err why) is h = record {
     read = t.piece;
@@ -59,26 +65,36 @@ module _ (old new : Received) (source : Change) (last : Message) (none : old.hel
     lacks = inr (
       t.text,
       new.held,
-      record { is_text = t.takes.each.0; whole = whole ∙ ap (λ (l : List ℕ). l ++ new.held) (append-nil (packet_frame t.text)) },
+      record {
+        is_text = t.takes.each.0;
+        whole = whole ∙ ap (λ (l : List ℕ). l ++ new.held)
+            (append-nil (packet_frame t.text));
+      },
       h,
       λ message there. ap (λ (m : Message). is_init m.packet) (one_message_of t.text message last there t.is)
           ∙ not_init (Err why) why refl is (is_init last.packet) refl,
     );
   }
 
-pub unread : (why : IdeError) (old : Received) (source : Change) → old.held ≡ [] → old.dropped ≡ 0 → NextFails why old source → OpenFails why source
+pub unread : (why : IdeError) (old : Received) (source : Change) → old.held ≡ [] → old.dropped ≡ 0
+    → NextFails why old source → OpenFails why source
 unread why old source none first f = record {
   read = f.piece;
   consumed = f.consumed;
-  lacks = inl (subst (λ (r : Received). LacksNext why r source) (λ i. record { held = none i ++ f.piece; dropped = first i }) f.lacks);
+  lacks =
+      inl (subst (λ (r : Received). LacksNext why r source) (λ i. record
+      { held = none i ++ f.piece; dropped = first i }) f.lacks);
 }
 
 -- ---- the commands of a script
 
 asked : (one : Instruction) (line : List ℕ) → Asks one.act line → IsPlayable one
-asked one line asks = λ command id is. let spelt : Asks (Send command id) line = subst (λ (a : Act). Asks a line) is asks in spelt.second.is_command
+asked one line asks =
+    λ command id is. let spelt : Asks (Send command id) line = subst
+    (λ (a : Act). Asks a line) is asks in spelt.second.is_command
 
-said_playable : (number : ℕ) (line : List ℕ) (said more : List Instruction) → Says number line said → All IsPlayable more → All IsPlayable (said ++ more)
+said_playable : (number : ℕ) (line : List ℕ) (said more : List Instruction) → Says number line said
+    → All IsPlayable more → All IsPlayable (said ++ more)
 said_playable number line [] more says all = all
 said_playable number line (one ∷ []) more says all = there where
   there : All IsPlayable (one ∷ more)
@@ -86,7 +102,9 @@ said_playable number line (one ∷ []) more says all = there where
   there (suc k) d less = all k d (omega (arith, less))
 said_playable number line (one ∷ other ∷ rest) more says all = absurd says
 
-pub playable : (number : ℕ) (lines : List (List ℕ)) (instructions : List Instruction) → AreSaid number lines instructions → All IsPlayable instructions
+pub playable : (number : ℕ) (lines : List (List ℕ)) (instructions : List Instruction)
+    → AreSaid number lines instructions → All IsPlayable instructions
 playable number [] instructions are = λ k d less. absurd (omega (arith, less, ap length are))
 playable number (line ∷ lines) instructions are =
-    subst (All IsPlayable) (sym are.2) (said_playable number line are.0 are.1 are.3 (playable (suc number) lines are.1 are.4))
+    subst (All IsPlayable) (sym are.2) (said_playable number line are.0 are.1 are.3
+    (playable (suc number) lines are.1 are.4))

@@ -16,10 +16,12 @@ use Rattle.dp_wire.proofs.PacketLaws.{decimal-no_nul, same_length}
 -- what begins no packet begins nothing to which more may come
 front_partial : (front back : List ℕ) → IsPartialPacket (front ++ back) → BeginsNoPacket front → ⊥
 front_partial front back partial none =
-    none partial.text [] (back ++ partial.more) partial.is_text (sym (append_assoc front back partial.more) ∙ partial.whole ∙ sym (append-nil (packet_frame partial.text)))
+    none partial.text [] (back ++ partial.more) partial.is_text
+    (sym (append_assoc front back partial.more) ∙ partial.whole ∙ sym (append-nil (packet_frame partial.text)))
 
 -- so many bytes, where the first of them are these
-front_and : (front back : List ℕ) (n : ℕ) → length front ≤ n → take n (front ++ back) ≡ front ++ take (n - length front) back
+front_and : (front back : List ℕ) (n : ℕ) → length front ≤ n
+    → take n (front ++ back) ≡ front ++ take (n - length front) back
 front_and front back n some =
     let same : n ≡ length front + (n - length front) = omega (arith, some) in
     ap (λ (m : ℕ). take m (front ++ back)) same ∙ take-append-add front back (n - length front)
@@ -31,8 +33,10 @@ not_before bytes i j one other less =
     let front = take (i + 1) bytes in
     let long : length front ≡ i + 1 = length-take-le (i + 1) bytes (omega (arith, one.there)) in
     let parts : take j bytes ≡ front ++ take (j - length front) (drop (i + 1) bytes) =
-    ap (take j) (sym (take-append-drop (i + 1) bytes)) ∙ front_and front (drop (i + 1) bytes) j (omega (arith, long, less)) in
-    front_partial front (take (j - length front) (drop (i + 1) bytes)) (subst IsPartialPacket parts other.before) one.none
+    ap (take j) (sym (take-append-drop (i + 1) bytes)) ∙ front_and front (drop (i + 1) bytes) j
+    (omega (arith, long, less)) in
+    front_partial front (take (j - length front) (drop (i + 1) bytes))
+    (subst IsPartialPacket parts other.before) one.none
 
 one_first : (bytes : List ℕ) (i j : ℕ) → IsFirstBad bytes i → IsFirstBad bytes j → i ≡ j
 one_first bytes i j one other =
@@ -62,15 +66,26 @@ module _ (bytes : List ℕ) (number : ℕ) (passes : PassesLimit bytes number) w
 
   refused : BeginsNoPacket (length_digits front ++ last ∷ [])
   refused = passes_refused (length_digits front ++ last ∷ []) number
-      (record { after = []; whole = sym spelt ∙ sym (append-nil (decimal number)); passes = passes.passes; first = passes.first })
+      (record {
+        after = [];
+        whole = sym spelt ∙ sym (append-nil (decimal number));
+        passes = passes.passes;
+        first =
+            passes.first;
+      })
 
   not_later : (index : ℕ) → IsFirstBad bytes index → length (length_digits front) < index → ⊥
   not_later index bad less =
-      let long : length (length_digits front ++ last ∷ []) ≤ index = omega (arith, length-append (length_digits front) (last ∷ []), less) in
-      let again : bytes ≡ (length_digits front ++ last ∷ []) ++ passes.after = passes.whole ∙ ap (λ l. l ++ passes.after) spelt in
-      let parts : take index bytes ≡ (length_digits front ++ last ∷ []) ++ take (index - length (length_digits front ++ last ∷ [])) passes.after =
+      let long : length (length_digits front ++ last ∷ []) ≤ index = omega
+      (arith, length-append (length_digits front) (last ∷ []), less) in
+      let again : bytes ≡ (length_digits front ++ last ∷ [])
+      ++ passes.after = passes.whole ∙ ap (λ l. l ++ passes.after) spelt in
+      let parts : take index bytes ≡ (length_digits front ++ last ∷ [])
+      ++ take (index - length (length_digits front ++ last ∷ [])) passes.after =
       ap (take index) again ∙ front_and (length_digits front ++ last ∷ []) passes.after index long in
-      front_partial (length_digits front ++ last ∷ []) (take (index - length (length_digits front ++ last ∷ [])) passes.after) (subst IsPartialPacket parts bad.before) refused
+      front_partial (length_digits front ++ last
+      ∷ []) (take (index - length (length_digits front ++ last ∷ [])) passes.after)
+      (subst IsPartialPacket parts bad.before) refused
 
   not_sooner : (index : ℕ) → IsFirstBad bytes index → index < length (length_digits front) → ⊥
   not_sooner index bad less =
@@ -78,7 +93,8 @@ module _ (bytes : List ℕ) (number : ℕ) (passes : PassesLimit bytes number) w
       let same : take (index + 1) bytes ≡ take (index + 1) digits =
       ap (take (index + 1)) whole ∙ take-append-le (index + 1) digits (last ∷ passes.after) (omega (arith, less)) in
       front_partial (take (index + 1) digits) (drop (index + 1) digits)
-      (subst IsPartialPacket (sym (take-append-drop (index + 1) digits)) (unfinished_partial front is_front.0)) (subst BeginsNoPacket same bad.none)
+      (subst IsPartialPacket (sym (take-append-drop (index + 1) digits)) (unfinished_partial front is_front.0))
+      (subst BeginsNoPacket same bad.none)
 
   at_last : (index : ℕ) → IsFirstBad bytes index → index ≡ length (length_digits front)
   at_last index bad =
@@ -89,7 +105,12 @@ module _ (bytes : List ℕ) (number : ℕ) (passes : PassesLimit bytes number) w
   some_digit : length_digits front ≢ []
   some_digit none =
       let none_there : decimal front ≡ [] = sym (length_digits-some front is_front.1) ∙ none in
-      omega (arith, first_decimal front is_front.1 (omega (arith, is_front.0)), ap (λ (l : List ℕ). get_or l 0 0) none_there)
+      omega (
+        arith,
+        first_decimal front is_front.1 (omega (arith, is_front.0)),
+        ap
+            (λ (l : List ℕ). get_or l 0 0) none_there,
+      )
 
   follows : (n byte : ℕ) → 0 < n → byte ≡ last → MayFollow n byte
   follows n byte some is = by (leb 49 byte) refl where
@@ -105,7 +126,9 @@ module _ (bytes : List ℕ) (number : ℕ) (passes : PassesLimit bytes number) w
     lengths = sym h.place ∙ at_last index bad
 
     same : (length_digits h.number ≡ length_digits front) × (h.byte ≡ last) × (h.after ≡ passes.after)
-    same = same_length (length_digits h.number) (length_digits front) h.byte last h.after passes.after lengths (sym h.whole ∙ whole)
+    same =
+        same_length (length_digits h.number) (length_digits front) h.byte last h.after passes.after lengths
+        (sym h.whole ∙ whole)
 
     by : (n : ℕ) → h.number ≡ n → ⊥
     by zero is = some_digit (sym same.0 ∙ ap length_digits is)
@@ -115,14 +138,16 @@ module _ (bytes : List ℕ) (number : ℕ) (passes : PassesLimit bytes number) w
   no_lacking_nul index h bad =
       let head = decimal (length h.text) ++ 0 ∷ [] ++ h.text in
       let lengths : length head ≡ length (length_digits front) = sym h.place ∙ at_last index bad in
-      let same = same_length head (length_digits front) h.byte last h.after passes.after lengths (sym h.whole ∙ whole) in
+      let same = same_length head (length_digits front) h.byte last h.after passes.after lengths
+      (sym h.whole ∙ whole) in
       let digits : decimal front ≡ decimal (length h.text) ++ 0 ∷ h.text =
       sym (length_digits-some front is_front.1) ∙ sym same.0 ∙ append_assoc (decimal (length h.text)) (0 ∷ []) h.text in
       no_nul-at (decimal (length h.text)) h.text (sym (ap has_no_nul digits) ∙ decimal-no_nul front is_front.0)
 
 -- ---- the place
 
-one_cause : (r : Received) (why other : WireError) → IsCause r why → IsCause r other → refused_at why r.dropped ≡ refused_at other r.dropped
+one_cause : (r : Received) (why other : WireError) → IsCause r why → IsCause r other
+    → refused_at why r.dropped ≡ refused_at other r.dropped
 one_cause r (BadLength o) (BadLength p) a b = a.1.2 ∙ ap (place_of r) (one_first r.held a.0 b.0 a.1.1 b.1.1) ∙ sym b.1.2
 one_cause r (BadLength o) (NoNul p) a b = a.1.2 ∙ ap (place_of r) (one_first r.held a.0 b.0 a.1.1 b.1.1) ∙ sym b.1.2
 one_cause r (BadLength o) (TooLong n) a b = absurd (no_bad_length r.held n b a.0 a.1.0 a.1.1)

@@ -1,5 +1,6 @@
 -- A machine that nothing stops comes to the end of its program.
-use Rattle.std.proofs.Common.{◌≡◌, ℕ, zero, suc, ◌+◌, ◌-◌, ◌≤◌, Bool, true, false, List, [], length, Option, Some, None, Ok, Err, refl, sym, ap, ◌∙◌, subst, arith}
+use Rattle.std.proofs.Common.{◌≡◌, ℕ, zero, suc, ◌+◌, ◌-◌, ◌≤◌, Bool, true, false, List, [], length, arith}
+use Rattle.std.proofs.Common.{Option, Some, None, Ok, Err, refl, sym, ap, ◌∙◌, subst}
 use Rattle.std.proofs.lemmas.Bool.{le-ltb, lt-ltb}
 use Rattle.std.proofs.lemmas.Option.{slice_get_within}
 use Rattle.std.specs.Prelude.{if◌then◌else◌, nat_lt}
@@ -20,7 +21,8 @@ use Rattle.dp_meaning.specs.declared.writing.NumberedWrite.{NumberedWrite}
 use Rattle.dp_meaning.specs.inner.Drive.{Ends, Reached, drive, quiet, stopped}
 use Rattle.dp_meaning.specs.Programs.{program_run}
 use Rattle.dp_meaning.specs.Statements.{statement_run}
-use Rattle.dp_meaning.specs.Trace.{End, Ended, Gave, Trace, moment_of, outcome, outcome_of, program_trace, trace, with_moment}
+use Rattle.dp_meaning.specs.Trace.{End, Ended, Gave, Trace, moment_of, outcome, outcome_of, program_trace}
+use Rattle.dp_meaning.specs.Trace.{trace, with_moment}
 use Rattle.dp_meaning.specs.Writes.{Writes, arrived, written, writes_of}
 use Rattle.dp_meaning.proofs.Drives.{carry, drive-and_then}
 use Rattle.dp_meaning.proofs.Steady.{IsSteady, steady-program}
@@ -71,9 +73,8 @@ pub leaps_put : (m mid new : Machine) (h : Hand) (end : Option Outcome) → mid.
     → mid.hand ≡ h → mid.pending.items ≡ m.pending.items → mid.state ≡ m.state
     → Leaps mid (rest_of mid mid.state) end new → Leaps m (rest_with m h m.state) end new
 leaps_put m mid new h end bundle bound depth in-hand items state leaps =
-    leaps_as m mid new _ _ end (sym (rest-by mid m.bundle.now m.bound m.depth h m.pending.items bundle bound depth
-    in-hand items m.state)
-    ∙ ap (rest_of mid) (sym state)) bound leaps
+    leaps_as m mid new _ _ end (sym (rest-by mid m.bundle.now m.bound m.depth h m.pending.items
+    bundle bound depth in-hand items m.state) ∙ ap (rest_of mid) (sym state)) bound leaps
 
 -- turns, by their head
 pub turns-by : (m : Machine) (loop : Turns) (left : ℕ) (head : Head) → loop.head ≡ head

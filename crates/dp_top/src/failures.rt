@@ -47,19 +47,29 @@ pub enum Failure {
     /// The file is longer than 1,048,576 bytes.
     TooLong,
     /// The file is no program. The number is an offset or that of a token, from 0.
-    Source { reason: Reason, number: u64 },
+    Source {
+        reason: Reason,
+        number: u64,
+    },
     /// The shelf failed.
     ShelfFailed,
     /// The shelf has no file of that name.
     NoFile,
     /// The program could not go on, on this line of the file.
-    Fatal { kind: FatalKind, line: u32 },
+    Fatal {
+        kind: FatalKind,
+        line: u32,
+    },
     /// The program would have had more moments than this.
-    Bound { steps: u64 },
+    Bound {
+        steps: u64,
+    },
     /// An output failed.
     Output,
     /// The script has a line that is none of a script, the first of which has this number; 0 where it is too long.
-    Script { line: u64 },
+    Script {
+        line: u64,
+    },
     /// On this line of the script something else was found than it wants, or nothing.
     Differs {
         line: u64,
@@ -69,7 +79,9 @@ pub enum Failure {
     /// The input ended inside a frame, or a link before a packet that was awaited.
     PeerEnd,
     /// No command and no packet stands at this offset from the first byte read.
-    Packet { offset: u64 },
+    Packet {
+        offset: u64,
+    },
     /// The link failed.
     Network,
     /// A command stopped the program before its end.

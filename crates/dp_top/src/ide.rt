@@ -106,8 +106,12 @@ fn meet<R: Wait + Sync, D: Gate, O: Sink>(
     requires returned { D.returned door.old ≡ 0 }
     requires accepted { BeginsEmpty (D.accepted door.old) }
     requires retired { BeginsEmpty (D.retired door.old) }
-    ensures met { MetSo result script.now (record { accepted = D.accepted door.new; retired = D.retired door.new;
-        faults = D.faults door.new; returned = D.returned door.new }) (change O.taken O.faults out.old out.new) }
+    ensures met { MetSo result script.now (record {
+      accepted = D.accepted door.new;
+      retired = D.retired door.new;
+      faults = D.faults door.new;
+      returned = D.returned door.new;
+    }) (change O.taken O.faults out.old out.new) }
     ensures port { D.port door.new ≡ D.port door.old }
     ensures out_later { O.faults out.old ≤ O.faults out.new }
 {

@@ -12,5 +12,5 @@ returns-clause-of g c = λ bundle bound writes n stands some.
     (c.in_ok-outcome.ensures.end bundle bound writes n stands).1
 
 pub returns-clause-counted : goal.returns-clause-counted
-returns-clause-counted g c =
-    λ bundle bound writes n stands. c.in_ok-outcome.ensures.counted bundle bound writes n stands
+returns-clause-counted g c = λ bundle bound writes n stands.
+    c.in_ok-outcome.ensures.counted bundle bound writes n stands

@@ -26,6 +26,7 @@ returns-in_ok-from_slice-in-Some c =
     let text = c.in-Some.text in
     let some : 0 < n = search rules in
     let read = rw c.in-Some.is at c.in_ok-text_behind.ensures in
-    let is : Reads Behind (drop n bytes) (Some text) = subst (λ (l : List ℕ). Reads Behind l (Some text)) (rest_is n bytes) read in
+    let is : Reads Behind (drop n bytes) (Some text) = subst (λ (l : List ℕ). Reads Behind l (Some text))
+    (rest_is n bytes) read in
     subst (λ (name : List ℕ). Reads IsNamed bytes (Some (name, text))) (sym c.in_ok-from_slice-in-Some.ensures)
     (reads_named bytes n c.run_before-end.ensures some (Some text) is)

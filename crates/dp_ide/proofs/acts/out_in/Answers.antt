@@ -13,7 +13,8 @@ pub returns-in_default : goal.returns-in_default
 returns-in_default c =
     let line = c.args.line.now in
     let print : line ≢ codes "print" = λ same.
-    let equal : c.eq.result ≡ true = (slice_eq-Decides Decides-eqb line c.as_slice.result.now c.eq.result c.eq.ensures).1 (same ∙ sym c.as_slice.ensures) in cc in
+    let equal : c.eq.result ≡ true = (slice_eq-Decides Decides-eqb line c.as_slice.result.now c.eq.result
+    c.eq.ensures).1 (same ∙ sym c.as_slice.ensures) in cc in
     let out : (rest : List ℕ) → line ≢ codes "out" ++ rest = c.in_default.ensures in
     reads_neither line print out
 

@@ -23,6 +23,8 @@ returns c =
     let line = c.args.line.now in
     let id : given letter.i c.in-Ok.parts.options ≡ Some c.in-Some.id.now = search rules in
     let is : IsCommand line = search rules in
-    let read = reads_command line c.in-Ok.parts (λ other is. sym (c.in-Ok.ensures.only other is)) c.in-Some.id.now is c.in-Ok.ensures.found id in
-    subst (λ (l : List ℕ). Reads is_send line (Some (Send l c.in_ok-from_slice-in-Some-2.field-0))) (sym c.in_ok-from_slice-in-Some.ensures)
+    let read = reads_command line c.in-Ok.parts (λ other is. sym (c.in-Ok.ensures.only other is)) c.in-Some.id.now is
+    c.in-Ok.ensures.found id in
+    subst (λ (l : List ℕ). Reads is_send line (Some (Send l c.in_ok-from_slice-in-Some-2.field-0)))
+    (sym c.in_ok-from_slice-in-Some.ensures)
     (subst (λ (i : List ℕ). Reads is_send line (Some (Send line i))) (sym c.in_ok-from_slice-in-Some-2.ensures) read)

@@ -3,10 +3,12 @@ use Rattle.dp_reply.specs.Readings.{packet_in}
 use Rattle.dp_ide.proofs.awaiting.message_of.Goals as goal
 
 pub returns-in-Err-BadMarkup : goal.returns-in-Err-BadMarkup
-returns-in-Err-BadMarkup c = record { some = tt; none = λ message is. let same = c.in-Err-BadMarkup.ensures.only message.root is.markup in cc }
+returns-in-Err-BadMarkup c =
+    record { some = tt; none = λ message is. let same = c.in-Err-BadMarkup.ensures.only message.root is.markup in cc }
 
 pub returns-in-Err-TooDeep : goal.returns-in-Err-TooDeep
-returns-in-Err-TooDeep c = record { some = tt; none = λ message is. let same = c.in-Err-TooDeep.ensures.only message.root is.markup in cc }
+returns-in-Err-TooDeep c =
+    record { some = tt; none = λ message is. let same = c.in-Err-TooDeep.ensures.only message.root is.markup in cc }
 
 pub returns-in-Err-NotDbgp-clause-none : goal.returns-in-Err-NotDbgp-clause-none
 returns-in-Err-NotDbgp-clause-none c = λ message is.

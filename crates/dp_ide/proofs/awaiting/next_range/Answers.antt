@@ -10,14 +10,17 @@ returns-in-Err-clause-err g c =
     let here = c.pieces.invariant.1 in record {
       piece = here.0;
       consumed = here.1;
-      lacks = inr (refused_next c.args.packets.now c.pieces.packets here.0 c.in-Err.why c.place.result here.2 (c.next.ensures.refused.0 (search rules)) c.in-Err.ensures.cause
+      lacks =
+          inr (refused_next c.args.packets.now c.pieces.packets here.0 c.in-Err.why c.place.result here.2
+          (c.next.ensures.refused.0 (search rules)) c.in-Err.ensures.cause
           (c.place.ensures ∙ ap (refused_at c.in-Err.why) c.dropped.ensures));
     }
 
 pub returns-in-Err-read_piece-clause-err : goal.returns-in-Err-read_piece-clause-err
 returns-in-Err-read_piece-clause-err g c =
     let here = c.pieces.invariant.1 in
-    let partial : IsPartialPacket c.pieces.packets.held = c.next.ensures.partial.0 (c.in-Ok-None.is ∙ ap Ok c.in-Ok-None.field-0-is) in
+    let partial : IsPartialPacket c.pieces.packets.held = c.next.ensures.partial.0
+    (c.in-Ok-None.is ∙ ap Ok c.in-Ok-None.field-0-is) in
     piece_failed c.in-Err-read_piece.why c.args.packets.now c.pieces.packets here.0
     (change g.S.Source.left g.S.Source.faults c.pieces.source c.read_piece.new.source)
     (change g.S.Source.left g.S.Source.faults c.args.source.now c.read_piece.new.source)

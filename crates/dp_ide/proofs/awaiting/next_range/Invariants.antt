@@ -6,4 +6,5 @@ use Rattle.dp_ide.proofs.awaiting.next_range.Given as goal
 abbrev pub invariant-pieces : goal.invariant-pieces
 invariant-pieces g l =
     (g.S.Source.faults l.fn.source ≤ g.S.Source.faults l.source)
-    × ((piece : List ℕ) × Consumes (g.S.Source.left l.fn.source) (g.S.Source.left l.source) piece × HoldsMore l.fn.packets l.packets piece)
+    × ((piece : List ℕ) × Consumes (g.S.Source.left l.fn.source) (g.S.Source.left l.source) piece
+    × HoldsMore l.fn.packets l.packets piece)

@@ -7,10 +7,12 @@ pub returns-then-end-bytes-clause-lines : goal.returns-then-end-bytes-clause-lin
 returns-then-end-bytes-clause-lines c =
     let n = c.run_before-end.result in
     let bytes = c.args.bytes.now in
-    split_ended bytes n c.run_before-end.ensures (search rules) ∙ ap (λ l. take n bytes ∷ lines_of l) (sym (rest_is (n + 1) bytes))
+    split_ended bytes n c.run_before-end.ensures (search rules) ∙ ap (λ l. take n bytes ∷ lines_of l)
+    (sym (rest_is (n + 1) bytes))
 
 pub returns-else-end-bytes-clause-lines : goal.returns-else-end-bytes-clause-lines
 returns-else-end-bytes-clause-lines c =
     let n = c.run_before-end.result in
     let bytes = c.args.bytes.now in
-    split_last bytes n c.run_before-end.ensures (search rules) c.requires ∙ ap (λ l. bytes ∷ lines_of l) (sym (rest_is n bytes))
+    split_last bytes n c.run_before-end.ensures (search rules) c.requires ∙ ap (λ l. bytes ∷ lines_of l)
+    (sym (rest_is n bytes))

@@ -5,6 +5,8 @@ use Rattle.dp_ide.proofs.playing.perform_each.Given as goal
 
 abbrev pub invariant-loop-one : goal.invariant-loop-one
 invariant-loop-one g l =
-    (g.S.Source.faults l.fn.source ≤ g.S.Source.faults l.source) × (g.K.Sink.faults l.fn.sink ≤ g.K.Sink.faults l.sink) × (g.O.Sink.faults l.fn.out ≤ g.O.Sink.faults l.out)
-    × Performs (take l.one-index l.script) l.fn.packets l.packets l.fn.heard l.heard (change g.S.Source.left g.S.Source.faults l.fn.source l.source)
+    (g.S.Source.faults l.fn.source ≤ g.S.Source.faults l.source) × (g.K.Sink.faults l.fn.sink ≤ g.K.Sink.faults l.sink)
+    × (g.O.Sink.faults l.fn.out ≤ g.O.Sink.faults l.out)
+    × Performs (take l.one-index l.script) l.fn.packets l.packets l.fn.heard l.heard
+    (change g.S.Source.left g.S.Source.faults l.fn.source l.source)
     (change g.K.Sink.taken g.K.Sink.faults l.fn.sink l.sink) (change g.O.Sink.taken g.O.Sink.faults l.fn.out l.out)

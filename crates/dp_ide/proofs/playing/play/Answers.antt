@@ -21,9 +21,12 @@ returns-in-Ok-clause-ends g c =
     let out = change g.O.Sink.taken g.O.Sink.faults c.args.out.now c.perform_each-end.new.out in
     let opened = c.in-Ok.ensures.ok in
     subst (λ (l : List Instruction). Ends l c.perform_each-end.result source sink out) c.instructions.ensures.same
-    (c.perform_each-end.ensures.ends opened.0 (g.S.Source.left c.args.source.now) (g.S.Source.faults c.args.source.now) opened.2 opened.1 c.open.ensures.later)
+    (c.perform_each-end.ensures.ends opened.0 (g.S.Source.left c.args.source.now)
+    (g.S.Source.faults c.args.source.now) opened.2 opened.1 c.open.ensures.later)
 
 pub returns-clause-ends : goal.returns-clause-ends
 returns-clause-ends g c =
-    ends_unopened c.args.script.now c.in-Err.why (change g.S.Source.left g.S.Source.faults c.args.source.now c.open.new.source)
-    (change g.K.Sink.taken g.K.Sink.faults c.args.sink.now c.args.sink.now) (change g.O.Sink.taken g.O.Sink.faults c.args.out.now c.args.out.now) c.in-Err.ensures.err refl refl
+    ends_unopened c.args.script.now c.in-Err.why (change g.S.Source.left g.S.Source.faults c.args.source.now
+    c.open.new.source)
+    (change g.K.Sink.taken g.K.Sink.faults c.args.sink.now c.args.sink.now)
+    (change g.O.Sink.taken g.O.Sink.faults c.args.out.now c.args.out.now) c.in-Err.ensures.err refl refl

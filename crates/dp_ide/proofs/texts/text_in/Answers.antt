@@ -10,7 +10,8 @@ pub returns-in_default : goal.returns-in_default
 returns-in_default c =
     let rest = c.bytes.rest.now in
     let first : first_of rest ≡ None = search rules in
-    let some : rest ≢ [] = λ none. let empty : c.is_empty.result ≡ true = c.is_empty.ensures ∙ ap (λ (l : List ℕ). eqb (length l) 0) none in cc in
+    let some : rest ≢ [] = λ none. let empty : c.is_empty.result ≡ true = c.is_empty.ensures ∙ ap
+    (λ (l : List ℕ). eqb (length l) 0) none in cc in
     reads_none c.args.bytes.now c.bytes.text.items rest some first c.bytes.invariant
 
 pub bytes-preserved : goal.bytes-preserved

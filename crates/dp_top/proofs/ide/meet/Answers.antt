@@ -26,7 +26,10 @@ returns-in-Ok-clause-met g c =
       faults = g.D.Gate.faults c.retire.new.self;
       returned = g.D.Gate.returned c.retire.new.self;
     } in
-    called c.play-end.result c.args.script.now given back (g.D.In.Source.faults c.in-Ok.source) (g.D.In.Source.faults c.play-end.new.source) (g.D.Out.Sink.faults c.in-Ok.sink)
-    (g.D.Out.Sink.faults c.play-end.new.sink) old over new (change g.O.Sink.taken g.O.Sink.faults c.args.out.now c.play-end.new.out)
-    c.in-Ok.ensures.source c.in-Ok.ensures.sink c.requires.accepted c.requires.retired c.in-Ok.ensures.accepted c.accept.ensures.retired c.retire.ensures.accepted
+    called c.play-end.result c.args.script.now given back (g.D.In.Source.faults c.in-Ok.source)
+    (g.D.In.Source.faults c.play-end.new.source) (g.D.Out.Sink.faults c.in-Ok.sink)
+    (g.D.Out.Sink.faults c.play-end.new.sink) old over new (change g.O.Sink.taken g.O.Sink.faults c.args.out.now
+    c.play-end.new.out)
+    c.in-Ok.ensures.source c.in-Ok.ensures.sink c.requires.accepted c.requires.retired c.in-Ok.ensures.accepted
+    c.accept.ensures.retired c.retire.ensures.accepted
     c.retire.ensures.retired c.retire.ensures.returned c.play-end.ensures.ends

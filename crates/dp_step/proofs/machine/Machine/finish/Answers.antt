@@ -18,5 +18,4 @@ loop-preserved c =
 pub returns-in-Some : goal.returns-in-Some
 returns-in-Some c =
     leap-out c.args.self.now c.loop.self c.leap.new.self (rest_of c.args.self.now c.args.self.now.state)
-    c.loop.invariant.same
-    c.loop.invariant.same_bound c.in-Some.outcome (rw c.in-Some.is at c.in_ok-leap.ensures)
+    c.loop.invariant.same c.loop.invariant.same_bound c.in-Some.outcome (rw c.in-Some.is at c.in_ok-leap.ensures)

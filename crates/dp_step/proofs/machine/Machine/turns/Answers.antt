@@ -16,7 +16,8 @@ returns-in-While c =
     (evaluations [] setting)
     (statement_run loop.body.now setting) s) m.state
     (record {
-      by = rw (c.whole.ensures, c.from_ref-tests.ensures.value, c.as_ref-body.ensures) at c.turns-done.ensures;
+      by = rw (c.whole.ensures, c.from_ref-tests.ensures.value, c.as_ref-body.ensures)
+          at c.turns-done.ensures;
     }))
 
 pub returns-in-For : goal.returns-in-For
