@@ -3,3 +3,4 @@ pub mod TalkLaws
 pub mod TaskLaws
 pub mod EngineLaws
 pub mod IdeLaws
+pub mod ReplayLaws

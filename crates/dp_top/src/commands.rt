@@ -11,6 +11,7 @@ use crate::engine::engine;
 use crate::failures::{Failure, Refused};
 use crate::ide::ide;
 use crate::objects::Objects;
+use crate::replay::replay;
 use crate::run::run;
 use crate::talk::talk;
 use dp_outside::{Net, Shelf, Sink, Source};
@@ -57,6 +58,7 @@ pub(crate) fn carry_out<'a, R: Wait + Sync, H: Shelf, S: Source, K: Sink, E: Sin
         Command::Talk(request) => talk(alloc, request, objects),
         Command::Engine(request) => engine(alloc, request, objects),
         Command::Ide(request) => ide(rt, alloc, request, objects),
+        Command::Replay(request) => replay(alloc, request, objects.shelf, objects.out),
         Command::Show => match show(alloc, objects.input, objects.out) {
             Ok(()) => Ok(0),
             Err(why) => Err(Refused::unnamed(failure_of(why))),

@@ -1,0 +1,29 @@
+use Rattle.std.proofs.Common.{inl, inr, refl}
+use Rattle.dp_outside.specs.Changes.{change}
+use Rattle.dp_words.specs.Commands.{ask_told}
+use Rattle.dp_top.proofs.ReplayLaws.{bad_list, held_list, over_ends, unlisted_fails, unmade_fails}
+use Rattle.dp_top.proofs.replay.replay_fetched.Goals as goal
+
+pub returns-in-Err-clause-ends : goal.returns-in-Err-clause-ends
+returns-in-Err-clause-ends g c = λ files before after fetched are.
+    let why = c.in-Err.why in
+    let name = c.args.request.events.now in
+    let out = change g.K.Sink.taken g.K.Sink.faults c.args.out.now c.args.out.now in
+    unlisted_fails why.failure why.name.now name (ask_told c.args.request.program) files before after out
+    (bad_list why.failure why.name.now name c.args.content.now files before after fetched c.in-Err.ensures.bad) (refl, refl)
+
+pub returns-in-Ok-make_program-clause-ends : goal.returns-in-Ok-make_program-clause-ends
+returns-in-Ok-make_program-clause-ends g c = λ files before after fetched are.
+    let name = c.args.request.events.now in
+    let out = change g.K.Sink.taken g.K.Sink.faults c.args.out.now c.replay_over.new.out in
+    over_ends files before after name (ask_told c.args.request.program) out c.in-Ok.events
+    (held_list files name c.args.content.now c.in-Ok.events fetched c.in-Ok.ensures.list) c.args.fetched are
+    c.replay_over.result c.in-Ok-make_program.bundle c.in-Ok-make_program.ensures.ok c.replay_over.ensures.ends
+
+pub returns-clause-ends : goal.returns-clause-ends
+returns-clause-ends g c = λ files before after fetched are.
+    let name = c.args.request.events.now in
+    let out = change g.K.Sink.taken g.K.Sink.faults c.args.out.now c.args.out.now in
+    unmade_fails files before after name (ask_told c.args.request.program) out c.in-Ok.events
+    (held_list files name c.args.content.now c.in-Ok.events fetched c.in-Ok.ensures.list) c.args.fetched are
+    c.in-Err-make_program.why c.told_of_files.result.failure c.told_of_files.result.name.now c.in-Err-make_program.ensures.err c.told_of_files.ensures (refl, refl)
