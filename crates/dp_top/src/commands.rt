@@ -2,7 +2,7 @@
 ghost use Rattle.std.specs.Prelude.{◌≡◌, ◌≤◌, ℕ, List, Some, IfOk, MatchResult};
 ghost use Rattle.dp_words.specs.CommandLine.{Ask, Task, Asks, ask_in};
 ghost use Rattle.dp_words.specs.Commands.{task_of};
-ghost use Rattle.dp_top.specs.inner.Held.{AreHeld};
+ghost use Rattle.dp_top.specs.inner.Held.{AreHeld, AreHeldWith};
 ghost use Rattle.dp_top.specs.inner.Kept.{Continues, GoesOn};
 ghost use Rattle.dp_top.specs.Seen.{seen};
 ghost use Rattle.dp_top.specs.Tasks.{failure_of, Does, Caused, IsFetchedFor};
@@ -49,6 +49,9 @@ pub(crate) fn carry_out<'a, R: Wait + Sync, H: Shelf, S: Source, K: Sink, E: Sin
     ensures status { IfOk result (λ status. status ≤ 199) }
     // Files that make a program are no bad source, and those that make none are one, unless the shelf failed.
     ensures held { (ask : Ask) → ask_in (task_of command.entry) ≡ Some ask → AreHeld ask result objects.old.seen objects.new.seen }
+    // Likewise of a list of events, where it is one.
+    ensures replay_held { (events : List ℕ) (ask : Ask) → task_of command.entry ≡ Task.replay events ask
+        → AreHeldWith events ask result objects.old.seen objects.new.seen }
     ensures show_shelf { task_of command.entry ≡ Task.show → objects.new.seen.shelf.faults ≡ objects.old.seen.shelf.faults }
     ensures fetched { IsFetchedFor (task_of command.entry) objects.old.seen.shelf.fetched objects.new.seen.shelf.fetched }
     ensures goes_on { GoesOn objects.old objects.new }
@@ -89,6 +92,10 @@ pub fn carry_out_on<'a, R: Wait + Sync, H: Shelf, S: Source, K: Sink, E: Sink, N
     // Files that make a program are no bad source, and those that make none are one, unless the shelf failed.
     ensures held { (ask : Ask) → ask_in (task_of command.entry) ≡ Some ask
         → AreHeld ask result (seen H.Shelf S.Source K.Sink E.Sink N.Dialer N.shut_doors shelf.old input.old out.old err.old net.old)
+        (seen H.Shelf S.Source K.Sink E.Sink N.Dialer N.shut_doors shelf.new input.new out.new err.new net.new) }
+    // Likewise of a list of events, where it is one.
+    ensures replay_held { (events : List ℕ) (ask : Ask) → task_of command.entry ≡ Task.replay events ask
+        → AreHeldWith events ask result (seen H.Shelf S.Source K.Sink E.Sink N.Dialer N.shut_doors shelf.old input.old out.old err.old net.old)
         (seen H.Shelf S.Source K.Sink E.Sink N.Dialer N.shut_doors shelf.new input.new out.new err.new net.new) }
     ensures show_shelf { task_of command.entry ≡ Task.show → H.faults shelf.new ≡ H.faults shelf.old }
     ensures fetched { IsFetchedFor (task_of command.entry) (H.fetched shelf.old) (H.fetched shelf.new) }

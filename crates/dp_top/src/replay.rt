@@ -1,15 +1,20 @@
 //! The command `replay`: the transcript of a list of events, with engines in memory.
-ghost use Rattle.std.specs.Prelude.{◌≡◌, ◌∷◌, ◌<◌, ◌≤◌, [], map, IfOk, IfErr, MatchResult};
+ghost use Rattle.std.specs.Prelude.{◌≡◌, ◌∷◌, ◌<◌, ◌≤◌, [], List, Result, map, IfOk, IfErr, MatchResult};
 ghost use Rattle.dp_outside.specs.Changes.{change};
 ghost use Rattle.dp_outside.specs.Files.{Fetches};
 ghost use Rattle.dp_outside.specs.Telling.{grown};
 ghost use Rattle.dp_bundle.specs.Bundles.{AreForBundle};
+ghost use Rattle.dp_bundle.specs.declared.errors.BundleError.{BundleError as Unmade};
+ghost use Rattle.dp_lists.specs.declared.event.Event.{Event};
+ghost use Rattle.dp_run.specs.Programs.{Holds};
+ghost use Rattle.dp_tree.specs.declared.bundle.Bundle.{Bundle as Made};
 ghost use Rattle.dp_tree.specs.FileNames.{AreFileNames};
 ghost use Rattle.dp_words.specs.CommandLine.{AreFileWords};
 ghost use Rattle.dp_words.specs.Commands.{ask_told};
-ghost use Rattle.dp_top.specs.Replay.{list_limit};
+ghost use Rattle.dp_top.specs.Replay.{IsHeldList, list_limit};
 ghost use Rattle.dp_top.specs.Runs.{AreFetched};
-ghost use Rattle.dp_top.specs.inner.Replaying.{EndsFetched, EndsOver, EndsReplay, IsBadList, IsWholeList, UnlistedSo};
+ghost use Rattle.dp_top.specs.inner.Held.{IsHeld};
+ghost use Rattle.dp_top.specs.inner.Replaying.{EndsFetched, EndsOver, EndsReplay, HeldFetched, IsBadList, IsWholeList, UnlistedSo};
 
 use crate::failures::{Failure, Refused};
 use crate::run::told_of_files;
@@ -118,6 +123,7 @@ fn replay_fetched<'a, K: Sink>(
     requires { AreForBundle fetched }
     ensures ends { EndsFetched result request.entry.events.now content.now fetched (ask_told request.entry.program)
         (change K.taken K.faults out.old out.new) }
+    ensures held { HeldFetched result request.entry.events.now content.now fetched (ask_told request.entry.program) }
     ensures out_later { K.faults out.old ≤ K.faults out.new }
 {
     let events = match list_in(alloc, content) {
@@ -148,6 +154,10 @@ pub(crate) fn replay<'a, H: Shelf, K: Sink>(
     ensures ends { EndsReplay result request.entry.events.now (ask_told request.entry.program) (H.files shelf.old)
         (H.faults shelf.old) (H.faults shelf.new) (change K.taken K.faults out.old out.new) }
     ensures status { IfOk result (λ status. status ≤ 199) }
+    // Files that make a program are no bad source, and those that make none are one, unless the shelf failed.
+    ensures held { (asked : Result Made Unmade) → Holds (H.files shelf.old) (ask_told request.entry.program).names asked
+        → (list : List Event) → IsHeldList (H.files shelf.old) request.entry.events.now list
+        → IsHeld asked result (H.faults shelf.old) (H.faults shelf.new) }
     ensures fetched { AreFetched (request.entry.events.now ∷ (ask_told request.entry.program).names)
         (H.fetched shelf.old) (H.fetched shelf.new) }
     ensures files { H.files shelf.new ≡ H.files shelf.old }

@@ -5,14 +5,17 @@ use Rattle.dp_outside.specs.Files.{Fetches}
 use Rattle.dp_bundle.specs.Bundles.{Given}
 use Rattle.dp_lists.specs.declared.event.Event.{Event}
 use Rattle.dp_lists.specs.Lists.{IsList}
-use Rattle.dp_run.specs.Programs.{AreFetched, Files}
+use Rattle.dp_bundle.specs.declared.errors.BundleError.{BundleError}
+use Rattle.dp_run.specs.Programs.{AreFetched, Files, Holds}
 use Rattle.dp_tree.specs.declared.bundle.Bundle.{Bundle}
 use Rattle.dp_world.specs.declared.errors.ReplayError.TheVariants as ends
 use Rattle.dp_world.specs.Replays.{Replays}
 use Rattle.dp_top.specs.declared.failures.Failure.{Failure}
 use Rattle.dp_top.specs.declared.failures.Failure.TheVariants as failure
 use Rattle.dp_top.specs.declared.failures.Refused.{Refused}
-use Rattle.dp_top.specs.Replay.{DoesReplay, IsBadAt, ReplayFails, Unlisted, list_limit}
+use Rattle.dp_top.specs.Replay.{DoesReplay, IsBadAt, IsHeldList, ReplayFails, Unlisted}
+use Rattle.dp_top.specs.Replay.{list_limit}
+use Rattle.dp_top.specs.inner.Held.{IsHeld}
 use Rattle.dp_words.specs.CommandLine.{Ask}
 
 -- the bytes are a list of events, and not too many
@@ -44,6 +47,15 @@ abbrev pub EndsReplay : Result ℕ Refused → List ℕ → Ask → Files → �
 EndsReplay result events ask files before after out =
     MatchResult result (λ status. DoesReplay status events ask files out)
     (λ why. ReplayFails why.failure why.name.now events ask files before after out)
+
+-- what was fetched of a shelf that holds the list is no bad source, if the files make a program,
+-- and one if they make none
+abbrev pub HeldFetched : Result ℕ Refused → List ℕ → List ℕ → List Given → Ask → Type 0
+HeldFetched result events content fetched ask =
+    (files : Files) (before after : ℕ) → Fetches files events list_limit content
+    → AreFetched files ask.names fetched → (asked : Result Bundle BundleError)
+    → Holds files ask.names asked → (list : List Event) → IsHeldList files events list
+    → IsHeld asked result before after
 
 -- likewise of what was fetched of any shelf that holds it
 abbrev pub EndsFetched : Result ℕ Refused → List ℕ → List ℕ → List Given → Ask → Change → Type 0
