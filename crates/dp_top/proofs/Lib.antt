@@ -4,3 +4,4 @@ pub mod TaskLaws
 pub mod EngineLaws
 pub mod IdeLaws
 pub mod ReplayLaws
+pub mod ReplayTold

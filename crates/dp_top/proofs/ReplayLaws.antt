@@ -64,7 +64,7 @@ one_content (Some files) name first other told p q =
     p.2 ∙ ap (take (list_limit + 1)) (same_Some p.0 q.0 same) ∙ sym q.2
 
 -- a list is not bad, and not lacking
-held_or_bad : (files : Files) (name content : List ℕ) (events : List Event) (line : ℕ) → IsSome files → IsHeldList files name events → Fetches files name list_limit content
+pub held_or_bad : (files : Files) (name content : List ℕ) (events : List Event) (line : ℕ) → IsSome files → IsHeldList files name events → Fetches files name list_limit content
     → IsBadAt content line → ⊥
 held_or_bad files name content events line told held fetched bad = by bad where
   same : content ≡ held.content
@@ -74,7 +74,7 @@ held_or_bad files name content events line told held fetched bad = by bad where
   by (inl long) = omega (arith, long.1, ap length same, held.fits)
   by (inr first) = bad_excludes held.content line events (subst (λ (l : List ℕ). IsFirstBad l line) same first.1) held.is_list
 
-held_or_lacking : (files : Files) (name content : List ℕ) → IsSome files → Fetches files name list_limit content → Lacks files name → ⊥
+pub held_or_lacking : (files : Files) (name content : List ℕ) → IsSome files → Fetches files name list_limit content → Lacks files name → ⊥
 held_or_lacking None name content told p lacks = absurd cc
 held_or_lacking (Some files) name content told p lacks = let both : Some p.0 ≡ None = sym p.1 ∙ lacks in cc
 

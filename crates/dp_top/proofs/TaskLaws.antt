@@ -251,7 +251,7 @@ caused_of : (status : ℕ) (words : List (List ℕ)) (old new : Seen) (f : Fails
 caused_of status words old new f task asks = subst (λ (t : Task). Caused f.failure f.name t old (before_line new f.err)) (one_task words f.task task f.asks asks) f.caused
 
 -- files that are not told as bad, on a shelf that did not fail, make a program unless memory runs out
-no_program : (failed : Failure) (files : Files) (before after : ℕ) (names : List (List ℕ)) → IsGood failed → (Rose before after → ⊥) → (why : ProgramError)
+pub no_program : (failed : Failure) (files : Files) (before after : ℕ) (names : List (List ℕ)) → IsGood failed → (Rose before after → ⊥) → (why : ProgramError)
     → NoProgram why files before after names → failed ≡ program_failure why → status_of failed ≡ 209
 no_program failed files before after names good shelf (none.Shelf file) caused told = absurd (shelf caused.1)
 no_program failed files before after names good shelf (none.Missing file) caused told = absurd (good.1 told)
