@@ -18,7 +18,7 @@ use Rattle.dp_top.specs.Replay.{IsHeldList, IsNoList, IsReplayed, IsUnmade, Read
 use Rattle.dp_top.specs.Runs.{program_failure}
 use Rattle.dp_top.specs.Seen.{NoneRose, Seen, changed}
 use Rattle.dp_top.specs.Tasks.{Caused, Does}
-use Rattle.dp_top.specs.inner.Held.{IsGood}
+use Rattle.dp_top.specs.inner.Held.{AreHeldWith, IsGood}
 use Rattle.dp_top.proofs.ReplayLaws.{held_or_bad, held_or_lacking}
 use Rattle.dp_top.proofs.RunTold.{bad_source}
 use Rattle.dp_top.proofs.TaskLaws.{no_program, one_task}
@@ -172,3 +172,12 @@ module _ (status : ℕ) (words : List (List ℕ)) (task : Task) (old new : Seen)
 -- it is a replay of these
 pub asks_replay : (words : List (List ℕ)) (task : Task) (events : List ℕ) (ask : Ask) → Asks words task → IsReplay words events ask → task ≡ replay events ask
 asks_replay words task events ask asks is = one_task words task (replay events ask) asks is
+
+-- likewise what is held of it
+pub held_with : {A : Type 0} (events other : List ℕ) (ask asked : Ask) (task : Task) (result : Result A Refused) (old new : Seen) → task ≡ replay other asked → task ≡ replay events ask
+    → AreHeldWith other asked result old new → AreHeldWith events ask result old new
+held_with {A} events other ask asked task result old new p q h =
+    let both : replay other asked ≡ replay events ask = sym p ∙ q in
+    let same_events : other ≡ events = cc in
+    let same_ask : asked ≡ ask = cc in
+    subst (λ (e : List ℕ). AreHeldWith {A = A} e ask result old new) same_events (subst (λ (a : Ask). AreHeldWith {A = A} other a result old new) same_ask h)

@@ -1,11 +1,13 @@
 //! What each command does.
-ghost use Rattle.std.specs.Prelude.{◌≡◌, ◌≤◌, ℕ, List, Some, IfOk, MatchResult};
+ghost use Rattle.std.specs.Prelude.{◌≡◌, ◌≤◌, ℕ, List, [], Ok, Some, IfOk, MatchResult};
+ghost use Rattle.dp_outside.specs.Changes.{change};
+ghost use Rattle.dp_show.specs.Shows.{Shows};
 ghost use Rattle.dp_words.specs.CommandLine.{Ask, Task, Asks, ask_in};
 ghost use Rattle.dp_words.specs.Commands.{task_of};
 ghost use Rattle.dp_top.specs.inner.Held.{AreHeld, AreHeldWith};
 ghost use Rattle.dp_top.specs.inner.Kept.{Continues, GoesOn};
 ghost use Rattle.dp_top.specs.Seen.{seen};
-ghost use Rattle.dp_top.specs.Tasks.{failure_of, Does, Caused, IsFetchedFor};
+ghost use Rattle.dp_top.specs.Tasks.{failure_of, Does, Caused, IsFetchedFor, ShowCaused};
 
 use crate::engine::engine;
 use crate::failures::{Failure, Refused};
@@ -30,6 +32,26 @@ fn failure_of(why: ShowError) -> Failure
         ShowError::ReadFault => Failure::Network,
         ShowError::OutFault => Failure::Output,
         ShowError::Memory => Failure::Memory,
+    }
+}
+
+/// Prints the element of each packet that is read.
+fn show_all<'a, S: Source, K: Sink>(
+    alloc: Global,
+    input: &mut S,
+    out: &mut K,
+) -> Result<u8, Refused<'a>>
+    ensures ends { MatchResult result
+        (λ status. (status ≡ 0) × Shows (Ok tt) (change S.left S.faults input.old input.new) (change K.taken K.faults out.old out.new))
+        (λ why. (why.name.now ≡ []) × ShowCaused why.failure (change S.left S.faults input.old input.new)
+        (change K.taken K.faults out.old out.new)) }
+    ensures status { IfOk result (λ status. status ≤ 199) }
+    ensures input_later { S.faults input.old ≤ S.faults input.new }
+    ensures out_later { K.faults out.old ≤ K.faults out.new }
+{
+    match show(alloc, input, out) {
+        Ok(()) => Ok(0),
+        Err(why) => Err(Refused::unnamed(failure_of(why))),
     }
 }
 
@@ -62,10 +84,7 @@ pub(crate) fn carry_out<'a, R: Wait + Sync, H: Shelf, S: Source, K: Sink, E: Sin
         Command::Engine(request) => engine(alloc, request, objects),
         Command::Ide(request) => ide(rt, alloc, request, objects),
         Command::Replay(request) => replay(alloc, request, objects.shelf, objects.out),
-        Command::Show => match show(alloc, objects.input, objects.out) {
-            Ok(()) => Ok(0),
-            Err(why) => Err(Refused::unnamed(failure_of(why))),
-        },
+        Command::Show => show_all(alloc, objects.input, objects.out),
     }
 }
 

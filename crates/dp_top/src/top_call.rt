@@ -27,17 +27,18 @@ use std::sync::Wait;
 /// which the first is the main one, and puts its output on `out`; `talk [--bound N] KEY FILE..` serves a session of KEY
 /// over the program, with `input` and `out` as the link, and the program's own output on `err`; `engine [--bound N] HOST PORT
 /// KEY FILE..` serves one over a link that `net` dials, with the program's own output on `out`; `ide PORT SCRIPT` plays the
-/// script over the link that an engine makes to the port, and what it prints goes to `out`; `show` reads framed packets from
-/// `input` and prints the element of each on `out`, in canonical text with a line feed.
+/// script over the link that an engine makes to the port, and what it prints goes to `out`; `replay [--bound N] EVENTS FILE..`
+/// writes the transcript of the list of events on `out`, with engines in memory that run the program; `show` reads framed
+/// packets from `input` and prints the element of each on `out`, in canonical text with a line feed.
 ///
 /// | status | comes | line on `err` |
 /// |---|---|---|
-/// | 0 to 199 | the program exited so, or came to its end (0); all packets are shown (0); the script was played (0) | none |
+/// | 0 to 199 | the program exited so, or came to its end (0); all packets are shown (0); the script or the list was played (0) | none |
 /// | 200 | the words ask for nothing | `usage` |
 /// | 201 | a file is too long or no program | `bad source NAME REASON NUMBER` |
 /// | 202 | the shelf failed, or lacks a file | `shelf failed NAME`, `no file NAME` |
 /// | 203 | an output failed | `output failed` |
-/// | 204 | a line is none of a script; N is the first, or 0 where the file is too long | `bad script line N` |
+/// | 204 | a line is none of a script, or of a list of events; N is the first, or 0 where the file is too long | `bad script line N` |
 /// | 205 | line N of the script wants W, and F is found, or nothing | `differs line N wanted W found F` |
 /// | 206 | the input of `show` ended inside a frame, or the link of `ide` before a packet that was awaited | `peer ended` |
 /// | 207 | bytes stand in no command's or packet's place, a text is no packet, or too many came | `bad packet offset N` |
@@ -46,8 +47,8 @@ use std::sync::Wait;
 /// | 210 | a command stopped the program before its end | `stopped by the IDE` |
 /// | 255 | the program could not go on, or would have had more moments than N | `fatal KIND in NAME on line N`, `bound reached after N steps` |
 ///
-/// It waits in the calls of `input`, of a gate and of a link alone. `show` does not use the shelf, nor `run`, `engine` and `ide`
-/// the input; `net` is used by `engine` and `ide` alone, and `spawner` is not used.
+/// It waits in the calls of `input`, of a gate and of a link alone. `show` does not use the shelf, nor `run`, `engine`, `ide` and
+/// `replay` the input; `net` is used by `engine` and `ide` alone, and `spawner` is not used.
 pub fn top<R: Wait + Sync, H: Shelf, S: Source, K: Sink, E: Sink, N: Net, P: Spawner>(
     rt: &R,
     alloc: Global,
