@@ -24,7 +24,8 @@ at_host host address = record { host = host; port = address.port }
 
 -- a dial that failed
 pub not_given : (address : Address) (host : List ℕ) (old new : Net) → host ≡ address.host
-    → new.dials ≡ grown old.dials (dial_of (at_host host address) None ∷ []) → new.retired ≡ old.retired → Rose old.faults new.faults
+    → new.dials ≡ grown old.dials (dial_of (at_host host address) None ∷ []) → new.retired ≡ old.retired
+    → Rose old.faults new.faults
     → new.returned ≡ old.returned → IsUndialled address old new
 not_given address host old new same dialled retired rose returned = record {
   dialled = dialled ∙ ap (λ (h : List ℕ). grown old.dials (dial_of (at_host h address) None ∷ [])) same;
@@ -34,26 +35,31 @@ not_given address host old new same dialled retired rose returned = record {
 }
 
 -- a dial that gave a link, which came back
-pub taken_back : (address : Address) (host : List ℕ) (given back : Link) (first source last sink : ℕ) (old over new : Net) → host ≡ address.host → first ≡ 0 → last ≡ 0
-    → over.dials ≡ grown old.dials (dial_of (at_host host address) (Some given) ∷ []) → over.retired ≡ old.retired → old.faults ≤ over.faults
-    → over.returned ≡ old.returned → new.dials ≡ over.dials → new.retired ≡ grown over.retired (back ∷ []) → new.faults ≡ over.faults
+pub taken_back : (address : Address) (host : List ℕ) (given back : Link) (first source last sink : ℕ)
+    (old over new : Net) → host ≡ address.host → first ≡ 0 → last ≡ 0
+    → over.dials ≡ grown old.dials (dial_of (at_host host address) (Some given) ∷ []) → over.retired ≡ old.retired
+    → old.faults ≤ over.faults
+    → over.returned ≡ old.returned → new.dials ≡ over.dials → new.retired ≡ grown over.retired (back ∷ [])
+    → new.faults ≡ over.faults
     → CountsReturned (source + sink) over.returned new.returned
     → IsDialled address (record { told_before = given.left; told = back.left; faults_before = first; faults = source })
     (record { told_before = given.taken; told = back.taken; faults_before = last; faults = sink }) old new
-taken_back address host given back first source last sink old over new same none nothing dials kept later returned told came stays counts = record {
-  given = given;
-  back = back;
-  used = record {
-    source_is = λ i. record { told_before = given.left; told = back.left; faults_before = none i; faults = source };
-    sink_is = λ i. record { told_before = given.taken; told = back.taken; faults_before = nothing i; faults = sink };
-  };
-  dialled = told ∙ dials ∙ ap (λ (h : List ℕ). grown old.dials (dial_of (at_host h address) (Some given) ∷ [])) same;
-  retired = came ∙ ap (λ r. grown r (back ∷ [])) kept;
-  faults = omega (arith, later, stays);
-  returned = subst (λ (n : ℕ). CountsReturned (source + sink) n new.returned) returned counts;
-}
+taken_back address host given back first source last sink old over new same none nothing dials kept later returned told
+    came stays counts = record {
+      given = given;
+      back = back;
+      used = record {
+        source_is = λ i. record { told_before = given.left; told = back.left; faults_before = none i; faults = source };
+        sink_is = λ i. record { told_before = given.taken; told = back.taken; faults_before = nothing i; faults = sink };
+      };
+      dialled = told ∙ dials ∙ ap (λ (h : List ℕ). grown old.dials (dial_of (at_host h address) (Some given) ∷ [])) same;
+      retired = came ∙ ap (λ r. grown r (back ∷ [])) kept;
+      faults = omega (arith, later, stays);
+      returned = subst (λ (n : ℕ). CountsReturned (source + sink) n new.returned) returned counts;
+    }
 
-pub served_over : (program : Bundle) (address : Address) (key : List ℕ) (ask : Ask) (source sink out : Change) (old new : Net) → IsDialled address source sink old new
+pub served_over : (program : Bundle) (address : Address) (key : List ℕ) (ask : Ask) (source sink out : Change)
+    (old new : Net) → IsDialled address source sink old new
     → (result : Result ℕ Refused)
     → MatchResult result (λ status. ServedSo failure.Network status program key ask source sink out)
     (λ why. UnservedSo failure.Network why.failure why.name.now program key ask source sink out)
@@ -74,16 +80,35 @@ served_over program address key ask source sink out old new dialled (Err why) (i
       },
     )
 served_over program address key ask source sink out old new dialled (Err why) (inr h) =
-    inr (inr (record { served = h.served; source = source; sink = sink; dialled = dialled; serves = h.serves; told = h.told }))
+    inr (inr (record {
+      served = h.served;
+      source = source;
+      sink = sink;
+      dialled = dialled;
+      serves = h.serves;
+      told =
+          h.told;
+    }))
 
 module _ (address : Address) (key : List ℕ) (ask : Ask) (old new : Seen) (apart : IsApart old new) where
   pub program_engaged : (program : Bundle) → Make old.shelf.files ask.names (Ok program) → (result : Result ℕ Refused)
-      → MatchResult result (λ status. EngagedSo status program address key ask (changed old.out new.out) old.net new.net)
+      → MatchResult result (λ status. EngagedSo status program address key ask
+      (changed old.out new.out) old.net new.net)
       (λ why. UnengagedSo why.failure why.name.now program address key ask (changed old.out new.out) old.net new.net)
-      → MatchResult result (λ status. Engages status address key ask old new) (λ why. EngineFails why.failure why.name.now address key ask old new)
+      → MatchResult result (λ status. Engages status address key ask old new)
+      (λ why. EngineFails why.failure why.name.now address key ask old new)
   program_engaged program made (Ok status) h = record {
     served = h.served;
-    is = record { program = program; made = made; source = h.source; sink = h.sink; dialled = h.dialled; serves = h.serves; apart = apart };
+    is = record {
+      program = program;
+      made = made;
+      source = h.source;
+      sink = h.sink;
+      dialled = h.dialled;
+      serves =
+          h.serves;
+      apart = apart;
+    };
     told = h.told;
   }
   program_engaged program made (Err why) (inl memory) = inl (
@@ -99,13 +124,36 @@ module _ (address : Address) (key : List ℕ) (ask : Ask) (old new : Seen) (apar
     })),
   )
   program_engaged program made (Err why) (inr (inl none)) =
-      inr (inr (inl (none.is_why, none.is_name, record { program = program; made = made; undialled = none.undialled; out = none.out_stays; apart = apart })))
+      inr (inr (inl (
+        none.is_why,
+        none.is_name,
+        record {
+          program = program;
+          made = made;
+          undialled = none.undialled;
+          out
+              = none.out_stays;
+          apart = apart;
+        },
+      )))
   program_engaged program made (Err why) (inr (inr h)) = inr (inr (inr (record {
     served = h.served;
-    is = record { program = program; made = made; source = h.source; sink = h.sink; dialled = h.dialled; serves = h.serves; apart = apart };
+    is = record {
+      program = program;
+      made = made;
+      source = h.source;
+      sink = h.sink;
+      dialled = h.dialled;
+      serves =
+          h.serves;
+      apart = apart;
+    };
     told = h.told;
   })))
 
-  pub none_engaged : (refused : Refused) (why : ProgramError) → NoProgram why old.shelf.files old.shelf.faults new.shelf.faults ask.names
-      → IsProgramTold refused.failure refused.name.now ask why → IsIdle old new → EngineFails refused.failure refused.name.now address key ask old new
-  none_engaged refused why caused told idle = inr (inl (record { cause = why; caused = caused; told = told; idle = idle }))
+  pub none_engaged : (refused : Refused) (why : ProgramError)
+      → NoProgram why old.shelf.files old.shelf.faults new.shelf.faults ask.names
+      → IsProgramTold refused.failure refused.name.now ask why → IsIdle old new
+      → EngineFails refused.failure refused.name.now address key ask old new
+  none_engaged refused why caused told idle =
+      inr (inl (record { cause = why; caused = caused; told = told; idle = idle }))

@@ -68,7 +68,8 @@ called end instructions given back first read last sent old over new out none no
       sink = record { told_before = given.taken; told = back.taken; faults_before = last; faults = sent };
       used = record {
         source_is = λ i. record { told_before = given.left; told = back.left; faults_before = none i; faults = read };
-        sink_is = λ i. record { told_before = given.taken; told = back.taken; faults_before = nothing i; faults = sent };
+        sink_is =
+            λ i. record { told_before = given.taken; told = back.taken; faults_before = nothing i; faults = sent };
       };
       gave =
           subst (λ (t : Option (List Link)). Tells t (given ∷ [])) (sym (same ∙ given_is))

@@ -45,37 +45,51 @@ bad (unmade.Source file why) = bad_source why
 bad (unmade.TooLong file) = inl refl
 bad unmade.Memory = inr refl
 
-pub held_failure : (A : Type 0) (asked : Result Bundle BundleError) (why : ProgramError) (refused : Refused) (before after : ℕ) → refused.failure ≡ program_failure why
+pub held_failure : (A : Type 0) (asked : Result Bundle BundleError) (why : ProgramError) (refused : Refused)
+    (before after : ℕ) → refused.failure ≡ program_failure why
     → IsRunHeld {A = A} asked (Err why) before after → IsHeld {A = ℕ} asked (Err refused) before after
 held_failure A (Ok program) why refused before after told h = subst IsGood (sym told) (good why h)
-held_failure A (Err e) why refused before after told (inl same) = inl (subst IsBadSource (sym (told ∙ ap program_failure same)) (bad e))
+held_failure A (Err e) why refused before after told (inl same) =
+    inl (subst IsBadSource (sym (told ∙ ap program_failure same)) (bad e))
 held_failure A (Err e) why refused before after told (inr (inl memory)) = inl (inr (told ∙ ap program_failure memory))
 held_failure A (Err e) why refused before after told (inr (inr rose)) = inr rose
 
 -- a run that was made of a program is no bad source
-held_good : (asked : Result Bundle BundleError) (refused : Refused) (before after : ℕ) → IsGood refused.failure → IsRunHeld {A = ⊤} asked (Ok tt) before after → IsHeld {A = ℕ} asked (Err refused) before after
+held_good : (asked : Result Bundle BundleError) (refused : Refused) (before after : ℕ) → IsGood refused.failure
+    → IsRunHeld {A = ⊤} asked (Ok tt) before after → IsHeld {A = ℕ} asked (Err refused) before after
 held_good (Ok program) refused before after is h = is
 held_good (Err e) refused before after is h = absurd h
 
-pub held_status : (asked : Result Bundle BundleError) (status before after : ℕ) → IsRunHeld {A = ⊤} asked (Ok tt) before after → IsHeld {A = ℕ} asked (Ok status) before after
+pub held_status : (asked : Result Bundle BundleError) (status before after : ℕ)
+    → IsRunHeld {A = ⊤} asked (Ok tt) before after → IsHeld {A = ℕ} asked (Ok status) before after
 held_status (Ok program) status before after h = tt
 held_status (Err e) status before after h = h
 
-pub held_run : (bound : ℕ) (asked : Result Bundle BundleError) (why : RunError) (refused : Refused) (before after : ℕ) → refused.failure ≡ failure_of bound why
-    → IsRunHeld {A = ⊤} asked (of_program {A = ℕ} (Err why)) before after → IsHeld {A = ℕ} asked (Err refused) before after
-held_run bound asked (run.Program why) refused before after told h = held_failure ⊤ asked why refused before after told h
-held_run bound asked (run.Fatal kind file line) refused before after told h = held_good asked refused before after (subst IsGood (sym told) ((λ e. omega (arith, e)), (λ e. cc))) h
-held_run bound asked run.Bound refused before after told h = held_good asked refused before after (subst IsGood (sym told) ((λ e. omega (arith, e)), (λ e. cc))) h
-held_run bound asked run.OutFault refused before after told h = held_good asked refused before after (subst IsGood (sym told) ((λ e. omega (arith, e)), (λ e. cc))) h
-held_run bound asked run.Memory refused before after told h = held_good asked refused before after (subst IsGood (sym told) ((λ e. omega (arith, e)), (λ e. cc))) h
+pub held_run : (bound : ℕ) (asked : Result Bundle BundleError) (why : RunError) (refused : Refused) (before after : ℕ)
+    → refused.failure ≡ failure_of bound why
+    → IsRunHeld {A = ⊤} asked (of_program {A = ℕ} (Err why)) before after
+    → IsHeld {A = ℕ} asked (Err refused) before after
+held_run bound asked (run.Program why) refused before after told h =
+    held_failure ⊤ asked why refused before after told h
+held_run bound asked (run.Fatal kind file line) refused before after told h =
+    held_good asked refused before after (subst IsGood (sym told) ((λ e. omega (arith, e)), (λ e. cc))) h
+held_run bound asked run.Bound refused before after told h =
+    held_good asked refused before after (subst IsGood (sym told) ((λ e. omega (arith, e)), (λ e. cc))) h
+held_run bound asked run.OutFault refused before after told h =
+    held_good asked refused before after (subst IsGood (sym told) ((λ e. omega (arith, e)), (λ e. cc))) h
+held_run bound asked run.Memory refused before after told h =
+    held_good asked refused before after (subst IsGood (sym told) ((λ e. omega (arith, e)), (λ e. cc))) h
 
 -- ---- what was fetched
 
 -- all names are the first of them
-all_fetched : (before after : Told) (names : List (List ℕ)) → after ≡ grown before names → (count : ℕ) × (after ≡ grown before (take count names))
-all_fetched before after names e = (length names, e ∙ ap (grown before) (sym (take_all (length names) names (omega arith))))
+all_fetched : (before after : Told) (names : List (List ℕ)) → after ≡ grown before names
+    → (count : ℕ) × (after ≡ grown before (take count names))
+all_fetched before after names e =
+    (length names, e ∙ ap (grown before) (sym (take_all (length names) names (omega arith))))
 
-pub fetched : (A : Type 0) (result : Result A ProgramError) (before after : Told) (ask : Ask) → Asks result before after ask.names → IsFetched (Some ask) before after
+pub fetched : (A : Type 0) (result : Result A ProgramError) (before after : Told) (ask : Ask)
+    → Asks result before after ask.names → IsFetched (Some ask) before after
 fetched A (Ok a) before after ask e = all_fetched before after ask.names e
 fetched A (Err (none.Shelf file)) before after ask e = (file + 1, e)
 fetched A (Err (none.Missing file)) before after ask e = (file + 1, e)

@@ -34,17 +34,21 @@ use Rattle.dp_words.proofs.NameLaws.{names_of}
 
 -- ---- what is told
 
-pub unnamed_told : (refused : Refused) (why : Failure) → refused.failure ≡ why → refused.name.now ≡ [] → told_in (Err refused) ≡ unnamed why
+pub unnamed_told : (refused : Refused) (why : Failure) → refused.failure ≡ why → refused.name.now ≡ []
+    → told_in (Err refused) ≡ unnamed why
 unnamed_told refused why failed name = λ i. Err (failed i, name i)
 
-pub end_status : (ask : Ask) (status : ℕ) (outcome : Outcome) → Ok status ≡ judged_end outcome → told_in (Ok status) ≡ ended ask (Some outcome)
+pub end_status : (ask : Ask) (status : ℕ) (outcome : Outcome) → Ok status ≡ judged_end outcome
+    → told_in (Ok status) ≡ ended ask (Some outcome)
 end_status ask status outcome e = ap (end_told ask) e
 
-pub end_failure : (ask : Ask) (refused : Refused) (why : RunError) (outcome : Outcome) → IsRunTold refused.failure refused.name.now ask why → Err why ≡ judged_end outcome
+pub end_failure : (ask : Ask) (refused : Refused) (why : RunError) (outcome : Outcome)
+    → IsRunTold refused.failure refused.name.now ask why → Err why ≡ judged_end outcome
     → told_in (Err refused) ≡ ended ask (Some outcome)
 end_failure ask refused why outcome told e = (λ i. Err (told.0 i, told.1 i)) ∙ ap (end_told ask) e
 
-pub by_its_end : (unsent : Failure) (ask : Ask) (served : Served) (end : ServeEnd) (told : Told) → served.end ≡ end → told ≡ judged_by unsent ask served.outcome end
+pub by_its_end : (unsent : Failure) (ask : Ask) (served : Served) (end : ServeEnd) (told : Told) → served.end ≡ end
+    → told ≡ judged_by unsent ask served.outcome end
     → told ≡ judged_by unsent ask served.outcome served.end
 by_its_end unsent ask served end told is e = e ∙ ap (judged_by unsent ask served.outcome) (sym is)
 
@@ -61,7 +65,8 @@ good_end ask (Some (way.Exit status)) = tt
 good_end ask (Some (way.Fatal kind file line)) = ((λ e. omega (arith, e)), (λ e. cc))
 good_end ask (Some way.Bound) = ((λ e. omega (arith, e)), (λ e. cc))
 
-good_judged : (unsent : Failure) → IsGood unsent → (ask : Ask) (outcome : Option Outcome) (end : ServeEnd) → IsGoodTold (judged_by unsent ask outcome end)
+good_judged : (unsent : Failure) → IsGood unsent → (ask : Ask) (outcome : Option Outcome) (end : ServeEnd)
+    → IsGoodTold (judged_by unsent ask outcome end)
 good_judged unsent good ask outcome Stopped = good_end ask outcome
 good_judged unsent good ask outcome Detached = good_end ask outcome
 good_judged unsent good ask outcome LinkEnd = good_end ask outcome
@@ -75,27 +80,33 @@ good_judged unsent good ask outcome Memory = ((λ e. omega (arith, e)), (λ e. c
 pub good_served : (unsent : Failure) → IsGood unsent → (ask : Ask) (served : Served) (result : Result ℕ Refused)
     → told_in result ≡ judged_by unsent ask served.outcome served.end → IfErr result (λ why. IsGood why.failure)
 good_served unsent good ask served (Ok status) told = tt
-good_served unsent good ask served (Err why) told = subst IsGoodTold (sym told) (good_judged unsent good ask served.outcome served.end)
+good_served unsent good ask served (Err why) told =
+    subst IsGoodTold (sym told) (good_judged unsent good ask served.outcome served.end)
 
 pub good_memory : (refused : Refused) → refused.failure ≡ failure.Memory → IsGood refused.failure
 good_memory refused memory = subst IsGood (sym memory) ((λ e. omega (arith, e)), (λ e. cc))
 
 -- ---- a status is one of 200
 
-end_small : (ask : Ask) (state : State) (status : ℕ) (o : Outcome) → outcome_of state ≡ o → ended ask (Some o) ≡ Ok status → status ≤ 199
+end_small : (ask : Ask) (state : State) (status : ℕ) (o : Outcome) → outcome_of state ≡ o
+    → ended ask (Some o) ≡ Ok status → status ≤ 199
 end_small ask state status way.Done is e = let same : 0 ≡ status = cc in omega (arith, same)
-end_small ask state status (way.Exit n) is e = let same : n ≡ status = cc in omega (arith, same, exit_small state.bundle state.bound state.writes n is)
+end_small ask state status (way.Exit n) is e =
+    let same : n ≡ status = cc in omega (arith, same, exit_small state.bundle state.bound state.writes n is)
 end_small ask state status (way.Fatal kind file line) is e = absurd (cc)
 end_small ask state status way.Bound is e = absurd (cc)
 
-ended_small : (ask : Ask) (ended_by : Option SessionEnd) (state : State) (status : ℕ) → ended ask (ending_after ended_by state) ≡ Ok status → status ≤ 199
+ended_small : (ask : Ask) (ended_by : Option SessionEnd) (state : State) (status : ℕ)
+    → ended ask (ending_after ended_by state) ≡ Ok status → status ≤ 199
 ended_small ask (Some Killed) state status e = absurd (cc)
 ended_small ask (Some gone) state status e = end_small ask state status (outcome_of state) refl e
 ended_small ask (Some (Finished o)) state status e = end_small ask state status (outcome_of state) refl e
 ended_small ask None state status e = end_small ask state status (outcome_of state) refl e
 
-module _ (unsent : Failure) (ask : Ask) (served : Served) (program : Bundle) (key : List ℕ) (input out err : Change) where
-  small : (status : ℕ) (end : ServeEnd) → ServesTo end served program ask.bound key input out err → judged_by unsent ask served.outcome end ≡ Ok status → status ≤ 199
+module _ (unsent : Failure) (ask : Ask) (served : Served) (program : Bundle) (key : List ℕ)
+    (input out err : Change) where
+  small : (status : ℕ) (end : ServeEnd) → ServesTo end served program ask.bound key input out err
+      → judged_by unsent ask served.outcome end ≡ Ok status → status ≤ 199
   small status Stopped s e = ended_small ask _ _ status (ap (ended ask) (sym s.outcome) ∙ e)
   small status Detached s e = ended_small ask _ _ status (ap (ended ask) (sym s.outcome) ∙ e)
   small status LinkEnd s e = ended_small ask _ _ status (ap (ended ask) (sym s.outcome) ∙ e)
@@ -106,13 +117,16 @@ module _ (unsent : Failure) (ask : Ask) (served : Served) (program : Bundle) (ke
   small status ByteLimit s e = absurd (cc)
   small status Memory s e = absurd (cc)
 
-  pub small_served : (result : Result ℕ Refused) → told_in result ≡ judged_by unsent ask served.outcome served.end → Serves served program ask.bound key input out err → IfOk result (λ status. status ≤ 199)
+  pub small_served : (result : Result ℕ Refused) → told_in result ≡ judged_by unsent ask served.outcome served.end
+      → Serves served program ask.bound key input out err → IfOk result (λ status. status ≤ 199)
   small_served (Ok status) told s = small status served.end s (sym told)
   small_served (Err why) told s = tt
 
   -- what was served is what is told
-  pub served_told : (result : Result ℕ Refused) → told_in result ≡ judged_by unsent ask served.outcome served.end → Serves served program ask.bound key input out err
-      → MatchResult result (λ status. ServedSo unsent status program key ask input out err) (λ why. UnservedSo unsent why.failure why.name.now program key ask input out err)
+  pub served_told : (result : Result ℕ Refused) → told_in result ≡ judged_by unsent ask served.outcome served.end
+      → Serves served program ask.bound key input out err
+      → MatchResult result (λ status. ServedSo unsent status program key ask input out err)
+      (λ why. UnservedSo unsent why.failure why.name.now program key ask input out err)
   served_told (Ok status) told s = record { served = served; serves = s; told = sym told }
   served_told (Err why) told s = inr (record { served = served; serves = s; told = sym told })
 
@@ -120,23 +134,38 @@ module _ (unsent : Failure) (ask : Ask) (served : Served) (program : Bundle) (ke
 
 module _ (key : List ℕ) (ask : Ask) (old new : Seen) where
   pub program_served : (program : Bundle) → Make old.shelf.files ask.names (Ok program) → (result : Result ℕ Refused)
-      → MatchResult result (λ status. ServedSo failure.Output status program key ask (changed old.input new.input) (changed old.out new.out) (changed old.err new.err))
-      (λ why. UnservedSo failure.Output why.failure why.name.now program key ask (changed old.input new.input) (changed old.out new.out) (changed old.err new.err))
-      → MatchResult result (λ status. Talks status key ask old new) (λ why. TalkFails why.failure why.name.now key ask old new)
-  program_served program made (Ok status) h = record { served = h.served; is = record { program = program; made = made; serves = h.serves }; told = h.told }
+      → MatchResult result (λ status. ServedSo failure.Output status program key ask (changed old.input new.input)
+      (changed old.out new.out) (changed old.err new.err))
+      (λ why. UnservedSo failure.Output why.failure why.name.now program key ask (changed old.input new.input)
+      (changed old.out new.out) (changed old.err new.err))
+      → MatchResult result (λ status. Talks status key ask old new)
+      (λ why. TalkFails why.failure why.name.now key ask old new)
+  program_served program made (Ok status) h =
+      record { served = h.served; is = record { program = program; made = made; serves = h.serves }; told = h.told }
   program_served program made (Err why) (inl memory) = inl (memory.0, inl memory.1)
-  program_served program made (Err why) (inr h) = inr (inr (record { served = h.served; is = record { program = program; made = made; serves = h.serves }; told = h.told }))
+  program_served program made (Err why) (inr h) =
+      inr (inr (record {
+        served = h.served;
+        is = record { program = program; made = made; serves = h.serves };
+        told =
+            h.told;
+      }))
 
-  pub none_served : (refused : Refused) (why : ProgramError) → NoProgram why old.shelf.files old.shelf.faults new.shelf.faults ask.names
-      → IsProgramTold refused.failure refused.name.now ask why → AreIdle old new → TalkFails refused.failure refused.name.now key ask old new
-  none_served refused why caused told idle = inr (inl (record { cause = why; caused = caused; told = told; idle = idle }))
+  pub none_served : (refused : Refused) (why : ProgramError)
+      → NoProgram why old.shelf.files old.shelf.faults new.shelf.faults ask.names
+      → IsProgramTold refused.failure refused.name.now ask why → AreIdle old new
+      → TalkFails refused.failure refused.name.now key ask old new
+  none_served refused why caused told idle =
+      inr (inl (record { cause = why; caused = caused; told = told; idle = idle }))
 
-pub held_served : (asked : Result Bundle BundleError) (program : Bundle) (result : Result ℕ Refused) (before after : ℕ) → IsRunHeld {A = Bundle} asked (Ok program) before after
+pub held_served : (asked : Result Bundle BundleError) (program : Bundle) (result : Result ℕ Refused) (before after : ℕ)
+    → IsRunHeld {A = Bundle} asked (Ok program) before after
     → ((made : Bundle) (b a : ℕ) → IsHeld (Ok made) result b a) → IsHeld asked result before after
 held_served (Ok made) program result before after held good = good made before after
 held_served (Err e) program result before after held good = absurd held
 
 -- the files of a program that was made of the files of these words have their names, which are names of files
-pub are_named : (words : List (String Global)) (program : Bundle) → map (λ (f : BundleFile). f.name) program.files ≡ map string_bytes words → AreFileWords (map string_bytes words)
+pub are_named : (words : List (String Global)) (program : Bundle)
+    → map (λ (f : BundleFile). f.name) program.files ≡ map string_bytes words → AreFileWords (map string_bytes words)
     → AreFileNames (map (λ (f : BundleFile). f.name) program.files)
 are_named words program named files = subst AreFileNames (sym named) (names_of words files)

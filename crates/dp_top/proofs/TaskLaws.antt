@@ -69,7 +69,8 @@ letters [] = 0
 letters (a ∷ []) = a
 letters (a ∷ b ∷ more) = b
 
-apart : (words : List (List ℕ)) (task other : Task) → Asks words task → Asks words other → letters (name_of task) ≡ letters (name_of other)
+apart : (words : List (List ℕ)) (task other : Task) → Asks words task → Asks words other
+    → letters (name_of task) ≡ letters (name_of other)
 apart words task other p q = ap letters (sym (named words task p) ∙ named words other q)
 
 abbrev bound_in : Option Ask → ℕ
@@ -81,8 +82,10 @@ names_in None = []
 names_in (Some ask) = ask.names
 
 -- the same words ask for the same
-asks_same : (words behind other : List (List ℕ)) (name : List ℕ) (a b : Option Ask) → words ≡ name ∷ behind → words ≡ name ∷ other → ask_of behind ≡ a → ask_of other ≡ b → a ≡ b
-asks_same words behind other name a b p q asked asks = sym asked ∙ ap (λ (l : List (List ℕ)). ask_of (behind_of l)) (sym p ∙ q) ∙ asks
+asks_same : (words behind other : List (List ℕ)) (name : List ℕ) (a b : Option Ask) → words ≡ name ∷ behind
+    → words ≡ name ∷ other → ask_of behind ≡ a → ask_of other ≡ b → a ≡ b
+asks_same words behind other name a b p q asked asks =
+    sym asked ∙ ap (λ (l : List (List ℕ)). ask_of (behind_of l)) (sym p ∙ q) ∙ asks
 
 abbrev number_in : Option ℕ → ℕ
 number_in None = 0
@@ -94,21 +97,26 @@ word_at n words = get_or words n []
 -- the words ask for one task
 pub one_task : (words : List (List ℕ)) (task other : Task) → Asks words task → Asks words other → task ≡ other
 one_task words (run ask) (run other) p q =
-    let same = asks_same words p.behind q.behind (codes "run") _ _ p.words_are q.words_are p.follows.asked q.follows.asked in
+    let same = asks_same words p.behind q.behind (codes "run") _ _ p.words_are q.words_are p.follows.asked
+    q.follows.asked in
     λ i. run (record { bound = bound_in (same i); names = names_in (same i) })
 one_task words (talk key ask) (talk k other) p q =
-    let same = asks_same words p.behind q.behind (codes "talk") _ _ p.words_are q.words_are p.speaks.asked q.speaks.asked in
+    let same = asks_same words p.behind q.behind (codes "talk") _ _ p.words_are q.words_are p.speaks.asked
+    q.speaks.asked in
     λ i. talk (word_at 0 (names_in (same i))) (record { bound = bound_in (same i); names = drop 1 (names_in (same i)) })
 one_task words (engine address key ask) (engine other k asked) p q =
-    let same = asks_same words p.behind q.behind (codes "engine") _ _ p.words_are q.words_are p.dials.asked q.dials.asked in
+    let same = asks_same words p.behind q.behind (codes "engine") _ _ p.words_are q.words_are p.dials.asked
+    q.dials.asked in
     let ports : Some address.port ≡ Some other.port =
     sym p.dials.port ∙ ap (λ (o : Option Ask). port_of (word_at 1 (names_in o))) same ∙ q.dials.port in
-    λ i. engine (record { host = word_at 0 (names_in (same i)); port = number_in (ports i) }) (word_at 2 (names_in (same i)))
+    λ i. engine (record { host = word_at 0 (names_in (same i)); port = number_in (ports i) })
+    (word_at 2 (names_in (same i)))
     (record { bound = bound_in (same i); names = drop 3 (names_in (same i)) })
 one_task words show show p q = refl
 one_task words (ide port script) (ide other s) p q =
     let same : codes "ide" ∷ p.number ∷ script ∷ [] ≡ codes "ide" ∷ q.number ∷ s ∷ [] = sym p.words_are ∙ q.words_are in
-    let ports : Some port ≡ Some other = sym p.is_port ∙ ap (λ (l : List (List ℕ)). port_of (word_at 1 l)) same ∙ q.is_port in
+    let ports : Some port ≡ Some other = sym p.is_port ∙ ap (λ (l : List (List ℕ)). port_of (word_at 1 l)) same ∙
+    q.is_port in
     λ i. ide (number_in (ports i)) (word_at 2 (same i))
 one_task words (replay events ask) (replay e other) p q =
     let same = asks_same words p.behind q.behind (codes "replay") _ _ p.words_are q.words_are p.replays.asked q.replays.asked in
@@ -125,20 +133,27 @@ one_task words (replay e asked) show p q = absurd (omega (arith, apart words (re
 one_task words show (replay e asked) p q = absurd (omega (arith, apart words show (replay e asked) p q))
 one_task words (ide port script) (run ask) p q = absurd (omega (arith, apart words (ide port script) (run ask) p q))
 one_task words (run ask) (ide port script) p q = absurd (omega (arith, apart words (run ask) (ide port script) p q))
-one_task words (ide port script) (talk key ask) p q = absurd (omega (arith, apart words (ide port script) (talk key ask) p q))
-one_task words (talk key ask) (ide port script) p q = absurd (omega (arith, apart words (talk key ask) (ide port script) p q))
-one_task words (ide port script) (engine a key ask) p q = absurd (omega (arith, apart words (ide port script) (engine a key ask) p q))
-one_task words (engine a key ask) (ide port script) p q = absurd (omega (arith, apart words (engine a key ask) (ide port script) p q))
+one_task words (ide port script) (talk key ask) p q =
+    absurd (omega (arith, apart words (ide port script) (talk key ask) p q))
+one_task words (talk key ask) (ide port script) p q =
+    absurd (omega (arith, apart words (talk key ask) (ide port script) p q))
+one_task words (ide port script) (engine a key ask) p q =
+    absurd (omega (arith, apart words (ide port script) (engine a key ask) p q))
+one_task words (engine a key ask) (ide port script) p q =
+    absurd (omega (arith, apart words (engine a key ask) (ide port script) p q))
 one_task words (ide port script) show p q = absurd (omega (arith, apart words (ide port script) show p q))
 one_task words show (ide port script) p q = absurd (omega (arith, apart words show (ide port script) p q))
 one_task words (run ask) (talk k other) p q = absurd (omega (arith, apart words (run ask) (talk k other) p q))
 one_task words (run ask) (engine a k other) p q = absurd (omega (arith, apart words (run ask) (engine a k other) p q))
 one_task words (run ask) show p q = absurd (omega (arith, apart words (run ask) show p q))
 one_task words (talk key ask) (run other) p q = absurd (omega (arith, apart words (talk key ask) (run other) p q))
-one_task words (talk key ask) (engine a k other) p q = absurd (omega (arith, apart words (talk key ask) (engine a k other) p q))
+one_task words (talk key ask) (engine a k other) p q =
+    absurd (omega (arith, apart words (talk key ask) (engine a k other) p q))
 one_task words (talk key ask) show p q = absurd (omega (arith, apart words (talk key ask) show p q))
-one_task words (engine a key ask) (run other) p q = absurd (omega (arith, apart words (engine a key ask) (run other) p q))
-one_task words (engine a key ask) (talk k other) p q = absurd (omega (arith, apart words (engine a key ask) (talk k other) p q))
+one_task words (engine a key ask) (run other) p q =
+    absurd (omega (arith, apart words (engine a key ask) (run other) p q))
+one_task words (engine a key ask) (talk k other) p q =
+    absurd (omega (arith, apart words (engine a key ask) (talk k other) p q))
 one_task words (engine a key ask) show p q = absurd (omega (arith, apart words (engine a key ask) show p q))
 one_task words show (run ask) p q = absurd (omega (arith, apart words show (run ask) p q))
 one_task words show (talk k ask) p q = absurd (omega (arith, apart words show (talk k ask) p q))
@@ -147,7 +162,8 @@ one_task words show (engine a k ask) p q = absurd (omega (arith, apart words sho
 -- ---- failures
 
 -- the end of `show` is the cause of its failure
-pub show_caused : (why : ShowError) (input out : Change) → Ends (Err why) input out → ShowCaused (failure_of why) input out
+pub show_caused : (why : ShowError) (input out : Change) → Ends (Err why) input out
+    → ShowCaused (failure_of why) input out
 show_caused ends.PeerEnd input out h = h
 show_caused (ends.BadPacket offset) input out h = h
 show_caused ends.ReadFault input out h = h
@@ -180,7 +196,8 @@ memory_name (replay events ask) name = name
 memory_name show name = name
 
 -- want of memory once a session was served, or there was none
-talk_starved : (failed : Failure) (name key : List ℕ) (ask : Ask) (old new : Seen) → TalkFails failed name key ask old new → TalkFails failure.Memory name key ask old new
+talk_starved : (failed : Failure) (name key : List ℕ) (ask : Ask) (old new : Seen)
+    → TalkFails failed name key ask old new → TalkFails failure.Memory name key ask old new
 talk_starved failed name key ask old new (inl memory) = inl (refl, memory.1)
 talk_starved failed name key ask old new (inr (inl u)) = inl (refl, inl u.idle)
 talk_starved failed name key ask old new (inr (inr h)) = inl (refl, inr (h.served, h.is))
@@ -192,7 +209,8 @@ engine_starved failed name address key ask old new (inr (inl u)) = inl (refl, in
 engine_starved failed name address key ask old new (inr (inr (inl alone))) = inl (refl, inr (inr (inl alone.2)))
 engine_starved failed name address key ask old new (inr (inr (inr h))) = inl (refl, inr (inr (inr (h.served, h.is))))
 
-ide_starved : (failed : Failure) (name : List ℕ) (port : ℕ) (script : List ℕ) (old new : Seen) → IdeFails failed name port script old new
+ide_starved : (failed : Failure) (name : List ℕ) (port : ℕ) (script : List ℕ) (old new : Seen)
+    → IdeFails failed name port script old new
     → IdeFails failure.Memory name port script old new
 ide_starved failed name port script old new (inl memory) = inl (refl, memory.1)
 ide_starved failed name port script old new (inr (inl u)) = inl (refl, inl u.1)
@@ -207,8 +225,10 @@ replay_starved failed name events ask files before after out (inr (inr (inl u)))
 replay_starved failed name events ask files before after out (inr (inr (inr h))) = inl (refl, inr (Err replayed.OutFault, h.replayed))
 
 -- want of memory may come in place of any failure
-memory_instead : (failed : Failure) (name : List ℕ) (task : Task) (old new : Seen) → Caused failed name task old new → Caused failure.Memory (memory_name task name) task old new
-memory_instead failed name (run ask) old new h = (record { why = h.0.why; caused = h.0.caused; told = inr (refl, refl) }, h.1, h.2, h.3)
+memory_instead : (failed : Failure) (name : List ℕ) (task : Task) (old new : Seen) → Caused failed name task old new
+    → Caused failure.Memory (memory_name task name) task old new
+memory_instead failed name (run ask) old new h =
+    (record { why = h.0.why; caused = h.0.caused; told = inr (refl, refl) }, h.1, h.2, h.3)
 memory_instead failed name (talk key ask) old new h = (talk_starved failed name key ask old new h.0, h.1)
 memory_instead failed name (engine address key ask) old new h = engine_starved failed name address key ask old new h
 memory_instead failed name (ide port script) old new h = ide_starved failed name port script old new h
@@ -216,14 +236,37 @@ memory_instead failed name (replay events ask) old new h = (replay_starved faile
 memory_instead failed name show old new h = (h.0, show_cut failed _ _ h.1, h.2, h.3)
 
 -- the failure is told, or there is no memory for its line
-pub fails_told : (status : ℕ) (words : List (List ℕ)) (task : Task) (name : List ℕ) (old new : Seen) (err : Stream) (failed : Failure) → Asks words task
+pub fails_told : (status : ℕ) (words : List (List ℕ)) (task : Task) (name : List ℕ) (old new : Seen) (err : Stream)
+    (failed : Failure) → Asks words task
     → Caused failed name task old (before_line new err) → err.faults ≤ new.err.faults
-    → ((status ≡ status_of failed) × Says (changed err new.err) (line_of failed name)) ⊎ ((status ≡ 209) × Says (changed err new.err) (codes "out of memory\n"))
+    → ((status ≡ status_of failed) × Says (changed err new.err) (line_of failed name))
+    ⊎ ((status ≡ 209) × Says (changed err new.err) (codes "out of memory\n"))
     → Fails status words old new
 fails_told status words task name old new err failed asks caused later (inl told) =
-    record { task = task; asks = asks; failure = failed; name = name; is_status = told.0; err = err; caused = caused; later = later; says = told.1 }
+    record {
+      task = task;
+      asks = asks;
+      failure = failed;
+      name = name;
+      is_status = told.0;
+      err = err;
+      caused = caused;
+      later = later;
+      says = told.1;
+    }
 fails_told status words task name old new err failed asks caused later (inr told) =
-    record { task = task; asks = asks; failure = failure.Memory; name = memory_name task name; is_status = told.0; err = err; caused = memory_instead failed name task old _ caused; later = later; says = told.1 }
+    record {
+      task = task;
+      asks = asks;
+      failure = failure.Memory;
+      name = memory_name task name;
+      is_status = told.0;
+      err =
+          err;
+      caused = memory_instead failed name task old _ caused;
+      later = later;
+      says = told.1;
+    }
 
 -- a failure's status is above 200
 above : (failed : Failure) → 200 < status_of failed
@@ -242,20 +285,25 @@ above (failure.Packet offset) = omega arith
 above failure.Network = omega arith
 above failure.Memory = omega arith
 
-pub told_above : (status : ℕ) (failed : Failure) (A B : Type 0) → ((status ≡ status_of failed) × A) ⊎ ((status ≡ 209) × B) → 200 < status
+pub told_above : (status : ℕ) (failed : Failure) (A B : Type 0)
+    → ((status ≡ status_of failed) × A) ⊎ ((status ≡ 209) × B) → 200 < status
 told_above status failed A B (inl told) = omega (arith, told.0, above failed)
 told_above status failed A B (inr told) = omega (arith, told.0)
 
 -- the failure's cause, of the task that is asked for
-caused_of : (status : ℕ) (words : List (List ℕ)) (old new : Seen) (f : Fails status words old new) → (task : Task) → Asks words task → Caused f.failure f.name task old (before_line new f.err)
-caused_of status words old new f task asks = subst (λ (t : Task). Caused f.failure f.name t old (before_line new f.err)) (one_task words f.task task f.asks asks) f.caused
+caused_of : (status : ℕ) (words : List (List ℕ)) (old new : Seen) (f : Fails status words old new) → (task : Task)
+    → Asks words task → Caused f.failure f.name task old (before_line new f.err)
+caused_of status words old new f task asks =
+    subst (λ (t : Task). Caused f.failure f.name t old (before_line new f.err))
+    (one_task words f.task task f.asks asks) f.caused
 
 -- files that are not told as bad, on a shelf that did not fail, make a program unless memory runs out
 pub no_program : (failed : Failure) (files : Files) (before after : ℕ) (names : List (List ℕ)) → IsGood failed → (Rose before after → ⊥) → (why : ProgramError)
     → NoProgram why files before after names → failed ≡ program_failure why → status_of failed ≡ 209
 no_program failed files before after names good shelf (none.Shelf file) caused told = absurd (shelf caused.1)
 no_program failed files before after names good shelf (none.Missing file) caused told = absurd (good.1 told)
-no_program failed files before after names good shelf (none.TooLong file) caused told = absurd (good.0 (ap status_of told))
+no_program failed files before after names good shelf (none.TooLong file) caused told =
+    absurd (good.0 (ap status_of told))
 no_program failed files before after names good shelf (none.Source file why) caused told =
     ⊎_elim (λ e. absurd (good.0 (ap status_of told ∙ e))) (λ e. ap status_of (told ∙ e)) (bad_source why)
 no_program failed files before after names good shelf none.Memory caused told = ap status_of told
@@ -263,11 +311,13 @@ no_program failed files before after names good shelf none.Memory caused told = 
 -- ---- `talk`
 
 -- where no count rose and the files are not told as bad, what fails is a packet, the program's end, a stop or memory
-module _ (failed : Failure) (name key : List ℕ) (ask : Ask) (old new : Seen) (good : IsGood failed) (none : NoneRose old new) where
+module _ (failed : Failure) (name key : List ℕ) (ask : Ask) (old new : Seen) (good : IsGood failed)
+    (none : NoneRose old new) where
   abbrev IsTalkEnd : Failure → Type 0
   IsTalkEnd f = (status_of f ≡ 207) ⊎ (status_of f ≡ 210) ⊎ (status_of f ≡ 255) ⊎ (status_of f ≡ 209)
 
-  unserved : (why : ProgramError) → NoProgram why old.shelf.files old.shelf.faults new.shelf.faults ask.names → failed ≡ program_failure why → IsTalkEnd failed
+  unserved : (why : ProgramError) → NoProgram why old.shelf.files old.shelf.faults new.shelf.faults ask.names
+      → failed ≡ program_failure why → IsTalkEnd failed
   unserved why caused told = inr (inr (inr (no_program failed _ _ _ ask.names good none.shelf why caused told)))
 
   abbrev failure_in : Told → Failure
@@ -278,18 +328,27 @@ module _ (failed : Failure) (name key : List ℕ) (ask : Ask) (old new : Seen) (
   by_outcome None e = let same : failure.Stopped ≡ failed = ap failure_in e in inr (inl (sym (ap status_of same)))
   by_outcome (Some way.Done) e = absurd (cc)
   by_outcome (Some (way.Exit status)) e = absurd (cc)
-  by_outcome (Some (way.Fatal kind file line)) e = let same : failure.Fatal kind line ≡ failed = ap failure_in e in inr (inr (inl (sym (ap status_of same))))
-  by_outcome (Some way.Bound) e = let same : failure.Bound ask.bound ≡ failed = ap failure_in e in inr (inr (inl (sym (ap status_of same))))
+  by_outcome (Some (way.Fatal kind file line)) e =
+      let same : failure.Fatal kind line ≡ failed = ap failure_in e in inr (inr (inl (sym (ap status_of same))))
+  by_outcome (Some way.Bound) e =
+      let same : failure.Bound ask.bound ≡ failed = ap failure_in e in inr (inr (inl (sym (ap status_of same))))
 
   module _ (h : EndsSo failed name key ask old new) where
-    read_fault : (ended_by : Option SessionEnd) (rest read : List ℕ) → h.served.end ≡ serve.ReadFault → EndsBy h.served.end ended_by rest read (changed old.input new.input) → Rose old.input.faults new.input.faults
-    read_fault ended_by rest read is ends = (subst (λ (e : ServeEnd). EndsBy e ended_by rest read (changed old.input new.input)) is ends).2
+    read_fault : (ended_by : Option SessionEnd) (rest read : List ℕ) → h.served.end ≡ serve.ReadFault
+        → EndsBy h.served.end ended_by rest read (changed old.input new.input) → Rose old.input.faults new.input.faults
+    read_fault ended_by rest read is ends =
+        (subst (λ (e : ServeEnd). EndsBy e ended_by rest read (changed old.input new.input)) is ends).2
 
     abbrev IsCutShort : Type 0
-    IsCutShort = IsCut h.served h.is.program ask.bound key (changed old.input new.input) (changed old.out new.out) (changed old.err new.err)
+    IsCutShort =
+        IsCut h.served h.is.program ask.bound key (changed old.input new.input) (changed old.out new.out)
+        (changed old.err new.err)
 
-    cut_by : (e : ServeEnd) → h.served.end ≡ e → (cut : IsCutShort) → CutBy e h.served.outcome h.is.program ask.bound cut.taken (changed old.out new.out) (changed old.err new.err)
-    cut_by e is cut = subst (λ (e : ServeEnd). CutBy e h.served.outcome h.is.program ask.bound cut.taken (changed old.out new.out) (changed old.err new.err)) is cut.by
+    cut_by : (e : ServeEnd) → h.served.end ≡ e → (cut : IsCutShort)
+        → CutBy e h.served.outcome h.is.program ask.bound cut.taken (changed old.out new.out) (changed old.err new.err)
+    cut_by e is cut =
+        subst (λ (e : ServeEnd). CutBy e h.served.outcome h.is.program ask.bound cut.taken (changed old.out new.out)
+        (changed old.err new.err)) is cut.by
 
     write_fault : h.served.end ≡ serve.WriteFault → IsCutShort → Rose old.out.faults new.out.faults
     write_fault is cut = (cut_by serve.WriteFault is cut).0
@@ -297,16 +356,22 @@ module _ (failed : Failure) (name key : List ℕ) (ask : Ask) (old new : Seen) (
     out_fault : h.served.end ≡ serve.OutFault → IsCutShort → Rose old.err.faults new.err.faults
     out_fault is cut = (cut_by serve.OutFault is cut).0
 
-    by_end : (e : ServeEnd) → h.served.end ≡ e → ServesTo e h.served h.is.program ask.bound key (changed old.input new.input) (changed old.out new.out) (changed old.err new.err) → judged_by failure.Output ask h.served.outcome e ≡ Err (failed, name) → IsTalkEnd failed
+    by_end : (e : ServeEnd) → h.served.end ≡ e
+        → ServesTo e h.served h.is.program ask.bound key (changed old.input new.input) (changed old.out new.out)
+        (changed old.err new.err) → judged_by failure.Output ask h.served.outcome e ≡ Err (failed, name)
+        → IsTalkEnd failed
     by_end serve.Stopped is s e = by_outcome h.served.outcome e
     by_end serve.Detached is s e = by_outcome h.served.outcome e
     by_end serve.LinkEnd is s e = by_outcome h.served.outcome e
     by_end serve.ReadFault is s e = absurd (none.input_not (read_fault _ _ _ is s.ends))
     by_end serve.WriteFault is s e = absurd (none.out_not (write_fault is s))
     by_end serve.OutFault is s e = absurd (none.err_not (out_fault is s))
-    by_end (serve.BadCommandFrame offset) is s e = let same : failure.Packet offset ≡ failed = ap failure_in e in inl (sym (ap status_of same))
-    by_end serve.ByteLimit is s e = let same : failure.Packet 4294967295 ≡ failed = ap failure_in e in inl (sym (ap status_of same))
-    by_end serve.Memory is s e = let same : failure.Memory ≡ failed = ap failure_in e in inr (inr (inr (sym (ap status_of same))))
+    by_end (serve.BadCommandFrame offset) is s e =
+        let same : failure.Packet offset ≡ failed = ap failure_in e in inl (sym (ap status_of same))
+    by_end serve.ByteLimit is s e =
+        let same : failure.Packet 4294967295 ≡ failed = ap failure_in e in inl (sym (ap status_of same))
+    by_end serve.Memory is s e =
+        let same : failure.Memory ≡ failed = ap failure_in e in inr (inr (inr (sym (ap status_of same))))
 
   talk_end : TalkFails failed name key ask old new → IsTalkEnd failed
   talk_end (inl memory) = inr (inr (inr (ap status_of memory.0)))
@@ -318,17 +383,21 @@ abbrev IsNoBadTask : Task → Refused → Seen → Seen → Type 0
 IsNoBadTask task refused old new = (ask : Ask) → ask_in task ≡ Some ask → AreHeld {A = ℕ} ask (Err refused) old new
 
 -- the same of the call's answer
-pub complete_talk_told : (status : ℕ) (words : List (List ℕ)) (task : Task) (old new : Seen) (refused : Refused) (A B : Type 0) → Asks words task
+pub complete_talk_told : (status : ℕ) (words : List (List ℕ)) (task : Task) (old new : Seen) (refused : Refused)
+    (A B : Type 0) → Asks words task
     → Caused refused.failure refused.name.now task old new → IsNoBadTask task refused old new
     → ((status ≡ status_of refused.failure) × A) ⊎ ((status ≡ 209) × B)
-    → (key : List ℕ) (ask : Ask) (program : Bundle) → IsTalk words key ask → Holds old.shelf.files ask.names (Ok program) → NoneRose old new
+    → (key : List ℕ) (ask : Ask) (program : Bundle) → IsTalk words key ask
+    → Holds old.shelf.files ask.names (Ok program) → NoneRose old new
     → (status ≤ 199) ⊎ (status ≡ 207) ⊎ (status ≡ 210) ⊎ (status ≡ 255) ⊎ (status ≡ 209)
 complete_talk_told status words task old new refused A B asks caused held told key ask program is holds none =
     let same = one_task words task (talk key ask) asks is in
     let fails = subst (λ (t : Task). Caused refused.failure refused.name.now t old new) same caused in
-    by told (talk_end refused.failure refused.name.now key ask old new ((held ask (ap ask_in same)).by_files (Ok program) holds) none fails.0) where
+    by told (talk_end refused.failure refused.name.now key ask old new
+    ((held ask (ap ask_in same)).by_files (Ok program) holds) none fails.0) where
       by : ((status ≡ status_of refused.failure) × A) ⊎ ((status ≡ 209) × B)
-          → (status_of refused.failure ≡ 207) ⊎ (status_of refused.failure ≡ 210) ⊎ (status_of refused.failure ≡ 255) ⊎ (status_of refused.failure ≡ 209)
+          → (status_of refused.failure ≡ 207) ⊎ (status_of refused.failure ≡ 210) ⊎ (status_of refused.failure ≡ 255)
+          ⊎ (status_of refused.failure ≡ 209)
           → (status ≤ 199) ⊎ (status ≡ 207) ⊎ (status ≡ 210) ⊎ (status ≡ 255) ⊎ (status ≡ 209)
       by (inr t) e = inr (inr (inr (inr t.0)))
       by (inl t) (inl e) = inr (inl (t.0 ∙ e))
@@ -343,18 +412,24 @@ returned_rose zero before after h some = absurd (omega (arith, some))
 returned_rose (suc n) before after h some = h
 
 -- where no count rose and the files are not told as bad, what fails is a packet, the program's end, a stop or memory
-module _ (failed : Failure) (name : List ℕ) (address : Address) (key : List ℕ) (ask : Ask) (old new : Seen) (good : IsGood failed) (none : NoneRose old new) where
-  link_sound : (source sink : Change) → IsDialled address source sink old.net new.net → 0 < source.faults + sink.faults → ⊥
-  link_sound source sink d some = none.returned_not (returned_rose (source.faults + sink.faults) old.net.returned new.net.returned d.returned some)
+module _ (failed : Failure) (name : List ℕ) (address : Address) (key : List ℕ) (ask : Ask) (old new : Seen)
+    (good : IsGood failed) (none : NoneRose old new) where
+  link_sound : (source sink : Change) → IsDialled address source sink old.net new.net → 0 < source.faults + sink.faults
+      → ⊥
+  link_sound source sink d some =
+      none.returned_not (returned_rose (source.faults + sink.faults) old.net.returned new.net.returned d.returned some)
 
-  begun_at : (source sink : Change) → IsDialled address source sink old.net new.net → (source.faults_before ≡ 0) × (sink.faults_before ≡ 0)
-  begun_at source sink d = (ap (λ (c : Change). c.faults_before) d.used.source_is, ap (λ (c : Change). c.faults_before) d.used.sink_is)
+  begun_at : (source sink : Change) → IsDialled address source sink old.net new.net
+      → (source.faults_before ≡ 0) × (sink.faults_before ≡ 0)
+  begun_at source sink d =
+      (ap (λ (c : Change). c.faults_before) d.used.source_is, ap (λ (c : Change). c.faults_before) d.used.sink_is)
 
   abbrev IsServedHere : Type 0
   IsServedHere = EngineEnds failed name address key ask old new
 
   module _ (h : EngineEnds failed name address key ask old new) where
-    source_fault : (ended_by : Option SessionEnd) (rest read : List ℕ) → h.served.end ≡ serve.ReadFault → EndsBy h.served.end ended_by rest read h.is.source → ⊥
+    source_fault : (ended_by : Option SessionEnd) (rest read : List ℕ) → h.served.end ≡ serve.ReadFault
+        → EndsBy h.served.end ended_by rest read h.is.source → ⊥
     source_fault ended_by rest read is ends =
         let rose : Rose h.is.source.faults_before h.is.source.faults =
         (subst (λ (e : ServeEnd). EndsBy e ended_by rest read h.is.source) is ends).2 in
@@ -363,16 +438,21 @@ module _ (failed : Failure) (name : List ℕ) (address : Address) (key : List �
     abbrev IsLinkCut : Type 0
     IsLinkCut = IsCut h.served h.is.program ask.bound key h.is.source h.is.sink (changed old.out new.out)
 
-    link_cut_by : (e : ServeEnd) → h.served.end ≡ e → (cut : IsLinkCut) → CutBy e h.served.outcome h.is.program ask.bound cut.taken h.is.sink (changed old.out new.out)
-    link_cut_by e is cut = subst (λ (e : ServeEnd). CutBy e h.served.outcome h.is.program ask.bound cut.taken h.is.sink (changed old.out new.out)) is cut.by
+    link_cut_by : (e : ServeEnd) → h.served.end ≡ e → (cut : IsLinkCut)
+        → CutBy e h.served.outcome h.is.program ask.bound cut.taken h.is.sink (changed old.out new.out)
+    link_cut_by e is cut =
+        subst (λ (e : ServeEnd). CutBy e h.served.outcome h.is.program ask.bound cut.taken h.is.sink
+        (changed old.out new.out)) is cut.by
 
     sink_fault : h.served.end ≡ serve.WriteFault → IsLinkCut → ⊥
     sink_fault is cut =
         let rose : Rose h.is.sink.faults_before h.is.sink.faults = (link_cut_by serve.WriteFault is cut).0 in
         link_sound h.is.source h.is.sink h.is.dialled (omega (arith, rose))
 
-    engine_by_end : (e : ServeEnd) → h.served.end ≡ e → ServesTo e h.served h.is.program ask.bound key h.is.source h.is.sink (changed old.out new.out)
-        → judged_by failure.Network ask h.served.outcome e ≡ Err (failed, name) → IsTalkEnd failed name key ask old new good none failed
+    engine_by_end : (e : ServeEnd) → h.served.end ≡ e
+        → ServesTo e h.served h.is.program ask.bound key h.is.source h.is.sink (changed old.out new.out)
+        → judged_by failure.Network ask h.served.outcome e ≡ Err (failed, name)
+        → IsTalkEnd failed name key ask old new good none failed
     engine_by_end serve.Stopped is s e = by_outcome failed name key ask old new good none h.served.outcome e
     engine_by_end serve.Detached is s e = by_outcome failed name key ask old new good none h.served.outcome e
     engine_by_end serve.LinkEnd is s e = by_outcome failed name key ask old new good none h.served.outcome e
@@ -380,11 +460,14 @@ module _ (failed : Failure) (name : List ℕ) (address : Address) (key : List �
     engine_by_end serve.WriteFault is s e = absurd (sink_fault is s)
     engine_by_end serve.OutFault is s e = absurd (none.out_not (link_cut_by serve.OutFault is s).0)
     engine_by_end (serve.BadCommandFrame offset) is s e =
-        let same : failure.Packet offset ≡ failed = ap (failure_in failed name key ask old new good none) e in inl (sym (ap status_of same))
+        let same : failure.Packet offset ≡ failed = ap (failure_in failed name key ask old new good none) e in inl
+        (sym (ap status_of same))
     engine_by_end serve.ByteLimit is s e =
-        let same : failure.Packet 4294967295 ≡ failed = ap (failure_in failed name key ask old new good none) e in inl (sym (ap status_of same))
+        let same : failure.Packet 4294967295 ≡ failed = ap (failure_in failed name key ask old new good none) e in inl
+        (sym (ap status_of same))
     engine_by_end serve.Memory is s e =
-        let same : failure.Memory ≡ failed = ap (failure_in failed name key ask old new good none) e in inr (inr (inr (sym (ap status_of same))))
+        let same : failure.Memory ≡ failed = ap (failure_in failed name key ask old new good none) e in inr
+        (inr (inr (sym (ap status_of same))))
 
   engine_end : EngineFails failed name address key ask old new → IsTalkEnd failed name key ask old new good none failed
   engine_end (inl memory) = inr (inr (inr (ap status_of memory.0)))
@@ -392,17 +475,21 @@ module _ (failed : Failure) (name : List ℕ) (address : Address) (key : List �
   engine_end (inr (inr (inl alone))) = absurd (none.net_not alone.2.undialled.faults)
   engine_end (inr (inr (inr h))) = engine_by_end h h.served.end refl h.is.serves h.told
 
-pub complete_engine_told : (status : ℕ) (words : List (List ℕ)) (task : Task) (old new : Seen) (refused : Refused) (A B : Type 0) → Asks words task
+pub complete_engine_told : (status : ℕ) (words : List (List ℕ)) (task : Task) (old new : Seen) (refused : Refused)
+    (A B : Type 0) → Asks words task
     → Caused refused.failure refused.name.now task old new → IsNoBadTask task refused old new
     → ((status ≡ status_of refused.failure) × A) ⊎ ((status ≡ 209) × B)
-    → (address : Address) (key : List ℕ) (ask : Ask) (program : Bundle) → IsEngine words address key ask → Holds old.shelf.files ask.names (Ok program) → NoneRose old new
+    → (address : Address) (key : List ℕ) (ask : Ask) (program : Bundle) → IsEngine words address key ask
+    → Holds old.shelf.files ask.names (Ok program) → NoneRose old new
     → (status ≤ 199) ⊎ (status ≡ 207) ⊎ (status ≡ 210) ⊎ (status ≡ 255) ⊎ (status ≡ 209)
 complete_engine_told status words task old new refused A B asks caused held told address key ask program is holds none =
     let same = one_task words task (engine address key ask) asks is in
     let fails = subst (λ (t : Task). Caused refused.failure refused.name.now t old new) same caused in
-    by told (engine_end refused.failure refused.name.now address key ask old new ((held ask (ap ask_in same)).by_files (Ok program) holds) none fails) where
+    by told (engine_end refused.failure refused.name.now address key ask old new
+    ((held ask (ap ask_in same)).by_files (Ok program) holds) none fails) where
       by : ((status ≡ status_of refused.failure) × A) ⊎ ((status ≡ 209) × B)
-          → (status_of refused.failure ≡ 207) ⊎ (status_of refused.failure ≡ 210) ⊎ (status_of refused.failure ≡ 255) ⊎ (status_of refused.failure ≡ 209)
+          → (status_of refused.failure ≡ 207) ⊎ (status_of refused.failure ≡ 210) ⊎ (status_of refused.failure ≡ 255)
+          ⊎ (status_of refused.failure ≡ 209)
           → (status ≤ 199) ⊎ (status ≡ 207) ⊎ (status ≡ 210) ⊎ (status ≡ 255) ⊎ (status ≡ 209)
       by (inr t) e = inr (inr (inr (inr t.0)))
       by (inl t) (inl e) = inr (inl (t.0 ∙ e))
@@ -412,7 +499,8 @@ complete_engine_told status words task old new refused A B asks caused held told
 
 -- ---- the network
 
-done_offline : (status : ℕ) (task : Task) (old new : Seen) → Does status task old new → uses_net task ≡ false → new.net ≡ old.net
+done_offline : (status : ℕ) (task : Task) (old new : Seen) → Does status task old new → uses_net task ≡ false
+    → new.net ≡ old.net
 done_offline status (run ask) old new h e = h.3
 done_offline status (talk key ask) old new h e = h.1
 done_offline status (engine address key ask) old new h e = absurd cc
@@ -420,7 +508,8 @@ done_offline status (ide port script) old new h e = absurd cc
 done_offline status (replay events ask) old new h e = h.3
 done_offline status show old new h e = h.3
 
-caused_offline : (failed : Failure) (name : List ℕ) (task : Task) (old new : Seen) → Caused failed name task old new → uses_net task ≡ false → new.net ≡ old.net
+caused_offline : (failed : Failure) (name : List ℕ) (task : Task) (old new : Seen) → Caused failed name task old new
+    → uses_net task ≡ false → new.net ≡ old.net
 caused_offline failed name (run ask) old new h e = h.3
 caused_offline failed name (talk key ask) old new h e = h.1
 caused_offline failed name (engine address key ask) old new h e = absurd cc
@@ -428,15 +517,20 @@ caused_offline failed name (ide port script) old new h e = absurd cc
 caused_offline failed name (replay events ask) old new h e = h.3
 caused_offline failed name show old new h e = h.3
 
-pub asks_offline : (words : List (List ℕ)) (task other : Task) → Asks words task → Asks words other → uses_net other ≡ false → uses_net task ≡ false
+pub asks_offline : (words : List (List ℕ)) (task other : Task) → Asks words task → Asks words other
+    → uses_net other ≡ false → uses_net task ≡ false
 asks_offline words task other p q e = ap uses_net (one_task words task other p q) ∙ e
 
-pub offline_done : (status : ℕ) (words : List (List ℕ)) (task other : Task) (old new : Seen) → Asks words task → Does status task old new → Asks words other → uses_net other ≡ false → new.net ≡ old.net
-offline_done status words task other old new p does q e = done_offline status task old new does (asks_offline words task other p q e)
+pub offline_done : (status : ℕ) (words : List (List ℕ)) (task other : Task) (old new : Seen) → Asks words task
+    → Does status task old new → Asks words other → uses_net other ≡ false → new.net ≡ old.net
+offline_done status words task other old new p does q e =
+    done_offline status task old new does (asks_offline words task other p q e)
 
-pub offline_caused : (failed : Failure) (name : List ℕ) (words : List (List ℕ)) (task other : Task) (old new : Seen) → Asks words task → Caused failed name task old new → Asks words other
+pub offline_caused : (failed : Failure) (name : List ℕ) (words : List (List ℕ)) (task other : Task) (old new : Seen)
+    → Asks words task → Caused failed name task old new → Asks words other
     → uses_net other ≡ false → new.net ≡ old.net
-offline_caused failed name words task other old new p caused q e = caused_offline failed name task old new caused (asks_offline words task other p q e)
+offline_caused failed name words task other old new p caused q e =
+    caused_offline failed name task old new caused (asks_offline words task other p q e)
 
 -- ---- `run`
 
@@ -445,17 +539,23 @@ module _ (failed : Failure) (ask : Ask) (old new : Seen) (good : IsGood failed) 
   abbrev IsEnd : Failure → Type 0
   IsEnd f = (status_of f ≡ 255) ⊎ (status_of f ≡ 209)
 
-  by_why : (why : RunError) → RunCaused why old.shelf.files old.shelf.faults new.shelf.faults ask.names ask.bound (changed old.out new.out) → failed ≡ failure_told ask.bound why → IsEnd failed
+  by_why : (why : RunError)
+      → RunCaused why old.shelf.files old.shelf.faults new.shelf.faults ask.names ask.bound (changed old.out new.out)
+      → failed ≡ failure_told ask.bound why → IsEnd failed
   by_why (end.Program why) caused told = inr (no_program failed _ _ _ ask.names good none.shelf why caused.0 told)
   by_why (end.Fatal kind file line) caused told = inl (ap status_of told)
   by_why end.Bound caused told = inl (ap status_of told)
   by_why end.OutFault caused told = absurd (none.out_not caused.1)
   by_why end.Memory caused told = inr (ap status_of told)
 
-  by_told : (name : List ℕ) → RunFails failed name old.shelf.files old.shelf.faults new.shelf.faults ask (changed old.out new.out) → IsEnd failed
-  by_told name fails = ⊎_elim (λ t. by_why fails.why fails.caused t.0) (λ starved. inr (ap status_of starved.0)) fails.told
+  by_told : (name : List ℕ)
+      → RunFails failed name old.shelf.files old.shelf.faults new.shelf.faults ask (changed old.out new.out)
+      → IsEnd failed
+  by_told name fails =
+      ⊎_elim (λ t. by_why fails.why fails.caused t.0) (λ starved. inr (ap status_of starved.0)) fails.told
 
-pub complete_run_told : (status : ℕ) (words : List (List ℕ)) (task : Task) (old new : Seen) (refused : Refused) (A B : Type 0) → Asks words task
+pub complete_run_told : (status : ℕ) (words : List (List ℕ)) (task : Task) (old new : Seen) (refused : Refused)
+    (A B : Type 0) → Asks words task
     → Caused refused.failure refused.name.now task old new → IsNoBadTask task refused old new
     → ((status ≡ status_of refused.failure) × A) ⊎ ((status ≡ 209) × B)
     → (ask : Ask) (program : Bundle) → IsRun words ask → Holds old.shelf.files ask.names (Ok program) → NoneRose old new
@@ -463,15 +563,18 @@ pub complete_run_told : (status : ℕ) (words : List (List ℕ)) (task : Task) (
 complete_run_told status words task old new refused A B asks caused held told ask program is holds none =
     let same = one_task words task (run ask) asks is in
     let fails = (subst (λ (t : Task). Caused refused.failure refused.name.now t old new) same caused).0 in
-    by told (by_told refused.failure ask old new ((held ask (ap ask_in same)).by_files (Ok program) holds) none refused.name.now fails) where
-      by : ((status ≡ status_of refused.failure) × A) ⊎ ((status ≡ 209) × B) → (status_of refused.failure ≡ 255) ⊎ (status_of refused.failure ≡ 209)
+    by told (by_told refused.failure ask old new ((held ask (ap ask_in same)).by_files (Ok program) holds) none
+    refused.name.now fails) where
+      by : ((status ≡ status_of refused.failure) × A) ⊎ ((status ≡ 209) × B)
+          → (status_of refused.failure ≡ 255) ⊎ (status_of refused.failure ≡ 209)
           → (status ≤ 199) ⊎ (status ≡ 255) ⊎ (status ≡ 209)
       by (inr t) end = inr (inr t.0)
       by (inl t) (inl e) = inr (inl (t.0 ∙ e))
       by (inl t) (inr e) = inr (inr (t.0 ∙ e))
 
 -- those that make none are, unless the shelf or memory failed
-pub refused_told : (status before after : ℕ) (failed : Failure) (A B : Type 0) → ((status ≡ status_of failed) × A) ⊎ ((status ≡ 209) × B)
+pub refused_told : (status before after : ℕ) (failed : Failure) (A B : Type 0)
+    → ((status ≡ status_of failed) × A) ⊎ ((status ≡ 209) × B)
     → IsBadSource failed ⊎ Rose before after → (status ≡ 201) ⊎ (status ≡ 209) ⊎ Rose before after
 refused_told status before after failed A B (inr told) h = inr (inl told.0)
 refused_told status before after failed A B (inl told) (inr rose) = inr (inr rose)
@@ -479,13 +582,15 @@ refused_told status before after failed A B (inl told) (inl (inl e)) = inl (told
 refused_told status before after failed A B (inl told) (inl (inr e)) = inr (inl (told.0 ∙ ap status_of e))
 
 -- it is asked for this program
-pub asks_program : (words : List (List ℕ)) (task other : Task) (ask : Ask) → Asks words task → Asks words other → ask_in other ≡ Some ask → ask_in task ≡ Some ask
+pub asks_program : (words : List (List ℕ)) (task other : Task) (ask : Ask) → Asks words task → Asks words other
+    → ask_in other ≡ Some ask → ask_in task ≡ Some ask
 asks_program words task other ask asks is program = ap ask_in (one_task words task other asks is) ∙ program
 
 -- ---- `show`
 
 -- where no count rose, what fails is the end of the input, a packet or memory
-show_fails : (failed : Failure) (input out : Change) → (Rose input.faults_before input.faults → ⊥) → (Rose out.faults_before out.faults → ⊥)
+show_fails : (failed : Failure) (input out : Change) → (Rose input.faults_before input.faults → ⊥)
+    → (Rose out.faults_before out.faults → ⊥)
     → ShowCaused failed input out → (status_of failed ≡ 206) ⊎ (status_of failed ≡ 207) ⊎ (status_of failed ≡ 209)
 show_fails failure.PeerEnd input out i o h = inl refl
 show_fails (failure.Packet offset) input out i o h = inr (inl refl)
@@ -507,7 +612,8 @@ pub complete_show_fails : (status : ℕ) (words : List (List ℕ)) (old new : Se
 complete_show_fails status words old new f asks none =
     let caused = caused_of status words old new f show asks in
     by (show_fails f.failure _ _ none.input_not none.out_not caused.1) where
-      by : (status_of f.failure ≡ 206) ⊎ (status_of f.failure ≡ 207) ⊎ (status_of f.failure ≡ 209) → (status ≡ 0) ⊎ (status ≡ 206) ⊎ (status ≡ 207) ⊎ (status ≡ 209)
+      by : (status_of f.failure ≡ 206) ⊎ (status_of f.failure ≡ 207) ⊎ (status_of f.failure ≡ 209)
+          → (status ≡ 0) ⊎ (status ≡ 206) ⊎ (status ≡ 207) ⊎ (status ≡ 209)
       by (inl e) = inr (inl (f.is_status ∙ e))
       by (inr (inl e)) = inr (inr (inl (f.is_status ∙ e)))
       by (inr (inr e)) = inr (inr (inr (f.is_status ∙ e)))
@@ -517,12 +623,16 @@ pub asks_show : (words : List (List ℕ)) (task : Task) → Asks words task → 
 asks_show words task asks other = one_task words task show asks other
 
 -- what was shown well has the status 0
-pub shows_well : (status : ℕ) (words : List (List ℕ)) (task : Task) (old new : Seen) → Asks words task → Does status task old new → Asks words show → status ≡ 0
-shows_well status words task old new asks does is = (subst (λ (t : Task). Does status t old new) (one_task words task show asks is) does).0
+pub shows_well : (status : ℕ) (words : List (List ℕ)) (task : Task) (old new : Seen) → Asks words task
+    → Does status task old new → Asks words show → status ≡ 0
+shows_well status words task old new asks does is =
+    (subst (λ (t : Task). Does status t old new) (one_task words task show asks is) does).0
 
 -- what was fetched for the task that is asked for
-pub asks_fetched : (words : List (List ℕ)) (task other : Task) (before after : FetchedTold) → Asks words task → IsFetchedFor task before after → Asks words other → IsFetchedFor other before after
-asks_fetched words task other before after asks is asked = subst (λ (t : Task). IsFetchedFor t before after) (one_task words task other asks asked) is
+pub asks_fetched : (words : List (List ℕ)) (task other : Task) (before after : FetchedTold) → Asks words task
+    → IsFetchedFor task before after → Asks words other → IsFetchedFor other before after
+asks_fetched words task other before after asks is asked =
+    subst (λ (t : Task). IsFetchedFor t before after) (one_task words task other asks asked) is
 
 pub none_fetched : (task : Task) (told : FetchedTold) → IsFetchedFor task told told
 none_fetched (run ask) told = nothing_fetched (Some ask) told

@@ -84,8 +84,8 @@ pub record IsUnused (address : Address) (old new : Seen) : Type 0 where
   pub out : IsUntouched (changed old.out new.out)
   pub apart : IsApart old new
 
--- memory ran out before a link was dialled, before the session began, for the line on a failed dial,
--- or once it was served
+-- memory ran out before a link was dialled, before the session began, for the line on a failed
+-- dial, or once it was served
 abbrev pub IsStarved : Address → List ℕ → Ask → Seen → Seen → Type 0
 IsStarved address key ask old new =
     IsIdle old new ⊎ IsUnused address old new ⊎ IsUnlinked address ask old new

@@ -35,7 +35,8 @@ pub record Seen : Type 0 where
   pub err : Stream
   pub net : Net
 
-abbrev pub net_seen : {N In Out : Type 0} → dialer_of.Ghosts N In Out → (N → Option (List Door)) → N → Net
+abbrev pub net_seen : {N In Out : Type 0} → dialer_of.Ghosts N In Out → (N → Option (List Door))
+    → N → Net
 net_seen d shut net = record {
   dials = d.dials net;
   retired = d.retired net;

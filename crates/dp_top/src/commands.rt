@@ -102,7 +102,8 @@ pub fn carry_out_on<'a, R: Wait + Sync, H: Shelf, S: Source, K: Sink, E: Sink, N
     requires asked { (words : List (List ℕ)) × Asks words (task_of command) }
 
     ensures ends { MatchResult result
-        (λ status. Does status (task_of command.entry) (seen H.Shelf S.Source K.Sink E.Sink N.Dialer N.shut_doors shelf.old input.old out.old err.old net.old)
+        (λ status. Does status (task_of command.entry) (seen H.Shelf S.Source K.Sink E.Sink N.Dialer N.shut_doors
+        shelf.old input.old out.old err.old net.old)
         (seen H.Shelf S.Source K.Sink E.Sink N.Dialer N.shut_doors shelf.new input.new out.new err.new net.new))
         (λ why. Caused why.failure why.name.now (task_of command.entry)
         (seen H.Shelf S.Source K.Sink E.Sink N.Dialer N.shut_doors shelf.old input.old out.old err.old net.old)
@@ -110,7 +111,8 @@ pub fn carry_out_on<'a, R: Wait + Sync, H: Shelf, S: Source, K: Sink, E: Sink, N
     ensures status { IfOk result (λ status. status ≤ 199) }
     // Files that make a program are no bad source, and those that make none are one, unless the shelf failed.
     ensures held { (ask : Ask) → ask_in (task_of command.entry) ≡ Some ask
-        → AreHeld ask result (seen H.Shelf S.Source K.Sink E.Sink N.Dialer N.shut_doors shelf.old input.old out.old err.old net.old)
+        → AreHeld ask result (seen H.Shelf S.Source K.Sink E.Sink N.Dialer N.shut_doors shelf.old input.old out.old
+        err.old net.old)
         (seen H.Shelf S.Source K.Sink E.Sink N.Dialer N.shut_doors shelf.new input.new out.new err.new net.new) }
     // Likewise of a list of events, where it is one.
     ensures replay_held { (events : List ℕ) (ask : Ask) → task_of command.entry ≡ Task.replay events ask
@@ -118,7 +120,8 @@ pub fn carry_out_on<'a, R: Wait + Sync, H: Shelf, S: Source, K: Sink, E: Sink, N
         (seen H.Shelf S.Source K.Sink E.Sink N.Dialer N.shut_doors shelf.new input.new out.new err.new net.new) }
     ensures show_shelf { task_of command.entry ≡ Task.show → H.faults shelf.new ≡ H.faults shelf.old }
     ensures fetched { IsFetchedFor (task_of command.entry) (H.fetched shelf.old) (H.fetched shelf.new) }
-    ensures goes_on { Continues (seen H.Shelf S.Source K.Sink E.Sink N.Dialer N.shut_doors shelf.old input.old out.old err.old net.old)
+    ensures goes_on { Continues (seen H.Shelf S.Source K.Sink E.Sink N.Dialer N.shut_doors shelf.old input.old out.old
+        err.old net.old)
         (seen H.Shelf S.Source K.Sink E.Sink N.Dialer N.shut_doors shelf.new input.new out.new err.new net.new) }
 {
     let mut objects = Objects {

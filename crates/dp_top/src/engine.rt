@@ -36,10 +36,14 @@ fn serve_linked<'a, N: Net, K: Sink>(
     requires session { IsSession request.talk.key.now (ask_told request.talk.program) }
     requires named { map (λ file. file.name) bundle.now.files ≡ (ask_told request.talk.program).names }
     ensures ends { MatchResult result
-        (λ status. EngagedSo status bundle.now (address_told request.entry.address) request.entry.talk.key.now (ask_told request.entry.talk.program)
-        (change K.taken K.faults out.old out.new) (net_seen N.Dialer N.shut_doors net.old) (net_seen N.Dialer N.shut_doors net.new))
-        (λ why. UnengagedSo why.failure why.name.now bundle.now (address_told request.entry.address) request.entry.talk.key.now (ask_told request.entry.talk.program)
-        (change K.taken K.faults out.old out.new) (net_seen N.Dialer N.shut_doors net.old) (net_seen N.Dialer N.shut_doors net.new)) }
+        (λ status. EngagedSo status bundle.now (address_told request.entry.address) request.entry.talk.key.now
+        (ask_told request.entry.talk.program)
+        (change K.taken K.faults out.old out.new) (net_seen N.Dialer N.shut_doors net.old)
+        (net_seen N.Dialer N.shut_doors net.new))
+        (λ why. UnengagedSo why.failure why.name.now bundle.now
+        (address_told request.entry.address) request.entry.talk.key.now (ask_told request.entry.talk.program)
+        (change K.taken K.faults out.old out.new) (net_seen N.Dialer N.shut_doors net.old)
+        (net_seen N.Dialer N.shut_doors net.new)) }
     ensures status { IfOk result (λ status. status ≤ 199) }
     ensures held { (made : Made) (before after : ℕ) → IsHeld (Ok made) result before after }
     ensures out_later { K.faults out.old ≤ K.faults out.new }
@@ -79,10 +83,14 @@ fn serve_over<'a, N: Net, K: Sink>(
     requires session { IsSession request.talk.key.now (ask_told request.talk.program) }
     requires named { map (λ file. file.name) bundle.now.files ≡ (ask_told request.talk.program).names }
     ensures ends { MatchResult result
-        (λ status. EngagedSo status bundle.now (address_told request.entry.address) request.entry.talk.key.now (ask_told request.entry.talk.program)
-        (change K.taken K.faults out.old out.new) (net_seen N.Dialer N.shut_doors net.old) (net_seen N.Dialer N.shut_doors net.new))
-        (λ why. UnengagedSo why.failure why.name.now bundle.now (address_told request.entry.address) request.entry.talk.key.now (ask_told request.entry.talk.program)
-        (change K.taken K.faults out.old out.new) (net_seen N.Dialer N.shut_doors net.old) (net_seen N.Dialer N.shut_doors net.new)) }
+        (λ status. EngagedSo status bundle.now (address_told request.entry.address) request.entry.talk.key.now
+        (ask_told request.entry.talk.program)
+        (change K.taken K.faults out.old out.new) (net_seen N.Dialer N.shut_doors net.old)
+        (net_seen N.Dialer N.shut_doors net.new))
+        (λ why. UnengagedSo why.failure why.name.now bundle.now
+        (address_told request.entry.address) request.entry.talk.key.now (ask_told request.entry.talk.program)
+        (change K.taken K.faults out.old out.new) (net_seen N.Dialer N.shut_doors net.old)
+        (net_seen N.Dialer N.shut_doors net.new)) }
     ensures status { IfOk result (λ status. status ≤ 199) }
     ensures held { (made : Made) (before after : ℕ) → IsHeld (Ok made) result before after }
     ensures out_later { K.faults out.old ≤ K.faults out.new }
@@ -105,14 +113,16 @@ pub(crate) fn engine<'a, H: Shelf, S: Source, K: Sink, E: Sink, N: Net>(
     requires host { IsHostWord request.address.host.now }
     requires session { IsSession request.talk.key.now (ask_told request.talk.program) }
     ensures ends { MatchResult result
-        (λ status. Engages status (address_told request.entry.address) request.entry.talk.key.now (ask_told request.entry.talk.program)
+        (λ status. Engages status (address_told request.entry.address) request.entry.talk.key.now
+        (ask_told request.entry.talk.program)
         objects.old.seen objects.new.seen)
         (λ why. EngineFails why.failure why.name.now (address_told request.entry.address) request.entry.talk.key.now
         (ask_told request.entry.talk.program) objects.old.seen objects.new.seen) }
     ensures status { IfOk result (λ status. status ≤ 199) }
     // Files that make a program are no bad source, and those that make none are one, unless the shelf failed.
     ensures held { AreHeld (ask_told request.entry.talk.program) result objects.old.seen objects.new.seen }
-    ensures fetched { IsFetched (Some (ask_told request.entry.talk.program)) objects.old.seen.shelf.fetched objects.new.seen.shelf.fetched }
+    ensures fetched { IsFetched (Some (ask_told request.entry.talk.program)) objects.old.seen.shelf.fetched
+        objects.new.seen.shelf.fetched }
     ensures goes_on { GoesOn objects.old objects.new }
 {
     match fetch_program(alloc, request.talk.program.files, objects.shelf) {

@@ -345,7 +345,8 @@ pub fn say<E: Sink>(err: &mut E, line: &[u8])
 
 /// Tells a failure on the error output, and answers its status; want of memory where there is none for its line.
 pub fn report<E: Sink>(alloc: Global, failure: &Failure, file: &[u8], err: &mut E) -> u8
-    ensures told { ((result ≡ status_of failure.now) × Says (change E.taken E.faults err.old err.new) (line_of failure.now file.now))
+    ensures told { ((result ≡ status_of failure.now)
+        × Says (change E.taken E.faults err.old err.new) (line_of failure.now file.now))
         ⊎ ((result ≡ 209) × Says (change E.taken E.faults err.old err.new) (codes "out of memory\n")) }
     ensures later { E.faults err.old ≤ E.faults err.new }
 {

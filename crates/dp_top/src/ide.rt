@@ -171,9 +171,11 @@ pub(crate) fn ide<'a, R: Wait + Sync, H: Shelf, S: Source, K: Sink, E: Sink, N: 
 ) -> Result<u8, Refused<'a>>
     ensures ends { MatchResult result
         (λ status. Plays status request.entry.port request.entry.script.now objects.old.seen objects.new.seen)
-        (λ why. IdeFails why.failure why.name.now request.entry.port request.entry.script.now objects.old.seen objects.new.seen) }
+        (λ why. IdeFails why.failure why.name.now request.entry.port request.entry.script.now objects.old.seen
+        objects.new.seen) }
     ensures status { IfOk result (λ status. status ≤ 199) }
-    ensures fetched { objects.new.seen.shelf.fetched ≡ grown objects.old.seen.shelf.fetched (request.entry.script.now ∷ []) }
+    ensures fetched { objects.new.seen.shelf.fetched ≡ grown objects.old.seen.shelf.fetched
+        (request.entry.script.now ∷ []) }
     ensures goes_on { GoesOn objects.old objects.new }
 {
     match fetch_script(alloc, request.script, objects.shelf) {

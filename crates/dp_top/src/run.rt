@@ -7,7 +7,8 @@ ghost use Rattle.dp_run.specs.Programs.{Holds};
 ghost use Rattle.dp_run.specs.Runs.{Runs};
 ghost use Rattle.dp_words.specs.CommandLine.{AreFileWords};
 ghost use Rattle.dp_words.specs.Commands.{ask_told};
-ghost use Rattle.dp_top.specs.Runs.{IsFetched, IsProgramTold, IsRunTold, failure_of, name_at as name_in, name_told, program_failure, program_name, RunFails};
+ghost use Rattle.dp_top.specs.Runs.{IsFetched, IsProgramTold, IsRunTold, failure_of, name_at as name_in, name_told};
+ghost use Rattle.dp_top.specs.Runs.{program_failure, program_name, RunFails};
 ghost use Rattle.dp_top.specs.inner.Held.{IsHeld};
 
 use crate::failures::{Failure, Refused, refusal};
@@ -118,7 +119,8 @@ pub fn run<'a, H: Shelf, K: Sink>(
 ) -> Result<u8, Refused<'a>>
     requires { AreFileWords (ask_told program).names }
     ensures ends { MatchResult result
-        (λ status. Runs status (H.files shelf.old) (ask_told program.entry).names program.entry.bound (change K.taken K.faults out.old out.new))
+        (λ status. Runs status (H.files shelf.old) (ask_told program.entry).names program.entry.bound
+        (change K.taken K.faults out.old out.new))
         (λ why. RunFails why.failure why.name.now (H.files shelf.old) (H.faults shelf.old) (H.faults shelf.new)
         (ask_told program.entry) (change K.taken K.faults out.old out.new)) }
     ensures status { IfOk result (λ status. status ≤ 199) }

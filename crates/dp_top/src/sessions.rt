@@ -77,7 +77,8 @@ pub(crate) fn serve_program<'a, S: Source, K: Sink, E: Sink, L: Ledger>(
         (λ status. ServedSo unsent status bundle.now request.entry.key.now (ask_told request.entry.program)
         (change S.left S.faults input.old input.new) (change K.taken K.faults out.old out.new)
         (change E.taken E.faults err.old err.new))
-        (λ why. UnservedSo unsent why.failure why.name.now bundle.now request.entry.key.now (ask_told request.entry.program)
+        (λ why. UnservedSo unsent why.failure why.name.now bundle.now request.entry.key.now
+        (ask_told request.entry.program)
         (change S.left S.faults input.old input.new) (change K.taken K.faults out.old out.new)
         (change E.taken E.faults err.old err.new)) }
     ensures status { IfOk result (λ status. status ≤ 199) }

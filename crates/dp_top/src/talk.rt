@@ -33,7 +33,8 @@ pub(crate) fn talk<'a, H: Shelf, S: Source, K: Sink, E: Sink, N: Net>(
     ensures status { IfOk result (λ status. status ≤ 199) }
     // Files that make a program are no bad source, and those that make none are one, unless the shelf failed.
     ensures held { AreHeld (ask_told request.entry.program) result objects.old.seen objects.new.seen }
-    ensures fetched { IsFetched (Some (ask_told request.entry.program)) objects.old.seen.shelf.fetched objects.new.seen.shelf.fetched }
+    ensures fetched { IsFetched (Some (ask_told request.entry.program)) objects.old.seen.shelf.fetched
+        objects.new.seen.shelf.fetched }
     ensures offline { objects.new.seen.net ≡ objects.old.seen.net }
     ensures goes_on { GoesOn objects.old objects.new }
 {

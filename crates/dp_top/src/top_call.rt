@@ -62,7 +62,8 @@ pub fn top<R: Wait + Sync, H: Shelf, S: Source, K: Sink, E: Sink, N: Net, P: Spa
 ) -> u8
     ensures usage { result ≡ 200 → (task : Task) → Asks (map string_bytes words.now) task → ⊥ }
     // Words that ask for nothing are told, unless memory ran out as they were read.
-    ensures usage_only { ((task : Task) → Asks (map string_bytes words.now) task → ⊥) → (result ≡ 200) ⊎ (result ≡ 209) }
+    ensures usage_only { ((task : Task) → Asks (map string_bytes words.now) task → ⊥)
+        → (result ≡ 200) ⊎ (result ≡ 209) }
     ensures usage_told { result ≡ 200 → Says (change E.taken E.faults err.old err.new) (codes "usage\n") }
     ensures usage_input { result ≡ 200 → IsUntouched (change S.left S.faults input.old input.new) }
     ensures usage_out { result ≡ 200 → IsUntouched (change K.taken K.faults out.old out.new) }
@@ -77,35 +78,42 @@ pub fn top<R: Wait + Sync, H: Shelf, S: Source, K: Sink, E: Sink, N: Net, P: Spa
     ensures fails { 200 < result → Fails result (map string_bytes words.now)
         (seen H.Shelf S.Source K.Sink E.Sink N.Dialer N.shut_doors shelf.old input.old out.old err.old net.old)
         (seen H.Shelf S.Source K.Sink E.Sink N.Dialer N.shut_doors shelf.new input.new out.new err.new net.new)
-        ⊎ IsUnread result (seen H.Shelf S.Source K.Sink E.Sink N.Dialer N.shut_doors shelf.old input.old out.old err.old net.old)
+        ⊎ IsUnread result (seen H.Shelf S.Source K.Sink E.Sink N.Dialer N.shut_doors shelf.old input.old out.old err.old
+        net.old)
         (seen H.Shelf S.Source K.Sink E.Sink N.Dialer N.shut_doors shelf.new input.new out.new err.new net.new) }
 
     // Where the shelf tells the files, they make a program, and no count rose, it is run to its end, and all that it wrote
     // is put.
     ensures complete_run { (ask : Ask) (program : Bundle) → IsRun (map string_bytes words.now) ask
         → Holds (H.files shelf.old) ask.names (Ok program)
-        → NoneRose (seen H.Shelf S.Source K.Sink E.Sink N.Dialer N.shut_doors shelf.old input.old out.old err.old net.old)
+        → NoneRose (seen H.Shelf S.Source K.Sink E.Sink N.Dialer N.shut_doors shelf.old input.old out.old err.old
+        net.old)
         (seen H.Shelf S.Source K.Sink E.Sink N.Dialer N.shut_doors shelf.new input.new out.new err.new net.new)
         → (result ≤ 199) ⊎ (result ≡ 255) ⊎ (result ≡ 209) }
     // Likewise the session is served whole, or what is no command is told.
     ensures complete_talk { (key : List ℕ) (ask : Ask) (program : Bundle) → IsTalk (map string_bytes words.now) key ask
         → Holds (H.files shelf.old) ask.names (Ok program)
-        → NoneRose (seen H.Shelf S.Source K.Sink E.Sink N.Dialer N.shut_doors shelf.old input.old out.old err.old net.old)
+        → NoneRose (seen H.Shelf S.Source K.Sink E.Sink N.Dialer N.shut_doors shelf.old input.old out.old err.old
+        net.old)
         (seen H.Shelf S.Source K.Sink E.Sink N.Dialer N.shut_doors shelf.new input.new out.new err.new net.new)
         → (result ≤ 199) ⊎ (result ≡ 207) ⊎ (result ≡ 210) ⊎ (result ≡ 255) ⊎ (result ≡ 209) }
     // Likewise over a link that was dialled.
-    ensures complete_engine { (address : Address) (key : List ℕ) (ask : Ask) (program : Bundle) → IsEngine (map string_bytes words.now) address key ask
+    ensures complete_engine { (address : Address) (key : List ℕ) (ask : Ask) (program : Bundle)
+        → IsEngine (map string_bytes words.now) address key ask
         → Holds (H.files shelf.old) ask.names (Ok program)
-        → NoneRose (seen H.Shelf S.Source K.Sink E.Sink N.Dialer N.shut_doors shelf.old input.old out.old err.old net.old)
+        → NoneRose (seen H.Shelf S.Source K.Sink E.Sink N.Dialer N.shut_doors shelf.old input.old out.old err.old
+        net.old)
         (seen H.Shelf S.Source K.Sink E.Sink N.Dialer N.shut_doors shelf.new input.new out.new err.new net.new)
         → (result ≤ 199) ⊎ (result ≡ 207) ⊎ (result ≡ 210) ⊎ (result ≡ 255) ⊎ (result ≡ 209) }
     // Where they make none, that is told, unless the shelf fails first.
-    ensures refused { (task : Task) (ask : Ask) (why : BundleError) → Asks (map string_bytes words.now) task → ask_in task ≡ Some ask
+    ensures refused { (task : Task) (ask : Ask) (why : BundleError) → Asks (map string_bytes words.now) task
+        → ask_in task ≡ Some ask
         → Holds (H.files shelf.old) ask.names (Err why)
         → (result ≡ 201) ⊎ (result ≡ 209) ⊎ Rose (H.faults shelf.old) (H.faults shelf.new) }
     // Where no count rose, every packet is shown, or the input ended inside one, or what is no packet is told.
     ensures complete_show { Asks (map string_bytes words.now) Task.show
-        → NoneRose (seen H.Shelf S.Source K.Sink E.Sink N.Dialer N.shut_doors shelf.old input.old out.old err.old net.old)
+        → NoneRose (seen H.Shelf S.Source K.Sink E.Sink N.Dialer N.shut_doors shelf.old input.old out.old err.old
+        net.old)
         (seen H.Shelf S.Source K.Sink E.Sink N.Dialer N.shut_doors shelf.new input.new out.new err.new net.new)
         → (result ≡ 0) ⊎ (result ≡ 206) ⊎ (result ≡ 207) ⊎ (result ≡ 209) }
 
@@ -113,13 +121,16 @@ pub fn top<R: Wait + Sync, H: Shelf, S: Source, K: Sink, E: Sink, N: Net, P: Spa
     ensures script_refused { (port line : ℕ) (script : List ℕ) → IsIde (map string_bytes words.now) port script
         → IsSome (H.files shelf.old) → IsNoScript (H.files shelf.old) script line
         → (result ≡ 204) ⊎ (result ≡ 209) ⊎ Rose (H.faults shelf.old) (H.faults shelf.new) }
-    ensures script_held { (port : ℕ) (script : List ℕ) (instructions : List Instruction) → IsIde (map string_bytes words.now) port script
+    ensures script_held { (port : ℕ) (script : List ℕ) (instructions : List Instruction)
+        → IsIde (map string_bytes words.now) port script
         → IsSome (H.files shelf.old) → IsHeldScript (H.files shelf.old) script instructions → result ≡ 204 → ⊥ }
     // Where it is one, and no count rose, the script is played to its end, or what differs, the link's end or what is no packet
     // is told.
-    ensures complete_ide { (port : ℕ) (script : List ℕ) (instructions : List Instruction) → IsIde (map string_bytes words.now) port script
+    ensures complete_ide { (port : ℕ) (script : List ℕ) (instructions : List Instruction)
+        → IsIde (map string_bytes words.now) port script
         → IsSome (H.files shelf.old) → IsHeldScript (H.files shelf.old) script instructions
-        → NoneRose (seen H.Shelf S.Source K.Sink E.Sink N.Dialer N.shut_doors shelf.old input.old out.old err.old net.old)
+        → NoneRose (seen H.Shelf S.Source K.Sink E.Sink N.Dialer N.shut_doors shelf.old input.old out.old err.old
+        net.old)
         (seen H.Shelf S.Source K.Sink E.Sink N.Dialer N.shut_doors shelf.new input.new out.new err.new net.new)
         → (result ≡ 0) ⊎ (result ≡ 205) ⊎ (result ≡ 206) ⊎ (result ≡ 207) ⊎ (result ≡ 209) }
 

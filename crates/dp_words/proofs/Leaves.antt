@@ -38,7 +38,9 @@ plain_is (b ∷ bs) h = by (b == 45) refl h where
   by : (t : Bool) → (b == 45) ≡ t → not t ≡ true → Plain (b ∷ bs)
   by true e n = absurd cc
   by false e n = record {
-    no_long = ap (λ (t : Bool). option_and_then long_of_rest (option_and_then (strip_byte 45) (if t then Some bs else None))) e;
+    no_long =
+        ap (λ (t : Bool). option_and_then long_of_rest (option_and_then (strip_byte 45) (if t then Some bs else None)))
+        e;
     no_short = ap (λ (t : Bool). option_and_then short_of_rest (if t then Some bs else None)) e;
     no_dashes = ap (λ (t : Bool). t && bytes_eq bs (45 ∷ [])) e;
   }
@@ -150,7 +152,8 @@ pub behind_bound : (n word : Text) → Plain word
     → walked (R true) [] (at [] (pending_bound (n ∷ [])) idle) word ≡ reading_words (bound_row n ∷ []) (word ∷ [])
 unfolding walked
 behind_bound n word p =
-    ap (by_met (R true) word (at [] (pending_bound (n ∷ [])) idle)) (met (R true) idle word (at [] (pending_bound (n ∷ [])) idle).held p)
+    ap (by_met (R true) word (at [] (pending_bound (n ∷ [])) idle))
+    (met (R true) idle word (at [] (pending_bound (n ∷ [])) idle).held p)
 
 -- ---- faults of the walk
 
@@ -159,7 +162,8 @@ pub no_flag : (s : Shape) (word : Text) (h : Held) → Plain word → other_faul
 no_flag s word h p =
     ap (λ (t : Bool). if t then [] else flag_word_fault s.rules s.args_override_self (long_of word) word h) p.no_dashes
     ∙ ap (λ (l : Option (Text × Option Text)). flag_word_fault s.rules s.args_override_self l word h) p.no_long
-    ∙ ap (λ (f : Option Text). option_map_or (λ flags. bundle_fault s.rules s.args_override_self flags h) f []) p.no_short
+    ∙ ap (λ (f : Option Text). option_map_or (λ flags. bundle_fault s.rules s.args_override_self flags h) f [])
+    p.no_short
 
 abbrev pub fault_met : Shape → Held × Step → Kinds
 fault_met s m = step_fault s 1 m.0 m.1
@@ -169,9 +173,11 @@ first_fault s w word = turn_fault s [] w word
 
 pub first_taken : (b : Bool) (name word : Text) → Plain word → turn_fault (S b name) [] start word ≡ []
 first_taken true name word p =
-    ap₂ or_else (no_flag (S true name) word start.held p) (ap (fault_met (S true name)) (met (R true) idle word start.held p))
+    ap₂ or_else (no_flag (S true name) word start.held p) (ap (fault_met (S true name))
+    (met (R true) idle word start.held p))
 first_taken false name word p =
-    ap₂ or_else (no_flag (S false name) word start.held p) (ap (fault_met (S false name)) (met (R false) idle word start.held p))
+    ap₂ or_else (no_flag (S false name) word start.held p) (ap (fault_met (S false name))
+    (met (R false) idle word start.held p))
 
 pub more_taken : (b : Bool) (name : Text) (rows : List Row) (vs : List Text) (word : Text) → Plain word
     → turn_fault (S b name) [] (reading_words rows vs) word ≡ []
@@ -190,15 +196,19 @@ all_taken b name rows vs (w ∷ ws) h =
     let parts = both (is_plain w) (list_all is_plain ws) h in
     ap₂ or_else (more_taken b name rows vs w (plain_is w parts.0))
     (ap (λ (x : Walk). walk_fault (S b name) [] x ws)
-    (ap (λ (rules : List Rule). walked rules [] (reading_words rows vs) w) (rules_are b name) ∙ more_words b rows vs w (plain_is w parts.0))
+    (ap (λ (rules : List Rule). walked rules [] (reading_words rows vs) w) (rules_are b name) ∙ more_words b rows vs w
+    (plain_is w parts.0))
     ∙ all_taken b name rows (vs ++ w ∷ []) ws parts.1)
 
-pub bound_taken : (name n : Text) → Plain n → turn_fault (S true name) [] (at [] (pending_bound []) (option (codes "bound"))) n ≡ []
+pub bound_taken : (name n : Text) → Plain n
+    → turn_fault (S true name) [] (at [] (pending_bound []) (option (codes "bound"))) n ≡ []
 bound_taken name n p =
     ap₂ or_else (no_flag (S true name) n (at [] (pending_bound []) (option (codes "bound"))).held p)
-    (ap (fault_met (S true name)) (met (R true) (option (codes "bound")) n (at [] (pending_bound []) (option (codes "bound"))).held p))
+    (ap (fault_met (S true name)) (met (R true) (option (codes "bound")) n
+    (at [] (pending_bound []) (option (codes "bound"))).held p))
 
-pub behind_taken : (name n word : Text) → Plain word → turn_fault (S true name) [] (at [] (pending_bound (n ∷ [])) idle) word ≡ []
+pub behind_taken : (name n word : Text) → Plain word
+    → turn_fault (S true name) [] (at [] (pending_bound (n ∷ [])) idle) word ≡ []
 behind_taken name n word p =
     ap₂ or_else (no_flag (S true name) word (at [] (pending_bound (n ∷ [])) idle).held p)
     (ap (fault_met (S true name)) (met (R true) idle word (at [] (pending_bound (n ∷ [])) idle).held p))
@@ -236,7 +246,8 @@ few n small =
     λ i. in_range (some i) (enough i) (no_more i)
 
 -- the words are used as they stand
-pub words_used : (vs : List Text) (v : Text) (rows : List Row) → suc (length vs) ≤ usize_max → use_fault false W (v ∷ vs) rows ≡ []
+pub words_used : (vs : List Text) (v : Text) (rows : List Row) → suc (length vs) ≤ usize_max
+    → use_fault false W (v ∷ vs) rows ≡ []
 words_used vs v rows small = ap₂ or_else (few (length vs) small) (accepted vs)
 
 pub words_fine : (b : Bool) (name : Text) (v : Text) (vs : List Text) → suc (length vs) ≤ usize_max
@@ -269,14 +280,17 @@ plain_taken b name v vs h hs =
     (ap (λ (rules : List Rule). walked rules [] start v) (rules_are b name) ∙ first_word b v (plain_is v h))
     ∙ all_taken b name [] (v ∷ []) vs hs)
 
-pub walk_of : (b : Bool) (name : Text) (words : List Text) → walk (S b name).rules [] nothing_held words ≡ walk (R b) [] nothing_held words
+pub walk_of : (b : Bool) (name : Text) (words : List Text)
+    → walk (S b name).rules [] nothing_held words ≡ walk (R b) [] nothing_held words
 walk_of b name words = ap (λ (rules : List Rule). walk rules [] nothing_held words) (rules_are b name)
 
-pub plain_level : (b : Bool) (name v : Text) (vs : List Text) → is_plain v ≡ true → list_all is_plain vs ≡ true → suc (length vs) ≤ usize_max
+pub plain_level : (b : Bool) (name v : Text) (vs : List Text) → is_plain v ≡ true → list_all is_plain vs ≡ true
+    → suc (length vs) ≤ usize_max
     → fault (S b name) (v ∷ vs) ≡ []
 plain_level b name v vs h hs small =
     ap₂ or_else (plain_taken b name v vs h hs)
-    (ap (λ (x : Walk). tail_fault (S b name) x.held) (walk_of b name (v ∷ vs) ∙ plain_walk b v vs h hs) ∙ words_fine b name v vs small)
+    (ap (λ (x : Walk). tail_fault (S b name) x.held) (walk_of b name (v ∷ vs) ∙ plain_walk b v vs h hs) ∙ words_fine b
+    name v vs small)
 
 pub plain_rows : (b : Bool) (name v : Text) (vs : List Text) → is_plain v ≡ true → list_all is_plain vs ≡ true
     → rows_after (S b name).rules [] (v ∷ vs) ≡ words_row (v ∷ vs) ∷ []
@@ -291,7 +305,8 @@ bound_walk n v vs hn h hs =
     ∙ ap (λ (x : Walk). fold (walked (R true) []) x vs) (behind_bound n v (plain_is v h))
     ∙ all_words true (bound_row n ∷ []) (v ∷ []) vs hs
 
-pub bound_walk_taken : (name n v : Text) (vs : List Text) → is_plain n ≡ true → is_plain v ≡ true → list_all is_plain vs ≡ true
+pub bound_walk_taken : (name n v : Text) (vs : List Text) → is_plain n ≡ true → is_plain v ≡ true
+    → list_all is_plain vs ≡ true
     → walk_fault (S true name) [] start (codes "--bound" ∷ n ∷ v ∷ vs) ≡ []
 unfolding walk_fault
 bound_walk_taken name n v vs hn h hs =
@@ -303,13 +318,15 @@ bound_walk_taken name n v vs hn h hs =
     (ap (λ (x : Walk). walk_fault (S true name) [] x vs) (behind_bound n v (plain_is v h))
     ∙ all_taken true name (bound_row n ∷ []) (v ∷ []) vs hs)))
 
-pub bound_level : (name n v : Text) (vs : List Text) → is_plain n ≡ true → is_plain v ≡ true → list_all is_plain vs ≡ true → suc (length vs) ≤ usize_max
+pub bound_level : (name n v : Text) (vs : List Text) → is_plain n ≡ true → is_plain v ≡ true
+    → list_all is_plain vs ≡ true → suc (length vs) ≤ usize_max
     → fault (S true name) (codes "--bound" ∷ n ∷ v ∷ vs) ≡ []
 bound_level name n v vs hn h hs small =
     ap₂ or_else (bound_walk_taken name n v vs hn h hs)
     (ap (λ (x : Walk). tail_fault (S true name) x.held) (bound_walk n v vs hn h hs) ∙ bounded_fine name n v vs small)
 
-pub bound_rows : (name n v : Text) (vs : List Text) → is_plain n ≡ true → is_plain v ≡ true → list_all is_plain vs ≡ true
+pub bound_rows : (name n v : Text) (vs : List Text) → is_plain n ≡ true → is_plain v ≡ true
+    → list_all is_plain vs ≡ true
     → rows_after (S true name).rules [] (codes "--bound" ∷ n ∷ v ∷ vs) ≡ bound_row n ∷ words_row (v ∷ vs) ∷ []
 bound_rows name n v vs hn h hs = ap (λ (x : Walk). finished (R true) x.held) (bound_walk n v vs hn h hs)
 
@@ -345,11 +362,13 @@ alone_fine name = refl
 pub some_refused : (k : ErrorKind) (more rest : Kinds) → length (or_else (k ∷ more) rest) ≡ suc (length more)
 some_refused k more rest = refl
 
-pub alone_refused : (name v : Text) (vs : List Text) → is_plain v ≡ true → (more : Kinds) × (fault (alone name) (v ∷ vs) ≡ kind.UnknownArgument ∷ more)
+pub alone_refused : (name v : Text) (vs : List Text) → is_plain v ≡ true
+    → (more : Kinds) × (fault (alone name) (v ∷ vs) ≡ kind.UnknownArgument ∷ more)
 unfolding walk_fault
 alone_refused name v vs h = (
   [],
   ap (λ (k : Kinds). or_else (or_else k (walk_fault (alone name) [] (walked (alone name).rules [] start v) vs))
       (tail_fault (alone name) (walk (alone name).rules [] nothing_held (v ∷ vs)).held))
-      (ap₂ or_else (no_flag (alone name) v start.held (plain_is v h)) (ap (fault_met (alone name)) (met [] idle v start.held (plain_is v h)))),
+      (ap₂ or_else (no_flag (alone name) v start.held (plain_is v h))
+      (ap (fault_met (alone name)) (met [] idle v start.held (plain_is v h)))),
 )

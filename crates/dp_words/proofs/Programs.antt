@@ -19,7 +19,8 @@ names = names_of (built program)
 abbrev pub stopped_at : Text → List Text → Walk
 stopped_at name behind = record start { stopped = Some (name, behind) }
 
-pub stop_more : (name : Text) (vs ws : List Text) → fold (walked [] names) (stopped_at name vs) ws ≡ stopped_at name (vs ++ ws)
+pub stop_more : (name : Text) (vs ws : List Text)
+    → fold (walked [] names) (stopped_at name vs) ws ≡ stopped_at name (vs ++ ws)
 unfolding walked
 stop_more name vs [] = ap (stopped_at name) (sym (append-nil vs))
 stop_more name vs (w ∷ ws) = stop_more name (vs ++ w ∷ []) ws ∙ ap (stopped_at name) (append_assoc vs (w ∷ []) ws)
@@ -37,7 +38,9 @@ end_fault w =
     (or_else (defaults_fault (settled [] w.held).rows [])
     (check_fault above (finished [] w.held) (is_some (entered (built program) w.stopped)))))
 
-pub all_faults : (words : List Text) → fault_of program words ≡ or_else (walk_fault above names start words) (end_fault (walk [] names nothing_held words))
+pub all_faults : (words : List Text)
+    → fault_of program words ≡ or_else (walk_fault above names start words)
+    (end_fault (walk [] names nothing_held words))
 all_faults words = refl
 
 -- a command of this name, with this shape
@@ -45,19 +48,25 @@ pub record Known (name : Text) (s : Shape) : Type 0 where
   pub met_so : walked [] names start name ≡ stopped_at name []
   pub taken : turn_fault above names start name ≡ []
   pub found : (behind : List Text) → end_fault (stopped_at name behind) ≡ or_else (fault s behind) []
-  pub rows : (behind : List Text) → entered (built program) (Some (name, behind)) ≡ Some (name, rows_after s.rules [] behind)
+  pub rows : (behind : List Text)
+      → entered (built program) (Some (name, behind)) ≡ Some (name, rows_after s.rules [] behind)
 
-pub walk_known : (name : Text) (s : Shape) → Known name s → (behind : List Text) → walk [] names nothing_held (name ∷ behind) ≡ stopped_at name behind
+pub walk_known : (name : Text) (s : Shape) → Known name s → (behind : List Text)
+    → walk [] names nothing_held (name ∷ behind) ≡ stopped_at name behind
 walk_known name s k behind = ap (λ (x : Walk). fold (walked [] names) x behind) k.met_so ∙ stop_more name [] behind
 
-pub fault_known : (name : Text) (s : Shape) → Known name s → (behind : List Text) → fault_of program (name ∷ behind) ≡ or_else (fault s behind) []
+pub fault_known : (name : Text) (s : Shape) → Known name s → (behind : List Text)
+    → fault_of program (name ∷ behind) ≡ or_else (fault s behind) []
 unfolding walk_fault
 fault_known name s k behind =
-    ap₂ or_else (ap₂ or_else k.taken (ap (λ (x : Walk). walk_fault above names x behind) k.met_so ∙ stop_taken name [] behind))
+    ap₂ or_else (ap₂ or_else k.taken (ap (λ (x : Walk). walk_fault above names x behind) k.met_so ∙ stop_taken name
+    [] behind))
     (ap end_fault (walk_known name s k behind) ∙ k.found behind)
 
-pub rows_known : (name : Text) (s : Shape) → Known name s → (behind : List Text) → subcommand_of program (name ∷ behind) ≡ Some (name, rows_after s.rules [] behind)
-rows_known name s k behind = ap (λ (x : Walk). entered (built program) x.stopped) (walk_known name s k behind) ∙ k.rows behind
+pub rows_known : (name : Text) (s : Shape) → Known name s → (behind : List Text)
+    → subcommand_of program (name ∷ behind) ≡ Some (name, rows_after s.rules [] behind)
+rows_known name s k behind =
+    ap (λ (x : Walk). entered (built program) x.stopped) (walk_known name s k behind) ∙ k.rows behind
 
 pub run_known : Known (codes "run") (S true (codes "run"))
 unfolding clap_on_literals
@@ -93,17 +102,23 @@ stray = kind.UnknownArgument ∷ kind.InvalidSubcommand ∷ []
 
 -- what is wrong with a first word that names this command
 abbrev pub first_fault : Text → Option Text → Kinds
-first_fault name sub = or_else (other_fault above sub name start.held) (fault_met above (subcommand_or_other [] sub idle 1 name start.held))
+first_fault name sub =
+    or_else (other_fault above sub name start.held) (fault_met above
+    (subcommand_or_other [] sub idle 1 name start.held))
 
-pub first_unknown : (name : Text) → is_plain name ≡ true → find (answers_to name) names ≡ None → turn_fault above names start name ≡ stray
+pub first_unknown : (name : Text) → is_plain name ≡ true → find (answers_to name) names ≡ None
+    → turn_fault above names start name ≡ stray
 first_unknown name plain none =
     ap (λ (s : Option (Text × List Text)). first_fault name (option_map (λ x. x.0) s)) none
-    ∙ ap₂ or_else (no_flag above name start.held (plain_is name plain)) (ap (fault_met above) (met [] idle name start.held (plain_is name plain)))
+    ∙ ap₂ or_else (no_flag above name start.held (plain_is name plain))
+    (ap (fault_met above) (met [] idle name start.held (plain_is name plain)))
 
-pub unknown : (name : Text) (behind : List Text) → is_plain name ≡ true → find (answers_to name) names ≡ None → fault_of program (name ∷ behind) ≡ stray
+pub unknown : (name : Text) (behind : List Text) → is_plain name ≡ true → find (answers_to name) names ≡ None
+    → fault_of program (name ∷ behind) ≡ stray
 unfolding walk_fault
 unknown name behind plain none =
-    ap (λ (k : Kinds). or_else (or_else k (walk_fault above names (walked [] names start name) behind)) (end_fault (walk [] names nothing_held (name ∷ behind))))
+    ap (λ (k : Kinds). or_else (or_else k (walk_fault above names (walked [] names start name) behind))
+    (end_fault (walk [] names nothing_held (name ∷ behind))))
     (first_unknown name plain none)
 
 -- ---- the command is a simple one

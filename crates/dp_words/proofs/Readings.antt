@@ -31,7 +31,8 @@ name_of (replay events ask) = codes "replay"
 name_of show = codes "show"
 
 -- the first of the words names the task
-abbrev named : (words : List Text) (task : Task) → Asks words task → (behind : List Text) × (words ≡ name_of task ∷ behind)
+abbrev named : (words : List Text) (task : Task) → Asks words task
+    → (behind : List Text) × (words ≡ name_of task ∷ behind)
 named words (run ask) h = (h.behind, h.words_are)
 named words (talk key ask) h = (h.behind, h.words_are)
 named words (engine address key ask) h = (h.behind, h.words_are)
@@ -59,7 +60,8 @@ wants words (replay events ask) h = (_, h.replays.asked, omega (arith))
 wants words (ide port script) h = (h.number, refl)
 wants words show h = refl
 
-needs_files : (task : Task) (behind : List Text) → has_bound (name_of task) ≡ true → WantsFiles task behind → IsFiled behind
+needs_files : (task : Task) (behind : List Text) → has_bound (name_of task) ≡ true → WantsFiles task behind
+    → IsFiled behind
 needs_files (run ask) behind e h = h
 needs_files (talk key ask) behind e h = h
 needs_files (engine address key ask) behind e h = h
@@ -81,7 +83,8 @@ module _ (name : Text) (behind : List Text) (task : Task) (asks : Asks (name ∷
 -- ---- what is read
 
 abbrev pub IsRead : List Text → Type 0
-IsRead words = (fault_of program words ≡ []) × (p : Parsed) × IsParsed words p × (front : List Text) × (words ≡ front ++ p.words)
+IsRead words =
+    (fault_of program words ≡ []) × (p : Parsed) × IsParsed words p × (front : List Text) × (words ≡ front ++ p.words)
     × (subcommand_of program words ≡ Some (p.name, rows_with p.bound p.words))
 
 abbrev pub HasFault : Kinds → Type 0
@@ -94,15 +97,19 @@ IsUnread words = HasFault (fault_of program words) × ((task : Task) → Asks wo
 abbrev pub Reading : List Text → Type 0
 Reading words = IsRead words ⊎ IsUnread words
 
-faulty : (name : Text) (s : Shape) → Known name s → (behind : List Text) (k : Kinds) → HasFault (or_else k []) → fault s behind ≡ k → HasFault (fault_of program (name ∷ behind))
-faulty name s known behind k has is = subst HasFault (sym (fault_known name s known behind ∙ ap (λ (f : Kinds). or_else f []) is)) has
+faulty : (name : Text) (s : Shape) → Known name s → (behind : List Text) (k : Kinds) → HasFault (or_else k [])
+    → fault s behind ≡ k → HasFault (fault_of program (name ∷ behind))
+faulty name s known behind k has is =
+    subst HasFault (sym (fault_known name s known behind ∙ ap (λ (f : Kinds). or_else f []) is)) has
 
 -- no task is asked for where no file can be
 no_files : (name : Text) → has_bound name ≡ true → (behind : List Text)
-    → ((ask : Ask) → ask_of behind ≡ Some ask → 1 ≤ length ask.names → ⊥) → (task : Task) → Asks (name ∷ behind) task → ⊥
+    → ((ask : Ask) → ask_of behind ≡ Some ask → 1 ≤ length ask.names → ⊥) → (task : Task) → Asks (name ∷ behind) task
+    → ⊥
 no_files name has behind none task asks =
     let filed = needs_files task (named (name ∷ behind) task asks).0
-    (subst (λ (n : Text). has_bound n ≡ true) (same_name name behind task asks) has) (wants (name ∷ behind) task asks) in
+    (subst (λ (n : Text). has_bound n ≡ true) (same_name name behind task asks) has)
+    (wants (name ∷ behind) task asks) in
     none filed.0 (ap ask_of (same_behind name behind task asks) ∙ filed.1) filed.2
 
 not_bound : (v : Text) → is_plain v ≡ true → bytes_eq v (codes "--bound") ≡ false
@@ -115,7 +122,9 @@ not_bound (b ∷ bs) h = by (b == 45) refl h where
 module _ (b : Bool) (name : Text) (known : Known name (S b name)) (v : Text) (vs : List Text)
     (h : is_plain v ≡ true) (hs : list_all is_plain vs ≡ true) (small : suc (length vs) ≤ usize_max) where
   plain_asked : ask_of (v ∷ vs) ≡ Some (record { bound = default_bound; names = v ∷ vs })
-  plain_asked = ap (λ (t : Bool). if t then with_bound vs else Some (record { bound = default_bound; names = v ∷ vs })) (not_bound v h)
+  plain_asked =
+      ap (λ (t : Bool). if t then with_bound vs else Some (record { bound = default_bound; names = v ∷ vs }))
+      (not_bound v h)
 
   plain_read : Reading (name ∷ v ∷ vs)
   plain_read = inl (
@@ -131,24 +140,40 @@ module _ (name : Text) (has : has_bound name ≡ true) (known : Known name (S tr
   none_read : Reading (name ∷ [])
   none_read = inr (
     faulty name (S true name) known [] _ tt (no_words_behind true name),
-    no_files name has [] (λ ask e some. absurd (omega (arith, some, ap (λ (o : Option Ask). option_map_or (λ (a : Ask). length a.names) o 0) e))),
+    no_files name has [] (λ ask e some. absurd (omega (
+      arith,
+      some,
+      ap
+          (λ (o : Option Ask). option_map_or (λ (a : Ask). length a.names) o 0) e,
+    ))),
   )
 
-  bound_read : (number : Text) (words : List Text) → is_plain number ≡ true → list_all is_plain words ≡ true → length words ≤ usize_max
+  bound_read : (number : Text) (words : List Text) → is_plain number ≡ true → list_all is_plain words ≡ true
+      → length words ≤ usize_max
       → Reading (name ∷ codes "--bound" ∷ number ∷ words)
   bound_read number [] hn hs small = inr (
     faulty name (S true name) known (codes "--bound" ∷ number ∷ []) _ tt (bound_alone name number hn),
     no_files name has (codes "--bound" ∷ number ∷ []) (λ ask e some. without (bound_of number) ask e some),
   ) where
-    without : (bound : Option ℕ) (ask : Ask) → option_map (λ n. record { bound = n; names = [] }) bound ≡ Some ask → 1 ≤ length ask.names → ⊥
+    without : (bound : Option ℕ) (ask : Ask) → option_map (λ n. record { bound = n; names = [] }) bound ≡ Some ask
+        → 1 ≤ length ask.names → ⊥
     without None ask e some = absurd cc
-    without (Some n) ask e some = absurd (omega (arith, some, ap (λ (o : Option Ask). option_map_or (λ (a : Ask). length a.names) o 0) e))
+    without (Some n) ask e some =
+        absurd (omega (arith, some, ap (λ (o : Option Ask). option_map_or (λ (a : Ask). length a.names) o 0) e))
   bound_read number (v ∷ vs) hn hs small =
       let parts = both (is_plain v) (list_all is_plain vs) hs in inl (
         fault_known name (S true name) known (codes "--bound" ∷ number ∷ v ∷ vs)
             ∙ ap (λ (f : Kinds). or_else f []) (bound_level name number v vs hn parts.0 parts.1 small),
         record { name = name; bound = Some number; words = v ∷ vs },
-        record { behind = codes "--bound" ∷ number ∷ v ∷ vs; words_are = refl; asked = refl; unbound = λ e. absurd cc; bounded = λ n e. ap (λ (o : Option Text). codes "--bound" ∷ option_map_or (λ (x : Text). x) o [] ∷ v ∷ vs) e },
+        record {
+          behind = codes "--bound" ∷ number ∷ v
+              ∷ vs;
+          words_are = refl;
+          asked = refl;
+          unbound = λ e. absurd cc;
+          bounded = λ n e. ap
+              (λ (o : Option Text). codes "--bound" ∷ option_map_or (λ (x : Text). x) o [] ∷ v ∷ vs) e;
+        },
         name ∷ codes "--bound" ∷ number ∷ [],
         refl,
         rows_known name (S true name) known (codes "--bound" ∷ number ∷ v ∷ vs)
@@ -160,7 +185,8 @@ module _ (name : Text) (has : has_bound name ≡ true) (known : Known name (S tr
   bounded_read (word ∷ []) h small = plain_read true name known word [] h refl small
   bounded_read (word ∷ number ∷ words) h small = by (bytes_eq word (codes "--bound")) refl h where
     by : (t : Bool) → bytes_eq word (codes "--bound") ≡ t
-        → (if t then (is_plain number && list_all is_plain words) else (is_plain word && (is_plain number && list_all is_plain words))) ≡ true
+        → (if t then (is_plain number && list_all is_plain words)
+        else (is_plain word && (is_plain number && list_all is_plain words))) ≡ true
         → Reading (name ∷ word ∷ number ∷ words)
     by true e fits =
         let parts = both (is_plain number) (list_all is_plain words) fits in
@@ -177,7 +203,8 @@ is_name : (name other : Text) → name ≡ other → bytes_eq other name ≡ tru
 is_name name other e = (bytes_eq-Decides other name).1 (sym e)
 
 no_ide : (task : Task) → codes "ide" ≡ name_of task → (behind : List Text) → WantsFiles task behind → behind ≡ [] → ⊥
-no_ide (ide port script) e behind w nil = let two : _ ≡ [] = sym w.1 ∙ nil in absurd (omega (arith, ap (λ (l : List Text). length l) two))
+no_ide (ide port script) e behind w nil =
+    let two : _ ≡ [] = sym w.1 ∙ nil in absurd (omega (arith, ap (λ (l : List Text). length l) two))
 no_ide (run ask) e behind w nil = let t : false ≡ true = is_name (codes "ide") _ e in absurd cc
 no_ide (talk key ask) e behind w nil = let t : false ≡ true = is_name (codes "ide") _ e in absurd cc
 no_ide (engine address key ask) e behind w nil = let t : false ≡ true = is_name (codes "ide") _ e in absurd cc
@@ -200,10 +227,12 @@ no_command (ide port script) e = absurd cc
 no_command (replay events ask) e = absurd cc
 no_command show e = absurd cc
 
-ide_read : (behind : List Text) → list_all is_plain behind ≡ true → length behind ≤ usize_max → Reading (codes "ide" ∷ behind)
+ide_read : (behind : List Text) → list_all is_plain behind ≡ true → length behind ≤ usize_max
+    → Reading (codes "ide" ∷ behind)
 ide_read [] h small = inr (
   faulty (codes "ide") (S false (codes "ide")) ide_known [] _ tt (no_words_behind false (codes "ide")),
-  λ task asks. no_ide task (same_name (codes "ide") [] task asks) _ (wants (codes "ide" ∷ []) task asks) (sym (same_behind (codes "ide") [] task asks)),
+  λ task asks. no_ide task (same_name (codes "ide") [] task asks) _ (wants (codes "ide" ∷ []) task asks)
+      (sym (same_behind (codes "ide") [] task asks)),
 )
 ide_read (v ∷ vs) h small =
     let parts = both (is_plain v) (list_all is_plain vs) h in
@@ -211,7 +240,8 @@ ide_read (v ∷ vs) h small =
 
 show_read : (behind : List Text) → list_all is_plain behind ≡ true → Reading (codes "show" ∷ behind)
 show_read [] h = inl (
-  fault_known (codes "show") (alone (codes "show")) show_known [] ∙ ap (λ (f : Kinds). or_else f []) (alone_fine (codes "show")),
+  fault_known (codes "show") (alone (codes "show")) show_known [] ∙ ap (λ (f : Kinds). or_else f [])
+      (alone_fine (codes "show")),
   record { name = codes "show"; bound = None; words = [] },
   record { behind = []; words_are = refl; asked = refl; unbound = λ e. refl; bounded = λ n e. absurd cc },
   codes "show" ∷ [],
@@ -250,16 +280,24 @@ abbrev fits : Text → List Text → Type 0
 fits name behind = (if has_bound name then are_bounded behind else list_all is_plain behind) ≡ true
 
 pub reads : (words : List Text) → are_plain words ≡ true → length words ≤ usize_max → Reading words
-reads [] h small = inr (subst HasFault (sym no_words) tt, λ task asks. absurd (omega (arith, ap (λ (l : List Text). length l) (named [] task asks).1)))
+reads [] h small =
+    inr (
+      subst HasFault (sym no_words) tt,
+      λ task asks. absurd
+          (omega (arith, ap (λ (l : List Text). length l) (named [] task asks).1)),
+    )
 reads (name ∷ behind) h small =
     let parts = both (is_plain name) (if has_bound name then are_bounded behind else list_all is_plain behind) h in
     let few : length behind ≤ usize_max = omega (arith, small) in
     choose (codes "run") name
-    (λ e. subst (λ n. fits n behind → Reading (n ∷ behind)) e (λ f. bounded_read (codes "run") refl run_known behind f few) parts.1) (λ no_run.
+    (λ e. subst (λ n. fits n behind → Reading (n ∷ behind)) e
+    (λ f. bounded_read (codes "run") refl run_known behind f few) parts.1) (λ no_run.
     choose (codes "talk") name
-    (λ e. subst (λ n. fits n behind → Reading (n ∷ behind)) e (λ f. bounded_read (codes "talk") refl talk_known behind f few) parts.1) (λ no_talk.
+    (λ e. subst (λ n. fits n behind → Reading (n ∷ behind)) e
+    (λ f. bounded_read (codes "talk") refl talk_known behind f few) parts.1) (λ no_talk.
     choose (codes "engine") name
-    (λ e. subst (λ n. fits n behind → Reading (n ∷ behind)) e (λ f. bounded_read (codes "engine") refl engine_known behind f few) parts.1) (λ no_engine.
+    (λ e. subst (λ n. fits n behind → Reading (n ∷ behind)) e
+    (λ f. bounded_read (codes "engine") refl engine_known behind f few) parts.1) (λ no_engine.
     choose (codes "ide") name
     (λ e. subst (λ n. fits n behind → Reading (n ∷ behind)) e (λ f. ide_read behind f few) parts.1) (λ no_ide_name.
     choose (codes "replay") name
@@ -305,20 +343,24 @@ files_plain : (names : List Text) → All IsFileWord names → list_all is_plain
 files_plain [] all = refl
 files_plain (n ∷ names) all =
     let head : IsFileWord n = all 0 n (omega (arith)) in
-    ap₂ (λ (a b : Bool). a && b) (plain_if n head.is_name.some head.is_none) (files_plain names (λ k d below. all (suc k) d (omega (arith, below))))
+    ap₂ (λ (a b : Bool). a && b) (plain_if n head.is_name.some head.is_none)
+    (files_plain names (λ k d below. all (suc k) d (omega (arith, below))))
 
 -- the words that give a program's names are plain where the names are
-behind_plain : (behind : List Text) (ask : Ask) → ask_of behind ≡ Some ask → list_all is_plain ask.names ≡ true → are_bounded behind ≡ true
+behind_plain : (behind : List Text) (ask : Ask) → ask_of behind ≡ Some ask → list_all is_plain ask.names ≡ true
+    → are_bounded behind ≡ true
 behind_plain [] ask e h = refl
 behind_plain (word ∷ []) ask e h = by (bytes_eq word (codes "--bound")) refl e where
   by : (t : Bool) → bytes_eq word (codes "--bound") ≡ t
-      → (if t then with_bound [] else Some (record { bound = default_bound; names = word ∷ [] })) ≡ Some ask → is_plain word ≡ true
+      → (if t then with_bound [] else Some (record { bound = default_bound; names = word ∷ [] })) ≡ Some ask
+      → is_plain word ≡ true
   by true is none = absurd cc
   by false is some =
       let same : word ∷ [] ≡ ask.names = ap (λ (o : Option Ask). option_map_or (λ (a : Ask). a.names) o []) some in
       (both (is_plain word) true (ap (list_all is_plain) same ∙ h)).0
 behind_plain (word ∷ number ∷ words) ask e h = by (bytes_eq word (codes "--bound")) refl e where
-  bounded_so : (bound : Option ℕ) → bound_of number ≡ bound → option_map (λ n. record { bound = n; names = words }) bound ≡ Some ask
+  bounded_so : (bound : Option ℕ) → bound_of number ≡ bound
+      → option_map (λ n. record { bound = n; names = words }) bound ≡ Some ask
       → (is_plain number && list_all is_plain words) ≡ true
   bounded_so None is none = absurd cc
   bounded_so (Some n) is some =
@@ -326,27 +368,36 @@ behind_plain (word ∷ number ∷ words) ask e h = by (bytes_eq word (codes "--b
       ap₂ (λ (a b : Bool). a && b) (bound_plain number n is) (ap (list_all is_plain) same ∙ h)
 
   by : (t : Bool) → bytes_eq word (codes "--bound") ≡ t
-      → (if t then with_bound (number ∷ words) else Some (record { bound = default_bound; names = word ∷ number ∷ words })) ≡ Some ask
+      → (if t then with_bound (number ∷ words)
+      else Some (record { bound = default_bound; names = word ∷ number ∷ words })) ≡ Some ask
       → (if bytes_eq word (codes "--bound") then (is_plain number && list_all is_plain words)
       else (is_plain word && (is_plain number && list_all is_plain words))) ≡ true
-  by true is some = ap (λ (t : Bool). if t then (is_plain number && list_all is_plain words) else (is_plain word && (is_plain number && list_all is_plain words))) is
+  by true is some =
+      ap (λ (t : Bool). if t then (is_plain number && list_all is_plain words)
+      else (is_plain word && (is_plain number && list_all is_plain words))) is
       ∙ bounded_so (bound_of number) refl some
   by false is some =
-      let same : word ∷ number ∷ words ≡ ask.names = ap (λ (o : Option Ask). option_map_or (λ (a : Ask). a.names) o []) some in
-      ap (λ (t : Bool). if t then (is_plain number && list_all is_plain words) else (is_plain word && (is_plain number && list_all is_plain words))) is
+      let same : word ∷ number
+      ∷ words ≡ ask.names = ap (λ (o : Option Ask). option_map_or (λ (a : Ask). a.names) o []) some in
+      ap (λ (t : Bool). if t then (is_plain number && list_all is_plain words)
+      else (is_plain word && (is_plain number && list_all is_plain words))) is
       ∙ ap (list_all is_plain) same ∙ h
 
 key_plain : (key : Text) → IsKey key → is_option key ≡ false → is_plain key ≡ true
 key_plain key is none = plain_if key is.some none
 
-more_plain : (word : Text) (words : List Text) → is_plain word ≡ true → list_all is_plain words ≡ true → list_all is_plain (word ∷ words) ≡ true
+more_plain : (word : Text) (words : List Text) → is_plain word ≡ true → list_all is_plain words ≡ true
+    → list_all is_plain (word ∷ words) ≡ true
 more_plain word words h hs = ap₂ (λ (a b : Bool). a && b) h hs
 
-asks_behind : (task : Task) (words : List Text) (h : Asks words task) → has_bound (name_of task) ≡ true → are_bounded (named words task h).0 ≡ true
-asks_behind (run ask) words h b = behind_plain h.behind ask h.follows.asked (files_plain ask.names h.follows.files.named)
+asks_behind : (task : Task) (words : List Text) (h : Asks words task) → has_bound (name_of task) ≡ true
+    → are_bounded (named words task h).0 ≡ true
+asks_behind (run ask) words h b =
+    behind_plain h.behind ask h.follows.asked (files_plain ask.names h.follows.files.named)
 asks_behind (talk key ask) words h b =
     behind_plain h.behind _ h.speaks.asked
-    (more_plain key ask.names (key_plain key h.speaks.session.is_key h.speaks.session.is_none) (files_plain ask.names h.speaks.session.files.named))
+    (more_plain key ask.names (key_plain key h.speaks.session.is_key h.speaks.session.is_none)
+    (files_plain ask.names h.speaks.session.files.named))
 asks_behind (engine address key ask) words h b =
     let d = h.dials in
     behind_plain h.behind _ d.asked
@@ -362,7 +413,8 @@ asks_behind show words h b = absurd cc
 pub asks_plain : (words : List Text) (task : Task) → Asks words task → are_plain words ≡ true
 asks_plain words (run ask) h = ap are_plain h.words_are ∙ asks_behind (run ask) words h refl
 asks_plain words (talk key ask) h = ap are_plain h.words_are ∙ asks_behind (talk key ask) words h refl
-asks_plain words (engine address key ask) h = ap are_plain h.words_are ∙ asks_behind (engine address key ask) words h refl
+asks_plain words (engine address key ask) h =
+    ap are_plain h.words_are ∙ asks_behind (engine address key ask) words h refl
 asks_plain words (ide port script) h =
     ap are_plain h.words_are
     ∙ more_plain h.number (script ∷ []) (port_plain h.number port h.is_port) (more_plain script [] (plain_if script h.is_script.is_name.some h.is_script.is_none) refl)
@@ -374,15 +426,18 @@ asks_plain words show h = ap are_plain h
 name_read : (words : List Text) (task : Task) (p : Parsed) → IsParsed words p → Asks words task → p.name ≡ name_of task
 name_read words task p is asks = ap (λ (l : List Text). get_or l 0 []) (sym is.words_are ∙ (named words task asks).1)
 
-behind_read : (words : List Text) (task : Task) (p : Parsed) (is : IsParsed words p) (asks : Asks words task) → is.behind ≡ (named words task asks).0
+behind_read : (words : List Text) (task : Task) (p : Parsed) (is : IsParsed words p) (asks : Asks words task)
+    → is.behind ≡ (named words task asks).0
 behind_read words task p is asks = ap (λ (l : List Text). drop 1 l) (sym is.words_are ∙ (named words task asks).1)
 
 not_named : (name : Text) (task : Task) → name ≡ name_of task → bytes_eq (name_of task) name ≡ false → ⊥
-not_named name task e n = let yes_it : bytes_eq (name_of task) name ≡ true = (bytes_eq-Decides (name_of task) name).1 (sym e) in
+not_named name task e n =
+    let yes_it : bytes_eq (name_of task) name ≡ true = (bytes_eq-Decides (name_of task) name).1 (sym e) in
     let t : true ≡ false = sym yes_it ∙ n in absurd cc
 
 pub no_engine_read : (words : List Text) (task : Task) (p : Parsed) → IsParsed words p → p.name ≡ codes "engine"
-    → ((behind : List Text) (address : Address) (key : List ℕ) (ask : Ask) → ask_of behind ≡ ask_in p → Dials behind address key ask → ⊥) → Asks words task → ⊥
+    → ((behind : List Text) (address : Address) (key : List ℕ) (ask : Ask) → ask_of behind ≡ ask_in p
+    → Dials behind address key ask → ⊥) → Asks words task → ⊥
 no_engine_read words (engine address key ask) p is name none asks =
     none asks.behind address key ask (ap ask_of (sym (behind_read words (engine address key ask) p is asks)) ∙ is.asked) asks.dials
 no_engine_read words (run ask) p is name none asks = not_named (codes "engine") (run ask) (sym name ∙ name_read words (run ask) p is asks) refl
@@ -394,8 +449,10 @@ no_engine_read words show p is name none asks = not_named (codes "engine") show 
 pub no_ide_read : (words : List Text) (task : Task) (p : Parsed) → IsParsed words p → p.name ≡ codes "ide"
     → ((port : ℕ) (script : List ℕ) → IsIde words port script → ⊥) → Asks words task → ⊥
 no_ide_read words (ide port script) p is name none asks = none port script asks
-no_ide_read words (run ask) p is name none asks = not_named (codes "ide") (run ask) (sym name ∙ name_read words (run ask) p is asks) refl
-no_ide_read words (talk key ask) p is name none asks = not_named (codes "ide") (talk key ask) (sym name ∙ name_read words (talk key ask) p is asks) refl
+no_ide_read words (run ask) p is name none asks =
+    not_named (codes "ide") (run ask) (sym name ∙ name_read words (run ask) p is asks) refl
+no_ide_read words (talk key ask) p is name none asks =
+    not_named (codes "ide") (talk key ask) (sym name ∙ name_read words (talk key ask) p is asks) refl
 no_ide_read words (engine address key ask) p is name none asks =
     not_named (codes "ide") (engine address key ask) (sym name ∙ name_read words (engine address key ask) p is asks) refl
 no_ide_read words (replay events ask) p is name none asks = not_named (codes "ide") (replay events ask) (sym name ∙ name_read words (replay events ask) p is asks) refl
@@ -419,7 +476,8 @@ no_show_read words (replay events ask) p is name none asks = not_named (codes "s
 no_show_read words (run ask) p is name none asks = not_named (codes "show") (run ask) (sym name ∙ name_read words (run ask) p is asks) refl
 no_show_read words (talk key ask) p is name none asks = not_named (codes "show") (talk key ask) (sym name ∙ name_read words (talk key ask) p is asks) refl
 no_show_read words (engine address key ask) p is name none asks =
-    not_named (codes "show") (engine address key ask) (sym name ∙ name_read words (engine address key ask) p is asks) refl
+    not_named (codes "show") (engine address key ask) (sym name ∙ name_read words (engine address key ask) p is asks)
+    refl
 
 pub no_name_read : (words : List Text) (task : Task) (p : Parsed) → IsParsed words p → (p.name ≡ codes "run" → ⊥) → (p.name ≡ codes "talk" → ⊥) → (p.name ≡ codes "engine" → ⊥)
     → (p.name ≡ codes "ide" → ⊥) → (p.name ≡ codes "replay" → ⊥) → (p.name ≡ codes "show" → ⊥) → Asks words task → ⊥
@@ -431,11 +489,14 @@ no_name_read words (replay events ask) p is a b c i r d asks = r (name_read word
 no_name_read words show p is a b c i r d asks = d (name_read words show p is asks)
 
 -- behind `ide` stand the words that were read, and no bound
-pub ide_parsed : (words : List Text) (p : Parsed) (number script : Text) → IsParsed words p → p.name ≡ codes "ide" → p.bound ≡ None → p.words ≡ number ∷ script ∷ []
+pub ide_parsed : (words : List Text) (p : Parsed) (number script : Text) → IsParsed words p → p.name ≡ codes "ide"
+    → p.bound ≡ None → p.words ≡ number ∷ script ∷ []
     → words ≡ codes "ide" ∷ number ∷ script ∷ []
-ide_parsed words p number script is name none two = is.words_are ∙ ap₂ (λ (n : Text) (l : List Text). n ∷ l) name (is.unbound none ∙ two)
+ide_parsed words p number script is name none two =
+    is.words_are ∙ ap₂ (λ (n : Text) (l : List Text). n ∷ l) name (is.unbound none ∙ two)
 
-pub ide_unbound : (words : List Text) (p : Parsed) (number script : Text) → IsParsed words p → words ≡ codes "ide" ∷ number ∷ script ∷ [] → (port : ℕ) → port_of number ≡ Some port
+pub ide_unbound : (words : List Text) (p : Parsed) (number script : Text) → IsParsed words p
+    → words ≡ codes "ide" ∷ number ∷ script ∷ [] → (port : ℕ) → port_of number ≡ Some port
     → (p.bound ≡ None) × (p.words ≡ number ∷ script ∷ [])
 ide_unbound words p number script is asks port is_port = by p.bound refl where
   behind : is.behind ≡ number ∷ script ∷ []
@@ -447,7 +508,8 @@ ide_unbound words p number script is asks port is_port = by p.bound refl where
       let first : number ≡ codes "--bound" = ap (λ (l : List Text). get_or l 0 []) (sym behind ∙ is.bounded n e) in
       let plain : false ≡ true = sym (ap is_plain first) ∙ port_plain number port is_port in absurd cc
 
-pub show_alone : (words : List Text) (p : Parsed) → IsParsed words p → words ≡ codes "show" ∷ [] → (p.bound ≡ None) × (p.words ≡ [])
+pub show_alone : (words : List Text) (p : Parsed) → IsParsed words p → words ≡ codes "show" ∷ []
+    → (p.bound ≡ None) × (p.words ≡ [])
 show_alone words p is asks = by p.bound refl where
   none_behind : is.behind ≡ []
   none_behind = ap (λ (l : List Text). drop 1 l) (sym is.words_are ∙ asks)

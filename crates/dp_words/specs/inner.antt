@@ -1,5 +1,5 @@
--- How the words are read: what the functions inside the crate say. No clause of a public call speaks
--- of it.
+-- How the words are read: what the functions inside the crate say. No clause of a public call
+-- speaks of it.
 pub mod Commands
 pub mod Plain
 pub mod Parsed

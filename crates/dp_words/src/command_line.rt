@@ -1,5 +1,6 @@
 //! The words of a command line.
-ghost use Rattle.std.specs.Prelude.{◌≡◌, ◌↔◌, ◌∷◌, [], ℕ, List, Option, Some, None, IsTrue, IfOk, IfSome, IfNone, Ok, codes, map, string_bytes};
+ghost use Rattle.std.specs.Prelude.{◌≡◌, ◌↔◌, ◌∷◌, [], ℕ, List, Option, Some, None, IsTrue, IfOk, IfSome, IfNone};
+ghost use Rattle.std.specs.Prelude.{Ok, codes, map, string_bytes};
 ghost use Rattle.std.specs.List.{list_all};
 ghost use Rattle.std.specs.Option.{option_map};
 ghost use Rattle.dp_words.specs.CommandLine.{Address as AnyAddress, AreFileWords, Ask, Asks, Dials, Follows, IsFileWord, IsHostWord, IsIde, IsKey, IsSession, Replays, Speaks, Task, ask_of, between, bound_of, port_of};
@@ -99,10 +100,10 @@ fn is_graphic(byte: u8) -> bool
 }
 
 /// How many moments a program may have where the words do not say it.
-pub const DEFAULT_BOUND: u64 = 1_000_000;
+pub(crate) const DEFAULT_BOUND: u64 = 1_000_000;
 
 /// The most moments that the words may ask for.
-pub const BOUND_LIMIT: u64 = 100_000_000;
+pub(crate) const BOUND_LIMIT: u64 = 100_000_000;
 
 /// The bound that a word is: a decimal from 1 to the most.
 fn read_bound(word: &str) -> Option<u64>
@@ -153,8 +154,10 @@ fn program_in<'a>(parsed: Parsed<'a>) -> Option<Program<'a>>
 
 /// What the words behind `run` ask for.
 fn read_run<'a>(parsed: Parsed<'a>) -> Option<Program<'a>>
-    ensures found { IfSome result (λ p. (behind : List (List ℕ)) → ask_of behind ≡ ask_in (parsed_told parsed.entry) → Follows behind (ask_told p)) }
-    ensures none { IfNone result ((behind : List (List ℕ)) (ask : Ask) → ask_of behind ≡ ask_in (parsed_told parsed.entry) → Follows behind ask → ⊥) }
+    ensures found { IfSome result (λ p. (behind : List (List ℕ)) → ask_of behind ≡ ask_in (parsed_told parsed.entry)
+        → Follows behind (ask_told p)) }
+    ensures none { IfNone result ((behind : List (List ℕ)) (ask : Ask)
+        → ask_of behind ≡ ask_in (parsed_told parsed.entry) → Follows behind ask → ⊥) }
 {
     match program_in(parsed) {
         None => None,
@@ -164,7 +167,8 @@ fn read_run<'a>(parsed: Parsed<'a>) -> Option<Program<'a>>
 
 /// The session of this key over the program of these files.
 fn talk_of<'a>(key: &'a str, program: Program<'a>) -> Option<Talk<'a>>
-    ensures found { IfSome result (λ t. (t.key.now ≡ key.now) × (ask_told t.program ≡ ask_told program.entry) × IsSession key.now (ask_told program.entry)) }
+    ensures found { IfSome result (λ t. (t.key.now ≡ key.now) × (ask_told t.program ≡ ask_told program.entry)
+        × IsSession key.now (ask_told program.entry)) }
     ensures none { IfNone result (IsSession key.now (ask_told program.entry) → ⊥) }
 {
     if !is_key(key.as_bytes()) {
@@ -181,8 +185,10 @@ fn talk_of<'a>(key: &'a str, program: Program<'a>) -> Option<Talk<'a>>
 
 /// What the words behind `talk` ask for.
 fn read_talk<'a>(parsed: Parsed<'a>) -> Option<Talk<'a>>
-    ensures found { IfSome result (λ t. (behind : List (List ℕ)) → ask_of behind ≡ ask_in (parsed_told parsed.entry) → Speaks behind t.key.now (ask_told t.program)) }
-    ensures none { IfNone result ((behind key : _) (ask : Ask) → ask_of behind ≡ ask_in (parsed_told parsed.entry) → Speaks behind key ask → ⊥) }
+    ensures found { IfSome result (λ t. (behind : List (List ℕ)) → ask_of behind ≡ ask_in (parsed_told parsed.entry)
+        → Speaks behind t.key.now (ask_told t.program)) }
+    ensures none { IfNone result ((behind key : _) (ask : Ask) → ask_of behind ≡ ask_in (parsed_told parsed.entry)
+        → Speaks behind key ask → ⊥) }
 {
     match program_in(parsed) {
         None => None,
@@ -213,7 +219,8 @@ fn read_port(word: &str) -> Option<u16>
 
 /// The address that two words are.
 fn address_of<'a>(host: &'a str, port: &str) -> Option<Address<'a>>
-    ensures found { IfSome result (λ a. (a.host.now ≡ host.now) × IsHostWord host.now × (port_of port.now ≡ Some a.port)) }
+    ensures found { IfSome result (λ a. (a.host.now ≡ host.now) × IsHostWord host.now
+        × (port_of port.now ≡ Some a.port)) }
     ensures none { IfNone result (IsHostWord host.now → (n : ℕ) → port_of port.now ≡ Some n → ⊥) }
 {
     if is_option(host.as_bytes()) {
@@ -235,9 +242,12 @@ fn engine_of<'a>(
     key: &'a str,
     program: Program<'a>,
 ) -> Option<Engine<'a>>
-    ensures found { IfSome result (λ e. (e.address.host.now ≡ host.now) × IsHostWord host.now × (port_of port.now ≡ Some e.address.port)
-        × (e.talk.key.now ≡ key.now) × (ask_told e.talk.program ≡ ask_told program.entry) × IsSession key.now (ask_told program.entry)) }
-    ensures none { IfNone result (IsHostWord host.now → (n : ℕ) → port_of port.now ≡ Some n → IsSession key.now (ask_told program.entry) → ⊥) }
+    ensures found { IfSome result (λ e. (e.address.host.now ≡ host.now) × IsHostWord host.now
+        × (port_of port.now ≡ Some e.address.port)
+        × (e.talk.key.now ≡ key.now) × (ask_told e.talk.program ≡ ask_told program.entry)
+        × IsSession key.now (ask_told program.entry)) }
+    ensures none { IfNone result (IsHostWord host.now → (n : ℕ) → port_of port.now ≡ Some n
+        → IsSession key.now (ask_told program.entry) → ⊥) }
 {
     match address_of(host, port) {
         None => None,
@@ -271,7 +281,8 @@ fn read_engine<'a>(parsed: Parsed<'a>) -> Option<Engine<'a>>
 
 /// The script that is played over a link to a port.
 fn ide_of<'a>(number: &str, script: &'a str) -> Option<Ide<'a>>
-    ensures found { IfSome result (λ i. (i.script.now ≡ script.now) × (port_of number.now ≡ Some i.port) × IsFileWord script.now) }
+    ensures found { IfSome result (λ i. (i.script.now ≡ script.now) × (port_of number.now ≡ Some i.port)
+        × IsFileWord script.now) }
     ensures none { IfNone result ((n : ℕ) → port_of number.now ≡ Some n → IsFileWord script.now → ⊥) }
 {
     if !is_file(script) {
@@ -298,9 +309,11 @@ fn script_of<'a>(words: &'a [String]) -> Option<Ide<'a>>
 
 /// What `ide` asks for, where no bound is given.
 fn read_ide<'a>(parsed: Parsed<'a>) -> Option<Ide<'a>>
-    ensures found { IfSome result (λ i. (words : List (List ℕ)) → IsParsed words (parsed_told parsed.entry) → parsed.entry.name.now ≡ codes "ide"
+    ensures found { IfSome result (λ i. (words : List (List ℕ)) → IsParsed words (parsed_told parsed.entry)
+        → parsed.entry.name.now ≡ codes "ide"
         → IsIde words i.port i.script.now) }
-    ensures none { IfNone result ((words : List (List ℕ)) (port : ℕ) (script : List ℕ) → IsParsed words (parsed_told parsed.entry)
+    ensures none { IfNone result ((words : List (List ℕ)) (port : ℕ) (script : List ℕ)
+        → IsParsed words (parsed_told parsed.entry)
         → IsIde words port script → ⊥) }
 {
     if parsed.bound.is_some() {
@@ -349,9 +362,11 @@ fn is_alone(parsed: Parsed<'_>) -> bool
 
 /// What `show` asks for, behind which nothing stands.
 fn read_show<'a>(parsed: Parsed<'a>) -> Option<Command<'a>>
-    ensures found { IfSome result (λ command. (words : List (List ℕ)) → IsParsed words (parsed_told parsed.entry) → parsed.entry.name.now ≡ codes "show"
+    ensures found { IfSome result (λ command. (words : List (List ℕ)) → IsParsed words (parsed_told parsed.entry)
+        → parsed.entry.name.now ≡ codes "show"
         → Asks words (task_of command)) }
-    ensures none { IfNone result ((words : List (List ℕ)) → IsParsed words (parsed_told parsed.entry) → Asks words Task.show → ⊥) }
+    ensures none { IfNone result ((words : List (List ℕ)) → IsParsed words (parsed_told parsed.entry)
+        → Asks words Task.show → ⊥) }
 {
     if is_alone(parsed) {
         Some(Command::Show)
@@ -362,8 +377,10 @@ fn read_show<'a>(parsed: Parsed<'a>) -> Option<Command<'a>>
 
 /// What is asked for that is read so.
 fn command_of<'a>(parsed: Parsed<'a>) -> Option<Command<'a>>
-    ensures found { IfSome result (λ command. (words : List (List ℕ)) → IsParsed words (parsed_told parsed.entry) → Asks words (task_of command)) }
-    ensures none { IfNone result ((words : List (List ℕ)) (task : Task) → IsParsed words (parsed_told parsed.entry) → Asks words task → ⊥) }
+    ensures found { IfSome result (λ command. (words : List (List ℕ)) → IsParsed words (parsed_told parsed.entry)
+        → Asks words (task_of command)) }
+    ensures none { IfNone result ((words : List (List ℕ)) (task : Task) → IsParsed words (parsed_told parsed.entry)
+        → Asks words task → ⊥) }
 {
     if parsed.name == "run" {
         return match read_run(parsed) {
@@ -401,8 +418,9 @@ fn command_of<'a>(parsed: Parsed<'a>) -> Option<Command<'a>>
     None
 }
 
-/// What the words ask for, and `None` exactly where they ask for nothing, unless memory ran out. The words are tested first:
-/// none is empty, and none begins with `-` but a `--bound` directly behind a command that may have one, and before a word.
+/// What the words ask for, and `None` exactly where they ask for nothing, unless memory ran out. The words are
+/// tested first: none is empty, and none begins with `-` but a `--bound` directly behind a command that may have
+/// one, and before a word.
 pub fn read_words<'a>(alloc: Global, words: &'a [String]) -> Result<Option<Command<'a>>, Memory>
     ensures found { IfOk result (λ read. IfSome read (λ command. Asks (map string_bytes words.now) (task_of command))) }
     ensures none { result ≡ Ok None → (task : Task) → Asks (map string_bytes words.now) task → ⊥ }

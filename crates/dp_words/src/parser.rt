@@ -1,6 +1,7 @@
 //! The command that reads the words, and what it reads.
 
-ghost use Rattle.std.specs.Prelude.{◌≡◌, ◌≢◌, ◌≤◌, ◌-◌, drop, length, true, false, is_some, IfOk, IfSome, MatchResult, Ok, None, codes, map, option_map, string_bytes};
+ghost use Rattle.std.specs.Prelude.{◌≡◌, ◌≢◌, ◌≤◌, ◌-◌, drop, length, true, false, is_some, IfOk, IfSome};
+ghost use Rattle.std.specs.Prelude.{MatchResult, Ok, None, codes, map, option_map, string_bytes};
 ghost use Rattle.clap.specs.Words.{app_of, first_of, found_of, kind_of, rows_of, rule_of, shape_of};
 ghost use Rattle.clap.specs.declared.error.kind.ErrorKind.TheVariants.{OutOfMemory};
 ghost use Rattle.dp_words.specs.CommandLine.{Asks, Task};
@@ -130,7 +131,8 @@ fn parsed_in<'a>(words: &'a [String], matches: &ArgMatches<'a>) -> Option<Parsed
 /// What is read of the words, if they are read.
 pub(crate) fn parse<'a>(alloc: Global, words: &'a [String]) -> Result<Option<Parsed<'a>>, Memory>
     requires plain { plain.are_plain (map string_bytes words.now) ≡ true }
-    ensures found { IfOk result (λ read. IfSome read (λ p. IsParsed (map string_bytes words.entry.now) (parsed_told p))) }
+    ensures found { IfOk result (λ read. IfSome read (λ p.
+        IsParsed (map string_bytes words.entry.now) (parsed_told p))) }
     ensures none { result ≡ Ok None → (task : Task) → Asks (map string_bytes words.now) task → ⊥ }
 {
     match program(alloc)?.try_get_matches_from(words) {
@@ -141,7 +143,8 @@ pub(crate) fn parse<'a>(alloc: Global, words: &'a [String]) -> Result<Option<Par
 
 /// Words that are not read, unless memory ran out.
 fn refused<'a>(why: Error) -> Result<Option<Parsed<'a>>, Memory>
-    ensures { MatchResult result (λ read. (read ≡ None) × (kind_of why ≢ OutOfMemory)) (λ _. kind_of why ≡ OutOfMemory) }
+    ensures { MatchResult result (λ read. (read ≡ None) × (kind_of why ≢ OutOfMemory))
+        (λ _. kind_of why ≡ OutOfMemory) }
 {
     if why.kind() == ErrorKind::OutOfMemory {
         Err(Memory)

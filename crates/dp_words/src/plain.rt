@@ -38,7 +38,8 @@ fn are_both(word: &str, others: &[String]) -> bool
 fn are_fit(word: &str, number: &str, others: &[String]) -> bool
     ensures { result ≡ (if bytes_eq word.now (codes "--bound")
         then (spec.is_plain number.now && list_all (λ other. spec.is_plain (string_bytes other)) others.now)
-        else (spec.is_plain word.now && (spec.is_plain number.now && list_all (λ other. spec.is_plain (string_bytes other)) others.now))) }
+        else (spec.is_plain word.now
+        && (spec.is_plain number.now && list_all (λ other. spec.is_plain (string_bytes other)) others.now))) }
 {
     if word == "--bound" {
         are_both(number, others)

@@ -26,16 +26,19 @@ use Rattle.dp_world.proofs.EngineLaws.{grows}
 
 -- ---- a stream that goes on
 
-splits : (kind : LaneKind) (bytes : List ℕ) → Splits (IsText kind) (frame kind) bytes (texts_in kind bytes) (rest_in kind bytes)
+splits : (kind : LaneKind) (bytes : List ℕ)
+    → Splits (IsText kind) (frame kind) bytes (texts_in kind bytes) (rest_in kind bytes)
 splits Up bytes = packets_split bytes
 splits Down bytes = commands_split bytes
 
 one_split : (kind : LaneKind) (bytes : List ℕ) (texts others : List (List ℕ)) (rest remains : List ℕ)
-    → Splits (IsText kind) (frame kind) bytes texts rest → Splits (IsText kind) (frame kind) bytes others remains → texts ≡ others
+    → Splits (IsText kind) (frame kind) bytes texts rest → Splits (IsText kind) (frame kind) bytes others remains
+    → texts ≡ others
 one_split Up bytes texts others rest remains p q = (one_packet_split bytes texts others rest remains p q).0
 one_split Down bytes texts others rest remains p q = (one_split_lem bytes texts others rest remains p q).0
 
-all_both : {X : Type 0} (P : X → Type 0) (a b : List X) → AllByRecursion P a → AllByRecursion P b → AllByRecursion P (a ++ b)
+all_both : {X : Type 0} (P : X → Type 0) (a b : List X) → AllByRecursion P a → AllByRecursion P b
+    → AllByRecursion P (a ++ b)
 all_both P [] b p q = q
 all_both P (x ∷ a) b p q = (p.0, all_both P a b p.1 q)
 
@@ -50,10 +53,17 @@ frame_some Down text = omega (arith, length-append text (0 ∷ []))
 no_frames : (kind : LaneKind) (texts : List (List ℕ)) → flat_map (frame kind) texts ≡ [] → texts ≡ []
 no_frames kind [] e = refl
 no_frames kind (text ∷ texts) e =
-    absurd (omega (arith, ap length e, length-append (frame kind text) (flat_map (frame kind) texts), frame_some kind text))
+    absurd (omega (
+      arith,
+      ap length e,
+      length-append (frame kind text)
+          (flat_map (frame kind) texts),
+      frame_some kind text,
+    ))
 
 -- the texts of more bytes begin with those of the first
-more_texts : (kind : LaneKind) (a b : List ℕ) → texts_in kind (a ++ b) ≡ texts_in kind a ++ drop (length (texts_in kind a)) (texts_in kind (a ++ b))
+more_texts : (kind : LaneKind) (a b : List ℕ)
+    → texts_in kind (a ++ b) ≡ texts_in kind a ++ drop (length (texts_in kind a)) (texts_in kind (a ++ b))
 more_texts kind a b =
     let first = splits kind a in
     let rest = splits kind (rest_in kind a ++ b) in
@@ -68,8 +78,10 @@ more_texts kind a b =
       no_more = rest.no_more;
     } in
     let same : texts_in kind (a ++ b) ≡ texts_in kind a ++ texts =
-    one_split kind (a ++ b) (texts_in kind (a ++ b)) (texts_in kind a ++ texts) (rest_in kind (a ++ b)) left (splits kind (a ++ b)) both in
-    same ∙ ap (λ l. texts_in kind a ++ l) (sym (ap (drop (length (texts_in kind a))) same ∙ drop-append_seam (texts_in kind a) texts))
+    one_split kind (a ++ b) (texts_in kind (a ++ b)) (texts_in kind a ++ texts) (rest_in kind (a ++ b)) left
+    (splits kind (a ++ b)) both in
+    same ∙ ap (λ l. texts_in kind a
+    ++ l) (sym (ap (drop (length (texts_in kind a))) same ∙ drop-append_seam (texts_in kind a) texts))
 
 module _ (kind : LaneKind) (acts : List Act) (act : Act) where
   abbrev before : List (List ℕ)
@@ -79,14 +91,17 @@ module _ (kind : LaneKind) (acts : List Act) (act : Act) where
   after = texts_in kind (stream kind (acts ++ act ∷ []))
 
   texts_act : after ≡ before ++ completed kind acts act
-  texts_act = subst (λ s. texts_in kind s ≡ before ++ drop (length before) (texts_in kind s)) (sym (stream_push kind acts act)) (more_texts kind (stream kind acts) (brought kind act))
+  texts_act =
+      subst (λ s. texts_in kind s ≡ before ++ drop (length before) (texts_in kind s)) (sym (stream_push kind acts act))
+      (more_texts kind (stream kind acts) (brought kind act))
 
   frames_act : flat_map (frame kind) after ≡ flat_map (frame kind) before ++ handed kind acts act
   frames_act = ap (flat_map (frame kind)) texts_act ∙ flat_map-append (frame kind) before (completed kind acts act)
 
   -- where nothing is handed out, or nothing came, no text is completed
   pub same_texts : handed kind acts act ≡ [] → after ≡ before
-  same_texts none = texts_act ∙ ap (λ l. before ++ l) (no_frames kind (completed kind acts act) none) ∙ append-nil before
+  same_texts none =
+      texts_act ∙ ap (λ l. before ++ l) (no_frames kind (completed kind acts act) none) ∙ append-nil before
 
   stream_stays : brought kind act ≡ [] → stream kind (acts ++ act ∷ []) ≡ stream kind acts
   stream_stays none = stream_push kind acts act ∙ ap (λ l. stream kind acts ++ l) none ∙ append-nil (stream kind acts)
@@ -102,18 +117,24 @@ module _ (acts : List Act) (act : Act) where
   down_split = record {
     whole = sym (append-nil (handed Down acts act));
     each = all_behind IsCommand (commands_in (stream Down acts)) (completed Down acts act)
-        (subst (AllByRecursion IsCommand) (texts_act Down acts act) (commands_split (stream Down (acts ++ act ∷ []))).each);
-    no_more = λ text more is e. let none = ap length e in let some = frame_some Down text in omega (arith, none, some, length-append (command_frame text) more);
+        (subst (AllByRecursion IsCommand) (texts_act Down acts act)
+        (commands_split (stream Down (acts ++ act ∷ []))).each);
+    no_more =
+        λ text more is e. let none = ap length e in let some = frame_some Down text in omega
+        (arith, none, some, length-append (command_frame text) more);
   }
 
   down_is : (commands_in (handed Down acts act) ≡ completed Down acts act) × (rest_of (handed Down acts act) ≡ [])
-  down_is = one_split_lem (handed Down acts act) (commands_in (handed Down acts act)) (completed Down acts act) (rest_of (handed Down acts act)) []
+  down_is =
+      one_split_lem (handed Down acts act) (commands_in (handed Down acts act)) (completed Down acts act)
+      (rest_of (handed Down acts act)) []
       (commands_split (handed Down acts act)) down_split
 
   pub down_whole : rest_of (handed Down acts act) ≡ []
   down_whole = down_is.1
 
-  down_lines : commands_in (stream Down acts) ++ commands_in (handed Down acts act) ≡ commands_in (stream Down (acts ++ act ∷ []))
+  down_lines : commands_in (stream Down acts)
+      ++ commands_in (handed Down acts act) ≡ commands_in (stream Down (acts ++ act ∷ []))
   down_lines = ap (λ l. commands_in (stream Down acts) ++ l) down_is.0 ∙ sym (texts_act Down acts act)
 
 -- ---- an engine
@@ -121,7 +142,8 @@ module _ (acts : List Act) (act : Act) where
 front_stays : (n : ℕ) (sent rest : List ℕ) → n ≤ length sent → take n (sent ++ rest) ≡ take n sent
 front_stays n sent rest small = take-append-le n sent rest small
 
-module _ (bundle : Bundle) (bound : ℕ) (key : List ℕ) (acts : List Act) (engine : Engine) (stands : EngineStands bundle bound key acts engine) where
+module _ (bundle : Bundle) (bound : ℕ) (key : List ℕ) (acts : List Act) (engine : Engine)
+    (stands : EngineStands bundle bound key acts engine) where
   -- ---- what is read
 
   module _ (count : ℕ) (piece : List ℕ) (is : piece ≡ take count (drop engine.read engine.sent.items)) where
@@ -131,7 +153,13 @@ module _ (bundle : Bundle) (bound : ℕ) (key : List ℕ) (acts : List Act) (eng
     still_within : engine.read + length piece ≤ length engine.sent.items
     still_within =
         let small = stands.read in
-        omega (arith, ap length is, length-take count (drop engine.read engine.sent.items), length-drop engine.read engine.sent.items)
+        omega (
+          arith,
+          ap length is,
+          length-take count (drop engine.read engine.sent.items),
+          length-drop engine.read
+              engine.sent.items,
+        )
 
     pub read_stands : EngineStands bundle bound key acts read_on
     read_stands = record {
@@ -153,28 +181,36 @@ module _ (bundle : Bundle) (bound : ℕ) (key : List ℕ) (acts : List Act) (eng
       so_far = stands.up ∙ ap (λ (n : ℕ). take n engine.sent.items) (sym all)
 
       pub read_sent : piece ≡ take count (drop (length (stream Up acts)) (alone bundle bound key (stream Down acts)))
-      read_sent = is ∙ ap (λ (n : ℕ). take count (drop n engine.sent.items)) all ∙ ap (λ s. take count (drop (length (stream Up acts)) s)) stands.serves.sent
+      read_sent =
+          is ∙ ap (λ (n : ℕ). take count (drop n engine.sent.items)) all ∙ ap
+          (λ s. take count (drop (length (stream Up acts)) s)) stands.serves.sent
 
       cut : engine.sent.items ≡ (stream Up acts ++ piece) ++ drop count (drop engine.read engine.sent.items)
       cut =
           sym (take-append-drop engine.read engine.sent.items)
           ∙ ap (λ l. l ++ drop engine.read engine.sent.items) (sym so_far)
-          ∙ ap (λ l. stream Up acts ++ l) (sym (take-append-drop count (drop engine.read engine.sent.items)) ∙ ap (λ l. l ++ drop count (drop engine.read engine.sent.items)) (sym is))
+          ∙ ap (λ l. stream Up acts
+          ++ l) (sym (take-append-drop count (drop engine.read engine.sent.items)) ∙ ap
+          (λ l. l ++ drop count (drop engine.read engine.sent.items)) (sym is))
           ∙ sym (append_assoc (stream Up acts) piece (drop count (drop engine.read engine.sent.items)))
 
       front : stream Up acts ++ piece ≡ take (length (stream Up acts ++ piece)) engine.sent.items
-      front = sym (ap (take (length (stream Up acts ++ piece))) cut ∙ take-append_seam (stream Up acts ++ piece) (drop count (drop engine.read engine.sent.items)))
+      front =
+          sym (ap (take (length (stream Up acts ++ piece))) cut ∙ take-append_seam (stream Up acts ++ piece)
+          (drop count (drop engine.read engine.sent.items)))
 
       pub read_with : IsReadWith acts (Moved piece) read_on
       read_with =
           let pushed = stream_push Up acts (Moved piece) in
-          let long : engine.read + length piece ≡ length (stream Up acts ++ piece) = all_more all ∙ sym (length-append (stream Up acts) piece) in
+          let long : engine.read + length piece ≡ length (stream Up acts ++ piece) = all_more all ∙ sym
+          (length-append (stream Up acts) piece) in
           record {
             all = long ∙ ap length (sym pushed);
             up = subst (λ s. s ≡ take (length s) engine.sent.items) (sym pushed) front;
           }
         where
-          all_more : engine.read ≡ length (stream Up acts) → engine.read + length piece ≡ length (stream Up acts) + length piece
+          all_more : engine.read ≡ length (stream Up acts)
+              → engine.read + length piece ≡ length (stream Up acts) + length piece
           all_more e = ap (λ (n : ℕ). n + length piece) e
 
   -- nothing is read for an act that brings nothing of the engine
@@ -189,8 +225,10 @@ module _ (bundle : Bundle) (bound : ℕ) (key : List ℕ) (acts : List Act) (eng
   -- ---- after the act
 
   module _ (act : Act) (ready : IsReadWith acts act engine) where
-    acted : (after : Engine) (rest : List ℕ) → Serves bundle bound key (commands_in (stream Down (acts ++ act ∷ []))) after
-        → after.sent.items ≡ engine.sent.items ++ rest → after.read ≡ engine.read → after.received ≡ engine.received + length (handed Up acts act)
+    acted : (after : Engine) (rest : List ℕ)
+        → Serves bundle bound key (commands_in (stream Down (acts ++ act ∷ []))) after
+        → after.sent.items ≡ engine.sent.items ++ rest → after.read ≡ engine.read
+        → after.received ≡ engine.received + length (handed Up acts act)
         → EngineStands bundle bound key (acts ++ act ∷ []) after × IsReadFor (acts ++ act ∷ []) after
     acted after rest serves more read received =
         let all = ready.all in
@@ -201,16 +239,19 @@ module _ (bundle : Bundle) (bound : ℕ) (key : List ℕ) (acts : List Act) (eng
             serves = serves;
             up = ready.up ∙ sym (ap (take (length s)) more ∙ take-append-le (length s) engine.sent.items rest short);
             received = received ∙ ap (λ (n : ℕ). n + length (handed Up acts act)) stands.received
-                ∙ sym (length-append (flat_map packet_frame (packets_in (stream Up acts))) (handed Up acts act)) ∙ sym (ap length (frames_act Up acts act));
+                ∙ sym (length-append (flat_map packet_frame (packets_in (stream Up acts))) (handed Up acts act)) ∙ sym
+                (ap length (frames_act Up acts act));
             within = omega arith;
             read = omega (arith, ap length more, length-append engine.sent.items rest);
           },
           read ∙ all,
         )
 
-    pub stays : handed Down acts act ≡ [] → handed Up acts act ≡ [] → EngineStands bundle bound key (acts ++ act ∷ []) engine × IsReadFor (acts ++ act ∷ []) engine
+    pub stays : handed Down acts act ≡ [] → handed Up acts act ≡ []
+        → EngineStands bundle bound key (acts ++ act ∷ []) engine × IsReadFor (acts ++ act ∷ []) engine
     stays down up =
-        acted engine [] (subst (λ l. Serves bundle bound key l engine) (sym (same_texts Down acts act down)) stands.serves) (sym (append-nil engine.sent.items)) refl
+        acted engine [] (subst (λ l. Serves bundle bound key l engine)
+        (sym (same_texts Down acts act down)) stands.serves) (sym (append-nil engine.sent.items)) refl
         (let none = ap length up in omega arith)
 
     pub may_receive : engine.received + length (handed Up acts act) ≤ engine.read
@@ -227,25 +268,32 @@ module _ (bundle : Bundle) (bound : ℕ) (key : List ℕ) (acts : List Act) (eng
         )
 
     pub receives : brought Down act ≡ []
-        → EngineStands bundle bound key (acts ++ act ∷ []) (record engine { received = engine.received + length (handed Up acts act) })
+        → EngineStands bundle bound key (acts ++ act
+        ∷ []) (record engine { received = engine.received + length (handed Up acts act) })
         × IsReadFor (acts ++ act ∷ []) (record engine { received = engine.received + length (handed Up acts act) })
     receives none =
         let s : Serves bundle bound key (commands_in (stream Down (acts ++ act ∷ []))) engine =
-        subst (λ l. Serves bundle bound key l engine) (sym (same_texts Down acts act (nothing_handed Down acts act none))) stands.serves in
+        subst (λ l. Serves bundle bound key l engine) (sym (same_texts Down acts act
+        (nothing_handed Down acts act none))) stands.serves in
         acted (record engine { received = engine.received + length (handed Up acts act) }) []
-        (record { sent = s.sent; own = s.own; session = s.session; ended = s.ended; given = s.given }) (sym (append-nil engine.sent.items)) refl refl
+        (record { sent = s.sent; own = s.own; session = s.session; ended = s.ended; given = s.given })
+        (sym (append-nil engine.sent.items)) refl refl
 
     pub takes : (after : Engine) → brought Up act ≡ [] → EngineTakes engine (handed Down acts act) after
         → EngineStands bundle bound key (acts ++ act ∷ []) after × IsReadFor (acts ++ act ∷ []) after
     takes after none t =
         let serves : Serves bundle bound key (commands_in (stream Down (acts ++ act ∷ []))) after =
-        subst (λ l. Serves bundle bound key l after) (down_lines acts act) (t.serves bundle bound key (commands_in (stream Down acts)) stands.serves) in
+        subst (λ l. Serves bundle bound key l after) (down_lines acts act)
+        (t.serves bundle bound key (commands_in (stream Down acts)) stands.serves) in
         let g = grows bundle bound key (stream Down acts) (brought Down act) in
         let sent : after.sent.items ≡ engine.sent.items ++ g.0 =
-        serves.sent ∙ ap (alone bundle bound key) (stream_push Down acts act) ∙ g.1 ∙ ap (λ l. l ++ g.0) (sym stands.serves.sent) in
-        acted after g.0 serves sent t.read (let nothing = ap length (nothing_handed Up acts act none) in let same = t.received in omega arith)
+        serves.sent ∙ ap (alone bundle bound key) (stream_push Down acts act) ∙ g.1 ∙ ap (λ l. l ++ g.0)
+        (sym stands.serves.sent) in
+        acted after g.0 serves sent t.read (let nothing = ap length
+        (nothing_handed Up acts act none) in let same = t.received in omega arith)
 
-pub begun : (bundle : Bundle) (bound : ℕ) (key : List ℕ) (engine : Engine) → Serves bundle bound key [] engine → engine.read ≡ 0 → engine.received ≡ 0
+pub begun : (bundle : Bundle) (bound : ℕ) (key : List ℕ) (engine : Engine) → Serves bundle bound key [] engine
+    → engine.read ≡ 0 → engine.received ≡ 0
     → EngineStands bundle bound key [] engine × IsReadFor [] engine
 begun bundle bound key engine serves read received =
     (record { serves = serves; up = refl; received = received; within = omega arith; read = omega arith }, read)

@@ -28,18 +28,24 @@ use Rattle.dp_world.specs.inner.Standing.{IsFirst, Serves, GoesOn, going_on, Eng
 -- ---- whole commands
 
 -- bytes that are whole commands begin with one, where a NUL stands
-module _ (bytes text more : List ℕ) (clean : has_no_nul text ≡ true) (is : bytes ≡ text ++ 0 ∷ more) (whole : rest_of bytes ≡ []) where
-  command_first : (lines : List (List ℕ)) → bytes ≡ flat_map command_frame lines ++ [] → AllByRecursion IsCommand lines → IsCommand text
-  command_first [] e each = let none : text ++ 0 ∷ more ≡ [] = sym is ∙ e in absurd (omega (arith, ap length none, length-append text (0 ∷ more)))
+module _ (bytes text more : List ℕ) (clean : has_no_nul text ≡ true) (is : bytes ≡ text ++ 0 ∷ more)
+    (whole : rest_of bytes ≡ []) where
+  command_first : (lines : List (List ℕ)) → bytes ≡ flat_map command_frame lines ++ [] → AllByRecursion IsCommand lines
+      → IsCommand text
+  command_first [] e each =
+      let none : text ++ 0
+      ∷ more ≡ [] = sym is ∙ e in absurd (omega (arith, ap length none, length-append text (0 ∷ more)))
   command_first (line ∷ lines) e each =
       let same = same_text text line more (flat_map command_frame lines ++ []) clean each.0.no_nul
-      (sym is ∙ e ∙ append_assoc (command_frame line) (flat_map command_frame lines) [] ∙ framed line (flat_map command_frame lines ++ [])) in
+      (sym is ∙ e ∙ append_assoc (command_frame line) (flat_map command_frame lines) [] ∙ framed line
+      (flat_map command_frame lines ++ [])) in
       subst IsCommand (sym same.0) each.0
 
   pub is_command : IsCommand text
   is_command =
       let split = commands_split bytes in
-      command_first (commands_in bytes) (split.whole ∙ ap (λ r. flat_map command_frame (commands_in bytes) ++ r) whole) split.each
+      command_first (commands_in bytes) (split.whole ∙ ap (λ r. flat_map command_frame (commands_in bytes) ++ r) whole)
+      split.each
 
   pub next_command : (commands_in bytes ≡ text ∷ commands_in more) × (rest_of bytes ≡ rest_of more)
   next_command =
@@ -50,7 +56,8 @@ module _ (bytes text more : List ℕ) (clean : has_no_nul text ≡ true) (is : b
         each = (is_command, split.each);
         no_more = split.no_more;
       } in
-      one_split_lem bytes (commands_in bytes) (text ∷ commands_in more) (rest_of bytes) (rest_of more) (commands_split bytes) longer
+      one_split_lem bytes (commands_in bytes) (text ∷ commands_in more) (rest_of bytes) (rest_of more)
+      (commands_split bytes) longer
 
   pub first_is : IsFirst bytes text more
   first_is = record {
@@ -73,8 +80,19 @@ joined first next = record {
 over_still : (first : Reply State SessionEnd) (end : SessionEnd) (lines : List (List ℕ)) → first.ended ≡ Some end
     → first ≡ joined first (going_on first.ended first.state lines)
 over_still first end lines e =
-    subst (λ (o : Option SessionEnd). record { packets = first.packets; program = first.program; state = first.state; ended = o } ≡ joined first (going_on o first.state lines)) (sym e)
-    (λ i. record { packets = sym (append-nil first.packets) i; program = sym (append-nil first.program) i; state = first.state; ended = Some end })
+    subst (λ (o : Option SessionEnd). record {
+      packets = first.packets;
+      program = first.program;
+      state = first.state;
+      ended = o;
+    } ≡ joined first (going_on o first.state lines)) (sym e)
+    (λ i. record {
+      packets = sym (append-nil first.packets) i;
+      program = sym
+          (append-nil first.program) i;
+      state = first.state;
+      ended = Some end;
+    })
 
 open_goes_on : (first : Reply State SessionEnd) (lines : List (List ℕ)) → first.ended ≡ None
     → followed first (replies answer first.state lines) ≡ joined first (going_on first.ended first.state lines)
@@ -83,14 +101,16 @@ open_goes_on first lines e =
     ∙ ap (λ (o : Option SessionEnd). joined first (going_on o first.state lines)) (sym e)
 
 pub going_append : (ended : Option SessionEnd) (state : State) (lines more : List (List ℕ))
-    → going_on ended state (lines ++ more) ≡ joined (going_on ended state lines) (going_on (going_on ended state lines).ended (going_on ended state lines).state more)
+    → going_on ended state (lines ++ more) ≡ joined (going_on ended state lines)
+    (going_on (going_on ended state lines).ended (going_on ended state lines).state more)
 going_append (Some end) state lines more = refl
 going_append None state lines more =
     replies_append answer state lines more ∙ by (replies answer state lines).ended refl
   where
     by : (o : Option SessionEnd) → (replies answer state lines).ended ≡ o
         → followed (replies answer state lines) (replies answer (replies answer state lines).state more)
-        ≡ joined (replies answer state lines) (going_on (replies answer state lines).ended (replies answer state lines).state more)
+        ≡ joined (replies answer state lines) (going_on (replies answer state lines).ended
+        (replies answer state lines).state more)
     by (Some end) e =
         followed_over (replies answer state lines) (replies answer (replies answer state lines).state more) end e
         ∙ over_still (replies answer state lines) end more e
@@ -98,7 +118,8 @@ going_append None state lines more =
 
 -- what more commands lead to
 module _ (taken more : List (List ℕ)) (x y z : Engine) (a : GoesOn taken x y) (b : GoesOn more y z) where
-  both : going_on x.ended x.session (taken ++ more) ≡ joined (going_on x.ended x.session taken) (going_on y.ended y.session more)
+  both : going_on x.ended x.session (taken ++ more) ≡ joined (going_on x.ended x.session taken)
+      (going_on y.ended y.session more)
   both =
       let f = going_on x.ended x.session taken in
       going_append x.ended x.session taken more
@@ -109,11 +130,14 @@ module _ (taken more : List (List ℕ)) (x y z : Engine) (a : GoesOn taken x y) 
   goes_on_more =
       let f = going_on x.ended x.session taken in
       let n = going_on y.ended y.session more in
-      let sent : flat_map packet_frame (going_on x.ended x.session (taken ++ more)).packets ≡ flat_map packet_frame f.packets ++ flat_map packet_frame n.packets =
-      ap (λ (r : Reply State SessionEnd). flat_map packet_frame r.packets) both ∙ flat_map-append packet_frame f.packets n.packets in
+      let sent : flat_map packet_frame (going_on x.ended x.session (taken ++ more)).packets ≡ flat_map packet_frame
+      f.packets ++ flat_map packet_frame n.packets =
+      ap (λ (r : Reply State SessionEnd). flat_map packet_frame r.packets) both ∙ flat_map-append packet_frame f.packets
+      n.packets in
       record {
         sent = b.sent ∙ ap (λ l. l ++ flat_map packet_frame n.packets) a.sent
-            ∙ append_assoc x.sent.items (flat_map packet_frame f.packets) (flat_map packet_frame n.packets) ∙ ap (λ l. x.sent.items ++ l) (sym sent);
+            ∙ append_assoc x.sent.items (flat_map packet_frame f.packets) (flat_map packet_frame n.packets) ∙ ap
+            (λ l. x.sent.items ++ l) (sym sent);
         own = b.own ∙ ap (λ l. l ++ n.program) a.own ∙ append_assoc x.own.items f.program n.program
             ∙ ap (λ (r : Reply State SessionEnd). x.own.items ++ r.program) (sym both);
         session = b.session ∙ ap (λ (r : Reply State SessionEnd). r.state) (sym both);
@@ -122,38 +146,47 @@ module _ (taken more : List (List ℕ)) (x y z : Engine) (a : GoesOn taken x y) 
         received = b.received ∙ a.received;
       }
 
-module _ (bundle : Bundle) (bound : ℕ) (key : List ℕ) (lines more : List (List ℕ)) (x y : Engine) (s : Serves bundle bound key lines x) (g : GoesOn more x y) where
-  all_answers : answers_to bundle bound (lines ++ more) ≡ joined (answers_to bundle bound lines) (going_on x.ended x.session more)
+module _ (bundle : Bundle) (bound : ℕ) (key : List ℕ) (lines more : List (List ℕ)) (x y : Engine)
+    (s : Serves bundle bound key lines x) (g : GoesOn more x y) where
+  all_answers : answers_to bundle bound (lines ++ more) ≡ joined (answers_to bundle bound lines)
+      (going_on x.ended x.session more)
   all_answers =
       let f = answers_to bundle bound lines in
       going_append None (opening bundle bound) lines more
       ∙ ap (λ (t : State). joined f (going_on f.ended t more)) (sym s.session)
       ∙ ap (λ (o : Option SessionEnd). joined f (going_on o x.session more)) (sym s.ended)
 
-  pub serves_on : y.given.items ≡ x.given.items ++ flat_map command_frame more → Serves bundle bound key (lines ++ more) y
+  pub serves_on : y.given.items ≡ x.given.items ++ flat_map command_frame more
+      → Serves bundle bound key (lines ++ more) y
   serves_on given =
       let f = answers_to bundle bound lines in
       let n = going_on x.ended x.session more in
       let first = packet_frame (init_text bundle key) in
-      let sent : flat_map packet_frame (answers_to bundle bound (lines ++ more)).packets ≡ flat_map packet_frame f.packets ++ flat_map packet_frame n.packets =
-      ap (λ (r : Reply State SessionEnd). flat_map packet_frame r.packets) all_answers ∙ flat_map-append packet_frame f.packets n.packets in
+      let sent : flat_map packet_frame (answers_to bundle bound (lines ++ more)).packets ≡ flat_map packet_frame
+      f.packets ++ flat_map packet_frame n.packets =
+      ap (λ (r : Reply State SessionEnd). flat_map packet_frame r.packets) all_answers ∙ flat_map-append packet_frame
+      f.packets n.packets in
       record {
         sent = g.sent ∙ ap (λ l. l ++ flat_map packet_frame n.packets) s.sent
-            ∙ append_assoc first (flat_map packet_frame f.packets) (flat_map packet_frame n.packets) ∙ ap (λ l. first ++ l) (sym sent);
+            ∙ append_assoc first (flat_map packet_frame f.packets) (flat_map packet_frame n.packets) ∙ ap
+            (λ l. first ++ l) (sym sent);
         own = g.own ∙ ap (λ l. l ++ n.program) s.own ∙ ap (λ (r : Reply State SessionEnd). r.program) (sym all_answers);
         session = g.session ∙ ap (λ (r : Reply State SessionEnd). r.state) (sym all_answers);
         ended = g.ended ∙ ap (λ (r : Reply State SessionEnd). r.ended) (sym all_answers);
-        given = given ∙ ap (λ l. l ++ flat_map command_frame more) s.given ∙ sym (flat_map-append command_frame lines more);
+        given =
+            given ∙ ap (λ l. l ++ flat_map command_frame more) s.given ∙ sym (flat_map-append command_frame lines more);
       }
 
 -- whole commands, joined
 pub whole_commands : (bytes : List ℕ) → rest_of bytes ≡ [] → bytes ≡ flat_map command_frame (commands_in bytes)
 whole_commands bytes whole =
-    (commands_split bytes).whole ∙ ap (λ r. flat_map command_frame (commands_in bytes) ++ r) whole ∙ append-nil (flat_map command_frame (commands_in bytes))
+    (commands_split bytes).whole ∙ ap (λ r. flat_map command_frame (commands_in bytes) ++ r) whole ∙ append-nil
+    (flat_map command_frame (commands_in bytes))
 
 -- it takes whole commands: they are put behind those that it was given, and answered
 pub takes_all : {E : Type 0} (r : Result (Unit {0}) E) (bytes : List ℕ) (x put y : Engine) → rest_of bytes ≡ []
-    → put.given.items ≡ x.given.items ++ bytes → OnOk r (GoesOn (commands_in bytes) (record x { given = put.given }) y) → OnOk r (y.given.items ≡ put.given.items)
+    → put.given.items ≡ x.given.items ++ bytes → OnOk r (GoesOn (commands_in bytes) (record x { given = put.given }) y)
+    → OnOk r (y.given.items ≡ put.given.items)
     → (bundle : Bundle) (bound : ℕ) (key : List ℕ) (lines : List (List ℕ)) → Serves bundle bound key lines x
     → OnOk r (Serves bundle bound key (lines ++ commands_in bytes) y)
 takes_all (Err e) bytes x put y whole given g same bundle bound key lines s = tt
@@ -167,7 +200,8 @@ takes_all (Ok done) bytes x put y whole given g same bundle bound key lines s =
 abbrev pub Begins : List ℕ → List ℕ → Type 0
 Begins front bytes = (rest : List ℕ) × (bytes ≡ front ++ rest)
 
-pub grows : (bundle : Bundle) (bound : ℕ) (key bytes more : List ℕ) → Begins (alone bundle bound key bytes) (alone bundle bound key (bytes ++ more))
+pub grows : (bundle : Bundle) (bound : ℕ) (key bytes more : List ℕ)
+    → Begins (alone bundle bound key bytes) (alone bundle bound key (bytes ++ more))
 grows bundle bound key bytes more =
     let g = served_goes_on answer (opening bundle bound) bytes more in
     let first = packet_frame (init_text bundle key) in
@@ -180,21 +214,28 @@ grows bundle bound key bytes more =
 
 -- ---- the end of a session
 
-module _ (bundle : Bundle) (bound : ℕ) (key : List ℕ) (acts : List Act) (engine : Engine) (stands : EngineStands bundle bound key acts engine) where
-  pub received_is : take engine.received engine.sent.items ≡ received bundle bound key (stream Down acts) (length (stream Up acts))
+module _ (bundle : Bundle) (bound : ℕ) (key : List ℕ) (acts : List Act) (engine : Engine)
+    (stands : EngineStands bundle bound key acts engine) where
+  pub received_is : take engine.received engine.sent.items ≡ received bundle bound key (stream Down acts)
+      (length (stream Up acts))
   received_is =
       let up = stream Up acts in
       let frames = flat_map packet_frame (packets_in up) in
       let behind = drop (length up) engine.sent.items in
       let sent : engine.sent.items ≡ frames ++ (rest_of_packets up ++ behind) =
-      sym (take-append-drop (length up) engine.sent.items) ∙ ap (λ l. l ++ behind) (sym stands.up ∙ (packets_split up).whole)
+      sym (take-append-drop (length up) engine.sent.items) ∙ ap (λ l. l ++ behind)
+      (sym stands.up ∙ (packets_split up).whole)
       ∙ append_assoc frames (rest_of_packets up) behind in
-      let front : up ≡ take (length up) (alone bundle bound key (stream Down acts)) = stands.up ∙ ap (take (length up)) stands.serves.sent in
-      ap (λ n. take n engine.sent.items) stands.received ∙ ap (take (length frames)) sent ∙ take_at frames (rest_of_packets up ++ behind) (length frames) refl
+      let front : up ≡ take (length up) (alone bundle bound key (stream Down acts)) = stands.up ∙ ap
+      (take (length up)) stands.serves.sent in
+      ap (λ n. take n engine.sent.items) stands.received ∙ ap (take (length frames)) sent ∙ take_at frames
+      (rest_of_packets up ++ behind) (length frames) refl
       ∙ ap (λ l. flat_map packet_frame (packets_in l)) front
 
-  pub ended_shows : (end : Ended) → end.received.items ≡ take engine.received engine.sent.items → end.given.items ≡ engine.given.items
-      → end.own.items ≡ engine.own.items ++ rest_after engine.ended engine.session → end.outcome ≡ ending_after engine.ended engine.session
+  pub ended_shows : (end : Ended) → end.received.items ≡ take engine.received engine.sent.items
+      → end.given.items ≡ engine.given.items
+      → end.own.items ≡ engine.own.items ++ rest_after engine.ended engine.session
+      → end.outcome ≡ ending_after engine.ended engine.session
       → Shows bundle bound key (stream Down acts) (length (stream Up acts)) end
   ended_shows end front given own outcome =
       let s = stands.serves in

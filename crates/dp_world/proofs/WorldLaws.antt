@@ -33,13 +33,15 @@ use Rattle.dp_world.proofs.PassingLaws.{kept_passed, kept_takes, kept_broken, so
 -- ---- keys
 
 -- a link that no event made is none of these
-was_made : (link : ℕ) (events : List Event) → was makes link events ≡ false → list_any (λ k. nat_eq link k) (made events) ≡ false
+was_made : (link : ℕ) (events : List Event) → was makes link events ≡ false
+    → list_any (λ k. nat_eq link k) (made events) ≡ false
 was_made link [] none = refl
 was_made link (e ∷ events) none = by (makes e.act) refl (was_made link events rest.1) where
   rest : (((e.link == link) && makes e.act) ≡ false) × (was makes link events ≡ false)
   rest = or_parts ((e.link == link) && makes e.act) (was makes link events) none
 
-  by : (t : Bool) → makes e.act ≡ t → list_any (λ k. nat_eq link k) (made events) ≡ false → list_any (λ k. nat_eq link k) (made (e ∷ events)) ≡ false
+  by : (t : Bool) → makes e.act ≡ t → list_any (λ k. nat_eq link k) (made events) ≡ false
+      → list_any (λ k. nat_eq link k) (made (e ∷ events)) ≡ false
   by true is others =
       let apart : (e.link == link) ≡ false = both (e.link == link) (rw is at rest.0) in
       let other : nat_eq link e.link ≡ false = grind (arith, nat_tests) in
@@ -50,7 +52,8 @@ was_made link (e ∷ events) none = by (makes e.act) refl (was_made link events 
       both false h = refl
   by false isnt others = rw isnt others
 
-none_kept : (links : List (ℕ × Shown)) (number : ℕ) → list_any (λ k. nat_eq number k) (keys_of links) ≡ false → kept_at links number ≡ None
+none_kept : (links : List (ℕ × Shown)) (number : ℕ) → list_any (λ k. nat_eq number k) (keys_of links) ≡ false
+    → kept_at links number ≡ None
 none_kept [] number h = refl
 none_kept (e ∷ links) number h =
     let parts = or_parts (nat_eq number e.0) (list_any (λ k. nat_eq number k) (keys_of links)) h in
@@ -62,22 +65,27 @@ pub put_behind : (links : List (ℕ × Shown)) (number : ℕ) (kept : Shown) →
 put_behind [] number kept none = refl
 put_behind (e ∷ links) number kept none = by (put_behind links number kept) (nat_eq number e.0) refl where
   by : (kept_at links number ≡ None → keys_of (insert_entry nat_eq links number kept) ≡ keys_of links ++ number ∷ [])
-      → (t : Bool) → nat_eq number e.0 ≡ t → keys_of (insert_entry nat_eq (e ∷ links) number kept) ≡ keys_of (e ∷ links) ++ number ∷ []
+      → (t : Bool) → nat_eq number e.0 ≡ t
+      → keys_of (insert_entry nat_eq (e ∷ links) number kept) ≡ keys_of (e ∷ links) ++ number ∷ []
   by rest true is = let clash : Some e.1 ≡ None = rw is at none in absurd cc
   by rest false isnt =
       let less : kept_at links number ≡ None = rw isnt at none in
       rw isnt (ap (λ l. e.0 ∷ l) (rest less))
 
-pub put_is : (links after : List (ℕ × Shown)) (number : ℕ) (kept : Shown) → kept_at links number ≡ None → after ≡ insert_entry nat_eq links number kept
-    → ((other : ℕ) → kept_at after other ≡ cond (nat_eq number other) (Some kept) (kept_at links other)) → IsPut links after number (Some kept)
+pub put_is : (links after : List (ℕ × Shown)) (number : ℕ) (kept : Shown) → kept_at links number ≡ None
+    → after ≡ insert_entry nat_eq links number kept
+    → ((other : ℕ) → kept_at after other ≡ cond (nat_eq number other) (Some kept) (kept_at links other))
+    → IsPut links after number (Some kept)
 put_is links after number kept none entries updates = record {
   keys = ap keys_of entries ∙ put_behind links number kept none;
   here = let self : nat_eq number number ≡ true = eq-eqb number number refl in updates number ∙ rw self refl;
   others = λ other isnt. updates other ∙ rw isnt refl;
 }
 
-pub made_more : (bundle : Bundle) (bound : ℕ) (links after : List (ℕ × Shown)) (number : ℕ) (kept : Option Shown) (link : Link)
-    → (is_some kept ≡ true) × IsShownAt bundle bound link kept → IsPut links after number kept → IsMadeIn bundle bound links after number link
+pub made_more : (bundle : Bundle) (bound : ℕ) (links after : List (ℕ × Shown)) (number : ℕ) (kept : Option Shown)
+    (link : Link)
+    → (is_some kept ≡ true) × IsShownAt bundle bound link kept → IsPut links after number kept
+    → IsMadeIn bundle bound links after number link
 made_more bundle bound links after number kept link shown put = record {
   keys = put.keys ∙ ap (λ (t : Bool). keys_of links ++ (if t then number ∷ [] else [])) shown.0;
   here = subst (IsShownAt bundle bound link) (sym put.here) shown.1;
@@ -86,7 +94,9 @@ made_more bundle bound links after number kept link shown put = record {
 
 -- ---- the past
 
-came_as : (past : Past) (number : ℕ) (a b : ProxyAct) → turn past.journal (past.link number) a ≡ turn past.journal (past.link number) b → came past number a ≡ came past number b
+came_as : (past : Past) (number : ℕ) (a b : ProxyAct)
+    → turn past.journal (past.link number) a ≡ turn past.journal (past.link number) b
+    → came past number a ≡ came past number b
 came_as past number a b e = λ i. record {
   journal = (e i).journal;
   link = λ other. if other == number then (e i).link else past.link other;
@@ -95,7 +105,8 @@ came_as past number a b e = λ i. record {
 made_push : (events : List Event) (e : Event) → made (events ++ e ∷ []) ≡ made events ++ made (e ∷ [])
 made_push events e =
     ap (map (λ (x : Event). x.link)) (filter-append (λ (x : Event). makes x.act) events (e ∷ []))
-    ∙ map-append (λ (x : Event). x.link) (filter (λ (x : Event). makes x.act) events) (filter (λ (x : Event). makes x.act) (e ∷ []))
+    ∙ map-append (λ (x : Event). x.link) (filter (λ (x : Event). makes x.act) events)
+    (filter (λ (x : Event). makes x.act) (e ∷ []))
 
 other_way : (a b : ℕ) → (a == b) ≡ false → (b == a) ≡ false
 other_way a b isnt = grind (arith, nat_tests)
@@ -150,15 +161,20 @@ module _ (bundle : Bundle) (bound : ℕ) (events : List Event) (e : Event) (keep
   -- ---- with what the proxy was told
 
   module _ (act : ProxyAct) (mid : List (ℕ × Shown)) (others : KeepsOthers links mid e.link)
-      (ready : IsReadyAt bundle bound link act (kept_at mid e.link) × LeadsAs bundle bound link e.act act) (now : Keeps) where
+      (ready : IsReadyAt bundle bound link act (kept_at mid e.link) × LeadsAs bundle bound link e.act act)
+      (now : Keeps) where
     abbrev comes : ProxyEvent
     comes = record { link = e.link; act = act }
 
     abbrev led : Turn
     led = turn past.journal link act
 
+    abbrev led_by : Turn
+    led_by = turn past.journal link (act_of bundle bound link e.act)
+
     -- the answer is one at this past
-    pub told_at : (r : Result Effect ProxyError) → Answers (core.past_of w.came) e.link act r → Answers past e.link act r
+    pub told_at : (r : Result Effect ProxyError) → Answers (core.past_of w.came) e.link act r
+        → Answers past e.link act r
     told_at r h = subst (λ (p : Past). Answers p e.link act r) w.past h
 
     next_past : core.past_of (w.came ++ comes ∷ []) ≡ past_of bundle bound (events ++ e ∷ [])
@@ -171,22 +187,27 @@ module _ (bundle : Bundle) (bound : ℕ) (events : List Event) (e : Event) (keep
     each_after : (after : List (ℕ × Shown)) → IsShownAt bundle bound led.link (kept_at after e.link)
         → ((other : ℕ) → (e.link == other) ≡ false → kept_at after other ≡ kept_at mid other)
         → AreShown bundle bound (past_of bundle bound (events ++ e ∷ [])) after
-    each_after after here apart = λ n. subst (λ (p : Past). IsShownAt bundle bound (p.link n) (kept_at after n)) (sym past_push) (at n (n == e.link) refl) where
-      at : (n : ℕ) (t : Bool) → (n == e.link) ≡ t → IsShownAt bundle bound ((followed bundle bound past e).link n) (kept_at after n)
-      at n true is =
-          let same : e.link ≡ n = sym (eqb-true n e.link is) in
-          let led_is = ap (λ (x : Turn). x.link) (ready.1 past.journal) in
-          rw is (subst (λ (m : ℕ). IsShownAt bundle bound (turn past.journal link (act_of bundle bound link e.act)).link (kept_at after m)) same
-          (subst (λ (l : Link). IsShownAt bundle bound l (kept_at after e.link)) led_is here))
-      at n false isnt =
-          let away : (e.link == n) ≡ false = other_way n e.link isnt in
-          rw isnt (subst (IsShownAt bundle bound (past.link n)) (sym (apart n away ∙ others.others n away)) (w.each n))
+    each_after after here apart =
+        λ n. subst (λ (p : Past). IsShownAt bundle bound (p.link n) (kept_at after n)) (sym past_push)
+        (at n (n == e.link) refl) where
+          at : (n : ℕ) (t : Bool) → (n == e.link) ≡ t
+              → IsShownAt bundle bound ((followed bundle bound past e).link n) (kept_at after n)
+          at n true is =
+              let same : e.link ≡ n = sym (eqb-true n e.link is) in
+              let led_is = ap (λ (x : Turn). x.link) (ready.1 past.journal) in
+              rw is (subst (λ (m : ℕ). IsShownAt bundle bound led_by.link (kept_at after m)) same
+              (subst (λ (l : Link). IsShownAt bundle bound l (kept_at after e.link)) led_is here))
+          at n false isnt =
+              let away : (e.link == n) ≡ false = other_way n e.link isnt in
+              rw isnt (subst (IsShownAt bundle bound (past.link n))
+              (sym (apart n away ∙ others.others n away)) (w.each n))
 
     -- a link that was made passes the act on
     module _ (isnt : makes e.act ≡ false) where
       keys_stay : (after : List (ℕ × Shown)) → keys_of after ≡ keys_of mid → keys_of after ≡ made (events ++ e ∷ [])
       keys_stay after same =
-          same ∙ others.keys ∙ w.keys ∙ sym (made_push events e ∙ ap (λ l. made events ++ l) none ∙ append-nil (made events))
+          same ∙ others.keys ∙ w.keys ∙ sym (made_push events e ∙ ap (λ l. made events ++ l) none ∙ append-nil
+          (made events))
         where
           none : made (e ∷ []) ≡ []
           none = rw isnt refl
@@ -194,7 +215,8 @@ module _ (bundle : Bundle) (bound : ℕ) (events : List Event) (e : Event) (keep
       pub taken : (effect : Effect) → led.effect ≡ Some effect → IsTakenAt (kept_at mid e.link) effect
       taken effect is = kept_takes bundle bound past.journal act (kept_at mid e.link) link effect ready.0 is
 
-      pub passed_stands : (after : List (ℕ × Shown)) (effect : Effect) → led.effect ≡ Some effect → Stands now (w.came ++ comes ∷ []) → Passes act
+      pub passed_stands : (after : List (ℕ × Shown)) (effect : Effect) → led.effect ≡ Some effect
+          → Stands now (w.came ++ comes ∷ []) → Passes act
           → KeepsOthers mid after e.link → AfterAt (kept_at mid e.link) effect (kept_at after e.link)
           → WorldStands bundle bound (events ++ e ∷ []) now after
       passed_stands after effect is stands passes keeps_others put = record {
@@ -202,16 +224,21 @@ module _ (bundle : Bundle) (bound : ℕ) (events : List Event) (e : Event) (keep
         stands = stands;
         past = next_past;
         keys = keys_stay after keeps_others.keys;
-        each = each_after after (kept_passed bundle bound past.journal act (kept_at mid e.link) (kept_at after e.link) link effect passes ready.0 is put) keeps_others.others;
+        each =
+            each_after after (kept_passed bundle bound past.journal act (kept_at mid e.link)
+            (kept_at after e.link) link effect passes ready.0 is put) keeps_others.others;
       }
 
-      broken_on : led.effect ≡ None → Stands now (w.came ++ comes ∷ []) → WorldStands bundle bound (events ++ e ∷ []) now mid
+      broken_on : led.effect ≡ None → Stands now (w.came ++ comes ∷ [])
+          → WorldStands bundle bound (events ++ e ∷ []) now mid
       broken_on none stands = record {
         came = w.came ++ comes ∷ [];
         stands = stands;
         past = next_past;
         keys = keys_stay mid refl;
-        each = each_after mid (kept_broken bundle bound past.journal act (kept_at mid e.link) link ready.0 none) (λ other away. refl);
+        each =
+            each_after mid (kept_broken bundle bound past.journal act (kept_at mid e.link) link ready.0 none)
+            (λ other away. refl);
       }
 
     -- a link is made
@@ -222,9 +249,12 @@ module _ (bundle : Bundle) (bound : ℕ) (events : List Event) (e : Event) (keep
       came = w.came ++ comes ∷ [];
       stands = stands;
       past = next_past;
-      keys = put.keys ∙ ap (λ l. l ++ e.link ∷ []) (others.keys ∙ w.keys) ∙ sym (made_push events e ∙ ap (λ l. made events ++ l) one);
+      keys =
+          put.keys ∙ ap (λ l. l ++ e.link ∷ []) (others.keys ∙ w.keys) ∙ sym
+          (made_push events e ∙ ap (λ l. made events ++ l) one);
       each = each_after after
-          (subst (λ (l : Link). IsShownAt bundle bound l (kept_at after e.link)) (ap (λ (x : Turn). x.link) (sym led_new)) put.here) put.others;
+          (subst (λ (l : Link). IsShownAt bundle bound l (kept_at after e.link))
+          (ap (λ (x : Turn). x.link) (sym led_new)) put.here) put.others;
     } where
       one : made (e ∷ []) ≡ e.link ∷ []
       one = rw is refl
@@ -233,13 +263,17 @@ module _ (bundle : Bundle) (bound : ℕ) (events : List Event) (e : Event) (keep
       led_new = ready.1 past.journal ∙ ap (λ (l : Link). turn past.journal l (act_of bundle bound l e.act)) new
 
     -- the link is broken: it was made before
-    pub broken_stands : (makes e.act ≡ true → link ≡ New) → led.effect ≡ None → Stands now (w.came ++ comes ∷ []) → WorldStands bundle bound (events ++ e ∷ []) now mid
+    pub broken_stands : (makes e.act ≡ true → link ≡ New) → led.effect ≡ None → Stands now (w.came ++ comes ∷ [])
+        → WorldStands bundle bound (events ++ e ∷ []) now mid
     broken_stands new none stands = by (makes e.act) refl where
       by : (t : Bool) → makes e.act ≡ t → WorldStands bundle bound (events ++ e ∷ []) now mid
-      by true is = absurd (some_effect bundle bound past.journal act (subst (λ (l : Link). (turn past.journal l act).effect ≡ None) (new is) none))
+      by true is =
+          absurd (some_effect bundle bound past.journal act (subst
+          (λ (l : Link). (turn past.journal l act).effect ≡ None) (new is) none))
       by false isnt = broken_on isnt none stands
 
-    pub broken_told : (why : ProxyError) (offset : ℕ) → why ≡ BadFrame offset → Answers (core.past_of w.came) e.link act (Err why) → StandsAfter now w.came comes (Err why)
+    pub broken_told : (why : ProxyError) (offset : ℕ) → why ≡ BadFrame offset
+        → Answers (core.past_of w.came) e.link act (Err why) → StandsAfter now w.came comes (Err why)
         → (makes e.act ≡ true → link ≡ New) → WorldStands bundle bound (events ++ e ∷ []) now mid
     broken_told why offset is answers stands new =
         let told = subst (λ (x : ProxyError). Answers past e.link act (Err x)) is (told_at (Err why) answers) in
@@ -250,15 +284,20 @@ module _ (bundle : Bundle) (bound : ℕ) (events : List Event) (e : Event) (keep
     keyless_not answers formed = absurd (told_at (Err BadInit) answers (formed.key link))
 
     pub mid_none : link ≡ New → kept_at mid e.link ≡ None
-    mid_none new = none_ready bundle bound past.journal act (kept_at mid e.link) (subst (λ (l : Link). IsReadyAt bundle bound l act (kept_at mid e.link)) new ready.0)
+    mid_none new =
+        none_ready bundle bound past.journal act (kept_at mid e.link)
+        (subst (λ (l : Link). IsReadyAt bundle bound l act (kept_at mid e.link)) new ready.0)
 
-    pub made_told : (effect : Effect) → link ≡ New → led.effect ≡ Some effect → (turn past.journal New (act_of bundle bound New e.act)).effect ≡ Some effect
+    pub made_told : (effect : Effect) → link ≡ New → led.effect ≡ Some effect
+        → (turn past.journal New (act_of bundle bound New e.act)).effect ≡ Some effect
     made_told effect new is =
-        sym (ap (λ (x : Turn). x.effect) (ready.1 past.journal ∙ ap (λ (l : Link). turn past.journal l (act_of bundle bound l e.act)) new)) ∙ is
+        sym (ap (λ (x : Turn). x.effect) (ready.1 past.journal ∙ ap
+        (λ (l : Link). turn past.journal l (act_of bundle bound l e.act)) new)) ∙ is
 
 -- ---- before any event
 
-pub world_begun : (bundle : Bundle) (bound : ℕ) (keeps : Keeps) (links : List (ℕ × Shown)) → Stands keeps [] → links ≡ [] → WorldStands bundle bound [] keeps links
+pub world_begun : (bundle : Bundle) (bound : ℕ) (keeps : Keeps) (links : List (ℕ × Shown)) → Stands keeps []
+    → links ≡ [] → WorldStands bundle bound [] keeps links
 world_begun bundle bound keeps links stands none = record {
   came = [];
   stands = stands;
@@ -273,14 +312,17 @@ on_ok (Err why) f h = tt
 
 -- ---- the next event of a list
 
-pub fit_item : (before events : List Event) (i : ℕ) (e : Event) → AllFit before events → i < length events → e ≡ get_or events i e → Fits (before ++ take i events) e
+pub fit_item : (before events : List Event) (i : ℕ) (e : Event) → AllFit before events → i < length events
+    → e ≡ get_or events i e → Fits (before ++ take i events) e
 fit_item before [] i e fit less is = absurd (omega arith)
 fit_item before (x ∷ events) zero e fit less is =
     subst (λ (b : List Event). Fits b e) (sym (append-nil before)) (subst (Fits before) (sym is) fit.0)
 fit_item before (x ∷ events) (suc i) e fit less is =
-    subst (λ (b : List Event). Fits b e) (append_assoc before (x ∷ []) (take i events)) (fit_item (before ++ x ∷ []) events i e fit.1 (omega arith) is)
+    subst (λ (b : List Event). Fits b e) (append_assoc before (x ∷ []) (take i events))
+    (fit_item (before ++ x ∷ []) events i e fit.1 (omega arith) is)
 
-pub take_item : (events : List Event) (i : ℕ) (e : Event) → i < length events → e ≡ get_or events i e → take (i + 1) events ≡ take i events ++ e ∷ []
+pub take_item : (events : List Event) (i : ℕ) (e : Event) → i < length events → e ≡ get_or events i e
+    → take (i + 1) events ≡ take i events ++ e ∷ []
 take_item events i e less is = ap (λ n. take n events) (add-one i) ∙ by events i less is where
   by : (es : List Event) (n : ℕ) → n < length es → e ≡ get_or es n e → take (suc n) es ≡ take n es ++ e ∷ []
   by [] n l s = absurd (omega arith)

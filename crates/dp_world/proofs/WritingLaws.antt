@@ -42,8 +42,10 @@ told_of end =
 
 module _ (bundle : Bundle) (bound link : ℕ) (key host : List ℕ) (port : ℕ) (engine : Engine) (end : Ended)
     (front : end.received.items ≡ take engine.received engine.sent.items) (given : end.given.items ≡ engine.given.items)
-    (own : end.own.items ≡ engine.own.items ++ rest_after engine.ended engine.session) (outcome : end.outcome ≡ ending_after engine.ended engine.session) where
-  session_is : (to : List ℕ) (pass : Pass) (acts : List ProxyAct) → IsTo to pass key host port → EngineStands bundle bound to acts engine
+    (own : end.own.items ≡ engine.own.items ++ rest_after engine.ended engine.session)
+    (outcome : end.outcome ≡ ending_after engine.ended engine.session) where
+  session_is : (to : List ℕ) (pass : Pass) (acts : List ProxyAct) → IsTo to pass key host port
+      → EngineStands bundle bound to acts engine
       → session link key (codes " to " ++ host ++ codes ":" ++ decimal port) ++ told_of end
       ≡ session_of bundle bound link to pass (stream Down acts) (length (stream Up acts))
   session_is to pass acts is stands =
@@ -61,26 +63,32 @@ module _ (bundle : Bundle) (bound link : ℕ) (key host : List ℕ) (port : ℕ)
   has_shown (Joined to pass acts) h = session_is to pass acts h.0 h.1
   has_shown (Over to pass acts) h = session_is to pass acts h.0 h.1
 
-  pub puts_session : {E : Type 0} (r : Result (Unit {0}) E) (old mid new : List ℕ) (of : Link) → Has bundle bound of key host port engine
-      → mid ≡ old ++ session link key (codes " to " ++ host ++ codes ":" ++ decimal port) → OnOk r (new ≡ mid ++ told_of end)
+  pub puts_session : {E : Type 0} (r : Result (Unit {0}) E) (old mid new : List ℕ) (of : Link)
+      → Has bundle bound of key host port engine
+      → mid ≡ old ++ session link key (codes " to " ++ host ++ codes ":" ++ decimal port)
+      → OnOk r (new ≡ mid ++ told_of end)
       → OnOk r (new ≡ old ++ shown bundle bound link of)
   puts_session r old mid new of h first rest =
       let head = session link key (codes " to " ++ host ++ codes ":" ++ decimal port) in
       on_ok_weaker r
-      (λ (e : new ≡ mid ++ told_of end). e ∙ ap (λ l. l ++ told_of end) first ∙ append_assoc old head (told_of end) ∙ ap (λ l. old ++ l) (has_shown of h))
+      (λ (e : new ≡ mid ++ told_of end). e ∙ ap (λ l. l ++ told_of end) first ∙ append_assoc old head (told_of end) ∙ ap
+      (λ l. old ++ l) (has_shown of h))
       rest
 
 -- ---- links one after another
 
 module _ (bundle : Bundle) (bound : ℕ) (past : Past) where
-  none_is : (number : ℕ) (links : List (ℕ × Shown)) → AllByRecursion (λ k. nat_eq number k ≡ false) (keys_of links) → kept_at links number ≡ None
+  none_is : (number : ℕ) (links : List (ℕ × Shown)) → AllByRecursion (λ k. nat_eq number k ≡ false) (keys_of links)
+      → kept_at links number ≡ None
   none_is number [] h = refl
   none_is number (e ∷ links) h = rw h.0 (none_is number links h.1)
 
   abbrev EachKnown : List (ℕ × Shown) → Type 0
-  EachKnown links = (number : ℕ) (kept : Shown) → kept_at links number ≡ Some kept → IsShown bundle bound (past.link number) kept
+  EachKnown links =
+      (number : ℕ) (kept : Shown) → kept_at links number ≡ Some kept → IsShown bundle bound (past.link number) kept
 
-  all_known : (links : List (ℕ × Shown)) → IsDistinct nat_eq (keys_of links) → EachKnown links → AllShown bundle bound past links
+  all_known : (links : List (ℕ × Shown)) → IsDistinct nat_eq (keys_of links) → EachKnown links
+      → AllShown bundle bound past links
   unfolding IsDistinct
   all_known [] distinct known = tt
   all_known (e ∷ links) distinct known =
@@ -89,7 +97,8 @@ module _ (bundle : Bundle) (bound : ℕ) (past : Past) where
         all_known links distinct.1 (λ number kept is. by number kept is (nat_eq number e.0) refl),
       )
     where
-      by : (number : ℕ) (kept : Shown) → kept_at links number ≡ Some kept → (t : Bool) → nat_eq number e.0 ≡ t → IsShown bundle bound (past.link number) kept
+      by : (number : ℕ) (kept : Shown) → kept_at links number ≡ Some kept → (t : Bool) → nat_eq number e.0 ≡ t
+          → IsShown bundle bound (past.link number) kept
       by number kept is true same =
           let here : number ≡ e.0 = eqb-true number e.0 same in
           let none : kept_at links number ≡ None = ap (kept_at links) here ∙ none_is e.0 links distinct.0 in
@@ -97,34 +106,43 @@ module _ (bundle : Bundle) (bound : ℕ) (past : Past) where
           absurd cc
       by number kept is false other = known number kept (rw other is)
 
-  pub all_shown : (links : List (ℕ × Shown)) → IsDistinct nat_eq (keys_of links) → AreShown bundle bound past links → AllShown bundle bound past links
+  pub all_shown : (links : List (ℕ × Shown)) → IsDistinct nat_eq (keys_of links) → AreShown bundle bound past links
+      → AllShown bundle bound past links
   all_shown links distinct are =
       all_known links distinct (λ number kept is. subst (IsShownAt bundle bound (past.link number)) is (are number))
 
-  pub next_shown : (done : List (ℕ × Shown)) (e : ℕ × Shown) (left : List (ℕ × Shown)) → AllShown bundle bound past (done ++ e ∷ left)
+  pub next_shown : (done : List (ℕ × Shown)) (e : ℕ × Shown) (left : List (ℕ × Shown))
+      → AllShown bundle bound past (done ++ e ∷ left)
       → IsShown bundle bound (past.link e.0) e.1
   next_shown [] e left h = h.0
   next_shown (first ∷ done) e left h = next_shown done e left h.1
 
-  module _ (done : List (ℕ × Shown)) (e : ℕ × Shown) (a b c : Option (List ℕ)) (so_far : Appends a b (lines_of bundle bound past done)) where
-    pub wrote_one : Appends b c (lines_at bundle bound past e) → Appends a c (lines_of bundle bound past (done ++ e ∷ []))
+  module _ (done : List (ℕ × Shown)) (e : ℕ × Shown) (a b c : Option (List ℕ))
+      (so_far : Appends a b (lines_of bundle bound past done)) where
+    pub wrote_one : Appends b c (lines_at bundle bound past e)
+        → Appends a c (lines_of bundle bound past (done ++ e ∷ []))
     wrote_one more =
         subst (Appends a c)
-        (sym (flat_map-append (lines_at bundle bound past) done (e ∷ []) ∙ ap (λ l. lines_of bundle bound past done ++ l) (append-nil (lines_at bundle bound past e))))
+        (sym (flat_map-append (lines_at bundle bound past) done (e ∷ []) ∙ ap
+        (λ l. lines_of bundle bound past done ++ l) (append-nil (lines_at bundle bound past e))))
         (Appends-trans a b c (lines_of bundle bound past done) (lines_at bundle bound past e) so_far more)
 
     module _ (left : List (ℕ × Shown)) where
-      wrote_front : AppendsFront b c (lines_at bundle bound past e) → AppendsFront a c (lines_of bundle bound past (done ++ e ∷ left))
+      wrote_front : AppendsFront b c (lines_at bundle bound past e)
+          → AppendsFront a c (lines_of bundle bound past (done ++ e ∷ left))
       wrote_front front =
           let first = lines_of bundle bound past done in
           let next = lines_at bundle bound past e in
           let rest = lines_of bundle bound past left in
-          subst (AppendsFront a c) (sym (flat_map-append (lines_at bundle bound past) done (e ∷ left) ∙ sym (append_assoc first next rest)))
+          subst (AppendsFront a c) (sym (flat_map-append (lines_at bundle bound past) done (e ∷ left) ∙ sym
+          (append_assoc first next rest)))
           (front_of_more a c (first ++ next) rest (front_after a b c first next so_far front))
 
       pub wrote_some : (why : ReplayError) (f g h : ℕ) → f ≤ g
-          → Writes (Err why) (lines_at bundle bound past e) (record { told_before = b; told = c; faults_before = g; faults = h })
-          → Writes (Err why) (lines_of bundle bound past (done ++ e ∷ left)) (record { told_before = a; told = c; faults_before = f; faults = h })
+          → Writes (Err why) (lines_at bundle bound past e) (record
+          { told_before = b; told = c; faults_before = g; faults = h })
+          → Writes (Err why) (lines_of bundle bound past (done ++ e ∷ left))
+          (record { told_before = a; told = c; faults_before = f; faults = h })
       wrote_some OutFault f g h before w = let rose = w.0 in (omega arith, wrote_front w.1)
       wrote_some Memory f g h before w = wrote_front w
 

@@ -4,6 +4,7 @@ ghost use Rattle.std.specs.Prelude.{IfOk, IfSome, MatchOption, OnOk, OnErr};
 ghost use Rattle.std.specs.List.{AllByRecursion};
 ghost use Rattle.dp_engine.specs.Served.{ending_after, rest_after};
 ghost use Rattle.dp_engine.specs.Session.{outcome_of, unwritten};
+ghost use Rattle.dp_registry.specs.Names.{IsKey};
 ghost use Rattle.dp_tree.specs.FileNames.{AreFileNames};
 ghost use Rattle.dp_tree.specs.declared.bundle.Bundle.{Bundle as Program};
 ghost use Rattle.dp_wire.specs.Frames.{IsCommand, IsPacketText, commands_in, packet_frame, rest_of};
@@ -55,7 +56,7 @@ impl<'a> Engine<'a> {
         key: &[u8],
         bound: u64,
     ) -> Result<Engine<'a>, Memory>
-        requires key { length key.now ≤ 128 }
+        requires key { IsKey key.now }
         requires names { AreFileNames (map (λ f. f.name) bundle.now.files) }
         ensures serves { IfOk result (λ engine. Serves bundle.now bound key.now [] engine) }
         ensures read { IfOk result (λ engine. engine.read ≡ 0) }

@@ -96,7 +96,12 @@ fn host_line(text: &mut Vec<u8>, word: &[u8], link: u32, host: &[u8]) -> Result<
 }
 
 /// The lines of an IDE of this host that was sent this reply.
-pub fn registration(text: &mut Vec<u8>, link: u32, host: &[u8], reply: &[u8]) -> Result<(), Memory>
+pub(crate) fn registration(
+    text: &mut Vec<u8>,
+    link: u32,
+    host: &[u8],
+    reply: &[u8],
+) -> Result<(), Memory>
     ensures { OnOk result (text.new.items ≡ text.old.items ++ spec.registration link host.now reply.now) }
 {
     host_line(text, b"registration", link, host)?;
@@ -131,7 +136,12 @@ fn put_reason(text: &mut Vec<u8>, why: &Refusal) -> Result<(), Memory>
 }
 
 /// The line of an engine that was refused.
-pub fn refusal(text: &mut Vec<u8>, link: u32, key: &[u8], why: &Refusal) -> Result<(), Memory>
+pub(crate) fn refusal(
+    text: &mut Vec<u8>,
+    link: u32,
+    key: &[u8],
+    why: &Refusal,
+) -> Result<(), Memory>
     ensures { OnOk result (text.new.items
         ≡ text.old.items ++ spec.session link key.now (codes " refused " ++ spec.reason why.now)) }
 {
@@ -142,7 +152,7 @@ pub fn refusal(text: &mut Vec<u8>, link: u32, key: &[u8], why: &Refusal) -> Resu
 }
 
 /// The line of an engine with a session, whose IDE is reached here.
-pub fn admission(
+pub(crate) fn admission(
     text: &mut Vec<u8>,
     link: u32,
     key: &[u8],
@@ -179,7 +189,7 @@ fn status(outcome: Option<Outcome>) -> u64
 }
 
 /// The lines of a session that is over: what its IDE and its engine received, and what became of the program.
-pub fn service(text: &mut Vec<u8>, end: &Ended) -> Result<(), Memory>
+pub(crate) fn service(text: &mut Vec<u8>, end: &Ended) -> Result<(), Memory>
     ensures { OnOk result (text.new.items ≡ text.old.items
         ++ (spec.line (codes "ide") (hex end.now.received.items)
         ++ spec.line (codes "engine") (hex end.now.given.items)

@@ -1,7 +1,8 @@
 //! The links that were made, and what an event changes there.
-ghost use Rattle.std.specs.Prelude.{◌≡◌, ◌≤◌, ℕ, List, true, false, length, map, is_some, None, Some, IfOk, OnOk};
+ghost use Rattle.std.specs.Prelude.{◌≡◌, ℕ, List, true, false, map, is_some, None, Some, IfOk, OnOk};
 ghost use Rattle.dp_tree.specs.FileNames.{AreFileNames};
 ghost use Rattle.dp_tree.specs.declared.bundle.Bundle.{Bundle as Program};
+ghost use Rattle.dp_registry.specs.Names.{IsKey};
 ghost use Rattle.dp_registry.specs.declared.entry.Entry.{Entry};
 ghost use Rattle.dp_registry.specs.declared.pass.Pass.{Pass};
 ghost use Rattle.dp_registry.specs.declared.refusal.Refusal.{Refusal};
@@ -31,7 +32,8 @@ fn read(
     count: u32,
 ) -> Result<Bytes, Memory>
     requires { IsReadableAt (kept_at links.old.entries link) }
-    ensures read { IfOk result (λ bytes. ReadsAt (kept_at links.old.entries link) count bytes (kept_at links.new.entries link)) }
+    ensures read { IfOk result (λ bytes.
+        ReadsAt (kept_at links.old.entries link) count bytes (kept_at links.new.entries link)) }
     ensures others { KeepsOthers links.old.entries links.new.entries link }
 {
     match links.get_mut(&link) {
@@ -41,7 +43,7 @@ fn read(
 }
 
 /// What an event brings to the proxy.
-pub fn brought(
+pub(crate) fn brought(
     alloc: Global,
     links: &mut IndexMap<u32, Shown>,
     event: &Event,
@@ -65,7 +67,7 @@ pub fn brought(
 }
 
 /// Whether an act makes a link.
-pub fn makes(act: &Act) -> bool
+pub(crate) fn makes(act: &Act) -> bool
     ensures { result ≡ is_made_by act.now }
 {
     match act {
@@ -83,7 +85,7 @@ fn joined<'a>(
     key: &Bytes,
     effect: Effect,
 ) -> Result<Option<Shown<'a>>, Memory>
-    requires key { length key.now ≤ 128 }
+    requires key { IsKey key.now }
     requires names { AreFileNames (map (λ f. f.name) bundle.now.files) }
     ensures { (verdict : Verdict Pass Refusal) → effect ≡ admission verdict → IfOk result (λ kept.
         (is_some kept ≡ true) × IsShownAt bundle.now bound (admitted key.now verdict) kept) }
@@ -153,7 +155,7 @@ fn put<'a>(
 }
 
 /// Hands a link that was made what its act has led to.
-pub fn pass<L: Ledger>(
+pub(crate) fn pass<L: Ledger>(
     alloc: Global,
     links: &mut IndexMap<u32, Shown>,
     link: u32,
@@ -171,7 +173,7 @@ pub fn pass<L: Ledger>(
 }
 
 /// Makes a link, by what the proxy was told.
-pub fn make<'a>(
+pub(crate) fn make<'a>(
     alloc: Global,
     links: &mut IndexMap<u32, Shown<'a>>,
     bundle: &'a Bundle,

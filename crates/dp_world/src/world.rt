@@ -48,9 +48,11 @@ impl<'a> World<'a> {
     ) -> Result<(), Memory>
         requires names { AreFileNames (map (λ f. f.name) bundle.now.files) }
         requires may { MayTake bundle.now bound self.old.proxy self.old.links.entries event.now }
-        ensures { (events : List OneEvent) → WorldStands bundle.now bound events self.old.proxy self.old.links.entries
+        ensures { (events : List OneEvent)
+            → WorldStands bundle.now bound events self.old.proxy self.old.links.entries
             → Fits events event.now
-            → OnOk result (WorldStands bundle.now bound (events ++ event.now ∷ []) self.new.proxy self.new.links.entries) }
+            → OnOk result
+            (WorldStands bundle.now bound (events ++ event.now ∷ []) self.new.proxy self.new.links.entries) }
     {
         let act = brought(alloc, &mut self.links, event)?;
         let came = ProxyEvent {
@@ -73,7 +75,7 @@ impl<'a> World<'a> {
 }
 
 /// What the transcript shows of the links that these events make.
-pub fn follow<'a, L: Ledger>(
+pub(crate) fn follow<'a, L: Ledger>(
     alloc: Global,
     bundle: &'a Bundle,
     bound: u64,
@@ -83,7 +85,8 @@ pub fn follow<'a, L: Ledger>(
     requires names { AreFileNames (map (λ f. f.name) bundle.now.files) }
     requires fit { AllFit [] events.now }
     ensures keys { IfOk result (λ links. keys_of links.entries ≡ made events.now) }
-    ensures shown { IfOk result (λ links. AreShown bundle.now bound (past_of bundle.now bound events.now) links.entries) }
+    ensures shown { IfOk result (λ links.
+        AreShown bundle.now bound (past_of bundle.now bound events.now) links.entries) }
 {
     let mut world = World::new(alloc);
     'events: for event in events {

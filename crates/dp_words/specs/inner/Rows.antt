@@ -36,7 +36,8 @@ rows_with (Some number) words = bound_row number ∷ rows_of_words words
 
 -- how many words there are
 abbrev pub count_in : List Row → ℕ
-count_in rows = option_map_or (λ (words : List (List ℕ)). length words) (all_of (codes "words") rows) 0
+count_in rows =
+    option_map_or (λ (words : List (List ℕ)). length words) (all_of (codes "words") rows) 0
 
 -- the matches of these words are those of what is read of them
 pub record AreRows (words : List (List ℕ)) (matches : ArgMatches) : Type 0 where

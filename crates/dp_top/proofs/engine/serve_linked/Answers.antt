@@ -8,7 +8,9 @@ use Rattle.dp_top.proofs.engine.serve_linked.Goals as goal
 pub returns-in-Err-clause-ends : goal.returns-in-Err-clause-ends
 returns-in-Err-clause-ends g c =
     inr (inl (record {
-      undialled = not_given (address_told c.args.request.address) c.args.host.now _ _ c.requires.host (rw c.in-Err.is at c.dial.ensures.dials) c.dial.ensures.retired
+      undialled =
+          not_given (address_told c.args.request.address) c.args.host.now _ _ c.requires.host
+          (rw c.in-Err.is at c.dial.ensures.dials) c.dial.ensures.retired
           (rw c.in-Err.is at c.dial.ensures.cause).failed c.dial.ensures.returned;
       is_why = c.unnamed.ensures.failure;
       is_name = c.unnamed.ensures.name;
@@ -19,9 +21,13 @@ pub returns-in-Ok-clause-ends : goal.returns-in-Ok-clause-ends
 returns-in-Ok-clause-ends g c =
     let given : Link = link g.N.In.Source g.N.Out.Sink c.in-Ok.source c.in-Ok.sink in
     let back : Link = link g.N.In.Source g.N.Out.Sink c.serve_program-done.new.input c.serve_program-done.new.out in
-    served_over c.args.bundle.now (address_told c.args.request.address) c.args.request.talk.key.now (ask_told c.args.request.talk.program) _ _ _ _ _
-    (taken_back (address_told c.args.request.address) c.args.host.now given back _ _ _ _ (net_seen g.N.Dialer g.N.Net.shut_doors c.args.net.now)
-    (net_seen g.N.Dialer g.N.Net.shut_doors c.dial.new.self) (net_seen g.N.Dialer g.N.Net.shut_doors c.retire.new.self) c.requires.host c.in-Ok.ensures.source c.in-Ok.ensures.sink
-    c.in-Ok.ensures.dials c.dial.ensures.retired c.dial.ensures.cause.later c.dial.ensures.returned c.retire.ensures.dials c.retire.ensures.retired c.retire.ensures.faults
+    served_over c.args.bundle.now (address_told c.args.request.address) c.args.request.talk.key.now
+    (ask_told c.args.request.talk.program) _ _ _ _ _
+    (taken_back (address_told c.args.request.address) c.args.host.now given back _ _ _ _
+    (net_seen g.N.Dialer g.N.Net.shut_doors c.args.net.now)
+    (net_seen g.N.Dialer g.N.Net.shut_doors c.dial.new.self) (net_seen g.N.Dialer g.N.Net.shut_doors c.retire.new.self)
+    c.requires.host c.in-Ok.ensures.source c.in-Ok.ensures.sink
+    c.in-Ok.ensures.dials c.dial.ensures.retired c.dial.ensures.cause.later c.dial.ensures.returned
+    c.retire.ensures.dials c.retire.ensures.retired c.retire.ensures.faults
     c.retire.ensures.returned)
     c.serve_program-done.result c.serve_program-done.ensures.ends

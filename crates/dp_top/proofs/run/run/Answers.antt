@@ -11,20 +11,25 @@ run-requires g c = names_of c.args.program.files.now c.requires
 
 pub returns-in-Ok-clause-held : goal.returns-in-Ok-clause-held
 returns-in-Ok-clause-held g c asked held =
-    held_status asked c.in-Ok.status (g.H.Shelf.faults c.args.shelf.now) (g.H.Shelf.faults c.run.new.shelf) (c.in-Ok.ensures.held asked held)
+    held_status asked c.in-Ok.status (g.H.Shelf.faults c.args.shelf.now) (g.H.Shelf.faults c.run.new.shelf)
+    (c.in-Ok.ensures.held asked held)
 
 pub returns-in-Err-clause-held : goal.returns-in-Err-clause-held
 returns-in-Err-clause-held g c asked held =
-    held_run c.args.program.bound asked c.in-Err.why c.told.result (g.H.Shelf.faults c.args.shelf.now) (g.H.Shelf.faults c.run.new.shelf) c.told.ensures.0
+    held_run c.args.program.bound asked c.in-Err.why c.told.result (g.H.Shelf.faults c.args.shelf.now)
+    (g.H.Shelf.faults c.run.new.shelf) c.told.ensures.0
     (c.in-Err.ensures.held asked held)
 
 pub returns-in-Err-clause-ends : goal.returns-in-Err-clause-ends
-returns-in-Err-clause-ends g c = record { why = c.in-Err.why; caused = c.in-Err.ensures.ends; told = inl c.told.ensures }
+returns-in-Err-clause-ends g c =
+    record { why = c.in-Err.why; caused = c.in-Err.ensures.ends; told = inl c.told.ensures }
 
 pub returns-in-Ok-clause-fetched : goal.returns-in-Ok-clause-fetched
 returns-in-Ok-clause-fetched g c =
-    fetched ⊤ (Ok tt) (g.H.Shelf.fetched c.args.shelf.now) (g.H.Shelf.fetched c.run.new.shelf) (ask_told c.args.program) c.in-Ok.ensures.asked
+    fetched ⊤ (Ok tt) (g.H.Shelf.fetched c.args.shelf.now) (g.H.Shelf.fetched c.run.new.shelf)
+    (ask_told c.args.program) c.in-Ok.ensures.asked
 
 pub returns-in-Err-clause-fetched : goal.returns-in-Err-clause-fetched
 returns-in-Err-clause-fetched g c =
-    fetched ⊤ (of_program {A = ℕ} (Err c.in-Err.why)) (g.H.Shelf.fetched c.args.shelf.now) (g.H.Shelf.fetched c.run.new.shelf) (ask_told c.args.program) c.in-Err.ensures.asked
+    fetched ⊤ (of_program {A = ℕ} (Err c.in-Err.why)) (g.H.Shelf.fetched c.args.shelf.now)
+    (g.H.Shelf.fetched c.run.new.shelf) (ask_told c.args.program) c.in-Err.ensures.asked

@@ -11,27 +11,35 @@ fetch_program-requires g c = names_of c.args.request.program.files.now c.require
 
 pub returns-in-Ok-clause-ends : goal.returns-in-Ok-clause-ends
 returns-in-Ok-clause-ends g c = rw (← c.objects.view_is)
-    (program_served c.args.request.key.now (ask_told c.args.request.program) _ _ c.in-Ok.bundle c.in-Ok.ensures.made c.serve_program.result c.serve_program.ensures.ends)
+    (program_served c.args.request.key.now (ask_told c.args.request.program) _ _ c.in-Ok.bundle c.in-Ok.ensures.made
+    c.serve_program.result c.serve_program.ensures.ends)
 
 pub returns-in-Ok-clause-held : goal.returns-in-Ok-clause-held
 returns-in-Ok-clause-held g c = rw (← c.objects.view_is) (record {
   by_files = λ asked held.
-      held_served asked c.in-Ok.bundle c.serve_program.result _ _ (c.in-Ok.ensures.held asked held) c.serve_program.ensures.held;
+      held_served asked c.in-Ok.bundle c.serve_program.result _ _
+      (c.in-Ok.ensures.held asked held) c.serve_program.ensures.held;
 })
 
 pub returns-in-Err-clause-ends : goal.returns-in-Err-clause-ends
 returns-in-Err-clause-ends g c = rw (← c.objects.view_is)
-    (none_served c.args.request.key.now (ask_told c.args.request.program) _ _ c.told_of_files.result c.in-Err.why c.in-Err.ensures.cause c.told_of_files.ensures
+    (none_served c.args.request.key.now (ask_told c.args.request.program) _ _ c.told_of_files.result c.in-Err.why
+    c.in-Err.ensures.cause c.told_of_files.ensures
     (record { input_stays = (refl, refl); out_stays = (refl, refl); err_stays = (refl, refl) }))
 
 pub returns-in-Err-clause-held : goal.returns-in-Err-clause-held
 returns-in-Err-clause-held g c = rw (← c.objects.view_is) (record {
   by_files = λ asked held.
-      held_failure Bundle asked c.in-Err.why c.told_of_files.result _ _ c.told_of_files.ensures.0 (c.in-Err.ensures.held asked held);
+      held_failure Bundle asked c.in-Err.why c.told_of_files.result _ _ c.told_of_files.ensures.0
+      (c.in-Err.ensures.held asked held);
 })
 
 pub returns-in-Ok-clause-fetched : goal.returns-in-Ok-clause-fetched
-returns-in-Ok-clause-fetched g c = rw (← c.objects.view_is) (fetched Bundle (Ok c.in-Ok.bundle) _ _ (ask_told c.args.request.program) c.in-Ok.ensures.asked)
+returns-in-Ok-clause-fetched g c =
+    rw (← c.objects.view_is) (fetched Bundle (Ok c.in-Ok.bundle) _ _
+    (ask_told c.args.request.program) c.in-Ok.ensures.asked)
 
 pub returns-in-Err-clause-fetched : goal.returns-in-Err-clause-fetched
-returns-in-Err-clause-fetched g c = rw (← c.objects.view_is) (fetched Bundle (Err c.in-Err.why) _ _ (ask_told c.args.request.program) c.in-Err.ensures.asked)
+returns-in-Err-clause-fetched g c =
+    rw (← c.objects.view_is) (fetched Bundle (Err c.in-Err.why) _ _
+    (ask_told c.args.request.program) c.in-Err.ensures.asked)

@@ -9,38 +9,50 @@ use Rattle.dp_top.proofs.top_call.top.Goals as goal
 
 pub carry_out_on-requires-clause-asked : goal.carry_out_on-requires-clause-asked
 carry_out_on-requires-clause-asked g c =
-    let found : Asks (map string_bytes c.args.words.now) (task_of c.in-Ok-Some.command) = rw c.in-Ok-Some.field-0-is at c.in-Ok-Some.ensures.found in
+    let found : Asks (map string_bytes c.args.words.now) (task_of c.in-Ok-Some.command) = rw c.in-Ok-Some.field-0-is at
+    c.in-Ok-Some.ensures.found in
     search (rules, found)
 
 pub returns-in-Err-clause-fetched : goal.returns-in-Err-clause-fetched
 returns-in-Err-clause-fetched g c = λ task asks. none_fetched task _
 
 pub returns-in-Ok-None-clause-complete_talk : goal.returns-in-Ok-None-clause-complete_talk
-returns-in-Ok-None-clause-complete_talk g c = λ key ask program is held none. absurd (c.in-Ok-None.ensures.none (ap Ok c.in-Ok-None.field-0-is) (talk key ask) is)
+returns-in-Ok-None-clause-complete_talk g c =
+    λ key ask program is held none. absurd (c.in-Ok-None.ensures.none (ap Ok c.in-Ok-None.field-0-is) (talk key ask) is)
 
 pub returns-in-Ok-None-clause-complete_engine : goal.returns-in-Ok-None-clause-complete_engine
-returns-in-Ok-None-clause-complete_engine g c = λ address key ask program is held none. absurd (c.in-Ok-None.ensures.none (ap Ok c.in-Ok-None.field-0-is) (engine address key ask) is)
+returns-in-Ok-None-clause-complete_engine g c =
+    λ address key ask program is held none. absurd (c.in-Ok-None.ensures.none (ap Ok c.in-Ok-None.field-0-is)
+    (engine address key ask) is)
 
 pub returns-in-Ok-None-clause-complete_show : goal.returns-in-Ok-None-clause-complete_show
-returns-in-Ok-None-clause-complete_show g c = λ asks none. absurd (c.in-Ok-None.ensures.none (ap Ok c.in-Ok-None.field-0-is) show asks)
+returns-in-Ok-None-clause-complete_show g c =
+    λ asks none. absurd (c.in-Ok-None.ensures.none (ap Ok c.in-Ok-None.field-0-is) show asks)
 
 pub returns-in-Ok-None-clause-complete_run : goal.returns-in-Ok-None-clause-complete_run
-returns-in-Ok-None-clause-complete_run g c = λ ask program is held none. absurd (c.in-Ok-None.ensures.none (ap Ok c.in-Ok-None.field-0-is) (run ask) is)
+returns-in-Ok-None-clause-complete_run g c =
+    λ ask program is held none. absurd (c.in-Ok-None.ensures.none (ap Ok c.in-Ok-None.field-0-is) (run ask) is)
 
 pub returns-in-Ok-None-clause-refused : goal.returns-in-Ok-None-clause-refused
-returns-in-Ok-None-clause-refused g c = λ task ask why asks is held. absurd (c.in-Ok-None.ensures.none (ap Ok c.in-Ok-None.field-0-is) task asks)
+returns-in-Ok-None-clause-refused g c =
+    λ task ask why asks is held. absurd (c.in-Ok-None.ensures.none (ap Ok c.in-Ok-None.field-0-is) task asks)
 
 pub returns-in-Err-carry_out_on-clause-done : goal.returns-in-Err-carry_out_on-clause-done
-returns-in-Err-carry_out_on-clause-done g c = λ low. let above = told_above c.report.result c.in-Err-carry_out_on.refused.failure _ _ c.report.ensures.told in absurd (omega (arith, above, low))
+returns-in-Err-carry_out_on-clause-done g c =
+    λ low. let above = told_above c.report.result c.in-Err-carry_out_on.refused.failure _ _ c.report.ensures.told in
+    absurd (omega (arith, above, low))
 
 pub returns-in-Err-carry_out_on-clause-fails : goal.returns-in-Err-carry_out_on-clause-fails
 returns-in-Err-carry_out_on-clause-fails g c = λ some.
     inl (fails_told c.report.result _ (task_of c.in-Ok-Some.command) c.in-Err-carry_out_on.refused.name.now _ _ _
-    c.in-Err-carry_out_on.refused.failure (rw c.in-Ok-Some.field-0-is at c.in-Ok-Some.ensures.found) c.in-Err-carry_out_on.ensures.ends c.report.ensures.later c.report.ensures.told)
+    c.in-Err-carry_out_on.refused.failure (rw c.in-Ok-Some.field-0-is at c.in-Ok-Some.ensures.found)
+    c.in-Err-carry_out_on.ensures.ends c.report.ensures.later c.report.ensures.told)
 
 pub returns-in-Err-carry_out_on-clause-complete_talk : goal.returns-in-Err-carry_out_on-clause-complete_talk
 returns-in-Err-carry_out_on-clause-complete_talk g c = λ key ask program is held none.
-    complete_talk_told c.report.result _ (task_of c.in-Ok-Some.command) _ _ c.in-Err-carry_out_on.refused _ _ (rw c.in-Ok-Some.field-0-is at c.in-Ok-Some.ensures.found) c.in-Err-carry_out_on.ensures.ends c.in-Err-carry_out_on.ensures.held c.report.ensures.told
+    complete_talk_told c.report.result _ (task_of c.in-Ok-Some.command) _ _ c.in-Err-carry_out_on.refused _ _
+    (rw c.in-Ok-Some.field-0-is at c.in-Ok-Some.ensures.found) c.in-Err-carry_out_on.ensures.ends
+    c.in-Err-carry_out_on.ensures.held c.report.ensures.told
     key ask program is held
     (record {
       shelf = none.shelf;
@@ -53,7 +65,9 @@ returns-in-Err-carry_out_on-clause-complete_talk g c = λ key ask program is hel
 
 pub returns-in-Err-carry_out_on-clause-complete_engine : goal.returns-in-Err-carry_out_on-clause-complete_engine
 returns-in-Err-carry_out_on-clause-complete_engine g c = λ address key ask program is held none.
-    complete_engine_told c.report.result _ (task_of c.in-Ok-Some.command) _ _ c.in-Err-carry_out_on.refused _ _ (rw c.in-Ok-Some.field-0-is at c.in-Ok-Some.ensures.found) c.in-Err-carry_out_on.ensures.ends c.in-Err-carry_out_on.ensures.held c.report.ensures.told
+    complete_engine_told c.report.result _ (task_of c.in-Ok-Some.command) _ _ c.in-Err-carry_out_on.refused _ _
+    (rw c.in-Ok-Some.field-0-is at c.in-Ok-Some.ensures.found) c.in-Err-carry_out_on.ensures.ends
+    c.in-Err-carry_out_on.ensures.held c.report.ensures.told
     address key ask program is held
     (record {
       shelf = none.shelf;
@@ -66,17 +80,21 @@ returns-in-Err-carry_out_on-clause-complete_engine g c = λ address key ask prog
 
 pub returns-in-Err-carry_out_on-clause-offline : goal.returns-in-Err-carry_out_on-clause-offline
 returns-in-Err-carry_out_on-clause-offline g c = λ task asks off.
-    offline_caused _ _ _ (task_of c.in-Ok-Some.command) task _ _ (rw c.in-Ok-Some.field-0-is at c.in-Ok-Some.ensures.found) c.in-Err-carry_out_on.ensures.ends asks off
+    offline_caused _ _ _ (task_of c.in-Ok-Some.command) task _ _
+    (rw c.in-Ok-Some.field-0-is at c.in-Ok-Some.ensures.found) c.in-Err-carry_out_on.ensures.ends asks off
 
 pub returns-in-Err-carry_out_on-clause-complete_show : goal.returns-in-Err-carry_out_on-clause-complete_show
 returns-in-Err-carry_out_on-clause-complete_show g c =
     complete_show_fails c.report.result _ _ _
     (fails_told c.report.result _ (task_of c.in-Ok-Some.command) c.in-Err-carry_out_on.refused.name.now _ _ _
-    c.in-Err-carry_out_on.refused.failure (rw c.in-Ok-Some.field-0-is at c.in-Ok-Some.ensures.found) c.in-Err-carry_out_on.ensures.ends c.report.ensures.later c.report.ensures.told)
+    c.in-Err-carry_out_on.refused.failure (rw c.in-Ok-Some.field-0-is at c.in-Ok-Some.ensures.found)
+    c.in-Err-carry_out_on.ensures.ends c.report.ensures.later c.report.ensures.told)
 
 pub returns-in-Err-carry_out_on-clause-complete_run : goal.returns-in-Err-carry_out_on-clause-complete_run
 returns-in-Err-carry_out_on-clause-complete_run g c = λ ask program is held none.
-    complete_run_told c.report.result _ (task_of c.in-Ok-Some.command) _ _ c.in-Err-carry_out_on.refused _ _ (rw c.in-Ok-Some.field-0-is at c.in-Ok-Some.ensures.found) c.in-Err-carry_out_on.ensures.ends c.in-Err-carry_out_on.ensures.held c.report.ensures.told
+    complete_run_told c.report.result _ (task_of c.in-Ok-Some.command) _ _ c.in-Err-carry_out_on.refused _ _
+    (rw c.in-Ok-Some.field-0-is at c.in-Ok-Some.ensures.found) c.in-Err-carry_out_on.ensures.ends
+    c.in-Err-carry_out_on.ensures.held c.report.ensures.told
     ask program is held
     (record {
       shelf = none.shelf;
@@ -90,10 +108,13 @@ returns-in-Err-carry_out_on-clause-complete_run g c = λ ask program is held non
 pub returns-in-Err-carry_out_on-clause-refused : goal.returns-in-Err-carry_out_on-clause-refused
 returns-in-Err-carry_out_on-clause-refused g c = λ task ask why asks is held.
     refused_told c.report.result _ _ c.in-Err-carry_out_on.refused.failure _ _ c.report.ensures.told
-    ((c.in-Err-carry_out_on.ensures.held ask (asks_program _ (task_of c.in-Ok-Some.command) task ask (rw c.in-Ok-Some.field-0-is at c.in-Ok-Some.ensures.found) asks is)).by_files (Err why) held)
+    ((c.in-Err-carry_out_on.ensures.held ask (asks_program _ (task_of c.in-Ok-Some.command) task ask
+    (rw c.in-Ok-Some.field-0-is at c.in-Ok-Some.ensures.found) asks is)).by_files (Err why) held)
 
 pub returns-in-Err-carry_out_on-clause-show_shelf : goal.returns-in-Err-carry_out_on-clause-show_shelf
-returns-in-Err-carry_out_on-clause-show_shelf g c = λ asks. c.in-Err-carry_out_on.ensures.show_shelf (asks_show _ (task_of c.in-Ok-Some.command) (rw c.in-Ok-Some.field-0-is at c.in-Ok-Some.ensures.found) asks)
+returns-in-Err-carry_out_on-clause-show_shelf g c =
+    λ asks. c.in-Err-carry_out_on.ensures.show_shelf (asks_show _ (task_of c.in-Ok-Some.command)
+    (rw c.in-Ok-Some.field-0-is at c.in-Ok-Some.ensures.found) asks)
 
 pub returns-in-Ok-clause-fails : goal.returns-in-Ok-clause-fails
 returns-in-Ok-clause-fails g c = λ high. absurd (omega (arith, c.in-Ok.ensures.status, high))
@@ -105,44 +126,66 @@ pub returns-in-Ok-clause-complete_engine : goal.returns-in-Ok-clause-complete_en
 returns-in-Ok-clause-complete_engine g c = λ address key ask program is held none. inl c.in-Ok.ensures.status
 
 pub returns-in-Ok-clause-offline : goal.returns-in-Ok-clause-offline
-returns-in-Ok-clause-offline g c = λ task asks off. offline_done _ _ (task_of c.in-Ok-Some.command) task _ _ (rw c.in-Ok-Some.field-0-is at c.in-Ok-Some.ensures.found) c.in-Ok.ensures.ends asks off
+returns-in-Ok-clause-offline g c =
+    λ task asks off. offline_done _ _ (task_of c.in-Ok-Some.command) task _ _
+    (rw c.in-Ok-Some.field-0-is at c.in-Ok-Some.ensures.found) c.in-Ok.ensures.ends asks off
 
 pub returns-in-Ok-clause-complete_show : goal.returns-in-Ok-clause-complete_show
-returns-in-Ok-clause-complete_show g c = λ asks none. inl (shows_well _ _ (task_of c.in-Ok-Some.command) _ _ (rw c.in-Ok-Some.field-0-is at c.in-Ok-Some.ensures.found) c.in-Ok.ensures.ends asks)
+returns-in-Ok-clause-complete_show g c =
+    λ asks none. inl (shows_well _ _ (task_of c.in-Ok-Some.command) _ _
+    (rw c.in-Ok-Some.field-0-is at c.in-Ok-Some.ensures.found) c.in-Ok.ensures.ends asks)
 
 pub returns-in-Ok-clause-refused : goal.returns-in-Ok-clause-refused
 returns-in-Ok-clause-refused g c = λ task ask why asks is held.
-    absurd ((c.in-Ok.ensures.held ask (asks_program _ (task_of c.in-Ok-Some.command) task ask (rw c.in-Ok-Some.field-0-is at c.in-Ok-Some.ensures.found) asks is)).by_files (Err why) held)
+    absurd ((c.in-Ok.ensures.held ask (asks_program _ (task_of c.in-Ok-Some.command) task ask
+    (rw c.in-Ok-Some.field-0-is at c.in-Ok-Some.ensures.found) asks is)).by_files (Err why) held)
 
 pub returns-in-Ok-clause-show_shelf : goal.returns-in-Ok-clause-show_shelf
-returns-in-Ok-clause-show_shelf g c = λ asks. c.in-Ok.ensures.show_shelf (asks_show _ (task_of c.in-Ok-Some.command) (rw c.in-Ok-Some.field-0-is at c.in-Ok-Some.ensures.found) asks)
+returns-in-Ok-clause-show_shelf g c =
+    λ asks. c.in-Ok.ensures.show_shelf (asks_show _ (task_of c.in-Ok-Some.command)
+    (rw c.in-Ok-Some.field-0-is at c.in-Ok-Some.ensures.found) asks)
 
 pub returns-in-Ok-None-clause-fetched : goal.returns-in-Ok-None-clause-fetched
-returns-in-Ok-None-clause-fetched g c = λ task asks. absurd (c.in-Ok-None.ensures.none (ap Ok c.in-Ok-None.field-0-is) task asks)
+returns-in-Ok-None-clause-fetched g c =
+    λ task asks. absurd (c.in-Ok-None.ensures.none (ap Ok c.in-Ok-None.field-0-is) task asks)
 
 pub returns-in-Err-carry_out_on-clause-fetched : goal.returns-in-Err-carry_out_on-clause-fetched
-returns-in-Err-carry_out_on-clause-fetched g c = λ task asks. asks_fetched _ (task_of c.in-Ok-Some.command) task _ _ (rw c.in-Ok-Some.field-0-is at c.in-Ok-Some.ensures.found) c.in-Err-carry_out_on.ensures.fetched asks
+returns-in-Err-carry_out_on-clause-fetched g c =
+    λ task asks. asks_fetched _ (task_of c.in-Ok-Some.command) task _ _
+    (rw c.in-Ok-Some.field-0-is at c.in-Ok-Some.ensures.found) c.in-Err-carry_out_on.ensures.fetched asks
 
 pub returns-in-Ok-clause-fetched : goal.returns-in-Ok-clause-fetched
-returns-in-Ok-clause-fetched g c = λ task asks. asks_fetched _ (task_of c.in-Ok-Some.command) task _ _ (rw c.in-Ok-Some.field-0-is at c.in-Ok-Some.ensures.found) c.in-Ok.ensures.fetched asks
+returns-in-Ok-clause-fetched g c =
+    λ task asks. asks_fetched _ (task_of c.in-Ok-Some.command) task _ _
+    (rw c.in-Ok-Some.field-0-is at c.in-Ok-Some.ensures.found) c.in-Ok.ensures.fetched asks
 
 pub returns-in-Ok-None-clause-script_refused : goal.returns-in-Ok-None-clause-script_refused
-returns-in-Ok-None-clause-script_refused g c = λ port line script is told bad. absurd (c.in-Ok-None.ensures.none (ap Ok c.in-Ok-None.field-0-is) (ide port script) is)
+returns-in-Ok-None-clause-script_refused g c =
+    λ port line script is told bad. absurd (c.in-Ok-None.ensures.none (ap Ok c.in-Ok-None.field-0-is)
+    (ide port script) is)
 
 pub returns-in-Ok-None-clause-complete_ide : goal.returns-in-Ok-None-clause-complete_ide
-returns-in-Ok-None-clause-complete_ide g c = λ port script instructions is told held none. absurd (c.in-Ok-None.ensures.none (ap Ok c.in-Ok-None.field-0-is) (ide port script) is)
+returns-in-Ok-None-clause-complete_ide g c =
+    λ port script instructions is told held none. absurd (c.in-Ok-None.ensures.none (ap Ok c.in-Ok-None.field-0-is)
+    (ide port script) is)
 
 pub returns-in-Err-carry_out_on-clause-script_refused : goal.returns-in-Err-carry_out_on-clause-script_refused
 returns-in-Err-carry_out_on-clause-script_refused g c =
-    script_refused_told c.report.result _ (task_of c.in-Ok-Some.command) _ _ c.in-Err-carry_out_on.refused _ _ (rw c.in-Ok-Some.field-0-is at c.in-Ok-Some.ensures.found) c.in-Err-carry_out_on.ensures.ends c.report.ensures.told
+    script_refused_told c.report.result _ (task_of c.in-Ok-Some.command) _ _ c.in-Err-carry_out_on.refused _ _
+    (rw c.in-Ok-Some.field-0-is at c.in-Ok-Some.ensures.found) c.in-Err-carry_out_on.ensures.ends
+    c.report.ensures.told
 
 pub returns-in-Err-carry_out_on-clause-script_held : goal.returns-in-Err-carry_out_on-clause-script_held
 returns-in-Err-carry_out_on-clause-script_held g c =
-    script_held_told c.report.result _ (task_of c.in-Ok-Some.command) _ _ c.in-Err-carry_out_on.refused _ _ (rw c.in-Ok-Some.field-0-is at c.in-Ok-Some.ensures.found) c.in-Err-carry_out_on.ensures.ends c.report.ensures.told
+    script_held_told c.report.result _ (task_of c.in-Ok-Some.command) _ _ c.in-Err-carry_out_on.refused _ _
+    (rw c.in-Ok-Some.field-0-is at c.in-Ok-Some.ensures.found) c.in-Err-carry_out_on.ensures.ends
+    c.report.ensures.told
 
 pub returns-in-Err-carry_out_on-clause-complete_ide : goal.returns-in-Err-carry_out_on-clause-complete_ide
 returns-in-Err-carry_out_on-clause-complete_ide g c = λ port script instructions is told held none.
-    complete_ide_told c.report.result _ (task_of c.in-Ok-Some.command) _ _ c.in-Err-carry_out_on.refused _ _ (rw c.in-Ok-Some.field-0-is at c.in-Ok-Some.ensures.found) c.in-Err-carry_out_on.ensures.ends c.report.ensures.told
+    complete_ide_told c.report.result _ (task_of c.in-Ok-Some.command) _ _ c.in-Err-carry_out_on.refused _ _
+    (rw c.in-Ok-Some.field-0-is at c.in-Ok-Some.ensures.found) c.in-Err-carry_out_on.ensures.ends
+    c.report.ensures.told
     port script instructions is told held
     (record {
       shelf = none.shelf;
@@ -155,10 +198,12 @@ returns-in-Err-carry_out_on-clause-complete_ide g c = λ port script instruction
 
 pub returns-in-Ok-clause-script_refused : goal.returns-in-Ok-clause-script_refused
 returns-in-Ok-clause-script_refused g c = λ port line script is told bad.
-    absurd (script_refused_done _ _ (task_of c.in-Ok-Some.command) _ _ (rw c.in-Ok-Some.field-0-is at c.in-Ok-Some.ensures.found) c.in-Ok.ensures.ends port line script is told bad)
+    absurd (script_refused_done _ _ (task_of c.in-Ok-Some.command) _ _
+    (rw c.in-Ok-Some.field-0-is at c.in-Ok-Some.ensures.found) c.in-Ok.ensures.ends port line script is told bad)
 
 pub returns-in-Ok-clause-script_held : goal.returns-in-Ok-clause-script_held
-returns-in-Ok-clause-script_held g c = λ port script instructions is told held e. omega (arith, c.in-Ok.ensures.status, e)
+returns-in-Ok-clause-script_held g c =
+    λ port script instructions is told held e. omega (arith, c.in-Ok.ensures.status, e)
 
 pub returns-in-Ok-clause-complete_ide : goal.returns-in-Ok-clause-complete_ide
 returns-in-Ok-clause-complete_ide g c = λ port script instructions is told held none.

@@ -12,7 +12,8 @@ returns-in-None-read_engine-clause-none c = λ words task is asks.
 pub returns-in-None-read_ide-clause-none : goal.returns-in-None-read_ide-clause-none
 returns-in-None-read_ide-clause-none c = λ words task is asks.
     let named : c.args.parsed.name.now ≡ codes "ide" = search rules in
-    no_ide_read words task (parsed_told c.args.parsed) is named (λ port script there. c.in-None-read_ide.ensures.none words port script is there) asks
+    no_ide_read words task (parsed_told c.args.parsed) is named
+    (λ port script there. c.in-None-read_ide.ensures.none words port script is there) asks
 
 pub returns-in-None-read_replay-clause-none : goal.returns-in-None-read_replay-clause-none
 returns-in-None-read_replay-clause-none c = λ words task is asks.
@@ -26,4 +27,5 @@ if_none (Some a) P Q f h = tt
 pub returns-then-eq-6-clause-none : goal.returns-then-eq-6-clause-none
 returns-then-eq-6-clause-none c =
     let named : c.args.parsed.name.now ≡ codes "show" = search rules in
-    if_none c.read_show.result _ _ (λ none words task is asks. no_show_read words task (parsed_told c.args.parsed) is named (none words is) asks) c.read_show.ensures.none
+    if_none c.read_show.result _ _ (λ none words task is asks. no_show_read words task
+    (parsed_told c.args.parsed) is named (none words is) asks) c.read_show.ensures.none

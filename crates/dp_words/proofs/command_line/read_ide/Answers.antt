@@ -21,18 +21,26 @@ pub returns-clause-found : goal.returns-clause-found
 returns-clause-found c =
     let none : (parsed_told c.args.parsed).bound ≡ None = search rules in
     if_some c.script_of.result _ _
-    (λ i h words is name. record { number = h.0; words_are = ide_parsed words (parsed_told c.args.parsed) h.0 i.script.now is name none h.1; is_port = h.2; is_script = h.3 })
+    (λ i h words is name. record {
+      number = h.0;
+      words_are = ide_parsed words
+          (parsed_told c.args.parsed) h.0 i.script.now is name none h.1;
+      is_port = h.2;
+      is_script = h.3;
+    })
     c.script_of.ensures.found
 
 pub returns-clause-none : goal.returns-clause-none
 returns-clause-none c =
     if_none c.script_of.result _ _
     (λ none words port script is there.
-    none there.number script port (ide_unbound words (parsed_told c.args.parsed) there.number script is there.words_are port there.is_port).1 there.is_port there.is_script)
+    none there.number script port (ide_unbound words (parsed_told c.args.parsed) there.number script is there.words_are
+    port there.is_port).1 there.is_port there.is_script)
     c.script_of.ensures.none
 
 pub returns-then-is_some-clause-none : goal.returns-then-is_some-clause-none
 returns-then-is_some-clause-none c = λ words port script is there.
-    let none : (parsed_told c.args.parsed).bound ≡ None = (ide_unbound words (parsed_told c.args.parsed) there.number script is there.words_are port there.is_port).0 in
+    let none : (parsed_told c.args.parsed).bound ≡ None = (ide_unbound words
+    (parsed_told c.args.parsed) there.number script is there.words_are port there.is_port).0 in
     let some : is_some c.args.parsed.bound ≡ true = search rules in
     some_mapped _ c.args.parsed.bound none some

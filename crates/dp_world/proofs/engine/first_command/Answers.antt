@@ -12,6 +12,8 @@ pub returns-in-Some : goal.returns-in-Some
 returns-in-Some c =
     let commands = c.args.commands.now in
     let behind = drop (c.in-Some.at + 1) commands in
-    let all : take (length commands - (c.in-Some.at + 1)) behind ≡ behind = take_all (length commands - (c.in-Some.at + 1)) behind (omega (arith, length-drop (c.in-Some.at + 1) commands)) in
+    let all : take (length commands - (c.in-Some.at + 1)) behind ≡ behind = take_all
+    (length commands - (c.in-Some.at + 1)) behind (omega (arith, length-drop (c.in-Some.at + 1) commands)) in
     subst (IsFirst commands (take c.in-Some.at commands)) (sym all)
-    (first_is commands (take c.in-Some.at commands) behind c.in-Some.ensures.first.0 c.in-Some.ensures.first.1 c.requires)
+    (first_is commands (take c.in-Some.at commands) behind c.in-Some.ensures.first.0 c.in-Some.ensures.first.1
+    c.requires)

@@ -9,5 +9,7 @@ pub returns-in_ok-read-in-Move-clause-ready : goal.returns-in_ok-read-in-Move-cl
 returns-in_ok-read-in-Move-clause-ready c = λ bundle bound link shown.
     let piece = c.in_ok-read-in-Move.field-0 in
     let number = c.args.event.now.link in
-    subst (λ (a : Act). IsReadyAt bundle bound link (Moved piece) (kept_at c.read.new.links.entries number) × LeadsAs bundle bound link a (Moved piece)) (sym c.in-Move.is)
-    (moved_ready bundle bound c.in-Move.count piece (kept_at c.args.links.now.entries number) (kept_at c.read.new.links.entries number) link shown c.in_ok-read-in-Move.ensures.read)
+    subst (λ (a : Act). IsReadyAt bundle bound link (Moved piece) (kept_at c.read.new.links.entries number)
+    × LeadsAs bundle bound link a (Moved piece)) (sym c.in-Move.is)
+    (moved_ready bundle bound c.in-Move.count piece (kept_at c.args.links.now.entries number)
+    (kept_at c.read.new.links.entries number) link shown c.in_ok-read-in-Move.ensures.read)

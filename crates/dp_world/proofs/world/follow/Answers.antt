@@ -10,19 +10,24 @@ pub take-requires-clause-may : goal.take-requires-clause-may
 take-requires-clause-may g c = record {
   events = take c.events.event-index c.args.events.now;
   stands = c.events.invariant;
-  fits = fit_item [] c.args.events.now c.events.event-index c.event-item.result c.requires.fit (omega arith) c.event-item.is;
+  fits =
+      fit_item [] c.args.events.now c.events.event-index c.event-item.result c.requires.fit
+      (omega arith) c.event-item.is;
 }
 
 pub events-preserved : goal.events-preserved
 events-preserved g c =
     let i = c.events.event-index in
     let less : i < length c.args.events.now = omega arith in
-    subst (λ (es : List Event). WorldStands c.args.bundle.now c.args.bound es c.take.new.self.proxy c.take.new.self.links.entries)
+    subst (λ (es : List Event). WorldStands c.args.bundle.now c.args.bound es c.take.new.self.proxy
+    c.take.new.self.links.entries)
     (sym (take_item c.args.events.now i c.event-item.result less c.event-item.is))
-    (c.in_ok-take.ensures (take i c.args.events.now) c.events.invariant (fit_item [] c.args.events.now i c.event-item.result c.requires.fit less c.event-item.is))
+    (c.in_ok-take.ensures (take i c.args.events.now) c.events.invariant
+    (fit_item [] c.args.events.now i c.event-item.result c.requires.fit less c.event-item.is))
 
 pub returns-clause-shown : goal.returns-clause-shown
 returns-clause-shown g c = λ number.
     let i = c.events.event-index in
-    subst (λ (es : List Event). IsShownAt c.args.bundle.now c.args.bound ((past_of c.args.bundle.now c.args.bound es).link number) (kept_at c.events.world.links.entries number))
+    subst (λ (es : List Event). IsShownAt c.args.bundle.now c.args.bound
+    ((past_of c.args.bundle.now c.args.bound es).link number) (kept_at c.events.world.links.entries number))
     (take_all i c.args.events.now (omega arith)) (c.events.invariant.each number)

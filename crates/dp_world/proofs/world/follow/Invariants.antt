@@ -3,4 +3,5 @@ use Rattle.dp_world.specs.inner.Showing.{WorldStands}
 use Rattle.dp_world.proofs.world.follow.Given as goal
 
 abbrev pub invariant-events : goal.invariant-events
-invariant-events g l = WorldStands l.fn.bundle l.fn.bound (take l.event-index l.events) l.world.proxy l.world.links.entries
+invariant-events g l =
+    WorldStands l.fn.bundle l.fn.bound (take l.event-index l.events) l.world.proxy l.world.links.entries

@@ -4,5 +4,7 @@ use Rattle.dp_world.proofs.writing.session.Goals as goal
 pub returns : goal.returns
 returns g c = λ bundle bound of has.
     let end = c.in_ok-end.ensures in
-    puts_session bundle bound c.args.link c.args.key.now c.args.host.now c.args.port c.args.engine c.in_ok-end.end end.received end.given end.own end.outcome
-    c.service.result c.args.text.now.items c.admission.new.text.items c.service.new.text.items of has c.in_ok-admission.ensures c.service.ensures
+    puts_session bundle bound c.args.link c.args.key.now c.args.host.now c.args.port c.args.engine c.in_ok-end.end
+    end.received end.given end.own end.outcome
+    c.service.result c.args.text.now.items c.admission.new.text.items c.service.new.text.items of has
+    c.in_ok-admission.ensures c.service.ensures

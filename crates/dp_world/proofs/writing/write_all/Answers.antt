@@ -12,7 +12,8 @@ links-preserved g c =
     let done = so_far.0 in
     let rest = c.next.new.self in
     let e : ℕ × Shown = (c.in-Some.link, c.in-Some.shown) in
-    let here : c.into_iter-left.result ≡ done ++ e ∷ rest = so_far.1 ∙ ap (λ (l : List (ℕ × Shown)). done ++ l) c.in-Some.ensures.steps in
+    let here : c.into_iter-left.result ≡ done ++ e
+    ∷ rest = so_far.1 ∙ ap (λ (l : List (ℕ × Shown)). done ++ l) c.in-Some.ensures.steps in
     let before = c.links.invariant.0 in
     let later = c.in_ok-write_one.ensures.later in (
       omega arith,
@@ -20,9 +21,11 @@ links-preserved g c =
         done ++ e ∷ [],
         here ∙ sym (append_assoc done (e ∷ []) rest),
         λ bundle bound past all.
-            wrote_one bundle bound past done e (g.K.Sink.taken c.args.out.now) (g.K.Sink.taken c.links.out) (g.K.Sink.taken c.write_one.new.out)
+            wrote_one bundle bound past done e (g.K.Sink.taken c.args.out.now) (g.K.Sink.taken c.links.out)
+            (g.K.Sink.taken c.write_one.new.out)
             (so_far.2 bundle bound past all)
-            (c.in_ok-write_one.ensures.writes bundle bound (past.link c.in-Some.link) (next_shown bundle bound past done e rest (subst (AllShown bundle bound past) here all))),
+            (c.in_ok-write_one.ensures.writes bundle bound (past.link c.in-Some.link)
+            (next_shown bundle bound past done e rest (subst (AllShown bundle bound past) here all))),
       ),
     )
 
@@ -34,20 +37,28 @@ returns-in_err-write_one-clause-writes g c = λ bundle bound past are.
     let rest = c.next.new.self in
     let e : ℕ × Shown = (c.in-Some.link, c.in-Some.shown) in
     let gives = c.into_iter-left.ensures.into_iter_gives in
-    let here : c.into_iter-left.result ≡ done ++ e ∷ rest = so_far.1 ∙ ap (λ (l : List (ℕ × Shown)). done ++ l) c.in-Some.ensures.steps in
-    let all = subst (AllShown bundle bound past) (sym gives.0) (all_shown bundle bound past c.args.links.entries gives.4 are) in
+    let here : c.into_iter-left.result ≡ done ++ e
+    ∷ rest = so_far.1 ∙ ap (λ (l : List (ℕ × Shown)). done ++ l) c.in-Some.ensures.steps in
+    let all = subst (AllShown bundle bound past) (sym gives.0)
+    (all_shown bundle bound past c.args.links.entries gives.4 are) in
     rw (p.1, p.2, sym gives.0 ∙ here)
-    (wrote_some bundle bound past done e (g.K.Sink.taken c.args.out.now) (g.K.Sink.taken c.links.out) (g.K.Sink.taken c.write_one.new.out)
-    (so_far.2 bundle bound past all) rest c.in_err-write_one.field-0.0 (g.K.Sink.faults c.args.out.now) (g.K.Sink.faults c.links.out) (g.K.Sink.faults c.write_one.new.out)
+    (wrote_some bundle bound past done e (g.K.Sink.taken c.args.out.now) (g.K.Sink.taken c.links.out)
+    (g.K.Sink.taken c.write_one.new.out)
+    (so_far.2 bundle bound past all) rest c.in_err-write_one.field-0.0 (g.K.Sink.faults c.args.out.now)
+    (g.K.Sink.faults c.links.out) (g.K.Sink.faults c.write_one.new.out)
     c.links.invariant.0
-    (c.in_err-write_one.ensures.writes bundle bound (past.link c.in-Some.link) (next_shown bundle bound past done e rest (subst (AllShown bundle bound past) here all))))
+    (c.in_err-write_one.ensures.writes bundle bound (past.link c.in-Some.link)
+    (next_shown bundle bound past done e rest (subst (AllShown bundle bound past) here all))))
 
 pub returns-clause-writes : goal.returns-clause-writes
 returns-clause-writes g c = λ bundle bound past are.
     let so_far = c.links.invariant.1 in
     let done = so_far.0 in
     let gives = c.into_iter-left.ensures.into_iter_gives in
-    let all = subst (AllShown bundle bound past) (sym gives.0) (all_shown bundle bound past c.args.links.entries gives.4 are) in
-    let same : c.args.links.entries ≡ done = sym gives.0 ∙ so_far.1 ∙ ap (λ (l : List (ℕ × Shown)). done ++ l) c.in_default.ensures.steps.0 ∙ append-nil done in
-    subst (λ (l : List (ℕ × Shown)). Appends (g.K.Sink.taken c.args.out.now) (g.K.Sink.taken c.links.out) (lines_of bundle bound past l)) (sym same)
+    let all = subst (AllShown bundle bound past) (sym gives.0)
+    (all_shown bundle bound past c.args.links.entries gives.4 are) in
+    let same : c.args.links.entries ≡ done = sym gives.0 ∙ so_far.1 ∙ ap
+    (λ (l : List (ℕ × Shown)). done ++ l) c.in_default.ensures.steps.0 ∙ append-nil done in
+    subst (λ (l : List (ℕ × Shown)). Appends (g.K.Sink.taken c.args.out.now) (g.K.Sink.taken c.links.out)
+    (lines_of bundle bound past l)) (sym same)
     (so_far.2 bundle bound past all)

@@ -13,8 +13,10 @@ commands-preserved g c =
       c.in_ok-answer.ensures.given ∙ c.commands.invariant.1,
       (
         so_far.0 ++ line ∷ [],
-        so_far.1 ∙ ap (λ l. so_far.0 ++ l) first.first ∙ sym (append_assoc so_far.0 (line ∷ []) (commands_in c.in-Some.more.now)),
-        goes_on_more so_far.0 (line ∷ []) c.args.self.now c.commands.self c.answer.new.self so_far.2 c.in_ok-answer.ensures.goes_on,
+        so_far.1 ∙ ap (λ l. so_far.0
+            ++ l) first.first ∙ sym (append_assoc so_far.0 (line ∷ []) (commands_in c.in-Some.more.now)),
+        goes_on_more so_far.0 (line ∷ []) c.args.self.now c.commands.self c.answer.new.self so_far.2
+            c.in_ok-answer.ensures.goes_on,
       ),
     )
 

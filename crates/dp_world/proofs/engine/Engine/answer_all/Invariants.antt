@@ -6,7 +6,8 @@ use Rattle.dp_world.proofs.engine.Engine.answer_all.Given as goal
 abbrev pub invariant-commands : goal.invariant-commands
 invariant-commands g l =
     (rest_of l.rest ≡ []) × (l.self.given.items ≡ l.fn.self.given.items)
-    × ((taken : List (List ℕ)) × (commands_in l.fn.commands ≡ taken ++ commands_in l.rest) × GoesOn taken l.fn.self l.self)
+    × ((taken : List (List ℕ)) × (commands_in l.fn.commands ≡ taken ++ commands_in l.rest)
+    × GoesOn taken l.fn.self l.self)
 
 abbrev pub decreases-commands : goal.decreases-commands
 decreases-commands g l = length l.rest

@@ -14,9 +14,11 @@ pass-requires g c =
     let act = c.in_ok-act.act in
     let isnt = sym c.makes.ensures ∙ c.if-makes.false in
     let ready = c.in_ok-act.ensures.ready b n ((past_of b n m.events).link e.link) (w.each e.link) in
-    let told = law.told_at b n m.events e c.args.self.now.proxy c.args.self.now.links.entries w act c.brought.new.links.entries c.in_ok-act.ensures.others ready c.step.new.self (Ok c.in-Ok.effect)
+    let told = law.told_at b n m.events e c.args.self.now.proxy c.args.self.now.links.entries w act
+    c.brought.new.links.entries c.in_ok-act.ensures.others ready c.step.new.self (Ok c.in-Ok.effect)
     (c.in-Ok.ensures.answers w.came w.stands) in
-    law.taken b n m.events e c.args.self.now.proxy c.args.self.now.links.entries w act c.brought.new.links.entries c.in_ok-act.ensures.others ready c.step.new.self isnt c.in-Ok.effect told.1
+    law.taken b n m.events e c.args.self.now.proxy c.args.self.now.links.entries w act c.brought.new.links.entries
+    c.in_ok-act.ensures.others ready c.step.new.self isnt c.in-Ok.effect told.1
 
 pub returns-in-Ok : goal.returns-in-Ok
 returns-in-Ok g c = λ events w fits.
@@ -26,10 +28,13 @@ returns-in-Ok g c = λ events w fits.
     let act = c.in_ok-act.act in
     let isnt = sym c.makes.ensures ∙ c.if-makes.false in
     let ready = c.in_ok-act.ensures.ready b n ((past_of b n events).link e.link) (w.each e.link) in
-    let told = law.told_at b n events e c.args.self.now.proxy c.args.self.now.links.entries w act c.brought.new.links.entries c.in_ok-act.ensures.others ready c.step.new.self (Ok c.in-Ok.effect)
+    let told = law.told_at b n events e c.args.self.now.proxy c.args.self.now.links.entries w act
+    c.brought.new.links.entries c.in_ok-act.ensures.others ready c.step.new.self (Ok c.in-Ok.effect)
     (c.in-Ok.ensures.answers w.came w.stands) in
-    law.on_ok c.pass.result (λ after. law.passed_stands b n events e c.args.self.now.proxy c.args.self.now.links.entries w act c.brought.new.links.entries c.in_ok-act.ensures.others ready c.step.new.self isnt
-    c.pass.new.links.entries c.in-Ok.effect told.1 (c.in-Ok.ensures.stands w.came w.stands) (c.in_ok-act.ensures.passes isnt) c.pass.ensures.others after) c.pass.ensures.after
+    law.on_ok c.pass.result (λ after. law.passed_stands b n events e c.args.self.now.proxy c.args.self.now.links.entries
+    w act c.brought.new.links.entries c.in_ok-act.ensures.others ready c.step.new.self isnt
+    c.pass.new.links.entries c.in-Ok.effect told.1 (c.in-Ok.ensures.stands w.came w.stands)
+    (c.in_ok-act.ensures.passes isnt) c.pass.ensures.others after) c.pass.ensures.after
 
 pub returns-then-makes : goal.returns-then-makes
 returns-then-makes g c = λ events w fits.
@@ -40,18 +45,26 @@ returns-then-makes g c = λ events w fits.
     let is = sym c.makes.ensures ∙ c.if-makes.true in
     let new = law.is_new b n events e c.args.self.now.proxy c.args.self.now.links.entries w fits is in
     let ready = c.in_ok-act.ensures.ready b n ((past_of b n events).link e.link) (w.each e.link) in
-    let told = law.told_at b n events e c.args.self.now.proxy c.args.self.now.links.entries w act c.brought.new.links.entries c.in_ok-act.ensures.others ready c.step.new.self (Ok c.in-Ok.effect)
+    let told = law.told_at b n events e c.args.self.now.proxy c.args.self.now.links.entries w act
+    c.brought.new.links.entries c.in_ok-act.ensures.others ready c.step.new.self (Ok c.in-Ok.effect)
     (c.in-Ok.ensures.answers w.came w.stands) in
-    let none = law.mid_none b n events e c.args.self.now.proxy c.args.self.now.links.entries w act c.brought.new.links.entries c.in_ok-act.ensures.others ready c.step.new.self new in
-    let at_new = law.made_told b n events e c.args.self.now.proxy c.args.self.now.links.entries w act c.brought.new.links.entries c.in_ok-act.ensures.others ready c.step.new.self c.in-Ok.effect new told.1 in
-    law.on_ok c.make.result (λ put. law.made_stands b n events e c.args.self.now.proxy c.args.self.now.links.entries w act c.brought.new.links.entries c.in_ok-act.ensures.others ready c.step.new.self
-    c.make.new.links.entries is new (c.in-Ok.ensures.stands w.came w.stands) put) (c.make.ensures (past_of b n events).journal is none at_new)
+    let none = law.mid_none b n events e c.args.self.now.proxy c.args.self.now.links.entries w act
+    c.brought.new.links.entries c.in_ok-act.ensures.others ready c.step.new.self new in
+    let at_new = law.made_told b n events e c.args.self.now.proxy c.args.self.now.links.entries w act
+    c.brought.new.links.entries c.in_ok-act.ensures.others ready c.step.new.self c.in-Ok.effect new told.1 in
+    law.on_ok c.make.result (λ put. law.made_stands b n events e c.args.self.now.proxy c.args.self.now.links.entries w
+    act c.brought.new.links.entries c.in_ok-act.ensures.others ready c.step.new.self
+    c.make.new.links.entries is new (c.in-Ok.ensures.stands w.came w.stands) put)
+    (c.make.ensures (past_of b n events).journal is none at_new)
 
 pub returns : goal.returns
 returns g c = λ events w fits.
     let b = c.args.bundle.now in
     let n = c.args.bound in
     let e = c.args.event.now in
-    law.broken_told b n events e c.args.self.now.proxy c.args.self.now.links.entries w c.in_ok-act.act c.brought.new.links.entries c.in_ok-act.ensures.others
-    (c.in_ok-act.ensures.ready b n ((past_of b n events).link e.link) (w.each e.link)) c.step.new.self c.in-Err-BadFrame.field-0 c.in-Err-BadFrame.field-0-0 c.in-Err-BadFrame.field-0-is
-    (c.in-Err-BadFrame.ensures.answers w.came w.stands) (c.in-Err-BadFrame.ensures.stands w.came w.stands) (law.is_new b n events e c.args.self.now.proxy c.args.self.now.links.entries w fits)
+    law.broken_told b n events e c.args.self.now.proxy c.args.self.now.links.entries w c.in_ok-act.act
+    c.brought.new.links.entries c.in_ok-act.ensures.others
+    (c.in_ok-act.ensures.ready b n ((past_of b n events).link e.link) (w.each e.link)) c.step.new.self
+    c.in-Err-BadFrame.field-0 c.in-Err-BadFrame.field-0-0 c.in-Err-BadFrame.field-0-is
+    (c.in-Err-BadFrame.ensures.answers w.came w.stands) (c.in-Err-BadFrame.ensures.stands w.came w.stands)
+    (law.is_new b n events e c.args.self.now.proxy c.args.self.now.links.entries w fits)
