@@ -32,7 +32,8 @@ fn fetch<H: Shelf>(
     shelf: &mut H,
 ) -> Result<(Bytes, Bytes), ProgramError>
     ensures ok { IfOk result (λ file. (file.0 ≡ name.now) × Fetches (H.files shelf.old) name.now file_limit file.1) }
-    ensures err { IfErr result (λ why. FetchCaused why number name.now (H.files shelf.old) (H.faults shelf.old) (H.faults shelf.new)) }
+    ensures err { IfErr result (λ why. FetchCaused why number name.now (H.files shelf.old) (H.faults shelf.old)
+        (H.faults shelf.new)) }
     ensures later { H.faults shelf.old ≤ H.faults shelf.new }
     ensures files { H.files shelf.new ≡ H.files shelf.old }
     ensures asked { H.fetched shelf.new ≡ grown (H.fetched shelf.old) (name.now ∷ []) }
@@ -65,7 +66,8 @@ fn fetch_next<H: Shelf>(
 ) -> Result<(), ProgramError>
     requires { length fetched.old.items < 64 }
     ensures ok { OnOk result (IsNext (H.files shelf.old) name.now fetched.old.items fetched.new.items) }
-    ensures err { IfErr result (λ why. FetchCaused why (length fetched.old.items) name.now (H.files shelf.old) (H.faults shelf.old) (H.faults shelf.new)) }
+    ensures err { IfErr result (λ why. FetchCaused why (length fetched.old.items) name.now (H.files shelf.old)
+        (H.faults shelf.old) (H.faults shelf.new)) }
     ensures later { H.faults shelf.old ≤ H.faults shelf.new }
     ensures files { H.files shelf.new ≡ H.files shelf.old }
     ensures asked { H.fetched shelf.new ≡ grown (H.fetched shelf.old) (name.now ∷ []) }

@@ -16,10 +16,7 @@ use dp_value::{Bytes, Items};
 use std::alloc::Global;
 
 /// The program that fetched files make.
-pub fn make_program(
-    alloc: Global,
-    fetched: Items<(Bytes, Bytes)>,
-) -> Result<Bundle, ProgramError>
+pub fn make_program(alloc: Global, fetched: Items<(Bytes, Bytes)>) -> Result<Bundle, ProgramError>
     requires { AreForBundle fetched }
     ensures ok { IfOk result (λ program. Makes fetched (Ok program)) }
     ensures named { IfOk result (λ program. map (λ file. file.name) program.files ≡ map (λ file. file.0) fetched) }
@@ -44,7 +41,8 @@ pub fn fetch_program<H: Shelf>(
     requires { AreFileNames (map string_bytes names.now) }
     ensures made { IfOk result (λ program. Make (H.files shelf.old) (map string_bytes names.now) (Ok program)) }
     ensures named { IfOk result (λ program. map (λ file. file.name) program.files ≡ map string_bytes names.now) }
-    ensures cause { IfErr result (λ why. NoProgram why (H.files shelf.old) (H.faults shelf.old) (H.faults shelf.new) (map string_bytes names.now)) }
+    ensures cause { IfErr result (λ why. NoProgram why (H.files shelf.old) (H.faults shelf.old) (H.faults shelf.new)
+        (map string_bytes names.now)) }
     // Only these files are asked for, each once, in order: all of them, or those up to one that is not fetched.
     ensures asked { Asks result (H.fetched shelf.old) (H.fetched shelf.new) (map string_bytes names.now) }
     // What the files of a shelf that tells them make is answered, unless the shelf or memory fails.

@@ -119,16 +119,27 @@ one_task words (ide port script) (ide other s) p q =
     q.is_port in
     λ i. ide (number_in (ports i)) (word_at 2 (same i))
 one_task words (replay events ask) (replay e other) p q =
-    let same = asks_same words p.behind q.behind (codes "replay") _ _ p.words_are q.words_are p.replays.asked q.replays.asked in
-    λ i. replay (word_at 0 (names_in (same i))) (record { bound = bound_in (same i); names = drop 1 (names_in (same i)) })
+    let same = asks_same words p.behind q.behind (codes "replay") _ _ p.words_are q.words_are p.replays.asked
+    q.replays.asked in
+    λ i. replay (word_at 0 (names_in (same i))) (record {
+      bound = bound_in (same i);
+      names = drop 1
+          (names_in (same i));
+    })
 one_task words (replay e asked) (run ask) p q = absurd (omega (arith, apart words (replay e asked) (run ask) p q))
 one_task words (run ask) (replay e asked) p q = absurd (omega (arith, apart words (run ask) (replay e asked) p q))
-one_task words (replay e asked) (talk key ask) p q = absurd (omega (arith, apart words (replay e asked) (talk key ask) p q))
-one_task words (talk key ask) (replay e asked) p q = absurd (omega (arith, apart words (talk key ask) (replay e asked) p q))
-one_task words (replay e asked) (engine a key ask) p q = absurd (omega (arith, apart words (replay e asked) (engine a key ask) p q))
-one_task words (engine a key ask) (replay e asked) p q = absurd (omega (arith, apart words (engine a key ask) (replay e asked) p q))
-one_task words (replay e asked) (ide port script) p q = absurd (omega (arith, apart words (replay e asked) (ide port script) p q))
-one_task words (ide port script) (replay e asked) p q = absurd (omega (arith, apart words (ide port script) (replay e asked) p q))
+one_task words (replay e asked) (talk key ask) p q =
+    absurd (omega (arith, apart words (replay e asked) (talk key ask) p q))
+one_task words (talk key ask) (replay e asked) p q =
+    absurd (omega (arith, apart words (talk key ask) (replay e asked) p q))
+one_task words (replay e asked) (engine a key ask) p q =
+    absurd (omega (arith, apart words (replay e asked) (engine a key ask) p q))
+one_task words (engine a key ask) (replay e asked) p q =
+    absurd (omega (arith, apart words (engine a key ask) (replay e asked) p q))
+one_task words (replay e asked) (ide port script) p q =
+    absurd (omega (arith, apart words (replay e asked) (ide port script) p q))
+one_task words (ide port script) (replay e asked) p q =
+    absurd (omega (arith, apart words (ide port script) (replay e asked) p q))
 one_task words (replay e asked) show p q = absurd (omega (arith, apart words (replay e asked) show p q))
 one_task words show (replay e asked) p q = absurd (omega (arith, apart words show (replay e asked) p q))
 one_task words (ide port script) (run ask) p q = absurd (omega (arith, apart words (ide port script) (run ask) p q))
@@ -218,11 +229,13 @@ ide_starved failed name port script old new (inr (inr (inl alone))) = inl (refl,
 ide_starved failed name port script old new (inr (inr (inr h))) = inl (refl, inr (inr (Err h.end, h.played)))
 
 replay_starved : (failed : Failure) (name events : List ℕ) (ask : Ask) (files : Files) (before after : ℕ) (out : Change)
-    → ReplayFails failed name events ask files before after out → ReplayFails failure.Memory name events ask files before after out
+    → ReplayFails failed name events ask files before after out
+    → ReplayFails failure.Memory name events ask files before after out
 replay_starved failed name events ask files before after out (inl memory) = inl (refl, memory.1)
 replay_starved failed name events ask files before after out (inr (inl u)) = inl (refl, inl u.1)
 replay_starved failed name events ask files before after out (inr (inr (inl u))) = inl (refl, inl u.1)
-replay_starved failed name events ask files before after out (inr (inr (inr h))) = inl (refl, inr (Err replayed.OutFault, h.replayed))
+replay_starved failed name events ask files before after out (inr (inr (inr h))) =
+    inl (refl, inr (Err replayed.OutFault, h.replayed))
 
 -- want of memory may come in place of any failure
 memory_instead : (failed : Failure) (name : List ℕ) (task : Task) (old new : Seen) → Caused failed name task old new
@@ -232,7 +245,8 @@ memory_instead failed name (run ask) old new h =
 memory_instead failed name (talk key ask) old new h = (talk_starved failed name key ask old new h.0, h.1)
 memory_instead failed name (engine address key ask) old new h = engine_starved failed name address key ask old new h
 memory_instead failed name (ide port script) old new h = ide_starved failed name port script old new h
-memory_instead failed name (replay events ask) old new h = (replay_starved failed name events ask _ _ _ _ h.0, h.1, h.2, h.3)
+memory_instead failed name (replay events ask) old new h =
+    (replay_starved failed name events ask _ _ _ _ h.0, h.1, h.2, h.3)
 memory_instead failed name show old new h = (h.0, show_cut failed _ _ h.1, h.2, h.3)
 
 -- the failure is told, or there is no memory for its line
@@ -298,7 +312,8 @@ caused_of status words old new f task asks =
     (one_task words f.task task f.asks asks) f.caused
 
 -- files that are not told as bad, on a shelf that did not fail, make a program unless memory runs out
-pub no_program : (failed : Failure) (files : Files) (before after : ℕ) (names : List (List ℕ)) → IsGood failed → (Rose before after → ⊥) → (why : ProgramError)
+pub no_program : (failed : Failure) (files : Files) (before after : ℕ) (names : List (List ℕ)) → IsGood failed
+    → (Rose before after → ⊥) → (why : ProgramError)
     → NoProgram why files before after names → failed ≡ program_failure why → status_of failed ≡ 209
 no_program failed files before after names good shelf (none.Shelf file) caused told = absurd (shelf caused.1)
 no_program failed files before after names good shelf (none.Missing file) caused told = absurd (good.1 told)

@@ -42,7 +42,8 @@ fn show_all<'a, S: Source, K: Sink>(
     out: &mut K,
 ) -> Result<u8, Refused<'a>>
     ensures ends { MatchResult result
-        (λ status. (status ≡ 0) × Shows (Ok tt) (change S.left S.faults input.old input.new) (change K.taken K.faults out.old out.new))
+        (λ status. (status ≡ 0)
+        × Shows (Ok tt) (change S.left S.faults input.old input.new) (change K.taken K.faults out.old out.new))
         (λ why. (why.name.now ≡ []) × ShowCaused why.failure (change S.left S.faults input.old input.new)
         (change K.taken K.faults out.old out.new)) }
     ensures status { IfOk result (λ status. status ≤ 199) }
@@ -70,11 +71,13 @@ pub(crate) fn carry_out<'a, R: Wait + Sync, H: Shelf, S: Source, K: Sink, E: Sin
         objects.old.seen objects.new.seen) }
     ensures status { IfOk result (λ status. status ≤ 199) }
     // Files that make a program are no bad source, and those that make none are one, unless the shelf failed.
-    ensures held { (ask : Ask) → ask_in (task_of command.entry) ≡ Some ask → AreHeld ask result objects.old.seen objects.new.seen }
+    ensures held { (ask : Ask) → ask_in (task_of command.entry) ≡ Some ask
+        → AreHeld ask result objects.old.seen objects.new.seen }
     // Likewise of a list of events, where it is one.
     ensures replay_held { (events : List ℕ) (ask : Ask) → task_of command.entry ≡ Task.replay events ask
         → AreHeldWith events ask result objects.old.seen objects.new.seen }
-    ensures show_shelf { task_of command.entry ≡ Task.show → objects.new.seen.shelf.faults ≡ objects.old.seen.shelf.faults }
+    ensures show_shelf { task_of command.entry ≡ Task.show
+        → objects.new.seen.shelf.faults ≡ objects.old.seen.shelf.faults }
     ensures fetched { IsFetchedFor (task_of command.entry) objects.old.seen.shelf.fetched objects.new.seen.shelf.fetched }
     ensures goes_on { GoesOn objects.old objects.new }
 {
@@ -116,7 +119,8 @@ pub fn carry_out_on<'a, R: Wait + Sync, H: Shelf, S: Source, K: Sink, E: Sink, N
         (seen H.Shelf S.Source K.Sink E.Sink N.Dialer N.shut_doors shelf.new input.new out.new err.new net.new) }
     // Likewise of a list of events, where it is one.
     ensures replay_held { (events : List ℕ) (ask : Ask) → task_of command.entry ≡ Task.replay events ask
-        → AreHeldWith events ask result (seen H.Shelf S.Source K.Sink E.Sink N.Dialer N.shut_doors shelf.old input.old out.old err.old net.old)
+        → AreHeldWith events ask result (seen H.Shelf S.Source K.Sink E.Sink N.Dialer N.shut_doors shelf.old input.old
+        out.old err.old net.old)
         (seen H.Shelf S.Source K.Sink E.Sink N.Dialer N.shut_doors shelf.new input.new out.new err.new net.new) }
     ensures show_shelf { task_of command.entry ≡ Task.show → H.faults shelf.new ≡ H.faults shelf.old }
     ensures fetched { IsFetchedFor (task_of command.entry) (H.fetched shelf.old) (H.fetched shelf.new) }

@@ -14,7 +14,8 @@ ghost use Rattle.dp_words.specs.Commands.{ask_told};
 ghost use Rattle.dp_top.specs.Replay.{IsHeldList, list_limit};
 ghost use Rattle.dp_top.specs.Runs.{AreFetched};
 ghost use Rattle.dp_top.specs.inner.Held.{IsHeld};
-ghost use Rattle.dp_top.specs.inner.Replaying.{EndsFetched, EndsOver, EndsReplay, HeldFetched, IsBadList, IsWholeList, UnlistedSo};
+ghost use Rattle.dp_top.specs.inner.Replaying.{EndsFetched, EndsOver, EndsReplay, HeldFetched, IsBadList};
+ghost use Rattle.dp_top.specs.inner.Replaying.{IsWholeList, UnlistedSo};
 
 use crate::failures::{Failure, Refused};
 use crate::run::told_of_files;

@@ -1,10 +1,12 @@
 //! The top call.
-ghost use Rattle.std.specs.Prelude.{false, ◌≡◌, ◌↔◌, ◌⊎◌, ◌<◌, ◌≤◌, ℕ, List, IsSome, Some, Result, Ok, Err, codes, map, string_bytes};
+ghost use Rattle.std.specs.Prelude.{false, ◌≡◌, ◌↔◌, ◌⊎◌, ◌<◌, ◌≤◌, ℕ, List, IsSome, Some, Result, Ok, Err, codes};
+ghost use Rattle.std.specs.Prelude.{map, string_bytes};
 ghost use Rattle.dp_outside.specs.Causes.{Rose};
 ghost use Rattle.dp_outside.specs.Changes.{change, IsUntouched};
 ghost use Rattle.dp_tree.specs.declared.bundle.Bundle.{Bundle};
 ghost use Rattle.dp_bundle.specs.declared.errors.BundleError.{BundleError};
-ghost use Rattle.dp_words.specs.CommandLine.{Address, Ask, IsEngine, IsIde, IsReplay, IsRun, IsTalk, Task, Asks, ask_in, uses_net};
+ghost use Rattle.dp_words.specs.CommandLine.{Address, Ask, IsEngine, IsIde, IsReplay, IsRun, IsTalk, Task, Asks};
+ghost use Rattle.dp_words.specs.CommandLine.{ask_in, uses_net};
 ghost use Rattle.dp_top.specs.Failures.{Says};
 ghost use Rattle.dp_run.specs.Programs.{Holds};
 ghost use Rattle.dp_ide.specs.declared.instruction.Instruction.{Instruction};
@@ -140,7 +142,8 @@ pub fn top<R: Wait + Sync, H: Shelf, S: Source, K: Sink, E: Sink, N: Net, P: Spa
         → IsReplay (map string_bytes words.now) events ask → IsNoList (H.files shelf.old) events line
         → Holds (H.files shelf.old) ask.names made
         → (result ≡ 204) ⊎ (result ≡ 209) ⊎ Rose (H.faults shelf.old) (H.faults shelf.new) }
-    ensures list_held { (events : List ℕ) (ask : Ask) (list : List Event) → IsReplay (map string_bytes words.now) events ask
+    ensures list_held { (events : List ℕ) (ask : Ask) (list : List Event)
+        → IsReplay (map string_bytes words.now) events ask
         → IsSome (H.files shelf.old) → IsHeldList (H.files shelf.old) events list → result ≡ 204 → ⊥ }
     // Where it is one, files that make no program are told, unless the shelf fails first.
     ensures replay_refused { (events : List ℕ) (ask : Ask) (list : List Event) (why : BundleError)
@@ -151,7 +154,8 @@ pub fn top<R: Wait + Sync, H: Shelf, S: Source, K: Sink, E: Sink, N: Net, P: Spa
     ensures complete_replay { (events : List ℕ) (ask : Ask) (list : List Event) (program : Bundle)
         → IsReplay (map string_bytes words.now) events ask → IsHeldList (H.files shelf.old) events list
         → Holds (H.files shelf.old) ask.names (Ok program)
-        → NoneRose (seen H.Shelf S.Source K.Sink E.Sink N.Dialer N.shut_doors shelf.old input.old out.old err.old net.old)
+        → NoneRose (seen H.Shelf S.Source K.Sink E.Sink N.Dialer N.shut_doors shelf.old input.old out.old err.old
+        net.old)
         (seen H.Shelf S.Source K.Sink E.Sink N.Dialer N.shut_doors shelf.new input.new out.new err.new net.new)
         → (result ≡ 0) ⊎ (result ≡ 209) }
 

@@ -274,7 +274,8 @@ abbrev found_by : Bool → Bool → Bool → Bool → Bool → Bool → Option (
 found_by a b c d e f =
     if a || false then Some (label (codes "run")) else (if b || false then Some (label (codes "talk"))
     else (if c || false then Some (label (codes "engine")) else (if d || false then Some (label (codes "ide"))
-    else (if e || false then Some (label (codes "replay")) else (if f || false then Some (label (codes "show")) else None)))))
+    else (if e
+    || false then Some (label (codes "replay")) else (if f || false then Some (label (codes "show")) else None)))))
 
 abbrev fits : Text → List Text → Type 0
 fits name behind = (if has_bound name then are_bounded behind else list_all is_plain behind) ≡ true
@@ -301,13 +302,16 @@ reads (name ∷ behind) h small =
     choose (codes "ide") name
     (λ e. subst (λ n. fits n behind → Reading (n ∷ behind)) e (λ f. ide_read behind f few) parts.1) (λ no_ide_name.
     choose (codes "replay") name
-    (λ e. subst (λ n. fits n behind → Reading (n ∷ behind)) e (λ f. bounded_read (codes "replay") refl replay_known behind f few) parts.1) (λ no_replay.
+    (λ e. subst (λ n. fits n behind → Reading (n ∷ behind)) e
+    (λ f. bounded_read (codes "replay") refl replay_known behind f few) parts.1) (λ no_replay.
     choose (codes "show") name
     (λ e. subst (λ n. fits n behind → Reading (n ∷ behind)) e (λ f. show_read behind f) parts.1) (λ no_show_name.
-    let none : find (answers_to name) names ≡ None = λ i. found_by (no_run i) (no_talk i) (no_engine i) (no_ide_name i) (no_replay i) (no_show_name i) in
+    let none : find (answers_to name) names ≡ None = λ i. found_by (no_run i) (no_talk i) (no_engine i) (no_ide_name i)
+    (no_replay i) (no_show_name i) in
     inr (
       subst HasFault (sym (unknown name behind parts.0 none)) tt,
-      λ task asks. no_command task (subst (λ (n : Text). find (answers_to n) names ≡ None) (same_name name behind task asks) none),
+      λ task asks. no_command task (subst (λ (n : Text). find (answers_to n) names ≡ None)
+          (same_name name behind task asks) none),
     )))))))
 
 -- ---- what is asked for passes the first test
@@ -403,10 +407,12 @@ asks_behind (engine address key ask) words h b =
     behind_plain h.behind _ d.asked
     (more_plain address.host (d.number ∷ key ∷ ask.names) (plain_if address.host d.host.is_host.some d.host.is_none)
     (more_plain d.number (key ∷ ask.names) (port_plain d.number address.port d.port)
-    (more_plain key ask.names (key_plain key d.session.is_key d.session.is_none) (files_plain ask.names d.session.files.named))))
+    (more_plain key ask.names (key_plain key d.session.is_key d.session.is_none)
+    (files_plain ask.names d.session.files.named))))
 asks_behind (replay events ask) words h b =
     behind_plain h.behind _ h.replays.asked
-    (more_plain events ask.names (plain_if events h.replays.is_events.is_name.some h.replays.is_events.is_none) (files_plain ask.names h.replays.files.named))
+    (more_plain events ask.names (plain_if events h.replays.is_events.is_name.some h.replays.is_events.is_none)
+    (files_plain ask.names h.replays.files.named))
 asks_behind (ide port script) words h b = absurd cc
 asks_behind show words h b = absurd cc
 
@@ -417,7 +423,8 @@ asks_plain words (engine address key ask) h =
     ap are_plain h.words_are ∙ asks_behind (engine address key ask) words h refl
 asks_plain words (ide port script) h =
     ap are_plain h.words_are
-    ∙ more_plain h.number (script ∷ []) (port_plain h.number port h.is_port) (more_plain script [] (plain_if script h.is_script.is_name.some h.is_script.is_none) refl)
+    ∙ more_plain h.number (script ∷ []) (port_plain h.number port h.is_port)
+    (more_plain script [] (plain_if script h.is_script.is_name.some h.is_script.is_none) refl)
 asks_plain words (replay events ask) h = ap are_plain h.words_are ∙ asks_behind (replay events ask) words h refl
 asks_plain words show h = ap are_plain h
 
@@ -439,12 +446,18 @@ pub no_engine_read : (words : List Text) (task : Task) (p : Parsed) → IsParsed
     → ((behind : List Text) (address : Address) (key : List ℕ) (ask : Ask) → ask_of behind ≡ ask_in p
     → Dials behind address key ask → ⊥) → Asks words task → ⊥
 no_engine_read words (engine address key ask) p is name none asks =
-    none asks.behind address key ask (ap ask_of (sym (behind_read words (engine address key ask) p is asks)) ∙ is.asked) asks.dials
-no_engine_read words (run ask) p is name none asks = not_named (codes "engine") (run ask) (sym name ∙ name_read words (run ask) p is asks) refl
-no_engine_read words (talk key ask) p is name none asks = not_named (codes "engine") (talk key ask) (sym name ∙ name_read words (talk key ask) p is asks) refl
-no_engine_read words (ide port script) p is name none asks = not_named (codes "engine") (ide port script) (sym name ∙ name_read words (ide port script) p is asks) refl
-no_engine_read words (replay events ask) p is name none asks = not_named (codes "engine") (replay events ask) (sym name ∙ name_read words (replay events ask) p is asks) refl
-no_engine_read words show p is name none asks = not_named (codes "engine") show (sym name ∙ name_read words show p is asks) refl
+    none asks.behind address key ask (ap ask_of (sym (behind_read words (engine address key ask) p is asks)) ∙ is.asked)
+    asks.dials
+no_engine_read words (run ask) p is name none asks =
+    not_named (codes "engine") (run ask) (sym name ∙ name_read words (run ask) p is asks) refl
+no_engine_read words (talk key ask) p is name none asks =
+    not_named (codes "engine") (talk key ask) (sym name ∙ name_read words (talk key ask) p is asks) refl
+no_engine_read words (ide port script) p is name none asks =
+    not_named (codes "engine") (ide port script) (sym name ∙ name_read words (ide port script) p is asks) refl
+no_engine_read words (replay events ask) p is name none asks =
+    not_named (codes "engine") (replay events ask) (sym name ∙ name_read words (replay events ask) p is asks) refl
+no_engine_read words show p is name none asks =
+    not_named (codes "engine") show (sym name ∙ name_read words show p is asks) refl
 
 pub no_ide_read : (words : List Text) (task : Task) (p : Parsed) → IsParsed words p → p.name ≡ codes "ide"
     → ((port : ℕ) (script : List ℕ) → IsIde words port script → ⊥) → Asks words task → ⊥
@@ -454,36 +467,53 @@ no_ide_read words (run ask) p is name none asks =
 no_ide_read words (talk key ask) p is name none asks =
     not_named (codes "ide") (talk key ask) (sym name ∙ name_read words (talk key ask) p is asks) refl
 no_ide_read words (engine address key ask) p is name none asks =
-    not_named (codes "ide") (engine address key ask) (sym name ∙ name_read words (engine address key ask) p is asks) refl
-no_ide_read words (replay events ask) p is name none asks = not_named (codes "ide") (replay events ask) (sym name ∙ name_read words (replay events ask) p is asks) refl
-no_ide_read words show p is name none asks = not_named (codes "ide") show (sym name ∙ name_read words show p is asks) refl
+    not_named (codes "ide") (engine address key ask) (sym name ∙ name_read words (engine address key ask) p is asks)
+    refl
+no_ide_read words (replay events ask) p is name none asks =
+    not_named (codes "ide") (replay events ask) (sym name ∙ name_read words (replay events ask) p is asks) refl
+no_ide_read words show p is name none asks =
+    not_named (codes "ide") show (sym name ∙ name_read words show p is asks) refl
 
 pub no_replay_read : (words : List Text) (task : Task) (p : Parsed) → IsParsed words p → p.name ≡ codes "replay"
-    → ((behind : List Text) (events : List ℕ) (ask : Ask) → ask_of behind ≡ ask_in p → Replays behind events ask → ⊥) → Asks words task → ⊥
+    → ((behind : List Text) (events : List ℕ) (ask : Ask) → ask_of behind ≡ ask_in p → Replays behind events ask → ⊥)
+    → Asks words task → ⊥
 no_replay_read words (replay events ask) p is name none asks =
-    none asks.behind events ask (ap ask_of (sym (behind_read words (replay events ask) p is asks)) ∙ is.asked) asks.replays
-no_replay_read words (run ask) p is name none asks = not_named (codes "replay") (run ask) (sym name ∙ name_read words (run ask) p is asks) refl
-no_replay_read words (talk key ask) p is name none asks = not_named (codes "replay") (talk key ask) (sym name ∙ name_read words (talk key ask) p is asks) refl
+    none asks.behind events ask (ap ask_of (sym (behind_read words (replay events ask) p is asks)) ∙ is.asked)
+    asks.replays
+no_replay_read words (run ask) p is name none asks =
+    not_named (codes "replay") (run ask) (sym name ∙ name_read words (run ask) p is asks) refl
+no_replay_read words (talk key ask) p is name none asks =
+    not_named (codes "replay") (talk key ask) (sym name ∙ name_read words (talk key ask) p is asks) refl
 no_replay_read words (engine address key ask) p is name none asks =
-    not_named (codes "replay") (engine address key ask) (sym name ∙ name_read words (engine address key ask) p is asks) refl
-no_replay_read words (ide port script) p is name none asks = not_named (codes "replay") (ide port script) (sym name ∙ name_read words (ide port script) p is asks) refl
-no_replay_read words show p is name none asks = not_named (codes "replay") show (sym name ∙ name_read words show p is asks) refl
+    not_named (codes "replay") (engine address key ask) (sym name ∙ name_read words (engine address key ask) p is asks)
+    refl
+no_replay_read words (ide port script) p is name none asks =
+    not_named (codes "replay") (ide port script) (sym name ∙ name_read words (ide port script) p is asks) refl
+no_replay_read words show p is name none asks =
+    not_named (codes "replay") show (sym name ∙ name_read words show p is asks) refl
 
-pub no_show_read : (words : List Text) (task : Task) (p : Parsed) → IsParsed words p → p.name ≡ codes "show" → (Asks words show → ⊥) → Asks words task → ⊥
+pub no_show_read : (words : List Text) (task : Task) (p : Parsed) → IsParsed words p → p.name ≡ codes "show"
+    → (Asks words show → ⊥) → Asks words task → ⊥
 no_show_read words show p is name none asks = none asks
-no_show_read words (ide port script) p is name none asks = not_named (codes "show") (ide port script) (sym name ∙ name_read words (ide port script) p is asks) refl
-no_show_read words (replay events ask) p is name none asks = not_named (codes "show") (replay events ask) (sym name ∙ name_read words (replay events ask) p is asks) refl
-no_show_read words (run ask) p is name none asks = not_named (codes "show") (run ask) (sym name ∙ name_read words (run ask) p is asks) refl
-no_show_read words (talk key ask) p is name none asks = not_named (codes "show") (talk key ask) (sym name ∙ name_read words (talk key ask) p is asks) refl
+no_show_read words (ide port script) p is name none asks =
+    not_named (codes "show") (ide port script) (sym name ∙ name_read words (ide port script) p is asks) refl
+no_show_read words (replay events ask) p is name none asks =
+    not_named (codes "show") (replay events ask) (sym name ∙ name_read words (replay events ask) p is asks) refl
+no_show_read words (run ask) p is name none asks =
+    not_named (codes "show") (run ask) (sym name ∙ name_read words (run ask) p is asks) refl
+no_show_read words (talk key ask) p is name none asks =
+    not_named (codes "show") (talk key ask) (sym name ∙ name_read words (talk key ask) p is asks) refl
 no_show_read words (engine address key ask) p is name none asks =
     not_named (codes "show") (engine address key ask) (sym name ∙ name_read words (engine address key ask) p is asks)
     refl
 
-pub no_name_read : (words : List Text) (task : Task) (p : Parsed) → IsParsed words p → (p.name ≡ codes "run" → ⊥) → (p.name ≡ codes "talk" → ⊥) → (p.name ≡ codes "engine" → ⊥)
+pub no_name_read : (words : List Text) (task : Task) (p : Parsed) → IsParsed words p → (p.name ≡ codes "run" → ⊥)
+    → (p.name ≡ codes "talk" → ⊥) → (p.name ≡ codes "engine" → ⊥)
     → (p.name ≡ codes "ide" → ⊥) → (p.name ≡ codes "replay" → ⊥) → (p.name ≡ codes "show" → ⊥) → Asks words task → ⊥
 no_name_read words (run ask) p is a b c i r d asks = a (name_read words (run ask) p is asks)
 no_name_read words (talk key ask) p is a b c i r d asks = b (name_read words (talk key ask) p is asks)
-no_name_read words (engine address key ask) p is a b c i r d asks = c (name_read words (engine address key ask) p is asks)
+no_name_read words (engine address key ask) p is a b c i r d asks =
+    c (name_read words (engine address key ask) p is asks)
 no_name_read words (ide port script) p is a b c i r d asks = i (name_read words (ide port script) p is asks)
 no_name_read words (replay events ask) p is a b c i r d asks = r (name_read words (replay events ask) p is asks)
 no_name_read words show p is a b c i r d asks = d (name_read words show p is asks)

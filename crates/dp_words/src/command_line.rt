@@ -3,7 +3,9 @@ ghost use Rattle.std.specs.Prelude.{◌≡◌, ◌↔◌, ◌∷◌, [], ℕ, Li
 ghost use Rattle.std.specs.Prelude.{Ok, codes, map, string_bytes};
 ghost use Rattle.std.specs.List.{list_all};
 ghost use Rattle.std.specs.Option.{option_map};
-ghost use Rattle.dp_words.specs.CommandLine.{Address as AnyAddress, AreFileWords, Ask, Asks, Dials, Follows, IsFileWord, IsHostWord, IsIde, IsKey, IsSession, Replays, Speaks, Task, ask_of, between, bound_of, port_of};
+ghost use Rattle.dp_words.specs.CommandLine.{Address as AnyAddress, AreFileWords, Ask, Asks, Dials, Follows};
+ghost use Rattle.dp_words.specs.CommandLine.{IsFileWord, IsHostWord, IsIde, IsKey, IsSession, Replays, Speaks, Task};
+ghost use Rattle.dp_words.specs.CommandLine.{ask_of, between, bound_of, port_of};
 ghost use Rattle.dp_words.specs.Commands.{address_told, ask_told, task_of};
 ghost use Rattle.dp_words.specs.inner.Commands.{parsed_told};
 ghost use Rattle.dp_words.specs.inner.Parsed.{IsParsed, ask_in, bound_in};

@@ -5,7 +5,8 @@ use Rattle.dp_run.proofs.RunLaws.{program_named}
 use Rattle.dp_run.proofs.programs.fetch_program.Goals as goal
 
 pub make_program-requires : goal.make_program-requires
-make_program-requires g c = for_bundle (g.H.Shelf.files c.args.shelf.now) (map string_bytes c.args.names.now) c.in-Ok.fetched
+make_program-requires g c =
+    for_bundle (g.H.Shelf.files c.args.shelf.now) (map string_bytes c.args.names.now) c.in-Ok.fetched
     c.requires c.in-Ok.ensures.ok
 
 pub returns-in-Ok-clause-made : goal.returns-in-Ok-clause-made
@@ -33,7 +34,8 @@ returns-in-Ok-clause-held g c asked held =
     asked c.make_program.result c.in-Ok.ensures.ok c.make_program.ensures.only held
 
 pub returns-in-Ok-clause-asked : goal.returns-in-Ok-clause-asked
-returns-in-Ok-clause-asked g c = asked_made c.in-Ok.fetched c.make_program.result _ _ _ c.make_program.ensures.err c.in-Ok.ensures.asked
+returns-in-Ok-clause-asked g c =
+    asked_made c.in-Ok.fetched c.make_program.result _ _ _ c.make_program.ensures.err c.in-Ok.ensures.asked
 
 pub returns-in-Err-clause-held : goal.returns-in-Err-clause-held
 returns-in-Err-clause-held g c asked held =

@@ -207,35 +207,50 @@ returns-in-Ok-clause-script_held g c =
 
 pub returns-in-Ok-clause-complete_ide : goal.returns-in-Ok-clause-complete_ide
 returns-in-Ok-clause-complete_ide g c = λ port script instructions is told held none.
-    inl (plays_well _ _ (task_of c.in-Ok-Some.command) _ _ (rw c.in-Ok-Some.field-0-is at c.in-Ok-Some.ensures.found) c.in-Ok.ensures.ends port script is)
+    inl (plays_well _ _ (task_of c.in-Ok-Some.command) _ _ (rw c.in-Ok-Some.field-0-is at c.in-Ok-Some.ensures.found)
+    c.in-Ok.ensures.ends port script is)
 
 pub returns-in-Ok-None-clause-list_refused : goal.returns-in-Ok-None-clause-list_refused
-returns-in-Ok-None-clause-list_refused g c = λ events ask line made is bad holds. absurd (c.in-Ok-None.ensures.none (ap Ok c.in-Ok-None.field-0-is) (replay events ask) is)
+returns-in-Ok-None-clause-list_refused g c =
+    λ events ask line made is bad holds. absurd (c.in-Ok-None.ensures.none (ap Ok c.in-Ok-None.field-0-is)
+    (replay events ask) is)
 
 pub returns-in-Ok-None-clause-replay_refused : goal.returns-in-Ok-None-clause-replay_refused
-returns-in-Ok-None-clause-replay_refused g c = λ events ask list why is held holds. absurd (c.in-Ok-None.ensures.none (ap Ok c.in-Ok-None.field-0-is) (replay events ask) is)
+returns-in-Ok-None-clause-replay_refused g c =
+    λ events ask list why is held holds. absurd (c.in-Ok-None.ensures.none (ap Ok c.in-Ok-None.field-0-is)
+    (replay events ask) is)
 
 pub returns-in-Ok-None-clause-complete_replay : goal.returns-in-Ok-None-clause-complete_replay
-returns-in-Ok-None-clause-complete_replay g c = λ events ask list program is held holds none. absurd (c.in-Ok-None.ensures.none (ap Ok c.in-Ok-None.field-0-is) (replay events ask) is)
+returns-in-Ok-None-clause-complete_replay g c =
+    λ events ask list program is held holds none. absurd (c.in-Ok-None.ensures.none (ap Ok c.in-Ok-None.field-0-is)
+    (replay events ask) is)
 
 pub returns-in-Err-carry_out_on-clause-list_refused : goal.returns-in-Err-carry_out_on-clause-list_refused
 returns-in-Err-carry_out_on-clause-list_refused g c =
-    list_refused_told c.report.result _ (task_of c.in-Ok-Some.command) _ _ c.in-Err-carry_out_on.refused _ _ (rw c.in-Ok-Some.field-0-is at c.in-Ok-Some.ensures.found) c.in-Err-carry_out_on.ensures.ends c.report.ensures.told
+    list_refused_told c.report.result _ (task_of c.in-Ok-Some.command) _ _ c.in-Err-carry_out_on.refused _ _
+    (rw c.in-Ok-Some.field-0-is at c.in-Ok-Some.ensures.found) c.in-Err-carry_out_on.ensures.ends
+    c.report.ensures.told
 
 pub returns-in-Err-carry_out_on-clause-list_held : goal.returns-in-Err-carry_out_on-clause-list_held
 returns-in-Err-carry_out_on-clause-list_held g c =
-    list_held_told c.report.result _ (task_of c.in-Ok-Some.command) _ _ c.in-Err-carry_out_on.refused _ _ (rw c.in-Ok-Some.field-0-is at c.in-Ok-Some.ensures.found) c.in-Err-carry_out_on.ensures.ends c.report.ensures.told
+    list_held_told c.report.result _ (task_of c.in-Ok-Some.command) _ _ c.in-Err-carry_out_on.refused _ _
+    (rw c.in-Ok-Some.field-0-is at c.in-Ok-Some.ensures.found) c.in-Err-carry_out_on.ensures.ends
+    c.report.ensures.told
 
 pub returns-in-Err-carry_out_on-clause-replay_refused : goal.returns-in-Err-carry_out_on-clause-replay_refused
 returns-in-Err-carry_out_on-clause-replay_refused g c = λ events ask list why is held holds.
     refused_told c.report.result _ _ c.in-Err-carry_out_on.refused.failure _ _ c.report.ensures.told
-    ((c.in-Err-carry_out_on.ensures.replay_held events ask (asks_replay _ (task_of c.in-Ok-Some.command) events ask (rw c.in-Ok-Some.field-0-is at c.in-Ok-Some.ensures.found) is)).by_files (Err why) holds list held)
+    ((c.in-Err-carry_out_on.ensures.replay_held events ask (asks_replay _ (task_of c.in-Ok-Some.command) events ask
+    (rw c.in-Ok-Some.field-0-is at c.in-Ok-Some.ensures.found) is)).by_files (Err why) holds list held)
 
 pub returns-in-Err-carry_out_on-clause-complete_replay : goal.returns-in-Err-carry_out_on-clause-complete_replay
 returns-in-Err-carry_out_on-clause-complete_replay g c = λ events ask list program is held holds none.
-    complete_replay_told c.report.result _ (task_of c.in-Ok-Some.command) _ _ c.in-Err-carry_out_on.refused _ _ (rw c.in-Ok-Some.field-0-is at c.in-Ok-Some.ensures.found) c.in-Err-carry_out_on.ensures.ends c.report.ensures.told
+    complete_replay_told c.report.result _ (task_of c.in-Ok-Some.command) _ _ c.in-Err-carry_out_on.refused _ _
+    (rw c.in-Ok-Some.field-0-is at c.in-Ok-Some.ensures.found) c.in-Err-carry_out_on.ensures.ends
+    c.report.ensures.told
     events ask list is holds.tells held
-    ((c.in-Err-carry_out_on.ensures.replay_held events ask (asks_replay _ (task_of c.in-Ok-Some.command) events ask (rw c.in-Ok-Some.field-0-is at c.in-Ok-Some.ensures.found) is)).by_files (Ok program) holds list held)
+    ((c.in-Err-carry_out_on.ensures.replay_held events ask (asks_replay _ (task_of c.in-Ok-Some.command) events ask
+    (rw c.in-Ok-Some.field-0-is at c.in-Ok-Some.ensures.found) is)).by_files (Ok program) holds list held)
     (record {
       shelf = none.shelf;
       input_not = none.input_not;
@@ -247,15 +262,19 @@ returns-in-Err-carry_out_on-clause-complete_replay g c = λ events ask list prog
 
 pub returns-in-Ok-clause-list_refused : goal.returns-in-Ok-clause-list_refused
 returns-in-Ok-clause-list_refused g c = λ events ask line made is bad holds.
-    absurd (list_refused_done _ _ (task_of c.in-Ok-Some.command) _ _ (rw c.in-Ok-Some.field-0-is at c.in-Ok-Some.ensures.found) c.in-Ok.ensures.ends events ask line made is bad holds)
+    absurd (list_refused_done _ _ (task_of c.in-Ok-Some.command) _ _
+    (rw c.in-Ok-Some.field-0-is at c.in-Ok-Some.ensures.found) c.in-Ok.ensures.ends events ask line made is bad
+    holds)
 
 pub returns-in-Ok-clause-list_held : goal.returns-in-Ok-clause-list_held
 returns-in-Ok-clause-list_held g c = λ events ask list is some held e. omega (arith, c.in-Ok.ensures.status, e)
 
 pub returns-in-Ok-clause-replay_refused : goal.returns-in-Ok-clause-replay_refused
 returns-in-Ok-clause-replay_refused g c = λ events ask list why is held holds.
-    absurd ((c.in-Ok.ensures.replay_held events ask (asks_replay _ (task_of c.in-Ok-Some.command) events ask (rw c.in-Ok-Some.field-0-is at c.in-Ok-Some.ensures.found) is)).by_files (Err why) holds list held)
+    absurd ((c.in-Ok.ensures.replay_held events ask (asks_replay _ (task_of c.in-Ok-Some.command) events ask
+    (rw c.in-Ok-Some.field-0-is at c.in-Ok-Some.ensures.found) is)).by_files (Err why) holds list held)
 
 pub returns-in-Ok-clause-complete_replay : goal.returns-in-Ok-clause-complete_replay
 returns-in-Ok-clause-complete_replay g c = λ events ask list program is held holds none.
-    inl (replays_well _ _ (task_of c.in-Ok-Some.command) _ _ (rw c.in-Ok-Some.field-0-is at c.in-Ok-Some.ensures.found) c.in-Ok.ensures.ends events ask is)
+    inl (replays_well _ _ (task_of c.in-Ok-Some.command) _ _ (rw c.in-Ok-Some.field-0-is at c.in-Ok-Some.ensures.found)
+    c.in-Ok.ensures.ends events ask is)

@@ -25,4 +25,5 @@ returns c =
     let three = c.in_ok-subcommand-3.ensures.shape (local _ _ engine_is refl) ∙ ap₂ with_subcommand two engine_is in
     let four = c.in_ok-subcommand-4.ensures.shape (local _ _ ide_is refl) ∙ ap₂ with_subcommand three ide_is in
     let five = c.in_ok-subcommand-5.ensures.shape (local _ _ replay_is refl) ∙ ap₂ with_subcommand four replay_is in
-    IfOk-weaker c.subcommand-6.result _ _ (λ r h. h.shape c.new.ensures.local ∙ ap₂ with_subcommand five show_is) c.subcommand-6.ensures
+    IfOk-weaker c.subcommand-6.result _ _ (λ r h. h.shape c.new.ensures.local ∙ ap₂ with_subcommand five show_is)
+    c.subcommand-6.ensures
