@@ -25,10 +25,10 @@ use Rattle.dp_run.specs.declared.error.ProgramError.{ProgramError}
 use Rattle.dp_run.specs.declared.error.ProgramError.TheVariants as none
 use Rattle.dp_run.specs.declared.error.RunError.{RunError}
 use Rattle.dp_run.specs.declared.error.RunError.TheVariants as run
-use Rattle.dp_run.specs.Programs.{AreFetched, Asks, Comes, Files, Holds, IsHeld, Make, NoProgram, Told, is_bad_file}
+use Rattle.dp_run.specs.Programs.{AreFetched, Asks, Comes, Files, Holds, IsHeld, Make, NoProgram, Told, is_bad_file, IsMade, IsRefused, IsUnread}
 use Rattle.dp_run.specs.Programs.{refusal}
 use Rattle.dp_run.specs.Runs.{Ends, RunCaused, Runs, judged, of_program}
-use Rattle.dp_run.specs.inner.Steps.{FetchCaused, IsMade, IsNext, IsPlainPut, IsPlainUnput, IsRefused, IsUnread}
+use Rattle.dp_run.specs.inner.Steps.{FetchCaused, IsNext, IsPlainPut, IsPlainUnput}
 
 -- ---- what is fetched, one file after another
 
@@ -196,6 +196,14 @@ only_err A why (Err e) (inr same) = let memory : why ≡ unmade.Memory = cc in i
 
 -- ---- why there is no program
 
+-- a program has the names of the files that make it
+pub names_made : (number : ℕ) (given : List Given) (made : List BundleFile) → MakesFrom number given (Ok made)
+    → map (λ (f : BundleFile). f.name) made ≡ map (λ (f : Given). f.0) given
+names_made number [] [] h = refl
+names_made number [] (f ∷ rest) h = absurd h
+names_made number (g ∷ more) [] h = absurd h
+names_made number (g ∷ more) (f ∷ rest) h = λ i. h.0.named i ∷ names_made (suc number) more rest h.1 i
+
 module _ (files : Files) (before after : ℕ) (names : List (List ℕ)) where
   module _ (fetched : List Given) (are : AreFetched files names fetched) where
     made_of : (made : Result Bundle BundleError) → Makes fetched made → Make files names made
@@ -219,13 +227,7 @@ module _ (files : Files) (before after : ℕ) (names : List (List ℕ)) where
 
     pub program_named : (result : Result Bundle ProgramError) → IfOk result (λ program. Makes fetched (Ok program))
         → IfOk result (λ program. map (λ (f : BundleFile). f.name) program.files ≡ names)
-    program_named (Ok program) h = names_made 0 fetched program.files h ∙ are.named where
-      names_made : (number : ℕ) (given : List Given) (made : List BundleFile) → MakesFrom number given (Ok made)
-          → map (λ (f : BundleFile). f.name) made ≡ map (λ (f : Given). f.0) given
-      names_made number [] [] h = refl
-      names_made number [] (f ∷ rest) h = absurd h
-      names_made number (g ∷ more) [] h = absurd h
-      names_made number (g ∷ more) (f ∷ rest) h = λ i. h.0.named i ∷ names_made (suc number) more rest h.1 i
+    program_named (Ok program) h = names_made 0 fetched program.files h ∙ are.named
     program_named (Err why) h = tt
 
     pub program_caused : (result : Result Bundle ProgramError) → IfErr result (λ why. IsMade fetched why)

@@ -99,3 +99,22 @@ abbrev pub IsHeld : {A : Type 0} → Result Bundle BundleError → Result A Prog
 IsHeld (Ok program) result before after = IfErr result (λ why. is_bad_file why ≡ false)
 IsHeld (Err e) result before after =
     MatchResult result (λ _. ⊥) (λ why. (why ≡ refusal e) ⊎ (why ≡ Memory) ⊎ Rose before after)
+
+-- ---- in two steps: the files are fetched, and then they make a program
+
+-- no file was read yet
+abbrev pub IsUnread : ProgramError → Type 0
+IsUnread (TooLong file) = ⊥
+IsUnread (Source file why) = ⊥
+IsUnread why = ⊤
+
+-- why fetched files make no program
+abbrev pub IsMade : List Given → ProgramError → Type 0
+IsMade fetched why =
+    (why ≡ Memory) ⊎ ((e : BundleError) × Makes fetched (Err e) × (why ≡ refusal e))
+
+-- what fetched files make is answered, or memory ran out
+abbrev pub IsRefused : {A : Type 0} → Result Bundle BundleError → Result A ProgramError → Type 0
+IsRefused (Ok program) result = IfErr result (λ why. is_bad_file why ≡ false)
+IsRefused (Err e) result =
+    MatchResult result (λ _. ⊥) (λ why. (why ≡ refusal e) ⊎ (why ≡ Memory))

@@ -4,8 +4,8 @@ ghost use Rattle.std.specs.Prelude.{◌≡◌, ◌≤◌, ◌<◌, ◌++◌, ◌
 ghost use Rattle.dp_outside.specs.Files.{Fetches};
 ghost use Rattle.dp_outside.specs.Telling.{grown};
 ghost use Rattle.dp_tree.specs.FileNames.{file_limit};
-ghost use Rattle.dp_run.specs.Programs.{AreFetched, Asks, NoProgram};
-ghost use Rattle.dp_run.specs.inner.Steps.{FetchCaused, IsNext, IsUnread};
+ghost use Rattle.dp_run.specs.Programs.{AreFetched, Asks, IsUnread, NoProgram};
+ghost use Rattle.dp_run.specs.inner.Steps.{FetchCaused, IsNext};
 
 use crate::error::ProgramError;
 use dp_outside::{Shelf, ShelfError};
@@ -32,7 +32,8 @@ fn fetch<H: Shelf>(
     shelf: &mut H,
 ) -> Result<(Bytes, Bytes), ProgramError>
     ensures ok { IfOk result (λ file. (file.0 ≡ name.now) × Fetches (H.files shelf.old) name.now file_limit file.1) }
-    ensures err { IfErr result (λ why. FetchCaused why number name.now (H.files shelf.old) (H.faults shelf.old) (H.faults shelf.new)) }
+    ensures err { IfErr result (λ why. FetchCaused why number name.now (H.files shelf.old) (H.faults shelf.old)
+        (H.faults shelf.new)) }
     ensures later { H.faults shelf.old ≤ H.faults shelf.new }
     ensures files { H.files shelf.new ≡ H.files shelf.old }
     ensures asked { H.fetched shelf.new ≡ grown (H.fetched shelf.old) (name.now ∷ []) }
@@ -65,7 +66,8 @@ fn fetch_next<H: Shelf>(
 ) -> Result<(), ProgramError>
     requires { length fetched.old.items < 64 }
     ensures ok { OnOk result (IsNext (H.files shelf.old) name.now fetched.old.items fetched.new.items) }
-    ensures err { IfErr result (λ why. FetchCaused why (length fetched.old.items) name.now (H.files shelf.old) (H.faults shelf.old) (H.faults shelf.new)) }
+    ensures err { IfErr result (λ why. FetchCaused why (length fetched.old.items) name.now (H.files shelf.old)
+        (H.faults shelf.old) (H.faults shelf.new)) }
     ensures later { H.faults shelf.old ≤ H.faults shelf.new }
     ensures files { H.files shelf.new ≡ H.files shelf.old }
     ensures asked { H.fetched shelf.new ≡ grown (H.fetched shelf.old) (name.now ∷ []) }
@@ -76,8 +78,8 @@ fn fetch_next<H: Shelf>(
     }
 }
 
-/// Fetches files, in their order.
-pub(crate) fn fetch_all<H: Shelf>(
+/// Fetches files, each once, in their order, up to one that is not fetched. None of them is read.
+pub fn fetch_files<H: Shelf>(
     alloc: Global,
     names: &[String],
     shelf: &mut H,

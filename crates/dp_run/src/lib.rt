@@ -9,5 +9,6 @@ mod running;
 
 pub use ending::judge;
 pub use error::{ProgramError, RunError};
-pub use programs::fetch_program;
+pub use fetching::fetch_files;
+pub use programs::{fetch_program, make_program};
 pub use running::run;

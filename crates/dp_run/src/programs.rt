@@ -5,11 +5,10 @@ ghost use Rattle.dp_bundle.specs.Bundles.{AreForBundle, Makes};
 ghost use Rattle.dp_tree.specs.FileNames.{AreFileNames};
 ghost use Rattle.dp_tree.specs.declared.bundle.Bundle.{Bundle as Program};
 ghost use Rattle.dp_bundle.specs.declared.errors.BundleError.{BundleError as Unmade};
-ghost use Rattle.dp_run.specs.Programs.{Asks, Holds, IsHeld, Make, NoProgram};
-ghost use Rattle.dp_run.specs.inner.Steps.{IsMade, IsRefused};
+ghost use Rattle.dp_run.specs.Programs.{Asks, Holds, IsHeld, IsMade, IsRefused, Make, NoProgram};
 
 use crate::error::ProgramError;
-use crate::fetching::fetch_all;
+use crate::fetching::fetch_files;
 use dp_bundle::FromTexts;
 use dp_outside::Shelf;
 use dp_tree::Bundle;
@@ -17,9 +16,10 @@ use dp_value::{Bytes, Items};
 use std::alloc::Global;
 
 /// The program that fetched files make.
-fn make(alloc: Global, fetched: Items<(Bytes, Bytes)>) -> Result<Bundle, ProgramError>
+pub fn make_program(alloc: Global, fetched: Items<(Bytes, Bytes)>) -> Result<Bundle, ProgramError>
     requires { AreForBundle fetched }
     ensures ok { IfOk result (λ program. Makes fetched (Ok program)) }
+    ensures named { IfOk result (λ program. map (λ file. file.name) program.files ≡ map (λ file. file.0) fetched) }
     ensures err { IfErr result (λ why. IsMade fetched why) }
     // Files make one thing alone.
     ensures only { (asked : Result Program Unmade) → Makes fetched asked → IsRefused asked result }
@@ -41,7 +41,8 @@ pub fn fetch_program<H: Shelf>(
     requires { AreFileNames (map string_bytes names.now) }
     ensures made { IfOk result (λ program. Make (H.files shelf.old) (map string_bytes names.now) (Ok program)) }
     ensures named { IfOk result (λ program. map (λ file. file.name) program.files ≡ map string_bytes names.now) }
-    ensures cause { IfErr result (λ why. NoProgram why (H.files shelf.old) (H.faults shelf.old) (H.faults shelf.new) (map string_bytes names.now)) }
+    ensures cause { IfErr result (λ why. NoProgram why (H.files shelf.old) (H.faults shelf.old) (H.faults shelf.new)
+        (map string_bytes names.now)) }
     // Only these files are asked for, each once, in order: all of them, or those up to one that is not fetched.
     ensures asked { Asks result (H.fetched shelf.old) (H.fetched shelf.new) (map string_bytes names.now) }
     // What the files of a shelf that tells them make is answered, unless the shelf or memory fails.
@@ -50,8 +51,8 @@ pub fn fetch_program<H: Shelf>(
     ensures later { H.faults shelf.old ≤ H.faults shelf.new }
     ensures files { H.files shelf.new ≡ H.files shelf.old }
 {
-    match fetch_all(alloc, names, shelf) {
-        Ok(fetched) => make(alloc, fetched),
+    match fetch_files(alloc, names, shelf) {
+        Ok(fetched) => make_program(alloc, fetched),
         Err(why) => Err(why),
     }
 }

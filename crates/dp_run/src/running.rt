@@ -27,7 +27,8 @@ pub fn run<H: Shelf, K: Sink>(
 ) -> Result<u8, RunError>
     requires { AreFileNames (map string_bytes names.now) }
     ensures ends { MatchResult result
-        (λ status. Runs status (H.files shelf.old) (map string_bytes names.now) bound (change K.taken K.faults out.old out.new))
+        (λ status. Runs status (H.files shelf.old) (map string_bytes names.now) bound
+        (change K.taken K.faults out.old out.new))
         (λ why. RunCaused why (H.files shelf.old) (H.faults shelf.old) (H.faults shelf.new)
         (map string_bytes names.now) bound (change K.taken K.faults out.old out.new)) }
     ensures status { IfOk result (λ status. status ≤ 199) }

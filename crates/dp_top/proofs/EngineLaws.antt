@@ -50,9 +50,11 @@ taken_back address host given back first source last sink old over new same none
       back = back;
       used = record {
         source_is = λ i. record { told_before = given.left; told = back.left; faults_before = none i; faults = source };
-        sink_is = λ i. record { told_before = given.taken; told = back.taken; faults_before = nothing i; faults = sink };
+        sink_is =
+            λ i. record { told_before = given.taken; told = back.taken; faults_before = nothing i; faults = sink };
       };
-      dialled = told ∙ dials ∙ ap (λ (h : List ℕ). grown old.dials (dial_of (at_host h address) (Some given) ∷ [])) same;
+      dialled =
+          told ∙ dials ∙ ap (λ (h : List ℕ). grown old.dials (dial_of (at_host h address) (Some given) ∷ [])) same;
       retired = came ∙ ap (λ r. grown r (back ∷ [])) kept;
       faults = omega (arith, later, stays);
       returned = subst (λ (n : ℕ). CountsReturned (source + sink) n new.returned) returned counts;

@@ -3,3 +3,5 @@ pub mod TalkLaws
 pub mod TaskLaws
 pub mod EngineLaws
 pub mod IdeLaws
+pub mod ReplayLaws
+pub mod ReplayTold

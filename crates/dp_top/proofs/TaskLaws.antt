@@ -22,12 +22,14 @@ use Rattle.dp_run.specs.Runs.{RunCaused}
 use Rattle.dp_state.specs.declared.moments.Outcome.{Outcome}
 use Rattle.dp_state.specs.declared.moments.Outcome.TheVariants as way
 use Rattle.dp_top.specs.declared.failures.Refused.{Refused}
-use Rattle.dp_words.specs.CommandLine.{Address, Ask, IsEngine, IsRun, IsTalk, Task, run, talk, engine, ide, show, Asks, ask_in, ask_of, port_of, uses_net}
+use Rattle.dp_words.specs.CommandLine.{Address, Ask, IsEngine, IsRun, IsTalk, Task, run, talk, engine, ide, replay, show, Asks, ask_in, ask_of, port_of, uses_net}
 use Rattle.dp_outside.specs.Links.{CountsReturned}
 use Rattle.dp_top.specs.Engine.{EngineFails, EndsSo as EngineEnds}
 use Rattle.dp_top.specs.Links.{IsDialled}
 use Rattle.dp_top.specs.Failures.{status_of, line_of, Says}
 use Rattle.dp_top.specs.Ide.{IdeFails}
+use Rattle.dp_top.specs.Replay.{ReplayFails}
+use Rattle.dp_world.specs.declared.errors.ReplayError.TheVariants as replayed
 use Rattle.dp_top.specs.Runs.{RunFails, failure_of as failure_told, program_failure}
 use Rattle.dp_top.specs.inner.Held.{AreHeld, IsBadSource, IsGood}
 use Rattle.dp_top.specs.Seen.{NoneRose, Seen, Stream, changed}
@@ -42,6 +44,7 @@ name_of (run ask) = codes "run"
 name_of (talk key ask) = codes "talk"
 name_of (engine address key ask) = codes "engine"
 name_of (ide port script) = codes "ide"
+name_of (replay events ask) = codes "replay"
 name_of show = codes "show"
 
 abbrev first_of : List (List ℕ) → List ℕ
@@ -57,12 +60,14 @@ named words (run ask) h = ap first_of h.words_are
 named words (talk key ask) h = ap first_of h.words_are
 named words (engine address key ask) h = ap first_of h.words_are
 named words (ide port script) h = ap first_of h.words_are
+named words (replay events ask) h = ap first_of h.words_are
 named words show h = ap first_of h
 
+-- no two names have the same second letter
 abbrev letters : List ℕ → ℕ
 letters [] = 0
 letters (a ∷ []) = a
-letters (a ∷ b ∷ more) = a
+letters (a ∷ b ∷ more) = b
 
 apart : (words : List (List ℕ)) (task other : Task) → Asks words task → Asks words other
     → letters (name_of task) ≡ letters (name_of other)
@@ -113,6 +118,30 @@ one_task words (ide port script) (ide other s) p q =
     let ports : Some port ≡ Some other = sym p.is_port ∙ ap (λ (l : List (List ℕ)). port_of (word_at 1 l)) same ∙
     q.is_port in
     λ i. ide (number_in (ports i)) (word_at 2 (same i))
+one_task words (replay events ask) (replay e other) p q =
+    let same = asks_same words p.behind q.behind (codes "replay") _ _ p.words_are q.words_are p.replays.asked
+    q.replays.asked in
+    λ i. replay (word_at 0 (names_in (same i))) (record {
+      bound = bound_in (same i);
+      names = drop 1
+          (names_in (same i));
+    })
+one_task words (replay e asked) (run ask) p q = absurd (omega (arith, apart words (replay e asked) (run ask) p q))
+one_task words (run ask) (replay e asked) p q = absurd (omega (arith, apart words (run ask) (replay e asked) p q))
+one_task words (replay e asked) (talk key ask) p q =
+    absurd (omega (arith, apart words (replay e asked) (talk key ask) p q))
+one_task words (talk key ask) (replay e asked) p q =
+    absurd (omega (arith, apart words (talk key ask) (replay e asked) p q))
+one_task words (replay e asked) (engine a key ask) p q =
+    absurd (omega (arith, apart words (replay e asked) (engine a key ask) p q))
+one_task words (engine a key ask) (replay e asked) p q =
+    absurd (omega (arith, apart words (engine a key ask) (replay e asked) p q))
+one_task words (replay e asked) (ide port script) p q =
+    absurd (omega (arith, apart words (replay e asked) (ide port script) p q))
+one_task words (ide port script) (replay e asked) p q =
+    absurd (omega (arith, apart words (ide port script) (replay e asked) p q))
+one_task words (replay e asked) show p q = absurd (omega (arith, apart words (replay e asked) show p q))
+one_task words show (replay e asked) p q = absurd (omega (arith, apart words show (replay e asked) p q))
 one_task words (ide port script) (run ask) p q = absurd (omega (arith, apart words (ide port script) (run ask) p q))
 one_task words (run ask) (ide port script) p q = absurd (omega (arith, apart words (run ask) (ide port script) p q))
 one_task words (ide port script) (talk key ask) p q =
@@ -174,6 +203,7 @@ memory_name (run ask) name = []
 memory_name (talk key ask) name = name
 memory_name (engine address key ask) name = name
 memory_name (ide port script) name = name
+memory_name (replay events ask) name = name
 memory_name show name = name
 
 -- want of memory once a session was served, or there was none
@@ -198,6 +228,15 @@ ide_starved failed name port script old new (inr (inl u)) = inl (refl, inl u.1)
 ide_starved failed name port script old new (inr (inr (inl alone))) = inl (refl, inr (inl alone.2))
 ide_starved failed name port script old new (inr (inr (inr h))) = inl (refl, inr (inr (Err h.end, h.played)))
 
+replay_starved : (failed : Failure) (name events : List ℕ) (ask : Ask) (files : Files) (before after : ℕ) (out : Change)
+    → ReplayFails failed name events ask files before after out
+    → ReplayFails failure.Memory name events ask files before after out
+replay_starved failed name events ask files before after out (inl memory) = inl (refl, memory.1)
+replay_starved failed name events ask files before after out (inr (inl u)) = inl (refl, inl u.1)
+replay_starved failed name events ask files before after out (inr (inr (inl u))) = inl (refl, inl u.1)
+replay_starved failed name events ask files before after out (inr (inr (inr h))) =
+    inl (refl, inr (Err replayed.OutFault, h.replayed))
+
 -- want of memory may come in place of any failure
 memory_instead : (failed : Failure) (name : List ℕ) (task : Task) (old new : Seen) → Caused failed name task old new
     → Caused failure.Memory (memory_name task name) task old new
@@ -206,6 +245,8 @@ memory_instead failed name (run ask) old new h =
 memory_instead failed name (talk key ask) old new h = (talk_starved failed name key ask old new h.0, h.1)
 memory_instead failed name (engine address key ask) old new h = engine_starved failed name address key ask old new h
 memory_instead failed name (ide port script) old new h = ide_starved failed name port script old new h
+memory_instead failed name (replay events ask) old new h =
+    (replay_starved failed name events ask _ _ _ _ h.0, h.1, h.2, h.3)
 memory_instead failed name show old new h = (h.0, show_cut failed _ _ h.1, h.2, h.3)
 
 -- the failure is told, or there is no memory for its line
@@ -271,7 +312,7 @@ caused_of status words old new f task asks =
     (one_task words f.task task f.asks asks) f.caused
 
 -- files that are not told as bad, on a shelf that did not fail, make a program unless memory runs out
-no_program : (failed : Failure) (files : Files) (before after : ℕ) (names : List (List ℕ)) → IsGood failed
+pub no_program : (failed : Failure) (files : Files) (before after : ℕ) (names : List (List ℕ)) → IsGood failed
     → (Rose before after → ⊥) → (why : ProgramError)
     → NoProgram why files before after names → failed ≡ program_failure why → status_of failed ≡ 209
 no_program failed files before after names good shelf (none.Shelf file) caused told = absurd (shelf caused.1)
@@ -479,6 +520,7 @@ done_offline status (run ask) old new h e = h.3
 done_offline status (talk key ask) old new h e = h.1
 done_offline status (engine address key ask) old new h e = absurd cc
 done_offline status (ide port script) old new h e = absurd cc
+done_offline status (replay events ask) old new h e = h.3
 done_offline status show old new h e = h.3
 
 caused_offline : (failed : Failure) (name : List ℕ) (task : Task) (old new : Seen) → Caused failed name task old new
@@ -487,6 +529,7 @@ caused_offline failed name (run ask) old new h e = h.3
 caused_offline failed name (talk key ask) old new h e = h.1
 caused_offline failed name (engine address key ask) old new h e = absurd cc
 caused_offline failed name (ide port script) old new h e = absurd cc
+caused_offline failed name (replay events ask) old new h e = h.3
 caused_offline failed name show old new h e = h.3
 
 pub asks_offline : (words : List (List ℕ)) (task other : Task) → Asks words task → Asks words other
@@ -611,4 +654,5 @@ none_fetched (run ask) told = nothing_fetched (Some ask) told
 none_fetched (talk key ask) told = nothing_fetched (Some ask) told
 none_fetched (engine address key ask) told = nothing_fetched (Some ask) told
 none_fetched (ide port script) told = (0, grown_by_none told)
+none_fetched (replay events ask) told = (0, grown_by_none told)
 none_fetched show told = refl

@@ -1,6 +1,7 @@
 pub mod Engine
 pub mod Failures
 pub mod Ide
+pub mod Replay
 pub mod Links
 pub mod Runs
 pub mod Seen

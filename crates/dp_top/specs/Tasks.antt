@@ -6,9 +6,10 @@ use Rattle.dp_show.specs.declared.error.ShowError.TheVariants as ends
 use Rattle.dp_show.specs.Shows.{Shows, Ends}
 use Rattle.dp_top.specs.declared.failures.Failure.{Failure}
 use Rattle.dp_top.specs.declared.failures.Failure.TheVariants.{TooLong, Source, ShelfFailed, NoFile, Fatal, Bound, Output, Script, Differs, PeerEnd, Packet, Network, Stopped, Memory}
-use Rattle.dp_words.specs.CommandLine.{Task, run, talk, engine, ide, show, Asks, ask_in}
+use Rattle.dp_words.specs.CommandLine.{Task, run, talk, engine, ide, replay, show, Asks, ask_in}
 use Rattle.dp_top.specs.Engine.{Engages, EngineFails}
 use Rattle.dp_top.specs.Ide.{Plays, IdeFails}
+use Rattle.dp_top.specs.Replay.{DoesReplay, ReplayFails}
 use Rattle.dp_top.specs.Failures.{status_of, line_of, Says}
 use Rattle.dp_run.specs.Runs.{Runs}
 use Rattle.dp_run.specs.Programs.{Told}
@@ -60,6 +61,9 @@ Does status (run ask) old new =
 Does status (talk key ask) old new = Talks status key ask old new × IsOffline old new
 Does status (engine address key ask) old new = Engages status address key ask old new
 Does status (ide port script) old new = Plays status port script old new
+Does status (replay events ask) old new =
+    DoesReplay status events ask old.shelf.files (changed old.out new.out)
+    × IsStill old.input new.input × IsStill old.err new.err × IsOffline old new
 Does status show old new =
     (status ≡ 0) × Shows (Ok tt) (changed old.input new.input) (changed old.out new.out)
     × IsStill old.err new.err × IsOffline old new
@@ -75,6 +79,10 @@ Caused failure name (talk key ask) old new =
 Caused failure name (engine address key ask) old new =
     EngineFails failure name address key ask old new
 Caused failure name (ide port script) old new = IdeFails failure name port script old new
+Caused failure name (replay events ask) old new =
+    ReplayFails failure name events ask old.shelf.files old.shelf.faults new.shelf.faults
+    (changed old.out new.out)
+    × IsStill old.input new.input × IsStill old.err new.err × IsOffline old new
 Caused failure name show old new =
     (name ≡ []) × ShowCaused failure (changed old.input new.input) (changed old.out new.out)
     × IsStill old.err new.err × IsOffline old new
@@ -82,6 +90,7 @@ Caused failure name show old new =
 -- only files that a task names are fetched, each once, in their order
 abbrev pub IsFetchedFor : Task → Told → Told → Type 0
 IsFetchedFor (ide port script) before after = AreFetched (script ∷ []) before after
+IsFetchedFor (replay events ask) before after = AreFetched (events ∷ ask.names) before after
 IsFetchedFor task before after = IsFetched (ask_in task) before after
 
 -- ---- the answers

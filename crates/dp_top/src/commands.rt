@@ -1,16 +1,19 @@
 //! What each command does.
-ghost use Rattle.std.specs.Prelude.{◌≡◌, ◌≤◌, ℕ, List, Some, IfOk, MatchResult};
+ghost use Rattle.std.specs.Prelude.{◌≡◌, ◌≤◌, ℕ, List, [], Ok, Some, IfOk, MatchResult};
+ghost use Rattle.dp_outside.specs.Changes.{change};
+ghost use Rattle.dp_show.specs.Shows.{Shows};
 ghost use Rattle.dp_words.specs.CommandLine.{Ask, Task, Asks, ask_in};
 ghost use Rattle.dp_words.specs.Commands.{task_of};
-ghost use Rattle.dp_top.specs.inner.Held.{AreHeld};
+ghost use Rattle.dp_top.specs.inner.Held.{AreHeld, AreHeldWith};
 ghost use Rattle.dp_top.specs.inner.Kept.{Continues, GoesOn};
 ghost use Rattle.dp_top.specs.Seen.{seen};
-ghost use Rattle.dp_top.specs.Tasks.{failure_of, Does, Caused, IsFetchedFor};
+ghost use Rattle.dp_top.specs.Tasks.{failure_of, Does, Caused, IsFetchedFor, ShowCaused};
 
 use crate::engine::engine;
 use crate::failures::{Failure, Refused};
 use crate::ide::ide;
 use crate::objects::Objects;
+use crate::replay::replay;
 use crate::run::run;
 use crate::talk::talk;
 use dp_outside::{Net, Shelf, Sink, Source};
@@ -32,6 +35,27 @@ fn failure_of(why: ShowError) -> Failure
     }
 }
 
+/// Prints the element of each packet that is read.
+fn show_all<'a, S: Source, K: Sink>(
+    alloc: Global,
+    input: &mut S,
+    out: &mut K,
+) -> Result<u8, Refused<'a>>
+    ensures ends { MatchResult result
+        (λ status. (status ≡ 0)
+        × Shows (Ok tt) (change S.left S.faults input.old input.new) (change K.taken K.faults out.old out.new))
+        (λ why. (why.name.now ≡ []) × ShowCaused why.failure (change S.left S.faults input.old input.new)
+        (change K.taken K.faults out.old out.new)) }
+    ensures status { IfOk result (λ status. status ≤ 199) }
+    ensures input_later { S.faults input.old ≤ S.faults input.new }
+    ensures out_later { K.faults out.old ≤ K.faults out.new }
+{
+    match show(alloc, input, out) {
+        Ok(()) => Ok(0),
+        Err(why) => Err(Refused::unnamed(failure_of(why))),
+    }
+}
+
 /// Does what a command asks for, and answers the status of what went well.
 pub(crate) fn carry_out<'a, R: Wait + Sync, H: Shelf, S: Source, K: Sink, E: Sink, N: Net>(
     rt: &R,
@@ -49,6 +73,9 @@ pub(crate) fn carry_out<'a, R: Wait + Sync, H: Shelf, S: Source, K: Sink, E: Sin
     // Files that make a program are no bad source, and those that make none are one, unless the shelf failed.
     ensures held { (ask : Ask) → ask_in (task_of command.entry) ≡ Some ask
         → AreHeld ask result objects.old.seen objects.new.seen }
+    // Likewise of a list of events, where it is one.
+    ensures replay_held { (events : List ℕ) (ask : Ask) → task_of command.entry ≡ Task.replay events ask
+        → AreHeldWith events ask result objects.old.seen objects.new.seen }
     ensures show_shelf { task_of command.entry ≡ Task.show
         → objects.new.seen.shelf.faults ≡ objects.old.seen.shelf.faults }
     ensures fetched { IsFetchedFor (task_of command.entry) objects.old.seen.shelf.fetched objects.new.seen.shelf.fetched }
@@ -59,10 +86,8 @@ pub(crate) fn carry_out<'a, R: Wait + Sync, H: Shelf, S: Source, K: Sink, E: Sin
         Command::Talk(request) => talk(alloc, request, objects),
         Command::Engine(request) => engine(alloc, request, objects),
         Command::Ide(request) => ide(rt, alloc, request, objects),
-        Command::Show => match show(alloc, objects.input, objects.out) {
-            Ok(()) => Ok(0),
-            Err(why) => Err(Refused::unnamed(failure_of(why))),
-        },
+        Command::Replay(request) => replay(alloc, request, objects.shelf, objects.out),
+        Command::Show => show_all(alloc, objects.input, objects.out),
     }
 }
 
@@ -91,6 +116,11 @@ pub fn carry_out_on<'a, R: Wait + Sync, H: Shelf, S: Source, K: Sink, E: Sink, N
     ensures held { (ask : Ask) → ask_in (task_of command.entry) ≡ Some ask
         → AreHeld ask result (seen H.Shelf S.Source K.Sink E.Sink N.Dialer N.shut_doors shelf.old input.old out.old
         err.old net.old)
+        (seen H.Shelf S.Source K.Sink E.Sink N.Dialer N.shut_doors shelf.new input.new out.new err.new net.new) }
+    // Likewise of a list of events, where it is one.
+    ensures replay_held { (events : List ℕ) (ask : Ask) → task_of command.entry ≡ Task.replay events ask
+        → AreHeldWith events ask result (seen H.Shelf S.Source K.Sink E.Sink N.Dialer N.shut_doors shelf.old input.old
+        out.old err.old net.old)
         (seen H.Shelf S.Source K.Sink E.Sink N.Dialer N.shut_doors shelf.new input.new out.new err.new net.new) }
     ensures show_shelf { task_of command.entry ≡ Task.show → H.faults shelf.new ≡ H.faults shelf.old }
     ensures fetched { IsFetchedFor (task_of command.entry) (H.fetched shelf.old) (H.fetched shelf.new) }

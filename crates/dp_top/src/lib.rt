@@ -6,6 +6,7 @@ mod engine;
 mod failures;
 mod ide;
 mod objects;
+mod replay;
 mod run;
 mod sessions;
 mod talk;

@@ -1,16 +1,18 @@
 //! The top call.
-ghost use Rattle.std.specs.Prelude.{false, ◌≡◌, ◌↔◌, ◌⊎◌, ◌<◌, ◌≤◌, ℕ, List, IsSome, Some, Ok, Err, codes, map};
-ghost use Rattle.std.specs.Prelude.{string_bytes};
+ghost use Rattle.std.specs.Prelude.{false, ◌≡◌, ◌↔◌, ◌⊎◌, ◌<◌, ◌≤◌, ℕ, List, IsSome, Some, Result, Ok, Err, codes};
+ghost use Rattle.std.specs.Prelude.{map, string_bytes};
 ghost use Rattle.dp_outside.specs.Causes.{Rose};
 ghost use Rattle.dp_outside.specs.Changes.{change, IsUntouched};
 ghost use Rattle.dp_tree.specs.declared.bundle.Bundle.{Bundle};
 ghost use Rattle.dp_bundle.specs.declared.errors.BundleError.{BundleError};
-ghost use Rattle.dp_words.specs.CommandLine.{Address, Ask, IsEngine, IsIde, IsRun, IsTalk, Task, Asks, ask_in};
-ghost use Rattle.dp_words.specs.CommandLine.{uses_net};
+ghost use Rattle.dp_words.specs.CommandLine.{Address, Ask, IsEngine, IsIde, IsReplay, IsRun, IsTalk, Task, Asks};
+ghost use Rattle.dp_words.specs.CommandLine.{ask_in, uses_net};
 ghost use Rattle.dp_top.specs.Failures.{Says};
 ghost use Rattle.dp_run.specs.Programs.{Holds};
 ghost use Rattle.dp_ide.specs.declared.instruction.Instruction.{Instruction};
+ghost use Rattle.dp_lists.specs.declared.event.Event.{Event};
 ghost use Rattle.dp_top.specs.Ide.{IsHeldScript, IsNoScript};
+ghost use Rattle.dp_top.specs.Replay.{IsHeldList, IsNoList};
 ghost use Rattle.dp_top.specs.Seen.{NoneRose, net_seen, seen};
 ghost use Rattle.dp_top.specs.Tasks.{IsDone, Fails, IsFetchedFor, IsUnread};
 
@@ -27,17 +29,18 @@ use std::sync::Wait;
 /// which the first is the main one, and puts its output on `out`; `talk [--bound N] KEY FILE..` serves a session of KEY
 /// over the program, with `input` and `out` as the link, and the program's own output on `err`; `engine [--bound N] HOST PORT
 /// KEY FILE..` serves one over a link that `net` dials, with the program's own output on `out`; `ide PORT SCRIPT` plays the
-/// script over the link that an engine makes to the port, and what it prints goes to `out`; `show` reads framed packets from
-/// `input` and prints the element of each on `out`, in canonical text with a line feed.
+/// script over the link that an engine makes to the port, and what it prints goes to `out`; `replay [--bound N] EVENTS FILE..`
+/// writes the transcript of the list of events on `out`, with engines in memory that run the program; `show` reads framed
+/// packets from `input` and prints the element of each on `out`, in canonical text with a line feed.
 ///
 /// | status | comes | line on `err` |
 /// |---|---|---|
-/// | 0 to 199 | the program exited so, or came to its end (0); all packets are shown (0); the script was played (0) | none |
+/// | 0 to 199 | the program exited so, or came to its end (0); all packets are shown (0); the script or the list was played (0) | none |
 /// | 200 | the words ask for nothing | `usage` |
 /// | 201 | a file is too long or no program | `bad source NAME REASON NUMBER` |
 /// | 202 | the shelf failed, or lacks a file | `shelf failed NAME`, `no file NAME` |
 /// | 203 | an output failed | `output failed` |
-/// | 204 | a line is none of a script; N is the first, or 0 where the file is too long | `bad script line N` |
+/// | 204 | a line is none of a script, or of a list of events; N is the first, or 0 where the file is too long | `bad script line N` |
 /// | 205 | line N of the script wants W, and F is found, or nothing | `differs line N wanted W found F` |
 /// | 206 | the input of `show` ended inside a frame, or the link of `ide` before a packet that was awaited | `peer ended` |
 /// | 207 | bytes stand in no command's or packet's place, a text is no packet, or too many came | `bad packet offset N` |
@@ -46,8 +49,8 @@ use std::sync::Wait;
 /// | 210 | a command stopped the program before its end | `stopped by the IDE` |
 /// | 255 | the program could not go on, or would have had more moments than N | `fatal KIND in NAME on line N`, `bound reached after N steps` |
 ///
-/// It waits in the calls of `input`, of a gate and of a link alone. `show` does not use the shelf, nor `run`, `engine` and `ide`
-/// the input; `net` is used by `engine` and `ide` alone, and `spawner` is not used.
+/// It waits in the calls of `input`, of a gate and of a link alone. `show` does not use the shelf, nor `run`, `engine`, `ide` and
+/// `replay` the input; `net` is used by `engine` and `ide` alone, and `spawner` is not used.
 pub fn top<R: Wait + Sync, H: Shelf, S: Source, K: Sink, E: Sink, N: Net, P: Spawner>(
     rt: &R,
     alloc: Global,
@@ -132,6 +135,29 @@ pub fn top<R: Wait + Sync, H: Shelf, S: Source, K: Sink, E: Sink, N: Net, P: Spa
         net.old)
         (seen H.Shelf S.Source K.Sink E.Sink N.Dialer N.shut_doors shelf.new input.new out.new err.new net.new)
         → (result ≡ 0) ⊎ (result ≡ 205) ⊎ (result ≡ 206) ⊎ (result ≡ 207) ⊎ (result ≡ 209) }
+
+    // A file that is no list of events is told at its first line that adds nothing, or at line 0 where it is too long, unless the
+    // shelf fails or lacks a file of the program.
+    ensures list_refused { (events : List ℕ) (ask : Ask) (line : ℕ) (made : Result Bundle BundleError)
+        → IsReplay (map string_bytes words.now) events ask → IsNoList (H.files shelf.old) events line
+        → Holds (H.files shelf.old) ask.names made
+        → (result ≡ 204) ⊎ (result ≡ 209) ⊎ Rose (H.faults shelf.old) (H.faults shelf.new) }
+    ensures list_held { (events : List ℕ) (ask : Ask) (list : List Event)
+        → IsReplay (map string_bytes words.now) events ask
+        → IsSome (H.files shelf.old) → IsHeldList (H.files shelf.old) events list → result ≡ 204 → ⊥ }
+    // Where it is one, files that make no program are told, unless the shelf fails first.
+    ensures replay_refused { (events : List ℕ) (ask : Ask) (list : List Event) (why : BundleError)
+        → IsReplay (map string_bytes words.now) events ask → IsHeldList (H.files shelf.old) events list
+        → Holds (H.files shelf.old) ask.names (Err why)
+        → (result ≡ 201) ⊎ (result ≡ 209) ⊎ Rose (H.faults shelf.old) (H.faults shelf.new) }
+    // Where they make one, and no count rose, the whole transcript is put.
+    ensures complete_replay { (events : List ℕ) (ask : Ask) (list : List Event) (program : Bundle)
+        → IsReplay (map string_bytes words.now) events ask → IsHeldList (H.files shelf.old) events list
+        → Holds (H.files shelf.old) ask.names (Ok program)
+        → NoneRose (seen H.Shelf S.Source K.Sink E.Sink N.Dialer N.shut_doors shelf.old input.old out.old err.old
+        net.old)
+        (seen H.Shelf S.Source K.Sink E.Sink N.Dialer N.shut_doors shelf.new input.new out.new err.new net.new)
+        → (result ≡ 0) ⊎ (result ≡ 209) }
 
     ensures show_shelf { Asks (map string_bytes words.now) Task.show → H.faults shelf.new ≡ H.faults shelf.old }
     // Only files that the words name are fetched, each once, in their order; for `show` none.

@@ -56,7 +56,7 @@ leaf s = built_leaf (inherited above s)
 pub built_is : built program ≡ record {
   top = above;
   subs = leaf (bounded (codes "run")) ∷ leaf (bounded (codes "talk")) ∷ leaf (bounded (codes "engine"))
-      ∷ leaf (unbounded (codes "ide")) ∷ leaf (wordless (codes "show")) ∷ [];
+      ∷ leaf (unbounded (codes "ide")) ∷ leaf (bounded (codes "replay")) ∷ leaf (wordless (codes "show")) ∷ [];
 }
 built_is = refl
 

@@ -84,6 +84,10 @@ pub ide_known : Known (codes "ide") (S false (codes "ide"))
 unfolding clap_on_literals
 ide_known = record { met_so = refl; taken = refl; found = λ b. refl; rows = λ b. refl }
 
+pub replay_known : Known (codes "replay") (S true (codes "replay"))
+unfolding clap_on_literals
+replay_known = record { met_so = refl; taken = refl; found = λ b. refl; rows = λ b. refl }
+
 pub show_known : Known (codes "show") (alone (codes "show"))
 unfolding clap_on_literals
 show_known = record { met_so = refl; taken = refl; found = λ b. refl; rows = λ b. refl }

@@ -10,7 +10,7 @@ use Rattle.clap.specs.Faults.{fault_of}
 use Rattle.clap.specs.Lexer.{usize_max}
 use Rattle.clap.specs.Simple.{Shape, subcommand_of}
 use Rattle.clap.specs.Walk.{Row, Text, answers_to}
-use Rattle.dp_words.specs.CommandLine.{Ask, Asks, Task, Address, Dials, IsFileWord, IsKey, run, talk, engine, ide, show, IsIde, ask_of, bound_limit, bound_of, default_bound, is_option, not_zero, port_limit, port_of, with_bound}
+use Rattle.dp_words.specs.CommandLine.{Ask, Asks, Task, Address, Dials, IsFileWord, IsKey, Replays, run, talk, engine, ide, replay, show, IsIde, ask_of, bound_limit, bound_of, default_bound, is_option, not_zero, port_limit, port_of, with_bound}
 use Rattle.dp_value.specs.Decimals.{decimal_in}
 use Rattle.std.proofs.lemmas.Bool.Decides.{nat_tests}
 use Rattle.dp_words.specs.inner.Parsed.{IsParsed, Parsed, ask_in}
@@ -18,7 +18,7 @@ use Rattle.dp_words.specs.inner.Plain.{are_bounded, are_plain, has_bound, is_pla
 use Rattle.dp_words.specs.inner.Rows.{rows_with}
 use Rattle.dp_words.specs.inner.Shapes.{program}
 use Rattle.dp_words.proofs.Leaves.{S, alone, alone_fine, alone_refused, both, bound_alone, bound_level, bound_rows, fault, no_words as no_words_behind, plain_level, plain_rows}
-use Rattle.dp_words.proofs.Programs.{Known, fault_known, rows_known, run_known, talk_known, engine_known, ide_known, show_known, names, no_words, unknown}
+use Rattle.dp_words.proofs.Programs.{Known, fault_known, rows_known, run_known, talk_known, engine_known, ide_known, replay_known, show_known, names, no_words, unknown}
 
 -- ---- what tasks want
 
@@ -27,6 +27,7 @@ name_of (run ask) = codes "run"
 name_of (talk key ask) = codes "talk"
 name_of (engine address key ask) = codes "engine"
 name_of (ide port script) = codes "ide"
+name_of (replay events ask) = codes "replay"
 name_of show = codes "show"
 
 -- the first of the words names the task
@@ -36,6 +37,7 @@ named words (run ask) h = (h.behind, h.words_are)
 named words (talk key ask) h = (h.behind, h.words_are)
 named words (engine address key ask) h = (h.behind, h.words_are)
 named words (ide port script) h = (h.number ∷ script ∷ [], h.words_are)
+named words (replay events ask) h = (h.behind, h.words_are)
 named words show h = ([], h)
 
 -- a program has a file
@@ -46,6 +48,7 @@ abbrev WantsFiles : Task → List Text → Type 0
 WantsFiles (run ask) behind = IsFiled behind
 WantsFiles (talk key ask) behind = IsFiled behind
 WantsFiles (engine address key ask) behind = IsFiled behind
+WantsFiles (replay events ask) behind = IsFiled behind
 WantsFiles (ide port script) behind = (number : Text) × (behind ≡ number ∷ script ∷ [])
 WantsFiles show behind = behind ≡ []
 
@@ -53,6 +56,7 @@ wants : (words : List Text) (task : Task) (h : Asks words task) → WantsFiles t
 wants words (run ask) h = (ask, h.follows.asked, h.follows.files.some)
 wants words (talk key ask) h = (_, h.speaks.asked, omega (arith))
 wants words (engine address key ask) h = (_, h.dials.asked, omega (arith))
+wants words (replay events ask) h = (_, h.replays.asked, omega (arith))
 wants words (ide port script) h = (h.number, refl)
 wants words show h = refl
 
@@ -61,6 +65,7 @@ needs_files : (task : Task) (behind : List Text) → has_bound (name_of task) �
 needs_files (run ask) behind e h = h
 needs_files (talk key ask) behind e h = h
 needs_files (engine address key ask) behind e h = h
+needs_files (replay events ask) behind e h = h
 needs_files (ide port script) behind e h = absurd cc
 needs_files show behind e h = absurd cc
 
@@ -203,11 +208,13 @@ no_ide (ide port script) e behind w nil =
 no_ide (run ask) e behind w nil = let t : false ≡ true = is_name (codes "ide") _ e in absurd cc
 no_ide (talk key ask) e behind w nil = let t : false ≡ true = is_name (codes "ide") _ e in absurd cc
 no_ide (engine address key ask) e behind w nil = let t : false ≡ true = is_name (codes "ide") _ e in absurd cc
+no_ide (replay events ask) e behind w nil = let t : false ≡ true = is_name (codes "ide") _ e in absurd cc
 no_ide show e behind w nil = let t : false ≡ true = is_name (codes "ide") _ e in absurd cc
 
 no_show : (task : Task) → codes "show" ≡ name_of task → (behind : List Text) → WantsFiles task behind → behind ≡ []
 no_show show e behind w = w
 no_show (ide port script) e behind w = let t : false ≡ true = is_name (codes "show") _ e in absurd cc
+no_show (replay events ask) e behind w = let t : false ≡ true = is_name (codes "show") _ e in absurd cc
 no_show (run ask) e behind w = let t : false ≡ true = is_name (codes "show") _ e in absurd cc
 no_show (talk key ask) e behind w = let t : false ≡ true = is_name (codes "show") _ e in absurd cc
 no_show (engine address key ask) e behind w = let t : false ≡ true = is_name (codes "show") _ e in absurd cc
@@ -217,6 +224,7 @@ no_command (run ask) e = absurd cc
 no_command (talk key ask) e = absurd cc
 no_command (engine address key ask) e = absurd cc
 no_command (ide port script) e = absurd cc
+no_command (replay events ask) e = absurd cc
 no_command show e = absurd cc
 
 ide_read : (behind : List Text) → list_all is_plain behind ≡ true → length behind ≤ usize_max
@@ -262,11 +270,12 @@ abbrev label : Text → Text × List Text
 label name = (name, [])
 
 -- the command that is found, by which names it has
-abbrev found_by : Bool → Bool → Bool → Bool → Bool → Option (Text × List Text)
-found_by a b c d e =
+abbrev found_by : Bool → Bool → Bool → Bool → Bool → Bool → Option (Text × List Text)
+found_by a b c d e f =
     if a || false then Some (label (codes "run")) else (if b || false then Some (label (codes "talk"))
     else (if c || false then Some (label (codes "engine")) else (if d || false then Some (label (codes "ide"))
-    else (if e || false then Some (label (codes "show")) else None))))
+    else (if e
+    || false then Some (label (codes "replay")) else (if f || false then Some (label (codes "show")) else None)))))
 
 abbrev fits : Text → List Text → Type 0
 fits name behind = (if has_bound name then are_bounded behind else list_all is_plain behind) ≡ true
@@ -292,15 +301,18 @@ reads (name ∷ behind) h small =
     (λ f. bounded_read (codes "engine") refl engine_known behind f few) parts.1) (λ no_engine.
     choose (codes "ide") name
     (λ e. subst (λ n. fits n behind → Reading (n ∷ behind)) e (λ f. ide_read behind f few) parts.1) (λ no_ide_name.
+    choose (codes "replay") name
+    (λ e. subst (λ n. fits n behind → Reading (n ∷ behind)) e
+    (λ f. bounded_read (codes "replay") refl replay_known behind f few) parts.1) (λ no_replay.
     choose (codes "show") name
     (λ e. subst (λ n. fits n behind → Reading (n ∷ behind)) e (λ f. show_read behind f) parts.1) (λ no_show_name.
     let none : find (answers_to name) names ≡ None = λ i. found_by (no_run i) (no_talk i) (no_engine i) (no_ide_name i)
-    (no_show_name i) in
+    (no_replay i) (no_show_name i) in
     inr (
       subst HasFault (sym (unknown name behind parts.0 none)) tt,
       λ task asks. no_command task (subst (λ (n : Text). find (answers_to n) names ≡ None)
           (same_name name behind task asks) none),
-    ))))))
+    )))))))
 
 -- ---- what is asked for passes the first test
 
@@ -397,6 +409,10 @@ asks_behind (engine address key ask) words h b =
     (more_plain d.number (key ∷ ask.names) (port_plain d.number address.port d.port)
     (more_plain key ask.names (key_plain key d.session.is_key d.session.is_none)
     (files_plain ask.names d.session.files.named))))
+asks_behind (replay events ask) words h b =
+    behind_plain h.behind _ h.replays.asked
+    (more_plain events ask.names (plain_if events h.replays.is_events.is_name.some h.replays.is_events.is_none)
+    (files_plain ask.names h.replays.files.named))
 asks_behind (ide port script) words h b = absurd cc
 asks_behind show words h b = absurd cc
 
@@ -409,6 +425,7 @@ asks_plain words (ide port script) h =
     ap are_plain h.words_are
     ∙ more_plain h.number (script ∷ []) (port_plain h.number port h.is_port)
     (more_plain script [] (plain_if script h.is_script.is_name.some h.is_script.is_none) refl)
+asks_plain words (replay events ask) h = ap are_plain h.words_are ∙ asks_behind (replay events ask) words h refl
 asks_plain words show h = ap are_plain h
 
 -- ---- what is read asks for something
@@ -437,6 +454,8 @@ no_engine_read words (talk key ask) p is name none asks =
     not_named (codes "engine") (talk key ask) (sym name ∙ name_read words (talk key ask) p is asks) refl
 no_engine_read words (ide port script) p is name none asks =
     not_named (codes "engine") (ide port script) (sym name ∙ name_read words (ide port script) p is asks) refl
+no_engine_read words (replay events ask) p is name none asks =
+    not_named (codes "engine") (replay events ask) (sym name ∙ name_read words (replay events ask) p is asks) refl
 no_engine_read words show p is name none asks =
     not_named (codes "engine") show (sym name ∙ name_read words show p is asks) refl
 
@@ -450,14 +469,36 @@ no_ide_read words (talk key ask) p is name none asks =
 no_ide_read words (engine address key ask) p is name none asks =
     not_named (codes "ide") (engine address key ask) (sym name ∙ name_read words (engine address key ask) p is asks)
     refl
+no_ide_read words (replay events ask) p is name none asks =
+    not_named (codes "ide") (replay events ask) (sym name ∙ name_read words (replay events ask) p is asks) refl
 no_ide_read words show p is name none asks =
     not_named (codes "ide") show (sym name ∙ name_read words show p is asks) refl
+
+pub no_replay_read : (words : List Text) (task : Task) (p : Parsed) → IsParsed words p → p.name ≡ codes "replay"
+    → ((behind : List Text) (events : List ℕ) (ask : Ask) → ask_of behind ≡ ask_in p → Replays behind events ask → ⊥)
+    → Asks words task → ⊥
+no_replay_read words (replay events ask) p is name none asks =
+    none asks.behind events ask (ap ask_of (sym (behind_read words (replay events ask) p is asks)) ∙ is.asked)
+    asks.replays
+no_replay_read words (run ask) p is name none asks =
+    not_named (codes "replay") (run ask) (sym name ∙ name_read words (run ask) p is asks) refl
+no_replay_read words (talk key ask) p is name none asks =
+    not_named (codes "replay") (talk key ask) (sym name ∙ name_read words (talk key ask) p is asks) refl
+no_replay_read words (engine address key ask) p is name none asks =
+    not_named (codes "replay") (engine address key ask) (sym name ∙ name_read words (engine address key ask) p is asks)
+    refl
+no_replay_read words (ide port script) p is name none asks =
+    not_named (codes "replay") (ide port script) (sym name ∙ name_read words (ide port script) p is asks) refl
+no_replay_read words show p is name none asks =
+    not_named (codes "replay") show (sym name ∙ name_read words show p is asks) refl
 
 pub no_show_read : (words : List Text) (task : Task) (p : Parsed) → IsParsed words p → p.name ≡ codes "show"
     → (Asks words show → ⊥) → Asks words task → ⊥
 no_show_read words show p is name none asks = none asks
 no_show_read words (ide port script) p is name none asks =
     not_named (codes "show") (ide port script) (sym name ∙ name_read words (ide port script) p is asks) refl
+no_show_read words (replay events ask) p is name none asks =
+    not_named (codes "show") (replay events ask) (sym name ∙ name_read words (replay events ask) p is asks) refl
 no_show_read words (run ask) p is name none asks =
     not_named (codes "show") (run ask) (sym name ∙ name_read words (run ask) p is asks) refl
 no_show_read words (talk key ask) p is name none asks =
@@ -468,12 +509,14 @@ no_show_read words (engine address key ask) p is name none asks =
 
 pub no_name_read : (words : List Text) (task : Task) (p : Parsed) → IsParsed words p → (p.name ≡ codes "run" → ⊥)
     → (p.name ≡ codes "talk" → ⊥) → (p.name ≡ codes "engine" → ⊥)
-    → (p.name ≡ codes "ide" → ⊥) → (p.name ≡ codes "show" → ⊥) → Asks words task → ⊥
-no_name_read words (run ask) p is a b c i d asks = a (name_read words (run ask) p is asks)
-no_name_read words (talk key ask) p is a b c i d asks = b (name_read words (talk key ask) p is asks)
-no_name_read words (engine address key ask) p is a b c i d asks = c (name_read words (engine address key ask) p is asks)
-no_name_read words (ide port script) p is a b c i d asks = i (name_read words (ide port script) p is asks)
-no_name_read words show p is a b c i d asks = d (name_read words show p is asks)
+    → (p.name ≡ codes "ide" → ⊥) → (p.name ≡ codes "replay" → ⊥) → (p.name ≡ codes "show" → ⊥) → Asks words task → ⊥
+no_name_read words (run ask) p is a b c i r d asks = a (name_read words (run ask) p is asks)
+no_name_read words (talk key ask) p is a b c i r d asks = b (name_read words (talk key ask) p is asks)
+no_name_read words (engine address key ask) p is a b c i r d asks =
+    c (name_read words (engine address key ask) p is asks)
+no_name_read words (ide port script) p is a b c i r d asks = i (name_read words (ide port script) p is asks)
+no_name_read words (replay events ask) p is a b c i r d asks = r (name_read words (replay events ask) p is asks)
+no_name_read words show p is a b c i r d asks = d (name_read words show p is asks)
 
 -- behind `ide` stand the words that were read, and no bound
 pub ide_parsed : (words : List Text) (p : Parsed) (number script : Text) → IsParsed words p → p.name ≡ codes "ide"

@@ -152,6 +152,18 @@ pub record IsIde (words : List (List ℕ)) (port : ℕ) (script : List ℕ) : Ty
   pub is_port : port_of number ≡ Some port
   pub is_script : IsFileWord script
 
+-- what stands behind `replay`
+pub record Replays (words : List (List ℕ)) (events : List ℕ) (ask : Ask) : Type 0 where
+  pub asked : ask_of words ≡ Some (record { bound = ask.bound; names = events ∷ ask.names })
+  pub is_events : IsFileWord events
+  pub files : AreFileWords ask.names
+
+-- the words are `replay [--bound N] EVENTS FILE..`
+pub record IsReplay (words : List (List ℕ)) (events : List ℕ) (ask : Ask) : Type 0 where
+  pub behind : List (List ℕ)
+  pub words_are : words ≡ codes "replay" ∷ behind
+  pub replays : Replays behind events ask
+
 -- ---- what is asked for
 
 pub data Task : Type 0 where
@@ -159,6 +171,7 @@ pub data Task : Type 0 where
   talk : (key : List ℕ) → Ask → Task
   engine : Address → (key : List ℕ) → Ask → Task
   ide : (port : ℕ) → (script : List ℕ) → Task
+  replay : (events : List ℕ) → Ask → Task
   show : Task
 
 -- the words ask for this
@@ -167,14 +180,16 @@ Asks words (run ask) = IsRun words ask
 Asks words (talk key ask) = IsTalk words key ask
 Asks words (engine address key ask) = IsEngine words address key ask
 Asks words (ide port script) = IsIde words port script
+Asks words (replay events ask) = IsReplay words events ask
 Asks words show = words ≡ codes "show" ∷ []
 
--- the program that it is for, where it is for one
+-- the program that all its files make, where they are those of one
 abbrev pub ask_in : Task → Option Ask
 ask_in (run ask) = Some ask
 ask_in (talk key ask) = Some ask
 ask_in (engine address key ask) = Some ask
 ask_in (ide port script) = None
+ask_in (replay events ask) = None
 ask_in show = None
 
 abbrev pub names_asked : Option Ask → List (List ℕ)
@@ -184,6 +199,7 @@ names_asked (Some ask) = ask.names
 -- the names of the files that it is for, in order
 abbrev pub files_in : Task → List (List ℕ)
 files_in (ide port script) = script ∷ []
+files_in (replay events ask) = events ∷ ask.names
 files_in task = names_asked (ask_in task)
 
 -- whether it is done over the network

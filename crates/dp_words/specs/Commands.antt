@@ -4,7 +4,7 @@ use Rattle.dp_words.specs.declared.command_line.Address.{Address as CodeAddress}
 use Rattle.dp_words.specs.declared.command_line.Command.{Command}
 use Rattle.dp_words.specs.declared.command_line.Program.{Program}
 use Rattle.dp_words.specs.declared.command_line.Command.TheVariants as told
-use Rattle.dp_words.specs.CommandLine.{Address, Ask, Task, run, talk, engine, ide, show}
+use Rattle.dp_words.specs.CommandLine.{Address, Ask, Task, run, talk, engine, ide, replay, show}
 
 -- a program that is asked for
 abbrev pub ask_told : Program → Ask
@@ -21,4 +21,5 @@ task_of (told.Talk request) = talk request.key.now (ask_told request.program)
 task_of (told.Engine request) =
     engine (address_told request.address) request.talk.key.now (ask_told request.talk.program)
 task_of (told.Ide request) = ide request.port request.script.now
+task_of (told.Replay request) = replay request.events.now (ask_told request.program)
 task_of told.Show = show

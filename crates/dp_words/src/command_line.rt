@@ -4,8 +4,8 @@ ghost use Rattle.std.specs.Prelude.{Ok, codes, map, string_bytes};
 ghost use Rattle.std.specs.List.{list_all};
 ghost use Rattle.std.specs.Option.{option_map};
 ghost use Rattle.dp_words.specs.CommandLine.{Address as AnyAddress, AreFileWords, Ask, Asks, Dials, Follows};
-ghost use Rattle.dp_words.specs.CommandLine.{IsFileWord, IsHostWord, IsIde, IsKey, IsSession, Speaks, Task, ask_of};
-ghost use Rattle.dp_words.specs.CommandLine.{between, bound_of, port_of};
+ghost use Rattle.dp_words.specs.CommandLine.{IsFileWord, IsHostWord, IsIde, IsKey, IsSession, Replays, Speaks, Task};
+ghost use Rattle.dp_words.specs.CommandLine.{ask_of, between, bound_of, port_of};
 ghost use Rattle.dp_words.specs.Commands.{address_told, ask_told, task_of};
 ghost use Rattle.dp_words.specs.inner.Commands.{parsed_told};
 ghost use Rattle.dp_words.specs.inner.Parsed.{IsParsed, ask_in, bound_in};
@@ -52,6 +52,13 @@ pub struct Ide<'a> {
     pub script: &'a str,
 }
 
+/// A list of events over a program.
+#[derive(Clone, Copy, Debug)]
+pub struct Replay<'a> {
+    pub events: &'a str,
+    pub program: Program<'a>,
+}
+
 /// What the program is asked for.
 #[derive(Clone, Copy, Debug)]
 pub enum Command<'a> {
@@ -63,6 +70,8 @@ pub enum Command<'a> {
     Engine(Engine<'a>),
     /// A script over a link.
     Ide(Ide<'a>),
+    /// The transcript of events.
+    Replay(Replay<'a>),
     /// The elements of the packets that are read.
     Show,
 }
@@ -315,6 +324,37 @@ fn read_ide<'a>(parsed: Parsed<'a>) -> Option<Ide<'a>>
     script_of(parsed.words)
 }
 
+/// The events of a list over the program of these files.
+fn replay_of<'a>(events: &'a str, program: Program<'a>) -> Option<Replay<'a>>
+    ensures found { IfSome result (λ r. (r.events.now ≡ events.now) × (ask_told r.program ≡ ask_told program.entry)
+        × IsFileWord events.now × AreFileWords (ask_told program.entry).names) }
+    ensures none { IfNone result (IsFileWord events.now → AreFileWords (ask_told program.entry).names → ⊥) }
+{
+    if !is_file(events) {
+        return None;
+    }
+    match program_of(program) {
+        None => None,
+        Some(program) => Some(Replay { events, program }),
+    }
+}
+
+/// What the words behind `replay` ask for.
+fn read_replay<'a>(parsed: Parsed<'a>) -> Option<Replay<'a>>
+    ensures found { IfSome result (λ r. (behind : List (List ℕ)) → ask_of behind ≡ ask_in (parsed_told parsed.entry)
+        → Replays behind r.events.now (ask_told r.program)) }
+    ensures none { IfNone result ((behind : List (List ℕ)) (events : List ℕ) (ask : Ask)
+        → ask_of behind ≡ ask_in (parsed_told parsed.entry) → Replays behind events ask → ⊥) }
+{
+    match program_in(parsed) {
+        None => None,
+        Some(Program { bound, files }) => match files.split_first() {
+            None => None,
+            Some((events, files)) => replay_of(events.as_str(), Program { bound, files }),
+        },
+    }
+}
+
 /// Whether nothing stands behind the command.
 fn is_alone(parsed: Parsed<'_>) -> bool
     ensures { IsTrue result ↔ (((parsed_told parsed.entry).bound ≡ None) × ((parsed_told parsed.entry).words ≡ [])) }
@@ -365,6 +405,12 @@ fn command_of<'a>(parsed: Parsed<'a>) -> Option<Command<'a>>
     if parsed.name == "ide" {
         return match read_ide(parsed) {
             Some(ide) => Some(Command::Ide(ide)),
+            None => None,
+        };
+    }
+    if parsed.name == "replay" {
+        return match read_replay(parsed) {
+            Some(replay) => Some(Command::Replay(replay)),
             None => None,
         };
     }

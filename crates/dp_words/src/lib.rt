@@ -6,5 +6,5 @@ mod names;
 mod parser;
 mod plain;
 
-pub use command_line::{Address, Command, Engine, Ide, Program, Talk, read_words};
+pub use command_line::{Address, Command, Engine, Ide, Program, Replay, Talk, read_words};
 pub use dp_value::Memory;

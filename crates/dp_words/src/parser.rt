@@ -82,6 +82,7 @@ fn program<'a>(alloc: Global) -> Result<Command<'a>, AllocError>
         .subcommand(bounded(alloc, "talk")?)?
         .subcommand(bounded(alloc, "engine")?)?
         .subcommand(unbounded(alloc, "ide")?)?
+        .subcommand(bounded(alloc, "replay")?)?
         .subcommand(Command::new(alloc, "show"))
 }
 

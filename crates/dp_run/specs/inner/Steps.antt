@@ -1,22 +1,20 @@
 -- One file after another, and the end of a run.
-use Rattle.std.specs.Prelude.{◌≡◌, ◌⊎◌, ℕ, false, List, [], ◌∷◌, ◌++◌, Result, Ok, Err, IfErr}
-use Rattle.std.specs.Prelude.{MatchResult, ⊤}
+use Rattle.std.specs.Prelude.{◌≡◌, ◌⊎◌, ℕ, List, [], ◌∷◌, ◌++◌, Ok, Err, ⊤}
 use Rattle.std.specs.Io.KnownBytes.{Appends}
 use Rattle.dp_outside.specs.Causes.{Rose}
 use Rattle.dp_outside.specs.Changes.{Change, IsUntouched}
 use Rattle.dp_outside.specs.Files.{Fetches, Lacks}
 use Rattle.dp_outside.specs.Streams.{AppendsFront}
-use Rattle.dp_bundle.specs.Bundles.{Given, Makes}
+use Rattle.dp_bundle.specs.Bundles.{Given}
 use Rattle.dp_tree.specs.FileNames.{file_limit}
 use Rattle.dp_tree.specs.declared.bundle.Bundle.{Bundle}
-use Rattle.dp_bundle.specs.declared.errors.BundleError.{BundleError}
 use Rattle.dp_state.specs.declared.moments.Outcome.{Outcome}
 use Rattle.dp_meaning.specs.Trace.{outcome_of, plain}
 use Rattle.dp_run.specs.declared.error.ProgramError.{ProgramError}
 use Rattle.dp_run.specs.declared.error.ProgramError.TheVariants as none
 use Rattle.dp_run.specs.declared.error.RunError.{RunError}
 use Rattle.dp_run.specs.declared.error.RunError.TheVariants.{OutFault, Memory}
-use Rattle.dp_run.specs.Programs.{Files, is_bad_file, refusal}
+use Rattle.dp_run.specs.Programs.{Files}
 use Rattle.dp_run.specs.Runs.{judged}
 
 -- a file more was fetched
@@ -32,23 +30,6 @@ FetchCaused (none.Missing file) number name files before after = (file ≡ numbe
 FetchCaused (none.TooLong file) number name files before after = ⊥
 FetchCaused (none.Source file why) number name files before after = ⊥
 FetchCaused none.Memory number name files before after = ⊤
-
--- no file was read yet
-abbrev pub IsUnread : ProgramError → Type 0
-IsUnread (none.TooLong file) = ⊥
-IsUnread (none.Source file why) = ⊥
-IsUnread why = ⊤
-
--- why fetched files make no program
-abbrev pub IsMade : List Given → ProgramError → Type 0
-IsMade fetched why = (why ≡ none.Memory)
-    ⊎ ((e : BundleError) × Makes fetched (Err e) × (why ≡ refusal e))
-
--- what fetched files make is answered, or memory ran out
-abbrev pub IsRefused : {A : Type 0} → Result Bundle BundleError → Result A ProgramError → Type 0
-IsRefused (Ok program) result = IfErr result (λ why. is_bad_file why ≡ false)
-IsRefused (Err e) result =
-    MatchResult result (λ _. ⊥) (λ why. (why ≡ refusal e) ⊎ (why ≡ none.Memory))
 
 -- what a program wrote was put, and it ended so
 abbrev pub IsPut : ℕ → Outcome → List ℕ → Change → Type 0

@@ -1,5 +1,5 @@
 -- How what the files make decides whether a run or a session fails by a bad source.
-use Rattle.std.specs.Prelude.{◌≡◌, ◌≢◌, ◌⊎◌, ℕ, Result, Ok, Err, IfErr, MatchResult}
+use Rattle.std.specs.Prelude.{◌≡◌, ◌≢◌, ◌⊎◌, ℕ, List, Result, Ok, Err, IfErr, MatchResult}
 use Rattle.dp_outside.specs.Causes.{Rose}
 use Rattle.dp_tree.specs.declared.bundle.Bundle.{Bundle}
 use Rattle.dp_bundle.specs.declared.errors.BundleError.{BundleError}
@@ -8,7 +8,9 @@ use Rattle.dp_top.specs.declared.failures.Failure.TheVariants.{NoFile, Memory}
 use Rattle.dp_top.specs.declared.failures.Refused.{Refused}
 use Rattle.dp_run.specs.Programs.{Holds}
 use Rattle.dp_words.specs.CommandLine.{Ask}
+use Rattle.dp_lists.specs.declared.event.Event.{Event}
 use Rattle.dp_top.specs.Failures.{status_of}
+use Rattle.dp_top.specs.Replay.{IsHeldList}
 use Rattle.dp_top.specs.Seen.{Seen}
 
 -- it is told as a bad source, or memory ran out
@@ -26,6 +28,13 @@ IsHeld (Ok program) result before after =
     IfErr result (λ why. (status_of why.failure ≢ 201) × (why.failure ≢ NoFile))
 IsHeld (Err e) result before after =
     MatchResult result (λ _. ⊥) (λ why. IsBadSource why.failure ⊎ Rose before after)
+
+-- likewise where the shelf tells the files of the program, and a list of events
+pub record AreHeldWith {A : Type 0} (events : List ℕ) (ask : Ask) (result : Result A Refused)
+    (old new : Seen) : Type 0 where
+  pub by_files : (asked : Result Bundle BundleError) → Holds old.shelf.files ask.names asked
+      → (list : List Event) → IsHeldList old.shelf.files events list
+      → IsHeld asked result old.shelf.faults new.shelf.faults
 
 -- likewise where the shelf tells the files of the program
 pub record AreHeld {A : Type 0} (ask : Ask) (result : Result A Refused)

@@ -13,6 +13,7 @@ is_plain (byte ∷ word) = not (is_option (byte ∷ word))
 abbrev pub has_bound : List ℕ → Bool
 has_bound name =
     bytes_eq name (codes "run") || bytes_eq name (codes "talk") || bytes_eq name (codes "engine")
+    || bytes_eq name (codes "replay")
 
 -- a bound stands directly behind the command, and before a word
 abbrev pub are_bounded : List (List ℕ) → Bool

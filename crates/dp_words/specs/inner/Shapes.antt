@@ -44,5 +44,5 @@ abbrev pub program : App
 program = record {
   top = record top { is_leaf = false };
   subs = bounded (codes "run") ∷ bounded (codes "talk") ∷ bounded (codes "engine")
-      ∷ unbounded (codes "ide") ∷ wordless (codes "show") ∷ [];
+      ∷ unbounded (codes "ide") ∷ bounded (codes "replay") ∷ wordless (codes "show") ∷ [];
 }

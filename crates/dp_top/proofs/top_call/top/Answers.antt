@@ -1,7 +1,9 @@
 use Rattle.std.proofs.Common.{rules, Ok, Err, ap, map, string_bytes, inl, arith}
 use Rattle.dp_top.proofs.TaskLaws.{asks_fetched, fails_told, told_above, complete_show_fails, shows_well, asks_show, asks_program, refused_told, complete_run_told, complete_talk_told, complete_engine_told, none_fetched, offline_done, offline_caused}
 use Rattle.dp_top.proofs.IdeLaws.{complete_ide_told, plays_well, script_held_told, script_refused_done, script_refused_told}
-use Rattle.dp_words.specs.CommandLine.{run, talk, engine, ide, show, Asks}
+use Rattle.dp_top.proofs.ReplayTold.{asks_replay, complete_replay_told, list_held_told, list_refused_done}
+use Rattle.dp_top.proofs.ReplayTold.{list_refused_told, replays_well}
+use Rattle.dp_words.specs.CommandLine.{run, talk, engine, ide, replay, show, Asks}
 use Rattle.dp_words.specs.Commands.{task_of}
 use Rattle.dp_top.proofs.top_call.top.Goals as goal
 
@@ -207,3 +209,72 @@ pub returns-in-Ok-clause-complete_ide : goal.returns-in-Ok-clause-complete_ide
 returns-in-Ok-clause-complete_ide g c = λ port script instructions is told held none.
     inl (plays_well _ _ (task_of c.in-Ok-Some.command) _ _ (rw c.in-Ok-Some.field-0-is at c.in-Ok-Some.ensures.found)
     c.in-Ok.ensures.ends port script is)
+
+pub returns-in-Ok-None-clause-list_refused : goal.returns-in-Ok-None-clause-list_refused
+returns-in-Ok-None-clause-list_refused g c =
+    λ events ask line made is bad holds. absurd (c.in-Ok-None.ensures.none (ap Ok c.in-Ok-None.field-0-is)
+    (replay events ask) is)
+
+pub returns-in-Ok-None-clause-replay_refused : goal.returns-in-Ok-None-clause-replay_refused
+returns-in-Ok-None-clause-replay_refused g c =
+    λ events ask list why is held holds. absurd (c.in-Ok-None.ensures.none (ap Ok c.in-Ok-None.field-0-is)
+    (replay events ask) is)
+
+pub returns-in-Ok-None-clause-complete_replay : goal.returns-in-Ok-None-clause-complete_replay
+returns-in-Ok-None-clause-complete_replay g c =
+    λ events ask list program is held holds none. absurd (c.in-Ok-None.ensures.none (ap Ok c.in-Ok-None.field-0-is)
+    (replay events ask) is)
+
+pub returns-in-Err-carry_out_on-clause-list_refused : goal.returns-in-Err-carry_out_on-clause-list_refused
+returns-in-Err-carry_out_on-clause-list_refused g c =
+    list_refused_told c.report.result _ (task_of c.in-Ok-Some.command) _ _ c.in-Err-carry_out_on.refused _ _
+    (rw c.in-Ok-Some.field-0-is at c.in-Ok-Some.ensures.found) c.in-Err-carry_out_on.ensures.ends
+    c.report.ensures.told
+
+pub returns-in-Err-carry_out_on-clause-list_held : goal.returns-in-Err-carry_out_on-clause-list_held
+returns-in-Err-carry_out_on-clause-list_held g c =
+    list_held_told c.report.result _ (task_of c.in-Ok-Some.command) _ _ c.in-Err-carry_out_on.refused _ _
+    (rw c.in-Ok-Some.field-0-is at c.in-Ok-Some.ensures.found) c.in-Err-carry_out_on.ensures.ends
+    c.report.ensures.told
+
+pub returns-in-Err-carry_out_on-clause-replay_refused : goal.returns-in-Err-carry_out_on-clause-replay_refused
+returns-in-Err-carry_out_on-clause-replay_refused g c = λ events ask list why is held holds.
+    refused_told c.report.result _ _ c.in-Err-carry_out_on.refused.failure _ _ c.report.ensures.told
+    ((c.in-Err-carry_out_on.ensures.replay_held events ask (asks_replay _ (task_of c.in-Ok-Some.command) events ask
+    (rw c.in-Ok-Some.field-0-is at c.in-Ok-Some.ensures.found) is)).by_files (Err why) holds list held)
+
+pub returns-in-Err-carry_out_on-clause-complete_replay : goal.returns-in-Err-carry_out_on-clause-complete_replay
+returns-in-Err-carry_out_on-clause-complete_replay g c = λ events ask list program is held holds none.
+    complete_replay_told c.report.result _ (task_of c.in-Ok-Some.command) _ _ c.in-Err-carry_out_on.refused _ _
+    (rw c.in-Ok-Some.field-0-is at c.in-Ok-Some.ensures.found) c.in-Err-carry_out_on.ensures.ends
+    c.report.ensures.told
+    events ask list is holds.tells held
+    ((c.in-Err-carry_out_on.ensures.replay_held events ask (asks_replay _ (task_of c.in-Ok-Some.command) events ask
+    (rw c.in-Ok-Some.field-0-is at c.in-Ok-Some.ensures.found) is)).by_files (Ok program) holds list held)
+    (record {
+      shelf = none.shelf;
+      input_not = none.input_not;
+      out_not = none.out_not;
+      err_not = λ rose. none.err_not (omega (arith, rose, c.report.ensures.later));
+      net_not = none.net_not;
+      returned_not = none.returned_not;
+    })
+
+pub returns-in-Ok-clause-list_refused : goal.returns-in-Ok-clause-list_refused
+returns-in-Ok-clause-list_refused g c = λ events ask line made is bad holds.
+    absurd (list_refused_done _ _ (task_of c.in-Ok-Some.command) _ _
+    (rw c.in-Ok-Some.field-0-is at c.in-Ok-Some.ensures.found) c.in-Ok.ensures.ends events ask line made is bad
+    holds)
+
+pub returns-in-Ok-clause-list_held : goal.returns-in-Ok-clause-list_held
+returns-in-Ok-clause-list_held g c = λ events ask list is some held e. omega (arith, c.in-Ok.ensures.status, e)
+
+pub returns-in-Ok-clause-replay_refused : goal.returns-in-Ok-clause-replay_refused
+returns-in-Ok-clause-replay_refused g c = λ events ask list why is held holds.
+    absurd ((c.in-Ok.ensures.replay_held events ask (asks_replay _ (task_of c.in-Ok-Some.command) events ask
+    (rw c.in-Ok-Some.field-0-is at c.in-Ok-Some.ensures.found) is)).by_files (Err why) holds list held)
+
+pub returns-in-Ok-clause-complete_replay : goal.returns-in-Ok-clause-complete_replay
+returns-in-Ok-clause-complete_replay g c = λ events ask list program is held holds none.
+    inl (replays_well _ _ (task_of c.in-Ok-Some.command) _ _ (rw c.in-Ok-Some.field-0-is at c.in-Ok-Some.ensures.found)
+    c.in-Ok.ensures.ends events ask is)

@@ -17,11 +17,13 @@ returns c =
     let talk_is : shape_of c.in_ok-bounded-2.field-0 ≡ bounded (codes "talk") = search rules in
     let engine_is : shape_of c.in_ok-bounded-3.field-0 ≡ bounded (codes "engine") = search rules in
     let ide_is : shape_of c.in_ok-unbounded.field-0 ≡ unbounded (codes "ide") = search rules in
+    let replay_is : shape_of c.in_ok-bounded-4.field-0 ≡ bounded (codes "replay") = search rules in
     let show_is : shape_of c.new.result ≡ wordless (codes "show") = ap (λ (a : App). a.top) c.new.ensures.app in
     let one = c.in_ok-subcommand.ensures.shape (local _ _ run_is refl) ∙ ap₂ with_subcommand c.settings.ensures run_is
     in
     let two = c.in_ok-subcommand-2.ensures.shape (local _ _ talk_is refl) ∙ ap₂ with_subcommand one talk_is in
     let three = c.in_ok-subcommand-3.ensures.shape (local _ _ engine_is refl) ∙ ap₂ with_subcommand two engine_is in
     let four = c.in_ok-subcommand-4.ensures.shape (local _ _ ide_is refl) ∙ ap₂ with_subcommand three ide_is in
-    IfOk-weaker c.subcommand-5.result _ _ (λ r h. h.shape c.new.ensures.local ∙ ap₂ with_subcommand four show_is)
-    c.subcommand-5.ensures
+    let five = c.in_ok-subcommand-5.ensures.shape (local _ _ replay_is refl) ∙ ap₂ with_subcommand four replay_is in
+    IfOk-weaker c.subcommand-6.result _ _ (λ r h. h.shape c.new.ensures.local ∙ ap₂ with_subcommand five show_is)
+    c.subcommand-6.ensures

@@ -1,8 +1,12 @@
-use Rattle.dp_run.proofs.RunLaws.{made_ok, made_err, only_ok, only_err}
-use Rattle.dp_run.proofs.programs.make.Goals as goal
+use Rattle.dp_run.proofs.RunLaws.{made_ok, made_err, names_made, only_ok, only_err}
+use Rattle.dp_run.proofs.programs.make_program.Goals as goal
 
 pub returns-in-Ok-clause-ok : goal.returns-in-Ok-clause-ok
 returns-in-Ok-clause-ok c = made_ok c.args.fetched c.in-Ok.program c.in-Ok.ensures.made
+
+pub returns-in-Ok-clause-named : goal.returns-in-Ok-clause-named
+returns-in-Ok-clause-named c =
+    names_made 0 c.args.fetched c.in-Ok.program.files (made_ok c.args.fetched c.in-Ok.program c.in-Ok.ensures.made)
 
 pub returns-in-Ok-clause-only : goal.returns-in-Ok-clause-only
 returns-in-Ok-clause-only c = λ asked makes. only_ok c.in-Ok.program c.in-Ok.program asked

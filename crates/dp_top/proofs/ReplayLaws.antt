@@ -1,0 +1,295 @@
+-- What a replay came to decides the end of `replay`.
+use Rattle.std.proofs.Common.{◌≡◌, ◌⊎◌, inl, inr, ℕ, suc, ◌+◌, false, true, ◌<◌, ◌≤◌, List, [], ◌∷◌, ◌++◌, length, map, take, Option, None, Some, IsSome, Result, Ok, Err, refl, sym, ap, ◌∙◌, subst, arith, append_assoc}
+use Rattle.std.specs.Prelude.{MatchResult, IfOk, IfErr}
+use Rattle.dp_outside.specs.Causes.{Rose}
+use Rattle.dp_outside.specs.Changes.{Change, IsUntouched}
+use Rattle.dp_outside.specs.Files.{Fetches, Lacks}
+use Rattle.dp_outside.specs.Telling.{grown}
+use Rattle.dp_bundle.specs.Bundles.{Given, Makes}
+use Rattle.dp_tree.specs.declared.bundle.Bundle.{Bundle}
+use Rattle.dp_bundle.specs.declared.errors.BundleError.{BundleError}
+use Rattle.std.proofs.lemmas.Option.{same_Some}
+use Rattle.dp_lists.specs.declared.event.Event.{Event}
+use Rattle.dp_lists.specs.Lists.{IsFirstBad}
+use Rattle.dp_lists.proofs.ListLaws.{bad_excludes}
+use Rattle.dp_run.specs.declared.error.ProgramError.{ProgramError}
+use Rattle.dp_run.specs.declared.error.ProgramError.TheVariants as none
+use Rattle.dp_run.specs.Programs.{AreFetched, Files, IsHeld as IsRunHeld, IsMade, IsUnread, Make, NoProgram, Told}
+use Rattle.dp_run.proofs.RunLaws.{program_caused, program_made}
+use Rattle.dp_world.specs.declared.errors.ReplayError.TheVariants as ends
+use Rattle.dp_world.specs.Replays.{Replays}
+use Rattle.dp_top.specs.declared.failures.Failure.{Failure}
+use Rattle.dp_top.specs.declared.failures.Failure.TheVariants as failure
+use Rattle.dp_top.specs.declared.failures.Refused.{Refused}
+use Rattle.dp_top.specs.Failures.{status_of}
+use Rattle.dp_top.specs.inner.Held.{IsHeld}
+use Rattle.dp_top.specs.Replay.{IsBadAt, IsHeldList, IsReplayed, ReadBefore, ReplayFails, Unlisted, list_limit}
+use Rattle.dp_top.specs.Runs.{AreFetched as OnlyFetched, IsProgramTold}
+use Rattle.dp_top.specs.inner.Replaying.{EndsFetched, EndsOver, EndsReplay, IsBadList, IsWholeList, UnlistedSo}
+use Rattle.dp_words.specs.CommandLine.{Ask}
+
+-- ---- the list
+
+-- why bytes of a file are no list
+pub bad_list : (why : Failure) (name events bytes : List ℕ) (files : Files) (before after : ℕ)
+    → Fetches files events list_limit bytes → IsBadList why name bytes
+    → UnlistedSo why name events files before after
+bad_list (failure.Script line) name events bytes files before after fetched bad =
+    inr (bad.0, record { content = bytes; fetched = fetched; bad = bad.1 })
+bad_list failure.Memory name events bytes files before after fetched bad = inl refl
+bad_list failure.TooLong name events bytes files before after fetched bad = absurd bad
+bad_list (failure.Source reason number) name events bytes files before after fetched bad = absurd bad
+bad_list failure.ShelfFailed name events bytes files before after fetched bad = absurd bad
+bad_list failure.NoFile name events bytes files before after fetched bad = absurd bad
+bad_list (failure.Fatal kind line) name events bytes files before after fetched bad = absurd bad
+bad_list (failure.Bound steps) name events bytes files before after fetched bad = absurd bad
+bad_list failure.Output name events bytes files before after fetched bad = absurd bad
+bad_list (failure.Differs line wanted found) name events bytes files before after fetched bad = absurd bad
+bad_list failure.PeerEnd name events bytes files before after fetched bad = absurd bad
+bad_list (failure.Packet offset) name events bytes files before after fetched bad = absurd bad
+bad_list failure.Network name events bytes files before after fetched bad = absurd bad
+bad_list failure.Stopped name events bytes files before after fetched bad = absurd bad
+
+pub unlisted_fails : (why : Failure) (name events : List ℕ) (ask : Ask) (files : Files) (before after : ℕ)
+    (out : Change)
+    → UnlistedSo why name events files before after → IsUntouched out
+    → ReplayFails why name events ask files before after out
+unlisted_fails why name events ask files before after out (inl memory) idle = inl (memory, inl idle)
+unlisted_fails why name events ask files before after out (inr unlisted) idle = inr (inl (unlisted, idle))
+
+pub held_list : (files : Files) (name content : List ℕ) (events : List Event) → Fetches files name list_limit content
+    → IsWholeList content events → IsHeldList files name events
+held_list files name content events fetched whole =
+    record { content = content; fetched = fetched; fits = whole.fits; is_list = whole.is_list }
+
+-- a told file has one content
+one_content : (files : Files) (name first other : List ℕ) → IsSome files → Fetches files name list_limit first
+    → Fetches files name list_limit other → first ≡ other
+one_content None name first other told p q = absurd cc
+one_content (Some files) name first other told p q =
+    let same : Some p.0 ≡ Some q.0 = sym p.1 ∙ q.1 in
+    p.2 ∙ ap (take (list_limit + 1)) (same_Some p.0 q.0 same) ∙ sym q.2
+
+-- a list is not bad, and not lacking
+pub held_or_bad : (files : Files) (name content : List ℕ) (events : List Event) (line : ℕ) → IsSome files
+    → IsHeldList files name events → Fetches files name list_limit content
+    → IsBadAt content line → ⊥
+held_or_bad files name content events line told held fetched bad = by bad where
+  same : content ≡ held.content
+  same = one_content files name content held.content told fetched held.fetched
+
+  by : IsBadAt content line → ⊥
+  by (inl long) = omega (arith, long.1, ap length same, held.fits)
+  by (inr first) =
+      bad_excludes held.content line events (subst (λ (l : List ℕ). IsFirstBad l line) same first.1) held.is_list
+
+pub held_or_lacking : (files : Files) (name content : List ℕ) → IsSome files → Fetches files name list_limit content
+    → Lacks files name → ⊥
+held_or_lacking None name content told p lacks = absurd cc
+held_or_lacking (Some files) name content told p lacks = let both : Some p.0 ≡ None = sym p.1 ∙ lacks in cc
+
+-- want of memory is no bad source, and told where there is one
+memory_held : (asked : Result Bundle BundleError) (refused : Refused) (before after : ℕ)
+    → refused.failure ≡ failure.Memory → IsHeld {A = ℕ} asked (Err refused) before after
+memory_held (Ok program) refused before after is = (
+  (λ e. omega (arith, ap status_of is, e)),
+  (λ e. let clash : failure.Memory ≡ failure.NoFile = sym is ∙ e in absurd
+      cc),
+)
+memory_held (Err e) refused before after is = inl (inr is)
+
+module _ (files : Files) (before after : ℕ) (events : List ℕ) (list : List Event) (held : IsHeldList files events list)
+    (told : IsSome files) (asked : Result Bundle BundleError)
+    (refused : Refused) where
+  -- bytes that are no list
+  pub bad_held : (content : List ℕ) → Fetches files events list_limit content
+      → IsBadList refused.failure refused.name.now content → IsHeld {A = ℕ} asked (Err refused) before after
+  bad_held content fetched bad = by refused.failure refl bad where
+    by : (why : Failure) → refused.failure ≡ why → IsBadList why refused.name.now content
+        → IsHeld {A = ℕ} asked (Err refused) before after
+    by (failure.Script line) is b = absurd (held_or_bad files events content list line told held fetched b.1)
+    by failure.Memory is b = memory_held asked refused before after is
+    by failure.TooLong is b = absurd b
+    by (failure.Source reason number) is b = absurd b
+    by failure.ShelfFailed is b = absurd b
+    by failure.NoFile is b = absurd b
+    by (failure.Fatal kind line) is b = absurd b
+    by (failure.Bound steps) is b = absurd b
+    by failure.Output is b = absurd b
+    by (failure.Differs line wanted found) is b = absurd b
+    by failure.PeerEnd is b = absurd b
+    by (failure.Packet offset) is b = absurd b
+    by failure.Network is b = absurd b
+    by failure.Stopped is b = absurd b
+
+  -- a list that was not fetched
+  pub unlisted_held : UnlistedSo refused.failure refused.name.now events files before after
+      → IsHeld {A = ℕ} asked (Err refused) before after
+  unlisted_held (inl memory) = memory_held asked refused before after memory
+  unlisted_held (inr unlisted) = by refused.failure refl unlisted where
+    failed : (a : Result Bundle BundleError) → refused.failure ≡ failure.ShelfFailed → Rose before after
+        → IsHeld {A = ℕ} a (Err refused) before after
+    failed (Ok program) is rose = (
+      (λ e. omega (arith, ap status_of is, e)),
+      (λ e. let clash : failure.ShelfFailed ≡ failure.NoFile = sym is ∙ e
+          in absurd cc),
+    )
+    failed (Err e) is rose = inr rose
+
+    by : (why : Failure) → refused.failure ≡ why → Unlisted why refused.name.now events files before after
+        → IsHeld {A = ℕ} asked (Err refused) before after
+    by failure.ShelfFailed is u = failed asked is u.1
+    by failure.NoFile is u = absurd (held_or_lacking files events held.content told held.fetched u.1)
+    by (failure.Script line) is u =
+        absurd (held_or_bad files events u.1.content list line told held u.1.fetched u.1.bad)
+    by failure.Memory is u = absurd u
+    by failure.TooLong is u = absurd u
+    by (failure.Source reason number) is u = absurd u
+    by (failure.Fatal kind line) is u = absurd u
+    by (failure.Bound steps) is u = absurd u
+    by failure.Output is u = absurd u
+    by (failure.Differs line wanted found) is u = absurd u
+    by failure.PeerEnd is u = absurd u
+    by (failure.Packet offset) is u = absurd u
+    by failure.Network is u = absurd u
+    by failure.Stopped is u = absurd u
+
+-- a list that was replayed over a program
+pub over_held : (asked : Result Bundle BundleError) (program : Bundle) (result : Result ℕ Refused) (list : List Event)
+    (bound before after : ℕ) (out : Change)
+    → IsRunHeld {A = Bundle} asked (Ok program) before after → EndsOver result list program bound out
+    → IsHeld asked result before after
+over_held (Err e) program result list bound before after out h over = absurd h
+over_held (Ok made) program (Ok status) list bound before after out h over = tt
+over_held (Ok made) program (Err why) list bound before after out h over = by over.1 where
+  good : (w : Failure) → why.failure ≡ w → (status_of w ≡ 201 → ⊥) → (w ≡ failure.NoFile → ⊥)
+      → (status_of why.failure ≡ 201 → ⊥) × (why.failure ≡ failure.NoFile → ⊥)
+  good w is p q = ((λ e. p (sym (ap status_of is) ∙ e)), (λ e. q (sym is ∙ e)))
+
+  by : ((why.failure ≡ failure.Output) × Replays (Err ends.OutFault) program bound list out)
+      ⊎ ((why.failure ≡ failure.Memory) × Replays (Err ends.Memory) program bound list out)
+      → (status_of why.failure ≡ 201 → ⊥) × (why.failure ≡ failure.NoFile → ⊥)
+  by (inl o) = good failure.Output o.0 (λ e. omega (arith, e)) (λ e. absurd cc)
+  by (inr m) = good failure.Memory m.0 (λ e. omega (arith, e)) (λ e. absurd cc)
+
+-- ---- what was fetched
+
+module _ (files : Files) (before after : ℕ) (events : List ℕ) (ask : Ask) (out : Change) where
+  module _ (list : List Event) (held : IsHeldList files events list) where
+    read_before : (why : ProgramError) → ReadBefore why files events
+    read_before (none.TooLong file) = (list, held)
+    read_before (none.Source file why) = (list, held)
+    read_before (none.Shelf file) = tt
+    read_before (none.Missing file) = tt
+    read_before none.Memory = tt
+
+    module _ (fetched : List Given) (are : AreFetched files ask.names fetched) where
+      -- the files make no program
+      pub unmade_fails : (cause : ProgramError) (why : Failure) (name : List ℕ) → IsMade fetched cause
+          → IsProgramTold why name ask cause → IsUntouched out
+          → ReplayFails why name events ask files before after out
+      unmade_fails cause why name made told idle =
+          inr (inr (inl (
+            record {
+              cause = cause;
+              caused = program_caused files before after ask.names fetched are (Err cause) made;
+              read = read_before cause;
+              told = told;
+            },
+            idle,
+          )))
+
+      -- the list was replayed over the program
+      pub over_ends : (result : Result ℕ Refused) (program : Bundle) → Makes fetched (Ok program)
+          → EndsOver result list program ask.bound out
+          → EndsReplay result events ask files before after out
+      over_ends (Ok status) program makes h = (
+        h.0,
+        record {
+          events = list;
+          held = held;
+          program = program;
+          made = program_made files before after ask.names fetched are (Ok program) makes;
+          replays = h.1;
+        },
+      )
+      over_ends (Err why) program makes h = by h.1 where
+        made : Make files ask.names (Ok program)
+        made = program_made files before after ask.names fetched are (Ok program) makes
+
+        by : ((why.failure ≡ failure.Output) × Replays (Err ends.OutFault) program ask.bound list out)
+            ⊎ ((why.failure ≡ failure.Memory) × Replays (Err ends.Memory) program ask.bound list out)
+            → ReplayFails why.failure why.name.now events ask files before after out
+        by (inl e) = inr (inr (inr (record {
+          is_why = e.0;
+          is_name = h.0;
+          replayed = record { events = list; held = held; program = program; made = made; replays = e.1 };
+        })))
+        by (inr e) =
+            inl (
+              e.0,
+              inr (
+                Err ends.Memory,
+                record {
+                  events = list;
+                  held = held;
+                  program = program;
+                  made = made;
+                  replays
+                      = e.1;
+                },
+              ),
+            )
+
+  pub since : (first : ℕ) → before ≤ first → (c : ProgramError) → NoProgram c files first after ask.names
+      → NoProgram c files before after ask.names
+  since first earlier (none.Shelf file) h = (h.0, (let rose = h.1 in omega arith))
+  since first earlier (none.Missing file) h = h
+  since first earlier (none.TooLong file) h = h
+  since first earlier (none.Source file why) h = h
+  since first earlier none.Memory h = tt
+
+  -- the files were not fetched
+  pub unfetched_fails : (cause : ProgramError) (why : Failure) (name : List ℕ) (first : ℕ) → before ≤ first
+      → NoProgram cause files first after ask.names → IsUnread cause
+      → IsProgramTold why name ask cause → IsUntouched out → ReplayFails why name events ask files before after out
+  unfetched_fails cause why name first earlier caused unread told idle =
+      inr (inr (inl (
+        record {
+          cause = cause;
+          caused = since first earlier cause caused;
+          read = unread_before cause
+              unread;
+          told = told;
+        },
+        idle,
+      )))
+    where
+      unread_before : (c : ProgramError) → IsUnread c → ReadBefore c files events
+      unread_before (none.Shelf file) u = tt
+      unread_before (none.Missing file) u = tt
+      unread_before none.Memory u = tt
+      unread_before (none.TooLong file) u = absurd u
+      unread_before (none.Source file why) u = absurd u
+
+pub status_small : (result : Result ℕ Refused) (events : List ℕ) (ask : Ask) (files : Files) (before after : ℕ)
+    (out : Change)
+    → EndsReplay result events ask files before after out → IfOk result (λ status. status ≤ 199)
+status_small (Ok status) events ask files before after out h = omega (arith, h.0)
+status_small (Err why) events ask files before after out h = tt
+
+-- ---- which files are fetched
+
+grown_twice : (told : Told) (first : List ℕ) (names : List (List ℕ))
+    → grown (grown told (first ∷ [])) names ≡ grown told (first ∷ names)
+grown_twice None first names = refl
+grown_twice (Some told) first names = ap Some (append_assoc told (first ∷ []) names)
+
+pub only_first : (before after : Told) (first : List ℕ) (names : List (List ℕ)) → after ≡ grown before (first ∷ [])
+    → OnlyFetched (first ∷ names) before after
+only_first before after first names e = (1, e)
+
+pub first_and : (before mid after : Told) (first : List ℕ) (names : List (List ℕ)) → mid ≡ grown before (first ∷ [])
+    → OnlyFetched names mid after → OnlyFetched (first ∷ names) before after
+first_and before mid after first names e h =
+    (suc h.0, h.1 ∙ ap (λ (t : Told). grown t (take h.0 names)) e ∙ grown_twice before first (take h.0 names))

@@ -1,0 +1,105 @@
+-- The command `replay`: what it does, and why it fails.
+use Rattle.std.specs.Prelude.{◌≡◌, ◌⊎◌, ℕ, ◌<◌, ◌≤◌, List, [], length, Result, Ok, Err}
+use Rattle.dp_outside.specs.Causes.{Rose}
+use Rattle.dp_outside.specs.Changes.{Change, IsUntouched}
+use Rattle.dp_outside.specs.Files.{Fetches, Lacks}
+use Rattle.dp_tree.specs.declared.bundle.Bundle.{Bundle}
+use Rattle.dp_lists.specs.declared.event.Event.{Event}
+use Rattle.dp_lists.specs.Lists.{IsFirstBad, IsList}
+use Rattle.dp_run.specs.declared.error.ProgramError.{ProgramError}
+use Rattle.dp_run.specs.declared.error.ProgramError.TheVariants as none
+use Rattle.dp_run.specs.Programs.{Files, Make, NoProgram}
+use Rattle.dp_world.specs.declared.errors.ReplayError.{ReplayError}
+use Rattle.dp_world.specs.declared.errors.ReplayError.TheVariants as ends
+use Rattle.dp_world.specs.Replays.{Replays}
+use Rattle.dp_top.specs.declared.failures.Failure.{Failure}
+use Rattle.dp_top.specs.declared.failures.Failure.TheVariants as failure
+use Rattle.dp_words.specs.CommandLine.{Ask}
+use Rattle.dp_top.specs.Runs.{IsProgramTold}
+
+-- ---- the list of events
+
+-- the most bytes of a list
+abbrev pub list_limit : ℕ
+list_limit = 1048576
+
+-- the file is a list of these events
+pub record IsHeldList (files : Files) (name : List ℕ) (events : List Event) : Type 0 where
+  pub content : List ℕ
+  pub fetched : Fetches files name list_limit content
+  pub fits : length content ≤ list_limit
+  pub is_list : IsList content events
+
+-- Where a file is no list: the first line that adds nothing to those before it, or 0 where it is
+-- too long.
+abbrev pub IsBadAt : List ℕ → ℕ → Type 0
+IsBadAt content line =
+    ((line ≡ 0) × (list_limit < length content))
+    ⊎ ((length content ≤ list_limit) × IsFirstBad content line)
+
+pub record IsNoList (files : Files) (name : List ℕ) (line : ℕ) : Type 0 where
+  pub content : List ℕ
+  pub fetched : Fetches files name list_limit content
+  pub bad : IsBadAt content line
+
+-- ---- what it does
+
+-- the list of this name was replayed over the program, and ended so
+pub record IsReplayed (end : Result (Unit {0}) ReplayError) (name : List ℕ) (ask : Ask)
+    (files : Files) (out : Change) : Type 0 where
+  pub events : List Event
+  pub held : IsHeldList files name events
+  pub program : Bundle
+  pub made : Make files ask.names (Ok program)
+  pub replays : Replays end program ask.bound events out
+
+abbrev pub DoesReplay : ℕ → List ℕ → Ask → Files → Change → Type 0
+DoesReplay status events ask files out =
+    (status ≡ 0) × IsReplayed (Ok tt) events ask files out
+
+-- ---- why it fails
+
+-- there is no list: the shelf failed, lacks it, or what it has is none
+abbrev pub Unlisted : Failure → List ℕ → List ℕ → Files → ℕ → ℕ → Type 0
+Unlisted failure.ShelfFailed name events files before after =
+    (name ≡ events) × Rose before after
+Unlisted failure.NoFile name events files before after = (name ≡ events) × Lacks files events
+Unlisted (failure.Script line) name events files before after =
+    (name ≡ []) × IsNoList files events line
+Unlisted other name events files before after = ⊥
+
+-- the list is read before a file of the program is refused
+abbrev pub ReadBefore : ProgramError → Files → List ℕ → Type 0
+ReadBefore (none.TooLong file) files name = (events : List Event) × IsHeldList files name events
+ReadBefore (none.Source file why) files name =
+    (events : List Event) × IsHeldList files name events
+ReadBefore why files name = Unit {0}
+
+-- there is no program
+pub record IsUnmade (why : Failure) (name events : List ℕ) (ask : Ask) (files : Files)
+    (before after : ℕ) : Type 0 where
+  pub cause : ProgramError
+  pub caused : NoProgram cause files before after ask.names
+  pub read : ReadBefore cause files events
+  pub told : IsProgramTold why name ask cause
+
+-- the output failed
+pub record IsCutShort (why : Failure) (name events : List ℕ) (ask : Ask) (files : Files)
+    (out : Change) : Type 0 where
+  pub is_why : why ≡ failure.Output
+  pub is_name : name ≡ []
+  pub replayed : IsReplayed (Err ends.OutFault) events ask files out
+
+-- memory ran out before anything was put, or once the list was replayed, to whatever end
+abbrev pub IsStarved : List ℕ → Ask → Files → Change → Type 0
+IsStarved events ask files out =
+    IsUntouched out
+    ⊎ ((end : Result (Unit {0}) ReplayError) × IsReplayed end events ask files out)
+
+-- why it failed
+abbrev pub ReplayFails : Failure → List ℕ → List ℕ → Ask → Files → ℕ → ℕ → Change → Type 0
+ReplayFails why name events ask files before after out =
+    ((why ≡ failure.Memory) × IsStarved events ask files out)
+    ⊎ (Unlisted why name events files before after × IsUntouched out)
+    ⊎ (IsUnmade why name events ask files before after × IsUntouched out)
+    ⊎ IsCutShort why name events ask files out

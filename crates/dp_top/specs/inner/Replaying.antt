@@ -1,0 +1,64 @@
+-- What the code tells of a list of events that is replayed.
+use Rattle.std.specs.Prelude.{◌≡◌, ◌⊎◌, ℕ, ◌≤◌, List, [], length, Result, Ok, Err, MatchResult, ⊤}
+use Rattle.dp_outside.specs.Changes.{Change}
+use Rattle.dp_outside.specs.Files.{Fetches}
+use Rattle.dp_bundle.specs.Bundles.{Given}
+use Rattle.dp_lists.specs.declared.event.Event.{Event}
+use Rattle.dp_lists.specs.Lists.{IsList}
+use Rattle.dp_bundle.specs.declared.errors.BundleError.{BundleError}
+use Rattle.dp_run.specs.Programs.{AreFetched, Files, Holds}
+use Rattle.dp_tree.specs.declared.bundle.Bundle.{Bundle}
+use Rattle.dp_world.specs.declared.errors.ReplayError.TheVariants as ends
+use Rattle.dp_world.specs.Replays.{Replays}
+use Rattle.dp_top.specs.declared.failures.Failure.{Failure}
+use Rattle.dp_top.specs.declared.failures.Failure.TheVariants as failure
+use Rattle.dp_top.specs.declared.failures.Refused.{Refused}
+use Rattle.dp_top.specs.Replay.{DoesReplay, IsBadAt, IsHeldList, ReplayFails, Unlisted}
+use Rattle.dp_top.specs.Replay.{list_limit}
+use Rattle.dp_top.specs.inner.Held.{IsHeld}
+use Rattle.dp_words.specs.CommandLine.{Ask}
+
+-- the bytes are a list of events, and not too many
+pub record IsWholeList (bytes : List ℕ) (events : List Event) : Type 0 where
+  pub fits : length bytes ≤ list_limit
+  pub is_list : IsList bytes events
+
+-- why they are none, or memory ran out
+abbrev pub IsBadList : Failure → List ℕ → List ℕ → Type 0
+IsBadList (failure.Script line) name bytes = (name ≡ []) × IsBadAt bytes line
+IsBadList failure.Memory name bytes = ⊤
+IsBadList other name bytes = ⊥
+
+abbrev pub UnlistedSo : Failure → List ℕ → List ℕ → Files → ℕ → ℕ → Type 0
+UnlistedSo why name events files before after =
+    (why ≡ failure.Memory) ⊎ Unlisted why name events files before after
+
+-- how a replay of this list over this program ends
+abbrev pub EndsOver : Result ℕ Refused → List Event → Bundle → ℕ → Change → Type 0
+EndsOver (Ok status) events program bound out =
+    (status ≡ 0) × Replays (Ok tt) program bound events out
+EndsOver (Err why) events program bound out =
+    (why.name.now ≡ []) × (((why.failure ≡ failure.Output)
+    × Replays (Err ends.OutFault) program bound events out)
+    ⊎ ((why.failure ≡ failure.Memory) × Replays (Err ends.Memory) program bound events out))
+
+-- how a replay ends
+abbrev pub EndsReplay : Result ℕ Refused → List ℕ → Ask → Files → ℕ → ℕ → Change → Type 0
+EndsReplay result events ask files before after out =
+    MatchResult result (λ status. DoesReplay status events ask files out)
+    (λ why. ReplayFails why.failure why.name.now events ask files before after out)
+
+-- what was fetched of a shelf that holds the list is no bad source, if the files make a program,
+-- and one if they make none
+abbrev pub HeldFetched : Result ℕ Refused → List ℕ → List ℕ → List Given → Ask → Type 0
+HeldFetched result events content fetched ask =
+    (files : Files) (before after : ℕ) → Fetches files events list_limit content
+    → AreFetched files ask.names fetched → (asked : Result Bundle BundleError)
+    → Holds files ask.names asked → (list : List Event) → IsHeldList files events list
+    → IsHeld asked result before after
+
+-- likewise of what was fetched of any shelf that holds it
+abbrev pub EndsFetched : Result ℕ Refused → List ℕ → List ℕ → List Given → Ask → Change → Type 0
+EndsFetched result events content fetched ask out =
+    (files : Files) (before after : ℕ) → Fetches files events list_limit content
+    → AreFetched files ask.names fetched → EndsReplay result events ask files before after out

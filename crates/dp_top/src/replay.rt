@@ -1,0 +1,176 @@
+//! The command `replay`: the transcript of a list of events, with engines in memory.
+ghost use Rattle.std.specs.Prelude.{◌≡◌, ◌∷◌, ◌<◌, ◌≤◌, [], List, Result, map, IfOk, IfErr, MatchResult};
+ghost use Rattle.dp_outside.specs.Changes.{change};
+ghost use Rattle.dp_outside.specs.Files.{Fetches};
+ghost use Rattle.dp_outside.specs.Telling.{grown};
+ghost use Rattle.dp_bundle.specs.Bundles.{AreForBundle};
+ghost use Rattle.dp_bundle.specs.declared.errors.BundleError.{BundleError as Unmade};
+ghost use Rattle.dp_lists.specs.declared.event.Event.{Event};
+ghost use Rattle.dp_run.specs.Programs.{Holds};
+ghost use Rattle.dp_tree.specs.declared.bundle.Bundle.{Bundle as Made};
+ghost use Rattle.dp_tree.specs.FileNames.{AreFileNames};
+ghost use Rattle.dp_words.specs.CommandLine.{AreFileWords};
+ghost use Rattle.dp_words.specs.Commands.{ask_told};
+ghost use Rattle.dp_top.specs.Replay.{IsHeldList, list_limit};
+ghost use Rattle.dp_top.specs.Runs.{AreFetched};
+ghost use Rattle.dp_top.specs.inner.Held.{IsHeld};
+ghost use Rattle.dp_top.specs.inner.Replaying.{EndsFetched, EndsOver, EndsReplay, HeldFetched, IsBadList};
+ghost use Rattle.dp_top.specs.inner.Replaying.{IsWholeList, UnlistedSo};
+
+use crate::failures::{Failure, Refused};
+use crate::run::told_of_files;
+use dp_engine::Steps;
+use dp_lists::{Events, ListError};
+use dp_outside::{Bytes1, Shelf, ShelfError, Sink};
+use dp_run::{fetch_files, make_program};
+use dp_tree::Bundle;
+use dp_value::{Bytes, Items};
+use dp_words::Replay;
+use dp_world::ReplayError;
+use std::alloc::Global;
+use std::marker::Brand;
+use std::sync::ledger::{Blank, Ledger};
+
+/// The most bytes of a list of events.
+const LIST_LIMIT: usize = 1_048_576;
+
+/// The failure that it is that a list was not fetched.
+fn unfetched<'a>(events: &'a str, why: ShelfError) -> Refused<'a>
+    ensures failed { why ≡ ShelfError.Failed → (result.failure ≡ Failure.ShelfFailed) × (result.name.now ≡ events.now) }
+    ensures missing { why ≡ ShelfError.Missing → (result.failure ≡ Failure.NoFile) × (result.name.now ≡ events.now) }
+    ensures memory { why ≡ ShelfError.Memory → result.failure ≡ Failure.Memory }
+{
+    match why {
+        ShelfError::Failed => Refused {
+            failure: Failure::ShelfFailed,
+            name: events.as_bytes(),
+        },
+        ShelfError::Missing => Refused {
+            failure: Failure::NoFile,
+            name: events.as_bytes(),
+        },
+        ShelfError::Memory => Refused::unnamed(Failure::Memory),
+    }
+}
+
+/// What the file of this name has.
+fn fetch_list<'a, H: Shelf>(
+    alloc: Global,
+    events: &'a str,
+    shelf: &mut H,
+) -> Result<Bytes1, Refused<'a>>
+    ensures held { IfOk result (Fetches (H.files shelf.old) events.now list_limit) }
+    ensures unlisted { IfErr result (λ why. UnlistedSo why.failure why.name.now events.now (H.files shelf.old)
+        (H.faults shelf.old) (H.faults shelf.new)) }
+    ensures fetched { H.fetched shelf.new ≡ grown (H.fetched shelf.old) (events.now ∷ []) }
+    ensures files { H.files shelf.new ≡ H.files shelf.old }
+    ensures later { H.faults shelf.old ≤ H.faults shelf.new }
+{
+    match shelf.fetch(alloc, events, LIST_LIMIT) {
+        Ok(content) => Ok(content),
+        Err(why) => Err(unfetched(events, why)),
+    }
+}
+
+/// The list of events that bytes are.
+fn list_in<'a>(alloc: Global, bytes: &[u8]) -> Result<Events, Refused<'a>>
+    ensures list { IfOk result (IsWholeList bytes.now) }
+    ensures bad { IfErr result (λ why. IsBadList why.failure why.name.now bytes.now) }
+{
+    if bytes.len() > LIST_LIMIT {
+        return Err(Refused::unnamed(Failure::Script { line: 0 }));
+    }
+    match Events::read(alloc, bytes) {
+        Ok(events) => Ok(events),
+        Err(ListError::BadLine { line }) => Err(Refused::unnamed(Failure::Script {
+            line: line as u64,
+        })),
+        Err(ListError::Memory) => Err(Refused::unnamed(Failure::Memory)),
+    }
+}
+
+/// Replays a list of events over a program, with a ledger for the steps of its engines.
+fn replay_over<'a, K: Sink, L: Ledger>(
+    alloc: Global,
+    events: &Events,
+    bundle: &Bundle,
+    bound: u64,
+    out: &mut K,
+    blank: Blank,
+) -> Result<u8, Refused<'a>>
+    requires name { blank.name ≡ L.name }
+    requires parts { blank.parts ≡ L.parts }
+    requires some { 0 < blank.parts }
+    requires names { AreFileNames (map (λ file. file.name) bundle.now.files) }
+    ensures ends { EndsOver result events.now bundle.now bound (change K.taken K.faults out.old out.new) }
+    ensures out_later { K.faults out.old ≤ K.faults out.new }
+{
+    let mut steps = Steps::<L>::new(blank);
+    match dp_world::replay(alloc, events, bundle, bound, out, &mut steps) {
+        Ok(()) => Ok(0),
+        Err(ReplayError::OutFault) => Err(Refused::unnamed(Failure::Output)),
+        Err(ReplayError::Memory) => Err(Refused::unnamed(Failure::Memory)),
+    }
+}
+
+/// Replays what was fetched: the list is read first, then the files.
+fn replay_fetched<'a, K: Sink>(
+    alloc: Global,
+    request: Replay<'a>,
+    content: &[u8],
+    fetched: Items<(Bytes, Bytes)>,
+    out: &mut K,
+) -> Result<u8, Refused<'a>>
+    requires { AreForBundle fetched }
+    ensures ends { EndsFetched result request.entry.events.now content.now fetched (ask_told request.entry.program)
+        (change K.taken K.faults out.old out.new) }
+    ensures held { HeldFetched result request.entry.events.now content.now fetched (ask_told request.entry.program) }
+    ensures out_later { K.faults out.old ≤ K.faults out.new }
+{
+    let events = match list_in(alloc, content) {
+        Ok(events) => events,
+        Err(why) => return Err(why),
+    };
+    match make_program(alloc, fetched) {
+        Ok(bundle) => {
+            // Nobody asks for the steps.
+            let blank = Blank::new(1);
+            let bound = request.program.bound;
+            replay_over::<K, Brand>(alloc, &events, &bundle, bound, out, blank)
+        }
+        Err(why) => Err(told_of_files(request.program, why)),
+    }
+}
+
+/// Writes the transcript of a list of events on `out`, with engines in memory that run the program.
+///
+/// The list is fetched first, then the files of the program, in order; then the list is read, then the files.
+pub(crate) fn replay<'a, H: Shelf, K: Sink>(
+    alloc: Global,
+    request: Replay<'a>,
+    shelf: &mut H,
+    out: &mut K,
+) -> Result<u8, Refused<'a>>
+    requires { AreFileWords (ask_told request.program).names }
+    ensures ends { EndsReplay result request.entry.events.now (ask_told request.entry.program) (H.files shelf.old)
+        (H.faults shelf.old) (H.faults shelf.new) (change K.taken K.faults out.old out.new) }
+    ensures status { IfOk result (λ status. status ≤ 199) }
+    // Files that make a program are no bad source, and those that make none are one, unless the shelf failed.
+    ensures held { (asked : Result Made Unmade) → Holds (H.files shelf.old) (ask_told request.entry.program).names asked
+        → (list : List Event) → IsHeldList (H.files shelf.old) request.entry.events.now list
+        → IsHeld asked result (H.faults shelf.old) (H.faults shelf.new) }
+    ensures fetched { AreFetched (request.entry.events.now ∷ (ask_told request.entry.program).names)
+        (H.fetched shelf.old) (H.fetched shelf.new) }
+    ensures files { H.files shelf.new ≡ H.files shelf.old }
+    ensures shelf_later { H.faults shelf.old ≤ H.faults shelf.new }
+    ensures out_later { K.faults out.old ≤ K.faults out.new }
+{
+    let content = match fetch_list(alloc, request.events, shelf) {
+        Ok(content) => content,
+        Err(why) => return Err(why),
+    };
+    match fetch_files(alloc, request.program.files, shelf) {
+        Ok(fetched) => replay_fetched(alloc, request, content.as_slice(), fetched, out),
+        Err(why) => Err(told_of_files(request.program, why)),
+    }
+}
