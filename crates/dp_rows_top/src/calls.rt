@@ -1,7 +1,9 @@
 //! The call of the top call that a row describes, and what came of it.
 
+use crate::network::net;
 use crate::objects::{input, shelf, sink, words};
-use dp_outside::{ByteSink, ByteSource, MapShelf, NoNet, NoSpawner};
+use dp_links::ListNet;
+use dp_outside::{ByteSink, ByteSource, MapShelf, NoSpawner};
 use dp_rows::{Differences, Memory, Row};
 use dp_top::top;
 use std::alloc::Global;
@@ -9,7 +11,7 @@ use std::sync::Wait;
 use std::thread::Threads;
 
 /// The names of the fields that a row has.
-const NAMES: [&[u8]; 12] = [
+const NAMES: [&[u8]; 16] = [
     b"words",
     b"file",
     b"in",
@@ -22,6 +24,10 @@ const NAMES: [&[u8]; 12] = [
     b"input_fails",
     b"out_fails",
     b"err_fails",
+    b"link",
+    b"link_fails",
+    b"sent_fails",
+    b"net_fails",
 ];
 
 /// What has to come of a call.
@@ -49,20 +55,10 @@ fn call_over<R: Wait + Sync + Threads + Send>(
     input: &mut ByteSource,
     out: &mut ByteSink,
     err: &mut ByteSink,
+    net: &mut ListNet,
 ) -> u8 {
-    let mut net = NoNet::new();
     let mut spawner: NoSpawner<R> = NoSpawner::new();
-    top(
-        rt,
-        alloc,
-        words,
-        shelf,
-        input,
-        out,
-        err,
-        &mut net,
-        &mut spawner,
-    )
+    top(rt, alloc, words, shelf, input, out, err, net, &mut spawner)
 }
 
 /// Makes the call.
@@ -78,6 +74,7 @@ fn call_top<R: Wait + Sync + Threads + Send>(
     let mut input = input(alloc, row, by_bytes)?;
     let mut out = sink(alloc, row, b"out_fails", wanted.out.as_slice())?;
     let mut err = sink(alloc, row, b"err_fails", wanted.err.as_slice())?;
+    let mut net = net(alloc, row)?;
     let status = call_over(
         rt,
         alloc,
@@ -86,6 +83,7 @@ fn call_top<R: Wait + Sync + Threads + Send>(
         &mut input,
         &mut out,
         &mut err,
+        &mut net,
     );
     Ok(Found { status, out, err })
 }

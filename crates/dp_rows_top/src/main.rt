@@ -3,6 +3,7 @@
 #![tactic(auto)]
 
 mod calls;
+mod network;
 mod objects;
 
 use calls::differences_of;

@@ -5,7 +5,7 @@ use dp_rows::{Field, Memory, Row, unescaped};
 use std::alloc::Global;
 
 /// A list with the number that a field of a row gives, or an empty one.
-fn numbers(alloc: Global, row: &Row<'_>, name: &[u8]) -> Result<Vec<u64>, Memory> {
+pub(crate) fn numbers(alloc: Global, row: &Row<'_>, name: &[u8]) -> Result<Vec<u64>, Memory> {
     let mut numbers = Vec::new(alloc);
     if let Some(number) = row.field(name).and_then(Field::number) {
         numbers.push(number)?;
