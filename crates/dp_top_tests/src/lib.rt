@@ -1,0 +1,5 @@
+//! Tests of the top call over the network of the system. A crate with tests is proved twice, so they stand apart.
+#![tactic(auto)]
+
+#[cfg(test)]
+mod tests;
