@@ -6,7 +6,7 @@ use Rattle.std.proofs.lemmas.Slice.Zip.{length-zip}
 use Rattle.std.specs.List.{zip}
 use Rattle.dp_value.specs.declared.key.Key.{Key}
 use Rattle.dp_value.specs.declared.value.Value.{Value}
-use Rattle.dp_value.specs.declared.value.PhpArray.TheInside.{Inside}
+use Rattle.dp_value.specs.declared.value.Columns.TheInside.{Inside}
 use Rattle.dp_value.specs.inner.Inside.{table_of, IsArray}
 use Rattle.dp_value.specs.Value.{data_of, pairs_in}
 use Rattle.dp_value.specs.Data.{null}

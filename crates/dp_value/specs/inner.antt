@@ -1,5 +1,7 @@
 -- How values are kept and told to the logic. No public clause cites these.
 pub mod Codes
+pub mod Sizes
+pub mod Behind
 pub mod Inside
 pub mod Falls
 pub mod Writing

@@ -1,14 +1,182 @@
 //! The keys and values of an array, side by side.
 
-ghost use Rattle.std.specs.Prelude.{◌≡◌, ◌+◌, ◌<◌, ◌≤◌, length, remove, IfSome, MatchOption, OnOk, OnErr};
+ghost use Rattle.std.specs.Prelude.{◌≡◌, ◌==◌, ◌+◌, ◌<◌, ◌≤◌, ◌↔◌, ◌⊎◌, [], min, length, map, remove, slice_get, is_some, option_map, IfSome, MatchOption, IfOk, OnOk, OnErr, IfErr, IsErrOf};
 ghost use Rattle.dp_value.specs.Key.{key_eq};
 ghost use Rattle.dp_value.specs.Data.{pairs_weight};
 ghost use Rattle.dp_value.specs.Place.{IsAbsent, IsFirst};
-ghost use Rattle.dp_value.specs.Table.{put, weight_limit};
+ghost use Rattle.dp_value.specs.Table.{empty, keys_of, values_of, value_at, put, table_set, table_remove, table_exchange, swapped, weight_limit, IsTable, raised as raised_by};
 ghost use Rattle.dp_value.specs.Value.{data_of, pairs_in};
 
-use crate::{Key, Memory, Value, weight};
+use crate::value::Columns;
+use crate::{Key, Memory, Value, ValueError, WEIGHT_LIMIT, weight};
 use indexmap::IndexSet;
+use std::alloc::Global;
+use std::mem;
+
+impl Columns {
+    /// The array without entries, in which no integer key was ever used. Takes no memory.
+    pub(crate) fn new(alloc: Global) -> Columns
+        ensures { result ≡ empty }
+    {
+        Columns {
+            keys: IndexSet::new(alloc),
+            values: Vec::new(alloc),
+            largest: None,
+            weight: 0,
+        }
+    }
+
+    /// The number of entries. Takes no memory.
+    pub(crate) fn len(&self) -> usize
+        ensures len { result ≡ length self.now.pairs }
+        ensures table { IsTable self.now }
+    {
+        self.values.len()
+    }
+
+    /// Whether there is no entry. Takes no memory.
+    pub(crate) fn is_empty(&self) -> bool
+        ensures { result ≡ (length self.now.pairs == 0) }
+    {
+        self.values.is_empty()
+    }
+
+    /// The keys in the array's order. Takes no memory.
+    pub(crate) fn keys(&self) -> &[Key]
+        ensures { result.now ≡ keys_of self.now.pairs }
+    {
+        self.keys.as_slice()
+    }
+
+    /// The values in the array's order. Takes no memory.
+    pub(crate) fn values(&self) -> &[Value]
+        ensures { map data_of result.now ≡ values_of self.now.pairs }
+    {
+        self.values.as_slice()
+    }
+
+    /// The entry at a position, counted from 0 in the array's order. Takes no memory.
+    pub(crate) fn pair(&self, at: usize) -> Option<(&Key, &Value)>
+        ensures { option_map (λ p. (p.0.now, data_of p.1.now)) result ≡ slice_get self.now.pairs at }
+    {
+        let key = self.keys.get_index(at)?;
+        let value = self.values.get(at)?;
+        Some((key, value))
+    }
+
+    /// The value under a key. Takes no memory.
+    pub(crate) fn get(&self, key: &Key) -> Option<&Value>
+        ensures { option_map (λ v. data_of v.now) result ≡ value_at self.now key.now }
+    {
+        let at = place(&self.keys, key)?;
+        Some(&self.values[at])
+    }
+
+    /// The largest integer key ever used, if any.
+    pub(crate) fn largest(&self) -> Option<i64>
+        ensures { result ≡ self.now.largest }
+    {
+        self.largest
+    }
+
+    /// What the entries weigh together. Takes no memory.
+    pub(crate) fn weight(&self) -> u64
+        ensures { result ≡ pairs_weight self.now.pairs }
+    {
+        self.weight
+    }
+
+    /// What the entries would weigh with this value under this key, or the largest `u64` where it is more.
+    pub(crate) fn weight_with(&self, key: &Key, value: &Value) -> u64
+        ensures { result ≡ min (pairs_weight (put self.now.pairs key.now (data_of value.now))) u64.MAX }
+    {
+        let added = weight(value);
+        match place(&self.keys, key) {
+            Some(at) => {
+                let old = weight(&self.values[at]);
+                (self.weight - old).saturating_add(added)
+            }
+            None => self
+                .weight
+                .saturating_add(1)
+                .saturating_add(key.weight())
+                .saturating_add(added),
+        }
+    }
+
+    /// Puts a value under a key. A present key keeps its place, a new one goes last.
+    ///
+    /// `TooHeavy` comes exactly where the entries would weigh more than `WEIGHT_LIMIT`. After a
+    /// refusal the array is as before.
+    pub(crate) fn set(&mut self, key: Key, value: Value) -> Result<(), ValueError>
+        ensures ok { OnOk result (self.new ≡ table_set self.old key (data_of value)) }
+        ensures too_heavy { IsErrOf result ValueError.TooHeavy ↔ (weight_limit < pairs_weight (put self.old.pairs key (data_of value))) }
+        ensures only { IfErr result (λ e. (e ≡ ValueError.TooHeavy) ⊎ (e ≡ ValueError.Memory)) }
+        ensures err { OnErr result (self.new ≡ self.old) }
+    {
+        let weight = self.weight_with(&key, &value);
+        if weight > WEIGHT_LIMIT {
+            return Err(ValueError::TooHeavy);
+        }
+        let largest = raised(self.largest, &key);
+        store(&mut self.keys, &mut self.values, key, value)?;
+        self.largest = largest;
+        self.weight = weight;
+        Ok(())
+    }
+
+    /// Puts a value in the place of the one under a key, and gives that one out. Where the key is not
+    /// there, nothing changes. The caller shows that the entries stay within the limit, and may use what
+    /// holds of every array. Takes no memory.
+    pub(crate) fn exchange(&mut self, key: &Key, value: Value) -> Option<Value>
+        requires { IsTable self.old → pairs_weight (swapped self.old.pairs key.now (data_of value)) ≤ weight_limit }
+        ensures value { option_map data_of result ≡ value_at self.old key.now }
+        ensures exchanged { self.new ≡ table_exchange self.old key.now (data_of value) }
+        ensures table { IsTable self.old }
+    {
+        let at = place(&self.keys, key)?;
+        let added = weight(&value);
+        let old = mem::replace(&mut self.values[at], value);
+        self.weight = self.weight - weight(&old) + added;
+        Some(old)
+    }
+
+    /// Removes a key and its value, and says whether the key was there. The entries close up, and the
+    /// largest integer key ever used stays. Takes no memory.
+    pub(crate) fn remove(&mut self, key: &Key) -> bool
+        ensures found { result ≡ is_some (value_at self.old key.now) }
+        ensures removed { self.new ≡ table_remove self.old key.now }
+    {
+        let Some(at) = place(&self.keys, key) else {
+            return false;
+        };
+        let gone = take_out(&mut self.keys, &mut self.values, at);
+        self.weight -= gone;
+        true
+    }
+}
+
+/// The columns of an array with one entry.
+pub(crate) fn first_entry(alloc: Global, key: Key, value: Value) -> Result<Box<Columns>, ValueError>
+    ensures ok { IfOk result (λ b. b.value ≡ table_set empty key (data_of value)) }
+    ensures too_heavy { IsErrOf result ValueError.TooHeavy ↔ (weight_limit < pairs_weight (put [] key (data_of value))) }
+    ensures only { IfErr result (λ e. (e ≡ ValueError.TooHeavy) ⊎ (e ≡ ValueError.Memory)) }
+{
+    let mut columns = Columns::new(alloc);
+    columns.set(key, value)?;
+    Ok(Box::new(alloc, columns)?)
+}
+
+/// The largest integer key ever used, once this key is used too.
+fn raised(largest: Option<i64>, key: &Key) -> Option<i64>
+    ensures { result ≡ raised_by largest key.now }
+{
+    match (largest, key) {
+        (_, Key::Text(_)) => largest,
+        (None, Key::Int(n)) => Some(*n),
+        (Some(m), Key::Int(n)) => Some(m.max(*n)),
+    }
+}
 
 /// The position of a key.
 pub fn place(keys: &IndexSet<Key>, key: &Key) -> Option<usize>

@@ -2,6 +2,7 @@
 
 ghost use Rattle.std.specs.Prelude.{◌≡◌, IfOk};
 
+use crate::value::Columns;
 use crate::{Key, Memory, PhpArray, Value};
 use indexmap::IndexSet;
 
@@ -27,12 +28,29 @@ impl PhpArray {
     pub fn try_clone(&self) -> Result<PhpArray, Memory>
         ensures { IfOk result (λ copy. copy ≡ self.now) }
     {
+        let Some(columns) = &self.columns else {
+            return Ok(PhpArray::new(self.alloc));
+        };
+        let copy = Box::new(self.alloc, columns.try_clone()?)?;
+        Ok(PhpArray {
+            alloc: self.alloc,
+            columns: Some(copy),
+        })
+    }
+}
+
+impl Columns {
+    /// Equal columns.
+    #[cycle(copying)]
+    pub(crate) fn try_clone(&self) -> Result<Columns, Memory>
+        ensures { IfOk result (λ copy. copy ≡ self.now) }
+    {
         let keys = copy_keys(&self.keys)?;
         let mut values = Vec::with_capacity(*self.values.allocator(), self.values.len())?;
         for value in &self.values {
             values.push(value.try_clone()?)?;
         }
-        Ok(PhpArray {
+        Ok(Columns {
             keys,
             values,
             largest: self.largest,

@@ -5,6 +5,7 @@ ghost use Rattle.dp_value.specs.Comparison.{identical, identical_entries};
 ghost use Rattle.dp_value.specs.Data.{entries_of};
 ghost use Rattle.dp_value.specs.Value.{data_of};
 
+use crate::value::Columns;
 use crate::{PhpArray, Value};
 
 /// Whether two values are identical, as `===` says: the same type and value; arrays with the same
@@ -26,6 +27,18 @@ pub fn same(a: &Value, b: &Value) -> bool
 /// Whether two arrays have the same pairs in the same order.
 #[cycle(comparing)]
 fn same_entries(a: &PhpArray, b: &PhpArray) -> bool
+    ensures { result ≡ identical_entries (entries_of a.now.pairs) (entries_of b.now.pairs) }
+{
+    match (&a.columns, &b.columns) {
+        (None, None) => true,
+        (None, Some(columns)) | (Some(columns), None) => columns.is_empty(),
+        (Some(a), Some(b)) => same_columns(a, b),
+    }
+}
+
+/// Whether two arrays have the same pairs in the same order, by their columns.
+#[cycle(comparing)]
+fn same_columns(a: &Columns, b: &Columns) -> bool
     ensures { result ≡ identical_entries (entries_of a.now.pairs) (entries_of b.now.pairs) }
 {
     let n = a.values.len();

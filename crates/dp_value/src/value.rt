@@ -2,14 +2,13 @@
 
 ghost use Rattle.std.specs.Prelude.{◌≡◌, ◌==◌, ◌<◌, ◌≤◌, ◌↔◌, ◌⊎◌, min, length, map, slice_get, is_some, option_map, Some, OnOk, OnErr, IfErr, IsErrOf};
 ghost use Rattle.dp_value.specs.Data.{pairs_weight};
-ghost use Rattle.dp_value.specs.Table.{empty, keys_of, values_of, value_at, put, table_set, table_push, table_remove, table_exchange, swapped, weight_limit, largest_int, IsTable, raised as raised_by};
+ghost use Rattle.dp_value.specs.Table.{empty, keys_of, values_of, value_at, put, table_set, table_push, table_remove, table_exchange, swapped, weight_limit, largest_int, IsTable};
 
-use crate::columns::{place, store, take_out};
+use crate::columns::first_entry;
 use crate::{Bytes, Key, ValueError, weight};
 use indexmap::IndexSet;
 use std::alloc::Global;
 use std::marker::Model;
-use std::mem;
 
 /// The most that a text or an array may weigh.
 pub const WEIGHT_LIMIT: u64 = 1_048_576;
@@ -26,18 +25,48 @@ pub enum Value {
 }
 
 /// An ordered map from keys to values. Contracts see the pairs in order, whose keys are distinct,
-/// and the largest integer key ever used, if any.
+/// and the largest integer key ever used, if any. It is as large as a pointer, and has no memory before its first entry.
 #[cycle(value)]
 #[derive(Debug, Drop)]
 pub struct PhpArray {
+    pub(crate) alloc: Global,
+    pub(crate) columns: Option<Box<Columns>>,
+}
+
+impl Model for PhpArray {
+    ghost use Rattle.dp_value.specs.Data.{Table};
+    ghost use Rattle.dp_value.specs.inner.Codes.{table_code};
+
+    ghost Value = { Table };
+
+    ghost coded = { table_code };
+
+    ghost use Rattle.dp_value.specs.inner.Behind.{table_behind};
+
+    ghost view = { table_behind };
+
+    ghost use Rattle.dp_value.specs.inner.Sizes.{array_size};
+
+    ghost size = { array_size };
+
+    ghost use Rattle.std.proofs.Common.{arith};
+
+    ghost size_decreases = { λ a h. Prim.grind arith };
+}
+
+/// What an array keeps behind its pointer: its keys and its values side by side, the largest integer key ever used, and
+/// its weight.
+#[cycle(value)]
+#[derive(Debug, Drop)]
+pub(crate) struct Columns {
     pub(crate) keys: IndexSet<Key>,
     pub(crate) values: Vec<Value>,
     pub(crate) largest: Option<i64>,
     pub(crate) weight: u64,
 }
 
-impl Model for PhpArray {
-    ghost use Rattle.dp_value.specs.Data.{Table, table_depth};
+impl Model for Columns {
+    ghost use Rattle.dp_value.specs.Data.{Table};
     ghost use Rattle.dp_value.specs.inner.Codes.{table_code};
 
     ghost Value = { Table };
@@ -50,7 +79,9 @@ impl Model for PhpArray {
 
     ghost invariant = { IsArray };
 
-    ghost size = { table_depth };
+    ghost use Rattle.dp_value.specs.inner.Sizes.{columns_size};
+
+    ghost size = { columns_size };
 
     ghost use Rattle.dp_value.specs.inner.Falls.{most_le_depth};
 
@@ -65,10 +96,8 @@ impl PhpArray {
         ensures { result ≡ empty }
     {
         PhpArray {
-            keys: IndexSet::new(alloc),
-            values: Vec::new(alloc),
-            largest: None,
-            weight: 0,
+            alloc,
+            columns: None,
         }
     }
 
@@ -77,69 +106,89 @@ impl PhpArray {
         ensures len { result ≡ length self.now.pairs }
         ensures table { IsTable self.now }
     {
-        self.values.len()
+        match &self.columns {
+            None => 0,
+            Some(columns) => columns.len(),
+        }
     }
 
     /// Whether there is no entry. Takes no memory.
     pub fn is_empty(&self) -> bool
         ensures { result ≡ (length self.now.pairs == 0) }
     {
-        self.values.is_empty()
+        match &self.columns {
+            None => true,
+            Some(columns) => columns.is_empty(),
+        }
     }
 
     /// The keys in the array's order. Takes no memory.
     pub fn keys(&self) -> &[Key]
         ensures { result.now ≡ keys_of self.now.pairs }
     {
-        self.keys.as_slice()
+        match &self.columns {
+            None => &[],
+            Some(columns) => columns.keys(),
+        }
     }
 
     /// The values in the array's order. Takes no memory.
     pub fn values(&self) -> &[Value]
         ensures { map data_of result.now ≡ values_of self.now.pairs }
     {
-        self.values.as_slice()
+        match &self.columns {
+            None => &[],
+            Some(columns) => columns.values(),
+        }
     }
 
     /// The entry at a position, counted from 0 in the array's order. Takes no memory.
     pub fn pair(&self, at: usize) -> Option<(&Key, &Value)>
         ensures { option_map (λ p. (p.0.now, data_of p.1.now)) result ≡ slice_get self.now.pairs at }
     {
-        let key = self.keys.get_index(at)?;
-        let value = self.values.get(at)?;
-        Some((key, value))
+        match &self.columns {
+            None => None,
+            Some(columns) => columns.pair(at),
+        }
     }
 
     /// The value under a key. Takes no memory.
     pub fn get(&self, key: &Key) -> Option<&Value>
         ensures { option_map (λ v. data_of v.now) result ≡ value_at self.now key.now }
     {
-        let at = place(&self.keys, key)?;
-        Some(&self.values[at])
+        match &self.columns {
+            None => None,
+            Some(columns) => columns.get(key),
+        }
+    }
+
+    /// The largest integer key ever used, if any.
+    pub(crate) fn largest(&self) -> Option<i64>
+        ensures { result ≡ self.now.largest }
+    {
+        match &self.columns {
+            None => None,
+            Some(columns) => columns.largest(),
+        }
     }
 
     /// What the entries weigh together. Takes no memory.
     pub(crate) fn weight(&self) -> u64
         ensures { result ≡ pairs_weight self.now.pairs }
     {
-        self.weight
+        match &self.columns {
+            None => 0,
+            Some(columns) => columns.weight(),
+        }
     }
 
     /// What the entries would weigh with this value under this key, or the largest `u64` where it is more.
     pub(crate) fn weight_with(&self, key: &Key, value: &Value) -> u64
         ensures { result ≡ min (pairs_weight (put self.now.pairs key.now (data_of value.now))) u64.MAX }
     {
-        let added = weight(value);
-        match place(&self.keys, key) {
-            Some(at) => {
-                let old = weight(&self.values[at]);
-                (self.weight - old).saturating_add(added)
-            }
-            None => self
-                .weight
-                .saturating_add(1)
-                .saturating_add(key.weight())
-                .saturating_add(added),
+        match &self.columns {
+            None => weight(value).saturating_add(1).saturating_add(key.weight()),
+            Some(columns) => columns.weight_with(key, value),
         }
     }
 
@@ -153,14 +202,10 @@ impl PhpArray {
         ensures only { IfErr result (λ e. (e ≡ ValueError.TooHeavy) ⊎ (e ≡ ValueError.Memory)) }
         ensures err { OnErr result (self.new ≡ self.old) }
     {
-        let weight = self.weight_with(&key, &value);
-        if weight > WEIGHT_LIMIT {
-            return Err(ValueError::TooHeavy);
+        if let Some(columns) = &mut self.columns {
+            return columns.set(key, value);
         }
-        let largest = raised(self.largest, &key);
-        store(&mut self.keys, &mut self.values, key, value)?;
-        self.largest = largest;
-        self.weight = weight;
+        self.columns = Some(first_entry(self.alloc, key, value)?);
         Ok(())
     }
 
@@ -175,7 +220,7 @@ impl PhpArray {
         ensures only { IfErr result (λ e. (e ≡ ValueError.NextIndex) ⊎ (e ≡ ValueError.TooHeavy) ⊎ (e ≡ ValueError.Memory)) }
         ensures err { OnErr result (self.new ≡ self.old) }
     {
-        match self.largest {
+        match self.largest() {
             None => self.set(Key::Int(0), value),
             Some(i64::MAX) => Err(ValueError::NextIndex),
             Some(largest) => self.set(Key::Int(largest + 1), value),
@@ -191,11 +236,10 @@ impl PhpArray {
         ensures exchanged { self.new ≡ table_exchange self.old key.now (data_of value) }
         ensures table { IsTable self.old }
     {
-        let at = place(&self.keys, key)?;
-        let added = weight(&value);
-        let old = mem::replace(&mut self.values[at], value);
-        self.weight = self.weight - weight(&old) + added;
-        Some(old)
+        match &mut self.columns {
+            None => None,
+            Some(columns) => columns.exchange(key, value),
+        }
     }
 
     /// Removes a key and its value, and says whether the key was there. The entries close up, and the
@@ -204,22 +248,9 @@ impl PhpArray {
         ensures found { result ≡ is_some (value_at self.old key.now) }
         ensures removed { self.new ≡ table_remove self.old key.now }
     {
-        let Some(at) = place(&self.keys, key) else {
-            return false;
-        };
-        let gone = take_out(&mut self.keys, &mut self.values, at);
-        self.weight -= gone;
-        true
-    }
-}
-
-/// The largest integer key ever used, once this key is used too.
-fn raised(largest: Option<i64>, key: &Key) -> Option<i64>
-    ensures { result ≡ raised_by largest key.now }
-{
-    match (largest, key) {
-        (_, Key::Text(_)) => largest,
-        (None, Key::Int(n)) => Some(*n),
-        (Some(m), Key::Int(n)) => Some(m.max(*n)),
+        match &mut self.columns {
+            None => false,
+            Some(columns) => columns.remove(key),
+        }
     }
 }

@@ -148,7 +148,7 @@ fn push_into(array: &mut PhpArray, new: Value, beside: u64) -> Result<(), WriteE
 fn next_key(array: &PhpArray) -> Option<Key>
     ensures { (d : Data) → pushed d array.now ≡ put_under result d array.now }
 {
-    match array.largest {
+    match array.largest() {
         None => Some(Key::Int(0)),
         Some(i64::MAX) => None,
         Some(largest) => Some(Key::Int(largest + 1)),

@@ -1,6 +1,6 @@
 -- How an array is kept: its keys and its values in two columns, and its weight.
 use Rattle.std.specs.Prelude.{◌≡◌, length}
-use Rattle.dp_value.specs.declared.value.PhpArray.TheInside.{Inside}
+use Rattle.dp_value.specs.declared.value.Columns.TheInside.{Inside}
 use Rattle.dp_value.specs.Data.{Table, pairs_weight}
 use Rattle.dp_value.specs.Table.{IsTable}
 use Rattle.dp_value.specs.Value.{pairs_in}

@@ -5,15 +5,15 @@ use Rattle.dp_value.proofs.ArrayLemmas.{kept_length, row, row_of_key}
 use Rattle.dp_value.proofs.ComparisonLemmas.{identical-lengths, differ-by_key, differ-by_value, same-so_far, same-at_end}
 use Rattle.dp_value.proofs.identity.+comparing.Goals as goal
 
-pub same_entries-returns-then-len-n : goal.same_entries-returns-then-len-n
-same_entries-returns-then-len-n t c =
+pub same_columns-returns-then-len-n : goal.same_columns-returns-then-len-n
+same_columns-returns-then-len-n t c =
     let a = ap (λ (x : Table). length x.pairs) c.a.view_is in
     let b = ap (λ (x : Table). length x.pairs) c.b.view_is in
     sym (identical-lengths c.args.a.now.pairs c.args.b.now.pairs
     (λ e. c.if-len-n.true (omega (arith, a, b, e, c.len.ensures, c.len-n.ensures, kept_length c.a.inside c.a.invariant, kept_length c.b.inside c.b.invariant))))
 
-pub same_entries-returns-then-not-is : goal.same_entries-returns-then-not-is
-same_entries-returns-then-not-is t c =
+pub same_columns-returns-then-not-is : goal.same_columns-returns-then-not-is
+same_columns-returns-then-not-is t c =
     let n : c.loop-at.at < length c.a.inside.keys.keys = omega (arith, c.len-n.ensures, c.a.invariant.same_length, c.a.inside.values.ok.0) in
     let m : c.loop-at.at < length c.b.inside.keys.keys = omega (arith, c.len-n.ensures, c.len.ensures, c.b.invariant.same_length, c.b.inside.values.ok.0) in
     let left = rw c.as_slice-left.ensures.keys at c.index-left-at.is in
@@ -26,8 +26,8 @@ same_entries-returns-then-not-is t c =
     (ap (λ (x : Table). slice_get x.pairs c.loop-at.at) (sym c.b.view_is) ∙ row_of_key c.b.inside.keys.keys c.b.inside.values.items c.loop-at.at c.index-right-at.result m c.b.invariant.same_length right)
     c.if-not-is.ensures)
 
-pub same_entries-returns-then-not-same : goal.same_entries-returns-then-not-same
-same_entries-returns-then-not-same t c =
+pub same_columns-returns-then-not-same : goal.same_columns-returns-then-not-same
+same_columns-returns-then-not-same t c =
     let n : c.loop-at.at < length c.a.inside.keys.keys = omega (arith, c.len-n.ensures, c.a.invariant.same_length, c.a.inside.values.ok.0) in
     let m : c.loop-at.at < length c.b.inside.keys.keys = omega (arith, c.len-n.ensures, c.len.ensures, c.b.invariant.same_length, c.b.inside.values.ok.0) in
     let left = rw c.as_slice-left.ensures.keys at c.index-left-at.is in
@@ -39,8 +39,8 @@ same_entries-returns-then-not-same t c =
     (ap (λ (x : Table). slice_get x.pairs c.loop-at.at) (sym c.b.view_is) ∙ row c.b.inside.keys.keys c.b.inside.values.items c.loop-at.at c.index-right-at.result c.index-in-loop-at.result.now m c.b.invariant.same_length right c.index-in-loop-at.ensures)
     c.if-not-is.ensures c.if-not-same.ensures)
 
-pub same_entries-loop-at-preserved : goal.same_entries-loop-at-preserved
-same_entries-loop-at-preserved t c =
+pub same_columns-loop-at-preserved : goal.same_columns-loop-at-preserved
+same_columns-loop-at-preserved t c =
     let n : c.loop-at.at < length c.a.inside.keys.keys = omega (arith, c.len-n.ensures, c.a.invariant.same_length, c.a.inside.values.ok.0) in
     let m : c.loop-at.at < length c.b.inside.keys.keys = omega (arith, c.len-n.ensures, c.len.ensures, c.b.invariant.same_length, c.b.inside.values.ok.0) in
     let left = rw c.as_slice-left.ensures.keys at c.index-left-at.is in
@@ -52,8 +52,8 @@ same_entries-loop-at-preserved t c =
     (ap (λ (x : Table). slice_get x.pairs c.loop-at.at) (sym c.b.view_is) ∙ row c.b.inside.keys.keys c.b.inside.values.items c.loop-at.at c.index-right-at.result c.index-in-loop-at.result.now m c.b.invariant.same_length right c.index-in-loop-at.ensures)
     c.if-not-is.ensures c.if-not-same.ensures
 
-pub same_entries-returns : goal.same_entries-returns
-same_entries-returns t c =
+pub same_columns-returns : goal.same_columns-returns
+same_columns-returns t c =
     let a = ap (λ (x : Table). length x.pairs) c.a.view_is in
     let b = ap (λ (x : Table). length x.pairs) c.b.view_is in
     sym (c.loop-at.invariant

@@ -6,7 +6,7 @@ use Rattle.dp_value.specs.Table.{value_at}
 use Rattle.dp_value.specs.Value.{data_of}
 use Rattle.dp_value.proofs.PairLemmas.{absent-find_value, first-find_value}
 use Rattle.dp_value.proofs.ArrayLemmas.{row_value}
-use Rattle.dp_value.proofs.value.PhpArray.get.Goals as goal
+use Rattle.dp_value.proofs.value.Columns.get.Goals as goal
 
 pub returns-in_err-at : goal.returns-in_err-at
 returns-in_err-at c =

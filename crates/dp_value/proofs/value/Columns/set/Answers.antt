@@ -4,7 +4,7 @@ use Rattle.dp_value.specs.inner.Inside.{table_of}
 use Rattle.dp_value.specs.Table.{put, weight_limit, table_set, IsTable}
 use Rattle.dp_value.specs.Value.{data_of, pairs_in}
 use Rattle.dp_value.proofs.TableLemmas.{IsTable-set}
-use Rattle.dp_value.proofs.value.PhpArray.set.Goals as goal
+use Rattle.dp_value.proofs.value.Columns.set.Goals as goal
 
 pub invariant_of-self-2 : goal.invariant_of-self-2
 invariant_of-self-2 c =

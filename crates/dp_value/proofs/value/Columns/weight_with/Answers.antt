@@ -5,7 +5,7 @@ use Rattle.dp_value.specs.Table.{put}
 use Rattle.dp_value.specs.Value.{data_of}
 use Rattle.dp_value.proofs.PairLemmas.{weight-put-first, weight-put-absent, weight-at}
 use Rattle.dp_value.proofs.ArrayLemmas.{row_value}
-use Rattle.dp_value.proofs.value.PhpArray.weight_with.Goals as goal
+use Rattle.dp_value.proofs.value.Columns.weight_with.Goals as goal
 
 pub overflow_sub-self-inside : goal.overflow_sub-self-inside
 overflow_sub-self-inside c =

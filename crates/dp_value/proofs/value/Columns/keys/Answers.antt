@@ -4,7 +4,7 @@ use Rattle.std.proofs.lemmas.Slice.Zip.{firsts-zip}
 use Rattle.dp_value.specs.Data.{Table}
 use Rattle.dp_value.specs.Table.{keys_of}
 use Rattle.dp_value.specs.Value.{data_of}
-use Rattle.dp_value.proofs.value.PhpArray.keys.Goals as goal
+use Rattle.dp_value.proofs.value.Columns.keys.Goals as goal
 
 pub returns : goal.returns
 returns c =

@@ -4,7 +4,7 @@ use Rattle.std.proofs.lemmas.Slice.Zip.{seconds-zip}
 use Rattle.dp_value.specs.Data.{Table}
 use Rattle.dp_value.specs.Table.{values_of}
 use Rattle.dp_value.specs.Value.{data_of}
-use Rattle.dp_value.proofs.value.PhpArray.values.Goals as goal
+use Rattle.dp_value.proofs.value.Columns.values.Goals as goal
 
 pub returns : goal.returns
 returns c =

@@ -3,7 +3,7 @@ use Rattle.dp_value.specs.Data.{Table}
 use Rattle.dp_value.specs.Value.{data_of}
 use Rattle.dp_value.proofs.PairLemmas.{zip_none, zip_some}
 use Rattle.dp_value.proofs.ArrayLemmas.{row_value}
-use Rattle.dp_value.proofs.value.PhpArray.pair.Goals as goal
+use Rattle.dp_value.proofs.value.Columns.pair.Goals as goal
 
 pub returns-in_err-key : goal.returns-in_err-key
 returns-in_err-key c =

@@ -12,7 +12,7 @@ use Rattle.dp_value.specs.Value.{data_of, pairs_in}
 use Rattle.dp_value.proofs.PairLemmas.{absent-find_value, first-find_value, swapped-absent, swapped-first, weight-swapped-first, weight-at}
 use Rattle.dp_value.proofs.ArrayLemmas.{row_value}
 use Rattle.dp_value.proofs.TableLemmas.{IsTable-exchange}
-use Rattle.dp_value.proofs.value.PhpArray.exchange.Goals as goal
+use Rattle.dp_value.proofs.value.Columns.exchange.Goals as goal
 
 pub returns-in_err-at-clause-value : goal.returns-in_err-at-clause-value
 returns-in_err-at-clause-value c =

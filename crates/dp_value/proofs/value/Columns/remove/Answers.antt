@@ -12,7 +12,7 @@ use Rattle.dp_value.specs.Table.{value_at, take_away, table_remove, IsTable}
 use Rattle.dp_value.specs.Value.{data_of, pairs_in}
 use Rattle.dp_value.proofs.PairLemmas.{absent-find_value, first-find_value, take_away-absent, take_away-first, map-remove}
 use Rattle.dp_value.proofs.TableLemmas.{IsTable-remove}
-use Rattle.dp_value.proofs.value.PhpArray.remove.Goals as goal
+use Rattle.dp_value.proofs.value.Columns.remove.Goals as goal
 
 pub returns-in_default-clause-found : goal.returns-in_default-clause-found
 returns-in_default-clause-found c =
