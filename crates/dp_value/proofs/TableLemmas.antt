@@ -1,7 +1,7 @@
 -- What holds of every array stays true through a write and a removal.
 use Rattle.std.proofs.Common.{◌≡◌, ℤ, ◌≤ℤ◌, ◌≤◌, Bool, true, false, List, [], ◌∷◌, ◌++◌, All, Option, Some, None, refl, ap, sym, subst, arith}
 use Rattle.std.proofs.lemmas.Int.{ints, int_max_is}
-use Rattle.std.proofs.lemmas.List.Elements.{All-push, All-weaker, All-from_recursion, recursion_from_All}
+use Rattle.std.proofs.lemmas.List.Elements.{All-nil, All-push, All-weaker, All-from_recursion, recursion_from_All}
 use Rattle.std.proofs.lemmas.Map.Keys.{IsDistinct-push, IsDistinct-head, IsDistinct-tail, IsDistinct-cons}
 use Rattle.std.specs.Int.{int_max}
 use Rattle.std.specs.List.{IsDistinct, AllByRecursion, list_any}
@@ -9,7 +9,7 @@ use Rattle.dp_value.specs.declared.key.Key.{Key}
 use Rattle.dp_value.specs.declared.key.Key.TheVariants.{Int, Text}
 use Rattle.dp_value.specs.Key.{key_eq}
 use Rattle.dp_value.specs.Data.{Data, Table, pairs_weight}
-use Rattle.dp_value.specs.Table.{keys_of, put, take_away, swapped, raised, table_set, table_exchange, table_remove, weight_limit, IsUpTo, IsTable}
+use Rattle.dp_value.specs.Table.{empty, keys_of, put, take_away, swapped, raised, table_set, table_exchange, table_remove, weight_limit, IsUpTo, IsTable}
 use Rattle.dp_value.proofs.KeyLemmas.{key_eq_equivalence}
 
 keys_of-put_present-more : (p : Key × Data) (ps : List (Key × Data)) (key : Key) (d : Data) (b : Bool) → key_eq key p.0 ≡ b →
@@ -70,6 +70,10 @@ IsTable-set-by t key d is light false any =
 
 pub IsTable-set : (t : Table) (key : Key) (d : Data) → IsTable t → pairs_weight (put t.pairs key d) ≤ weight_limit → IsTable (table_set t key d)
 IsTable-set t key d is light = IsTable-set-by t key d is light (list_any (key_eq key) (keys_of t.pairs)) refl
+
+pub IsTable-empty : IsTable empty
+unfolding IsDistinct
+IsTable-empty = record { distinct = tt; up_to = All-nil (IsUpTo None); light = omega arith; }
 
 -- ---- a removal
 all_take_away-more : (P : Key → Type 0) (p : Key × Data) (ps : List (Key × Data)) (key : Key) (b : Bool) → key_eq key p.0 ≡ b →

@@ -1,11 +1,14 @@
 //! The keys and values of an array, side by side.
 
-ghost use Rattle.std.specs.Prelude.{◌≡◌, ◌==◌, ◌+◌, ◌<◌, ◌≤◌, ◌↔◌, ◌⊎◌, [], min, length, map, remove, slice_get, is_some, option_map, IfSome, MatchOption, IfOk, OnOk, OnErr, IfErr, IsErrOf};
+ghost use Rattle.std.specs.Prelude.{◌≡◌, ◌==◌, ◌+◌, ◌<◌, ◌≤◌, ◌↔◌, ◌⊎◌, [], min, length, map, remove};
+ghost use Rattle.std.specs.Prelude.{slice_get, is_some, option_map, IfSome, MatchOption, IfOk, OnOk, OnErr, IfErr, IsErrOf};
 ghost use Rattle.dp_value.specs.Key.{key_eq};
 ghost use Rattle.dp_value.specs.Data.{pairs_weight};
 ghost use Rattle.dp_value.specs.Place.{IsAbsent, IsFirst};
-ghost use Rattle.dp_value.specs.Table.{empty, keys_of, values_of, value_at, put, table_set, table_remove, table_exchange, swapped, weight_limit, IsTable, raised as raised_by};
+ghost use Rattle.dp_value.specs.Table.{empty, keys_of, values_of, value_at, put, table_set, table_remove};
+ghost use Rattle.dp_value.specs.Table.{table_exchange, swapped, weight_limit, IsTable, raised as raised_by};
 ghost use Rattle.dp_value.specs.Value.{data_of, pairs_in};
+ghost use Rattle.dp_value.specs.inner.Writing.{IsTooMuch};
 
 use crate::value::Columns;
 use crate::{Key, Memory, Value, ValueError, WEIGHT_LIMIT, weight};
@@ -110,7 +113,7 @@ impl Columns {
     /// refusal the array is as before.
     pub(crate) fn set(&mut self, key: Key, value: Value) -> Result<(), ValueError>
         ensures ok { OnOk result (self.new ≡ table_set self.old key (data_of value)) }
-        ensures too_heavy { IsErrOf result ValueError.TooHeavy ↔ (weight_limit < pairs_weight (put self.old.pairs key (data_of value))) }
+        ensures too_heavy { IsErrOf result ValueError.TooHeavy ↔ IsTooMuch self.old.pairs key (data_of value) }
         ensures only { IfErr result (λ e. (e ≡ ValueError.TooHeavy) ⊎ (e ≡ ValueError.Memory)) }
         ensures err { OnErr result (self.new ≡ self.old) }
     {
@@ -159,7 +162,7 @@ impl Columns {
 /// The columns of an array with one entry.
 pub(crate) fn first_entry(alloc: Global, key: Key, value: Value) -> Result<Box<Columns>, ValueError>
     ensures ok { IfOk result (λ b. b.value ≡ table_set empty key (data_of value)) }
-    ensures too_heavy { IsErrOf result ValueError.TooHeavy ↔ (weight_limit < pairs_weight (put [] key (data_of value))) }
+    ensures too_heavy { IsErrOf result ValueError.TooHeavy ↔ IsTooMuch [] key (data_of value) }
     ensures only { IfErr result (λ e. (e ≡ ValueError.TooHeavy) ⊎ (e ≡ ValueError.Memory)) }
 {
     let mut columns = Columns::new(alloc);

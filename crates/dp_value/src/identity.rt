@@ -29,10 +29,12 @@ pub fn same(a: &Value, b: &Value) -> bool
 fn same_entries(a: &PhpArray, b: &PhpArray) -> bool
     ensures { result ≡ identical_entries (entries_of a.now.pairs) (entries_of b.now.pairs) }
 {
-    match (&a.columns, &b.columns) {
-        (None, None) => true,
-        (None, Some(columns)) | (Some(columns), None) => columns.is_empty(),
-        (Some(a), Some(b)) => same_columns(a, b),
+    match &a.columns {
+        None => b.is_empty(),
+        Some(left) => match &b.columns {
+            None => a.is_empty(),
+            Some(right) => same_columns(left, right),
+        },
     }
 }
 

@@ -25,7 +25,8 @@ pub enum Value {
 }
 
 /// An ordered map from keys to values. Contracts see the pairs in order, whose keys are distinct,
-/// and the largest integer key ever used, if any. It is as large as a pointer, and has no memory before its first entry.
+/// and the largest integer key ever used, if any. As large as a pointer, with no memory behind it
+/// before the first entry.
 #[cycle(value)]
 #[derive(Debug, Drop)]
 pub struct PhpArray {
@@ -230,16 +231,17 @@ impl PhpArray {
     /// Puts a value in the place of the one under a key, and gives that one out. Where the key is not
     /// there, nothing changes. The caller shows that the entries stay within the limit, and may use what
     /// holds of every array. Takes no memory.
+    #[tactic(auto, using(crate::proofs::BehindLemmas::table_of_nothing))]
     pub(crate) fn exchange(&mut self, key: &Key, value: Value) -> Option<Value>
         requires { IsTable self.old → pairs_weight (swapped self.old.pairs key.now (data_of value)) ≤ weight_limit }
         ensures value { option_map data_of result ≡ value_at self.old key.now }
         ensures exchanged { self.new ≡ table_exchange self.old key.now (data_of value) }
         ensures table { IsTable self.old }
     {
-        match &mut self.columns {
-            None => None,
-            Some(columns) => columns.exchange(key, value),
-        }
+        let Some(columns) = &mut self.columns else {
+            return None;
+        };
+        columns.exchange(key, value)
     }
 
     /// Removes a key and its value, and says whether the key was there. The entries close up, and the

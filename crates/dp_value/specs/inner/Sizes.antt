@@ -1,4 +1,4 @@
--- Sizes by which a recursion falls from an array to its columns, and from those to the values in them.
+-- Sizes by which a recursion falls from an array to its columns, and from those to their values.
 use Rattle.std.specs.Prelude.{ℕ, ◌+◌, suc}
 use Rattle.dp_value.specs.Data.{Table, table_depth}
 

@@ -1,7 +1,7 @@
 -- How a write goes: an array with a new value in it.
-use Rattle.dp_value.specs.Data.{Table, array, Data, data_of_table}
-use Rattle.std.specs.Prelude.{Bool, List, [], ◌∷◌, Option, Some, None, Result, Ok, Err}
-use Rattle.dp_value.specs.Table.{table_set}
+use Rattle.dp_value.specs.Data.{Table, array, Data, data_of_table, pairs_weight}
+use Rattle.std.specs.Prelude.{◌<◌, Bool, List, [], ◌∷◌, Option, Some, None, Result, Ok, Err}
+use Rattle.dp_value.specs.Table.{put, table_set, weight_limit}
 use Rattle.dp_value.specs.declared.error.WriteError.{WriteError}
 use Rattle.dp_value.specs.declared.key.Key.{Key}
 use Rattle.dp_value.specs.declared.error.WriteError.TheVariants.{NextIndex}
@@ -18,3 +18,7 @@ written_in (key ∷ keys) push new t =
 abbrev pub put_under : Option Key → Data → Table → Result Data WriteError
 put_under None d t = Err NextIndex
 put_under (Some key) d t = Ok (data_of_table (table_set t key d))
+
+-- pairs that would be too heavy with a value under a key
+abbrev pub IsTooMuch : List (Key × Data) → Key → Data → Type 0
+IsTooMuch ps key d = weight_limit < pairs_weight (put ps key d)
