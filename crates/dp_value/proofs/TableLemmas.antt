@@ -73,7 +73,7 @@ IsTable-set t key d is light = IsTable-set-by t key d is light (list_any (key_eq
 
 pub IsTable-empty : IsTable empty
 unfolding IsDistinct
-IsTable-empty = record { distinct = tt; up_to = All-nil (IsUpTo None); light = omega arith; }
+IsTable-empty = record { distinct = tt; up_to = All-nil (IsUpTo None); light = omega arith }
 
 -- ---- a removal
 all_take_away-more : (P : Key → Type 0) (p : Key × Data) (ps : List (Key × Data)) (key : Key) (b : Bool) → key_eq key p.0 ≡ b →

@@ -2,12 +2,16 @@ use Rattle.std.proofs.Common.{◌<◌, length, map, get_or, slice_get, sym, ap, 
 use Rattle.dp_value.specs.Data.{Table, null}
 use Rattle.dp_value.specs.Value.{data_of}
 use Rattle.dp_value.proofs.ArrayLemmas.{kept_length, row, row_of_key}
-use Rattle.dp_value.proofs.BehindLemmas.{nothing_beside}
+use Rattle.dp_value.proofs.BehindLemmas.{nothing_beside, beside_nothing}
 use Rattle.dp_value.proofs.ComparisonLemmas.{identical-lengths, differ-by_key, differ-by_value, same-so_far, same-at_end}
 use Rattle.dp_value.proofs.identity.+comparing.Goals as goal
 
 pub same_entries-returns-in-None : goal.same_entries-returns-in-None
 same_entries-returns-in-None t c = nothing_beside c.a.inside c.args.a.now c.args.b.now c.is_empty.result c.is_empty.ensures c.in-None.is c.a.view_is
+
+pub same_entries-returns-in-None-columns : goal.same_entries-returns-in-None-columns
+same_entries-returns-in-None-columns t c =
+    beside_nothing c.b.inside c.args.a.now c.args.b.now c.is_empty-in-None-columns.result c.is_empty-in-None-columns.ensures c.in-None-columns.is c.b.view_is
 
 pub same_columns-returns-then-len-n : goal.same_columns-returns-then-len-n
 same_columns-returns-then-len-n t c =
