@@ -25,7 +25,7 @@ pub enum Value {
 }
 
 /// An ordered map from keys to values. Contracts see the pairs in order, whose keys are distinct,
-/// and the largest integer key ever used, if any. As large as a pointer, with no memory behind it
+/// and the largest integer key ever used, if any. It points to what it keeps, and takes no memory
 /// before the first entry.
 #[cycle(value)]
 #[derive(Debug, Drop)]
