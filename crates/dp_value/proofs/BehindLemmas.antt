@@ -23,12 +23,16 @@ right_empty : (ps : List (Key × Data)) → (length ps == 0) ≡ identical_entri
 right_empty [] = refl
 right_empty (p ∷ ps) = grind arith
 
-pub nothing_beside : (a : Inside) (t u : Table) (r : Bool) → r ≡ (length u.pairs == 0) → a.columns ≡ None → table_behind a ≡ t →
-    r ≡ identical_entries (entries_of t.pairs) (entries_of u.pairs)
+pub nothing_beside : (a : Inside) (t u : Table) (r : Bool) → r ≡ (length u.pairs == 0) → a.columns ≡ None →
+    table_behind a ≡ t → r ≡ identical_entries (entries_of t.pairs) (entries_of u.pairs)
 nothing_beside a t u r says none seen =
-    says ∙ left_empty u.pairs ∙ ap (λ (x : Table). identical_entries (entries_of x.pairs) (entries_of u.pairs)) (nothing_is_empty a t none seen)
+    says
+    ∙ left_empty u.pairs
+    ∙ ap (λ (x : Table). identical_entries (entries_of x.pairs) (entries_of u.pairs)) (nothing_is_empty a t none seen)
 
-pub beside_nothing : (a : Inside) (t u : Table) (r : Bool) → r ≡ (length t.pairs == 0) → a.columns ≡ None → table_behind a ≡ u →
-    r ≡ identical_entries (entries_of t.pairs) (entries_of u.pairs)
+pub beside_nothing : (a : Inside) (t u : Table) (r : Bool) → r ≡ (length t.pairs == 0) → a.columns ≡ None →
+    table_behind a ≡ u → r ≡ identical_entries (entries_of t.pairs) (entries_of u.pairs)
 beside_nothing a t u r says none seen =
-    says ∙ right_empty t.pairs ∙ ap (λ (x : Table). identical_entries (entries_of t.pairs) (entries_of x.pairs)) (nothing_is_empty a u none seen)
+    says
+    ∙ right_empty t.pairs
+    ∙ ap (λ (x : Table). identical_entries (entries_of t.pairs) (entries_of x.pairs)) (nothing_is_empty a u none seen)

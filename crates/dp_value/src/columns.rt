@@ -1,7 +1,7 @@
 //! The keys and values of an array, side by side.
 
-ghost use Rattle.std.specs.Prelude.{◌≡◌, ◌==◌, ◌+◌, ◌<◌, ◌≤◌, ◌↔◌, ◌⊎◌, [], min, length, map, remove};
-ghost use Rattle.std.specs.Prelude.{slice_get, is_some, option_map, IfSome, MatchOption, IfOk, OnOk, OnErr, IfErr, IsErrOf};
+ghost use Rattle.std.specs.Prelude.{◌≡◌, ◌==◌, ◌+◌, ◌<◌, ◌≤◌, ◌↔◌, ◌⊎◌, [], min, length, map, remove, slice_get};
+ghost use Rattle.std.specs.Prelude.{is_some, option_map, IfSome, MatchOption, IfOk, OnOk, OnErr, IfErr, IsErrOf};
 ghost use Rattle.dp_value.specs.Key.{key_eq};
 ghost use Rattle.dp_value.specs.Data.{pairs_weight};
 ghost use Rattle.dp_value.specs.Place.{IsAbsent, IsFirst};

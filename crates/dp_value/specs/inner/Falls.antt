@@ -26,5 +26,6 @@ most_le_depth [] (v ∷ vs) same = omega arith
 most_le_depth (k ∷ ks) (v ∷ vs) same =
     let rest : max (most deep-Value vs) 0
     ≤ suc (entries_depth (entries_of (zip ks (map data_of vs))))
-    + suc (entries_depth (entries_of (zip ks (map data_of vs)))) = most_le_depth ks vs (omega arith) in
+    + suc (entries_depth (entries_of (zip ks (map data_of vs)))) =
+    most_le_depth ks vs (omega arith) in
     omega (arith, deep_le v)

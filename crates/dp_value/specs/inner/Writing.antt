@@ -1,5 +1,5 @@
 -- How a write goes: an array with a new value in it.
-use Rattle.dp_value.specs.Data.{Table, array, Data, data_of_table, pairs_weight}
+use Rattle.dp_value.specs.Data.{Table, Data, data_of_table, pairs_weight}
 use Rattle.std.specs.Prelude.{◌<◌, Bool, List, [], ◌∷◌, Option, Some, None, Result, Ok, Err}
 use Rattle.dp_value.specs.Table.{put, table_set, weight_limit}
 use Rattle.dp_value.specs.declared.error.WriteError.{WriteError}

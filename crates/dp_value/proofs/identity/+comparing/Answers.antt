@@ -7,11 +7,13 @@ use Rattle.dp_value.proofs.ComparisonLemmas.{identical-lengths, differ-by_key, d
 use Rattle.dp_value.proofs.identity.+comparing.Goals as goal
 
 pub same_entries-returns-in-None : goal.same_entries-returns-in-None
-same_entries-returns-in-None t c = nothing_beside c.a.inside c.args.a.now c.args.b.now c.is_empty.result c.is_empty.ensures c.in-None.is c.a.view_is
+same_entries-returns-in-None t c =
+    nothing_beside c.a.inside c.args.a.now c.args.b.now c.is_empty.result c.is_empty.ensures c.in-None.is c.a.view_is
 
 pub same_entries-returns-in-None-columns : goal.same_entries-returns-in-None-columns
 same_entries-returns-in-None-columns t c =
-    beside_nothing c.b.inside c.args.a.now c.args.b.now c.is_empty-in-None-columns.result c.is_empty-in-None-columns.ensures c.in-None-columns.is c.b.view_is
+    beside_nothing c.b.inside c.args.a.now c.args.b.now c.is_empty-in-None-columns.result
+    c.is_empty-in-None-columns.ensures c.in-None-columns.is c.b.view_is
 
 pub same_columns-returns-then-len-n : goal.same_columns-returns-then-len-n
 same_columns-returns-then-len-n t c =

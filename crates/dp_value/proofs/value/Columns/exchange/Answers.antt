@@ -54,12 +54,16 @@ overflow_sub-self c =
 pub overflow_add-self : goal.overflow_add-self
 overflow_add-self c =
     let d = data_of c.args.value in
-    let within : c.in_ok-at.at < length c.self.inside.values.items = omega (arith, c.in_ok-at.ensures.within, c.self.invariant.same_length) in
-    let row = old_row c.self.inside.values.items c.in_ok-at.at c.index_mut.result.now c.replace-old.result within c.index_mut.ensures.value c.replace-old.ensures.value in
-    let weighs = weight-swapped-first c.args.key.now c.self.inside.keys.keys (map data_of c.self.inside.values.items) c.in_ok-at.at (data_of c.replace-old.result) d c.in_ok-at.ensures.place row in
+    let within : c.in_ok-at.at < length c.self.inside.values.items =
+    omega (arith, c.in_ok-at.ensures.within, c.self.invariant.same_length) in
+    let row = old_row c.self.inside.values.items c.in_ok-at.at c.index_mut.result.now c.replace-old.result within
+    c.index_mut.ensures.value c.replace-old.ensures.value in
+    let weighs = weight-swapped-first c.args.key.now c.self.inside.keys.keys (map data_of c.self.inside.values.items)
+    c.in_ok-at.at (data_of c.replace-old.result) d c.in_ok-at.ensures.place row in
     let seen = ap (λ (t : Table). pairs_weight (swapped t.pairs c.args.key.now d)) c.self.view_is in
     let allowed = c.requires (subst (λ (t : Table). IsTable t) c.self.view_is c.self.invariant.table) in
-    let light : pairs_weight (swapped (table_of c.self.inside).pairs c.args.key.now d) ≤ weight_limit = omega (arith, seen, allowed) in
+    let light : pairs_weight (swapped (table_of c.self.inside).pairs c.args.key.now d) ≤ weight_limit =
+    omega (arith, seen, allowed) in
     omega (arith, weighs, light, c.weight.ensures, c.weight-added.ensures, c.self.invariant.weight)
 
 pub invariant_of-self : goal.invariant_of-self
