@@ -1,0 +1,6 @@
+pub mod Rules
+pub mod Refused
+pub mod Exact
+pub mod Parts
+pub mod Taking
+pub mod inner

@@ -1,0 +1,3 @@
+-- How the functions read: what their own clauses say. The crates above join it to the rules of
+-- their grammars.
+pub mod Input
