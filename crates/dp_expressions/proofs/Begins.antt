@@ -87,7 +87,7 @@ place_of_name level x name e = record {
   back = [];
   value = name;
   split = refl;
-  one = record { token = x; alone = refl; is_worth = e };
+  one = record { symbol = x; alone = refl; is_worth = e };
   other = record { front = []; back = []; value = []; split = refl; one = record { count = 0; chain = gives_it [] }; other = gives_it (place name []) };
 }
 
@@ -100,10 +100,10 @@ module _ (x : Token) where
   by_variable name e = ([], tree.Variable name, whole_of 1 (x ∷ []) (tree.Variable name) (inr (inr (inr (inr (inr (inl (give (PlaceRule 1 (inner 1)) value_of (x ∷ []) (place name []) (place_of_name 1 x name e)))))))))
 
   by_number : (a : _) → number_in x.kind ≡ Some a → Opened x
-  by_number a e = ([], tree.Number a, whole_of 1 (x ∷ []) (tree.Number a) (inr (inr (inr (inl (give (One (by_kind number_in)) tree.Number (x ∷ []) a (record { token = x; alone = refl; is_worth = e })))))))
+  by_number a e = ([], tree.Number a, whole_of 1 (x ∷ []) (tree.Number a) (inr (inr (inr (inl (give (One (by_kind number_in)) tree.Number (x ∷ []) a (record { symbol = x; alone = refl; is_worth = e })))))))
 
   by_text : (a : Text) → text_in x.kind ≡ Some a → Opened x
-  by_text a e = ([], tree.Text a, whole_of 1 (x ∷ []) (tree.Text a) (primary_of 1 (x ∷ []) (tree.Text a) (inl (give (One (by_kind text_in)) tree.Text (x ∷ []) a (record { token = x; alone = refl; is_worth = e })))))
+  by_text a e = ([], tree.Text a, whole_of 1 (x ∷ []) (tree.Text a) (primary_of 1 (x ∷ []) (tree.Text a) (inl (give (One (by_kind text_in)) tree.Text (x ∷ []) a (record { symbol = x; alone = refl; is_worth = e })))))
 
   by_constant : is_some (constant_in (sign_of x.kind)) ≡ true → Opened x
   by_constant e = let c = one_of_sort constant_in x e in ([], c.0, whole_of 1 (x ∷ []) c.0 (primary_of 1 (x ∷ []) c.0 (inr (inl c.1))))
@@ -204,7 +204,7 @@ module _ (x : Token) where
         whole_of 1 (x ∷ (open_ ∷ close)) (tree.Call name []) (primary_of 1 (x ∷ (open_ ∷ close)) (tree.Call name [])
             (inr (inr (inr (inr (inr (record {
               some = omega arith;
-              spelled = behind (One (by_kind name_in)) (λ name. Joined (Mark sign.OpenParenthesis) (λ _. Made items (tree.Call name))) (x ∷ []) (open_ ∷ close) name (tree.Call name []) (record { token = x; alone = refl; is_worth = e })
+              spelled = behind (One (by_kind name_in)) (λ name. Joined (Mark sign.OpenParenthesis) (λ _. Made items (tree.Call name))) (x ∷ []) (open_ ∷ close) name (tree.Call name []) (record { symbol = x; alone = refl; is_worth = e })
                   (marked sign.OpenParenthesis open_ (Made items (tree.Call name)) close (tree.Call name []) refl
                   (give items (tree.Call name) close [] (no_items (λ _. Under part.Whole 1) sign.CloseParenthesis kind.CloseParenthesis refl)));
             }))))))),

@@ -47,7 +47,7 @@ pub gives_it : {A : Type 0} (a : A) → Gives a [] a
 gives_it a = record { empty = refl; same = refl }
 
 pub least_operand : (level : ℕ) (i : Inner) → OperandRule level i zero_text zero_tree
-least_operand level i = inr (inr (inr (inl (record { front = zero_text; back = []; value = pos 0; split = refl; one = record { token = zero_token; alone = refl; is_worth = refl }; other = gives_it zero_tree }))))
+least_operand level i = inr (inr (inr (inl (record { front = zero_text; back = []; value = pos 0; split = refl; one = record { symbol = zero_token; alone = refl; is_worth = refl }; other = gives_it zero_tree }))))
 
 pub least_ladder : (rs : List Rank) (operand : Rule Expression) (text : List Token) (e : Expression) → operand text e → Ladder rs operand text e
 least_ladder [] operand text e h = h
@@ -75,7 +75,7 @@ least_place index = record {
   back = [];
   value = variable_name;
   split = refl;
-  one = record { token = placed (kind.Variable variable_name); alone = refl; is_worth = refl };
+  one = record { symbol = placed (kind.Variable variable_name); alone = refl; is_worth = refl };
   other = record { front = []; back = []; value = []; split = refl; one = record { count = 0; chain = gives_it [] }; other = gives_it variable_place };
 }
 

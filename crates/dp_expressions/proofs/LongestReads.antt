@@ -4,11 +4,12 @@ use Rattle.std.proofs.Math.Seq.{take-append_seam, take-append-add}
 use Rattle.dp_lexer.specs.declared.token.Token.{Token}
 use Rattle.dp_expressions.specs.declared.operand.Part.{Part}
 use Rattle.dp_expressions.specs.declared.operand.Part.TheVariants as part
-use Rattle.dp_rules.specs.declared.refusal.Refusal.TheVariants.{Unexpected, TooDeep, Memory}
+use Rattle.dp_grammar.specs.declared.refusal.Refusal.TheVariants.{Unexpected, TooDeep, Memory}
 use Rattle.dp_rules.specs.declared.sign.Sign.{Sign}
 use Rattle.dp_rules.specs.declared.sign.Sign.TheVariants as sign
 use Rattle.dp_tree.specs.declared.tree.Expression.{Expression}
 use Rattle.dp_tree.specs.declared.tree.Place.{Place}
+use Rattle.dp_grammar.specs.Rules.{head as first}
 use Rattle.dp_rules.specs.Signs.{sign_of, is, head}
 use Rattle.dp_rules.specs.Refused.{IsViable, IsDeadAt, IsUnexpected, IsTooDeep}
 use Rattle.dp_rules.specs.inner.Input.{Outcome, Reader}
@@ -62,7 +63,7 @@ module _ {A : Type 0} {rule : Rules ℕ A} {stop : Stop A} {level : ℕ} {may : 
     ends = λ m next more is v.
         let e : read.text ++ (next ∷ v.0) ≡ (read.text ++ (next ∷ [])) ++ v.0 = sym (append_assoc read.text (next ∷ []) v.0) in
         let h : rule m (read.text ++ (next ∷ v.0)) v.1 = subst (λ l. rule m l v.1) (sym e) v.2 in
-        let k = read.only m (next ∷ v.0) (ap head (sym is)) v.1 [] (begins_whole m (read.text ++ (next ∷ v.0)) v.1 h) in
+        let k = read.only m (next ∷ v.0) (ap first (sym is)) v.1 [] (begins_whole m (read.text ++ (next ∷ v.0)) v.1 h) in
         let none : [] ≡ next ∷ v.0 = k.1 in cc;
   }
 

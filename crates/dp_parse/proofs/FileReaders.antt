@@ -11,7 +11,7 @@ use Rattle.dp_lexer.specs.Keywords.{is_reserved}
 use Rattle.dp_parse.specs.declared.ended.Body.{Body}
 use Rattle.dp_parse.specs.declared.ended.Parts.{Parts}
 use Rattle.dp_expressions.specs.declared.operand.Part.TheVariants as part
-use Rattle.dp_rules.specs.declared.refusal.Refusal.TheVariants.{Unexpected}
+use Rattle.dp_grammar.specs.declared.refusal.Refusal.TheVariants.{Unexpected}
 use Rattle.dp_rules.specs.declared.sign.Sign.{Sign}
 use Rattle.dp_rules.specs.declared.sign.Sign.TheVariants as sign
 use Rattle.dp_tree.specs.declared.tree.Expression.{Expression}
@@ -69,7 +69,7 @@ are_parameters level = record {
   stops_close = λ a. refl;
   closing = placed kind.CloseParenthesis;
   closes = refl;
-  some_item = λ m above. (placed (kind.Variable (97 ∷ [])) ∷ [], 97 ∷ [], record { token = placed (kind.Variable (97 ∷ [])); alone = refl; is_worth = refl });
+  some_item = λ m above. (placed (kind.Variable (97 ∷ [])) ∷ [], 97 ∷ [], record { symbol = placed (kind.Variable (97 ∷ [])); alone = refl; is_worth = refl });
   reads = λ found ts. one_answers Deeper same_depth (by_kind (parameter_in found)) Anything level ts;
 }
 

@@ -3,8 +3,8 @@ use Rattle.std.proofs.Common.{◌≡◌, ◌≢◌, ◌⊎◌, inl, inr, List, l
 use Rattle.dp_lexer.specs.declared.token.Token.{Token}
 use Rattle.dp_parse.specs.declared.errors.ParseError.{ParseError}
 use Rattle.dp_parse.specs.declared.errors.ParseError.TheVariants as error
-use Rattle.dp_rules.specs.declared.refusal.Refusal.{Refusal}
-use Rattle.dp_rules.specs.declared.refusal.Refusal.TheVariants as refusal
+use Rattle.dp_grammar.specs.declared.refusal.Refusal.{Refusal}
+use Rattle.dp_grammar.specs.declared.refusal.Refusal.TheVariants as refusal
 use Rattle.dp_rules.specs.inner.Input.{Reader}
 use Rattle.dp_parse.specs.Programs.{AreWrong, told}
 use Rattle.dp_rules.proofs.Answers.{Rules, Stop}

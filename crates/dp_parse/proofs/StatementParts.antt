@@ -126,7 +126,7 @@ module _ (base : ℕ) (level : Depth) where
   pub kind_reader : {A : Type 0} (worth : TokenKind → Option A) (k : TokenKind) (a : A) → worth k ≡ Some a → IsPartReader base (OneAt (by_kind worth)) Anything level (kind worth)
   kind_reader worth k a is_worth = record {
     answers = λ some ts. one_answers Deeper same_depth (by_kind worth) Anything level ts;
-    least = λ m some. (placed k ∷ [], a, record { token = placed k; alone = refl; is_worth = is_worth });
+    least = λ m some. (placed k ∷ [], a, record { symbol = placed k; alone = refl; is_worth = is_worth });
   }
 
   pub variable_reader : IsPartReader base (λ _. Variable) Anything level variable

@@ -8,8 +8,8 @@ use Rattle.dp_lexer.specs.Tokens.{AreFileTokens, AreTokens, IsFileRefused, IsRef
 use Rattle.dp_parse.specs.declared.ended.Parts.{Parts}
 use Rattle.dp_parse.specs.declared.errors.ParseError.{ParseError}
 use Rattle.dp_parse.specs.declared.errors.ParseError.TheVariants as error
-use Rattle.dp_rules.specs.declared.refusal.Refusal.{Refusal}
-use Rattle.dp_rules.specs.declared.refusal.Refusal.TheVariants as refusal
+use Rattle.dp_grammar.specs.declared.refusal.Refusal.{Refusal}
+use Rattle.dp_grammar.specs.declared.refusal.Refusal.TheVariants as refusal
 use Rattle.dp_tree.specs.declared.tree.Expression.{Expression}
 use Rattle.dp_tree.specs.declared.tree.File.{File}
 use Rattle.dp_parse.specs.Limits.{limits}

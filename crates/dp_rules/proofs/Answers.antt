@@ -1,19 +1,19 @@
--- What the outcome of a reader says of the rule that it reads, and how that composes.
---
--- `Answers` says all at once: what is found is spelled; nothing else is, at any level of nesting; at a refusal the tokens
--- before the bad one begin a spelling, and with it they begin none: of no level, or, where it is too deep, not of this
--- level, but of one above.
+-- What the outcome of a reader of tokens says of the rule that it reads: the theory of dp_grammar, where what comes next is
+-- told by its sort.
 use Rattle.std.specs.declared.ops.ControlFlow.{ControlFlow}
-use Rattle.std.proofs.Common.{◌≡◌, ◌⊎◌, inl, inr, ℕ, zero, suc, ◌<◌, ◌≤◌, Bool, true, false, ◌||◌, List, [], ◌∷◌, ◌++◌, length, Option, Some, None, Ok, Err, sym, refl, ap, ◌∙◌, subst, append_assoc, append-nil, cond, arith}
+use Rattle.std.proofs.Common.{◌≡◌, ℕ, suc, ◌<◌, ◌≤◌, Bool, true, false, ◌||◌, List, [], ◌∷◌, ◌++◌, length, Option, Some, None, Ok, Err, sym, refl, ap, ◌∙◌, subst, cond}
 use Rattle.dp_lexer.specs.declared.token.Token.{Token}
+use Rattle.dp_grammar.specs.declared.refusal.Refusal.TheVariants.{Unexpected, TooDeep, Memory}
+use Rattle.dp_grammar.specs.Rules.{head as first}
+use Rattle.dp_grammar.proofs.Answers as all
 use Rattle.dp_rules.specs.declared.sign.Sign.{Sign}
 use Rattle.dp_rules.specs.declared.sign.Sign.TheVariants as sign
-use Rattle.dp_rules.specs.declared.refusal.Refusal.TheVariants.{Unexpected, TooDeep, Memory}
-use Rattle.dp_rules.specs.Signs.{sign_of, same_sign, is, head}
-use Rattle.dp_rules.specs.Lines.{line_of}
-use Rattle.dp_rules.specs.inner.Input.{Outcome, Reader, and_then, gives, met, one, enter}
-use Rattle.dp_rules.specs.Rules.{Rule, Joined, ◌or◌, Gives, Made, One, line_at, Mark, When, Nests, Without, OnLine, Closed, Many, Perhaps, Step}
-use Rattle.dp_rules.proofs.Signs.{or_left, or_right, line_back}
+use Rattle.dp_rules.specs.Signs.{sign_of, next_sign, same_sign, is, head}
+use Rattle.dp_rules.specs.Lines.{line_of, next_line}
+use Rattle.dp_rules.specs.inner.Input.{Outcome, Reader, and_then, gives, one, enter}
+use Rattle.dp_rules.specs.Rules.{Rule, line_at, Mark, Without, OnLine}
+use Rattle.dp_rules.proofs.Signs.{line_back}
+pub use Rattle.dp_grammar.proofs.Answers.{JoinedAt, EitherAt, GivesAt, OneAt, MadeAt, PerhapsAt, WhenAt, NestsAt, ClosedAt, StepAt, ManyAt, Agrees, Opens, Can, GoesOn, give, given, behind}
 
 -- a rule at each level of nesting
 abbrev pub Rules : Type 0 → Type 0 → Type 1
@@ -26,29 +26,15 @@ Stop A = A → Sign → Bool
 abbrev pub Anything : {A : Type 0} → A → Sign → Bool
 Anything a s = true
 
-abbrev pub JoinedAt : {L A B : Type 0} → Rules L A → (A → Rules L B) → Rules L B
-JoinedAt first second = λ level. Joined (first level) (λ a. second a level)
+-- a test of sorts, of what comes next
+abbrev pub at : (Sign → Bool) → Option Token → Bool
+at test o = test (next_sign o)
 
-abbrev pub EitherAt : {L A : Type 0} → Rules L A → Rules L A → Rules L A
-EitherAt first second = λ level. first level or second level
-
-abbrev pub GivesAt : {L A : Type 0} → A → Rules L A
-GivesAt a = λ _. Gives a
-
-abbrev pub OneAt : {L A : Type 0} → (Token → Option A) → Rules L A
-OneAt worth = λ _. One worth
+abbrev pub ends : {A : Type 0} → Stop A → A → Option Token → Bool
+ends stop a o = stop a (next_sign o)
 
 abbrev pub MarkAt : {L : Type 0} → Sign → Rules L ℕ
 MarkAt s = λ _. Mark s
-
-abbrev pub MadeAt : {L A B : Type 0} → Rules L A → (A → B) → Rules L B
-MadeAt rule f = λ level. Made (rule level) f
-
-abbrev pub PerhapsAt : {L A : Type 0} → Rules L A → Rules L (Option A)
-PerhapsAt rule = λ level. Perhaps (rule level)
-
-abbrev pub WhenAt : {L A : Type 0} → Bool → Rules L A → Rules L A
-WhenAt condition rule = λ level. When condition (rule level)
 
 abbrev pub WithoutAt : {L A : Type 0} → Sign → Rules L A → Rules L A
 WithoutAt s rule = λ level. Without s (rule level)
@@ -56,138 +42,55 @@ WithoutAt s rule = λ level. Without s (rule level)
 abbrev pub OnLineAt : {L A : Type 0} → (ℕ → Rules L A) → Rules L A
 OnLineAt rule = λ level. OnLine (λ line. rule line level)
 
-abbrev pub NestsAt : {L A : Type 0} → (L → ℕ) → Rules L A → Rules L A
-NestsAt depth rule = λ level. Nests (depth level) (rule level)
+abbrev pub Begins : {L A : Type 0} → Rules L A → Stop A → L → List Token → A → List Token → Type 0
+Begins rule stop = all.Begins rule (ends stop)
 
-abbrev pub ClosedAt : {L A B : Type 0} → (A → Rules L A) → (A → Rules L B) → A → Rules L B
-ClosedAt piece end a = λ level. Closed (λ x. piece x level) (λ x. end x level) a
+abbrev pub IsRead : {L A : Type 0} → (L → L → Type 0) → Rules L A → Stop A → L → List Token → A → List Token → Type 0
+IsRead Above rule stop = all.IsRead Above rule (ends stop)
 
-abbrev pub StepAt : {L A B : Type 0} → (A → Rules L A) → (A → Rules L B) → A → Rules L (ControlFlow B A)
-StepAt piece end a = λ level. Step (λ x. piece x level) (λ x. end x level) a
-
-abbrev pub ManyAt : {L A : Type 0} → Rules L A → Rules L (List A)
-ManyAt rule = λ level. Many (rule level)
-
--- The tokens begin with a spelling of a that may end there, and r is behind it.
-pub record Begins {L A : Type 0} (rule : Rules L A) (stop : Stop A) (m : L) (ts : List Token) (a : A) (r : List Token) : Type 0 where
-  pub text : List Token
-  pub split : ts ≡ text ++ r
-  pub spelled : rule m text a
-  pub stops : stop a (head r) ≡ true
-
--- the same tokens as front and rest, up to and with the first token of rest; where rest is empty, the same tokens
-abbrev pub Agrees : List Token → List Token → List Token → Type 0
-Agrees front [] us = us ≡ front
-Agrees front (x ∷ rest) us = (more : List Token) × (us ≡ front ++ (x ∷ more))
-
-pub record IsRead {L A : Type 0} (Above : L → L → Type 0) (rule : Rules L A) (stop : Stop A) (level : L) (ts : List Token) (a : A) (r : List Token) : Type 0 where
-  pub text : List Token
-  pub split : ts ≡ text ++ r
-  pub spelled : (m : L) → Above level m → rule m text a
-  pub only : (m : L) (s : List Token) → head s ≡ head r → (b : A) (q : List Token) → Begins rule stop m (text ++ s) b q → (b ≡ a) × (q ≡ s)
-
--- where a level above has a spelling that begins with the first token of ts
-abbrev pub Opens : {L A : Type 0} → (L → L → Type 0) → Rules L A → L → List Token → Type 0
-Opens {L = L} {A = A} Above rule level ts = (m : L) × Above level m × (x : Token) × (after : List Token) × (more : List Token) × (a : A) × (ts ≡ x ∷ after) × rule m (x ∷ more) a
-
-pub record IsRefused {L A : Type 0} (Above : L → L → Type 0) (rule : Rules L A) (stop : Stop A) (level : L) (ts : List Token) (deep : Bool) (left : ℕ) : Type 0 where
-  pub front : List Token
-  pub rest : List Token
-  pub split : ts ≡ front ++ rest
-  pub is_left : length rest ≡ left
-  pub viable : (front ≡ []) ⊎ ((more : List Token) × (a : A) × rule level (front ++ more) a)
-  pub dead : (m : L) → (deep ≡ true → m ≡ level) → (us : List Token) → Agrees front rest us → (a : A) (q : List Token) → Begins rule stop m us a q → ⊥
-  pub beyond : deep ≡ true → (m : L) × Above level m × (x : Token) × (after : List Token) × (more : List Token) × (a : A) × (rest ≡ x ∷ after) × rule m (front ++ (x ∷ more)) a
+abbrev pub IsRefused : {L A : Type 0} → (L → L → Type 0) → Rules L A → Stop A → L → List Token → Bool → ℕ → Type 0
+IsRefused Above rule stop = all.IsRefused Above rule (ends stop)
 
 abbrev pub Answers : {L A : Type 0} → (L → L → Type 0) → Rules L A → Stop A → L → List Token → Outcome A → Type 0
-Answers Above rule stop level ts (Ok x) = IsRead Above rule stop level ts x.0 x.1
-Answers Above rule stop level ts (Err (Unexpected left)) = IsRefused Above rule stop level ts false left
-Answers Above rule stop level ts (Err (TooDeep left)) = IsRefused Above rule stop level ts true left
-Answers Above rule stop level ts (Err Memory) = ⊥
+Answers Above rule stop = all.Answers Above rule (ends stop)
 
 -- What comes behind the first rule does not go on with it.
 abbrev pub Follows : {L A B : Type 0} → Stop A → (A → Rules L B) → Stop B → Type 0
-Follows {L = L} {A = A} {B = B} first_stop second stop =
-    (m : L) (a : A) (ts : List Token) (b : B) (r : List Token) → second a m ts b → stop b (head r) ≡ true → first_stop a (head (ts ++ r)) ≡ true
-
--- the rule spells something at each level above
-abbrev pub Can : {L A : Type 0} → (L → L → Type 0) → L → Rules L A → Type 0
-Can {L = L} {A = A} Above level rule = (m : L) → Above level m → (ts : List Token) × (a : A) × rule m ts a
-
--- each value can be gone on from, at each level above
-abbrev pub GoesOn : {L A B : Type 0} → (L → L → Type 0) → L → (A → Rules L B) → Type 0
-GoesOn {L = L} {A = A} {B = B} Above level second = (m : L) → Above level m → (a : A) → (ts : List Token) × (b : B) × second a m ts b
+Follows first_stop second stop = all.Follows (ends first_stop) second (ends stop)
 
 -- each spelling begins with a token of a sort that passes the test
 abbrev pub StartsIn : {L A : Type 0} → Rules L A → (Sign → Bool) → Type 0
-StartsIn {L = L} {A = A} rule test = (m : L) (text : List Token) (a : A) → rule m text a → (x : Token) × (rest : List Token) × (text ≡ x ∷ rest) × (test (sign_of x.kind) ≡ true)
+StartsIn rule test = all.StartsIn rule (at test)
 
 -- No spelling, with what may be behind it, begins with a token that passes the test.
 abbrev pub Apart : {L A : Type 0} → Rules L A → Stop A → (Sign → Bool) → Type 0
-Apart {L = L} {A = A} rule stop test = (m : L) (text : List Token) (a : A) (r : List Token) → rule m text a → stop a (head r) ≡ true → test (head (text ++ r)) ≡ false
-
--- ---- lists of tokens
-
-pub head_agrees : (text r s : List Token) → head s ≡ head r → head (text ++ s) ≡ head (text ++ r)
-head_agrees [] r s e = e
-head_agrees (t ∷ text) r s e = refl
-
-pub agrees_head : (front rest us : List Token) → Agrees front rest us → head us ≡ head (front ++ rest)
-agrees_head [] [] us e = ap head e
-agrees_head (t ∷ front) [] us e = ap head e
-agrees_head [] (x ∷ rest) us a = ap head a.1
-agrees_head (t ∷ front) (x ∷ rest) us a = ap head a.1
-
-agrees_line : (front rest us : List Token) → Agrees front rest us → line_of us ≡ line_of (front ++ rest)
-agrees_line [] [] us e = ap line_of e
-agrees_line (t ∷ front) [] us e = ap line_of e
-agrees_line [] (x ∷ rest) us a = ap line_of a.1
-agrees_line (t ∷ front) (x ∷ rest) us a = ap line_of a.1
-
-agrees_behind : (text front rest us : List Token) → Agrees (text ++ front) rest us → (tail : List Token) × (us ≡ text ++ tail) × Agrees front rest tail
-agrees_behind text front [] us agrees = (front, agrees, refl)
-agrees_behind text front (x ∷ rest) us agrees = (front ++ (x ∷ agrees.0), agrees.1 ∙ append_assoc text front (x ∷ agrees.0), (agrees.0, refl))
-
--- ---- spellings
-
--- a rule's spelling, for a value made of its value
-pub give : {A B : Type 0} (rule : Rule A) (f : A → B) (text : List Token) (a : A) → rule text a → Made rule f text (f a)
-give rule f text a h = record { front = text; back = []; value = a; split = sym (append-nil text); one = h; other = record { empty = refl; same = refl } }
-
-pub given : {A B : Type 0} (rule : Rule A) (f : A → B) (text : List Token) (b : B) → Made rule f text b → (a : A) × rule text a × (b ≡ f a)
-given rule f text b j = (j.value, subst (λ l. rule l j.value) (sym (j.split ∙ ap (λ l. j.front ++ l) j.other.empty ∙ append-nil j.front)) j.one, j.other.same)
-
--- the one behind the other
-pub behind : {A B : Type 0} (first : Rule A) (second : A → Rule B) (front back : List Token) (a : A) (b : B) → first front a → second a back b → Joined first second (front ++ back) b
-behind first second front back a b one other = record { front = front; back = back; value = a; split = refl; one = one; other = other }
+Apart rule stop test = all.Apart rule (ends stop) (at test)
 
 -- ---- what a rule starts with
 
--- what begins with a spelling begins with a token of the test
 pub begun : {L A : Type 0} (rule : Rules L A) (test : Sign → Bool) → StartsIn rule test → (m : L) (text r : List Token) (a : A) → rule m text a → test (head (text ++ r)) ≡ true
-begun rule test starts m text r a spelled = let s = starts m text a spelled in ap (λ l. test (head (l ++ r))) s.2 ∙ s.3
+begun rule test = all.begun rule (at test)
 
 pub one_starts : {L A : Type 0} (worth : Token → Option A) (test : Sign → Bool) → ((t : Token) (a : A) → worth t ≡ Some a → test (sign_of t.kind) ≡ true) → StartsIn {L = L} (OneAt worth) test
-one_starts worth test passes m text a o = (o.token, [], o.alone, passes o.token a o.is_worth)
+one_starts worth test = all.one_starts worth (at test)
 
 pub mark_starts : {L : Type 0} (s : Sign) → StartsIn {L = L} (MarkAt s) (is s)
-mark_starts s m text a o = (o.token, [], o.alone, (line_back s o.token a o.is_worth).0)
+mark_starts s m text a o = (o.symbol, [], o.alone, (line_back s o.symbol a o.is_worth).0)
 
 pub joined_starts : {L A B : Type 0} (first : Rules L A) (second : A → Rules L B) (test : Sign → Bool) → StartsIn first test → StartsIn (JoinedAt first second) test
-joined_starts first second test starts m text b j = let s = starts m j.front j.value j.one in (s.0, s.1 ++ j.back, j.split ∙ ap (λ l. l ++ j.back) s.2, s.3)
+joined_starts first_rule second test = all.joined_starts first_rule second (at test)
 
 pub made_starts : {L A B : Type 0} (rule : Rules L A) (f : A → B) (test : Sign → Bool) → StartsIn rule test → StartsIn (MadeAt rule f) test
-made_starts rule f = joined_starts rule (λ a. GivesAt (f a))
+made_starts rule f test = all.made_starts rule f (at test)
 
 pub either_starts : {L A : Type 0} (first second : Rules L A) (test : Sign → Bool) → StartsIn first test → StartsIn second test → StartsIn (EitherAt first second) test
-either_starts first second test one other m text a (inl h) = one m text a h
-either_starts first second test one other m text a (inr h) = other m text a h
+either_starts one other test = all.either_starts one other (at test)
 
 pub when_starts : {L A : Type 0} (condition : Bool) (rule : Rules L A) (test : Sign → Bool) → StartsIn rule test → StartsIn (WhenAt condition rule) test
-when_starts condition rule test starts m text a h = starts m text a h.spelled
+when_starts condition rule test = all.when_starts condition rule (at test)
 
 pub nests_starts : {L A : Type 0} (depth : L → ℕ) (rule : Rules L A) (test : Sign → Bool) → StartsIn rule test → StartsIn (NestsAt depth rule) test
-nests_starts depth rule test starts m text a h = starts m text a h.spelled
+nests_starts depth rule test = all.nests_starts depth rule (at test)
 
 pub without_starts : {L A : Type 0} (s : Sign) (rule : Rules L A) (test : Sign → Bool) → StartsIn rule test → StartsIn (WithoutAt s rule) test
 without_starts s rule test starts m text a h = starts m text a h.spelled
@@ -196,209 +99,65 @@ pub online_starts : {L A : Type 0} (rule : ℕ → Rules L A) (test : Sign → B
 online_starts rule test starts m text a h = starts h.first.line m text a h.spelled
 
 pub starts_in_more : {L A : Type 0} (rule : Rules L A) (test wider : Sign → Bool) → ((s : Sign) → test s ≡ true → wider s ≡ true) → StartsIn rule test → StartsIn rule wider
-starts_in_more rule test wider more starts m text a h = let s = starts m text a h in (s.0, s.1, s.2, more (sign_of s.0.kind) s.3)
+starts_in_more rule test wider more = all.starts_in_more rule (at test) (at wider) (λ o. more (next_sign o))
 
--- each with a test of its own
 pub or_starts : {L A : Type 0} (first second : Rules L A) (s t : Sign → Bool) → StartsIn first s → StartsIn second t → StartsIn (EitherAt first second) (λ x. s x || t x)
-or_starts first second s t one other = either_starts first second (λ x. s x || t x)
-    (starts_in_more first s (λ x. s x || t x) (λ x. or_left (s x) (t x)) one) (starts_in_more second t (λ x. s x || t x) (λ x. or_right (s x) (t x)) other)
+or_starts one other s t = all.or_starts one other (at s) (at t)
 
--- what starts with other tokens
 pub starts_apart : {L A : Type 0} (rule : Rules L A) (stop : Stop A) (test other : Sign → Bool) → ((s : Sign) → other s ≡ true → test s ≡ false) → StartsIn rule other → Apart rule stop test
-starts_apart rule stop test other apart starts m text a r h is = let x = starts m text a h in ap (λ l. test (head (l ++ r))) x.2 ∙ apart (sign_of x.0.kind) x.3
+starts_apart rule stop test other apart = all.starts_apart rule (ends stop) (at test) (at other) (λ o. apart (next_sign o))
 
--- what is empty, before other tokens
 pub gives_apart : {L A : Type 0} (a : A) (stop : Stop A) (test : Sign → Bool) → ((s : Sign) → stop a s ≡ true → test s ≡ false) → Apart {L = L} (GivesAt a) stop test
-gives_apart a stop test apart m text b r g is = ap (λ l. test (head (l ++ r))) g.empty ∙ apart (head r) (ap (λ x. stop x (head r)) (sym g.same) ∙ is)
+gives_apart a stop test apart = all.gives_apart a (ends stop) (at test) (λ o. apart (next_sign o))
 
--- the same, for a value made of what was read
 pub made_apart : {L A B : Type 0} (rule : Rules L A) (f : A → B) (rule_stop : Stop A) (stop : Stop B) (test : Sign → Bool) → ((a : A) (s : Sign) → stop (f a) s ≡ true → rule_stop a s ≡ true) → Apart rule rule_stop test → Apart (MadeAt rule f) stop test
-made_apart rule f rule_stop stop test weaker apart m text b r h is =
-    let g = given (rule m) f text b h in
-    apart m text g.0 r g.1 (weaker g.0 (head r) (ap (λ x. stop x (head r)) (sym g.2) ∙ is))
+made_apart rule f rule_stop stop test weaker = all.made_apart rule f (ends rule_stop) (ends stop) (at test) (λ a o. weaker a (next_sign o))
 
 pub either_apart : {L A : Type 0} (first second : Rules L A) (stop : Stop A) (test : Sign → Bool) → Apart first stop test → Apart second stop test → Apart (EitherAt first second) stop test
-either_apart first second stop test one other m text a r (inl h) is = one m text a r h is
-either_apart first second stop test one other m text a r (inr h) is = other m text a r h is
+either_apart one other stop test = all.either_apart one other (ends stop) (at test)
 
 -- ---- what may follow
 
 pub anything_follows : {L A B : Type 0} (second : A → Rules L B) (stop : Stop B) → Follows Anything second stop
-anything_follows second stop m a ts b r h is = refl
+anything_follows second stop = all.anything_follows second (ends stop)
 
--- each value, before what starts with tokens that stop it
 pub starts_follow : {L A B : Type 0} (first_stop : Stop A) (second : A → Rules L B) (stop : Stop B) (test : Sign → Bool) → ((a : A) (s : Sign) → test s ≡ true → first_stop a s ≡ true) → ((a : A) → StartsIn (second a) test)
     → Follows first_stop second stop
-starts_follow first_stop second stop test stops starts m a ts b r h is = stops a (head (ts ++ r)) (begun (second a) test (starts a) m ts r b h)
+starts_follow first_stop second stop test stops = all.starts_follow (ends first_stop) second (ends stop) (at test) (λ a o. stops a (next_sign o))
 
 pub gives_follow : {L A B : Type 0} (f : A → B) (first_stop : Stop A) (stop : Stop B) → ((a : A) (s : Sign) → stop (f a) s ≡ true → first_stop a s ≡ true) → Follows {L = L} first_stop (λ a. GivesAt (f a)) stop
-gives_follow f first_stop stop weaker m a text b r g is = ap (λ l. first_stop a (head (l ++ r))) g.empty ∙ weaker a (head r) (ap (λ x. stop x (head r)) (sym g.same) ∙ is)
+gives_follow f first_stop stop weaker = all.gives_follow f (ends first_stop) (ends stop) (λ a o. weaker a (next_sign o))
 
 pub either_follows : {L A B : Type 0} (first_stop : Stop A) (one other : A → Rules L B) (stop : Stop B) → Follows first_stop one stop → Follows first_stop other stop → Follows first_stop (λ a. EitherAt (one a) (other a)) stop
-either_follows first_stop one other stop first second m a ts b r (inl h) is = first m a ts b r h is
-either_follows first_stop one other stop first second m a ts b r (inr h) is = second m a ts b r h is
+either_follows first_stop one other stop = all.either_follows (ends first_stop) one other (ends stop)
 
 module _ {L : Type 0} (Above : L → L → Type 0) (same_level : (l : L) → Above l l) where
-  -- a refusal at the first token, of a rule that begins with no such token
   pub refused_here : {A : Type 0} (rule : Rules L A) (stop : Stop A) (level : L) (ts : List Token)
       → ((m : L) (us : List Token) → head us ≡ head ts → (a : A) (q : List Token) → Begins rule stop m us a q → ⊥) → IsRefused Above rule stop level ts false (length ts)
-  refused_here rule stop level ts none = record {
-    front = [];
-    rest = ts;
-    split = refl;
-    is_left = refl;
-    viable = inl refl;
-    dead = λ m bound us agrees a q begins. none m us (agrees_head [] ts us agrees) a q begins;
-    beyond = λ deep. absurd (cc);
-  }
+  refused_here rule stop level ts none = all.refused_here Above same_level rule (ends stop) level ts (λ m us e. none m us (ap next_sign e))
 
-  -- ---- one token
+  -- ---- one token, and none
 
-  module _ {A : Type 0} (worth : Token → Option A) (stop : Stop A) (level : L) where
-    one_read : (t : Token) (ts : List Token) (a : A) → worth t ≡ Some a → IsRead Above (OneAt worth) stop level (t ∷ ts) a ts
-    one_read t ts a is_worth = record {
-      text = t ∷ [];
-      split = refl;
-      spelled = λ m _. record { token = t; alone = refl; is_worth = is_worth };
-      only = λ m s e c q begins.
-          let there : t ∷ s ≡ begins.spelled.token ∷ q = begins.split ∙ ap (λ l. l ++ q) begins.spelled.alone in
-          let same : t ≡ begins.spelled.token = cc in
-          let found : worth t ≡ Some c = ap (λ x. worth x) same ∙ begins.spelled.is_worth in
-          (cc, cc);
-    }
-
-    one_refused : (t : Token) (ts : List Token) → worth t ≡ None → IsRefused Above (OneAt worth) stop level (t ∷ ts) false (length (t ∷ ts))
-    one_refused t ts none = record {
-      front = [];
-      rest = t ∷ ts;
-      split = refl;
-      is_left = refl;
-      viable = inl refl;
-      dead = λ m bound us agrees a q begins.
-          let there : t ∷ agrees.0 ≡ begins.spelled.token ∷ q = sym agrees.1 ∙ begins.split ∙ ap (λ l. l ++ q) begins.spelled.alone in
-          let same : t ≡ begins.spelled.token = cc in
-          let found : worth t ≡ Some a = ap (λ x. worth x) same ∙ begins.spelled.is_worth in
-          cc;
-      beyond = λ deep. absurd (cc);
-    }
-
-    none_left : IsRefused Above (OneAt worth) stop level [] false 0
-    none_left = record {
-      front = [];
-      rest = [];
-      split = refl;
-      is_left = refl;
-      viable = inl refl;
-      dead = λ m bound us agrees a q begins. let there : [] ≡ begins.spelled.token ∷ q = sym agrees ∙ begins.split ∙ ap (λ l. l ++ q) begins.spelled.alone in cc;
-      beyond = λ deep. absurd (cc);
-    }
-
-    pub one_answers : (ts : List Token) → Answers Above (OneAt worth) stop level ts (one worth ts)
-    one_answers [] = none_left
-    one_answers (t ∷ ts) = go (worth t) refl
-      where
-        go : (o : Option A) → worth t ≡ o → Answers Above (OneAt worth) stop level (t ∷ ts) (met o t ts)
-        go (Some a) is_worth = one_read t ts a is_worth
-        go None is_worth = one_refused t ts is_worth
+  pub one_answers : {A : Type 0} (worth : Token → Option A) (stop : Stop A) (level : L) (ts : List Token) → Answers Above (OneAt worth) stop level ts (one worth ts)
+  one_answers worth stop = all.one_answers Above same_level worth (ends stop)
 
   pub mark_answers : (s : Sign) (stop : Stop ℕ) (level : L) (ts : List Token) → Answers Above (MarkAt s) stop level ts (one (line_at s) ts)
-  mark_answers s stop level ts = one_answers (line_at s) stop level ts
-
-  -- ---- no token
+  mark_answers s = one_answers (line_at s)
 
   pub gives_answers : {A : Type 0} (value : A) (stop : Stop A) (level : L) (ts : List Token) → Answers Above (GivesAt value) stop level ts (Ok (value, ts))
-  gives_answers value stop level ts = record {
-    text = [];
-    split = refl;
-    spelled = λ m _. record { empty = refl; same = refl };
-    only = λ m s e b q begins. (begins.spelled.same, sym (begins.split ∙ ap (λ l. l ++ q) begins.spelled.empty));
-  }
+  gives_answers value stop = all.gives_answers Above same_level value (ends stop)
 
   -- ---- one after the other
 
-  module _ {A B : Type 0} (first : Rules L A) (second : A → Rules L B) (first_stop : Stop A) (stop : Stop B) (level : L) (ts : List Token) (follows : Follows first_stop second stop) where
-    -- what begins with both rules begins with the first
-    begins_first : (m : L) (us : List Token) (b : B) (q : List Token) → (begins : Begins (JoinedAt first second) stop m us b q)
-        → Begins first first_stop m us begins.spelled.value (begins.spelled.back ++ q)
-    begins_first m us b q begins = let j = begins.spelled in record {
-      text = j.front;
-      split = begins.split ∙ ap (λ l. l ++ q) j.split ∙ append_assoc j.front j.back q;
-      spelled = j.one;
-      stops = follows m j.value j.back b q j.other begins.stops;
-    }
-
-    -- and, behind what was read by the first, with the second
-    begins_second : {a : A} {r : List Token} → (read : IsRead Above first first_stop level ts a r) → (m : L) (tail : List Token) → head tail ≡ head r → (b : B) (q : List Token)
-        → Begins (JoinedAt first second) stop m (read.text ++ tail) b q → Begins (second a) stop m tail b q
-    begins_second read m tail e b q begins =
-        let j = begins.spelled in
-        let same = read.only m tail e j.value (j.back ++ q) (begins_first m (read.text ++ tail) b q begins) in
-        record { text = j.back; split = sym same.1; spelled = subst (λ v. second v m j.back b) same.0 j.other; stops = begins.stops }
-
-    joined_read : {a : A} {r : List Token} {b : B} {q : List Token} → IsRead Above first first_stop level ts a r → IsRead Above (second a) stop level r b q → IsRead Above (JoinedAt first second) stop level ts b q
-    joined_read {a = a} {q = q} read inner = record {
-      text = read.text ++ inner.text;
-      split = read.split ∙ ap (λ l. read.text ++ l) inner.split ∙ sym (append_assoc read.text inner.text q);
-      spelled = λ m above. record { front = read.text; back = inner.text; value = a; split = refl; one = read.spelled m above; other = inner.spelled m above };
-      only = λ m s e b2 q2 begins. inner.only m s e b2 q2 (begins_second read m (inner.text ++ s) (head_agrees inner.text q s e ∙ ap head (sym inner.split)) b2 q2
-          (subst (λ l. Begins (JoinedAt first second) stop m l b2 q2) (append_assoc read.text inner.text s) begins));
-    }
-
-    second_refused : {a : A} {r : List Token} {deep : Bool} {left : ℕ} → GoesOn Above level second → IsRead Above first first_stop level ts a r → IsRefused Above (second a) stop level r deep left
-        → IsRefused Above (JoinedAt first second) stop level ts deep left
-    second_refused {a = a} goes_on read inner = record {
-      front = read.text ++ inner.front;
-      rest = inner.rest;
-      split = read.split ∙ ap (λ l. read.text ++ l) inner.split ∙ sym (append_assoc read.text inner.front inner.rest);
-      is_left = inner.is_left;
-      viable = inr (elim inner.viable [
-        | inl empty ↦ (let g = goes_on level (same_level level) a in (g.0, g.1, record { front = read.text; back = g.0; value = a; split = append_assoc read.text inner.front g.0 ∙ ap (λ l. read.text ++ (l ++ g.0)) empty; one = read.spelled level (same_level level); other = g.2 }))
-        | inr more ↦ (more.0, more.1, record { front = read.text; back = inner.front ++ more.0; value = a; split = append_assoc read.text inner.front more.0; one = read.spelled level (same_level level); other = more.2 })
-      ]);
-      dead = λ m bound us agrees b q begins.
-          let behind = agrees_behind read.text inner.front inner.rest us agrees in
-          inner.dead m bound behind.0 behind.2 b q (begins_second read m behind.0 (agrees_head inner.front inner.rest behind.0 behind.2 ∙ ap head (sym inner.split)) b q
-          (subst (λ l. Begins (JoinedAt first second) stop m l b q) behind.1 begins));
-      beyond = λ deep. let w = inner.beyond deep in
-          (w.0, w.1, w.2, w.3, w.4, w.5, w.6, record { front = read.text; back = inner.front ++ (w.2 ∷ w.4); value = a; split = append_assoc read.text inner.front (w.2 ∷ w.4); one = read.spelled w.0 w.1; other = w.7 });
-    }
-
-    first_refused : {deep : Bool} {left : ℕ} → GoesOn Above level second → IsRefused Above first first_stop level ts deep left → IsRefused Above (JoinedAt first second) stop level ts deep left
-    first_refused goes_on inner = record {
-      front = inner.front;
-      rest = inner.rest;
-      split = inner.split;
-      is_left = inner.is_left;
-      viable = elim inner.viable [
-        | inl empty ↦ inl empty
-        | inr more ↦ (let g = goes_on level (same_level level) more.1 in inr (more.0 ++ g.0, g.1, record { front = inner.front ++ more.0; back = g.0; value = more.1; split = sym (append_assoc inner.front more.0 g.0); one = more.2; other = g.2 }))
-      ];
-      dead = λ m bound us agrees b q begins. inner.dead m bound us agrees begins.spelled.value (begins.spelled.back ++ q) (begins_first m us b q begins);
-      beyond = λ deep. let w = inner.beyond deep in let g = goes_on w.0 w.1 w.5 in
-          (w.0, w.1, w.2, w.3, w.4 ++ g.0, g.1, w.6, record { front = inner.front ++ (w.2 ∷ w.4); back = g.0; value = w.5; split = sym (append_assoc inner.front (w.2 ∷ w.4) g.0); one = w.7; other = g.2 });
-    }
-
-    pub joined_answers : (o : Outcome A) (f : A → Reader B) → GoesOn Above level second → Answers Above first first_stop level ts o
-        → ((a : A) (r : List Token) → IsRead Above first first_stop level ts a r → Answers Above (second a) stop level r (f a r))
-        → Answers Above (JoinedAt first second) stop level ts (and_then o f)
-    joined_answers (Ok x) f goes_on read behind = go (f x.0 x.1) (behind x.0 x.1 read)
-      where
-        go : (o : Outcome B) → Answers Above (second x.0) stop level x.1 o → Answers Above (JoinedAt first second) stop level ts o
-        go (Ok y) inner = joined_read read inner
-        go (Err (Unexpected left)) inner = second_refused goes_on read inner
-        go (Err (TooDeep left)) inner = second_refused goes_on read inner
-        go (Err Memory) inner = inner
-    joined_answers (Err (Unexpected left)) f goes_on refused behind = first_refused goes_on refused
-    joined_answers (Err (TooDeep left)) f goes_on refused behind = first_refused goes_on refused
-    joined_answers (Err Memory) f goes_on refused behind = refused
-
-  -- ---- a value made of what was read
+  module _ {A B : Type 0} (one : Rules L A) (second : A → Rules L B) (first_stop : Stop A) (stop : Stop B) (level : L) (ts : List Token) (follows : Follows first_stop second stop) where
+    pub joined_answers : (o : Outcome A) (f : A → Reader B) → GoesOn Above level second → Answers Above one first_stop level ts o
+        → ((a : A) (r : List Token) → IsRead Above one first_stop level ts a r → Answers Above (second a) stop level r (f a r))
+        → Answers Above (JoinedAt one second) stop level ts (and_then o f)
+    joined_answers = all.joined_answers Above same_level one second (ends first_stop) (ends stop) level ts follows
 
   pub made_answers : {A B : Type 0} (rule : Rules L A) (f : A → B) (rule_stop : Stop A) (stop : Stop B) (level : L) (ts : List Token) → ((a : A) (s : Sign) → stop (f a) s ≡ true → rule_stop a s ≡ true)
       → (o : Outcome A) → Answers Above rule rule_stop level ts o → Answers Above (MadeAt rule f) stop level ts (and_then o (λ a. gives (f a)))
-  made_answers rule f rule_stop stop level ts weaker o reads =
-      joined_answers rule (λ a. GivesAt (f a)) rule_stop stop level ts (gives_follow f rule_stop stop weaker) o (λ a. gives (f a)) (λ m above a. ([], f a, record { empty = refl; same = refl })) reads
-      (λ a r read. gives_answers (f a) stop level r)
+  made_answers rule f rule_stop stop level ts weaker = all.made_answers Above same_level rule f (ends rule_stop) (ends stop) level ts (λ a o. weaker a (next_sign o))
 
   -- ---- the answers of one rule carried to another
 
@@ -406,180 +165,60 @@ module _ {L : Type 0} (Above : L → L → Type 0) (same_level : (l : L) → Abo
       → ((m : L) → Above level m → (text : List Token) (a : A) → narrow m text a → wide m text a)
       → ((m : L) (us : List Token) → head us ≡ head ts → (a : A) (r : List Token) → Begins wide stop m us a r → Begins narrow narrow_stop m us a r)
       → (o : Outcome A) → Answers Above narrow narrow_stop level ts o → Answers Above wide stop level ts o
-  carried {A = A} narrow wide narrow_stop stop level ts to fro = by
-    where
-      refused : (deep : Bool) (left : ℕ) → IsRefused Above narrow narrow_stop level ts deep left → IsRefused Above wide stop level ts deep left
-      refused deep left inner = record {
-        front = inner.front;
-        rest = inner.rest;
-        split = inner.split;
-        is_left = inner.is_left;
-        viable = elim inner.viable [ inl empty ↦ inl empty | inr more ↦ inr (more.0, more.1, to level (same_level level) (inner.front ++ more.0) more.1 more.2) ];
-        dead = λ m bound us agrees a q begins. inner.dead m bound us agrees a q (fro m us (agrees_head inner.front inner.rest us agrees ∙ ap head (sym inner.split)) a q begins);
-        beyond = λ deep. let w = inner.beyond deep in (w.0, w.1, w.2, w.3, w.4, w.5, w.6, to w.0 w.1 (inner.front ++ (w.2 ∷ w.4)) w.5 w.7);
-      }
+  carried narrow wide narrow_stop stop level ts to fro = all.carried Above same_level narrow wide (ends narrow_stop) (ends stop) level ts to (λ m us e. fro m us (ap next_sign e))
 
-      by : (o : Outcome A) → Answers Above narrow narrow_stop level ts o → Answers Above wide stop level ts o
-      by (Ok x) read = record {
-        text = read.text;
-        split = read.split;
-        spelled = λ m above. to m above read.text x.0 (read.spelled m above);
-        only = λ m s e b q begins. read.only m s e b q (fro m (read.text ++ s) (head_agrees read.text x.1 s e ∙ ap head (sym read.split)) b q begins);
-      }
-      by (Err (Unexpected left)) inner = refused false left inner
-      by (Err (TooDeep left)) inner = refused true left inner
-      by (Err Memory) inner = inner
-
-  -- the same rule in other words
   pub equal_answers : {A : Type 0} (rule other : Rules L A) (stop : Stop A) (level : L) (ts : List Token)
       → ((m : L) (text : List Token) (a : A) → rule m text a → other m text a) → ((m : L) (text : List Token) (a : A) → other m text a → rule m text a)
       → (o : Outcome A) → Answers Above rule stop level ts o → Answers Above other stop level ts o
-  equal_answers rule other stop level ts to fro = carried rule other stop stop level ts (λ m _. to m)
-      (λ m us e a r begins. record { text = begins.text; split = begins.split; spelled = fro m begins.text a begins.spelled; stops = begins.stops })
+  equal_answers rule other stop = all.equal_answers Above same_level rule other (ends stop)
 
-  -- the same rule where fewer tokens may be behind it
   pub stricter_answers : {A : Type 0} (rule : Rules L A) (stop stricter : Stop A) (level : L) (ts : List Token) → ((a : A) (s : Sign) → stricter a s ≡ true → stop a s ≡ true)
       → (o : Outcome A) → Answers Above rule stop level ts o → Answers Above rule stricter level ts o
-  stricter_answers rule stop stricter level ts weaker = carried rule rule stop stricter level ts (λ m _ text a h. h)
-      (λ m us e a r begins. record { text = begins.text; split = begins.split; spelled = begins.spelled; stops = weaker a (head r) begins.stops })
+  stricter_answers rule stop stricter level ts weaker = all.stricter_answers Above same_level rule (ends stop) (ends stricter) level ts (λ a o. weaker a (next_sign o))
 
   -- ---- one rule or the other, by the next token
 
-  module _ {A : Type 0} (first second : Rules L A) (test : Sign → Bool) (stop : Stop A) (level : L) (ts : List Token) (starts : StartsIn first test) (apart : Apart second stop test) where
-    pub by_first : test (head ts) ≡ true → (o : Outcome A) → Answers Above first stop level ts o → Answers Above (EitherAt first second) stop level ts o
-    by_first here = carried first (EitherAt first second) stop stop level ts (λ m _ text a h. inl h)
-        (λ m us e a r begins. record {
-          text = begins.text;
-          split = begins.split;
-          spelled = elim begins.spelled [
-            | inl h ↦ h
-            | inr h ↦ (let f = apart m begins.text a r h begins.stops in let t : test (head us) ≡ false = ap (λ l. test (head l)) begins.split ∙ f in let u : test (head us) ≡ true = ap test e ∙ here in cc)
-          ];
-          stops = begins.stops;
-        })
+  module _ {A : Type 0} (one second : Rules L A) (test : Sign → Bool) (stop : Stop A) (level : L) (ts : List Token) (starts : StartsIn one test) (apart : Apart second stop test) where
+    pub by_first : test (head ts) ≡ true → (o : Outcome A) → Answers Above one stop level ts o → Answers Above (EitherAt one second) stop level ts o
+    by_first = all.by_first Above same_level one second (at test) (ends stop) level ts starts apart
 
-    pub by_second : test (head ts) ≡ false → (o : Outcome A) → Answers Above second stop level ts o → Answers Above (EitherAt first second) stop level ts o
-    by_second here = carried second (EitherAt first second) stop stop level ts (λ m _ text a h. inr h)
-        (λ m us e a r begins. record {
-          text = begins.text;
-          split = begins.split;
-          spelled = elim begins.spelled [
-            | inl h ↦ (let f = begun first test starts m begins.text r a h in let t : test (head us) ≡ true = ap (λ l. test (head l)) begins.split ∙ f in let u : test (head us) ≡ false = ap test e ∙ here in cc)
-            | inr h ↦ h
-          ];
-          stops = begins.stops;
-        })
+    pub by_second : test (head ts) ≡ false → (o : Outcome A) → Answers Above second stop level ts o → Answers Above (EitherAt one second) stop level ts o
+    by_second = all.by_second Above same_level one second (at test) (ends stop) level ts starts apart
 
-    pub either_answers : (o p : Outcome A) → (test (head ts) ≡ true → Answers Above first stop level ts o) → (test (head ts) ≡ false → Answers Above second stop level ts p)
-        → Answers Above (EitherAt first second) stop level ts (cond (test (head ts)) o p)
-    either_answers o p one other = go (test (head ts)) refl
-      where
-        go : (b : Bool) → test (head ts) ≡ b → Answers Above (EitherAt first second) stop level ts (cond b o p)
-        go true here = by_first here o (one here)
-        go false here = by_second here p (other here)
+    pub either_answers : (o p : Outcome A) → (test (head ts) ≡ true → Answers Above one stop level ts o) → (test (head ts) ≡ false → Answers Above second stop level ts p)
+        → Answers Above (EitherAt one second) stop level ts (cond (test (head ts)) o p)
+    either_answers = all.either_answers Above same_level one second (at test) (ends stop) level ts starts apart
 
-    -- where the grammar names them in the other order
-    pub either_answers_back : (o p : Outcome A) → (test (head ts) ≡ true → Answers Above first stop level ts o) → (test (head ts) ≡ false → Answers Above second stop level ts p)
-        → Answers Above (EitherAt second first) stop level ts (cond (test (head ts)) o p)
-    either_answers_back o p one other = equal_answers (EitherAt first second) (EitherAt second first) stop level ts swap back (cond (test (head ts)) o p) (either_answers o p one other)
-      where
-        swap : (m : L) (text : List Token) (a : A) → EitherAt first second m text a → EitherAt second first m text a
-        swap m text a (inl h) = inr h
-        swap m text a (inr h) = inl h
+    pub either_answers_back : (o p : Outcome A) → (test (head ts) ≡ true → Answers Above one stop level ts o) → (test (head ts) ≡ false → Answers Above second stop level ts p)
+        → Answers Above (EitherAt second one) stop level ts (cond (test (head ts)) o p)
+    either_answers_back = all.either_answers_back Above same_level one second (at test) (ends stop) level ts starts apart
 
-        back : (m : L) (text : List Token) (a : A) → EitherAt second first m text a → EitherAt first second m text a
-        back m text a (inl h) = inr h
-        back m text a (inr h) = inl h
-
-  -- the rule where it may begin here, else a refusal
   pub guarded_answers : {A : Type 0} (rule : Rules L A) (test : Sign → Bool) (stop : Stop A) (level : L) (ts : List Token) → StartsIn rule test
       → (o : Outcome A) → (test (head ts) ≡ true → Answers Above rule stop level ts o) → Answers Above rule stop level ts (cond (test (head ts)) o (Err (Unexpected (length ts))))
-  guarded_answers {A = A} rule test stop level ts starts o reads = go (test (head ts)) refl
-    where
-      go : (b : Bool) → test (head ts) ≡ b → Answers Above rule stop level ts (cond b o (Err (Unexpected (length ts))))
-      go true here = reads here
-      go false here = refused_here rule stop level ts (λ m us e a q begins.
-          let t : test (head us) ≡ true = ap (λ l. test (head l)) begins.split ∙ begun rule test starts m begins.text q a begins.spelled in
-          let u : test (head us) ≡ false = ap test e ∙ here in
-          cc)
+  guarded_answers rule test stop = all.guarded_answers Above same_level rule (at test) (ends stop)
 
-  -- the rule or nothing
   pub perhaps_answers : {A : Type 0} (rule : Rules L A) (test : Sign → Bool) (rule_stop : Stop A) (stop : Stop (Option A)) (level : L) (ts : List Token) → StartsIn rule test
       → ((a : A) (s : Sign) → stop (Some a) s ≡ true → rule_stop a s ≡ true) → ((s : Sign) → stop None s ≡ true → test s ≡ false)
       → (o : Outcome A) → (test (head ts) ≡ true → Answers Above rule rule_stop level ts o)
       → Answers Above (PerhapsAt rule) stop level ts (cond (test (head ts)) (and_then o (λ a. gives (Some a))) (Ok (None, ts)))
-  perhaps_answers rule test rule_stop stop level ts starts weaker apart o reads =
-      either_answers (MadeAt rule Some) (GivesAt None) test stop level ts (made_starts rule Some test starts) (gives_apart None stop test apart)
-      (and_then o (λ a. gives (Some a))) (Ok (None, ts)) (λ here. made_answers rule Some rule_stop stop level ts weaker o (reads here)) (λ _. gives_answers None stop level ts)
+  perhaps_answers rule test rule_stop stop level ts starts weaker apart = all.perhaps_answers Above same_level rule (at test) (ends rule_stop) (ends stop) level ts starts (λ a o. weaker a (next_sign o)) (λ o. apart (next_sign o))
 
   -- ---- the rule under a condition
 
   pub when_holds : {A : Type 0} (condition : Bool) (rule : Rules L A) (stop : Stop A) (level : L) (ts : List Token) → condition ≡ true → (o : Outcome A) → Answers Above rule stop level ts o
       → Answers Above (WhenAt condition rule) stop level ts o
-  when_holds condition rule stop level ts holds = equal_answers rule (WhenAt condition rule) stop level ts (λ m text a h. record { holds = holds; spelled = h }) (λ m text a h. h.spelled)
-
-  pub when_fails : {A : Type 0} (condition : Bool) (rule : Rules L A) (stop : Stop A) (level : L) (ts : List Token) → condition ≡ false
-      → Answers Above (WhenAt condition rule) stop level ts (Err (Unexpected (length ts)))
-  when_fails condition rule stop level ts fails = refused_here (WhenAt condition rule) stop level ts (λ m us e a q begins. let h = begins.spelled.holds in cc)
+  when_holds condition rule stop = all.when_holds Above same_level condition rule (ends stop)
 
   pub when_answers : {A : Type 0} (condition : Bool) (rule : Rules L A) (stop : Stop A) (level : L) (ts : List Token) (o : Outcome A) → (condition ≡ true → Answers Above rule stop level ts o)
       → Answers Above (WhenAt condition rule) stop level ts (cond condition o (Err (Unexpected (length ts))))
-  when_answers {A = A} condition rule stop level ts o reads = go condition refl
-    where
-      go : (b : Bool) → condition ≡ b → Answers Above (WhenAt condition rule) stop level ts (cond b o (Err (Unexpected (length ts))))
-      go true holds = when_holds condition rule stop level ts holds o (reads holds)
-      go false fails = when_fails condition rule stop level ts fails
+  when_answers condition rule stop = all.when_answers Above same_level condition rule (ends stop)
 
   -- ---- the rule by its first token
-
-  -- The answers of a rule carried to one that is narrower only by what it asks of its first token, which is the one of ts.
-  module _ {A : Type 0} (rule narrow : Rules L A) (stop : Stop A) (level : L) (ts : List Token)
-      (to : (m : L) (x : Token) (us more : List Token) (a : A) → ts ≡ x ∷ us → rule m (x ∷ more) a → narrow m (x ∷ more) a)
-      (to_empty : (m : L) (a : A) → rule m [] a → narrow m [] a)
-      (fro : (m : L) (us : List Token) → line_of us ≡ line_of ts → (a : A) (r : List Token) → Begins narrow stop m us a r → Begins rule stop m us a r)
-      (fro_empty : (n : L) (a : A) → rule n [] a → (m : L) (us : List Token) (b : A) (r : List Token) → Begins narrow stop m us b r → Begins rule stop m us b r) where
-    narrow_at : (m : L) (text r : List Token) (a : A) → ts ≡ text ++ r → rule m text a → narrow m text a
-    narrow_at m [] r a split h = to_empty m a h
-    narrow_at m (x ∷ text) r a split h = to m x (text ++ r) text a split h
-
-    rule_from : (text r s : List Token) (a : A) → rule level text a → ts ≡ text ++ r → (m : L) (b : A) (q : List Token) → Begins narrow stop m (text ++ s) b q → Begins rule stop m (text ++ s) b q
-    rule_from [] r s a h split m b q begins = fro_empty level a h m s b q begins
-    rule_from (x ∷ text) r s a h split m b q begins = fro m (x ∷ (text ++ s)) (ap line_of (sym split)) b q begins
-
-    narrow_viable : (front rest : List Token) → ts ≡ front ++ rest → (more : List Token) (a : A) → rule level (front ++ more) a → (front ≡ []) ⊎ ((more : List Token) × (a : A) × narrow level (front ++ more) a)
-    narrow_viable [] rest split more a h = inl refl
-    narrow_viable (x ∷ front) rest split more a h = inr (more, a, to level x (front ++ rest) (front ++ more) a split h)
-
-    narrow_beyond : (front rest : List Token) → ts ≡ front ++ rest → (m : L) (x : Token) (after more : List Token) (a : A) → rest ≡ x ∷ after → rule m (front ++ (x ∷ more)) a → narrow m (front ++ (x ∷ more)) a
-    narrow_beyond [] rest split m x after more a e h = to m x after more a (split ∙ e) h
-    narrow_beyond (y ∷ front) rest split m x after more a e h = to m y (front ++ rest) (front ++ (x ∷ more)) a split h
-
-    narrow_refused : (deep : Bool) (left : ℕ) → IsRefused Above rule stop level ts deep left → IsRefused Above narrow stop level ts deep left
-    narrow_refused deep left inner = record {
-      front = inner.front;
-      rest = inner.rest;
-      split = inner.split;
-      is_left = inner.is_left;
-      viable = elim inner.viable [ inl empty ↦ inl empty | inr more ↦ narrow_viable inner.front inner.rest inner.split more.0 more.1 more.2 ];
-      dead = λ m bound us agrees a q begins. inner.dead m bound us agrees a q (fro m us (agrees_line inner.front inner.rest us agrees ∙ ap line_of (sym inner.split)) a q begins);
-      beyond = λ deep. let w = inner.beyond deep in (w.0, w.1, w.2, w.3, w.4, w.5, w.6, narrow_beyond inner.front inner.rest inner.split w.0 w.2 w.3 w.4 w.5 w.6 w.7);
-    }
-
-    first_token_answers : (o : Outcome A) → Answers Above rule stop level ts o → Answers Above narrow stop level ts o
-    first_token_answers (Ok x) read = record {
-      text = read.text;
-      split = read.split;
-      spelled = λ m above. narrow_at m read.text x.1 x.0 read.split (read.spelled m above);
-      only = λ m s e b q begins. read.only m s e b q (rule_from read.text x.1 s x.0 (read.spelled level (same_level level)) read.split m b q begins);
-    }
-    first_token_answers (Err (Unexpected left)) inner = narrow_refused false left inner
-    first_token_answers (Err (TooDeep left)) inner = narrow_refused true left inner
-    first_token_answers (Err Memory) inner = inner
 
   -- the rule, where its first token is of another sort
   pub without_answers : {A : Type 0} (s : Sign) (rule : Rules L A) (stop : Stop A) (level : L) (ts : List Token) → same_sign sign.End s ≡ false → same_sign (head ts) s ≡ false
       → (o : Outcome A) → Answers Above rule stop level ts o → Answers Above (WithoutAt s rule) stop level ts o
-  without_answers s rule stop level ts end apart = first_token_answers rule (WithoutAt s rule) stop level ts
+  without_answers s rule stop level ts end apart = all.first_symbol_answers Above same_level rule (WithoutAt s rule) (ends stop) level ts
       (λ m x us more a split h. record { apart = ap (λ l. same_sign (head l) s) (sym split) ∙ apart; spelled = h })
       (λ m a h. record { apart = end; spelled = h })
       (λ m us e a r begins. record { text = begins.text; split = begins.split; spelled = begins.spelled.spelled; stops = begins.stops })
@@ -588,11 +227,11 @@ module _ {L : Type 0} (Above : L → L → Type 0) (same_level : (l : L) → Abo
   -- the rule that is told the line of the next token
   pub online_answers : {A : Type 0} (rule : ℕ → Rules L A) (test : Sign → Bool) (stop : Stop A) (level : L) (ts : List Token) → ((line : ℕ) → StartsIn (rule line) test)
       → (o : Outcome A) → Answers Above (rule (line_of ts)) stop level ts o → Answers Above (OnLineAt rule) stop level ts o
-  online_answers {A = A} rule test stop level ts starts = first_token_answers (rule (line_of ts)) (OnLineAt rule) stop level ts
+  online_answers {A = A} rule test stop level ts starts = all.first_symbol_answers Above same_level (rule (line_of ts)) (OnLineAt rule) (ends stop) level ts
       (λ m x us more a split h. record { first = x; behind = more; begins = refl; spelled = subst (λ n. rule n m (x ∷ more) a) (ap line_of split) h })
       (λ m a h. absurd (none m a h))
       (λ m us e a r begins.
-      let line : begins.spelled.first.line ≡ line_of ts = sym (ap line_of (begins.split ∙ ap (λ l. l ++ r) begins.spelled.begins)) ∙ e in
+      let line : begins.spelled.first.line ≡ line_of ts = sym (ap line_of (begins.split ∙ ap (λ l. l ++ r) begins.spelled.begins)) ∙ ap next_line e in
       record { text = begins.text; split = begins.split; spelled = subst (λ n. rule n m begins.text a) line begins.spelled.spelled; stops = begins.stops })
       (λ n a h m us b r begins. absurd (none n a h))
     where
@@ -601,32 +240,11 @@ module _ {L : Type 0} (Above : L → L → Type 0) (same_level : (l : L) → Abo
 
   -- ---- levels of nesting
 
-  -- where no level is left
-  pub too_deep_answers : {A : Type 0} (rule : Rules L A) (stop : Stop A) (level : L) (ts : List Token) → ((text : List Token) (a : A) → rule level text a → ⊥) → Opens Above rule level ts
-      → Answers Above rule stop level ts (Err (TooDeep (length ts)))
-  too_deep_answers rule stop level ts none opens = record {
-    front = [];
-    rest = ts;
-    split = refl;
-    is_left = refl;
-    viable = inl refl;
-    dead = λ m bound us agrees a q begins. none begins.text a (subst (λ k. rule k begins.text a) (bound refl) begins.spelled);
-    beyond = λ _. opens;
-  }
-
   pub nests_answers : {A : Type 0} (depth : L → ℕ) (rule : Rules L A) (stop : Stop A) (level : L) (ts : List Token) → ((m : L) → Above level m → depth level ≤ depth m)
       → (p : Reader A) → (depth level ≡ 0 → Opens Above (NestsAt depth rule) level ts) → (0 < depth level → Answers Above rule stop level ts (p ts))
       → Answers Above (NestsAt depth rule) stop level ts (and_then (enter (depth level) ts) (λ _. p))
-  nests_answers {A = A} depth rule stop level ts deeper p opens reads = go (depth level) refl
-    where
-      go : (n : ℕ) → depth level ≡ n → Answers Above (NestsAt depth rule) stop level ts (and_then (enter n ts) (λ _. p))
-      go zero e = too_deep_answers (NestsAt depth rule) stop level ts (λ text a h. let some : 0 < depth level = h.some in omega arith) (opens e)
-      go (suc n) e = carried rule (NestsAt depth rule) stop stop level ts
-          (λ m above text a h. record { some = (let d = deeper m above in omega arith); spelled = h })
-          (λ m us _ a r begins. record { text = begins.text; split = begins.split; spelled = begins.spelled.spelled; stops = begins.stops })
-          (p ts) (reads (omega arith))
+  nests_answers depth rule stop = all.nests_answers Above same_level depth rule (ends stop)
 
--- What is read a level below is read from here. The rule below is `under` at each level that has one below.
 pub below_answers : {L A : Type 0} (Above : L → L → Type 0) (rule under : Rules L A) (stop : Stop A) (lower level : L) (ts : List Token) (raise : L → L)
     → ((m : L) (text : List Token) (a : A) → under m text a → (k : L) × (m ≡ raise k) × rule k text a)
     → ((k : L) (text : List Token) (a : A) → rule k text a → under (raise k) text a)
@@ -635,77 +253,16 @@ pub below_answers : {L A : Type 0} (Above : L → L → Type 0) (rule under : Ru
     → level ≡ raise lower
     → ((k m : L) → raise k ≡ raise m → k ≡ m)
     → (o : Outcome A) → Answers Above rule stop lower ts o → Answers Above under stop level ts o
-below_answers {L = L} {A = A} Above rule under stop lower level ts raise down up drops lifts here one = by
-  where
-    begins_below : (m : L) (us : List Token) (a : A) (q : List Token) → Begins under stop m us a q → (k : L) × (m ≡ raise k) × Begins rule stop k us a q
-    begins_below m us a q begins = let d = down m begins.text a begins.spelled in (d.0, d.1, record { text = begins.text; split = begins.split; stops = begins.stops; spelled = d.2 })
+below_answers Above rule under stop = all.below_answers Above rule under (ends stop)
 
-    refused : (deep : Bool) (left : ℕ) → IsRefused Above rule stop lower ts deep left → IsRefused Above under stop level ts deep left
-    refused deep left inner = record {
-      front = inner.front;
-      rest = inner.rest;
-      split = inner.split;
-      is_left = inner.is_left;
-      viable = elim inner.viable [ inl empty ↦ inl empty | inr more ↦ inr (more.0, more.1, subst (λ l. under l (inner.front ++ more.0) more.1) (sym here) (up lower (inner.front ++ more.0) more.1 more.2)) ];
-      dead = λ m bound us agrees a q begins. let b = begins_below m us a q begins in inner.dead b.0 (λ deep. one b.0 lower (sym b.1 ∙ bound deep ∙ here)) us agrees a q b.2;
-      beyond = λ deep. let w = inner.beyond deep in (raise w.0, lifts w.0 w.1, w.2, w.3, w.4, w.5, w.6, up w.0 (inner.front ++ (w.2 ∷ w.4)) w.5 w.7);
-    }
-
-    by : (o : Outcome A) → Answers Above rule stop lower ts o → Answers Above under stop level ts o
-    by (Ok p) read = record {
-      text = read.text;
-      split = read.split;
-      spelled = λ m above. let d = drops m above in subst (λ l. under l read.text p.0) (sym d.1) (up d.0 read.text p.0 (read.spelled d.0 d.2));
-      only = λ m s e b q begins. let d = begins_below m (read.text ++ s) b q begins in read.only d.0 s e b q d.2;
-    }
-    by (Err (Unexpected left)) inner = refused false left inner
-    by (Err (TooDeep left)) inner = refused true left inner
-    by (Err Memory) inner = inner
-
--- the same where levels are numbers
 pub under_answers : {A : Type 0} (rule under : Rules ℕ A) (stop : Stop A) (level : ℕ) (ts : List Token)
     → ((text : List Token) (a : A) → under 0 text a → ⊥)
     → ((k : ℕ) (text : List Token) (a : A) → under (suc k) text a → rule k text a)
     → ((k : ℕ) (text : List Token) (a : A) → rule k text a → under (suc k) text a)
     → (o : Outcome A) → Answers (λ l m. l ≤ m) rule stop level ts o → Answers (λ l m. l ≤ m) under stop (suc level) ts o
-under_answers {A = A} rule under stop level ts none down up =
-    below_answers (λ l m. l ≤ m) rule under stop level (suc level) ts suc lower up drops (λ k above. omega arith) refl (λ k m e. omega arith)
-  where
-    lower : (m : ℕ) (text : List Token) (a : A) → under m text a → (k : ℕ) × (m ≡ suc k) × rule k text a
-    lower zero text a h = absurd (none text a h)
-    lower (suc k) text a h = (k, refl, down k text a h)
+under_answers rule under stop = all.under_answers rule under (ends stop)
 
-    drops : (m : ℕ) → suc level ≤ m → (k : ℕ) × (m ≡ suc k) × (level ≤ k)
-    drops zero above = absurd (omega arith)
-    drops (suc k) above = (k, refl, omega arith)
-
--- a rule of one part of the level
 pub within_answers : {K L A : Type 0} (AboveK : K → K → Type 0) (Above : L → L → Type 0) (rule : Rules K A) (stop : Stop A) (level : L) (ts : List Token) (part : L → K)
     → ((m : L) → Above level m → AboveK (part level) (part m)) → ((k : K) → AboveK (part level) k → (m : L) × Above level m × (part m ≡ k))
     → (o : Outcome A) → Answers AboveK rule stop (part level) ts o → Answers Above (λ l. rule (part l)) stop level ts o
-within_answers {K = K} {L = L} {A = A} AboveK Above rule stop level ts part parts wholes = by
-  where
-    again : (m : L) (us : List Token) (a : A) (q : List Token) → Begins (λ l. rule (part l)) stop m us a q → Begins rule stop (part m) us a q
-    again m us a q begins = record { text = begins.text; split = begins.split; spelled = begins.spelled; stops = begins.stops }
-
-    refused : (deep : Bool) (left : ℕ) → IsRefused AboveK rule stop (part level) ts deep left → IsRefused Above (λ l. rule (part l)) stop level ts deep left
-    refused deep left inner = record {
-      front = inner.front;
-      rest = inner.rest;
-      split = inner.split;
-      is_left = inner.is_left;
-      viable = inner.viable;
-      dead = λ m bound us agrees a q begins. inner.dead (part m) (λ deep. ap part (bound deep)) us agrees a q (again m us a q begins);
-      beyond = λ deep. let w = inner.beyond deep in let v = wholes w.0 w.1 in (v.0, v.1, w.2, w.3, w.4, w.5, w.6, subst (λ k. rule k (inner.front ++ (w.2 ∷ w.4)) w.5) (sym v.2) w.7);
-    }
-
-    by : (o : Outcome A) → Answers AboveK rule stop (part level) ts o → Answers Above (λ l. rule (part l)) stop level ts o
-    by (Ok p) read = record {
-      text = read.text;
-      split = read.split;
-      spelled = λ m above. read.spelled (part m) (parts m above);
-      only = λ m s e b q begins. read.only (part m) s e b q (again m (read.text ++ s) b q begins);
-    }
-    by (Err (Unexpected left)) inner = refused false left inner
-    by (Err (TooDeep left)) inner = refused true left inner
-    by (Err Memory) inner = inner
+within_answers AboveK Above rule stop = all.within_answers AboveK Above rule (ends stop)

@@ -7,4 +7,3 @@ pub mod More
 pub mod Taking
 pub mod Turns
 pub mod Verdicts
-pub mod OneToken

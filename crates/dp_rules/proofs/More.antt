@@ -28,7 +28,7 @@ sort_starts worth = one_starts (by_sign worth) (λ s. is_some (worth s)) (λ t a
 
 -- a token of a sort that is worth something
 pub one_of_sort : {A : Type 0} (worth : Sign → Option A) (x : Token) → is_some (worth (sign_of x.kind)) ≡ true → (a : A) × One (by_sign worth) (x ∷ []) a
-one_of_sort worth x e = let w = some_worth (worth (sign_of x.kind)) e in (w.0, record { token = x; alone = refl; is_worth = w.1 })
+one_of_sort worth x e = let w = some_worth (worth (sign_of x.kind)) e in (w.0, record { symbol = x; alone = refl; is_worth = w.1 })
 
 variable_sort : (k : TokenKind) (a : Text) → variable_in k ≡ Some a → is sign.Variable (sign_of k) ≡ true
 variable_sort (kind.Variable name) a e = go (is_superglobal name) e
@@ -68,7 +68,7 @@ text_starts = one_starts (by_kind text_in) (is sign.Text) (λ t a e. of t.kind a
 
 -- a token that is a function's name
 pub name_token : (x : Token) → is sign.Name (sign_of x.kind) ≡ true → (name : Text) × One (by_kind name_in) (x ∷ []) name
-name_token x e = let n = of x.kind e in (n.0, record { token = x; alone = refl; is_worth = n.1 })
+name_token x e = let n = of x.kind e in (n.0, record { symbol = x; alone = refl; is_worth = n.1 })
   where
     by_name : (name : Text) (b : Bool) → is_reserved name ≡ b → is sign.Name (cond b sign.Reserved sign.Name) ≡ true → (n : Text) × (name_in (kind.Name name) ≡ Some n)
     by_name name true reserved e = absurd (cc)

@@ -7,36 +7,9 @@ use Rattle.dp_rules.specs.declared.sign.Sign.{Sign}
 use Rattle.dp_rules.specs.declared.sign.Sign.TheVariants as sign
 use Rattle.dp_rules.specs.Signs.{sign_of, number_of, same_sign, is, head}
 use Rattle.dp_rules.specs.Rules.{line_at, Mark}
+pub use Rattle.dp_grammar.proofs.Truth.{and_parts, both, not_true, not_false, or_left, or_right, or_false, or_cases}
 
--- ---- truth values
-
-pub and_parts : (a b : Bool) → (a && b) ≡ true → (a ≡ true) × (b ≡ true)
-and_parts true b e = (refl, e)
-and_parts false b e = absurd (cc)
-
-pub both : (a b : Bool) → a ≡ true → b ≡ true → (a && b) ≡ true
-both a b one other = ap (λ x. x && b) one ∙ other
-
-pub not_true : (b : Bool) → not b ≡ true → b ≡ false
-not_true true e = absurd (cc)
-not_true false e = refl
-
-pub not_false : (b : Bool) → b ≡ false → not b ≡ true
-not_false b e = ap not e
-
-pub or_left : (a b : Bool) → a ≡ true → (a || b) ≡ true
-or_left a b is = ap (λ x. x || b) is
-
-pub or_right : (a b : Bool) → b ≡ true → (a || b) ≡ true
-or_right true b is = refl
-or_right false b is = is
-
-pub or_false : (a b : Bool) → a ≡ false → b ≡ false → (a || b) ≡ false
-or_false a b one other = ap (λ x. x || b) one ∙ other
-
-pub or_cases : (a b : Bool) → (a || b) ≡ true → (a ≡ true) ⊎ (b ≡ true)
-or_cases true b is = inl refl
-or_cases false b is = inr is
+-- ---- tests
 
 -- what does not pass the weaker test does not pass the test
 pub contrary : (a b : Bool) → (a ≡ true → b ≡ true) → b ≡ false → a ≡ false
@@ -206,14 +179,14 @@ line_back s t a = go (same_sign (sign_of t.kind) s) refl
     go false is e = absurd (cc)
 
 pub mark_of : (s : Sign) (t : Token) → same_sign (sign_of t.kind) s ≡ true → Mark s (t ∷ []) t.line
-mark_of s t e = record { token = t; alone = refl; is_worth = line_is s t e }
+mark_of s t e = record { symbol = t; alone = refl; is_worth = line_is s t e }
 
 pub mark_alone : (s : Sign) (k : TokenKind) → same_sign (sign_of k) s ≡ true → Mark s (placed k ∷ []) 1
 mark_alone s k e = mark_of s (placed k) e
 
 -- the one token of a mark
 pub mark_token : (s : Sign) (text : List Token) (a : ℕ) → Mark s text a → (t : Token) × (text ≡ t ∷ []) × (same_sign (sign_of t.kind) s ≡ true) × (a ≡ t.line)
-mark_token s text a one = let b = line_back s one.token a one.is_worth in (one.token, one.alone, b.0, b.1)
+mark_token s text a one = let b = line_back s one.symbol a one.is_worth in (one.symbol, one.alone, b.0, b.1)
 
 -- the first token, where one of this sort comes next
 pub first_of_sort : (s : Sign) (ts : List Token) → same_sign sign.End s ≡ false → same_sign (head ts) s ≡ true → (x : Token) × (rest : List Token) × (ts ≡ x ∷ rest) × (same_sign (sign_of x.kind) s ≡ true)

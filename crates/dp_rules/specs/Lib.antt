@@ -4,5 +4,4 @@ pub mod Rules
 pub mod Worths
 pub mod Lists
 pub mod Refused
-pub mod Exact
 pub mod inner

@@ -1,10 +1,11 @@
 -- The sorts of tokens.
-use Rattle.std.specs.Prelude.{ℕ, Bool, ◌||◌, if◌then◌else◌, nat_eq, List, [], ◌∷◌, codes}
+use Rattle.std.specs.Prelude.{ℕ, Bool, ◌||◌, if◌then◌else◌, nat_eq, List, Option, Some, None, codes}
 use Rattle.std.specs.Str.{bytes_eq}
 use Rattle.dp_lexer.specs.declared.token.Token.{Token}
 use Rattle.dp_lexer.specs.declared.token.TokenKind.{TokenKind}
 use Rattle.dp_lexer.specs.declared.token.TokenKind.TheVariants as kind
 use Rattle.dp_lexer.specs.Keywords.{is_reserved}
+use Rattle.dp_grammar.specs.Rules.{head as first}
 use Rattle.dp_rules.specs.declared.sign.Sign.{Sign}
 use Rattle.dp_rules.specs.declared.sign.Sign.TheVariants as sign
 
@@ -158,7 +159,11 @@ same_sign a b = nat_eq (number_of a) (number_of b)
 abbrev pub is : Sign → Sign → Bool
 is a b = same_sign b a
 
+-- what sort of token this is, or the end
+abbrev pub next_sign : Option Token → Sign
+next_sign None = sign.End
+next_sign (Some t) = sign_of t.kind
+
 -- what sort of token comes next
 abbrev pub head : List Token → Sign
-head [] = sign.End
-head (t ∷ ts) = sign_of t.kind
+head ts = next_sign (first ts)

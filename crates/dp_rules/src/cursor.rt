@@ -8,8 +8,8 @@ ghost use Rattle.dp_rules.specs.Signs as signs;
 ghost use Rattle.dp_rules.specs.Signs.{head};
 ghost use Rattle.dp_rules.specs.Worths as worths;
 
-use crate::refusal::Refusal;
 use crate::sign::{Sign, is_superglobal, same_sign, sign_of};
+use dp_grammar::Refusal;
 use dp_lexer::{Token, TokenKind, is_reserved};
 use dp_value::Bytes;
 use std::alloc::Global;

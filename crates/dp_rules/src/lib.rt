@@ -1,16 +1,13 @@
-//! What a grammar over tokens is made of: sorts of tokens, rules (which tokens spell which value), readers with their
-//! cursor, and lists with commas. It is the layer between the tokens and the grammar: no tree stands here, and the laws
-//! of rules and readers are proved once, for any value.
+//! What a grammar over tokens is made of: sorts of tokens, the cursor, and lists with commas. Rules, readers and their
+//! laws are those of dp_grammar; here what comes next is told by its sort. It is the layer between the tokens and the
+//! grammar: no tree stands here.
 #![tactic(auto)]
 
 mod cursor;
-mod laws;
 mod lists;
-mod refusal;
 mod sign;
 
 pub use cursor::{Tokens, enter};
-pub use laws::one_token_is_read;
+pub use dp_grammar::Refusal;
 pub use lists::{Piece, any_items, any_plain_items, many, none, plain_items, some_items, with};
-pub use refusal::Refusal;
 pub use sign::Sign;

@@ -6,8 +6,8 @@ ghost use Rattle.dp_rules.specs.Signs as signs;
 ghost use Rattle.dp_rules.specs.inner.ReadingLists as spec;
 
 use crate::cursor::Tokens;
-use crate::refusal::Refusal;
 use crate::sign::Sign;
+use dp_grammar::Refusal;
 use dp_value::{Items, Memory};
 use std::alloc::Global;
 use std::ops::ControlFlow;

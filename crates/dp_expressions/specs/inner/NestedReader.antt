@@ -5,7 +5,7 @@ use Rattle.std.specs.declared.alloc.Global.{Global}
 use denote.Ref.{MutBor}
 use Rattle.dp_lexer.specs.declared.token.Token.{Token}
 use Rattle.dp_expressions.specs.declared.operand.Part.{Part}
-use Rattle.dp_rules.specs.declared.refusal.Refusal.{Refusal}
+use Rattle.dp_grammar.specs.declared.refusal.Refusal.{Refusal}
 use Rattle.dp_tree.specs.declared.tree.Expression.{Expression}
 use Rattle.dp_rules.specs.inner.Input.{Reads}
 use Rattle.dp_expressions.specs.inner.Reading.{below}
