@@ -8,8 +8,9 @@ use Rattle.dp_markup.specs.Rules.{Rule, Joined, Gives, Made, One, passing, Mark,
 use Rattle.dp_markup.specs.Classes.{is_white}
 use Rattle.dp_markup.specs.Grammar.{Named, White}
 use Rattle.dp_markup.specs.inner.Reading.{same}
-use Rattle.dp_markup.proofs.Answers.{Rules, Stop, Anything, JoinedAt, EitherAt, StepAt, Answers, StartsIn, GoesOn, one_answers, gives_answers, joined_answers, either_answers, joined_starts, wider_starts}
-use Rattle.dp_markup.proofs.Loops.{give, given, step_stop, closed_answers}
+use Rattle.dp_grammar.proofs.Answers.{one_answers, gives_answers, joined_answers}
+use Rattle.dp_markup.proofs.Answers.{Rules, Stop, Anything, JoinedAt, EitherAt, StepAt, Answers, StartsIn, GoesOn, either_answers, joined_starts, wider_starts, same_level, give, given}
+use Rattle.dp_markup.proofs.Loops.{step_stop, closed_answers}
 
 -- The reader reads the rule, at each list of bytes.
 abbrev pub IsReader : {A : Type 0} → Rules A → Stop A → ℕ → Reader A → Type 0
@@ -77,18 +78,18 @@ pub is_passing : (test : ℕ → Bool) (b : ℕ) → test b ≡ true → passing
 is_passing test b is = ap (λ v. cond v (Some b) None) is
 
 pub passing_starts : (test : ℕ → Bool) → StartsIn (λ _. One (passing test)) test
-passing_starts test m text a o = (o.byte, [], o.alone, (passing_is test o.byte a o.is_worth).0)
+passing_starts test m text a o = (o.symbol, [], o.alone, (passing_is test o.symbol a o.is_worth).0)
 
 pub one_byte : (test : ℕ → Bool) (b : ℕ) → test b ≡ true → One (passing test) (b ∷ []) b
-one_byte test b is = record { byte = b; alone = refl; is_worth = is_passing test b is }
+one_byte test b is = record { symbol = b; alone = refl; is_worth = is_passing test b is }
 
 pub mark_of : (c : ℕ) → Mark c (c ∷ []) c
 mark_of c = one_byte (same c) c (eq-eqb c c refl)
 
 pub mark_is : (c : ℕ) (text : List ℕ) (a : ℕ) → Mark c text a → (text ≡ c ∷ []) × (a ≡ c)
 mark_is c text a o =
-    let p = passing_is (same c) o.byte a o.is_worth in
-    let e : o.byte ≡ c = eqb-true o.byte c p.0 in
+    let p = passing_is (same c) o.symbol a o.is_worth in
+    let e : o.symbol ≡ c = eqb-true o.symbol c p.0 in
     (o.alone ∙ ap (λ b. b ∷ []) e, p.1 ∙ e)
 
 pub word_of : (w : List ℕ) → Word w w tt
@@ -128,13 +129,13 @@ made_starts rule f = joined_starts rule (λ a _. Gives (f a))
 
 pub joined_reads : {A B : Type 0} (first : Rules A) (second : A → Rules B) (stop : Stop B) (level : ℕ) (p : Reader A) (f : A → Reader B)
     → IsReader first Anything level p → GoesOn level second → ((a : A) → IsReader (second a) stop level (f a)) → IsReader (JoinedAt first second) stop level (p >>= f)
-joined_reads first second stop level p f one goes other ts = joined_answers first second Anything stop level ts (λ m a us b r h is. refl) (p ts) f goes (one ts) (λ a r _. other a r)
+joined_reads first second stop level p f one goes other ts = joined_answers ◌≤◌ same_level first second Anything stop level ts (λ m a us b r h is. refl) (p ts) f goes (one ts) (λ a r _. other a r)
 
 pub made_reads : {A B : Type 0} (rule : Rules A) (f : A → B) (stop : Stop B) (level : ℕ) (p : Reader A) → IsReader rule (λ a. stop (f a)) level p → IsReader (λ m. Made (rule m) f) stop level (made p f)
 made_reads rule f stop level p reads ts =
-    joined_answers rule (λ a _. Gives (f a)) (λ a. stop (f a)) stop level ts
+    joined_answers ◌≤◌ same_level rule (λ a _. Gives (f a)) (λ a. stop (f a)) stop level ts
     (λ m a us b r h is. ap (λ l. stop (f a) (head (l ++ r))) h.empty ∙ ap (λ x. stop x (head r)) (sym h.same) ∙ is)
-    (p ts) (λ a. gives (f a)) (λ m above a. ([], f a, record { empty = refl; same = refl })) (reads ts) (λ a r _. gives_answers (f a) stop level r)
+    (p ts) (λ a. gives (f a)) (λ m above a. ([], f a, record { empty = refl; same = refl })) (reads ts) (λ a r _. gives_answers ◌≤◌ same_level (f a) stop level r)
 
 pub choose_reads : {A : Type 0} (first second : Rules A) (s t : ℕ → Bool) (stop : Stop A) (level : ℕ) (p q : Reader A)
     → StartsIn first s → StartsIn second t → ((b : ℕ) → t b ≡ true → s b ≡ false) → IsReader first stop level p → IsReader second stop level q
@@ -145,11 +146,11 @@ choose_reads first second s t stop level p q starts other apart one two ts =
     (p ts) (q ts) (λ _. one ts) (λ _. two ts)
 
 pub mark_then : {A : Type 0} (c : ℕ) (rule : Rules A) (stop : Stop A) (level : ℕ) (p : Reader A) → Can rule level → IsReader rule stop level p → IsReader (JoinedAt (λ _. Mark c) (λ _. rule)) stop level (mark c >> p)
-mark_then c rule stop level p can reads = joined_reads (λ _. Mark c) (λ _. rule) stop level (mark c) (λ _. p) (one_answers (passing (same c)) Anything level) (λ m above _. can m above) (λ _. reads)
+mark_then c rule stop level p can reads = joined_reads (λ _. Mark c) (λ _. rule) stop level (mark c) (λ _. p) (one_answers ◌≤◌ same_level (passing (same c)) Anything level) (λ m above _. can m above) (λ _. reads)
 
 pub word_reads : (w : List ℕ) (stop : Stop (Unit {0})) (level : ℕ) → ((u : Unit {0}) (o : Option ℕ) → stop u o ≡ true) → IsReader (λ _. Word w) stop level (word w)
 unfolding word
-word_reads [] stop level all ts = gives_answers tt stop level ts
+word_reads [] stop level all ts = gives_answers ◌≤◌ same_level tt stop level ts
 word_reads (c ∷ cs) stop level all ts = mark_then c (λ _. Word cs) stop level (word cs) (λ m _. (cs, tt, word_of cs)) (word_reads cs stop level all) ts
 
 pub word_then : {A : Type 0} (w : List ℕ) (rule : Rules A) (stop : Stop A) (level : ℕ) (p : Reader A) → Can rule level → IsReader rule stop level p → IsReader (JoinedAt (λ _. Word w) (λ _. rule)) stop level (word w >> p)
@@ -182,7 +183,7 @@ pub white_starts : (u : Unit {0}) → StartsIn (white_piece u) is_white
 white_starts u = made_starts (λ _. White) (λ _. tt) is_white (passing_starts is_white)
 
 pub white_reads : (level : ℕ) (u : Unit {0}) → IsReader (white_piece u) Anything level (made (one (passing is_white)) (λ _. tt))
-white_reads level u = made_reads (λ _. White) (λ _. tt) Anything level (one (passing is_white)) (one_answers (passing is_white) (λ _ _. true) level)
+white_reads level u = made_reads (λ _. White) (λ _. tt) Anything level (one (passing is_white)) (one_answers ◌≤◌ same_level (passing is_white) (λ _ _. true) level)
 
 module _ {A : Type 0} (rule : Rules A) (s : ℕ → Bool) (stop : Stop A) (level : ℕ) (q : Reader A) (starts : StartsIn rule s) (apart : (b : ℕ) → is_white b ≡ true → s b ≡ false)
     (can : Can rule level) (reads : IsReader rule stop level q) (step : Unit {0} → Reader (ControlFlow A (Unit {0})))

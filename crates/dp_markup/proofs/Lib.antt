@@ -10,7 +10,6 @@ pub mod Parts
 pub mod Tags
 pub mod Nested
 pub mod WholeTexts
-pub mod Whole
 pub mod Verdicts
 pub mod RoundTrip
 pub mod Spelled

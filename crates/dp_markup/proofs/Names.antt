@@ -1,12 +1,13 @@
 -- Names: they end before the first byte that is no byte of a name, and can be made longer.
-use Rattle.std.proofs.Common.{◌≡◌, ℕ, zero, suc, ◌+◌, ◌<◌, Bool, true, false, not, ◌||◌, ◌&&◌, List, [], ◌∷◌, ◌++◌, length, take, drop, Option, Ok, sym, refl, ap, ◌∙◌, subst, length-append, cond, arith, nat_eq}
+use Rattle.std.proofs.Common.{◌≤◌, ◌≡◌, ℕ, zero, suc, ◌+◌, ◌<◌, Bool, true, false, not, ◌||◌, ◌&&◌, List, [], ◌∷◌, ◌++◌, length, take, drop, Option, Ok, sym, refl, ap, ◌∙◌, subst, length-append, cond, arith, nat_eq}
 use Rattle.std.specs.List.{prefix_len, list_all, list_any}
 use Rattle.dp_markup.specs.inner.Input.{head, next, refuse, ◌>>=◌, tested}
 use Rattle.dp_markup.specs.Rules.{Tested}
 use Rattle.dp_markup.specs.Classes.{is_name, is_name_start, is_name_byte, is_digit}
 use Rattle.dp_markup.specs.Grammar.{Name, Text, Attributes, same_text, is_new}
 use Rattle.dp_markup.specs.inner.Reading.{name}
-use Rattle.dp_markup.proofs.Answers.{Rules, Stop, StartsIn, Follows, guarded_answers, tested_answers}
+use Rattle.dp_grammar.proofs.Answers.{tested_answers}
+use Rattle.dp_markup.proofs.Answers.{Rules, Stop, StartsIn, Follows, guarded_answers, same_level}
 use Rattle.dp_markup.proofs.Basics.{IsReader}
 
 -- a name may end where no byte of a name comes next
@@ -169,7 +170,7 @@ longer found m text n h =
     )
 
 pub new_name_reads : (found : Attributes) (level : ℕ) → IsReader (λ _. Tested Name (is_new found)) name_stop level (name >>= tested (is_new found))
-new_name_reads found level ts = tested_answers (λ _. Name) (is_new found) name_stop level ts (longer found) (name ts) (name_reads level ts)
+new_name_reads found level ts = tested_answers ◌≤◌ same_level (λ _. Name) (is_new found) name_stop level ts (longer found) (name ts) (name_reads level ts)
 
 -- the name of one letter, which no attribute before has
 pub some_new_name : (found : Attributes) → (n : Text) × Tested Name (is_new found) n n

@@ -2,7 +2,7 @@
 use Rattle.std.specs.declared.ops.ControlFlow.{ControlFlow}
 use Rattle.std.specs.declared.ops.ControlFlow.TheVariants.{Continue, Break}
 use Rattle.std.proofs.Common.{◌≡◌, inl, inr, ℕ, zero, suc, ◌<◌, ◌≤◌, Bool, true, false, ◌||◌, List, [], ◌∷◌, ◌++◌, length, Ok, Err, sym, refl, ap, ◌∙◌, subst, cond, codes, arith}
-use Rattle.dp_markup.specs.declared.refusal.Refusal.TheVariants.{Unexpected, TooDeep, Memory}
+use Rattle.dp_grammar.specs.declared.refusal.Refusal.TheVariants.{Unexpected, TooDeep, Memory}
 use Rattle.dp_markup.specs.declared.tree.Element.{Element}
 use Rattle.dp_markup.specs.declared.tree.Node.{Node}
 use Rattle.dp_markup.specs.declared.states.StartTag.{StartTag}
@@ -12,8 +12,9 @@ use Rattle.dp_markup.specs.Rules.{Rule, Joined, ◌or◌, Made, One, passing, Ma
 use Rattle.dp_markup.specs.Classes.{is_name_start, is_plain_in_text}
 use Rattle.dp_markup.specs.Grammar.{Text, Reference, Start, UpTo, CData, ContentPiece, EndTag, BehindStart, Opened, IsOpened, with_bytes, with_child, nodes_of, no_content, no_attribute, start_tag, element}
 use Rattle.dp_markup.specs.inner.Reading.{same, reference, start, end_tag, spaced_mark, cdata, bracket, content_byte, content_step, inside, behind_start, element_in, no_level, opened}
-use Rattle.dp_markup.proofs.Answers.{Rules, Anything, JoinedAt, EitherAt, ClosedAt, StepAt, Begins, IsRefused, Answers, StartsIn, one_answers, gives_answers, equal_answers, joined_starts, begun, refused_here}
-use Rattle.dp_markup.proofs.Loops.{give, given, step_stop, closed_answers}
+use Rattle.dp_grammar.proofs.Answers.{one_answers, gives_answers, equal_answers, refused_here, under_answers, too_deep_answers}
+use Rattle.dp_markup.proofs.Answers.{Rules, Anything, JoinedAt, EitherAt, ClosedAt, StepAt, Answers, StartsIn, joined_starts, begun, same_level, give, given}
+use Rattle.dp_markup.proofs.Loops.{step_stop, closed_answers}
 use Rattle.dp_markup.proofs.Basics.{IsReader, Can, mark_apart, passing_starts, before, behind_word, marked, behind_mark, word_starts, made_starts, joined_reads, made_reads, choose_reads, mark_then, takes_byte}
 use Rattle.dp_markup.proofs.Parts.{or_starts, reference_reads, reference_starts}
 use Rattle.dp_markup.proofs.Tags.{start_reads, start_starts, some_empty_start, NameAndClose, some_name_and_close, name_and_close_reads, SectionTail, cdata_reads, some_section}
@@ -32,7 +33,7 @@ bytes_start = or_starts (λ _. Reference) (λ _. One (passing is_plain_in_text))
 bytes_read : (level : ℕ) → IsReader (λ _. Bytes) Anything level content_byte
 unfolding content_byte
 bytes_read level = choose_reads (λ _. Reference) (λ _. One (passing is_plain_in_text)) (same 38) is_plain_in_text Anything level reference (one (passing is_plain_in_text))
-    reference_starts (passing_starts is_plain_in_text) (mark_apart is_plain_in_text 38 refl) (reference_reads level) (one_answers (passing is_plain_in_text) Anything level)
+    reference_starts (passing_starts is_plain_in_text) (mark_apart is_plain_in_text 38 refl) (reference_reads level) (one_answers ◌≤◌ same_level (passing is_plain_in_text) Anything level)
 
 module _ (inner : Rules Element) (name : Text) where
   abbrev piece : Content → Rules Content
@@ -158,7 +159,7 @@ module _ (inner : Rules Element) (name : Text) where
 
     content_steps : (c : Content) → IsReader (StepAt piece end c) (step_stop Anything) level (content_step p name c)
     unfolding content_step
-    content_steps c ts = equal_answers (Factored c) (StepAt piece end c) (step_stop Anything) level ts (to_step c) (from_step c) (cond (next (same 60) (head ts)) ((mark 60 >> bracket p name c) ts) (made (made content_byte (λ b. with_bytes c (b ∷ []))) Continue ts))
+    content_steps c ts = equal_answers ◌≤◌ same_level (Factored c) (StepAt piece end c) (step_stop Anything) level ts (to_step c) (from_step c) (cond (next (same 60) (head ts)) ((mark 60 >> bracket p name c) ts) (made (made content_byte (λ b. with_bytes c (b ∷ []))) Continue ts))
         (choose_reads (JoinedAt (λ _. Mark 60) (λ _. Bracketed c)) (Byte c) (same 60) in_text (step_stop Anything) level (mark 60 >> bracket p name c) (made (made content_byte (λ b. with_bytes c (b ∷ []))) Continue)
         (joined_starts (λ _. Mark 60) (λ _. Bracketed c) (same 60) (passing_starts (same 60))) (byte_starts c) (mark_apart in_text 60 refl)
         (mark_then 60 (Bracketed c) (step_stop Anything) level (bracket p name c) (λ m _. (47 ∷ (name ++ 62 ∷ []), Break (nodes_of c), some_bracketed c m)) (bracket_reads c))
@@ -196,7 +197,7 @@ module _ (inner : Rules Element) (starts : StartsIn inner is_name_start) (level 
   behind_reads tag = go tag.is_empty
     where
       go : (b : Bool) → IsReader (λ m. BehindStart (inner m) b tag) Anything level (behind_start p b tag)
-      go true ts = gives_answers (element tag []) Anything level ts
+      go true ts = gives_answers ◌≤◌ same_level (element tag []) Anything level ts
       go false ts = made_reads (ClosedAt (piece inner tag.name) (end inner tag.name) no_content) (element tag) Anything level (inside p tag.name) (inside_reads inner tag.name starts level p reads) ts
 
   element_reads : IsReader (λ m. Opened (inner m)) Anything level (element_in p)
@@ -209,65 +210,23 @@ opened_starts (suc m) text e h = joined_starts (λ _. Start) (λ tag _. BehindSt
 
 -- ---- one level more
 
-opened_below : (m : ℕ) (us : List ℕ) (a : Element) (q : List ℕ) → Begins IsOpened Anything m us a q → (k : ℕ) × (m ≡ suc k) × Begins (λ l. Opened (IsOpened l)) Anything k us a q
-opened_below zero us a q begins = absurd begins.spelled
-opened_below (suc k) us a q begins = (k, refl, record { text = begins.text; split = begins.split; spelled = begins.spelled; stops = refl })
-
 raised : (n : ℕ) (ts : List ℕ) (o : Outcome Element) → Answers (λ l. Opened (IsOpened l)) Anything n ts o → Answers IsOpened Anything (suc n) ts o
-raised n ts = by
-  where
-    spelled_above : (text : List ℕ) (a : Element) → ((k : ℕ) → n ≤ k → Opened (IsOpened k) text a) → (m : ℕ) → suc n ≤ m → IsOpened m text a
-    spelled_above text a all zero above = absurd (omega arith)
-    spelled_above text a all (suc k) above = all k (omega arith)
-
-    refused : (deep : Bool) (left : ℕ) → IsRefused (λ l. Opened (IsOpened l)) Anything n ts deep left → IsRefused IsOpened Anything (suc n) ts deep left
-    refused deep left inner = record {
-      front = inner.front;
-      rest = inner.rest;
-      split = inner.split;
-      is_left = inner.is_left;
-      viable = inner.viable;
-      dead = λ m bound us agrees a q begins. let b = opened_below m us a q begins in inner.dead b.0 (λ deep. let e : m ≡ suc n = bound deep in omega (arith, b.1, e)) us agrees a q b.2;
-      beyond = λ deep. let w = inner.beyond deep in (suc w.0, (let above : n ≤ w.0 = w.1 in omega arith), w.2, w.3, w.4, w.5, w.6, w.7);
-    }
-
-    by : (o : Outcome Element) → Answers (λ l. Opened (IsOpened l)) Anything n ts o → Answers IsOpened Anything (suc n) ts o
-    by (Ok x) read = record {
-      text = read.text;
-      split = read.split;
-      spelled = spelled_above read.text x.0 read.spelled;
-      only = λ m s e b q begins. let c = opened_below m (read.text ++ s) b q begins in read.only c.0 s e b q c.2;
-    }
-    by (Err (Unexpected left)) inner = refused false left inner
-    by (Err (TooDeep left)) inner = refused true left inner
-    by (Err Memory) inner = inner
+raised n ts = under_answers (λ l. Opened (IsOpened l)) IsOpened Anything n ts (λ text a h. h) (λ k text a h. h) (λ k text a h. h)
 
 -- no level is left: refused with the first byte of a name
 no_level_reads : IsReader IsOpened Anything 0 no_level
 unfolding no_level refuse
-no_level_reads [] = refused_here IsOpened Anything 0 [] (λ m us e a q begins. let t = begun IsOpened is_name_start opened_starts m begins.text q a begins.spelled in
+no_level_reads [] = refused_here ◌≤◌ same_level IsOpened Anything 0 [] (λ m us e a q begins. let t = begun IsOpened is_name_start opened_starts m begins.text q a begins.spelled in
     let u : next is_name_start (head us) ≡ true = ap (λ l. next is_name_start (head l)) begins.split ∙ t in
     let v : next is_name_start (head us) ≡ false = ap (next is_name_start) e in absurd (cc))
 no_level_reads (b ∷ bs) = go (is_name_start b) refl
   where
     go : (v : Bool) → is_name_start b ≡ v → Answers IsOpened Anything 0 (b ∷ bs) (cond v (Err (TooDeep (length (b ∷ bs)))) (Err (Unexpected (length (b ∷ bs)))))
-    go false is = refused_here IsOpened Anything 0 (b ∷ bs) (λ m us e a q begins. let t = begun IsOpened is_name_start opened_starts m begins.text q a begins.spelled in
+    go false is = refused_here ◌≤◌ same_level IsOpened Anything 0 (b ∷ bs) (λ m us e a q begins. let t = begun IsOpened is_name_start opened_starts m begins.text q a begins.spelled in
         let u : next is_name_start (head us) ≡ true = ap (λ l. next is_name_start (head l)) begins.split ∙ t in
         let v : next is_name_start (head us) ≡ false = ap (next is_name_start) e ∙ is in absurd (cc))
-    go true is = record {
-      front = [];
-      rest = b ∷ bs;
-      split = refl;
-      is_left = refl;
-      viable = inl refl;
-      dead = λ m bound us agrees a q begins. none m (bound refl) begins.text a begins.spelled;
-      beyond = λ _. (1, (omega arith), b, bs, 47 ∷ 62 ∷ [], element (start_tag (b ∷ []) true no_attribute) [], refl, some_at_one);
-    }
+    go true is = too_deep_answers ◌≤◌ same_level IsOpened Anything 0 (b ∷ bs) (λ text a h. h) (1, (omega arith), b, bs, 47 ∷ 62 ∷ [], element (start_tag (b ∷ []) true no_attribute) [], refl, some_at_one)
       where
-        none : (m : ℕ) → m ≡ 0 → (text : List ℕ) (a : Element) → IsOpened m text a → ⊥
-        none zero e text a h = h
-        none (suc m) e text a h = absurd (omega (arith, e))
-
         some_at_one : IsOpened 1 (b ∷ 47 ∷ 62 ∷ []) (element (start_tag (b ∷ []) true no_attribute) [])
         some_at_one = record { front = b ∷ 47 ∷ 62 ∷ []; back = []; value = start_tag (b ∷ []) true no_attribute; split = refl; one = some_empty_start b is; other = record { empty = refl; same = refl } }
 

@@ -1,14 +1,15 @@
 -- The readers of references, values, attributes and start tags.
 use Rattle.std.specs.declared.ops.ControlFlow.TheVariants.{Continue, Break}
-use Rattle.std.proofs.Common.{◌≡◌, inl, inr, ℕ, zero, suc, ◌+◌, ◌-◌, ◌*◌, Bool, true, false, not, ◌||◌, ◌&&◌, List, [], ◌∷◌, ◌++◌, Option, Some, None, sym, refl, ap, ◌∙◌, subst, cond, nat_eq, nat_le, codes}
+use Rattle.std.proofs.Common.{◌≤◌, ◌≡◌, inl, inr, ℕ, zero, suc, ◌+◌, ◌-◌, ◌*◌, Bool, true, false, not, ◌||◌, ◌&&◌, List, [], ◌∷◌, ◌++◌, Option, Some, None, sym, refl, ap, ◌∙◌, subst, cond, nat_eq, nat_le, codes}
 use Rattle.std.proofs.lemmas.Bool.{eq-eqb}
 use Rattle.dp_markup.specs.inner.Input.{head, next, Reader, made, ◌>>◌, one, mark, word, closed}
 use Rattle.dp_markup.specs.Rules.{Rule, Joined, ◌or◌, Made, One, passing, Mark, Word, Chain, Closed}
 use Rattle.dp_markup.specs.Classes.{is_white, is_digit, is_plain_in_value, is_quote, within_byte, decimal_behind, hexadecimal_behind}
 use Rattle.dp_markup.specs.Grammar.{Text, White, Spaced, Number, Named, Reference, Value}
 use Rattle.dp_markup.specs.inner.Reading.{same, spaced_mark_step, spaced_mark, number_step, number, named, by_number, by_a, entity, reference, value_byte, value_step, quoted, value, spaced_value_step, spaced_value}
-use Rattle.dp_markup.proofs.Answers.{Rules, Anything, JoinedAt, EitherAt, ClosedAt, StepAt, Answers, StartsIn, one_answers, joined_answers, equal_answers, joined_starts, either_starts, wider_starts, same_level}
-use Rattle.dp_markup.proofs.Loops.{give, step_stop, closed_answers}
+use Rattle.dp_grammar.proofs.Answers.{one_answers, joined_answers, equal_answers}
+use Rattle.dp_markup.proofs.Answers.{Rules, Anything, JoinedAt, EitherAt, ClosedAt, StepAt, Answers, StartsIn, joined_starts, either_starts, wider_starts, same_level, give}
+use Rattle.dp_markup.proofs.Loops.{step_stop, closed_answers}
 use Rattle.dp_markup.proofs.Basics.{IsReader, apart_mark, mark_apart, apart_or, apart_white, or_left, or_right, passing_is, passing_starts, mark_of, before, behind_word, marked, behind_mark, named_of, named_is, word_starts, made_starts, joined_reads, made_reads, choose_reads, mark_then, named_reads, step_reads, takes_byte, white_piece, spaced_reads}
 
 pub or_starts : {A : Type 0} (first second : Rules A) (s t : ℕ → Bool) → StartsIn first s → StartsIn second t → StartsIn (EitherAt first second) (λ b. s b || t b)
@@ -24,7 +25,7 @@ module _ (behind : ℕ → ℕ → Option ℕ) (t : ℕ → Bool) (digits : (n b
   last n = λ _. Made (Mark 59) (λ _. n)
 
   digit_starts : (n : ℕ) → StartsIn (digit n) t
-  digit_starts n m text a o = (o.byte, [], o.alone, digits n o.byte a o.is_worth)
+  digit_starts n m text a o = (o.symbol, [], o.alone, digits n o.symbol a o.is_worth)
 
   last_starts : (n : ℕ) → StartsIn (last n) (same 59)
   last_starts n = made_starts (λ _. Mark 59) (λ _. n) (same 59) (passing_starts (same 59))
@@ -33,14 +34,14 @@ module _ (behind : ℕ → ℕ → Option ℕ) (t : ℕ → Bool) (digits : (n b
   unfolding number_step
   number_steps level n = step_reads digit last (λ _. same 59) (λ _. t) Anything level last_starts digit_starts (λ _. mark_apart t 59 ends)
       (λ k. one (behind k)) (λ k. made (mark 59) (λ _. k))
-      (λ k. one_answers (behind k) Anything level) (λ k. made_reads (λ _. Mark 59) (λ _. k) Anything level (mark 59) (one_answers (passing (same 59)) (λ _ _. true) level)) n
+      (λ k. one_answers ◌≤◌ same_level (behind k) Anything level) (λ k. made_reads (λ _. Mark 59) (λ _. k) Anything level (mark 59) (one_answers ◌≤◌ same_level (passing (same 59)) (λ _ _. true) level)) n
 
   some_end : (n : ℕ) → Closed (λ k. One (behind k)) (λ k. Made (Mark 59) (λ _. k)) n (59 ∷ []) n
   some_end n = record { count = 0; chain = give (Mark 59) (λ _. n) (59 ∷ []) 59 (mark_of 59) }
 
   pub number_reads : (level : ℕ) → IsReader (λ _. Number behind) Anything level (number behind)
   unfolding number
-  number_reads level = joined_reads (λ _. One (behind 0)) (λ first. ClosedAt digit last first) Anything level (one (behind 0)) (closed (number_step behind)) (one_answers (behind 0) Anything level)
+  number_reads level = joined_reads (λ _. One (behind 0)) (λ first. ClosedAt digit last first) Anything level (one (behind 0)) (closed (number_step behind)) (one_answers ◌≤◌ same_level (behind 0) Anything level)
       (λ m above n. (59 ∷ [], n, some_end n))
       (closed_answers digit last Anything level (λ n. takes_byte (digit n) t (digit_starts n)) (λ m above n. (59 ∷ [], n, give (Mark 59) (λ _. n) (59 ∷ []) 59 (mark_of 59))) (number_step behind) (number_steps level))
 
@@ -48,7 +49,7 @@ module _ (behind : ℕ → ℕ → Option ℕ) (t : ℕ → Bool) (digits : (n b
   number_starts = joined_starts (digit 0) (λ first. ClosedAt digit last first) t (digit_starts 0)
 
   pub some_number : Number behind (48 ∷ 59 ∷ []) 0
-  some_number = record { front = 48 ∷ []; back = 59 ∷ []; value = 0; split = refl; one = record { byte = 48; alone = refl; is_worth = zero_is }; other = some_end 0 }
+  some_number = record { front = 48 ∷ []; back = 59 ∷ []; value = 0; split = refl; one = record { symbol = 48; alone = refl; is_worth = zero_is }; other = some_end 0 }
 
 decimal_digits : (n b a : ℕ) → decimal_behind n b ≡ Some a → is_digit b ≡ true
 unfolding decimal_behind
@@ -221,7 +222,7 @@ from_reference text a (inr (inr (inr (inr (inr (inr h)))))) =
 
 pub reference_reads : (level : ℕ) → IsReader (λ _. Reference) Anything level reference
 unfolding reference
-reference_reads level ts = equal_answers (λ _. Factored) (λ _. Reference) Anything level ts (λ m. to_reference) (λ m. from_reference) ((mark 38 >> entity) ts)
+reference_reads level ts = equal_answers ◌≤◌ same_level (λ _. Factored) (λ _. Reference) Anything level ts (λ m. to_reference) (λ m. from_reference) ((mark 38 >> entity) ts)
     (mark_then 38 (λ _. Entity) Anything level entity (λ m _. (codes "lt;", 60, inr (inr (inl (named_of (codes "lt;") 60))))) (entity_reads level) ts)
 
 pub reference_starts : StartsIn (λ _. Reference) (same 38)
@@ -244,7 +245,7 @@ value_bytes_start quote = or_starts (λ _. Reference) (λ _. One (passing (is_pl
 value_byte_reads : (quote level : ℕ) → IsReader (λ _. Reference or One (passing (is_plain_in_value quote))) Anything level (value_byte quote)
 unfolding value_byte
 value_byte_reads quote level = choose_reads (λ _. Reference) (λ _. One (passing (is_plain_in_value quote))) (same 38) (is_plain_in_value quote) Anything level reference (one (passing (is_plain_in_value quote)))
-    reference_starts (passing_starts (is_plain_in_value quote)) (mark_apart (is_plain_in_value quote) 38 refl) (reference_reads level) (one_answers (passing (is_plain_in_value quote)) Anything level)
+    reference_starts (passing_starts (is_plain_in_value quote)) (mark_apart (is_plain_in_value quote) 38 refl) (reference_reads level) (one_answers ◌≤◌ same_level (passing (is_plain_in_value quote)) Anything level)
 
 or_false : (u v : Bool) → u ≡ false → v ≡ false → (u || v) ≡ false
 or_false u v one other = ap (λ x. x || v) one ∙ other
@@ -269,7 +270,7 @@ value_steps quote is level v = step_reads (value_piece quote) (value_end quote) 
     (λ _. mark_apart (in_value quote) quote (quote_ends quote is))
     (λ x. made (value_byte quote) (λ b. x ++ b ∷ [])) (λ x. made (mark quote) (λ _. x))
     (λ x. made_reads (λ _. Reference or One (passing (is_plain_in_value quote))) (λ b. x ++ b ∷ []) Anything level (value_byte quote) (value_byte_reads quote level))
-    (λ x. made_reads (λ _. Mark quote) (λ _. x) Anything level (mark quote) (one_answers (passing (same quote)) (λ _ _. true) level)) v
+    (λ x. made_reads (λ _. Mark quote) (λ _. x) Anything level (mark quote) (one_answers ◌≤◌ same_level (passing (same quote)) (λ _ _. true) level)) v
 
 quoted_reads : (quote : ℕ) → is_quote quote ≡ true → (level : ℕ) → IsReader (ClosedAt (value_piece quote) (value_end quote) []) Anything level (quoted quote)
 unfolding quoted
@@ -279,10 +280,10 @@ quoted_reads quote is level = closed_answers (value_piece quote) (value_end quot
 
 value_reads : (level : ℕ) → IsReader (λ _. Value) Anything level value
 unfolding value
-value_reads level ts = joined_answers (λ _. One (passing is_quote)) (λ quote. ClosedAt (value_piece quote) (value_end quote) []) Anything Anything level ts (λ m a us b r h is. refl)
-    (one (passing is_quote) ts) quoted (λ m above quote. (quote ∷ [], [], record { count = 0; chain = some_value_end quote [] })) (one_answers (passing is_quote) Anything level ts)
+value_reads level ts = joined_answers ◌≤◌ same_level (λ _. One (passing is_quote)) (λ quote. ClosedAt (value_piece quote) (value_end quote) []) Anything Anything level ts (λ m a us b r h is. refl)
+    (one (passing is_quote) ts) quoted (λ m above quote. (quote ∷ [], [], record { count = 0; chain = some_value_end quote [] })) (one_answers ◌≤◌ same_level (passing is_quote) Anything level ts)
     (λ quote r read. let o = read.spelled level (same_level level) in
-    let p = passing_is is_quote o.byte quote o.is_worth in
+    let p = passing_is is_quote o.symbol quote o.is_worth in
     quoted_reads quote (ap is_quote p.1 ∙ p.0) level r)
 
 value_starts : StartsIn (λ _. Value) is_quote
@@ -292,14 +293,14 @@ pub some_value : Value (34 ∷ 34 ∷ []) []
 some_value = record { front = 34 ∷ []; back = 34 ∷ []; value = 34; split = refl; one = mark_quote; other = record { count = 0; chain = some_value_end 34 [] } }
   where
     mark_quote : One (passing is_quote) (34 ∷ []) 34
-    mark_quote = record { byte = 34; alone = refl; is_worth = refl }
+    mark_quote = record { symbol = 34; alone = refl; is_worth = refl }
 
 -- ---- attributes
 
 pub spaced_mark_reads : (c : ℕ) → ((b : ℕ) → is_white b ≡ true → same c b ≡ false) → (level : ℕ) → IsReader (λ _. Spaced (Mark c)) Anything level (spaced_mark c)
 unfolding spaced_mark
 spaced_mark_reads c apart level = spaced_reads (λ _. Mark c) (same c) Anything level (mark c) (passing_starts (same c)) apart
-    (λ m _. (c ∷ [], c, mark_of c)) (one_answers (passing (same c)) Anything level) (spaced_mark_step c) is_step
+    (λ m _. (c ∷ [], c, mark_of c)) (one_answers ◌≤◌ same_level (passing (same c)) Anything level) (spaced_mark_step c) is_step
   where
     is_step : (u : Unit {0}) (ts : Text) → Answers (StepAt white_piece (λ _ _. Mark c) u) (step_stop Anything) level ts (cond (next (same c) (head ts)) (made (mark c) Break ts) (made (made (one (passing is_white)) (λ _. tt)) Continue ts))
         → Answers (StepAt white_piece (λ _ _. Mark c) u) (step_stop Anything) level ts (spaced_mark_step c u ts)

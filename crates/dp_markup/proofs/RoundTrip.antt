@@ -17,7 +17,7 @@ use Rattle.dp_markup.specs.Escaping.{decimal, plain_or_number, escaped, escaped_
 use Rattle.dp_markup.specs.Writing.{attribute_text, node_layer, element_layer, written, node_text, nodes_text}
 use Rattle.dp_markup.specs.Grammar.{Text, Attributes, White, Spaced, Number, Reference, Value, Attribute, TagPiece, TagEnd, Start, ContentPiece, EndTag, IsOpened, Prolog, Document, limit, IsMarkup, is_new, attribute_in_tag, with_run, with_child, nodes_of, no_content, element}
 use Rattle.dp_markup.specs.Readable.{AreBytes, AreAttributes, is_text, FitsBehind, AreNodes, IsReadable}
-use Rattle.dp_markup.proofs.Loops.{give}
+use Rattle.dp_markup.proofs.Answers.{give}
 use Rattle.dp_markup.proofs.Basics.{one_byte, mark_of, before, marked, named_of, spaced}
 use Rattle.dp_markup.proofs.Tags.{NameAndClose, some_name_and_close}
 use Rattle.dp_markup.proofs.Trees.{written_is}
@@ -39,7 +39,7 @@ end_number : (n : ℕ) → Closed (λ k. One (decimal_behind k)) (λ k. Made (Ma
 end_number n = record { count = 0; chain = give (Mark 59) (λ _. n) (59 ∷ []) 59 (mark_of 59) }
 
 one_digit : (n c m : ℕ) → decimal_behind n c ≡ Some m → One (decimal_behind n) (c ∷ []) m
-one_digit n c m is = record { byte = c; alone = refl; is_worth = is }
+one_digit n c m is = record { symbol = c; alone = refl; is_worth = is }
 
 number_one : (c m : ℕ) → decimal_behind 0 c ≡ Some m → Number decimal_behind (c ∷ 59 ∷ []) m
 number_one c m is = record { front = c ∷ []; back = 59 ∷ []; value = m; split = refl; one = one_digit 0 c m is; other = end_number m }
@@ -120,7 +120,7 @@ value_spelled (b ∷ bytes) v all =
     subst (λ l. Closed piece end v l (v ++ b ∷ bytes)) (sym (append_assoc (escaped b) (escaped_all bytes) (34 ∷ []))) (subst (λ l. Closed piece end v (escaped b ++ (escaped_all bytes ++ 34 ∷ [])) l) (append_assoc v (b ∷ []) bytes) whole)
 
 quoted_spelled : (bytes : Text) → AreBytes bytes → Value (34 ∷ (escaped_all bytes ++ 34 ∷ [])) bytes
-quoted_spelled bytes all = record { front = 34 ∷ []; back = escaped_all bytes ++ 34 ∷ []; value = 34; split = refl; one = record { byte = 34; alone = refl; is_worth = refl }; other = value_spelled bytes [] all }
+quoted_spelled bytes all = record { front = 34 ∷ []; back = escaped_all bytes ++ 34 ∷ []; value = 34; split = refl; one = record { symbol = 34; alone = refl; is_worth = refl }; other = value_spelled bytes [] all }
 
 attribute_tail : Text → Text → Text
 attribute_tail n v = n ++ (61 ∷ 34 ∷ (escaped_all v ++ 34 ∷ []))

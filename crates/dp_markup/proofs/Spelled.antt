@@ -14,7 +14,7 @@ use Rattle.dp_markup.specs.Rules.{Rule, Joined, ◌or◌, Gives, Made, One, pass
 use Rattle.dp_markup.specs.Classes.{is_digit, is_name, is_plain_in_text, is_plain_in_value, within_byte, decimal_behind, hexadecimal_behind}
 use Rattle.dp_markup.specs.Grammar.{Text, Attributes, White, Spaced, Number, Reference, Value, Attribute, TagPiece, TagEnd, Start, CData, Misc, ContentPiece, EndTag, BehindStart, IsOpened, limit, IsMarkup, is_new, with_run, nodes_of, no_content, no_attribute, element}
 use Rattle.dp_markup.specs.Readable.{AreBytes, AreAttributes, is_text, FitsBehind, AreNodes, IsReadable}
-use Rattle.dp_markup.proofs.Loops.{given}
+use Rattle.dp_markup.proofs.Answers.{given}
 use Rattle.dp_markup.proofs.Basics.{passing_is, named_is}
 
 -- ---- bytes
@@ -33,9 +33,9 @@ both_bytes (x ∷ xs) ys one other = (one.0, both_bytes xs ys one.1 other)
 
 passing_byte : (test : ℕ → Bool) (text : Text) (a : ℕ) → One (passing test) text a → AreBytes text → a < 256
 passing_byte test text a o all =
-    let here : AreBytes (o.byte ∷ []) = subst AreBytes o.alone all in
-    let small : o.byte < 256 = here.0 in
-    let same : a ≡ o.byte = (passing_is test o.byte a o.is_worth).1 in
+    let here : AreBytes (o.symbol ∷ []) = subst AreBytes o.alone all in
+    let small : o.symbol < 256 = here.0 in
+    let same : a ≡ o.symbol = (passing_is test o.symbol a o.is_worth).1 in
     omega arith
 
 within_is : (n a : ℕ) → within_byte n ≡ Some a → a < 256
@@ -64,11 +64,11 @@ hexadecimal_small n b a = go (is_digit b) _ _
     go false false false e = absurd (cc)
 
 number_small : (worth : ℕ → ℕ → Option ℕ) → ((n b a : ℕ) → worth n b ≡ Some a → a < 256) → (text : Text) (a : ℕ) → Number worth text a → a < 256
-number_small worth small text a j = go j.other.count j.value j.back (small 0 j.one.byte j.value j.one.is_worth) j.other.chain
+number_small worth small text a j = go j.other.count j.value j.back (small 0 j.one.symbol j.value j.one.is_worth) j.other.chain
   where
     go : (count n : ℕ) (l : Text) → n < 256 → Chain (λ k. One (worth k)) (λ k. Made (Mark 59) (λ _. k)) count n l a → a < 256
     go zero n l less h = let g = given (Mark 59) (λ _. n) l a h in let same : a ≡ n = g.2 in omega arith
-    go (suc count) n l less h = go count h.value h.back (small n h.one.byte h.value h.one.is_worth) h.other
+    go (suc count) n l less h = go count h.value h.back (small n h.one.symbol h.value h.one.is_worth) h.other
 
 named_small : (w : Text) (v : ℕ) (text : Text) (a : ℕ) → v < 256 → Made (Word w) (λ _. v) text a → a < 256
 named_small w v text a less h = let same : a ≡ v = (named_is w v text a h).1 in omega arith

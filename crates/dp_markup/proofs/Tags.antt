@@ -1,6 +1,6 @@
 -- The readers of attributes, start tags, end tags, comments and sections.
-use Rattle.std.proofs.Common.{◌≡◌, inl, inr, ℕ, zero, suc, Bool, true, false, ◌||◌, ◌&&◌, List, [], ◌∷◌, ◌++◌, length, Err, refl, ap, ◌∙◌, cond, codes}
-use Rattle.dp_markup.specs.declared.refusal.Refusal.TheVariants.{Unexpected}
+use Rattle.std.proofs.Common.{◌≤◌, ◌≡◌, inl, inr, ℕ, zero, suc, Bool, true, false, ◌||◌, ◌&&◌, List, [], ◌∷◌, ◌++◌, length, Err, refl, ap, ◌∙◌, cond, codes}
+use Rattle.dp_grammar.specs.declared.refusal.Refusal.TheVariants.{Unexpected}
 use Rattle.dp_markup.specs.declared.states.Tag.{Tag}
 use Rattle.dp_markup.specs.declared.states.StartTag.{StartTag}
 use Rattle.dp_markup.specs.inner.Input.{made, refuse, ◌>>=◌, ◌>>◌, one, mark, word, tested, closed}
@@ -8,8 +8,9 @@ use Rattle.dp_markup.specs.Rules.{Rule, Joined, Made, passing, Mark, Word, Teste
 use Rattle.dp_markup.specs.Classes.{is_white, is_name_start, is_name_byte}
 use Rattle.dp_markup.specs.Grammar.{Text, Attributes, White, Spaced, Name, Value, is_new, Attribute, TagPiece, TagEnd, Start, UpTo, white_in_tag, attribute_in_tag, start_tag, no_attribute}
 use Rattle.dp_markup.specs.inner.Reading.{same, name, spaced_mark, spaced_value, attribute, tag_piece, tag_end, tag_step, start, up_to, cdata, comment, declaration}
-use Rattle.dp_markup.proofs.Answers.{Rules, Anything, StepAt, StartsIn, one_answers, joined_answers, when_answers, joined_starts}
-use Rattle.dp_markup.proofs.Loops.{give, step_stop, closed_answers}
+use Rattle.dp_grammar.proofs.Answers.{one_answers, joined_answers, when_answers}
+use Rattle.dp_markup.proofs.Answers.{Rules, Anything, StepAt, StartsIn, joined_starts, same_level, give}
+use Rattle.dp_markup.proofs.Loops.{step_stop, closed_answers}
 use Rattle.dp_markup.proofs.Basics.{IsReader, apart_mark, mark_apart, apart_or, apart_white, flip, or_left, or_right, passing_starts, one_byte, mark_of, word_of, before, word_starts, made_starts, joined_reads, made_reads, choose_reads, word_then, word_reads, step_reads, takes_byte, spaced}
 use Rattle.dp_markup.proofs.Names.{name_stop, name_starts, follows_name, new_name_reads, name_reads}
 use Rattle.dp_markup.proofs.Marks.{up_to_reads, some_up_to}
@@ -36,7 +37,7 @@ valued_starts found n = joined_starts (λ _. Spaced (Mark 61)) (λ _ _. Made (Sp
 
 attribute_reads : (found : Attributes) (level : ℕ) → IsReader (λ _. Attribute found) Anything level (attribute found)
 unfolding attribute
-attribute_reads found level ts = joined_answers (λ _. Tested Name (is_new found)) (λ n _. Valued found n) name_stop Anything level ts
+attribute_reads found level ts = joined_answers ◌≤◌ same_level (λ _. Tested Name (is_new found)) (λ n _. Valued found n) name_stop Anything level ts
     (follows_name (λ n _. Valued found n) (λ b. is_white b || same 61 b) Anything (valued_starts found) (apart_or is_white (same 61) is_name_byte (apart_white is_name_byte refl refl refl refl) (apart_mark is_name_byte 61 refl)))
     ((name >>= tested (is_new found)) ts) (λ n. spaced_mark 61 >> made spaced_value (with_value found n))
     (λ m above n. (61 ∷ 34 ∷ 34 ∷ [], with_value found n [], some_valued found n)) (new_name_reads found level ts) (λ n r _. valued_reads found n level r)
@@ -67,9 +68,9 @@ unfolding tag_piece refuse
 tag_piece_reads t level = choose_reads (white_in t) (attribute_in t) is_white is_name_start Anything level (made (one (passing is_white)) (λ _. white_in_tag t))
     (λ ts. cond t.apart (made (attribute t.found) attribute_in_tag ts) (Err (Unexpected (length ts))))
     (white_in_starts t) (attribute_in_starts t) name_apart_white
-    (made_reads (λ _. White) (λ _. white_in_tag t) Anything level (one (passing is_white)) (one_answers (passing is_white) (λ _ _. true) level))
-    (λ ts. when_answers t.apart (λ _. Made (Attribute t.found) attribute_in_tag) Anything level ts (made (attribute t.found) attribute_in_tag ts)
-    (made_reads (λ _. Attribute t.found) attribute_in_tag Anything level (attribute t.found) (attribute_reads t.found level) ts))
+    (made_reads (λ _. White) (λ _. white_in_tag t) Anything level (one (passing is_white)) (one_answers ◌≤◌ same_level (passing is_white) (λ _ _. true) level))
+    (λ ts. when_answers ◌≤◌ same_level t.apart (λ _. Made (Attribute t.found) attribute_in_tag) Anything level ts (made (attribute t.found) attribute_in_tag ts)
+    (λ _. made_reads (λ _. Attribute t.found) attribute_in_tag Anything level (attribute t.found) (attribute_reads t.found level) ts))
 
 abbrev in_piece : ℕ → Bool
 in_piece b = is_white b || is_name_start b
@@ -86,7 +87,7 @@ tag_end_reads n t level = choose_reads (λ _. Made (Mark 62) (λ _. start_tag n 
     (made (mark 62) (λ _. start_tag n false t)) (made (word (codes "/>")) (λ _. start_tag n true t))
     (made_starts (λ _. Mark 62) (λ _. start_tag n false t) (same 62) (passing_starts (same 62))) (made_starts (λ _. Word (codes "/>")) (λ _. start_tag n true t) (same 47) (word_starts 47 (codes ">")))
     (mark_apart (same 47) 62 refl)
-    (made_reads (λ _. Mark 62) (λ _. start_tag n false t) Anything level (mark 62) (one_answers (passing (same 62)) (λ _ _. true) level))
+    (made_reads (λ _. Mark 62) (λ _. start_tag n false t) Anything level (mark 62) (one_answers ◌≤◌ same_level (passing (same 62)) (λ _ _. true) level))
     (made_reads (λ _. Word (codes "/>")) (λ _. start_tag n true t) Anything level (word (codes "/>")) (word_reads (codes "/>") (λ _ _. true) level (λ u o. refl)))
 
 tag_end_starts : (n : Text) (t : Tag) → StartsIn (λ _. TagEnd n t) in_end
@@ -128,7 +129,7 @@ some_behind_name n = record { count = 0; chain = some_tag_end n no_attribute }
 
 pub start_reads : (level : ℕ) → IsReader (λ _. Start) Anything level start
 unfolding start
-start_reads level ts = joined_answers (λ _. Name) (λ n _. BehindName n) name_stop Anything level ts
+start_reads level ts = joined_answers ◌≤◌ same_level (λ _. Name) (λ n _. BehindName n) name_stop Anything level ts
     (follows_name (λ n _. BehindName n) (λ b. is_white b || in_end b) Anything behind_name_starts (apart_or is_white in_end is_name_byte (apart_white is_name_byte refl refl refl refl) (apart_or (same 62) (same 47) is_name_byte (apart_mark is_name_byte 62 refl) (apart_mark is_name_byte 47 refl))))
     (name ts) (λ n. closed (tag_step n) no_attribute) (λ m above n. (62 ∷ [], start_tag n false no_attribute, some_behind_name n)) (name_reads level ts) (λ n r _. behind_name_reads n level r)
 
@@ -193,4 +194,4 @@ some_declaration = before (codes "xml") AfterXml (32 ∷ codes "?>") [] some_aft
 pub declaration_reads : (level : ℕ) → IsReader (λ _. DeclarationTail) Anything level declaration
 unfolding declaration
 declaration_reads level = word_then (codes "xml") (λ _. AfterXml) Anything level (one (passing is_white) >> up_to (codes "?>")) (λ m _. (32 ∷ codes "?>", [], some_after_xml))
-    (joined_reads (λ _. White) (λ _ _. UpTo (codes "?>")) Anything level (one (passing is_white)) (λ _. up_to (codes "?>")) (one_answers (passing is_white) Anything level) (λ m above _. (codes "?>", [], some_up_to (codes "?>"))) (λ _. up_to_reads (codes "?>") level))
+    (joined_reads (λ _. White) (λ _ _. UpTo (codes "?>")) Anything level (one (passing is_white)) (λ _. up_to (codes "?>")) (one_answers ◌≤◌ same_level (passing is_white) Anything level) (λ m above _. (codes "?>", [], some_up_to (codes "?>"))) (λ _. up_to_reads (codes "?>") level))

@@ -1,14 +1,7 @@
 -- A recursion on a count of turns, beside a loop that counts up.
 use Rattle.std.proofs.Common.{◌≡◌, ℕ, suc, ◌+◌, ◌-◌, ◌<◌, ◌≤◌, List, ◌∷◌, length, get_or, drop, drop-cons, Ok, ap, ◌∙◌, arith}
 use Rattle.dp_markup.specs.inner.Input.{and_then, mark, word}
-
--- one turn is taken
-pub one_turn : {X : Type 0} {whole : X} (by : ℕ → X) (end turn : ℕ) → turn < end → whole ≡ by (end - turn) → whole ≡ by (suc (end - (turn + 1)))
-one_turn by end turn below is = let e : end - turn ≡ suc (end - (turn + 1)) = omega arith in is ∙ ap by e
-
--- no turn is left
-pub no_turn : {X : Type 0} {whole : X} (by : ℕ → X) (end turn : ℕ) → end ≤ turn → whole ≡ by (end - turn) → whole ≡ by 0
-no_turn by end turn done is = let e : end - turn ≡ 0 = omega arith in is ∙ ap by e
+pub use Rattle.dp_grammar.proofs.Turns.{one_turn, no_turn}
 
 -- one more byte of a word
 pub word_turn : (bytes ts more : List ℕ) (i a : ℕ) → i < length bytes → mark (get_or bytes i 0) ts ≡ Ok (a, more) → word (drop i bytes) ts ≡ word (drop (i + 1) bytes) more

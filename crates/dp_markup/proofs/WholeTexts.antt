@@ -1,8 +1,8 @@
 -- The readers of whole texts, and of their heads.
 use Rattle.std.specs.declared.ops.ControlFlow.{ControlFlow}
 use Rattle.std.specs.declared.ops.ControlFlow.TheVariants.{Continue, Break}
-use Rattle.std.proofs.Common.{◌≡◌, ◌⊎◌, inl, inr, ℕ, zero, suc, ◌<◌, Bool, true, false, not, ◌||◌, [], ◌∷◌, ◌++◌, length, Option, Some, None, Ok, Err, sym, refl, ap, ◌∙◌, subst, append-nil, cond, codes, arith}
-use Rattle.dp_markup.specs.declared.refusal.Refusal.TheVariants.{Unexpected}
+use Rattle.std.proofs.Common.{◌≤◌, ◌≡◌, ◌⊎◌, inl, inr, ℕ, zero, suc, ◌<◌, Bool, true, false, not, ◌||◌, [], ◌∷◌, ◌++◌, length, Option, Some, None, Ok, Err, sym, refl, ap, ◌∙◌, subst, append-nil, cond, codes, arith}
+use Rattle.dp_grammar.specs.declared.refusal.Refusal.TheVariants.{Unexpected}
 use Rattle.dp_markup.specs.declared.tree.Element.{Element}
 use Rattle.dp_markup.specs.declared.states.StartTag.{StartTag}
 use Rattle.dp_markup.specs.inner.Input.{head, next, Outcome, Reader, and_then, gives, made, refuse, ◌>>=◌, ◌>>◌, one, mark, word, until, next_of}
@@ -10,8 +10,9 @@ use Rattle.dp_markup.specs.Rules.{Rule, Joined, Gives, Made, passing, Mark, Word
 use Rattle.dp_markup.specs.Classes.{is_white, is_name_start}
 use Rattle.dp_markup.specs.Grammar.{Text, White, UpTo, Comment, Misc, Declaration, PrologPiece, Prolog, IsOpened, Document, Start, Head, no_attribute, start_tag}
 use Rattle.dp_markup.specs.inner.Reading.{same, comment, declaration, prolog_bracket, prolog_step, prolog, misc, trail_step, trail, opened, document, start, head_of}
-use Rattle.dp_markup.proofs.Answers.{Rules, Anything, JoinedAt, EitherAt, StepAt, StartsIn, Follows, one_answers, gives_answers, joined_answers, equal_answers, either_answers, when_answers, joined_starts}
-use Rattle.dp_markup.proofs.Loops.{give, given, step_stop, closed_answers}
+use Rattle.dp_grammar.proofs.Answers.{one_answers, gives_answers, joined_answers, equal_answers, when_answers}
+use Rattle.dp_markup.proofs.Answers.{Rules, Anything, JoinedAt, EitherAt, StepAt, StartsIn, Follows, either_answers, joined_starts, same_level, give, given}
+use Rattle.dp_markup.proofs.Loops.{step_stop, closed_answers}
 use Rattle.dp_markup.proofs.Basics.{IsReader, Can, apart_mark, mark_apart, apart_or, apart_white, flip, passing_starts, mark_of, mark_is, before, behind_word, marked, behind_mark, word_starts, made_starts, joined_reads, made_reads, choose_reads, mark_then, word_then, takes_byte}
 use Rattle.dp_markup.proofs.Parts.{or_starts}
 use Rattle.dp_markup.proofs.Tags.{start_reads, start_starts, some_empty_start, CommentTail, comment_reads, some_comment, DeclarationTail, declaration_reads, some_declaration}
@@ -34,7 +35,7 @@ comment_starts : StartsIn (λ _. Comment) (same 60)
 comment_starts = joined_starts (λ _. Word (codes "<!--")) (λ _ _. UpTo (codes "-->")) (same 60) (word_starts 60 (codes "!--"))
 
 whole_comment_reads : (level : ℕ) → IsReader (λ _. Comment) Anything level (word (codes "<!") >> comment)
-whole_comment_reads level ts = equal_answers (λ _. Joined (Word (codes "<!")) (λ _. CommentTail)) (λ _. Comment) Anything level ts (λ m. to_comment) (λ m. from_comment) ((word (codes "<!") >> comment) ts)
+whole_comment_reads level ts = equal_answers ◌≤◌ same_level (λ _. Joined (Word (codes "<!")) (λ _. CommentTail)) (λ _. Comment) Anything level ts (λ m. to_comment) (λ m. from_comment) ((word (codes "<!") >> comment) ts)
     (word_then (codes "<!") (λ _. CommentTail) Anything level comment (λ m _. (codes "--" ++ codes "-->", [], some_comment)) (comment_reads level) ts)
 
 abbrev white_or : ℕ → Bool
@@ -48,7 +49,7 @@ unfolding misc
 misc_reads level = choose_reads (λ _. Made White (λ _. tt)) (λ _. Made Comment (λ _. tt)) is_white (same 60) Anything level (made (one (passing is_white)) (λ _. tt)) (made (word (codes "<!") >> comment) (λ _. tt))
     (made_starts (λ _. White) (λ _. tt) is_white (passing_starts is_white)) (made_starts (λ _. Comment) (λ _. tt) (same 60) comment_starts)
     (flip is_white (same 60) (apart_white (same 60) refl refl refl refl))
-    (made_reads (λ _. White) (λ _. tt) Anything level (one (passing is_white)) (one_answers (passing is_white) (λ _ _. true) level))
+    (made_reads (λ _. White) (λ _. tt) Anything level (one (passing is_white)) (one_answers ◌≤◌ same_level (passing is_white) (λ _ _. true) level))
     (made_reads (λ _. Comment) (λ _. tt) Anything level (word (codes "<!") >> comment) (whole_comment_reads level))
 
 -- ---- what stands before the root
@@ -179,10 +180,10 @@ unfolding tail_reader
 tail_reads at_first level ts = either_answers (DeclarationStep at_first) RootStep (same 63) (step_stop prolog_stop) level ts (declaration_step_starts at_first)
     (root_apart (same 63) (λ o is. (stop_is o is).1))
     (cond at_first (made (made (mark 63 >> declaration) (λ _. false)) Continue ts) (Err (Unexpected (length ts)))) (Ok (Break 60, ts))
-    (λ _. when_answers at_first Declared (step_stop prolog_stop) level ts (made (made (mark 63 >> declaration) (λ _. false)) Continue ts)
-    (made_reads (λ _. Made (Joined (Mark 63) (λ _. DeclarationTail)) (λ _. false)) Continue (step_stop prolog_stop) level (made (mark 63 >> declaration) (λ _. false))
+    (λ _. when_answers ◌≤◌ same_level at_first Declared (step_stop prolog_stop) level ts (made (made (mark 63 >> declaration) (λ _. false)) Continue ts)
+    (λ _. made_reads (λ _. Made (Joined (Mark 63) (λ _. DeclarationTail)) (λ _. false)) Continue (step_stop prolog_stop) level (made (mark 63 >> declaration) (λ _. false))
     (made_reads (JoinedAt (λ _. Mark 63) (λ _ _. DeclarationTail)) (λ _. false) (λ _ _. true) level (mark 63 >> declaration) (mark_then 63 (λ _. DeclarationTail) Anything level declaration (λ m _. (codes "xml" ++ (32 ∷ codes "?>"), [], some_declaration)) (declaration_reads level))) ts))
-    (λ _. made_reads (λ _. Gives 60) Break (step_stop prolog_stop) level (gives 60) (λ us. gives_answers 60 (λ a. step_stop prolog_stop (at_root a)) level us) ts)
+    (λ _. made_reads (λ _. Gives 60) Break (step_stop prolog_stop) level (gives 60) (λ us. gives_answers ◌≤◌ same_level 60 (λ a. step_stop prolog_stop (at_root a)) level us) ts)
 
 bracket_reads : (at_first : Bool) (level : ℕ) → IsReader (Bracketed at_first) (step_stop prolog_stop) level (prolog_bracket at_first)
 unfolding prolog_bracket refuse tail_reader
@@ -198,12 +199,12 @@ bracket_reads at_first level ts = either_answers CommentStep (EitherAt (Declarat
 
 prolog_steps : (level : ℕ) (at_first : Bool) → IsReader (StepAt piece end at_first) (step_stop prolog_stop) level (prolog_step at_first)
 unfolding prolog_step
-prolog_steps level at_first ts = equal_answers (Factored at_first) (StepAt piece end at_first) (step_stop prolog_stop) level ts (to_step at_first) (from_step at_first)
+prolog_steps level at_first ts = equal_answers ◌≤◌ same_level (Factored at_first) (StepAt piece end at_first) (step_stop prolog_stop) level ts (to_step at_first) (from_step at_first)
     (cond (next (same 60) (head ts)) ((mark 60 >> prolog_bracket at_first) ts) (made (made (one (passing is_white)) (λ _. false)) Continue ts))
     (choose_reads (JoinedAt (λ _. Mark 60) (λ _. Bracketed at_first)) WhiteStep (same 60) is_white (step_stop prolog_stop) level (mark 60 >> prolog_bracket at_first) (made (made (one (passing is_white)) (λ _. false)) Continue)
     (joined_starts (λ _. Mark 60) (λ _. Bracketed at_first) (same 60) (passing_starts (same 60))) white_step_starts (apart_white (same 60) refl refl refl refl)
     (mark_then 60 (Bracketed at_first) (step_stop prolog_stop) level (prolog_bracket at_first) (λ m _. ([], Break 60, inr (inr (give (Gives 60) Break [] 60 (record { empty = refl; same = refl }))))) (bracket_reads at_first level))
-    (made_reads (λ _. Made White (λ _. false)) Continue (step_stop prolog_stop) level (made (one (passing is_white)) (λ _. false)) (made_reads (λ _. White) (λ _. false) (λ _ _. true) level (one (passing is_white)) (one_answers (passing is_white) (λ _ _. true) level)))
+    (made_reads (λ _. Made White (λ _. false)) Continue (step_stop prolog_stop) level (made (one (passing is_white)) (λ _. false)) (made_reads (λ _. White) (λ _. false) (λ _ _. true) level (one (passing is_white)) (one_answers ◌≤◌ same_level (passing is_white) (λ _ _. true) level)))
     ts)
 
 prolog_takes : (at_first : Bool) → StartsIn (piece at_first) (λ _. true)
@@ -247,14 +248,14 @@ at_end_is e (Some b) is = absurd (cc)
 
 trail_steps : (level : ℕ) (e : Element) → IsReader (StepAt behind_piece behind_end e) (step_stop {A = Element} at_end) level (trail_step e)
 unfolding trail_step
-trail_steps level e ts = equal_answers (EitherAt (λ _. Made (Made Misc (λ _. e)) Continue) (λ _. Made (Gives e) Break)) (StepAt behind_piece behind_end e) (step_stop {A = Element} at_end) level ts
+trail_steps level e ts = equal_answers ◌≤◌ same_level (EitherAt (λ _. Made (Made Misc (λ _. e)) Continue) (λ _. Made (Gives e) Break)) (StepAt behind_piece behind_end e) (step_stop {A = Element} at_end) level ts
     (λ m text a h. swapped h) (λ m text a h. swapped h)
     (cond (next (λ _. true) (head ts)) (made (made misc (λ _. e)) Continue ts) (Ok (Break e, ts)))
     (either_answers (λ _. Made (Made Misc (λ _. e)) Continue) (λ _. Made (Gives e) Break) (λ _. true) (step_stop {A = Element} at_end) level ts
     (takes_byte (λ _. Made (Made Misc (λ _. e)) Continue) white_or (made_starts (λ _. Made Misc (λ _. e)) Continue white_or (made_starts (λ _. Misc) (λ _. e) white_or misc_starts)))
     apart (made (made misc (λ _. e)) Continue ts) (Ok (Break e, ts))
     (λ _. made_reads (λ _. Made Misc (λ _. e)) Continue (step_stop {A = Element} at_end) level (made misc (λ _. e)) (made_reads (λ _. Misc) (λ _. e) (λ _ _. true) level misc (misc_reads level)) ts)
-    (λ _. made_reads (λ _. Gives e) Break (step_stop {A = Element} at_end) level (gives e) (λ us. gives_answers e (λ a. step_stop {A = Element} at_end (at_trail_end a)) level us) ts))
+    (λ _. made_reads (λ _. Gives e) Break (step_stop {A = Element} at_end) level (gives e) (λ us. gives_answers ◌≤◌ same_level e (λ a. step_stop {A = Element} at_end (at_trail_end a)) level us) ts))
   where
     swapped : {X Y : Type 0} → X ⊎ Y → Y ⊎ X
     swapped (inl x) = inr x
@@ -302,7 +303,7 @@ follows_root m a ts b r h is = follows_prolog Root root_starts m a ts b r h refl
 
 pub document_reads : (level : ℕ) → 0 < level → IsReader Document at_end level (document level)
 unfolding document
-document_reads level some ts = joined_answers (λ _. Prolog) (λ _. Root) prolog_stop at_end level ts follows_root (prolog ts) (λ _. opened level >>= trail) (λ m above _. some_root level some m above) (prolog_reads level ts) (λ _ r _. root_reads level r)
+document_reads level some ts = joined_answers ◌≤◌ same_level (λ _. Prolog) (λ _. Root) prolog_stop at_end level ts follows_root (prolog ts) (λ _. opened level >>= trail) (λ m above _. some_root level some m above) (prolog_reads level ts) (λ _ r _. root_reads level r)
 
 -- ---- heads
 
@@ -311,7 +312,7 @@ some_head = (60 ∷ 97 ∷ 47 ∷ 62 ∷ [], start_tag (97 ∷ []) true no_attri
 
 pub head_reads : (level : ℕ) → IsReader (λ _. Head) Anything level head_of
 unfolding head_of
-head_reads level ts = joined_answers (λ _. Prolog) (λ _ _. Start) prolog_stop Anything level ts (follows_prolog (λ _. Start) start_starts) (prolog ts) (λ _. start)
+head_reads level ts = joined_answers ◌≤◌ same_level (λ _. Prolog) (λ _ _. Start) prolog_stop Anything level ts (follows_prolog (λ _. Start) start_starts) (prolog ts) (λ _. start)
     (λ m above _. (97 ∷ 47 ∷ 62 ∷ [], start_tag (97 ∷ []) true no_attribute, some_empty_start 97 refl)) (prolog_reads level ts) (λ _ r _. start_reads level r)
 
 -- ---- the reader of whole texts leaves nothing

@@ -7,9 +7,9 @@ ghost use Rattle.dp_markup.specs.inner.Reading as spec;
 use crate::attributes::start;
 use crate::elements::opened;
 use crate::input::Input;
-use crate::refusal::Refusal;
 use crate::states::StartTag;
 use crate::tree::Element;
+use dp_grammar::Refusal;
 use std::alloc::Global;
 use std::ops::ControlFlow;
 

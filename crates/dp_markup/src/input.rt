@@ -9,7 +9,7 @@ ghost use Rattle.dp_markup.specs.inner.Input.{Reads, ReadsSlice, head, next};
 ghost use Rattle.dp_markup.specs.inner.Reading as spec;
 
 use crate::classes::{is_name_byte, is_name_start, is_quote, is_white};
-use crate::refusal::Refusal;
+use dp_grammar::Refusal;
 use memchr::memmem;
 use std::marker::Model;
 

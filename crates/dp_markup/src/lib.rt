@@ -11,7 +11,6 @@ mod growing;
 mod input;
 mod reading;
 mod references;
-mod refusal;
 mod states;
 mod tree;
 mod writing;

@@ -16,10 +16,10 @@ use crate::attributes::same_text;
 use crate::documents::{document, head_of};
 use crate::error::MarkupError;
 use crate::input::Input;
-use crate::refusal::Refusal;
 use crate::states::StartTag;
 use crate::tree::Element;
 use crate::writing::write;
+use dp_grammar::Refusal;
 use dp_value::Bytes;
 use std::alloc::Global;
 

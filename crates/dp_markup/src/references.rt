@@ -9,8 +9,8 @@ ghost use Rattle.dp_markup.specs.inner.Reading.{behind_of};
 
 use crate::classes::{is_plain_in_text, is_plain_in_value};
 use crate::input::Input;
-use crate::refusal::Refusal;
 use crate::states::Radix;
+use dp_grammar::Refusal;
 use std::ops::ControlFlow;
 
 /// The number that the decimal digit makes behind this one, up to 255.

@@ -1,7 +1,7 @@
 use Rattle.std.proofs.Common.{◌≡◌, ◌-◌, ◌∙◌, length, inl, ap, subst, sym}
 use Rattle.dp_markup.specs.declared.error.MarkupError.TheVariants.{BadMarkup}
-use Rattle.dp_markup.specs.declared.refusal.Refusal.TheVariants.{Unexpected, TooDeep}
-use Rattle.dp_markup.specs.Grammar.{BeginsWithHead, root_value}
+use Rattle.dp_grammar.specs.declared.refusal.Refusal.TheVariants.{Unexpected, TooDeep}
+use Rattle.dp_markup.specs.Grammar.{BeginsWithHead, heads, root_value}
 use Rattle.dp_markup.specs.inner.Reading.{head_of}
 use Rattle.dp_markup.specs.Refused.{IsFirstBad}
 use Rattle.dp_markup.proofs.Verdicts.{head_left_in, head_is_bad, head_not_deep, is_head, one_head, not_head, same_head_offset, head_refused_at}
@@ -40,7 +40,7 @@ returns-in-Err-Unexpected-clause-bad c = λ at is.
     let bytes = c.args.bytes.now in
     let left = c.in-Err-Unexpected.left in
     let same : length bytes - left ≡ at = cc in
-    subst (λ n. IsFirstBad (λ _. BeginsWithHead) 0 bytes n) same (head_is_bad bytes left (head_refused_at bytes c.new-input.result c.in-Err-Unexpected.field-0 (Unexpected left) c.new-input.ensures c.in-Err-Unexpected.field-0-is (λ h. cc) c.in-Err-Unexpected.ensures))
+    subst (λ n. IsFirstBad heads 0 bytes n) same (head_is_bad bytes left (head_refused_at bytes c.new-input.result c.in-Err-Unexpected.field-0 (Unexpected left) c.new-input.ensures c.in-Err-Unexpected.field-0-is (λ h. cc) c.in-Err-Unexpected.ensures))
 
 pub returns-in-Err-Unexpected-clause-bad_only : goal.returns-in-Err-Unexpected-clause-bad_only
 returns-in-Err-Unexpected-clause-bad_only c = λ at bad.
