@@ -7,9 +7,11 @@ use Rattle.dp_markup.specs.declared.states.StartTag.{StartTag}
 use Rattle.dp_markup.specs.inner.Input.{head}
 use Rattle.dp_markup.specs.Grammar.{Text, Document, limit, IsMarkup, Head, BeginsWithHead, heads}
 use Rattle.dp_markup.specs.inner.Reading.{document, head_of}
+use Rattle.dp_markup.specs.inner.Seeking.{sought_head}
 use Rattle.dp_markup.specs.Refused.{IsFirstBad, IsFirstTooDeep}
 use Rattle.dp_grammar.proofs.Verdicts.{ReadsAll, found, only, unexpected, too_deep, first_unexpected, first_too_deep, one_unexpected, not_both, unexpected_spelled, too_deep_spelled}
 use Rattle.dp_markup.proofs.Answers.{Anything, Begins, IsRead, Answers, same_level}
+use Rattle.dp_markup.proofs.Seeking.{sought_refused}
 use Rattle.dp_markup.proofs.WholeTexts.{at_end, document_reads, document_ends, some_document, head_reads, some_head}
 
 some_level : 0 < limit
@@ -89,7 +91,7 @@ module _ (ts : Text) (tag : StartTag) (new : Text) (is : head_of ts ≡ Ok (tag,
 
   pub one_head : (other : StartTag) → BeginsWithHead ts other → tag ≡ other
   one_head other b =
-      let w = head_read.only 0 new refl other b.back (subst (λ l. Begins (λ _. Head) Anything 0 l other b.back) head_read.split (begins_head 0 ts other b).1) in
+      let w = head_read.only 0 new refl other b.back (subst (λ l. Begins {L = ℕ} (λ _. Head) Anything 0 l other b.back) head_read.split (begins_head 0 ts other b).1) in
       sym w.0
 
 pub not_head : (ts : Text) (offset : ℕ) (tag : StartTag) → IsFirstBad heads 0 ts offset → BeginsWithHead ts tag → ⊥
@@ -106,5 +108,8 @@ found_at level ts input e new l i is = (λ j. document (sym l j) (sym i j)) ∙ 
 pub refused_at : (level : ℕ) (ts input : Text) (r s : Refusal) → level ≡ limit → input ≡ ts → r ≡ s → (s ≡ Memory → ⊥) → ((r ≡ Memory → ⊥) → document level input ≡ Err r) → document limit ts ≡ Err s
 refused_at level ts input r s l i e other is = (λ j. document (sym l j) (sym i j)) ∙ is (λ h. other (sym e ∙ h)) ∙ ap Err e
 
-pub head_refused_at : (ts input : Text) (r s : Refusal) → input ≡ ts → r ≡ s → (s ≡ Memory → ⊥) → ((r ≡ Memory → ⊥) → head_of input ≡ Err r) → head_of ts ≡ Err s
+head_refused_at : (ts input : Text) (r s : Refusal) → input ≡ ts → r ≡ s → (s ≡ Memory → ⊥) → ((r ≡ Memory → ⊥) → head_of input ≡ Err r) → head_of ts ≡ Err s
 head_refused_at ts input r s i e other is = ap head_of (sym i) ∙ is (λ h. other (sym e ∙ h)) ∙ ap Err e
+
+pub sought_refused_at : (root wanted ts input : Text) (r s : Refusal) → input ≡ ts → r ≡ s → (s ≡ Memory → ⊥) → ((r ≡ Memory → ⊥) → sought_head root wanted input ≡ Err r) → head_of ts ≡ Err s
+sought_refused_at root wanted ts input r s i e other is = head_refused_at ts input r s i e other (λ h. sought_refused root wanted input r (is h))

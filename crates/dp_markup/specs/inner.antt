@@ -1,2 +1,4 @@
 pub mod Input
 pub mod Reading
+pub mod Names
+pub mod Seeking

@@ -111,7 +111,7 @@ fn spaced_value_step(
 
 /// White space, and then a value.
 #[tactic(auto, unfolding(crate::specs::inner::Reading::spaced_value))]
-fn spaced_value(alloc: Global, input: &mut Input<'_>) -> Result<Growing<u8>, Refusal>
+pub(crate) fn spaced_value(alloc: Global, input: &mut Input<'_>) -> Result<Growing<u8>, Refusal>
     ensures { Reads (spec.spaced_value input.old) result input.new }
 {
     for _turn in 0..input.left() + 1 {
@@ -177,7 +177,7 @@ fn tag_end(alloc: Global, input: &mut Input<'_>, name: Bytes, tag: Tag) -> Resul
 }
 
 /// Whether what comes next ends a start tag.
-fn sees_end(input: &Input<'_>) -> bool
+pub(crate) fn sees_end(input: &Input<'_>) -> bool
     ensures { result ≡ next (λ b. b == 62 || b == 47) (head input.now) }
 {
     input.sees(b'>') || input.sees(b'/')

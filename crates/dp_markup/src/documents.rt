@@ -4,10 +4,8 @@ ghost use Rattle.std.specs.Prelude.{◌≡◌, true};
 ghost use Rattle.dp_markup.specs.inner.Input.{Reads, ReadsSlice, closed};
 ghost use Rattle.dp_markup.specs.inner.Reading as spec;
 
-use crate::attributes::start;
 use crate::elements::opened;
 use crate::input::Input;
-use crate::states::StartTag;
 use crate::tree::Element;
 use dp_grammar::Refusal;
 use std::alloc::Global;
@@ -66,7 +64,7 @@ fn prolog_step(input: &mut Input<'_>, at_first: bool) -> Result<ControlFlow<u8, 
 }
 
 /// What stands before the root, and the root's `<`.
-fn prolog(input: &mut Input<'_>) -> Result<u8, Refusal>
+pub(crate) fn prolog(input: &mut Input<'_>) -> Result<u8, Refusal>
     ensures { Reads (spec.prolog input.old) result input.new }
 {
     let mut state = true;
@@ -130,13 +128,4 @@ pub fn document(alloc: Global, input: &mut Input<'_>, level: usize) -> Result<El
     prolog(input)?;
     let root = opened(alloc, input, level)?;
     trail(input, root)
-}
-
-/// A text as far as the end of the root's start tag.
-#[tactic(auto, unfolding(crate::specs::inner::Reading::head_of))]
-pub fn head_of(alloc: Global, input: &mut Input<'_>) -> Result<StartTag, Refusal>
-    ensures { Reads (spec.head_of input.old) result input.new }
-{
-    prolog(input)?;
-    start(alloc, input)
 }

@@ -4,19 +4,17 @@ ghost use Rattle.std.specs.Prelude.{◌≡◌, ◌≢◌, ◌⊎◌, ◌≤◌, 
 ghost use Rattle.dp_markup.specs.inner.Input.{Reads};
 ghost use Rattle.dp_markup.specs.inner.Reading as spec;
 ghost use Rattle.dp_markup.specs.Grammar.{IsMarkup, Document, limit};
-ghost use Rattle.dp_markup.specs.Grammar.{BeginsWithHead, heads, root_value, value_of};
+ghost use Rattle.dp_markup.specs.Grammar.{BeginsWithHead, heads, root_value};
 ghost use Rattle.dp_markup.specs.Readable.{IsReadable};
 ghost use Rattle.dp_markup.specs.Verdict.{GivesValue, Refuses};
 ghost use Rattle.dp_markup.specs.Refused.{IsFirstBad, IsFirstTooDeep};
 ghost use Rattle.dp_markup.specs.declared.tree.Element.{Element as Tree};
 ghost use Rattle.dp_markup.specs.declared.states.StartTag.{StartTag as Tag};
 
-use crate::Memory;
-use crate::attributes::same_text;
-use crate::documents::{document, head_of};
+use crate::documents::document;
 use crate::error::MarkupError;
 use crate::input::Input;
-use crate::states::StartTag;
+use crate::sought::sought_head;
 use crate::tree::Element;
 use crate::writing::write;
 use dp_grammar::Refusal;
@@ -88,33 +86,12 @@ pub fn head_attribute(
     ensures never_too_deep { result ≢ Err MarkupError.TooDeep }
 {
     let mut input = Input::new(bytes);
-    match head_of(alloc, &mut input) {
-        Ok(tag) => Ok(root_value_of(&tag, root, name)?),
+    match sought_head(alloc, &mut input, root, name) {
+        Ok(value) => Ok(value),
         Err(Refusal::Unexpected(left)) => Err(MarkupError::BadMarkup {
             offset: bytes.len() - left,
         }),
         Err(Refusal::TooDeep(_left)) => Err(MarkupError::TooDeep),
         Err(Refusal::Memory) => Err(MarkupError::Memory),
     }
-}
-
-fn root_value_of(tag: &StartTag, root: &[u8], name: &[u8]) -> Result<Option<Bytes>, Memory>
-    ensures { IfOk result (λ value. value ≡ root_value tag.now root.now name.now) }
-{
-    if same_text(tag.name.as_slice(), root) {
-        value_in(tag.attributes.as_slice(), name)
-    } else {
-        Ok(None)
-    }
-}
-
-fn value_in(attributes: &[(Bytes, Bytes)], name: &[u8]) -> Result<Option<Bytes>, Memory>
-    ensures { IfOk result (λ value. value ≡ value_of attributes.now name.now) }
-{
-    for attribute in attributes {
-        if same_text(attribute.0.as_slice(), name) {
-            return Ok(Some(attribute.1.try_clone()?));
-        }
-    }
-    Ok(None)
 }
