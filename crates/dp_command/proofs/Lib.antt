@@ -1,6 +1,4 @@
 pub mod Loop
-pub mod Runs
-pub mod Sequences
 pub mod Found
 pub mod Again
 pub mod Decoded

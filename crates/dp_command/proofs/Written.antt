@@ -10,7 +10,7 @@ use Rattle.dp_value.specs.Quoting.{in_quotes}
 use Rattle.dp_command.specs.declared.line.Line.{Line}
 use Rattle.dp_command.specs.Sorts.{is_letter, is_bare, Each}
 use Rattle.dp_command.specs.Grammar.{InQuotes, Repeated, Value, Given, Ending, spelt}
-use Rattle.dp_command.proofs.Runs.{not_zero}
+use Rattle.dp_grammar.proofs.Runs.{not_zero}
 use Rattle.dp_command.specs.Canonical.{all_bare, needs_quotes, quoted, canonical_value, canonical_option, canonical_payload, canonical, IsWellFormed}
 
 inner_written : (value : List ℕ) → Repeated InQuotes value (flat_map in_quotes value)

@@ -5,27 +5,13 @@ use Rattle.base64.specs.Engines.{standard}
 use Rattle.base64.specs.GeneralPurpose.{encode_of, IsBytes}
 use Rattle.dp_value.specs.Quoting.{in_quotes}
 use Rattle.dp_command.specs.declared.line.Line.{Line}
+use Rattle.dp_grammar.specs.Parts.{Part}
 use Rattle.dp_command.specs.Sorts.{is_space, is_name_byte, is_letter, is_bare, Each}
+pub use Rattle.dp_grammar.specs.Parts.{Joined, ◌>>◌, Mark, Repeated}
 
 -- which bytes a part of a line may be
 abbrev pub Rule : Type 1
-Rule = List ℕ → Type 0
-
--- the one part and then the other
-pub record Joined (first_rule second_rule : List ℕ → Type 0) (bytes : List ℕ) : Type 0 where
-  pub front : List ℕ
-  pub back : List ℕ
-  pub whole : bytes ≡ front ++ back
-  pub first : first_rule front
-  pub second : second_rule back
-
-infixr 20 ◌>>◌
-abbrev pub ◌>>◌ : Rule → Rule → Rule
-a >> b = Joined a b
-
--- these bytes themselves
-abbrev pub Mark : List ℕ → Rule
-Mark mark bytes = bytes ≡ mark
+Rule = Part ℕ
 
 -- *SP
 abbrev pub Spaces : Rule
@@ -45,11 +31,6 @@ Name name bytes = IsName name × (bytes ≡ name)
 -- 1*( byte but SP, NUL, quote )
 abbrev pub Bare : List ℕ → Rule
 Bare value bytes = Each is_bare value × (1 ≤ length value) × (bytes ≡ value)
-
--- so many parts, one behind the other
-abbrev pub Repeated : {A : Type 0} → (A → List ℕ → Type 0) → List A → Rule
-Repeated rule [] = Mark []
-Repeated rule (a ∷ more) = rule a >> Repeated rule more
 
 -- plain | pair
 abbrev pub InQuotes : ℕ → Rule

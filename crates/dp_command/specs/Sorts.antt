@@ -1,6 +1,6 @@
 -- The sorts of bytes that the grammar of command lines speaks of.
-use Rattle.std.specs.Prelude.{◌≡◌, ℕ, Bool, true, false, not, ◌&&◌, ◌||◌, ◌==◌, nat_le, List, [], ◌∷◌}
-use Rattle.std.specs.List.{AllByRecursion}
+use Rattle.std.specs.Prelude.{ℕ, Bool, not, ◌&&◌, ◌||◌, ◌==◌, nat_le}
+pub use Rattle.dp_grammar.specs.Parts.{begins, Each}
 
 abbrev pub is_space : ℕ → Bool
 is_space b = b == 32
@@ -19,12 +19,3 @@ is_bare b = not (b == 32) && not (b == 0) && not (b == 34)
 -- what the text of a payload consists of: any byte but a space, of which base64 tells the rest
 abbrev pub is_text : ℕ → Bool
 is_text b = not (b == 32)
-
--- whether there is a first byte, of this sort
-abbrev pub begins : (ℕ → Bool) → List ℕ → Bool
-begins sort [] = false
-begins sort (b ∷ t) = sort b
-
--- each byte is of this sort
-abbrev pub Each : (ℕ → Bool) → List ℕ → Type 0
-Each sort bytes = AllByRecursion (λ b. sort b ≡ true) bytes

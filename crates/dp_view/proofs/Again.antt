@@ -16,8 +16,8 @@ use Rattle.dp_value.specs.IntText.{int_of_text, is_int_form, is_in_64_bits, is_p
 use Rattle.dp_value.specs.KeyOf.{key_of_text}
 use Rattle.dp_view.specs.Grammar.{Repeated, Dollar, IsQuote, is_plain, pair_of, Within, Quoted, Inner, Index, spelt}
 use Rattle.dp_view.specs.Reading.{◌>>=◌, run_at, behind, without_dollar, name_at, items_at, pair_at, byte_at, quoted_at, is_int_byte, int_at, key_at, index_at, keys_at, path_at}
-use Rattle.dp_view.proofs.Runs.{guard_some, run_again, run_exact}
-use Rattle.dp_view.proofs.Sequences.{before_items, items_again, items_few}
+use Rattle.dp_grammar.proofs.Runs.{guard_some, run_again, run_exact}
+use Rattle.dp_grammar.proofs.Sequences.{before_items, items_again, items_few}
 
 not_true : (b : Bool) → not b ≡ true → b ≡ false
 not_true true e = absurd cc

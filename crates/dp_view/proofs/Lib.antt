@@ -1,5 +1,3 @@
-pub mod Runs
-pub mod Sequences
 pub mod Taking
 pub mod Integers
 pub mod Found

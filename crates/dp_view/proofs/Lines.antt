@@ -6,7 +6,7 @@ use Rattle.std.proofs.lemmas.Bool.{eq-eqb, ne_eqb}
 use Rattle.std.proofs.lemmas.List.{drop_all}
 use Rattle.dp_view.specs.Source.{begun, lines_between, lines_of, source_lines}
 use Rattle.dp_view.specs.inner.Lines.{lines_length}
-use Rattle.dp_view.proofs.Runs.{one_more}
+use Rattle.dp_grammar.proofs.Runs.{one_more}
 
 abbrev joined : List (List ℕ) → List ℕ
 joined lines = flat_map (λ line. line) lines

@@ -34,7 +34,7 @@ use Rattle.dp_view.specs.Nesting.{AreOfVariables, HasPaths, below, deeper, entri
 use Rattle.dp_view.specs.Places.{entry_of, shown_variables, value_among, value_at, value_under}
 use Rattle.dp_view.specs.Properties.{entry_property, nested, page_of, path_property, shape_of, variable_path, variable_shown, variable_value}
 use Rattle.dp_view.specs.inner.Keyed.{IsKeyed, VariablesAreKeyed}
-use Rattle.dp_view.proofs.Runs.{some_is}
+use Rattle.dp_grammar.proofs.Runs.{some_is}
 use Rattle.dp_view.proofs.Written.{entry_full_name}
 
 -- ---- what stands where in a list

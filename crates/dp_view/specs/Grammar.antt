@@ -8,32 +8,12 @@ use Rattle.dp_value.specs.declared.key.Key.{Key}
 use Rattle.dp_value.specs.declared.key.Key.TheVariants.{Int, Text}
 use Rattle.dp_value.specs.IntText.{int_of_text, is_in_64_bits}
 use Rattle.dp_value.specs.KeyOf.{key_of_text}
+use Rattle.dp_grammar.specs.Parts.{Part}
+pub use Rattle.dp_grammar.specs.Parts.{Joined, ◌>>◌, Mark, Repeated}
 
 -- which bytes a part of a name may be
 abbrev pub Rule : Type 1
-Rule = List ℕ → Type 0
-
--- the one part and then the other
-pub record Joined (first_rule : List ℕ → Type 0) (second_rule : List ℕ → Type 0)
-    (bytes : List ℕ) : Type 0 where
-  pub front : List ℕ
-  pub back : List ℕ
-  pub whole : bytes ≡ front ++ back
-  pub first : first_rule front
-  pub second : second_rule back
-
-infixr 20 ◌>>◌
-abbrev pub ◌>>◌ : Rule → Rule → Rule
-a >> b = Joined a b
-
--- these bytes themselves
-abbrev pub Mark : List ℕ → Rule
-Mark mark bytes = bytes ≡ mark
-
--- so many parts, one behind the other
-abbrev pub Repeated : {A : Type 0} → (A → List ℕ → Type 0) → List A → Rule
-Repeated rule [] = Mark []
-Repeated rule (a ∷ more) = rule a >> Repeated rule more
+Rule = Part ℕ
 
 -- a `$`, or nothing
 abbrev pub Dollar : Rule

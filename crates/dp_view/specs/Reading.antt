@@ -1,7 +1,7 @@
 -- The path that bytes name, as it is found from left to right. A part is its value and the bytes
 -- behind it, or none. By `names_have_one_path` it is the one path that they spell by the grammar,
 -- so nothing here need be believed.
-use Rattle.std.specs.Prelude.{ℕ, zero, suc, ◌&&◌, ◌||◌, ◌==◌, nat_le, Bool, if◌then◌else◌, List, [], ◌∷◌, length, take, drop, Option, Some, None}
+use Rattle.std.specs.Prelude.{ℕ, ◌&&◌, ◌||◌, ◌==◌, nat_le, Bool, if◌then◌else◌, List, [], ◌∷◌, length, drop, Option, Some, None}
 use Rattle.std.specs.List.{prefix_len}
 use Rattle.dp_lexer.specs.Bytes.{is_digit, is_start, is_part, begins}
 use Rattle.dp_lexer.specs.Pieces.{longest_name}
@@ -11,19 +11,12 @@ use Rattle.dp_value.specs.declared.key.Key.TheVariants as a_key
 use Rattle.dp_value.specs.IntText.{int_of_text}
 use Rattle.dp_value.specs.KeyOf.{key_of_text}
 use Rattle.dp_view.specs.Grammar.{pair_of}
-
-infixl 10 ◌>>=◌
-abbrev pub ◌>>=◌ : {A B : Type 0} → Option A → (A → Option B) → Option B
-(Some x) >>= f = f x
-None >>= f = None
+pub use Rattle.dp_grammar.specs.Taking.{◌>>=◌, run_at, onward}
+unfoldable pub use Rattle.dp_grammar.specs.Taking.{items_at}
 
 -- what an integer consists of
 abbrev pub is_int_byte : ℕ → Bool
 is_int_byte b = is_digit b || b == 45
-
--- the run of bytes of a sort at the front, and what stands behind it
-abbrev pub run_at : (ℕ → Bool) → List ℕ → List ℕ × List ℕ
-run_at sort bytes = (take (prefix_len sort bytes) bytes, drop (prefix_len sort bytes) bytes)
 
 -- what stands behind this byte
 abbrev pub behind : ℕ → List ℕ → Option (List ℕ)
@@ -39,17 +32,6 @@ unfoldable pub name_at : List ℕ → Option (List ℕ × List ℕ)
 name_at bytes =
     if begins is_start bytes
     && nat_le (prefix_len is_part bytes) longest_name then Some (run_at is_part bytes) else None
-
--- items one after the other, as long as there is one; their count has a bound
-abbrev pub onward : {A : Type 0} → Option A → List ℕ → (List ℕ → Option (List A × List ℕ))
-    → Option (List A × List ℕ)
-onward None rest next = Some ([], rest)
-onward (Some item) rest next = next rest >>= λ more. Some (item ∷ more.0, more.1)
-
-unfoldable pub items_at : {A : Type 0} → (List ℕ → Option (Option A × List ℕ)) → ℕ → List ℕ
-    → Option (List A × List ℕ)
-items_at step zero bytes = Some ([], bytes)
-items_at step (suc n) bytes = step bytes >>= λ found. onward found.0 found.1 (items_at step n)
 
 -- the byte that a pair stands for, behind its backslash
 abbrev pub pair_at : ℕ → List ℕ → Option (Option ℕ × List ℕ)

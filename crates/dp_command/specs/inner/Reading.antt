@@ -1,25 +1,18 @@
 -- How the code reads a line, from left to right: a part is its value and the bytes behind it, or
 -- none. Nothing here need be believed: `line_of_is_spelt` says what it comes to.
-use Rattle.std.specs.Prelude.{ℕ, zero, suc, ◌&&◌, ◌==◌, nat_le, Bool, if◌then◌else◌, List, [], ◌∷◌, length, take, drop, Option, Some, None}
+use Rattle.std.specs.Prelude.{ℕ, ◌&&◌, ◌==◌, nat_le, Bool, if◌then◌else◌, List, [], ◌∷◌, length, drop, Option, Some, None}
 use Rattle.std.specs.List.{prefix_len}
 use Rattle.dp_command.specs.declared.sort.Sort.{Sort}
 use Rattle.dp_command.specs.declared.sort.Sort.TheVariants.{Space, Name, Bare, Text}
 use Rattle.dp_command.specs.Sorts.{is_space, is_name_byte, is_letter, is_bare, is_text, begins}
-
-infixl 10 ◌>>=◌
-abbrev pub ◌>>=◌ : {A B : Type 0} → Option A → (A → Option B) → Option B
-(Some x) >>= f = f x
-None >>= f = None
+pub use Rattle.dp_grammar.specs.Taking.{◌>>=◌, run_at, onward}
+unfoldable pub use Rattle.dp_grammar.specs.Taking.{items_at}
 
 abbrev pub test_of : Sort → ℕ → Bool
 test_of Space = is_space
 test_of Name = is_name_byte
 test_of Bare = is_bare
 test_of Text = is_text
-
--- the run of bytes of a sort at the front, and what stands behind it
-abbrev pub run_at : (ℕ → Bool) → List ℕ → List ℕ × List ℕ
-run_at sort bytes = (take (prefix_len sort bytes) bytes, drop (prefix_len sort bytes) bytes)
 
 unfoldable pub spaces_at : List ℕ → Option (List ℕ)
 spaces_at bytes = if begins is_space bytes then Some (run_at is_space bytes).1 else None
@@ -28,17 +21,6 @@ unfoldable pub name_at : List ℕ → Option (List ℕ × List ℕ)
 name_at bytes =
     if nat_le 1 (prefix_len is_name_byte bytes) && nat_le (prefix_len is_name_byte bytes) 64
     then Some (run_at is_name_byte bytes) else None
-
--- items one after the other, as long as there is one; their count has a bound
-abbrev pub onward : {A : Type 0} → Option A → List ℕ → (List ℕ → Option (List A × List ℕ))
-    → Option (List A × List ℕ)
-onward None rest next = Some ([], rest)
-onward (Some item) rest next = next rest >>= λ more. Some (item ∷ more.0, more.1)
-
-unfoldable pub items_at : {A : Type 0} → (List ℕ → Option (Option A × List ℕ)) → ℕ → List ℕ
-    → Option (List A × List ℕ)
-items_at step zero bytes = Some ([], bytes)
-items_at step (suc n) bytes = step bytes >>= λ found. onward found.0 found.1 (items_at step n)
 
 -- a byte between quotes, where none is at the closing quote and at the end
 abbrev pub pair_at : List ℕ → Option (Option ℕ × List ℕ)
