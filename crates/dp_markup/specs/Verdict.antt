@@ -1,7 +1,7 @@
 -- What the answer of a reader is, unless memory fails.
 use Rattle.std.specs.Prelude.{◌≡◌, ◌⊎◌, Result, MatchResult}
-use Rattle.dp_markup.specs.declared.error.MarkupError.{MarkupError}
-use Rattle.dp_markup.specs.declared.error.MarkupError.TheVariants.{Memory}
+use Rattle.dp_markup.specs.declared.errors.MarkupError.{MarkupError}
+use Rattle.dp_markup.specs.declared.errors.MarkupError.TheVariants.{Memory}
 
 -- this value
 abbrev pub GivesValue : {T : Type 0} → Result T MarkupError → T → Type 0

@@ -7,8 +7,8 @@ ghost use Rattle.dp_markup.specs.inner.Reading as spec;
 
 use crate::Memory;
 use crate::found::Found;
-use crate::growing::Growing;
 use crate::input::Input;
+use crate::lists::Growing;
 use crate::states::{StartTag, Tag};
 use dp_grammar::Refusal;
 use dp_value::Bytes;

@@ -7,8 +7,8 @@ ghost use Rattle.dp_markup.specs.inner.Reading as spec;
 
 use crate::Memory;
 use crate::attributes::{spaced_mark, start};
-use crate::growing::Growing;
 use crate::input::Input;
+use crate::lists::Growing;
 use crate::states::{Content, StartTag};
 use crate::tree::{Element, Node};
 use dp_grammar::Refusal;

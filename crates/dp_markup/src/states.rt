@@ -1,7 +1,7 @@
 //! How far the parts of a text have been read.
 
 use crate::found::Found;
-use crate::growing::Growing;
+use crate::lists::Growing;
 use crate::tree::Node;
 use dp_value::{Bytes, Items};
 

@@ -2,8 +2,8 @@
 use Rattle.std.proofs.Common.{◌≡◌, Some, None, Result, Ok, Err, sym, ap, ◌∙◌}
 use Rattle.std.specs.Prelude.{MatchResult}
 use Rattle.dp_markup.specs.declared.tree.Element.{Element}
-use Rattle.dp_markup.specs.declared.error.MarkupError.{MarkupError}
-use Rattle.dp_markup.specs.declared.error.MarkupError.TheVariants as markup
+use Rattle.dp_markup.specs.declared.errors.MarkupError.{MarkupError}
+use Rattle.dp_markup.specs.declared.errors.MarkupError.TheVariants as markup
 use Rattle.dp_reply.specs.declared.error.ReplyError.{ReplyError}
 use Rattle.dp_reply.specs.declared.error.ReplyError.TheVariants.{NotDbgp, Memory}
 use Rattle.dp_packet.specs.declared.packet.Packet.{Packet}

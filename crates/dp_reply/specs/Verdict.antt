@@ -2,8 +2,8 @@
 use Rattle.std.specs.Prelude.{◌≡◌, List, ◌++◌, Option, Some, None, Result, Ok, Err}
 use Rattle.dp_reply.specs.declared.error.ReplyError.{ReplyError}
 use Rattle.dp_reply.specs.declared.error.ReplyError.TheVariants.{NotDbgp, Memory}
-use Rattle.dp_markup.specs.declared.error.MarkupError.{MarkupError}
-use Rattle.dp_markup.specs.declared.error.MarkupError.TheVariants as markup
+use Rattle.dp_markup.specs.declared.errors.MarkupError.{MarkupError}
+use Rattle.dp_markup.specs.declared.errors.MarkupError.TheVariants as markup
 use Rattle.dp_reply.specs.Contents.{◌>>=◌}
 
 abbrev pub Fails : {Y : Type 0} → ReplyError → Option Y → Type 0

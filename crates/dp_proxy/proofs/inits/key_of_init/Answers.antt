@@ -1,6 +1,6 @@
 use Rattle.std.proofs.Common.{◌≡◌, List, ℕ, Option, Result, codes, sym, ◌∙◌, subst}
-use Rattle.dp_markup.specs.declared.error.MarkupError.{MarkupError}
-use Rattle.dp_markup.specs.declared.error.MarkupError.TheVariants.{BadMarkup, Memory}
+use Rattle.dp_markup.specs.declared.errors.MarkupError.{MarkupError}
+use Rattle.dp_markup.specs.declared.errors.MarkupError.TheVariants.{BadMarkup, Memory}
 use Rattle.dp_markup.specs.Grammar.{root_value}
 use Rattle.dp_markup.specs.Verdict.{GivesValue}
 use Rattle.dp_proxy.proofs.KeyLaws.{gives, only}

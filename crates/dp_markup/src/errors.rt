@@ -19,7 +19,7 @@ pub enum MarkupError {
 
 impl From<AllocError> for MarkupError {
     ghost use Rattle.std.specs.Prelude.{◌≡◌};
-    ghost use Rattle.dp_markup.specs.declared.error.MarkupError.TheVariants.{Memory as WantOfMemory};
+    ghost use Rattle.dp_markup.specs.declared.errors.MarkupError.TheVariants.{Memory as WantOfMemory};
 
     ghost from_gives = { λ _ e. e ≡ WantOfMemory };
 
@@ -30,7 +30,7 @@ impl From<AllocError> for MarkupError {
 
 impl<T: Drop> From<AllocFailed<T>> for MarkupError {
     ghost use Rattle.std.specs.Prelude.{◌≡◌};
-    ghost use Rattle.dp_markup.specs.declared.error.MarkupError.TheVariants.{Memory as WantOfMemory};
+    ghost use Rattle.dp_markup.specs.declared.errors.MarkupError.TheVariants.{Memory as WantOfMemory};
 
     ghost from_gives = { λ _ e. e ≡ WantOfMemory };
 

@@ -2,7 +2,7 @@ use Rattle.std.proofs.Common.{codes}
 use Rattle.std.specs.List.{flat_map}
 use Rattle.dp_markup.specs.Writing.{attribute_text, nodes_text}
 use Rattle.dp_markup.proofs.Trees.{written_is, in_order}
-use Rattle.dp_markup.proofs.writing.+writing.Goals as goal
+use Rattle.dp_markup.proofs.writer.+writing.Goals as goal
 
 pub write_element-returns : goal.write_element-returns
 write_element-returns t c =

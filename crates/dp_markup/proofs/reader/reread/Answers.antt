@@ -1,7 +1,7 @@
 use Rattle.std.proofs.Common.{sym, subst, ◌∙◌}
 use Rattle.dp_markup.specs.Grammar.{IsMarkup}
 use Rattle.dp_markup.proofs.RoundTrip.{written_is_markup}
-use Rattle.dp_markup.proofs.reading.reread.Goals as goal
+use Rattle.dp_markup.proofs.reader.reread.Goals as goal
 
 pub returns : goal.returns
 returns c =

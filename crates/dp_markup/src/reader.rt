@@ -12,11 +12,11 @@ ghost use Rattle.dp_markup.specs.declared.tree.Element.{Element as Tree};
 ghost use Rattle.dp_markup.specs.declared.states.StartTag.{StartTag as Tag};
 
 use crate::documents::document;
-use crate::error::MarkupError;
+use crate::errors::MarkupError;
 use crate::input::Input;
 use crate::sought::sought_head;
 use crate::tree::Element;
-use crate::writing::write;
+use crate::writer::write;
 use dp_grammar::Refusal;
 use dp_value::Bytes;
 use std::alloc::Global;

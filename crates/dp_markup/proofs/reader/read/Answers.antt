@@ -1,11 +1,11 @@
 use Rattle.std.proofs.Common.{◌≡◌, ◌-◌, length, inl, ap, subst, arith}
-use Rattle.dp_markup.specs.declared.error.MarkupError.TheVariants.{BadMarkup}
+use Rattle.dp_markup.specs.declared.errors.MarkupError.TheVariants.{BadMarkup}
 use Rattle.dp_grammar.specs.declared.refusal.Refusal.TheVariants.{Unexpected, TooDeep}
 use Rattle.dp_markup.specs.Grammar.{Document, limit}
 use Rattle.dp_markup.specs.Refused.{IsFirstBad}
 use Rattle.dp_markup.proofs.Verdicts.{left_in, is_bad, is_too_deep, is_markup, one_markup, not_markup, not_deep, same_offset, one_kind, found_at, refused_at}
 use Rattle.dp_markup.proofs.Spelled.{markup_readable, bytes_are}
-use Rattle.dp_markup.proofs.reading.read.Goals as goal
+use Rattle.dp_markup.proofs.reader.read.Goals as goal
 
 pub overflow_sub-result : goal.overflow_sub-result
 overflow_sub-result c =
