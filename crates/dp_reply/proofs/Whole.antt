@@ -4,8 +4,8 @@ use Rattle.std.specs.Prelude.{MatchResult}
 use Rattle.dp_markup.specs.declared.tree.Element.{Element}
 use Rattle.dp_markup.specs.declared.errors.MarkupError.{MarkupError}
 use Rattle.dp_markup.specs.declared.errors.MarkupError.TheVariants as markup
-use Rattle.dp_reply.specs.declared.error.ReplyError.{ReplyError}
-use Rattle.dp_reply.specs.declared.error.ReplyError.TheVariants.{NotDbgp, Memory}
+use Rattle.dp_reply.specs.declared.errors.ReplyError.{ReplyError}
+use Rattle.dp_reply.specs.declared.errors.ReplyError.TheVariants.{NotDbgp, Memory}
 use Rattle.dp_packet.specs.declared.packet.Packet.{Packet}
 use Rattle.dp_reply.specs.Readings.{packet_in, IsPacket}
 use Rattle.dp_reply.specs.Verdict.{Finds, refusal_of}

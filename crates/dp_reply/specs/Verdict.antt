@@ -1,7 +1,7 @@
 -- What the answer of a function that reads is.
 use Rattle.std.specs.Prelude.{◌≡◌, List, ◌++◌, Option, Some, None, Result, Ok, Err}
-use Rattle.dp_reply.specs.declared.error.ReplyError.{ReplyError}
-use Rattle.dp_reply.specs.declared.error.ReplyError.TheVariants.{NotDbgp, Memory}
+use Rattle.dp_reply.specs.declared.errors.ReplyError.{ReplyError}
+use Rattle.dp_reply.specs.declared.errors.ReplyError.TheVariants.{NotDbgp, Memory}
 use Rattle.dp_markup.specs.declared.errors.MarkupError.{MarkupError}
 use Rattle.dp_markup.specs.declared.errors.MarkupError.TheVariants as markup
 use Rattle.dp_reply.specs.Contents.{◌>>=◌}

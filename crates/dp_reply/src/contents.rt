@@ -6,7 +6,7 @@ ghost use Rattle.dp_markup.specs.declared.tree.Node.TheViews.{out-Node};
 ghost use Rattle.dp_reply.specs.Contents as spec;
 ghost use Rattle.dp_reply.specs.Verdict.{Finds};
 
-use crate::error::ReplyError;
+use crate::errors::ReplyError;
 use base64::DecodeAllocError;
 use base64::engine::general_purpose::STANDARD;
 use dp_markup::{Element, Node, same_text};

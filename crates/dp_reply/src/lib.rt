@@ -3,16 +3,16 @@
 #![tactic(auto)]
 
 mod contents;
-mod error;
+mod errors;
 mod lists;
 mod read_breakpoints;
 mod read_properties;
 mod read_responses;
-mod reading;
+mod reader;
 
 pub use dp_packet::{
     Body, BreakKind, BreakLine, HitRule, Init, Memory, Notify, Packet, Property, ProxyReply,
     Response, Shape, StackLine, file_uri, has_message, message, reason, text_of,
 };
-pub use error::ReplyError;
-pub use reading::{packet_in, packet_of, reread};
+pub use errors::ReplyError;
+pub use reader::{packet_in, packet_of, reread};

@@ -7,7 +7,7 @@ ghost use Rattle.dp_reply.specs.Contents.{each, elements, elements_of};
 ghost use Rattle.dp_reply.specs.Verdict.{Finds, behind};
 
 use crate::contents::element_in;
-use crate::error::ReplyError;
+use crate::errors::ReplyError;
 use dp_markup::{Element, Node};
 use dp_value::Items;
 use std::alloc::Global;

@@ -9,7 +9,7 @@ use crate::contents::{
     attribute, flag, is_named, number_at, number_of_32_bits_at, only_element, optional_number,
     optional_text, text_in,
 };
-use crate::error::ReplyError;
+use crate::errors::ReplyError;
 use dp_markup::{Element, same_text};
 use dp_packet::{BreakKind, BreakLine, HitRule};
 use dp_value::Bytes;

@@ -10,7 +10,7 @@ ghost use Rattle.dp_reply.specs.Verdict.{Finds, behind};
 use crate::contents::{
     attribute, bytes, element_in, flag, has_no_words, is_named, number_at, optional_text, text_in,
 };
-use crate::error::ReplyError;
+use crate::errors::ReplyError;
 use dp_markup::{Element, Node, level_limit, same_text};
 use dp_packet::{Property, Shape};
 use dp_value::{Items, int_of_text};

@@ -9,7 +9,7 @@ use crate::contents::{
     attribute, has_no_elements, has_no_words, is_named, is_namespace, number_at,
     number_of_32_bits_at, only, text, words,
 };
-use crate::error::ReplyError;
+use crate::errors::ReplyError;
 use crate::lists::{Entry, entries};
 use crate::read_breakpoints::breakpoint_in;
 use crate::read_properties::property_in;

@@ -17,7 +17,7 @@ pub enum ReplyError {
 
 impl From<AllocError> for ReplyError {
     ghost use Rattle.std.specs.Prelude.{◌≡◌};
-    ghost use Rattle.dp_reply.specs.declared.error.ReplyError.TheVariants.{Memory as WantOfMemory};
+    ghost use Rattle.dp_reply.specs.declared.errors.ReplyError.TheVariants.{Memory as WantOfMemory};
 
     ghost from_gives = { λ _ e. e ≡ WantOfMemory };
 
@@ -28,7 +28,7 @@ impl From<AllocError> for ReplyError {
 
 impl<T: Drop> From<AllocFailed<T>> for ReplyError {
     ghost use Rattle.std.specs.Prelude.{◌≡◌};
-    ghost use Rattle.dp_reply.specs.declared.error.ReplyError.TheVariants.{Memory as WantOfMemory};
+    ghost use Rattle.dp_reply.specs.declared.errors.ReplyError.TheVariants.{Memory as WantOfMemory};
 
     ghost from_gives = { λ _ e. e ≡ WantOfMemory };
 

@@ -3,7 +3,7 @@ use Rattle.dp_markup.specs.Grammar.{IsMarkup}
 use Rattle.dp_packet.specs.Packets.{element_of}
 use Rattle.dp_reply.specs.Norm.{norm}
 use Rattle.dp_reply.proofs.Law.{is_read, is_markup}
-use Rattle.dp_reply.proofs.reading.reread.Goals as goal
+use Rattle.dp_reply.proofs.reader.reread.Goals as goal
 
 pub text_of-requires : goal.text_of-requires
 text_of-requires c = record { known = c.requires.message }

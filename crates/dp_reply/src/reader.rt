@@ -9,7 +9,7 @@ ghost use Rattle.dp_reply.specs.Readings as spec;
 ghost use Rattle.dp_reply.specs.Verdict.{Finds};
 
 use crate::contents::{attribute, bytes, flag, is_named, number_at, only_element, text, text_in};
-use crate::error::ReplyError;
+use crate::errors::ReplyError;
 use crate::read_breakpoints::breakpoint_in;
 use crate::read_responses::{error_in, response_in};
 use dp_markup::{Element, read};

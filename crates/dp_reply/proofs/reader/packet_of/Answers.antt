@@ -1,7 +1,7 @@
 use Rattle.std.proofs.Common.{ap, ◌∙◌, Err}
 use Rattle.std.proofs.lemmas.Result.{err_from_is_err_and}
 use Rattle.dp_reply.proofs.Whole.{only_one, none_there, memory_alone, not_memory}
-use Rattle.dp_reply.proofs.reading.packet_of.Goals as goal
+use Rattle.dp_reply.proofs.reader.packet_of.Goals as goal
 
 pub returns-in_err-e-clause-only : goal.returns-in_err-e-clause-only
 returns-in_err-e-clause-only c =
