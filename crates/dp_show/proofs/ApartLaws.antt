@@ -8,7 +8,7 @@ use Rattle.dp_markup.specs.Grammar.{IsMarkup}
 use Rattle.dp_outside.specs.Changes.{Change}
 use Rattle.dp_wire.specs.Frames.{packets_in, rest_of_packets, IsPartialPacket}
 use Rattle.dp_wire.proofs.LengthLaws.{partial_refused, unfinished_partial}
-use Rattle.dp_show.specs.declared.error.ShowError.TheVariants.{PeerEnd, BadPacket}
+use Rattle.dp_show.specs.declared.errors.ShowError.TheVariants.{PeerEnd, BadPacket}
 use Rattle.dp_show.specs.Lines.{AreMarkup}
 use Rattle.dp_show.specs.Shows.{Shown, Shows, IsBadAt}
 use Rattle.dp_show.specs.inner.Progress.{Told}

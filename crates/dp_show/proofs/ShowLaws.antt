@@ -16,8 +16,8 @@ use Rattle.dp_wire.specs.Frames.{IsPacketText, packet_frame, packets_in, rest_of
 use Rattle.dp_wire.specs.Received.{Received, last_place}
 use Rattle.dp_wire.proofs.LengthLaws.{partial-none, refused-never, begins-first}
 use Rattle.dp_wire.proofs.PacketLaws.{packets-first}
-use Rattle.dp_show.specs.declared.error.ShowError.{ShowError}
-use Rattle.dp_show.specs.declared.error.ShowError.TheVariants.{PeerEnd, BadPacket, ReadFault, OutFault, Memory}
+use Rattle.dp_show.specs.declared.errors.ShowError.{ShowError}
+use Rattle.dp_show.specs.declared.errors.ShowError.TheVariants.{PeerEnd, BadPacket, ReadFault, OutFault, Memory}
 use Rattle.dp_show.specs.Lines.{line_of, lines_of, AreMarkup, IsNoMarkup}
 use Rattle.dp_show.specs.Shows.{Shown, Shows, IsCutShort, Ends, IsBadAt}
 use Rattle.dp_wire.specs.Places.{place_behind, IsRefusedAt}

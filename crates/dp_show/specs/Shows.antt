@@ -7,8 +7,8 @@ use Rattle.dp_outside.specs.Changes.{Change}
 use Rattle.dp_outside.specs.Streams.{AppendsFront}
 use Rattle.dp_wire.specs.Frames.{packets_in, rest_of_packets, IsPartialPacket}
 use Rattle.dp_wire.specs.Places.{place_behind, IsRefusedAt}
-use Rattle.dp_show.specs.declared.error.ShowError.{ShowError}
-use Rattle.dp_show.specs.declared.error.ShowError.TheVariants.{PeerEnd, BadPacket, ReadFault, OutFault, Memory}
+use Rattle.dp_show.specs.declared.errors.ShowError.{ShowError}
+use Rattle.dp_show.specs.declared.errors.ShowError.TheVariants.{PeerEnd, BadPacket, ReadFault, OutFault, Memory}
 use Rattle.dp_show.specs.Lines.{lines_of, AreMarkup, IsNoMarkup}
 
 -- Of the bytes read from the input, the first packets are the markup of these elements.

@@ -2,7 +2,7 @@
 ghost use Rattle.std.specs.Prelude.{ℕ, Ok, Err, IsSome};
 ghost use Rattle.dp_outside.specs.Changes.{Change};
 ghost use Rattle.dp_show.specs.Shows.{Shows};
-ghost use Rattle.dp_show.specs.declared.error.ShowError.TheVariants.{PeerEnd, BadPacket};
+ghost use Rattle.dp_show.specs.declared.errors.ShowError.TheVariants.{PeerEnd, BadPacket};
 
 /// What was read decides how it ends, where no fault and no want of memory cuts it short: all was shown, or the input
 /// ended inside a frame, or there stands what is no packet. No two of these hold of one input that tells its bytes.

@@ -1,11 +1,11 @@
 //! The command `show`: the elements of the packets that are read, each on a line.
 #![tactic(auto)]
 
-mod error;
+mod errors;
 mod laws;
-mod showing;
+mod lines;
 
 pub use dp_value::Memory;
-pub use error::ShowError;
+pub use errors::ShowError;
 pub use laws::ends_apart;
-pub use showing::show;
+pub use lines::show;

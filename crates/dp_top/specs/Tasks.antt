@@ -1,8 +1,8 @@
 -- The answers of the top call: what each task does, and why it fails.
 use Rattle.std.specs.Prelude.{◌≡◌, ℕ, ◌≤◌, List, [], ◌∷◌, Ok, Err, codes}
 use Rattle.dp_outside.specs.Changes.{Change, IsUntouched}
-use Rattle.dp_show.specs.declared.error.ShowError.{ShowError}
-use Rattle.dp_show.specs.declared.error.ShowError.TheVariants as ends
+use Rattle.dp_show.specs.declared.errors.ShowError.{ShowError}
+use Rattle.dp_show.specs.declared.errors.ShowError.TheVariants as ends
 use Rattle.dp_show.specs.Shows.{Shows, Ends}
 use Rattle.dp_top.specs.declared.failures.Failure.{Failure}
 use Rattle.dp_top.specs.declared.failures.Failure.TheVariants.{TooLong, Source, ShelfFailed, NoFile, Fatal, Bound, Output, Script, Differs, PeerEnd, Packet, Network, Stopped, Memory}

@@ -9,8 +9,8 @@ use Rattle.dp_outside.specs.Changes.{Change}
 use Rattle.dp_outside.specs.Streams.{AppendsFront}
 use Rattle.dp_wire.specs.Frames.{IsPacketText, packet_frame, BeginsPacket}
 use Rattle.dp_wire.specs.Received.{Received}
-use Rattle.dp_show.specs.declared.error.ShowError.{ShowError}
-use Rattle.dp_show.specs.declared.error.ShowError.TheVariants.{PeerEnd, BadPacket, ReadFault, OutFault, Memory}
+use Rattle.dp_show.specs.declared.errors.ShowError.{ShowError}
+use Rattle.dp_show.specs.declared.errors.ShowError.TheVariants.{PeerEnd, BadPacket, ReadFault, OutFault, Memory}
 use Rattle.dp_show.specs.Lines.{line_of, lines_of, AreMarkup, IsNoMarkup}
 use Rattle.dp_wire.specs.Places.{place_behind, IsRefusedAt}
 

@@ -2,7 +2,7 @@ use Rattle.std.proofs.Common.{ℕ, ◌-◌, List, take, drop, sym, subst, arith}
 use Rattle.dp_outside.specs.Changes.{change}
 use Rattle.dp_show.specs.inner.Progress.{IsLine, TextFails}
 use Rattle.dp_show.proofs.ShowLaws.{packet_shown, text_failed, then_shows}
-use Rattle.dp_show.proofs.showing.show_held.Goals as goal
+use Rattle.dp_show.proofs.lines.show_held.Goals as goal
 
 pub packets-preserved : goal.packets-preserved
 packets-preserved g c =

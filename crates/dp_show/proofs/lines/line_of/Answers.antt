@@ -1,4 +1,4 @@
-use Rattle.dp_show.proofs.showing.line_of.Goals as goal
+use Rattle.dp_show.proofs.lines.line_of.Goals as goal
 
 pub returns-in-Err-BadMarkup : goal.returns-in-Err-BadMarkup
 returns-in-Err-BadMarkup c = λ e is. let same = c.in-Err-BadMarkup.ensures.only e is in cc

@@ -1,6 +1,6 @@
 use Rattle.std.proofs.Common.{◌≤◌, length}
 use Rattle.dp_show.specs.inner.Progress.{ShowsOn}
-use Rattle.dp_show.proofs.showing.show_held.Given as goal
+use Rattle.dp_show.proofs.lines.show_held.Given as goal
 
 abbrev pub invariant-packets : goal.invariant-packets
 invariant-packets g l =

@@ -2,7 +2,7 @@ use Rattle.std.proofs.Common.{◌≡◌, ◌≤◌, ℕ, List}
 use Rattle.std.specs.Io.KnownBytes.{Consumes}
 use Rattle.dp_wire.specs.Frames.{IsPartialPacket}
 use Rattle.dp_show.specs.inner.Progress.{HasShown}
-use Rattle.dp_show.proofs.showing.show.Given as goal
+use Rattle.dp_show.proofs.lines.show.Given as goal
 
 abbrev pub invariant-pieces : goal.invariant-pieces
 invariant-pieces g l =

@@ -8,7 +8,7 @@ ghost use Rattle.dp_wire.specs.Received.{IsCause};
 ghost use Rattle.dp_show.specs.Shows.{Ends};
 ghost use Rattle.dp_show.specs.inner.Progress.{LineOf, IsLine, ShowsOn, TextFails, HeldFails, PieceFails};
 
-use crate::error::ShowError;
+use crate::errors::ShowError;
 use dp_markup::{MarkupError, read, write};
 use dp_outside::{Sink, Source};
 use dp_value::{Bytes, Memory};

@@ -25,7 +25,7 @@ pub enum ShowError {
 
 impl From<AllocError> for ShowError {
     ghost use Rattle.std.specs.Prelude.{◌≡◌};
-    ghost use Rattle.dp_show.specs.declared.error.ShowError.TheVariants.{Memory as WantOfMemory};
+    ghost use Rattle.dp_show.specs.declared.errors.ShowError.TheVariants.{Memory as WantOfMemory};
 
     ghost from_gives = { λ _ e. e ≡ WantOfMemory };
 
@@ -36,7 +36,7 @@ impl From<AllocError> for ShowError {
 
 impl<T: Drop> From<AllocFailed<T>> for ShowError {
     ghost use Rattle.std.specs.Prelude.{◌≡◌};
-    ghost use Rattle.dp_show.specs.declared.error.ShowError.TheVariants.{Memory as WantOfMemory};
+    ghost use Rattle.dp_show.specs.declared.errors.ShowError.TheVariants.{Memory as WantOfMemory};
 
     ghost from_gives = { λ _ e. e ≡ WantOfMemory };
 

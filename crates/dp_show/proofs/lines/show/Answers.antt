@@ -6,7 +6,7 @@ use Rattle.dp_wire.specs.Frames.{IsPartialPacket}
 use Rattle.dp_wire.proofs.LengthLaws.{unfinished_partial}
 use Rattle.dp_outside.specs.Changes.{change}
 use Rattle.dp_show.proofs.ShowLaws.{nothing_shown, piece_held, stopped, ends_whole, ends_inside, ends_piece, ends_held, ends_cut}
-use Rattle.dp_show.proofs.showing.show.Goals as goal
+use Rattle.dp_show.proofs.lines.show.Goals as goal
 
 none_left : (bytes : List ℕ) → eqb (length bytes) 0 ≡ true → bytes ≡ []
 none_left bytes e = nil_from_length bytes (eqb-true (length bytes) 0 e)
