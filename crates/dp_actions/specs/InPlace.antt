@@ -1,6 +1,6 @@
 -- Entries of variables that are read in their place.
 use Rattle.std.specs.Prelude.{◌≡◌, true, List, ◌∷◌, Result}
-use Rattle.dp_value.specs.declared.error.ValueError.{ValueError}
+use Rattle.dp_value.specs.declared.errors.ValueError.{ValueError}
 use Rattle.dp_value.specs.Data.{Data}
 use Rattle.dp_operations.specs.Indexing.{indexed, looked_up}
 use Rattle.dp_tree.specs.declared.tree.Expression.{Expression}

@@ -1,8 +1,8 @@
 //! Values of operations, and steps, as parts of a run.
 
 ghost use Rattle.std.specs.Prelude.{◌≡◌, Result};
-ghost use Rattle.dp_value.specs.declared.error.ValueError.{ValueError as Refusal};
-ghost use Rattle.dp_value.specs.declared.error.CallError.{CallError as CallRefusal};
+ghost use Rattle.dp_value.specs.declared.errors.ValueError.{ValueError as Refusal};
+ghost use Rattle.dp_value.specs.declared.errors.CallError.{CallError as CallRefusal};
 ghost use Rattle.dp_value.specs.Data.{Data};
 ghost use Rattle.dp_operations.specs.Answers.{Answers};
 ghost use Rattle.dp_operations.specs.Builtins.{CallAnswers};

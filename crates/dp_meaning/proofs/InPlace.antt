@@ -6,7 +6,7 @@ use Rattle.dp_state.specs.States.{file_of, line_of}
 use Rattle.dp_tree.specs.declared.tree.Expression.{Expression}
 use Rattle.dp_tree.specs.declared.tree.Expression.TheVariants as tree
 use Rattle.dp_tree.specs.Purity.{is_pure}
-use Rattle.dp_value.specs.declared.error.ValueError.{ValueError}
+use Rattle.dp_value.specs.declared.errors.ValueError.{ValueError}
 use Rattle.dp_value.specs.declared.value.Value.{Value}
 use Rattle.dp_value.specs.Data.{Data}
 use Rattle.dp_value.specs.Value.{data_of}

@@ -1,7 +1,7 @@
 -- An expression without calls, assignments, steps and includes gives a value or is fatal, and leaves the state as it is.
 use Rattle.std.proofs.Common.{◌≡◌, Bool, true, false, ◌&&◌, if◌then◌else◌, List, [], ◌∷◌, map, Option, Some, None, Result, Ok, Err, refl, sym, ap, ◌∙◌, subst}
-use Rattle.dp_value.specs.declared.error.ValueError.{ValueError}
-use Rattle.dp_value.specs.declared.error.WriteError.{WriteError}
+use Rattle.dp_value.specs.declared.errors.ValueError.{ValueError}
+use Rattle.dp_value.specs.declared.errors.WriteError.{WriteError}
 use Rattle.dp_value.specs.declared.value.Value.{Value}
 use Rattle.dp_value.specs.declared.value.Value.TheVariants as value
 use Rattle.dp_value.specs.Data.{Data}

@@ -6,8 +6,8 @@ use Rattle.std.proofs.lemmas.Int.{ints, int_max_is}
 use Rattle.std.proofs.lemmas.List.{length_push, take-append-drop, map-append, map_more, drop_more}
 use Rattle.std.specs.Int.{int_max}
 use Rattle.std.specs.Ordering.{int_eq}
-use Rattle.dp_value.specs.declared.error.CallError.{CallError}
-use Rattle.dp_value.specs.declared.error.CallError.TheVariants.{TooHeavy, NextIndex, Memory}
+use Rattle.dp_value.specs.declared.errors.CallError.{CallError}
+use Rattle.dp_value.specs.declared.errors.CallError.TheVariants.{TooHeavy, NextIndex, Memory}
 use Rattle.dp_value.specs.declared.key.Key.{Key}
 use Rattle.dp_value.specs.declared.key.Key.TheVariants.{Int}
 use Rattle.dp_value.specs.Data.{Data, Table, pairs_weight, data_of_table}

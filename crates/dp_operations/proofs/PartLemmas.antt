@@ -1,7 +1,7 @@
 -- Texts repeated and joined.
 use Rattle.std.proofs.Common.{◌≡◌, ℕ, zero, suc, ◌+◌, ◌<◌, ◌≤◌, Bool, true, false, nat_le, List, [], ◌∷◌, ◌++◌, length, drop, Some, Ok, Err, refl, ap, sym, ◌∙◌, arith, append_assoc, length-append}
 use Rattle.std.proofs.lemmas.Bool.Decides.{nat_tests}
-use Rattle.dp_value.specs.declared.error.CallError.TheVariants.{TooHeavy}
+use Rattle.dp_value.specs.declared.errors.CallError.TheVariants.{TooHeavy}
 use Rattle.dp_value.specs.Data.{text}
 use Rattle.dp_value.specs.Table.{weight_limit}
 use Rattle.dp_operations.specs.Builtins.{joining_of}

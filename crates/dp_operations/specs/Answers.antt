@@ -1,7 +1,7 @@
 -- What a call on values answers: what its table says, or want of memory.
 use Rattle.std.specs.Prelude.{◌≡◌, ◌⊎◌, Result, Ok, Err, MatchResult}
-use Rattle.dp_value.specs.declared.error.ValueError.{ValueError}
-use Rattle.dp_value.specs.declared.error.ValueError.TheVariants.{Memory}
+use Rattle.dp_value.specs.declared.errors.ValueError.{ValueError}
+use Rattle.dp_value.specs.declared.errors.ValueError.TheVariants.{Memory}
 use Rattle.dp_value.specs.declared.value.Value.{Value}
 use Rattle.dp_value.specs.Data.{Data}
 use Rattle.dp_value.specs.Value.{data_of}

@@ -4,8 +4,8 @@ use Rattle.std.specs.Prelude.{◌≡◌, ◌⊎◌, ℕ, ℤ, pos, negsuc, ◌*�
 use Rattle.std.specs.Int.{int_rem_euclid}
 use Rattle.std.specs.Int.RustNames.{unsigned_abs}
 use Rattle.std.specs.Ordering.{int_eq}
-use Rattle.dp_value.specs.declared.error.CallError.{CallError}
-use Rattle.dp_value.specs.declared.error.CallError.TheVariants.{Overflow, DivByZero, Unsupported, TooHeavy, Memory, Arguments}
+use Rattle.dp_value.specs.declared.errors.CallError.{CallError}
+use Rattle.dp_value.specs.declared.errors.CallError.TheVariants.{Overflow, DivByZero, Unsupported, TooHeavy, Memory, Arguments}
 use Rattle.dp_value.specs.declared.operators.Builtin.{Builtin}
 use Rattle.dp_value.specs.declared.operators.Builtin.TheVariants.{StrLen, Ord, Count, ArrayKeys, ArrayValues, IntDiv, Chr, SubStr, StrRepeat, Implode, IsInt, IsString, IsBool, IsNull, IsArray}
 use Rattle.dp_value.specs.declared.value.Value.{Value}

@@ -7,8 +7,8 @@ use Rattle.std.specs.List.{list_any}
 use Rattle.std.specs.Ordering.{int_eq, int_cmp}
 use Rattle.std.specs.declared.cmp.Ordering.{Ordering}
 use mathlib.Core.Bool.{beq}
-use Rattle.dp_value.specs.declared.error.ValueError.{ValueError}
-use Rattle.dp_value.specs.declared.error.ValueError.TheVariants.{Unsupported}
+use Rattle.dp_value.specs.declared.errors.ValueError.{ValueError}
+use Rattle.dp_value.specs.declared.errors.ValueError.TheVariants.{Unsupported}
 use Rattle.dp_value.specs.Data.{Data, null, boolean, integer, text, array}
 
 abbrev pub has_digit : List ℕ → Bool

@@ -1,8 +1,8 @@
 -- The reading of an entry by an index. Source: the PHP manual, "Arrays", "Strings" and "isset".
 use Rattle.std.specs.Prelude.{ℕ, ℤ, pos, negsuc, suc, ◌-◌, Bool, cond, if◌then◌else◌, nat_le, List, [], ◌∷◌, length, Option, None, option_map, slice_get, unwrap_or, Result, Ok, Err}
 use Rattle.std.specs.Option.{option_map_or}
-use Rattle.dp_value.specs.declared.error.ValueError.{ValueError}
-use Rattle.dp_value.specs.declared.error.ValueError.TheVariants.{BadKey, Unsupported}
+use Rattle.dp_value.specs.declared.errors.ValueError.{ValueError}
+use Rattle.dp_value.specs.declared.errors.ValueError.TheVariants.{BadKey, Unsupported}
 use Rattle.dp_value.specs.Data.{Data, null, boolean, integer, text, array, pairs_of}
 use Rattle.dp_value.specs.KeyOf.{key_of_data}
 use Rattle.dp_value.specs.Table.{value_at}

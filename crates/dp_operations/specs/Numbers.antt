@@ -1,8 +1,8 @@
 -- Arithmetic on 64-bit integers. Source: the PHP manual, "Arithmetic Operators" and "Integers".
 use Rattle.std.specs.Prelude.{ℤ, pos, ◌+ℤ◌, ◌-ℤ◌, ◌*ℤ◌, cond, Option, Some, None, Result, Ok, Err, int_rem}
 use Rattle.std.specs.Ordering.{int_eq}
-use Rattle.dp_value.specs.declared.error.ValueError.{ValueError}
-use Rattle.dp_value.specs.declared.error.ValueError.TheVariants.{Overflow, DivByZero, Unsupported}
+use Rattle.dp_value.specs.declared.errors.ValueError.{ValueError}
+use Rattle.dp_value.specs.declared.errors.ValueError.TheVariants.{Overflow, DivByZero, Unsupported}
 use Rattle.dp_value.specs.Data.{Data, null, boolean, integer, text, array}
 use Rattle.dp_value.specs.IntText.{is_in_64_bits}
 

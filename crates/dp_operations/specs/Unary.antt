@@ -1,8 +1,8 @@
 -- The table of the operators on one value. Source: the PHP manual, "Operators".
 use Rattle.std.specs.Prelude.{ℤ, pos, ◌+ℤ◌, ◌-ℤ◌, not, Option, Some, None, Result, Ok, Err}
 use lib.IntN.{neg_ℤ}
-use Rattle.dp_value.specs.declared.error.ValueError.{ValueError}
-use Rattle.dp_value.specs.declared.error.ValueError.TheVariants.{Unsupported}
+use Rattle.dp_value.specs.declared.errors.ValueError.{ValueError}
+use Rattle.dp_value.specs.declared.errors.ValueError.TheVariants.{Unsupported}
 use Rattle.dp_value.specs.declared.operators.UnaryOp.{UnaryOp}
 use Rattle.dp_value.specs.declared.operators.UnaryOp.TheVariants.{Not, Minus, Plus, Increment, Decrement}
 use Rattle.dp_value.specs.Data.{Data, null, boolean, integer, text, array}

@@ -9,7 +9,7 @@ use Rattle.dp_tree.specs.declared.bundle.BundleFile.{BundleFile}
 use Rattle.dp_tree.specs.declared.bundle.FunctionRef.{FunctionRef}
 use Rattle.dp_tree.specs.Files.{first_functions, function_count, functions_of}
 use Rattle.dp_tree.specs.declared.tree.Function.{Function}
-use Rattle.dp_value.specs.declared.error.WriteError.{WriteError}
+use Rattle.dp_value.specs.declared.errors.WriteError.{WriteError}
 use Rattle.dp_value.specs.declared.key.Key.{Key}
 use Rattle.dp_value.specs.declared.value.Value.{Value}
 use Rattle.dp_value.specs.declared.value.Value.TheVariants.{Null}

@@ -1,7 +1,7 @@
 -- A removal takes no memory, and what is refused surely.
 use Rattle.std.proofs.Common.{◌≡◌, ◌≢◌, ◌==◌, Bool, true, false, if◌then◌else◌, List, [], ◌∷◌, length, Option, Some, None, Result, Ok, Err, IfErr, OnOk, refl, sym, ◌∙◌}
-use Rattle.dp_value.specs.declared.error.WriteError.{WriteError}
-use Rattle.dp_value.specs.declared.error.WriteError.TheVariants as write
+use Rattle.dp_value.specs.declared.errors.WriteError.{WriteError}
+use Rattle.dp_value.specs.declared.errors.WriteError.TheVariants as write
 use Rattle.dp_value.specs.declared.key.Key.{Key}
 use Rattle.dp_value.specs.Data.{Data, Table, data_of_table, null, boolean, integer, text, array, pairs_of}
 use Rattle.dp_value.specs.Entry.{in_array, removed, then_data, then_key, with_entry}

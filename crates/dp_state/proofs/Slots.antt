@@ -9,7 +9,7 @@ use Rattle.dp_state.specs.declared.vars.Slot.TheVariants.{Held, Bound}
 use Rattle.dp_state.specs.inner.Parts.{data_in, then_variables}
 use Rattle.dp_state.specs.Variables.{Variables, slot_of, value_held, with_slot, without}
 use Rattle.dp_state.specs.inner.Parts.{with_held}
-use Rattle.dp_value.specs.declared.error.WriteError.{WriteError}
+use Rattle.dp_value.specs.declared.errors.WriteError.{WriteError}
 use Rattle.dp_value.specs.declared.key.Key.TheVariants.{Text}
 use Rattle.dp_value.specs.declared.value.Value.{Value}
 use Rattle.dp_value.specs.declared.value.Value.TheVariants.{Null}

@@ -12,7 +12,7 @@ use Rattle.dp_state.specs.Places.{assigned, is_bound, then_state, unset, with_gl
 use Rattle.dp_state.specs.inner.Parts.{assigned_in, home, removed_in, then_variables, IsCauseIn}
 use Rattle.dp_state.specs.States.{own_variables, owner_at, read_at, variables_at, IsCause}
 use Rattle.dp_state.specs.Variables.{Variables, slot_of, value_held, value_through, with_slot, without}
-use Rattle.dp_value.specs.declared.error.WriteError.{WriteError}
+use Rattle.dp_value.specs.declared.errors.WriteError.{WriteError}
 use Rattle.dp_value.specs.declared.key.Key.{Key}
 use Rattle.dp_value.specs.declared.value.Value.{Value}
 use Rattle.dp_value.specs.declared.value.Value.TheVariants.{Null}

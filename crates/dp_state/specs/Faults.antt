@@ -4,12 +4,12 @@ use Rattle.dp_state.specs.declared.moments.FatalKind.{FatalKind}
 use Rattle.dp_state.specs.declared.moments.FatalKind.TheVariants as fatal
 use Rattle.dp_state.specs.declared.state.Fault.{Fault}
 use Rattle.dp_state.specs.declared.state.Fault.TheVariants.{Fatal, Memory}
-use Rattle.dp_value.specs.declared.error.CallError.{CallError}
-use Rattle.dp_value.specs.declared.error.CallError.TheVariants as call
-use Rattle.dp_value.specs.declared.error.ValueError.{ValueError}
-use Rattle.dp_value.specs.declared.error.ValueError.TheVariants as value
-use Rattle.dp_value.specs.declared.error.WriteError.{WriteError}
-use Rattle.dp_value.specs.declared.error.WriteError.TheVariants as write
+use Rattle.dp_value.specs.declared.errors.CallError.{CallError}
+use Rattle.dp_value.specs.declared.errors.CallError.TheVariants as call
+use Rattle.dp_value.specs.declared.errors.ValueError.{ValueError}
+use Rattle.dp_value.specs.declared.errors.ValueError.TheVariants as value
+use Rattle.dp_value.specs.declared.errors.WriteError.{WriteError}
+use Rattle.dp_value.specs.declared.errors.WriteError.TheVariants as write
 
 abbrev pub kind_of_value : ValueError → FatalKind
 kind_of_value value.Overflow = fatal.Overflow

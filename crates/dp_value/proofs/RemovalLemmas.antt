@@ -1,7 +1,7 @@
 -- What the removal of an entry leaves, and that it adds no weight.
 use Rattle.std.proofs.Common.{◌≡◌, ℤ, ◌≤◌, ◌==◌, Bool, true, false, if◌then◌else◌, List, [], ◌∷◌, Option, Some, None, Result, Ok, Err, IfErr, OnOk, OnErr, length, refl, ap, sym, ◌∙◌, arith}
 use Rattle.std.proofs.lemmas.Option.{same_Some}
-use Rattle.dp_value.specs.declared.error.WriteError.{WriteError}
+use Rattle.dp_value.specs.declared.errors.WriteError.{WriteError}
 use Rattle.dp_value.specs.declared.key.Key.{Key}
 use Rattle.dp_value.specs.inner.Codes.{table_from-data_of_table}
 use Rattle.dp_value.specs.Key.{key_eq}

@@ -6,8 +6,8 @@ use Rattle.std.proofs.lemmas.List.Elements.{recursion_from_All}
 use Rattle.std.proofs.lemmas.Option.{same_Some}
 use Rattle.std.specs.Int.{int_max}
 use Rattle.std.specs.List.{AllByRecursion}
-use Rattle.dp_value.specs.declared.error.WriteError.{WriteError}
-use Rattle.dp_value.specs.declared.error.WriteError.TheVariants.{TooHeavy}
+use Rattle.dp_value.specs.declared.errors.WriteError.{WriteError}
+use Rattle.dp_value.specs.declared.errors.WriteError.TheVariants.{TooHeavy}
 use Rattle.dp_value.specs.declared.key.Key.{Key}
 use Rattle.dp_value.specs.declared.key.Key.TheVariants.{Int, Text}
 use Rattle.dp_value.specs.declared.value.Value.{Value}

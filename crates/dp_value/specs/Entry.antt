@@ -3,8 +3,8 @@
 use Rattle.std.specs.Prelude.{◌≡◌, ℕ, ◌+◌, ◌==◌, Bool, true, false, cond, if◌then◌else◌, nat_le, List, [], ◌∷◌, length, Option, Some, None, Result, Ok, Err, unwrap_or, ◌⊎◌}
 use Rattle.std.specs.Ordering.{int_eq}
 use Rattle.std.specs.Option.{option_map_or}
-use Rattle.dp_value.specs.declared.error.WriteError.{WriteError}
-use Rattle.dp_value.specs.declared.error.WriteError.TheVariants.{Scalar, Unsupported, BadKey, NextIndex, TooHeavy, Memory}
+use Rattle.dp_value.specs.declared.errors.WriteError.{WriteError}
+use Rattle.dp_value.specs.declared.errors.WriteError.TheVariants.{Scalar, Unsupported, BadKey, NextIndex, TooHeavy, Memory}
 use Rattle.dp_value.specs.declared.key.Key.{Key}
 use Rattle.dp_value.specs.Data.{Data, Table, null, boolean, integer, text, array, pairs_of, data_of_table, weight_of}
 use Rattle.dp_value.specs.Table.{empty, largest_int, table_set, table_push, table_remove, table_exchange, value_at, weight_limit}

@@ -1,6 +1,6 @@
 -- What a write answers, in its parts.
 use Rattle.std.specs.Prelude.{Option, Some, None, Result, Ok, Err}
-use Rattle.dp_value.specs.declared.error.WriteError.{WriteError}
+use Rattle.dp_value.specs.declared.errors.WriteError.{WriteError}
 use Rattle.dp_value.specs.declared.value.Value.{Value}
 use Rattle.dp_value.specs.Data.{Data}
 use Rattle.dp_meaning.specs.declared.writing.WriteAnswer.{WriteAnswer}

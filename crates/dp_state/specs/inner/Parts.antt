@@ -12,7 +12,7 @@ use Rattle.dp_state.specs.declared.vars.Slot.{Slot}
 use Rattle.dp_value.specs.Data.{Data}
 use Rattle.dp_value.specs.Entry.{write_result, removed}
 use Rattle.dp_value.specs.Value.{data_of, value_of}
-use Rattle.dp_value.specs.declared.error.WriteError.{WriteError}
+use Rattle.dp_value.specs.declared.errors.WriteError.{WriteError}
 use Rattle.dp_value.specs.declared.key.Key.{Key}
 use Rattle.dp_value.specs.declared.value.Value.TheVariants.{Null}
 use Rattle.dp_value.specs.declared.value.Value.{Value}

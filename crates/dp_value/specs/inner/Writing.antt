@@ -2,9 +2,9 @@
 use Rattle.dp_value.specs.Data.{Table, Data, data_of_table, pairs_weight}
 use Rattle.std.specs.Prelude.{◌<◌, Bool, List, [], ◌∷◌, Option, Some, None, Result, Ok, Err}
 use Rattle.dp_value.specs.Table.{put, table_set, weight_limit}
-use Rattle.dp_value.specs.declared.error.WriteError.{WriteError}
+use Rattle.dp_value.specs.declared.errors.WriteError.{WriteError}
 use Rattle.dp_value.specs.declared.key.Key.{Key}
-use Rattle.dp_value.specs.declared.error.WriteError.TheVariants.{NextIndex}
+use Rattle.dp_value.specs.declared.errors.WriteError.TheVariants.{NextIndex}
 use Rattle.dp_value.specs.Entry.{entry_at, pushed, then_data, then_key, written}
 
 -- an array with a new value at the entry under these keys, or pushed there

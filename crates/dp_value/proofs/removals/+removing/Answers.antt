@@ -1,5 +1,5 @@
 use Rattle.std.proofs.Common.{◌≡◌, Result, Ok, ap, sym, ◌∙◌, arith}
-use Rattle.dp_value.specs.declared.error.WriteError.{WriteError}
+use Rattle.dp_value.specs.declared.errors.WriteError.{WriteError}
 use Rattle.dp_value.specs.declared.key.Key.{Key}
 use Rattle.dp_value.specs.Data.{Data, Table, data_of_table, null, pairs_weight}
 use Rattle.dp_value.specs.Table.{swapped, table_exchange}

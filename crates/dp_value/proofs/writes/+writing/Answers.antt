@@ -1,6 +1,6 @@
 use Rattle.std.proofs.Common.{◌≡◌, ◌∷◌, IfErr, OnOk, Result, Ok, Err, Option, Some, None, unwrap_or, inr, ap, sym, ◌∙◌, subst, arith, rules}
-use Rattle.dp_value.specs.declared.error.WriteError.{WriteError}
-use Rattle.dp_value.specs.declared.error.WriteError.TheVariants.{Scalar, Unsupported}
+use Rattle.dp_value.specs.declared.errors.WriteError.{WriteError}
+use Rattle.dp_value.specs.declared.errors.WriteError.TheVariants.{Scalar, Unsupported}
 use Rattle.dp_value.specs.declared.key.Key.{Key}
 use Rattle.dp_value.specs.declared.value.Value.{Value}
 use Rattle.dp_value.specs.Data.{Data, Table, data_of_table, null, pairs_weight}

@@ -1,9 +1,9 @@
 //! Why operations on values are refused.
 
 ghost use Rattle.std.specs.Prelude.{◌≡◌};
-ghost use Rattle.dp_value.specs.declared.error.ValueError.TheVariants.{Memory as NoMemoryForValue};
-ghost use Rattle.dp_value.specs.declared.error.CallError.TheVariants.{Memory as NoMemoryForCall};
-ghost use Rattle.dp_value.specs.declared.error.WriteError.TheVariants.{Memory as NoMemoryForWrite};
+ghost use Rattle.dp_value.specs.declared.errors.ValueError.TheVariants.{Memory as NoMemoryForValue};
+ghost use Rattle.dp_value.specs.declared.errors.CallError.TheVariants.{Memory as NoMemoryForCall};
+ghost use Rattle.dp_value.specs.declared.errors.WriteError.TheVariants.{Memory as NoMemoryForWrite};
 
 use std::alloc::{AllocError, AllocFailed};
 use thiserror::Error;
