@@ -7,11 +7,11 @@ ghost use Rattle.dp_view.specs.Named as spec;
 ghost use Rattle.dp_view.specs.Nesting.{HasPaths};
 ghost use Rattle.dp_view.specs.Reading.{path_at};
 
-use crate::error::ViewError;
+use crate::errors::ViewError;
+use crate::name_reader::read_name;
 use crate::paging::Paging;
 use crate::places::{shown_variables, value_at};
 use crate::properties::property;
-use crate::reading::read_name;
 use crate::values::{ShownValue, value_shown};
 use dp_packet::Property;
 use dp_state::{Path, State};

@@ -6,7 +6,7 @@ ghost use Rattle.dp_value.specs.Value.{data_of};
 ghost use Rattle.dp_view.specs.Answers.{AnswersSurely};
 ghost use Rattle.dp_view.specs.Places as spec;
 
-use crate::error::ViewError;
+use crate::errors::ViewError;
 use dp_state::{Path, Slot, State, Vars};
 use dp_value::{Bytes, Key, Value};
 

@@ -9,8 +9,8 @@ ghost use Rattle.dp_view.specs.inner.Keyed.{AreKeyed, HoldsWithin, IsKeyed};
 ghost use Rattle.dp_view.specs.inner.Making as making;
 
 use crate::Memory;
-use crate::error::ViewError;
-use crate::naming::{entry_name, full_name, key_text, own_name};
+use crate::errors::ViewError;
+use crate::names::{entry_name, full_name, key_text, own_name};
 use crate::paging::Paging;
 use crate::places::value_at;
 use dp_packet::{Property, Shape};

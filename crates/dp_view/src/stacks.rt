@@ -6,7 +6,7 @@ ghost use Rattle.dp_view.specs.Stacks as spec;
 ghost use Rattle.dp_view.specs.inner.Making.{line_of};
 
 use crate::Memory;
-use crate::error::ViewError;
+use crate::errors::ViewError;
 use dp_packet::{StackLine, file_uri};
 use dp_state::{Frame, FrameKind, State};
 use dp_tree::Bundle;

@@ -13,8 +13,8 @@ ghost use Rattle.dp_view.specs.inner.Keyed.{IsKeyed, VariableIsKeyed, VariablesA
 ghost use Rattle.dp_view.specs.inner.Making.{variables_at};
 
 use crate::Memory;
-use crate::error::ViewError;
-use crate::naming::variable_name;
+use crate::errors::ViewError;
+use crate::names::variable_name;
 use crate::paging::Paging;
 use crate::places::{shown_variables, slot_value};
 use crate::properties::property_of;

@@ -19,8 +19,8 @@ use Rattle.dp_state.specs.declared.state.State.{State}
 use Rattle.dp_tree.specs.declared.bundle.Bundle.{Bundle}
 use Rattle.dp_tree.specs.declared.tree.Expression.{Expression}
 use Rattle.dp_value.specs.declared.value.Value.{Value}
-use Rattle.dp_view.specs.declared.error.ViewError.{ViewError}
-use Rattle.dp_view.specs.declared.error.ViewError.TheVariants.{Code, Memory}
+use Rattle.dp_view.specs.declared.errors.ViewError.{ViewError}
+use Rattle.dp_view.specs.declared.errors.ViewError.TheVariants.{Code, Memory}
 use Rattle.dp_view.specs.Answers.{AnswersAfter, and_then}
 use Rattle.dp_view.specs.Named.{named_path}
 use Rattle.dp_wire.specs.Frames.{command_limit}

@@ -14,8 +14,8 @@ use Rattle.dp_state.specs.declared.state.State.{State}
 use Rattle.dp_tree.specs.declared.bundle.Bundle.{Bundle}
 use Rattle.dp_tree.specs.declared.tree.Expression.{Expression}
 use Rattle.dp_value.specs.declared.value.Value.{Value}
-use Rattle.dp_view.specs.declared.error.ViewError.{ViewError}
-use Rattle.dp_view.specs.declared.error.ViewError.TheVariants.{Code, Memory}
+use Rattle.dp_view.specs.declared.errors.ViewError.{ViewError}
+use Rattle.dp_view.specs.declared.errors.ViewError.TheVariants.{Code, Memory}
 use Rattle.dp_write_commands.specs.Writing.{response_to, success}
 use Rattle.dp_write_commands.specs.inner.Making.{Finds, Makes, Puts, answer_by, coded, kept_by, with_response}
 

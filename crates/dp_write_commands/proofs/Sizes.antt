@@ -18,8 +18,8 @@ use Rattle.dp_packet.specs.Text.{text}
 use Rattle.dp_packet.proofs.SizeLaws.{alone_length, attribute_length, packet_length, written_length}
 use Rattle.dp_value.specs.declared.value.Value.{Value}
 use Rattle.dp_value.specs.Value.{data_of}
-use Rattle.dp_view.specs.declared.error.ViewError.{ViewError}
-use Rattle.dp_view.specs.declared.error.ViewError.TheVariants.{Code, Memory}
+use Rattle.dp_view.specs.declared.errors.ViewError.{ViewError}
+use Rattle.dp_view.specs.declared.errors.ViewError.TheVariants.{Code, Memory}
 use Rattle.dp_view.specs.Properties.{shown}
 use Rattle.dp_view_limits.specs.Limits.{limited_shown, property_size}
 use Rattle.dp_wire.specs.Frames.{packet_limit}

@@ -10,8 +10,8 @@ use Rattle.dp_packet.specs.Messages.{is_some_text, message_of}
 use Rattle.dp_packet.specs.Parts.{Text}
 use Rattle.dp_state.specs.declared.state.State.{State}
 use Rattle.dp_tree.specs.declared.bundle.Bundle.{Bundle}
-use Rattle.dp_view.specs.declared.error.ViewError.{ViewError}
-use Rattle.dp_view.specs.declared.error.ViewError.TheVariants.{Code, Memory}
+use Rattle.dp_view.specs.declared.errors.ViewError.{ViewError}
+use Rattle.dp_view.specs.declared.errors.ViewError.TheVariants.{Code, Memory}
 use Rattle.dp_write_commands.specs.Asked.{write_asked}
 use Rattle.dp_write_commands.specs.Writing.{write_response}
 

@@ -5,8 +5,8 @@ use Rattle.dp_packet.specs.declared.packet.Packet.TheVariants as packet
 use Rattle.dp_packet.specs.declared.packet.Response.{Response}
 use Rattle.dp_packet.specs.Parts.{Attributes, Text}
 use Rattle.dp_packet.specs.Text.{text}
-use Rattle.dp_view.specs.declared.error.ViewError.{ViewError}
-use Rattle.dp_view.specs.declared.error.ViewError.TheVariants.{Code, Memory}
+use Rattle.dp_view.specs.declared.errors.ViewError.{ViewError}
+use Rattle.dp_view.specs.declared.errors.ViewError.TheVariants.{Code, Memory}
 use Rattle.dp_view_commands.specs.Views.{response_with}
 
 -- how many bytes a response has without the properties in it

@@ -19,8 +19,8 @@ use Rattle.dp_tree.specs.declared.bundle.Bundle.{Bundle}
 use Rattle.dp_tree.specs.declared.tree.Expression.{Expression}
 use Rattle.dp_value.specs.declared.value.Value.{Value}
 use Rattle.dp_value.specs.declared.value.Value.TheVariants as variant
-use Rattle.dp_view.specs.declared.error.ViewError.{ViewError}
-use Rattle.dp_view.specs.declared.error.ViewError.TheVariants.{Code, Memory}
+use Rattle.dp_view.specs.declared.errors.ViewError.{ViewError}
+use Rattle.dp_view.specs.declared.errors.ViewError.TheVariants.{Code, Memory}
 use Rattle.dp_write_commands.specs.declared.asked.Given.{Given}
 use Rattle.dp_write_commands.specs.declared.asked.Given.TheVariants as given
 use Rattle.dp_write_commands.specs.declared.writing.Written.{Written}

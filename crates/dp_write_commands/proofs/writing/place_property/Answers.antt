@@ -1,6 +1,6 @@
 use Rattle.std.proofs.Common.{◌≡◌}
 use Rattle.std.specs.Prelude.{Err}
-use Rattle.dp_view.specs.declared.error.ViewError.TheVariants.{Code}
+use Rattle.dp_view.specs.declared.errors.ViewError.TheVariants.{Code}
 use Rattle.dp_view.specs.Named.{named_path}
 use Rattle.dp_write_commands.specs.Asked.{unreserved}
 use Rattle.dp_write_commands.specs.inner.Making.{value_of_given}

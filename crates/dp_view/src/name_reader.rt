@@ -7,7 +7,7 @@ ghost use Rattle.dp_view.specs.Reading.{path_at};
 ghost use Rattle.dp_view.specs.inner.Taking.{key_meant, keys_taken, text_taken};
 
 use crate::Memory;
-use crate::error::ViewError;
+use crate::errors::ViewError;
 use crate::spelling::{Spelling, byte, index, parts};
 use dp_state::Path;
 use dp_value::{Bytes, Items, Key, int_of_text};

@@ -1,7 +1,7 @@
 use Rattle.std.proofs.Common.{◌∙◌, ap, sym, length, Some}
 use Rattle.dp_view.specs.Reading.{byte_at}
 use Rattle.dp_view.proofs.Taking.{takes, takes_all, takes_none, takes_to}
-use Rattle.dp_view.proofs.reading.text.Goals as goal
+use Rattle.dp_view.proofs.name_reader.text.Goals as goal
 
 pub returns-in_default : goal.returns-in_default
 returns-in_default c =

@@ -1,7 +1,7 @@
 //! Why nothing is shown.
 
 ghost use Rattle.std.specs.Prelude.{◌≡◌};
-ghost use Rattle.dp_view.specs.declared.error.ViewError.TheVariants.{Memory};
+ghost use Rattle.dp_view.specs.declared.errors.ViewError.TheVariants.{Memory};
 
 use std::alloc::{AllocError, AllocFailed};
 use thiserror::Error;

@@ -1,7 +1,7 @@
 use Rattle.std.proofs.Common.{◌≡◌, ◌-◌, ◌++◌, length}
 use Rattle.dp_view.specs.Reading.{index_at}
 use Rattle.dp_view.specs.inner.Taking.{items_taken, keys_taken}
-use Rattle.dp_view.proofs.reading.keys.Given as goal
+use Rattle.dp_view.proofs.name_reader.keys.Given as goal
 
 abbrev pub invariant-loop : goal.invariant-loop
 invariant-loop l = l.keys.items ++ items_taken index_at (length l.bytes - l.counter) l.rest ≡ keys_taken l.bytes
