@@ -8,7 +8,7 @@ use Rattle.std.proofs.lemmas.List.Concat.{flat_map-append}
 use Rattle.std.proofs.Math.Seq.{drop-append_seam}
 use Rattle.dp_outside.specs.Causes.{Rose}
 use Rattle.dp_outside.specs.Changes.{Change}
-use Rattle.dp_wire.specs.declared.wire_error.WireError.{WireError}
+use Rattle.dp_wire.specs.declared.errors.WireError.{WireError}
 use Rattle.dp_wire.specs.Frames.{IsPacketText, packet_frame, packets_in, rest_of_packets, BeginsPacket, IsPartialPacket, BeginsNoPacket}
 use Rattle.dp_wire.specs.Places.{place_behind, refused_at, IsRefusedAt}
 use Rattle.dp_wire.specs.Received.{Received, IsCause, last_place}

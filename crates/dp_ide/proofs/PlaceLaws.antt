@@ -4,8 +4,8 @@ use Rattle.std.proofs.lemmas.Bool.{false≢true, le-leb, leb-true}
 use Rattle.std.proofs.lemmas.Fmt.{first_decimal}
 use Rattle.std.proofs.lemmas.List.{length-take-le, take-append-drop, take-append-le}
 use Rattle.std.proofs.Math.Seq.{take-append-add}
-use Rattle.dp_wire.specs.declared.wire_error.WireError.{WireError}
-use Rattle.dp_wire.specs.declared.wire_error.WireError.TheVariants.{BadLength, NoNul, TooLong}
+use Rattle.dp_wire.specs.declared.errors.WireError.{WireError}
+use Rattle.dp_wire.specs.declared.errors.WireError.TheVariants.{BadLength, NoNul, TooLong}
 use Rattle.dp_wire.specs.Frames.{IsPartialPacket, BeginsNoPacket, has_no_nul, packet_frame, packet_limit}
 use Rattle.dp_wire.specs.Places.{refused_at, IsRefusedAt}
 use Rattle.dp_wire.specs.Received.{Received, IsFirstBad, IsCause, length_digits, MayFollow, HasBadLength, PassesLimit, LacksNul, place_of}

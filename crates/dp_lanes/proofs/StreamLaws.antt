@@ -4,8 +4,8 @@ use Rattle.std.proofs.Common.{refl, sym, ap, subst, ◌∙◌, inl, inr, append_
 use Rattle.std.proofs.lemmas.List.Concat.{flat_map-append}
 use Rattle.std.proofs.Math.Seq.{drop-append_seam}
 use Rattle.std.specs.List.{AllByRecursion}
-use Rattle.dp_wire.specs.declared.wire_error.WireError.{WireError}
-use Rattle.dp_wire.specs.declared.wire_error.WireError.TheVariants.{TooLong}
+use Rattle.dp_wire.specs.declared.errors.WireError.{WireError}
+use Rattle.dp_wire.specs.declared.errors.WireError.TheVariants.{TooLong}
 use Rattle.dp_wire.specs.Frames.{Splits, has_no_nul, packets_in, commands_in, rest_of, rest_of_packets}
 use Rattle.dp_wire.specs.Places.{refused_at}
 use Rattle.dp_wire.specs.Received.{Received, last_place}

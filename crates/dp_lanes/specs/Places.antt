@@ -1,8 +1,8 @@
 -- What a lane holds, what it hands out, and where a stream is bad.
 use Rattle.std.specs.Prelude.{◌≡◌, ℕ, ◌+◌, ◌<◌, ◌≤◌, min, true, false, List, ◌∷◌, ◌++◌, length, drop}
 use Rattle.std.specs.Prelude.{flat_map, slice_range, Option, Some, None}
-use Rattle.dp_wire.specs.declared.wire_error.WireError.{WireError}
-use Rattle.dp_wire.specs.declared.wire_error.WireError.TheVariants.{TooLong}
+use Rattle.dp_wire.specs.declared.errors.WireError.{WireError}
+use Rattle.dp_wire.specs.declared.errors.WireError.TheVariants.{TooLong}
 use Rattle.dp_wire.specs.Frames.{Begins, IsPartial, BeginsNoFrame, IsCommand, IsPacketText}
 use Rattle.dp_wire.specs.Places.{IsRefusedAt}
 use Rattle.dp_wire.specs.Received.{Received, IsCause, last_place}

@@ -1,7 +1,7 @@
 -- Where in a stream a packet stands, and where none does.
 use Rattle.std.specs.Prelude.{◌≡◌, ℕ, min, List, length, flat_map}
-use Rattle.dp_wire.specs.declared.wire_error.WireError.{WireError}
-use Rattle.dp_wire.specs.declared.wire_error.WireError.TheVariants.{BadLength, NoNul, TooLong}
+use Rattle.dp_wire.specs.declared.errors.WireError.{WireError}
+use Rattle.dp_wire.specs.declared.errors.WireError.TheVariants.{BadLength, NoNul, TooLong}
 use Rattle.dp_wire.specs.Frames.{packet_frame, BeginsNoPacket}
 use Rattle.dp_wire.specs.Received.{Received, IsCause, last_place}
 

@@ -2,8 +2,8 @@
 use Rattle.std.specs.Prelude.{◌≡◌, ◌≢◌, ℕ, zero, suc, ◌+◌, ◌-◌, ◌/◌, ◌^◌, ◌<◌, ◌≤◌, ◌⊎◌, min, List, [], ◌∷◌, ◌++◌, length, take}
 use Rattle.std.specs.Fmt.{decimal}
 use Rattle.dp_wire.specs.Frames.{IsPacketText, packet_limit, IsPartialPacket, BeginsNoPacket}
-use Rattle.dp_wire.specs.declared.wire_error.WireError.{WireError}
-use Rattle.dp_wire.specs.declared.wire_error.WireError.TheVariants.{BadLength, NoNul, TooLong}
+use Rattle.dp_wire.specs.declared.errors.WireError.{WireError}
+use Rattle.dp_wire.specs.declared.errors.WireError.TheVariants.{BadLength, NoNul, TooLong}
 
 -- the bytes held, and how many of the stream were dropped before them; 2^64 - 1 stands for all that
 -- pass it

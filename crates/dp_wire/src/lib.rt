@@ -3,14 +3,15 @@
 
 mod command;
 mod commands;
+mod errors;
 mod laws;
 mod length;
 mod packet;
 mod packets;
-mod wire_error;
 
 pub use command::command_bytes;
 pub use commands::{COMMAND_LIMIT, Commands};
+pub use errors::WireError;
 pub use laws::{
     commands_are_split, no_frame_begins_another, no_packet_begins_another, one_split,
     one_split_of_packets, packets_are_split,
@@ -18,4 +19,3 @@ pub use laws::{
 pub use length::PACKET_LIMIT;
 pub use packet::packet_bytes;
 pub use packets::Packets;
-pub use wire_error::WireError;
