@@ -14,8 +14,8 @@ use Rattle.dp_state.specs.declared.state.State.{State}
 use Rattle.dp_state.specs.Places.{assigned}
 use Rattle.dp_actions.specs.declared.signal.Signal.{Signal}
 use Rattle.dp_actions.specs.declared.signal.Signal.TheVariants.{Next, Break, Continue, Return}
-use Rattle.dp_actions.specs.declared.turning.Turn.{Turn}
-use Rattle.dp_actions.specs.declared.turning.Turn.TheVariants as turn
+use Rattle.dp_actions.specs.declared.turns.Turn.{Turn}
+use Rattle.dp_actions.specs.declared.turns.Turn.TheVariants as turn
 use Rattle.dp_actions.specs.Run.{Run, Done, Over, At, taken, ◌>>=◌}
 use Rattle.dp_actions.specs.Values.{holds}
 

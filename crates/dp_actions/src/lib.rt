@@ -3,31 +3,31 @@
 
 mod after;
 mod answers;
-mod appending;
-mod binding;
+mod bindings;
 mod callees;
 mod changes;
-mod entering;
+mod entries;
 mod faults;
+mod frames;
 mod halt;
 mod in_place;
 mod items;
 mod operands;
 mod places;
 mod signal;
-mod turning;
+mod turns;
 
 pub use after::{
     then_assign, then_binary, then_combine, then_entry, then_exit, then_found, then_holds,
     then_next, then_print, then_return, then_signal, then_step, then_truth, then_unary,
 };
 pub use answers::{builtin_value, exit_value, is_missing, print_value, value_of};
-pub use appending::{then_pushed, then_put};
-pub use binding::{bind_all, bind_entry};
+pub use bindings::{bind_all, bind_entry};
 pub use callees::{Callee, look_up};
 pub use changes::{combine, step_place};
-pub use entering::{enter_call, enter_file, file_named_by, not_included, returned, statements_of};
+pub use entries::{then_pushed, then_put};
 pub use faults::{fatal, fault, settled};
+pub use frames::{enter_call, enter_file, file_named_by, not_included, returned, statements_of};
 pub use halt::Halt;
 pub use in_place::{
     Entry, Reading, builtin_in_place, entry_in_place, entry_of, look, only_variable,
@@ -39,4 +39,4 @@ pub use places::{
     variable,
 };
 pub use signal::Signal;
-pub use turning::{Turn, last_holds, turn_over};
+pub use turns::{Turn, last_holds, turn_over};

@@ -1,6 +1,6 @@
 use Rattle.dp_actions.proofs.Acting.{exits}
 use Rattle.dp_actions.proofs.Tails.{bind-breaks-off, bind-goes-on, entry-is}
-use Rattle.dp_actions.proofs.binding.bind_entry.Goals as goal
+use Rattle.dp_actions.proofs.bindings.bind_entry.Goals as goal
 
 pub returns-in_err-bind_value-in-Some : goal.returns-in_err-bind_value-in-Some
 returns-in_err-bind_value-in-Some c = λ entry found.

@@ -1,5 +1,5 @@
 use Rattle.std.proofs.Common.{refl}
-use Rattle.dp_actions.proofs.appending.then_put.Goals as goal
+use Rattle.dp_actions.proofs.entries.then_put.Goals as goal
 
 pub returns-in-Ok : goal.returns-in-Ok
 returns-in-Ok c = record { done = rw c.in-Ok.is c.put.ensures }
