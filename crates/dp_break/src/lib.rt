@@ -8,8 +8,8 @@ mod errors;
 mod hits;
 mod laws;
 mod lines;
-mod making;
-mod passing;
+mod moments;
+mod new_breakpoints;
 
 pub use breakpoint::{BreakChange, BreakRequest, Breakpoint};
 pub use breaks::Breaks;

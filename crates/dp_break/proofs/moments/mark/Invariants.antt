@@ -1,6 +1,6 @@
 use Rattle.std.proofs.Common.{◌≡◌, map, take}
 use Rattle.dp_break.specs.Hits.{hits}
-use Rattle.dp_break.proofs.passing.mark.Given as goal
+use Rattle.dp_break.proofs.moments.mark.Given as goal
 
 abbrev pub invariant-loop-at : goal.invariant-loop-at
 invariant-loop-at l =

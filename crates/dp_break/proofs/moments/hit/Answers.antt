@@ -4,7 +4,7 @@ use Rattle.dp_break.specs.Hits.{is_enough_for}
 use Rattle.dp_break.specs.Passing.{most_hits}
 use Rattle.dp_break.specs.inner.Settling.{stops_once_more}
 use Rattle.dp_break.proofs.Steps.{hit_left}
-use Rattle.dp_break.proofs.passing.hit.Goals as goal
+use Rattle.dp_break.proofs.moments.hit.Goals as goal
 
 pub returns-then-not-is_enough-clause-left : goal.returns-then-not-is_enough-clause-left
 returns-then-not-is_enough-clause-left c = λ d.

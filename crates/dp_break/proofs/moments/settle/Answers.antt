@@ -2,7 +2,7 @@ use Rattle.std.proofs.Common.{◌≡◌, ◌-◌, ◌<◌, length, rules, ap, ar
 use Rattle.std.specs.Prelude.{Bool, ◌||◌}
 use Rattle.std.proofs.lemmas.List.{get_or_default}
 use Rattle.dp_break.proofs.Steps.{settled_none, stepped}
-use Rattle.dp_break.proofs.passing.settle.Goals as goal
+use Rattle.dp_break.proofs.moments.settle.Goals as goal
 
 pub places-init : goal.places-init
 places-init c =

@@ -1,7 +1,7 @@
 use Rattle.std.proofs.Common.{◌≡◌, false, take}
 use Rattle.std.specs.List.{list_any}
 use Rattle.dp_break.specs.Hits.{hits}
-use Rattle.dp_break.proofs.passing.any_hits.Given as goal
+use Rattle.dp_break.proofs.moments.any_hits.Given as goal
 
 abbrev pub invariant-loop-at : goal.invariant-loop-at
 invariant-loop-at l =
