@@ -1,20 +1,20 @@
 //! The breakpoint commands: what they ask of a program, how breakpoints are shown, and the answers.
 #![tactic(auto)]
 
-mod answering;
-mod changing;
+mod answers;
+mod change;
 mod errors;
 mod laws;
-mod listing;
+mod lines;
+mod lists;
+mod request;
 mod responses;
-mod setting;
-mod showing;
 mod words;
 
-pub use answering::answer_breakpoints;
-pub use changing::breakpoint_change;
+pub use answers::answer_breakpoints;
+pub use change::breakpoint_change;
 pub use dp_value::Memory;
 pub use errors::BreakpointError;
 pub use laws::refusals_have_messages;
-pub use setting::breakpoint_request;
-pub use showing::breakpoint_line;
+pub use lines::breakpoint_line;
+pub use request::breakpoint_request;

@@ -5,7 +5,7 @@ use Rattle.dp_break.specs.declared.breakpoint.BreakRequest.{BreakRequest}
 use Rattle.dp_command.specs.declared.command.BreakpointSet.{BreakpointSet}
 use Rattle.dp_packet.specs.declared.packet.BreakKind.TheVariants.{Line}
 use Rattle.dp_packet.specs.declared.packet.HitRule.TheVariants.{AtLeast}
-use Rattle.dp_breakpoint_commands.specs.declared.setting.Words.{Words}
+use Rattle.dp_breakpoint_commands.specs.declared.request.Words.{Words}
 use Rattle.dp_breakpoint_commands.specs.Words.{kind_named, rule_named, state_named, flag_named, number_in, meant}
 
 -- what the words of a command mean

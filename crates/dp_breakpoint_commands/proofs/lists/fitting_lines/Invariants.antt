@@ -1,7 +1,7 @@
 use Rattle.std.proofs.Common.{◌≡◌, ◌++◌, ◌≤◌, drop, map}
 use Rattle.dp_breakpoint_commands.specs.Showing.{breakpoint_line}
 use Rattle.dp_breakpoint_commands.specs.inner.Listing.{fitting}
-use Rattle.dp_breakpoint_commands.proofs.listing.fitting_lines.Given as goal
+use Rattle.dp_breakpoint_commands.proofs.lists.fitting_lines.Given as goal
 
 abbrev pub invariant-loop-breakpoint : goal.invariant-loop-breakpoint
 invariant-loop-breakpoint l =

@@ -1,7 +1,7 @@
 use Rattle.std.proofs.Common.{◌∙◌, ap, sym}
 use Rattle.std.specs.Prelude.{option_map}
 use Rattle.dp_breakpoint_commands.proofs.Shown.{found_sound}
-use Rattle.dp_breakpoint_commands.proofs.answering.get_breakpoint.Goals as goal
+use Rattle.dp_breakpoint_commands.proofs.answers.get_breakpoint.Goals as goal
 
 pub one_response-requires-clause-sound : goal.one_response-requires-clause-sound
 one_response-requires-clause-sound c =

@@ -2,7 +2,7 @@ use Rattle.std.proofs.Common.{map}
 use Rattle.dp_breakpoint_commands.specs.Commands.{listed}
 use Rattle.dp_breakpoint_commands.specs.Showing.{breakpoint_line}
 use Rattle.dp_breakpoint_commands.proofs.Lengths.{lines_made_fit, listed_short}
-use Rattle.dp_breakpoint_commands.proofs.listing.list_response.Goals as goal
+use Rattle.dp_breakpoint_commands.proofs.lists.list_response.Goals as goal
 
 pub returns-clause-short : goal.returns-clause-short
 returns-clause-short c =

@@ -1,6 +1,6 @@
 use Rattle.std.proofs.Common.{◌∙◌, sym}
 use Rattle.dp_breakpoint_commands.proofs.Shown.{without_none}
-use Rattle.dp_breakpoint_commands.proofs.answering.remove_breakpoint.Goals as goal
+use Rattle.dp_breakpoint_commands.proofs.answers.remove_breakpoint.Goals as goal
 
 pub returns-then-not-remove-clause-unchanged : goal.returns-then-not-remove-clause-unchanged
 returns-then-not-remove-clause-unchanged c = λ code e.

@@ -11,11 +11,11 @@ ghost use Rattle.dp_packet.specs.Text.{text};
 ghost use Rattle.dp_tree.specs.FileNames.{AreFileNames};
 ghost use Rattle.dp_wire.specs.Frames.{packet_limit};
 
-use crate::changing::breakpoint_change;
+use crate::change::breakpoint_change;
 use crate::errors::BreakpointError;
-use crate::listing::{list_response, one_response};
+use crate::lists::{list_response, one_response};
+use crate::request::breakpoint_request;
 use crate::responses::{bare_response, set_response};
-use crate::setting::breakpoint_request;
 use dp_break::Breaks;
 use dp_command::{Addressee, BreakpointAction, BreakpointSet, BreakpointUpdate, Request};
 use dp_packet::Response;

@@ -2,7 +2,7 @@ use Rattle.std.proofs.Common.{◌∙◌, List, ℕ, ap, codes, length, arith}
 use Rattle.dp_markup.specs.Writing.{attribute_text}
 use Rattle.dp_packet.specs.Sizes.{counted}
 use Rattle.dp_breakpoint_commands.proofs.Lengths.{IsRoom, room_is}
-use Rattle.dp_breakpoint_commands.proofs.listing.room_for_lines.Goals as goal
+use Rattle.dp_breakpoint_commands.proofs.lists.room_for_lines.Goals as goal
 
 room : (c : goal.After-attribute_size-id) → IsRoom c.args.to.now.command c.args.to.now.id c.args.to.now.command_bound c.args.to.now.id_bound c.attribute_size-command.result c.attribute_size-id.result
 room c =

@@ -1,5 +1,5 @@
 use Rattle.dp_breakpoint_commands.proofs.Refusing.{plain_passed, plain_told}
-use Rattle.dp_breakpoint_commands.proofs.answering.set_breakpoint.Goals as goal
+use Rattle.dp_breakpoint_commands.proofs.answers.set_breakpoint.Goals as goal
 
 pub returns-in_err-id-clause-surely : goal.returns-in_err-id-clause-surely
 returns-in_err-id-clause-surely c = λ bare.

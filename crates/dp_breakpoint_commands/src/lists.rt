@@ -10,8 +10,8 @@ ghost use Rattle.dp_packet.specs.Text.{text};
 ghost use Rattle.dp_tree.specs.FileNames.{AreFileNames};
 ghost use Rattle.dp_wire.specs.Frames.{packet_limit};
 
+use crate::lines::{breakpoint_line, read_numbers};
 use crate::responses::lines_response;
-use crate::showing::{breakpoint_line, read_numbers};
 use dp_break::Breakpoint;
 use dp_command::Addressee;
 use dp_packet::{BreakLine, Response, attribute_size, break_size};
