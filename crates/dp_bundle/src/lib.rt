@@ -2,7 +2,7 @@
 #![tactic(auto)]
 
 mod errors;
-mod making;
+mod from_texts;
 
 pub use errors::BundleError;
-pub use making::FromTexts;
+pub use from_texts::FromTexts;

@@ -6,7 +6,7 @@ use Rattle.dp_bundle.specs.declared.errors.BundleError.{BundleError}
 use Rattle.dp_tree.specs.declared.bundle.BundleFile.{BundleFile}
 use Rattle.dp_bundle.specs.Bundles.{Given, IsAnswer, IsRefused, Makes}
 use Rattle.dp_bundle.proofs.Bundling.{IsMade, Stands, stands_first, stands_next, refused_made, refused_only, all_made, all_only}
-use Rattle.dp_bundle.proofs.making.bundle_of.Goals as goal
+use Rattle.dp_bundle.proofs.from_texts.bundle_of.Goals as goal
 
 pub loop-name-init : goal.loop-name-init
 loop-name-init c =

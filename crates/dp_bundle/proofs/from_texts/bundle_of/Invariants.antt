@@ -1,5 +1,5 @@
 use Rattle.dp_bundle.proofs.Bundling.{Stands}
-use Rattle.dp_bundle.proofs.making.bundle_of.Given as goal
+use Rattle.dp_bundle.proofs.from_texts.bundle_of.Given as goal
 
 abbrev pub invariant-loop-name : goal.invariant-loop-name
 invariant-loop-name l =
