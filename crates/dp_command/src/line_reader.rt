@@ -10,9 +10,9 @@ ghost use Rattle.dp_command.specs.Lines.{line_of};
 
 use crate::errors::LineError;
 use crate::line::Line;
+use crate::line_writer::write_line;
 use crate::parts::{ending, name};
 use crate::values::{options, payload};
-use crate::writing::write_line;
 use dp_value::{Bytes, Items};
 use std::alloc::Global;
 

@@ -2,7 +2,7 @@ use Rattle.std.proofs.Common.{arith}
 use Rattle.dp_command.proofs.Formed as well
 use Rattle.dp_command.proofs.LineLaws.{read_found, read_only, never_parse}
 use Rattle.dp_command.proofs.Short.{read_short}
-use Rattle.dp_command.proofs.reading.read_line.Goals as goal
+use Rattle.dp_command.proofs.line_reader.read_line.Goals as goal
 
 pub returns-clause-found : goal.returns-clause-found
 returns-clause-found c = read_found c.args.bytes.now c.line.result (λ i. omega (arith, c.type_inv.bytes i)) c.line.ensures

@@ -1,7 +1,7 @@
 use Rattle.std.proofs.Common.{◌∙◌, subst, sym}
 use Rattle.dp_command.specs.Grammar.{spelt}
 use Rattle.dp_command.proofs.Written.{written_is}
-use Rattle.dp_command.proofs.reading.reread.Goals as goal
+use Rattle.dp_command.proofs.line_reader.reread.Goals as goal
 
 pub returns : goal.returns
 returns c =
