@@ -5,10 +5,10 @@ ghost use Rattle.dp_rules.specs.inner.Input.{Reads};
 ghost use Rattle.dp_expressions.specs.inner.Reading as spec;
 ghost use Rattle.dp_expressions.specs.inner.Reading.{within};
 
-use crate::building::{assigned, included, pushed, value_of};
 use crate::grammar::Grammar;
 use crate::inside::{Called, Inside};
 use crate::ladders::RANKS;
+use crate::nodes::{assigned, included, pushed, value_of};
 use crate::operand::{Operand, Part};
 use crate::worths::{assignment, assignment_in, begins_expression, inclusion, inclusion_in};
 use dp_rules::{Refusal, Sign, Tokens};

@@ -6,10 +6,10 @@ ghost use Rattle.dp_expressions.specs.inner.Reading as spec;
 ghost use Rattle.dp_expressions.specs.inner.Reading.{within};
 ghost use Rattle.dp_expressions.specs.Grammar as grammar;
 
-use crate::building::chained;
 use crate::grammar::Grammar;
 use crate::inside::Inside;
 use crate::kept::both;
+use crate::nodes::chained;
 use crate::operand::Part;
 use crate::rank::Rank;
 use crate::worths::{is_single, operator, operator_in};

@@ -2,13 +2,13 @@
 //! as many levels of nesting as it is given; what stands behind it is left to the caller. Statements come a layer above.
 #![tactic(auto)]
 
-mod building;
 mod expressions;
 mod grammar;
 mod inside;
 mod kept;
 mod ladders;
 mod laws;
+mod nodes;
 mod openings;
 mod operand;
 mod operands;

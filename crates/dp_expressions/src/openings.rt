@@ -5,10 +5,10 @@ ghost use Rattle.dp_rules.specs.inner.Input.{Reads, closed};
 ghost use Rattle.dp_expressions.specs.inner.Reading as spec;
 ghost use Rattle.dp_expressions.specs.inner.Reading.{within};
 
-use crate::building::named;
 use crate::grammar::Grammar;
 use crate::inside::Inside;
 use crate::kept::both;
+use crate::nodes::named;
 use crate::operand::{Operand, Part};
 use dp_rules::{Refusal, Sign, Tokens, none, with};
 use dp_tree::Expression;

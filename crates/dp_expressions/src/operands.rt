@@ -5,10 +5,10 @@ ghost use Rattle.dp_rules.specs.inner.Input.{Reads};
 ghost use Rattle.dp_expressions.specs.inner.Reading as spec;
 ghost use Rattle.dp_expressions.specs.inner.Reading.{within};
 
-use crate::building::{indexed, tree_of, unary};
 use crate::grammar::Grammar;
 use crate::inside::Inside;
 use crate::kept::both;
+use crate::nodes::{indexed, tree_of, unary};
 use crate::operand::{Operand, Part};
 use crate::pieces::{Below, Entry, PlaceBelow};
 use crate::worths::{constant, names_constant, prefix, prefix_in, step, step_in};
