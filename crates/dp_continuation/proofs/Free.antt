@@ -11,7 +11,7 @@ use Rattle.dp_tree.specs.declared.bundle.Bundle.{Bundle}
 use Rattle.dp_state.specs.declared.moments.Moment.{Moment}
 use Rattle.dp_state.specs.declared.state.State.{State}
 use Rattle.dp_state.specs.States.{IsOf}
-use Rattle.dp_meaning.specs.declared.writing.NumberedWrite.{NumberedWrite}
+use Rattle.dp_meaning.specs.declared.writes.NumberedWrite.{NumberedWrite}
 use Rattle.dp_meaning.specs.Trace.{program_trace}
 use Rattle.dp_meaning_laws.proofs.Whole.{end-can}
 use Rattle.dp_step.specs.declared.machine.Machine.{Machine}

@@ -5,7 +5,7 @@ use Rattle.dp_break.specs.declared.breakpoint.Breakpoint.{Breakpoint}
 use Rattle.dp_break.specs.Passing.{held_after, passed, stop_above}
 use Rattle.dp_break.specs.Tables.{Table}
 use Rattle.dp_tree.specs.declared.bundle.Bundle.{Bundle}
-use Rattle.dp_meaning.specs.declared.writing.NumberedWrite.{NumberedWrite}
+use Rattle.dp_meaning.specs.declared.writes.NumberedWrite.{NumberedWrite}
 use Rattle.dp_meaning.specs.Trace.{moment_at, outcome, program_trace}
 use Rattle.dp_state.specs.declared.moments.Moment.{Moment}
 use Rattle.dp_step.specs.declared.machine.Machine.{Machine}

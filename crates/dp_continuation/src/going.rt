@@ -4,7 +4,7 @@ ghost use Rattle.std.specs.Prelude.{◌≡◌, ◌+◌, ◌<◌, ◌∷◌, ◌|
 ghost use Rattle.dp_break.specs.Passing.{held_after, one_stops};
 ghost use Rattle.dp_continuation.specs.Going.{Reaches, reached_moment, stop_past, table_past};
 ghost use Rattle.dp_continuation.specs.Stops.{stops};
-ghost use Rattle.dp_meaning.specs.declared.writing.NumberedWrite.{NumberedWrite as AnyWrite};
+ghost use Rattle.dp_meaning.specs.declared.writes.NumberedWrite.{NumberedWrite as AnyWrite};
 ghost use Rattle.dp_state.specs.declared.moments.Moment.{Moment as AnyMoment};
 ghost use Rattle.dp_state.specs.States.{IsOf};
 ghost use Rattle.dp_step.specs.Stands.{StandsFor};

@@ -6,8 +6,8 @@ use Rattle.dp_tree.specs.declared.bundle.Bundle.{Bundle}
 use Rattle.dp_command.specs.declared.command.Request.{Request}
 use Rattle.dp_continuation.specs.Stops.{depth_of}
 use Rattle.dp_features.specs.Features.{Features}
-use Rattle.dp_meaning.specs.declared.writing.NumberedWrite.{NumberedWrite}
-use Rattle.dp_meaning.specs.declared.writing.Write.{Write}
+use Rattle.dp_meaning.specs.declared.writes.NumberedWrite.{NumberedWrite}
+use Rattle.dp_meaning.specs.declared.writes.Write.{Write}
 use Rattle.dp_meaning.specs.Trace.{moment_at, program_trace}
 use Rattle.dp_meaning.specs.Writes.{evaluation_setting, of_number, one_write, written_by}
 use Rattle.dp_meaning_laws.specs.Past.{AgreeBelow}

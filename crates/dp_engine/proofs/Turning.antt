@@ -28,8 +28,8 @@ use Rattle.dp_continuation.specs.Going.{stop_past, table_past}
 use Rattle.dp_continuation.specs.Stops.{stops}
 use Rattle.dp_continuation.proofs.Stopping.{stop_is_there}
 use Rattle.dp_features.specs.Features.{Features}
-use Rattle.dp_meaning.specs.declared.writing.NumberedWrite.{NumberedWrite}
-use Rattle.dp_meaning.specs.declared.writing.Write.{Write}
+use Rattle.dp_meaning.specs.declared.writes.NumberedWrite.{NumberedWrite}
+use Rattle.dp_meaning.specs.declared.writes.Write.{Write}
 use Rattle.dp_meaning.specs.Trace.{now, outcome, program_trace}
 use Rattle.dp_meaning_laws.proofs.Whole.{end-can, now-can}
 use Rattle.dp_packet.specs.declared.packet.Response.{Response}

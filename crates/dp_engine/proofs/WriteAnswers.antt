@@ -2,9 +2,9 @@
 use Rattle.std.proofs.Common.{◌≡◌, ◌≢◌, ℕ, ◌<◌, Bool, true, false, cond, [], Option, Some, None, Result, Ok, Err, nat_le, length, refl, ap, subst, arith}
 use Rattle.dp_command.specs.declared.command.Request.{Request}
 use Rattle.dp_features.specs.Features.{Features}
-use Rattle.dp_meaning.specs.declared.writing.Write.{Write}
-use Rattle.dp_meaning.specs.declared.writing.WriteAnswer.{WriteAnswer}
-use Rattle.dp_meaning.specs.declared.writing.WriteAnswer.TheVariants as answer
+use Rattle.dp_meaning.specs.declared.writes.Write.{Write}
+use Rattle.dp_meaning.specs.declared.writes.WriteAnswer.{WriteAnswer}
+use Rattle.dp_meaning.specs.declared.writes.WriteAnswer.TheVariants as answer
 use Rattle.dp_meaning.specs.Writes.{answer_in, evaluation_setting}
 use Rattle.dp_packet.specs.declared.packet.Body.TheVariants as body
 use Rattle.dp_packet.specs.declared.packet.Packet.TheVariants as packet

@@ -19,7 +19,7 @@ use Rattle.dp_command.specs.Names.{name_of}
 use Rattle.dp_command.specs.Refusals.{id_of}
 use Rattle.dp_features.specs.declared.feature.Feature.{Feature}
 use Rattle.dp_features.specs.Features.{Features, feature_named, setting_named, value_of, with_setting}
-use Rattle.dp_meaning.specs.declared.writing.Write.{Write}
+use Rattle.dp_meaning.specs.declared.writes.Write.{Write}
 use Rattle.dp_packet.specs.declared.packet.Body.TheVariants as body
 use Rattle.dp_packet.specs.declared.packet.Response.{Response}
 use Rattle.dp_packet.specs.Parts.{Text, flag}

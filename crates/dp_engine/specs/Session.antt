@@ -10,7 +10,7 @@ use Rattle.dp_continuation.specs.Going.{stop_past, table_past}
 use Rattle.dp_continuation.specs.Stops.{depth_of, stops}
 use Rattle.dp_features.specs.Features.{Features, defaults}
 use Rattle.dp_actions.specs.declared.signal.Signal.{Signal}
-use Rattle.dp_meaning.specs.declared.writing.NumberedWrite.{NumberedWrite}
+use Rattle.dp_meaning.specs.declared.writes.NumberedWrite.{NumberedWrite}
 use Rattle.dp_meaning.specs.Trace.{Trace, moment_at, now, outcome, output, program_trace}
 use Rattle.dp_state.specs.declared.moments.Outcome.{Outcome}
 use Rattle.dp_state.specs.declared.state.State.{State as Program}

@@ -60,7 +60,7 @@ impl<'s, 'a, L: Ledger> Model for Counted<'s, 'a, L> {
     ghost use Rattle.std.specs.Coded.{codes};
     ghost use Rattle.dp_break.specs.Tables.{table_code};
     ghost use Rattle.dp_tree.specs.contracts.bundle.Bundle as bundle_type;
-    ghost use Rattle.dp_meaning.specs.contracts.writing.NumberedWrite as write_type;
+    ghost use Rattle.dp_meaning.specs.contracts.writes.NumberedWrite as write_type;
     ghost use Rattle.dp_engine.specs.Session.{State};
 
     ghost Value = { State };

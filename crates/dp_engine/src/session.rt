@@ -66,7 +66,7 @@ impl<'a> Model for Session<'a> {
     ghost use Rattle.dp_break.specs.Tables.{table_code};
     ghost use Rattle.dp_tree.specs.FileNames.{AreFileNames};
     ghost use Rattle.dp_tree.specs.contracts.bundle.Bundle as bundle_type;
-    ghost use Rattle.dp_meaning.specs.contracts.writing.NumberedWrite as write_type;
+    ghost use Rattle.dp_meaning.specs.contracts.writes.NumberedWrite as write_type;
     ghost use Rattle.dp_engine.specs.Session.{State as Known};
 
     ghost Value = { Known };

@@ -6,13 +6,13 @@ use Rattle.dp_state.specs.declared.moments.Path.{Path}
 use Rattle.dp_state.specs.declared.state.State.{State}
 use Rattle.dp_state.specs.Places.{given_keys}
 use Rattle.dp_value.specs.declared.value.Value.{Value}
-use Rattle.dp_meaning.specs.declared.writing.NumberedWrite.{NumberedWrite}
-use Rattle.dp_meaning.specs.declared.writing.Write.{Write}
-use Rattle.dp_meaning.specs.declared.writing.Write.TheVariants.{Place, Evaluate}
+use Rattle.dp_meaning.specs.declared.writes.NumberedWrite.{NumberedWrite}
+use Rattle.dp_meaning.specs.declared.writes.Write.{Write}
+use Rattle.dp_meaning.specs.declared.writes.Write.TheVariants.{Place, Evaluate}
 use Rattle.dp_actions.specs.Expressions.{evaluation}
 use Rattle.dp_actions.specs.Setting.{Setting}
-use Rattle.dp_meaning.specs.declared.writing.WriteFault.{WriteFault}
-use Rattle.dp_meaning.specs.declared.writing.WriteFault.TheVariants.{NoFrame}
+use Rattle.dp_meaning.specs.declared.writes.WriteFault.{WriteFault}
+use Rattle.dp_meaning.specs.declared.writes.WriteFault.TheVariants.{NoFrame}
 use Rattle.dp_meaning.specs.Writes.{Writes, alone, evaluation_limit, in_context, left_by, one_write, or_unchanged, place_or_fault, recounted, with_place, written, written_by}
 use Rattle.dp_meaning.proofs.Steady.{moments-assigned}
 

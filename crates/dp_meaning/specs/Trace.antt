@@ -14,7 +14,7 @@ use Rattle.dp_state.specs.States.{file_of, line_of, opening, top_frame}
 use Rattle.dp_actions.specs.declared.signal.Signal.{Signal}
 use Rattle.dp_meaning.specs.declared.stop.Stop.{Stop}
 use Rattle.dp_meaning.specs.declared.stop.Stop.TheVariants as stop
-use Rattle.dp_meaning.specs.declared.writing.NumberedWrite.{NumberedWrite}
+use Rattle.dp_meaning.specs.declared.writes.NumberedWrite.{NumberedWrite}
 use Rattle.dp_meaning.specs.Programs.{program_run}
 use Rattle.dp_actions.specs.Run.{Run, Done, Over, At}
 use Rattle.dp_meaning.specs.Writes.{Writes, arrived, written, writes_of}

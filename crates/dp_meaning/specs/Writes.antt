@@ -8,13 +8,13 @@ use Rattle.dp_state.specs.declared.state.State.{State}
 use Rattle.dp_state.specs.Places.{assigned, given_keys}
 use Rattle.dp_state.specs.States.{counted, frame_limit, on_line}
 use Rattle.dp_value.specs.declared.value.Value.{Value}
-use Rattle.dp_meaning.specs.declared.writing.NumberedWrite.{NumberedWrite}
-use Rattle.dp_meaning.specs.declared.writing.Write.{Write}
-use Rattle.dp_meaning.specs.declared.writing.Write.TheVariants.{Place, Evaluate}
-use Rattle.dp_meaning.specs.declared.writing.WriteAnswer.{WriteAnswer}
-use Rattle.dp_meaning.specs.declared.writing.WriteAnswer.TheVariants as answer
-use Rattle.dp_meaning.specs.declared.writing.WriteFault.{WriteFault}
-use Rattle.dp_meaning.specs.declared.writing.WriteFault.TheVariants.{NoFrame, NoPlace}
+use Rattle.dp_meaning.specs.declared.writes.NumberedWrite.{NumberedWrite}
+use Rattle.dp_meaning.specs.declared.writes.Write.{Write}
+use Rattle.dp_meaning.specs.declared.writes.Write.TheVariants.{Place, Evaluate}
+use Rattle.dp_meaning.specs.declared.writes.WriteAnswer.{WriteAnswer}
+use Rattle.dp_meaning.specs.declared.writes.WriteAnswer.TheVariants as answer
+use Rattle.dp_meaning.specs.declared.writes.WriteFault.{WriteFault}
+use Rattle.dp_meaning.specs.declared.writes.WriteFault.TheVariants.{NoFrame, NoPlace}
 use Rattle.dp_actions.specs.Expressions.{evaluation}
 use Rattle.dp_meaning.specs.Programs.{setting_of}
 use Rattle.dp_actions.specs.Run.{Run, Done, Over, At}

@@ -4,7 +4,7 @@ ghost use Rattle.std.specs.Prelude.{◌≡◌, true, IfOk, OnOk};
 ghost use Rattle.dp_tree.specs.Purity.{is_pure};
 ghost use Rattle.dp_meaning.specs.Pure.{IsValueIn};
 
-use crate::making::quietly;
+use crate::moment_writes::quietly;
 use dp_state::State;
 use dp_tree::{Bundle, Expression};
 use dp_value::{Memory, Value};

@@ -1,10 +1,10 @@
 //! Moments at which writes are made, up to the first at which a test holds.
 
-use crate::making::write_all;
+use crate::moment_writes::write_all;
 use crate::moments::moment_of;
 use crate::outside::Outside;
 use crate::stops::Stops;
-use crate::writing::NumberedWrite;
+use crate::writes::NumberedWrite;
 use dp_actions::Halt;
 use dp_state::{MomentKind, Outcome, State};
 use dp_tree::Bundle;

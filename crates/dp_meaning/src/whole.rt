@@ -1,7 +1,7 @@
 //! Parts of a program that are run whole: nothing is written at their moments, and nothing stops them.
 
 use crate::evaluator::Evaluator;
-use crate::quiet::Quiet;
+use crate::pure::Quiet;
 use dp_actions::{Halt, Signal};
 use dp_state::State;
 use dp_tree::{Binding, Bundle, Expression, Statement};

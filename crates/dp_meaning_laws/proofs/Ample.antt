@@ -16,9 +16,9 @@ use Rattle.dp_state.specs.declared.state.Frame.{Frame}
 use Rattle.dp_state.specs.declared.state.State.{State}
 use Rattle.dp_state.specs.States.{IsOf, frame_limit, opening}
 use Rattle.dp_actions.specs.declared.signal.Signal.{Signal}
-use Rattle.dp_meaning.specs.declared.writing.NumberedWrite.{NumberedWrite}
-use Rattle.dp_meaning.specs.declared.writing.Write.{Write}
-use Rattle.dp_meaning.specs.declared.writing.Write.TheVariants.{Place, Evaluate}
+use Rattle.dp_meaning.specs.declared.writes.NumberedWrite.{NumberedWrite}
+use Rattle.dp_meaning.specs.declared.writes.Write.{Write}
+use Rattle.dp_meaning.specs.declared.writes.Write.TheVariants.{Place, Evaluate}
 use Rattle.dp_actions.specs.Expressions.{evaluation, evaluations}
 use Rattle.dp_actions.specs.Loops.{do_turns, turns}
 use Rattle.dp_meaning.specs.Programs.{program_run, setting_of}

@@ -10,7 +10,7 @@ use Rattle.dp_tree.specs.declared.tree.Statement.{Statement}
 use Rattle.dp_state.specs.declared.state.State.{State}
 use Rattle.dp_state.specs.States.{frame_limit, opening}
 use Rattle.dp_actions.specs.declared.signal.Signal.{Signal}
-use Rattle.dp_meaning.specs.declared.writing.NumberedWrite.{NumberedWrite}
+use Rattle.dp_meaning.specs.declared.writes.NumberedWrite.{NumberedWrite}
 use Rattle.dp_actions.specs.Expressions.{evaluation, evaluations}
 use Rattle.dp_meaning_laws.specs.Limits.{CanStand, IsAmple, SameTraces, trace_by}
 use Rattle.dp_actions.specs.Loops.{do_turns, turns}

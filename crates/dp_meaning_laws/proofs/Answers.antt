@@ -5,11 +5,11 @@ use Rattle.dp_tree.specs.declared.tree.Expression.{Expression}
 use Rattle.dp_value.specs.declared.value.Value.{Value}
 use Rattle.dp_state.specs.declared.moments.Path.{Path}
 use Rattle.dp_state.specs.declared.state.State.{State}
-use Rattle.dp_meaning.specs.declared.writing.Write.{Write}
-use Rattle.dp_meaning.specs.declared.writing.Write.TheVariants.{Place, Evaluate}
-use Rattle.dp_meaning.specs.declared.writing.WriteAnswer.TheVariants as answer
-use Rattle.dp_meaning.specs.declared.writing.WriteFault.{WriteFault}
-use Rattle.dp_meaning.specs.declared.writing.WriteFault.TheVariants.{NoFrame, NoPlace}
+use Rattle.dp_meaning.specs.declared.writes.Write.{Write}
+use Rattle.dp_meaning.specs.declared.writes.Write.TheVariants.{Place, Evaluate}
+use Rattle.dp_meaning.specs.declared.writes.WriteAnswer.TheVariants as answer
+use Rattle.dp_meaning.specs.declared.writes.WriteFault.{WriteFault}
+use Rattle.dp_meaning.specs.declared.writes.WriteFault.TheVariants.{NoFrame, NoPlace}
 use Rattle.dp_actions.specs.Setting.{Setting}
 use Rattle.dp_meaning.specs.Writes.{answer_in, evaluated, left_by, one_write, or_unchanged, place_answer, value_answer, with_place}
 

@@ -12,7 +12,7 @@ use Rattle.dp_state.specs.declared.moments.MomentKind.TheVariants.{Place, Enter,
 use Rattle.dp_state.specs.declared.state.Frame.{Frame}
 use Rattle.dp_state.specs.declared.state.State.{State}
 use Rattle.dp_state.specs.States.{with_line}
-use Rattle.dp_meaning.specs.declared.writing.NumberedWrite.{NumberedWrite}
+use Rattle.dp_meaning.specs.declared.writes.NumberedWrite.{NumberedWrite}
 use Rattle.dp_meaning_laws.specs.Coded.{HasCode}
 use Rattle.dp_actions.specs.Bodies.{statements_of}
 use Rattle.dp_meaning.specs.Trace.{moment_at, moment_of, program_trace}

@@ -20,11 +20,11 @@ use Rattle.dp_state.proofs.Kept.{of-assigned, of-called, of-counted, of-included
 use Rattle.dp_actions.specs.declared.signal.Signal.{Signal}
 use Rattle.dp_meaning.specs.declared.stop.Stop.{Stop}
 use Rattle.dp_meaning.specs.declared.stop.Stop.TheVariants as stop
-use Rattle.dp_meaning.specs.declared.writing.WriteFault.{WriteFault}
-use Rattle.dp_meaning.specs.declared.writing.WriteFault.TheVariants.{NoFrame}
-use Rattle.dp_meaning.specs.declared.writing.NumberedWrite.{NumberedWrite}
-use Rattle.dp_meaning.specs.declared.writing.Write.{Write}
-use Rattle.dp_meaning.specs.declared.writing.Write.TheVariants.{Place, Evaluate}
+use Rattle.dp_meaning.specs.declared.writes.WriteFault.{WriteFault}
+use Rattle.dp_meaning.specs.declared.writes.WriteFault.TheVariants.{NoFrame}
+use Rattle.dp_meaning.specs.declared.writes.NumberedWrite.{NumberedWrite}
+use Rattle.dp_meaning.specs.declared.writes.Write.{Write}
+use Rattle.dp_meaning.specs.declared.writes.Write.TheVariants.{Place, Evaluate}
 use Rattle.dp_actions.specs.Expressions.{evaluation}
 use Rattle.dp_meaning.specs.Programs.{program_run}
 use Rattle.dp_actions.specs.Bodies.{statements_of}

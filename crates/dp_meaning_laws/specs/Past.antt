@@ -1,7 +1,7 @@
 -- The past stands: a write does not change what came before it.
 use Rattle.std.specs.Prelude.{◌≡◌, ℕ, ◌<◌, List, take}
 use Rattle.dp_tree.specs.declared.bundle.Bundle.{Bundle}
-use Rattle.dp_meaning.specs.declared.writing.NumberedWrite.{NumberedWrite}
+use Rattle.dp_meaning.specs.declared.writes.NumberedWrite.{NumberedWrite}
 use Rattle.dp_meaning.specs.Trace.{program_trace}
 use Rattle.dp_meaning.specs.Writes.{of_number}
 

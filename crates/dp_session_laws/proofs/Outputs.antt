@@ -29,11 +29,11 @@ use Rattle.dp_tree.specs.declared.tree.Expression.{Expression}
 use Rattle.dp_tree.specs.declared.tree.Function.{Function}
 use Rattle.dp_meaning.specs.Programs.{program_run}
 use Rattle.dp_actions.specs.Run.{Run, Done, Over, At}
-use Rattle.dp_meaning.specs.declared.writing.NumberedWrite.{NumberedWrite}
-use Rattle.dp_meaning.specs.declared.writing.Write.{Write}
-use Rattle.dp_meaning.specs.declared.writing.Write.TheVariants.{Place, Evaluate}
-use Rattle.dp_meaning.specs.declared.writing.WriteFault.{WriteFault}
-use Rattle.dp_meaning.specs.declared.writing.WriteFault.TheVariants.{NoFrame}
+use Rattle.dp_meaning.specs.declared.writes.NumberedWrite.{NumberedWrite}
+use Rattle.dp_meaning.specs.declared.writes.Write.{Write}
+use Rattle.dp_meaning.specs.declared.writes.Write.TheVariants.{Place, Evaluate}
+use Rattle.dp_meaning.specs.declared.writes.WriteFault.{WriteFault}
+use Rattle.dp_meaning.specs.declared.writes.WriteFault.TheVariants.{NoFrame}
 use Rattle.dp_actions.specs.Expressions.{evaluation}
 use Rattle.dp_meaning.specs.Trace.{Trace, Ended, moment_of, program_trace, trace, with_moment}
 use Rattle.dp_meaning.specs.Writes.{alone, arrived, evaluated, evaluation_limit, evaluation_setting, in_context, left_by, one_write, or_unchanged, place_or_fault, recounted, with_place, written, written_by, writes_of}

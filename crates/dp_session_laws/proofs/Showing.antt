@@ -15,7 +15,7 @@ use Rattle.dp_command.specs.Lines.{line_of}
 use Rattle.dp_command.specs.Names.{name_of}
 use Rattle.dp_command.specs.Refusals.{fits_row, id_of}
 use Rattle.dp_command.specs.Tests.{first_code}
-use Rattle.dp_meaning.specs.declared.writing.Write.{Write}
+use Rattle.dp_meaning.specs.declared.writes.Write.{Write}
 use Rattle.dp_packet.specs.declared.packet.Response.{Response}
 use Rattle.dp_packet.specs.Parts.{Text}
 use Rattle.dp_view.specs.Answers.{and_then}

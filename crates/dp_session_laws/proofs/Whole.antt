@@ -32,7 +32,7 @@ use Rattle.dp_command.proofs.Short.{values_short}
 use Rattle.dp_features.specs.declared.feature.Feature.{Feature}
 use Rattle.dp_features.specs.declared.feature.Feature.TheVariants.{Encoding, MultipleSessions, MaxChildren, MaxData, MaxDepth, ShowHidden, NotifyOk}
 use Rattle.dp_features.specs.Features.{Features, feature_named, number_in, number_of, setting_named, value_of, with_number}
-use Rattle.dp_meaning.specs.declared.writing.Write.{Write}
+use Rattle.dp_meaning.specs.declared.writes.Write.{Write}
 use Rattle.dp_packet.specs.Parts.{Text, flag}
 use Rattle.dp_packet.specs.declared.packet.Packet.TheVariants as packet
 use Rattle.dp_packet.proofs.LengthLaws.{bare_response_short, packet_some}

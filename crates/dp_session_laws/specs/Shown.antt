@@ -6,8 +6,8 @@ use Rattle.dp_command.specs.declared.command.Command.{Command}
 use Rattle.dp_command.specs.declared.line.Line.{Line}
 use Rattle.dp_command.specs.Commands.{command_of}
 use Rattle.dp_command.specs.Lines.{line_of}
-use Rattle.dp_meaning.specs.declared.writing.NumberedWrite.{NumberedWrite}
-use Rattle.dp_meaning.specs.declared.writing.Write.{Write}
+use Rattle.dp_meaning.specs.declared.writes.NumberedWrite.{NumberedWrite}
+use Rattle.dp_meaning.specs.declared.writes.Write.{Write}
 use Rattle.dp_meaning.specs.Trace.{now, program_trace}
 use Rattle.dp_state.specs.declared.state.State.{State as Program}
 use Rattle.dp_state.specs.States.{opening as first_state}

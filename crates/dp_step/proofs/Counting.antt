@@ -3,7 +3,7 @@ use Rattle.std.proofs.Common.{◌≡◌, ℕ, zero, suc, ◌≤◌, List, [], �
 use Rattle.std.proofs.lemmas.Option.{slice_get_within}
 use Rattle.dp_tree.specs.declared.bundle.Bundle.{Bundle}
 use Rattle.dp_state.specs.declared.moments.Outcome.{Outcome}
-use Rattle.dp_meaning.specs.declared.writing.NumberedWrite.{NumberedWrite}
+use Rattle.dp_meaning.specs.declared.writes.NumberedWrite.{NumberedWrite}
 use Rattle.dp_meaning.specs.Trace.{program_trace}
 use Rattle.dp_step.specs.declared.machine.Machine.{Machine}
 use Rattle.dp_step.specs.Stands.{EndsWith, StandsFor}

@@ -17,7 +17,7 @@ use Rattle.dp_actions.specs.Loops.{turns}
 use Rattle.dp_actions.specs.Run.{Run, Done, Over, At, ◌>>=◌}
 use Rattle.dp_actions.specs.Setting.{Part}
 use Rattle.dp_meaning.specs.declared.stop.Stop.TheVariants as stop
-use Rattle.dp_meaning.specs.declared.writing.NumberedWrite.{NumberedWrite}
+use Rattle.dp_meaning.specs.declared.writes.NumberedWrite.{NumberedWrite}
 use Rattle.dp_meaning.specs.inner.Drive.{Ends, Reached, drive, quiet, stopped}
 use Rattle.dp_meaning.specs.Programs.{program_run}
 use Rattle.dp_meaning.specs.Statements.{statement_run}

@@ -3,8 +3,8 @@
 use Rattle.std.specs.Prelude.{◌≡◌, Option, Some, None, Result, Ok, Err}
 use Rattle.dp_value.specs.declared.value.Value.{Value}
 use Rattle.dp_state.specs.declared.state.State.{State}
-use Rattle.dp_meaning.specs.declared.writing.WriteFault.{WriteFault}
-use Rattle.dp_meaning.specs.declared.writing.WriteFault.TheVariants as fault
+use Rattle.dp_meaning.specs.declared.writes.WriteFault.{WriteFault}
+use Rattle.dp_meaning.specs.declared.writes.WriteFault.TheVariants as fault
 use Rattle.dp_step.specs.declared.machine.Machine.{Machine}
 use Rattle.dp_step.specs.declared.writing.StepError.{StepError}
 use Rattle.dp_step.specs.declared.writing.StepError.TheVariants as error

@@ -18,7 +18,7 @@ use std::{mem, slice};
 impl<'p> Machine<'p> {
     ghost use Rattle.std.specs.Prelude.{◌≡◌, ◌+◌, ℕ, List, length, IfOk};
     ghost use Rattle.dp_tree.specs.declared.bundle.Bundle.{Bundle as SomeBundle};
-    ghost use Rattle.dp_meaning.specs.declared.writing.NumberedWrite.{NumberedWrite};
+    ghost use Rattle.dp_meaning.specs.declared.writes.NumberedWrite.{NumberedWrite};
     ghost use Rattle.dp_meaning.specs.Trace.{outcome, program_trace};
     ghost use Rattle.dp_step.specs.Stands.{StandsFor, rest_of};
     ghost use Rattle.dp_step.specs.declared.work.Hand.TheVariants as any_hand;

@@ -48,7 +48,7 @@ pub(crate) enum Arrival {
 impl<'p> Machine<'p> {
     ghost use Rattle.std.specs.Prelude.{◌≡◌, ℕ, ◌+◌, List, [], IfOk, OnOk, true, false};
     ghost use Rattle.dp_tree.specs.declared.bundle.Bundle.{Bundle as SomeBundle};
-    ghost use Rattle.dp_meaning.specs.declared.writing.NumberedWrite.{NumberedWrite};
+    ghost use Rattle.dp_meaning.specs.declared.writes.NumberedWrite.{NumberedWrite};
     ghost use Rattle.dp_state.specs.declared.moments.Outcome.{Outcome as SomeOutcome};
     ghost use Rattle.dp_step.specs.declared.machine.Progress.TheVariants as any_progress;
     ghost use Rattle.dp_step.specs.Stands.{GoesOn, HasEnded, HasFailed, Leaves, StandsFor, rest_of, steps_of};

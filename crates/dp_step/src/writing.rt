@@ -30,7 +30,7 @@ impl Machine<'_> {
     ghost use Rattle.std.specs.Prelude.{◌≡◌, ℕ, ◌++◌, List, OnOk};
     ghost use Rattle.std.specs.Borrow.{sem};
     ghost use Rattle.dp_tree.specs.declared.bundle.Bundle.{Bundle as SomeBundle};
-    ghost use Rattle.dp_meaning.specs.declared.writing.NumberedWrite.{NumberedWrite};
+    ghost use Rattle.dp_meaning.specs.declared.writes.NumberedWrite.{NumberedWrite};
     ghost use Rattle.dp_meaning.specs.Writes.{of_number};
     ghost use Rattle.dp_step.specs.Lending.{LendsState};
     ghost use Rattle.dp_step.specs.Stands.{StandsFor};
@@ -71,8 +71,8 @@ impl Machine<'_> {
     ghost use Rattle.std.specs.Prelude.{◌≡◌, ◌++◌, ◌∷◌, [], ℕ, suc, ◌-◌, ◌<◌, false, length, List, OnOk};
     ghost use Rattle.dp_tree.specs.declared.bundle.Bundle.{Bundle as SomeBundle};
     ghost use Rattle.dp_state.specs.Places.{assigned, given_keys as keys_given};
-    ghost use Rattle.dp_meaning.specs.declared.writing.NumberedWrite.{NumberedWrite};
-    ghost use Rattle.dp_meaning.specs.declared.writing.Write.TheVariants as any_write;
+    ghost use Rattle.dp_meaning.specs.declared.writes.NumberedWrite.{NumberedWrite};
+    ghost use Rattle.dp_meaning.specs.declared.writes.Write.TheVariants as any_write;
     ghost use Rattle.dp_meaning.specs.Writes.{evaluated, evaluation_setting, place_or_fault, with_place};
     ghost use Rattle.dp_step.specs.Stands.{HasFailed, StandsFor};
     ghost use Rattle.dp_step.specs.Written.{Evaluates, Writes};

@@ -6,8 +6,8 @@ use Rattle.dp_command.specs.declared.command.PropertyPlace.{PropertyPlace}
 use Rattle.dp_command.specs.declared.command.Request.{Request}
 use Rattle.dp_command.specs.declared.command.Request.TheVariants as request
 use Rattle.dp_features.specs.Features.{Features}
-use Rattle.dp_meaning.specs.declared.writing.WriteAnswer.{WriteAnswer}
-use Rattle.dp_meaning.specs.declared.writing.WriteAnswer.TheVariants as answer
+use Rattle.dp_meaning.specs.declared.writes.WriteAnswer.{WriteAnswer}
+use Rattle.dp_meaning.specs.declared.writes.WriteAnswer.TheVariants as answer
 use Rattle.dp_meaning.specs.Writes.{answer_in, evaluation_setting}
 use Rattle.dp_packet.specs.declared.packet.Body.TheVariants as body
 use Rattle.dp_packet.specs.declared.packet.Packet.TheVariants as packet

@@ -8,8 +8,8 @@ use Rattle.dp_command.specs.declared.command.PropertyPlace.{PropertyPlace}
 use Rattle.dp_command.specs.declared.command.PropertySet.{PropertySet}
 use Rattle.dp_command.specs.declared.command.Request.{Request}
 use Rattle.dp_command.specs.declared.command.Request.TheVariants as request
-use Rattle.dp_meaning.specs.declared.writing.Write.{Write}
-use Rattle.dp_meaning.specs.declared.writing.Write.TheVariants as write
+use Rattle.dp_meaning.specs.declared.writes.Write.{Write}
+use Rattle.dp_meaning.specs.declared.writes.Write.TheVariants as write
 use Rattle.dp_parse.specs.ExpressionIn.{expression_in}
 use Rattle.dp_state.specs.declared.moments.Path.{Path}
 use Rattle.dp_state.specs.declared.state.State.{State}

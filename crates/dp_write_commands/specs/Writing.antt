@@ -3,9 +3,9 @@
 use Rattle.std.specs.Prelude.{ℕ, nat_le, if◌then◌else◌, [], ◌∷◌, length, codes, Option, Some, None, Result, Ok, Err}
 use Rattle.dp_command.specs.declared.command.Request.{Request}
 use Rattle.dp_features.specs.Features.{Features}
-use Rattle.dp_meaning.specs.declared.writing.WriteAnswer.{WriteAnswer}
-use Rattle.dp_meaning.specs.declared.writing.WriteAnswer.TheVariants as answer
-use Rattle.dp_meaning.specs.declared.writing.Write.{Write}
+use Rattle.dp_meaning.specs.declared.writes.WriteAnswer.{WriteAnswer}
+use Rattle.dp_meaning.specs.declared.writes.WriteAnswer.TheVariants as answer
+use Rattle.dp_meaning.specs.declared.writes.Write.{Write}
 use Rattle.dp_meaning.specs.Writes.{answer_in, evaluation_setting}
 use Rattle.dp_packet.specs.declared.packet.Body.{Body}
 use Rattle.dp_packet.specs.declared.packet.Body.TheVariants as body

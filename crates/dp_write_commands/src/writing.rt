@@ -3,7 +3,7 @@
 ghost use Rattle.std.specs.Prelude.{◌≡◌, Ok, Err, Some, IfOk, IfSome};
 ghost use Rattle.dp_write_commands.specs.Asked.{path_asked as asked_path, tree_of as spec_tree, value_asked as asked_value};
 ghost use Rattle.dp_command.specs.declared.command.Request.TheVariants as request;
-ghost use Rattle.dp_meaning.specs.declared.writing.Write.TheVariants as write;
+ghost use Rattle.dp_meaning.specs.declared.writes.Write.TheVariants as write;
 ghost use Rattle.dp_view.specs.Named.{named_path};
 ghost use Rattle.dp_write_commands.specs.Answers.{Answers, HasKnownCode, IsSent, refusal_at_once};
 ghost use Rattle.dp_write_commands.specs.Writing.{code_in};

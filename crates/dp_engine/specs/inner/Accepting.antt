@@ -2,8 +2,8 @@
 use Rattle.std.specs.Prelude.{◌≡◌, ℕ, ◌<◌, true, List, [], ◌∷◌, ◌++◌, Result, Ok, Err, ⊤}
 use Rattle.dp_command.specs.declared.command.Request.{Request}
 use Rattle.dp_features.specs.Features.{Features}
-use Rattle.dp_meaning.specs.declared.writing.NumberedWrite.{NumberedWrite}
-use Rattle.dp_meaning.specs.declared.writing.Write.{Write}
+use Rattle.dp_meaning.specs.declared.writes.NumberedWrite.{NumberedWrite}
+use Rattle.dp_meaning.specs.declared.writes.Write.{Write}
 use Rattle.dp_meaning.specs.Writes.{evaluation_setting, one_write}
 use Rattle.dp_packet.specs.declared.packet.Response.{Response}
 use Rattle.dp_packet.specs.Messages.{is_some_text, message_of}

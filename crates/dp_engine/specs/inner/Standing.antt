@@ -4,7 +4,7 @@ use Rattle.dp_break.specs.Tables.{Table}
 use Rattle.dp_tree.specs.declared.bundle.Bundle.{Bundle}
 use Rattle.dp_command.specs.declared.command.StreamMode.{StreamMode}
 use Rattle.dp_features.specs.Features.{Features}
-use Rattle.dp_meaning.specs.declared.writing.NumberedWrite.{NumberedWrite}
+use Rattle.dp_meaning.specs.declared.writes.NumberedWrite.{NumberedWrite}
 use Rattle.dp_meaning.specs.Trace.{moment_at, outcome, program_trace}
 use Rattle.dp_continuation.specs.Stops.{depth_of}
 use Rattle.dp_step.specs.declared.machine.Machine.{Machine}

@@ -3,8 +3,8 @@ use Rattle.std.specs.Prelude.{Option, Some, None, Result, Ok, Err}
 use Rattle.dp_value.specs.declared.errors.WriteError.{WriteError}
 use Rattle.dp_value.specs.declared.value.Value.{Value}
 use Rattle.dp_value.specs.Data.{Data}
-use Rattle.dp_meaning.specs.declared.writing.WriteAnswer.{WriteAnswer}
-use Rattle.dp_meaning.specs.declared.writing.WriteAnswer.TheVariants as answer
+use Rattle.dp_meaning.specs.declared.writes.WriteAnswer.{WriteAnswer}
+use Rattle.dp_meaning.specs.declared.writes.WriteAnswer.TheVariants as answer
 
 -- by the value of an evaluation
 abbrev pub answer_by : Option Value → WriteAnswer

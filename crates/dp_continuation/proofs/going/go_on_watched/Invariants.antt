@@ -1,5 +1,5 @@
 use Rattle.std.proofs.Common.{ℕ, List}
-use Rattle.dp_meaning.specs.declared.writing.NumberedWrite.{NumberedWrite}
+use Rattle.dp_meaning.specs.declared.writes.NumberedWrite.{NumberedWrite}
 use Rattle.dp_step.specs.Stands.{StandsFor}
 use Rattle.dp_continuation.specs.Stops.{stops}
 use Rattle.dp_continuation.proofs.Passing.{IsOnWay}

@@ -1,5 +1,5 @@
 use Rattle.std.proofs.Common.{ap}
-use Rattle.dp_meaning.specs.declared.quiet.Quiet.{Quiet}
+use Rattle.dp_meaning.specs.declared.pure.Quiet.{Quiet}
 use Rattle.dp_actions.specs.Expressions.{evaluation}
 use Rattle.dp_actions.specs.Loops.{do_turns}
 use Rattle.dp_meaning.specs.Statements.{statement_run}

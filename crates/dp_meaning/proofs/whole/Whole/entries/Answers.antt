@@ -1,5 +1,5 @@
 use Rattle.std.proofs.Common.{drop, ap}
-use Rattle.dp_meaning.specs.declared.quiet.Quiet.{Quiet}
+use Rattle.dp_meaning.specs.declared.pure.Quiet.{Quiet}
 use Rattle.dp_actions.specs.Loops.{each_run, entries}
 use Rattle.dp_meaning.specs.Statements.{statement_run}
 use Rattle.dp_meaning.proofs.Wholes.{runs-whole}

@@ -9,8 +9,8 @@ ghost use Rattle.dp_state.specs.States.{read_at};
 ghost use Rattle.dp_meaning.specs.inner.Answering.{answer_by, write_answer};
 ghost use Rattle.dp_meaning.specs.Writes.{answer_in, evaluated, evaluation_setting, place_answer, place_or_fault, value_answer, with_place};
 
-use crate::making::evaluation;
-use crate::writing::{Write, WriteAnswer};
+use crate::moment_writes::evaluation;
+use crate::writes::{Write, WriteAnswer};
 use dp_actions::given_keys;
 use dp_state::{Path, State};
 use dp_tree::{Bundle, Expression};

@@ -5,7 +5,7 @@ use Rattle.dp_meaning.specs.Stopping.{state_of}
 use Rattle.dp_meaning.specs.declared.stop.Stop.{Stop}
 use Rattle.dp_meaning.proofs.FirstStops.{program_first}
 use Rattle.dp_meaning.proofs.OfBundle.{first_stop-of}
-use Rattle.dp_meaning.proofs.running.run_until.Goals as goal
+use Rattle.dp_meaning.proofs.runs.run_until.Goals as goal
 
 pub returns-clause-first : goal.returns-clause-first
 returns-clause-first g c =

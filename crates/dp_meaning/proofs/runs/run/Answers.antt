@@ -1,7 +1,7 @@
 use Rattle.std.proofs.lemmas.Result.{IfOk-weaker}
 use Rattle.dp_meaning.specs.Programs.{program_run}
 use Rattle.dp_meaning.proofs.Alone.{stops-as}
-use Rattle.dp_meaning.proofs.running.run.Goals as goal
+use Rattle.dp_meaning.proofs.runs.run.Goals as goal
 
 pub returns : goal.returns
 unfolding program_run

@@ -1,9 +1,9 @@
 //! Moments at which writes are made, up to a stop.
 
-use crate::making::write_all;
+use crate::moment_writes::write_all;
 use crate::moments::moment_of;
 use crate::outside::Outside;
-use crate::writing::NumberedWrite;
+use crate::writes::NumberedWrite;
 use dp_actions::Halt;
 use dp_state::{MomentKind, Outcome, State};
 use dp_tree::Bundle;

@@ -8,8 +8,8 @@ ghost use Rattle.dp_actions.specs.Expressions.{evaluation as expression_value};
 ghost use Rattle.dp_meaning.specs.Writes.{evaluated, evaluation_limit, evaluation_setting, left_by, one_write, or_unchanged, place_or_fault, with_place, written_by};
 
 use crate::evaluator::Evaluator;
-use crate::quiet::Quiet;
-use crate::writing::{NumberedWrite, Write};
+use crate::pure::Quiet;
+use crate::writes::{NumberedWrite, Write};
 use dp_actions::{Halt, given_keys};
 use dp_state::{FRAME_LIMIT, Fault, Path, State};
 use dp_tree::{Bundle, Expression};

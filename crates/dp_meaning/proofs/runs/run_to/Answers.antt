@@ -4,7 +4,7 @@ use Rattle.dp_meaning.specs.Trace.{IsStop, program_trace}
 use Rattle.dp_meaning.specs.Writes.{writes_of}
 use Rattle.dp_meaning.proofs.OfBundle.{stop-of}
 use Rattle.dp_meaning.proofs.StopLaws.{program_stops}
-use Rattle.dp_meaning.proofs.running.run_to.Goals as goal
+use Rattle.dp_meaning.proofs.runs.run_to.Goals as goal
 
 pub returns-clause-stop : goal.returns-clause-stop
 returns-clause-stop c =

@@ -1,6 +1,6 @@
 use Rattle.std.proofs.Common.{◌≡◌, drop}
 use Rattle.dp_meaning.specs.Writes.{evaluation_setting, written_by}
-use Rattle.dp_meaning.proofs.making.write_all.Given as goal
+use Rattle.dp_meaning.proofs.moment_writes.write_all.Given as goal
 
 abbrev pub invariant-loop-w : goal.invariant-loop-w
 invariant-loop-w l = written_by (evaluation_setting l.bundle) l.writes l.number l.fn.state

@@ -8,13 +8,13 @@ ghost use Rattle.dp_meaning.specs.Stopping.{first_stop, state_of};
 ghost use Rattle.dp_meaning.specs.Trace.{IsStop, program_trace};
 ghost use Rattle.dp_meaning.specs.Writes.{writes_of};
 
+use crate::applied_writes::Written;
 use crate::evaluator::Evaluator;
 use crate::outside::Outside;
 use crate::stop::Stop;
 use crate::stops::Stops;
 use crate::watched::Watched;
-use crate::writing::NumberedWrite;
-use crate::written::Written;
+use crate::writes::NumberedWrite;
 use dp_actions::{Halt, Signal, statements_of};
 use dp_state::{FRAME_LIMIT, Outcome, State};
 use dp_tree::Bundle;

@@ -2,7 +2,7 @@ use Rattle.dp_meaning.specs.inner.Drive.{quiet}
 use Rattle.dp_meaning.specs.Writes.{evaluation_limit, evaluation_setting}
 use Rattle.std.proofs.Common.{refl}
 use Rattle.dp_meaning.proofs.Alone.{evaluated-comes}
-use Rattle.dp_meaning.proofs.making.evaluation.Goals as goal
+use Rattle.dp_meaning.proofs.moment_writes.evaluation.Goals as goal
 
 pub returns-in-Ok : goal.returns-in-Ok
 returns-in-Ok c =
