@@ -6,7 +6,7 @@ mod arithmetic;
 mod arrays;
 mod builtins;
 mod comparisons;
-mod indexing;
+mod indices;
 mod operators;
 mod parts;
 mod scalars;
@@ -14,6 +14,6 @@ mod texts;
 mod types;
 
 pub use builtins::builtin;
-pub use indexing::{find, find_by, index, index_by};
+pub use indices::{find, find_by, index, index_by};
 pub use operators::{binary, unary};
 pub use texts::text;

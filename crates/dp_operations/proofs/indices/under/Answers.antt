@@ -3,7 +3,7 @@ use Rattle.dp_value.specs.declared.value.Value.{Value}
 use Rattle.dp_value.specs.Value.{data_of}
 use Rattle.dp_operations.specs.Indexing.{reading}
 use Rattle.dp_operations.proofs.IndexLemmas.{array-read}
-use Rattle.dp_operations.proofs.indexing.under.Goals as goal
+use Rattle.dp_operations.proofs.indices.under.Goals as goal
 
 pub returns-in-Some : goal.returns-in-Some
 returns-in-Some c =
