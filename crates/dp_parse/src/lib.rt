@@ -9,13 +9,13 @@ mod errors;
 mod files;
 mod grammar;
 mod inside;
-mod judging;
 mod jumps;
 mod levels;
 mod loop_statements;
 mod names;
 mod parameters;
 mod statements;
+mod verdicts;
 mod whole;
 
 pub use dp_tree::{

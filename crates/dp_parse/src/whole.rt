@@ -13,7 +13,7 @@ ghost use Rattle.dp_parse.specs.inner.Reasons.{without_tokens};
 
 use crate::ended::Parts;
 use crate::errors::ParseError;
-use crate::judging::{expression_of, parts_of};
+use crate::verdicts::{expression_of, parts_of};
 use dp_lexer::{LexError, lex, lex_expression, line_feeds};
 use dp_tree::{Expression, File, first_double};
 use std::alloc::Global;

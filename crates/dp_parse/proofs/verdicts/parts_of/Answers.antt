@@ -3,7 +3,7 @@ use Rattle.dp_parse.specs.Limits.{limits}
 use Rattle.dp_parse.specs.inner.ReadingStatements.{file}
 use Rattle.dp_parse.proofs.FileVerdicts.{file_reads}
 use Rattle.dp_parse.proofs.Judged.{found_spelled, found_only, found_not_wrong, refused_cause, refused_only, refused_refuses}
-use Rattle.dp_parse.proofs.judging.parts_of.Goals as goal
+use Rattle.dp_parse.proofs.verdicts.parts_of.Goals as goal
 
 pub returns-in-Ok-clause-found : goal.returns-in-Ok-clause-found
 returns-in-Ok-clause-found c = found_spelled (file_reads limits) c.args.tokens.now c.in-Ok.parts c.file.new.tokens (ap (file limits) (sym c.new.ensures) ∙ c.in-Ok.ensures)

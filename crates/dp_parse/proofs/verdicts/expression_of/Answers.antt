@@ -3,7 +3,7 @@ use Rattle.dp_parse.specs.Limits.{limits}
 use Rattle.dp_parse.specs.inner.ReadingStatements.{expression_text}
 use Rattle.dp_parse.proofs.FileVerdicts.{text_reads}
 use Rattle.dp_parse.proofs.Judged.{found_spelled, found_only, found_not_wrong, refused_cause, refused_only, refused_refuses}
-use Rattle.dp_parse.proofs.judging.expression_of.Goals as goal
+use Rattle.dp_parse.proofs.verdicts.expression_of.Goals as goal
 
 pub returns-in-Ok-clause-found : goal.returns-in-Ok-clause-found
 returns-in-Ok-clause-found c = found_spelled (text_reads limits.expressions) c.args.tokens.now c.in-Ok.found c.expression_text.new.tokens (ap (expression_text limits.expressions) (sym c.new.ensures) ∙ c.in-Ok.ensures)
