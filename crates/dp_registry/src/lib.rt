@@ -1,7 +1,7 @@
 //! The registry of a proxy: which IDE holds which key, which sessions are live, and the journal of all calls.
 #![tactic(auto)]
 
-mod deciding;
+mod decisions;
 mod entries;
 mod entry;
 mod known;
