@@ -5,10 +5,10 @@ use Rattle.std.proofs.KnownBytes.{Appends-trans}
 use Rattle.dp_tree.specs.declared.bundle.Bundle.{Bundle}
 use Rattle.dp_outside.specs.Changes.{Change, change}
 use Rattle.dp_outside.specs.Streams.{AppendsFront}
-use Rattle.dp_serving.specs.declared.conversing.Fault.{Fault}
-use Rattle.dp_serving.specs.declared.conversing.Fault.TheVariants as fault
-use Rattle.dp_serving.specs.declared.conversing.Over.{Over}
-use Rattle.dp_serving.specs.declared.conversing.Over.TheVariants as over
+use Rattle.dp_serving.specs.declared.link.Fault.{Fault}
+use Rattle.dp_serving.specs.declared.link.Fault.TheVariants as fault
+use Rattle.dp_serving.specs.declared.link.Over.{Over}
+use Rattle.dp_serving.specs.declared.link.Over.TheVariants as over
 use Rattle.dp_serving.specs.Folds.{Reply}
 use Rattle.dp_serving.specs.Serving.{IsServed as IsConversed, IsCut as IsBrokenOff}
 use Rattle.dp_serving.proofs.FrontLaws.{front_after, front_all, front_of_more}

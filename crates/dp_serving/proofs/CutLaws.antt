@@ -6,8 +6,8 @@ use Rattle.std.proofs.KnownBytes.{Appends-nil, Appends-trans, Consumes-nil}
 use Rattle.dp_outside.specs.Changes.{Change, change}
 use Rattle.dp_outside.specs.Streams.{AppendsFront}
 use Rattle.dp_wire.specs.Frames.{commands_in, packet_frame}
-use Rattle.dp_serving.specs.declared.conversing.Fault.{Fault}
-use Rattle.dp_serving.specs.declared.conversing.Fault.TheVariants.{Write, Out, Memory}
+use Rattle.dp_serving.specs.declared.link.Fault.{Fault}
+use Rattle.dp_serving.specs.declared.link.Fault.TheVariants.{Write, Out, Memory}
 use Rattle.dp_serving.specs.inner.Exchanges.{Reached, CutsAnswer, CutsShort, OpenFault, Conversation}
 use Rattle.dp_serving.specs.declared.responder.Answer.{Answer}
 use Rattle.dp_serving.specs.Folds.{Reply, replies, reply_of}

@@ -6,10 +6,10 @@ use Rattle.dp_outside.specs.Causes.{Rose}
 use Rattle.dp_outside.specs.Changes.{Change}
 use Rattle.dp_outside.specs.Streams.{AppendsFront}
 use Rattle.dp_wire.specs.Frames.{commands_in, packet_frame, rest_of, IsPartialCommand, BeginsNoCommand}
-use Rattle.dp_serving.specs.declared.conversing.Fault.{Fault}
-use Rattle.dp_serving.specs.declared.conversing.Fault.TheVariants.{Write, Out, Memory}
-use Rattle.dp_serving.specs.declared.conversing.Over.{Over}
-use Rattle.dp_serving.specs.declared.conversing.Over.TheVariants.{Ended, LinkEnd, ReadFault, BadCommandFrame, ByteLimit}
+use Rattle.dp_serving.specs.declared.link.Fault.{Fault}
+use Rattle.dp_serving.specs.declared.link.Fault.TheVariants.{Write, Out, Memory}
+use Rattle.dp_serving.specs.declared.link.Over.{Over}
+use Rattle.dp_serving.specs.declared.link.Over.TheVariants.{Ended, LinkEnd, ReadFault, BadCommandFrame, ByteLimit}
 use Rattle.dp_serving.specs.Folds.{Reply, replies}
 use Rattle.dp_serving.specs.Growth.{served}
 

@@ -3,14 +3,14 @@
 #![tactic(auto)]
 
 mod conversation;
-mod conversing;
 mod laws;
+mod link;
+mod puts;
 mod responder;
-mod sending;
 
 pub use conversation::{Conversation, Next};
-pub use conversing::{BYTE_LIMIT, Fault, Over, converse};
 pub use dp_value::Memory;
 pub use laws::{feeding_goes_on, one_session_grows};
+pub use link::{BYTE_LIMIT, Fault, Over, converse};
+pub use puts::put_some;
 pub use responder::{Answer, Responder};
-pub use sending::put_some;

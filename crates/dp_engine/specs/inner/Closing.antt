@@ -4,10 +4,10 @@ use Rattle.std.specs.Io.KnownBytes.{Appends}
 use Rattle.dp_outside.specs.Causes.{Rose}
 use Rattle.dp_outside.specs.Changes.{Change}
 use Rattle.dp_outside.specs.Streams.{AppendsFront}
-use Rattle.dp_serving.specs.declared.conversing.Fault.{Fault}
-use Rattle.dp_serving.specs.declared.conversing.Fault.TheVariants as fault
-use Rattle.dp_serving.specs.declared.conversing.Over.{Over}
-use Rattle.dp_serving.specs.declared.conversing.Over.TheVariants as over
+use Rattle.dp_serving.specs.declared.link.Fault.{Fault}
+use Rattle.dp_serving.specs.declared.link.Fault.TheVariants as fault
+use Rattle.dp_serving.specs.declared.link.Over.{Over}
+use Rattle.dp_serving.specs.declared.link.Over.TheVariants as over
 use Rattle.dp_engine.specs.declared.serving.ServeEnd.{ServeEnd}
 use Rattle.dp_engine.specs.declared.serving.ServeEnd.TheVariants.{Stopped, Detached, LinkEnd, ReadFault, WriteFault, OutFault, BadCommandFrame, ByteLimit, Memory}
 use Rattle.dp_engine.specs.declared.serving.Served.{Served}

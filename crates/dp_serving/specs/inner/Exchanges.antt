@@ -7,13 +7,13 @@ use Rattle.dp_outside.specs.Causes.{Rose}
 use Rattle.dp_outside.specs.Changes.{Change}
 use Rattle.dp_outside.specs.Streams.{AppendsFront}
 use Rattle.dp_wire.specs.Frames.{IsCommand, command_frame, commands_in, packet_frame, IsPartialCommand, BeginsNoCommand}
-use Rattle.dp_serving.specs.declared.conversing.Fault.{Fault}
-use Rattle.dp_serving.specs.declared.conversing.Fault.TheVariants.{Write, Out, Memory}
-use Rattle.dp_serving.specs.declared.conversing.Held.{Held}
-use Rattle.dp_serving.specs.declared.conversing.Held.TheVariants.{Ended, Partial, TooLong}
-use Rattle.dp_serving.specs.declared.conversing.Over.{Over}
-use Rattle.dp_serving.specs.declared.conversing.Piece.{Piece}
-use Rattle.dp_serving.specs.declared.conversing.Piece.TheVariants.{Came, End, Failed}
+use Rattle.dp_serving.specs.declared.link.Fault.{Fault}
+use Rattle.dp_serving.specs.declared.link.Fault.TheVariants.{Write, Out, Memory}
+use Rattle.dp_serving.specs.declared.link.Held.{Held}
+use Rattle.dp_serving.specs.declared.link.Held.TheVariants.{Ended, Partial, TooLong}
+use Rattle.dp_serving.specs.declared.link.Over.{Over}
+use Rattle.dp_serving.specs.declared.link.Piece.{Piece}
+use Rattle.dp_serving.specs.declared.link.Piece.TheVariants.{Came, End, Failed}
 use Rattle.dp_serving.specs.declared.responder.Answer.{Answer}
 use Rattle.dp_serving.specs.Folds.{Reply, replies, reply_of}
 use Rattle.dp_serving.specs.Serving.{EndsBy, CutBy, IsLeftIn, IsReadUpTo}

@@ -1,11 +1,11 @@
 use Rattle.std.proofs.Common.{◌≡◌, List, ℕ, [], ◌∷◌, ap, refl, sym, ◌∙◌, arith, append-nil}
 use Rattle.std.proofs.lemmas.Result.{err_from_is_err_and}
 use Rattle.dp_wire.specs.Frames.{commands_in}
-use Rattle.dp_serving.specs.declared.conversing.Fault.TheVariants.{Memory}
+use Rattle.dp_serving.specs.declared.link.Fault.TheVariants.{Memory}
 use Rattle.dp_serving.specs.Folds.{Reply, replies}
 use Rattle.dp_serving.proofs.CutLaws.{cut_after, cut_answer, cut_before}
 use Rattle.dp_serving.proofs.ServingLaws.{delivers_reply, reached_first, reached_kept, reached_next, front_comes, stands_first_of}
-use Rattle.dp_serving.proofs.conversing.answer_held.Goals as goal
+use Rattle.dp_serving.proofs.link.answer_held.Goals as goal
 
 -- an answer that is a reply tells its end and its state
 ended_is : {S E : Type 0} {a b : Reply S E} → a ≡ b → a.ended ≡ b.ended

@@ -2,7 +2,7 @@ use Rattle.std.proofs.Common.{◌≡◌, ◌≤◌, None, length}
 use Rattle.dp_outside.specs.Changes.{change}
 use Rattle.dp_serving.specs.inner.Exchanges.{Reached}
 use Rattle.dp_serving.specs.Folds.{replies}
-use Rattle.dp_serving.proofs.conversing.answer_held.Given as goal
+use Rattle.dp_serving.proofs.link.answer_held.Given as goal
 
 abbrev pub invariant-commands : goal.invariant-commands
 invariant-commands g l =

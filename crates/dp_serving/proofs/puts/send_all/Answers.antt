@@ -1,7 +1,7 @@
 use Rattle.dp_wire.specs.Frames.{packet_frame}
 use Rattle.dp_serving.proofs.FrontLaws.{front_of_next}
 use Rattle.std.proofs.lemmas.Result.{err_from_is_err_and}
-use Rattle.dp_serving.proofs.sending.send_all.Goals as goal
+use Rattle.dp_serving.proofs.puts.send_all.Goals as goal
 
 pub returns-in_err-send-clause-taken : goal.returns-in_err-send-clause-taken
 returns-in_err-send-clause-taken g c =

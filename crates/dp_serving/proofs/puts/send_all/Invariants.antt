@@ -2,7 +2,7 @@ use Rattle.std.proofs.Common.{◌≤◌, take}
 use Rattle.std.specs.List.{flat_map}
 use Rattle.std.specs.Io.KnownBytes.{Appends}
 use Rattle.dp_wire.specs.Frames.{packet_frame}
-use Rattle.dp_serving.proofs.sending.send_all.Given as goal
+use Rattle.dp_serving.proofs.puts.send_all.Given as goal
 
 abbrev pub invariant-loop-text : goal.invariant-loop-text
 invariant-loop-text g l =

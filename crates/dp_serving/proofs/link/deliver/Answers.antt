@@ -1,7 +1,7 @@
 use Rattle.std.proofs.Common.{◌≡◌, true, false, refl, sym, ◌∙◌}
 use Rattle.std.specs.Result.{is_err}
 use Rattle.dp_serving.proofs.FrontLaws.{failed_rose, front_all, front_none, put_failed, put_whole}
-use Rattle.dp_serving.proofs.conversing.deliver.Goals as goal
+use Rattle.dp_serving.proofs.link.deliver.Goals as goal
 
 pub returns-then-is_err-clause-cut : goal.returns-then-is_err-clause-cut
 returns-then-is_err-clause-cut g c =

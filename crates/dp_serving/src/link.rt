@@ -9,8 +9,8 @@ ghost use Rattle.dp_serving.specs.inner.Exchanges.{AnswersHeld, CutsAnswer, Cuts
 ghost use Rattle.dp_serving.specs.Serving.{IsServed, IsCut};
 
 use crate::conversation::{Conversation, Next};
+use crate::puts::{Unsent, put_some, send, send_all};
 use crate::responder::{Answer, Responder};
-use crate::sending::{Unsent, put_some, send, send_all};
 use dp_outside::{Sink, Source};
 use dp_value::Memory;
 use std::alloc::{AllocError, Global};
@@ -49,7 +49,7 @@ pub enum Fault<E> {
 
 impl<E: Drop> From<AllocError> for Fault<E> {
     ghost use Rattle.std.specs.Prelude.{◌≡◌};
-    ghost use Rattle.dp_serving.specs.declared.conversing.Fault.TheVariants.{Memory};
+    ghost use Rattle.dp_serving.specs.declared.link.Fault.TheVariants.{Memory};
 
     ghost from_gives = { λ _ e. e ≡ Memory };
 

@@ -21,7 +21,7 @@ pub enum Unsent {
 
 impl From<AllocError> for Unsent {
     ghost use Rattle.std.specs.Prelude.{◌≡◌};
-    ghost use Rattle.dp_serving.specs.declared.sending.Unsent.TheVariants.{Memory};
+    ghost use Rattle.dp_serving.specs.declared.puts.Unsent.TheVariants.{Memory};
 
     ghost from_gives = { λ _ e. e ≡ Memory };
 

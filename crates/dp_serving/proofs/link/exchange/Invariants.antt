@@ -4,7 +4,7 @@ use Rattle.dp_outside.specs.Changes.{change}
 use Rattle.dp_serving.specs.inner.Exchanges.{Conversation}
 use Rattle.dp_serving.specs.Folds.{replies}
 use Rattle.dp_serving.specs.Serving.{byte_limit}
-use Rattle.dp_serving.proofs.conversing.exchange.Given as goal
+use Rattle.dp_serving.proofs.link.exchange.Given as goal
 
 abbrev pub invariant-pieces : goal.invariant-pieces
 invariant-pieces g l =
