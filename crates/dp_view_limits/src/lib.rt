@@ -2,7 +2,7 @@
 #![tactic(auto)]
 
 mod limits;
-mod measuring;
+mod measures;
 mod sizes;
 
 pub use dp_view::ViewError;

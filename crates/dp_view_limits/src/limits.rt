@@ -11,7 +11,7 @@ ghost use Rattle.dp_view.specs.Reading.{path_at};
 ghost use Rattle.dp_view_limits.specs.Limits as spec;
 ghost use Rattle.dp_view_limits.specs.inner.AtPaths.{limited_at};
 
-use crate::measuring::{property_fits, shown_fits, variables_fit};
+use crate::measures::{property_fits, shown_fits, variables_fit};
 use dp_packet::Property;
 use dp_state::{Path, State};
 use dp_tree::Bundle;

@@ -2,7 +2,7 @@ use Rattle.std.proofs.Common.{sym, subst, ◌∙◌}
 use Rattle.dp_view_limits.specs.inner.Sizes.{Leaves}
 use Rattle.dp_view_limits.proofs.Budget.{fits_is}
 use Rattle.dp_view_limits.proofs.Written.{variables_are}
-use Rattle.dp_view_limits.proofs.measuring.variables_fit.Goals as goal
+use Rattle.dp_view_limits.proofs.measures.variables_fit.Goals as goal
 
 pub returns : goal.returns
 returns c =

@@ -4,7 +4,7 @@ use Rattle.std.specs.Option.{option_map_or}
 use Rattle.dp_state.specs.declared.vars.Slot.{Slot}
 use Rattle.dp_view_limits.specs.inner.Sizes.{variable_size}
 use Rattle.dp_view_limits.proofs.Budget.{sum_step, turn_none, turn_some}
-use Rattle.dp_view_limits.proofs.measuring.after_variables.Goals as goal
+use Rattle.dp_view_limits.proofs.measures.after_variables.Goals as goal
 
 pub returns-in_err-rest : goal.returns-in_err-rest
 returns-in_err-rest c =

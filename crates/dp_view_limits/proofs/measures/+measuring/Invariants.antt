@@ -1,7 +1,7 @@
 use Rattle.std.proofs.Common.{◌≡◌, ◌+◌, ◌*◌, take, drop}
 use Rattle.std.specs.Prelude.{sum_by}
 use Rattle.dp_view_limits.specs.inner.Sizes.{entries_size, entry_size}
-use Rattle.dp_view_limits.proofs.measuring.+measuring.Given as goal
+use Rattle.dp_view_limits.proofs.measures.+measuring.Given as goal
 
 abbrev pub decreases-after_nested : goal.decreases-after_nested
 decreases-after_nested l = 5 * l.levels + 0

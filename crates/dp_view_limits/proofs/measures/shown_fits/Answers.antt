@@ -3,7 +3,7 @@ use Rattle.dp_value.specs.Value.{data_of}
 use Rattle.dp_view_limits.specs.inner.Sizes.{Leaves}
 use Rattle.dp_view_limits.proofs.Budget.{fits_is}
 use Rattle.dp_view_limits.proofs.Written.{shown_is}
-use Rattle.dp_view_limits.proofs.measuring.shown_fits.Goals as goal
+use Rattle.dp_view_limits.proofs.measures.shown_fits.Goals as goal
 
 pub returns : goal.returns
 returns c =

@@ -8,7 +8,7 @@ use Rattle.dp_value.specs.Value.{data_of}
 use Rattle.dp_view.specs.Properties.{page_of}
 use Rattle.dp_view_limits.specs.inner.Sizes.{Leaves, array_size, entries_size, entry_size, value_size}
 use Rattle.dp_view_limits.proofs.Budget.{array_is, behind_none, behind_some, front_step, page_size, turn_none, turn_some}
-use Rattle.dp_view_limits.proofs.measuring.+measuring.Goals as goal
+use Rattle.dp_view_limits.proofs.measures.+measuring.Goals as goal
 
 pub after_entries-returns-in_err-rest : goal.after_entries-returns-in_err-rest
 after_entries-returns-in_err-rest t c =
