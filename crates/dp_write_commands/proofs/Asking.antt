@@ -24,7 +24,7 @@ use Rattle.dp_view.specs.declared.errors.ViewError.TheVariants.{Code, Memory}
 use Rattle.dp_view.specs.Answers.{AnswersAfter, and_then}
 use Rattle.dp_view.specs.Named.{named_path}
 use Rattle.dp_wire.specs.Frames.{command_limit}
-use Rattle.dp_write_commands.specs.declared.writing.Written.{Written}
+use Rattle.dp_write_commands.specs.declared.commands.Written.{Written}
 use Rattle.dp_write_commands.specs.Answers.{Answers, refusal_at_once}
 use Rattle.dp_write_commands.specs.Asked.{path_asked, tree_of, value_asked, write_asked, write_at}
 use Rattle.dp_write_commands.specs.Writing.{code_in, responding, write_response}

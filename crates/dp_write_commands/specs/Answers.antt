@@ -19,7 +19,7 @@ use Rattle.dp_view.specs.declared.errors.ViewError.TheVariants.{Code, Memory}
 use Rattle.dp_view.specs.Answers.{and_then}
 use Rattle.dp_view.specs.Named.{named_path}
 use Rattle.dp_wire.specs.Frames.{packet_limit}
-use Rattle.dp_write_commands.specs.declared.writing.Written.{Written}
+use Rattle.dp_write_commands.specs.declared.commands.Written.{Written}
 use Rattle.dp_write_commands.specs.Asked.{value_asked, write_asked}
 use Rattle.dp_write_commands.specs.Writing.{code_in, write_response}
 

@@ -2,10 +2,10 @@
 #![tactic(auto)]
 
 mod asked;
+mod commands;
 mod places;
 mod responses;
-mod writing;
 
+pub use commands::{Written, write_response};
 pub use dp_value::Memory;
 pub use dp_view::ViewError;
-pub use writing::{Written, write_response};

@@ -23,7 +23,7 @@ use Rattle.dp_view.specs.declared.errors.ViewError.{ViewError}
 use Rattle.dp_view.specs.declared.errors.ViewError.TheVariants.{Code, Memory}
 use Rattle.dp_write_commands.specs.declared.asked.Given.{Given}
 use Rattle.dp_write_commands.specs.declared.asked.Given.TheVariants as given
-use Rattle.dp_write_commands.specs.declared.writing.Written.{Written}
+use Rattle.dp_write_commands.specs.declared.commands.Written.{Written}
 use Rattle.dp_write_commands.specs.Asked.{tree_of}
 use Rattle.dp_write_commands.specs.Writing.{responding, success}
 

@@ -1,5 +1,5 @@
 use Rattle.dp_write_commands.proofs.Sent.{answer_known, answer_sent}
-use Rattle.dp_write_commands.proofs.writing.write_response.Goals as goal
+use Rattle.dp_write_commands.proofs.commands.write_response.Goals as goal
 
 pub returns-clause-is_sent : goal.returns-clause-is_sent
 returns-clause-is_sent c =

@@ -3,7 +3,7 @@ use Rattle.dp_command.specs.declared.command.Request.TheVariants.{PropertySet}
 use Rattle.dp_write_commands.specs.Answers.{Answers}
 use Rattle.dp_write_commands.specs.Asked.{write_at}
 use Rattle.dp_write_commands.proofs.Asking.{property_is, tried}
-use Rattle.dp_write_commands.proofs.writing.put_property.Goals as goal
+use Rattle.dp_write_commands.proofs.commands.put_property.Goals as goal
 
 pub returns : goal.returns
 returns c =

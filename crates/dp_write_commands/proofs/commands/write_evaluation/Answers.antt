@@ -1,5 +1,5 @@
 use Rattle.dp_write_commands.proofs.Asking.{untreed}
-use Rattle.dp_write_commands.proofs.writing.write_evaluation.Goals as goal
+use Rattle.dp_write_commands.proofs.commands.write_evaluation.Goals as goal
 
 pub returns-in-Err : goal.returns-in-Err
 returns-in-Err c =
