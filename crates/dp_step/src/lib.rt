@@ -3,7 +3,7 @@
 
 mod after;
 mod calls;
-mod ending;
+mod ends;
 mod hands;
 mod loops;
 mod machine;
@@ -12,8 +12,8 @@ mod small;
 mod statements;
 mod steps;
 mod work;
-mod writing;
+mod writes;
 
 pub use machine::{Machine, Progress};
 pub use steps::Steps;
-pub use writing::StepError;
+pub use writes::StepError;

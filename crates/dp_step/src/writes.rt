@@ -76,7 +76,7 @@ impl Machine<'_> {
     ghost use Rattle.dp_meaning.specs.Writes.{evaluated, evaluation_setting, place_or_fault, with_place};
     ghost use Rattle.dp_step.specs.Stands.{HasFailed, StandsFor};
     ghost use Rattle.dp_step.specs.Written.{Evaluates, Writes};
-    ghost use Rattle.dp_step.specs.declared.writing.StepError.TheVariants as any_error;
+    ghost use Rattle.dp_step.specs.declared.writes.StepError.TheVariants as any_error;
 
     /// Gives a place a value at the moment. The path begins at a variable of the frame at the level, where 0 is the top
     /// frame, for the context 0, and at a global variable for the context 1. A refusal changes nothing.
