@@ -3,7 +3,7 @@ use Rattle.dp_meaning.specs.declared.writes.NumberedWrite.{NumberedWrite}
 use Rattle.dp_step.specs.Stands.{StandsFor}
 use Rattle.dp_continuation.specs.Stops.{stops}
 use Rattle.dp_continuation.proofs.Passing.{IsOnWay}
-use Rattle.dp_continuation.proofs.going.go_on_watched.Given as goal
+use Rattle.dp_continuation.proofs.moves.go_on_watched.Given as goal
 
 abbrev pub invariant-loop : goal.invariant-loop
 invariant-loop g l =
