@@ -16,7 +16,7 @@ use Rattle.dp_serving.specs.Folds.{reply_of}
 use Rattle.dp_state.specs.declared.state.State.{State as Program}
 use Rattle.dp_wire.specs.Frames.{IsPacketText}
 use Rattle.dp_engine.specs.declared.session.SessionEnd.{SessionEnd}
-use Rattle.dp_engine.specs.declared.telling.Turn.{Turn as Made}
+use Rattle.dp_engine.specs.declared.replies.Turn.{Turn as Made}
 use Rattle.dp_engine.specs.Answers.{answer, to_ide, to_program, turn, turn_of}
 use Rattle.dp_engine.specs.Refusals.{refusal_of_line}
 use Rattle.dp_engine.specs.Responses.{init_text, main_name, response_text}

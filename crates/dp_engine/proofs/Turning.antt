@@ -55,7 +55,7 @@ use Rattle.dp_engine.specs.declared.states.Phase.{Phase}
 use Rattle.dp_engine.specs.declared.states.Phase.TheVariants as phase
 use Rattle.dp_engine.specs.declared.states.Standing.{Standing}
 use Rattle.dp_engine.specs.declared.states.Standing.TheVariants.{Starting, Break, Stopping}
-use Rattle.dp_engine.specs.declared.telling.Turn.{Turn as Made}
+use Rattle.dp_engine.specs.declared.replies.Turn.{Turn as Made}
 use Rattle.dp_engine.specs.Answers.{Turn, asked, breakpoints_done, done_on, end_by_stop, gone_on, in_packet, kept_if, moved, performed, refused, response_in, shown, turn_of, with_write, written}
 use Rattle.dp_engine.specs.Refusals.{of_command, own_tests, refusal_of_line, row_tests, tests, tests_on}
 use Rattle.dp_engine.specs.Responses.{fault_response, response as response_of, response_text}

@@ -2,17 +2,17 @@
 #![tactic(auto)]
 
 mod refusals;
+mod replies;
 mod responses;
-mod serving;
+mod service;
 mod session;
 mod sides;
 mod states;
 mod streams;
-mod telling;
 mod turns;
 mod writes;
 
 pub use dp_step::Steps;
 pub use dp_value::Memory;
-pub use serving::{ServeEnd, Served, serve};
+pub use service::{ServeEnd, Served, serve};
 pub use session::{Answer, Session, SessionEnd};

@@ -8,9 +8,9 @@ ghost use Rattle.dp_engine.specs.inner.Turns.{IsSent};
 ghost use Rattle.dp_command.specs.Lines.{line_of};
 ghost use Rattle.dp_tree.specs.FileNames.{AreFileNames};
 
+use crate::replies::Turn;
 use crate::states::{Phase, Standing};
 use crate::streams::{to_ide, to_program};
-use crate::telling::Turn;
 use dp_break::Breaks;
 use dp_command::{Continuation, Line, LineError, StreamMode, read_line};
 use dp_continuation::{Reached, go_on_from};

@@ -6,11 +6,11 @@ ghost use Rattle.dp_engine.specs.Sides.{side_of};
 ghost use Rattle.dp_engine.specs.inner.Sizes.{IsCode, IsShort, IsShortLine, IsShortRequest};
 
 use crate::refusals::{ask, feature_refusal};
+use crate::replies::{Turn, detach, refuse, stop, tell, tell_feature, tell_status};
 use crate::responses;
 use crate::session::{Session, SessionEnd};
 use crate::sides::Side;
 use crate::states::{Phase, Standing};
-use crate::telling::{Turn, detach, refuse, stop, tell, tell_feature, tell_status};
 use crate::writes::accept;
 use dp_breakpoint_commands::{BreakpointError, answer_breakpoints};
 use dp_command::{

@@ -6,9 +6,9 @@ use Rattle.dp_tree.specs.declared.bundle.Bundle.{Bundle}
 use Rattle.dp_tree.specs.declared.bundle.BundleFile.{BundleFile}
 use Rattle.dp_tree.specs.FileNames.{AreFileNames}
 use Rattle.dp_bundle.specs.declared.errors.BundleError.{BundleError}
-use Rattle.dp_engine.specs.declared.serving.ServeEnd.{ServeEnd}
-use Rattle.dp_engine.specs.declared.serving.ServeEnd.TheVariants.{Stopped, Detached, LinkEnd, ReadFault, WriteFault, OutFault, BadCommandFrame, ByteLimit, Memory}
-use Rattle.dp_engine.specs.declared.serving.Served.{Served}
+use Rattle.dp_engine.specs.declared.service.ServeEnd.{ServeEnd}
+use Rattle.dp_engine.specs.declared.service.ServeEnd.TheVariants.{Stopped, Detached, LinkEnd, ReadFault, WriteFault, OutFault, BadCommandFrame, ByteLimit, Memory}
+use Rattle.dp_engine.specs.declared.service.Served.{Served}
 use Rattle.dp_engine.specs.declared.session.SessionEnd.{SessionEnd}
 use Rattle.dp_engine.specs.declared.session.SessionEnd.TheVariants.{Finished, Killed, Detached as gone}
 use Rattle.dp_engine.specs.Served.{ending_after}

@@ -9,8 +9,8 @@ use Rattle.dp_show.proofs.ShowLaws.{cut_of}
 use Rattle.dp_top.specs.declared.failures.Failure.{Failure}
 use Rattle.dp_top.specs.declared.failures.Failure.TheVariants as failure
 use Rattle.dp_tree.specs.declared.bundle.Bundle.{Bundle}
-use Rattle.dp_engine.specs.declared.serving.ServeEnd.{ServeEnd}
-use Rattle.dp_engine.specs.declared.serving.ServeEnd.TheVariants as serve
+use Rattle.dp_engine.specs.declared.service.ServeEnd.{ServeEnd}
+use Rattle.dp_engine.specs.declared.service.ServeEnd.TheVariants as serve
 use Rattle.dp_engine.specs.Serving.{CutBy, EndsBy, IsCut, ServesTo}
 use Rattle.dp_engine.specs.declared.session.SessionEnd.{SessionEnd}
 use Rattle.dp_run.specs.declared.error.ProgramError.{ProgramError}

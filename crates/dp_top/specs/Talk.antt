@@ -2,9 +2,9 @@
 use Rattle.std.specs.Prelude.{◌≡◌, ◌⊎◌, ℕ, List, [], Option, None, Some, Result, Ok, Err}
 use Rattle.dp_outside.specs.Changes.{Change, IsUntouched}
 use Rattle.dp_tree.specs.declared.bundle.Bundle.{Bundle}
-use Rattle.dp_engine.specs.declared.serving.ServeEnd.{ServeEnd}
-use Rattle.dp_engine.specs.declared.serving.ServeEnd.TheVariants.{Stopped, Detached, LinkEnd, ReadFault, WriteFault, OutFault, BadCommandFrame, ByteLimit, Memory}
-use Rattle.dp_engine.specs.declared.serving.Served.{Served}
+use Rattle.dp_engine.specs.declared.service.ServeEnd.{ServeEnd}
+use Rattle.dp_engine.specs.declared.service.ServeEnd.TheVariants.{Stopped, Detached, LinkEnd, ReadFault, WriteFault, OutFault, BadCommandFrame, ByteLimit, Memory}
+use Rattle.dp_engine.specs.declared.service.Served.{Served}
 use Rattle.dp_engine.specs.Serving.{Serves}
 use Rattle.dp_run.specs.declared.error.RunError.{RunError}
 use Rattle.dp_run.specs.declared.error.ProgramError.{ProgramError}

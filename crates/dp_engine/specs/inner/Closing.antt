@@ -8,9 +8,9 @@ use Rattle.dp_serving.specs.declared.link.Fault.{Fault}
 use Rattle.dp_serving.specs.declared.link.Fault.TheVariants as fault
 use Rattle.dp_serving.specs.declared.link.Over.{Over}
 use Rattle.dp_serving.specs.declared.link.Over.TheVariants as over
-use Rattle.dp_engine.specs.declared.serving.ServeEnd.{ServeEnd}
-use Rattle.dp_engine.specs.declared.serving.ServeEnd.TheVariants.{Stopped, Detached, LinkEnd, ReadFault, WriteFault, OutFault, BadCommandFrame, ByteLimit, Memory}
-use Rattle.dp_engine.specs.declared.serving.Served.{Served}
+use Rattle.dp_engine.specs.declared.service.ServeEnd.{ServeEnd}
+use Rattle.dp_engine.specs.declared.service.ServeEnd.TheVariants.{Stopped, Detached, LinkEnd, ReadFault, WriteFault, OutFault, BadCommandFrame, ByteLimit, Memory}
+use Rattle.dp_engine.specs.declared.service.Served.{Served}
 use Rattle.dp_engine.specs.declared.session.SessionEnd.{SessionEnd}
 use Rattle.dp_engine.specs.declared.session.SessionEnd.TheVariants as end
 use Rattle.dp_engine.specs.Session.{State, outcome_of, unwritten}

@@ -15,7 +15,7 @@ use Rattle.dp_packet.specs.Parts.{Text}
 use Rattle.dp_serving.specs.declared.responder.Answer.{Answer}
 use Rattle.dp_wire.specs.Frames.{IsPacketText}
 use Rattle.dp_engine.specs.declared.session.SessionEnd.{SessionEnd}
-use Rattle.dp_engine.specs.declared.telling.Turn.{Turn as Made}
+use Rattle.dp_engine.specs.declared.replies.Turn.{Turn as Made}
 use Rattle.dp_engine.specs.declared.states.Phase.{Phase}
 use Rattle.dp_engine.specs.Answers.{Turn, performed, refused, to_ide, to_program}
 use Rattle.dp_engine.specs.Refusals.{of_command, own_tests, refusal_of_line}

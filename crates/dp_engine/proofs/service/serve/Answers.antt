@@ -1,5 +1,5 @@
 use Rattle.dp_engine.proofs.ServingLaws.{serves_closed, serves_cut}
-use Rattle.dp_engine.proofs.serving.serve.Goals as goal
+use Rattle.dp_engine.proofs.service.serve.Goals as goal
 
 pub returns-in-Ok-clause-serves : goal.returns-in-Ok-clause-serves
 returns-in-Ok-clause-serves g c = λ key begun.

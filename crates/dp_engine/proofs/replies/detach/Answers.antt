@@ -3,7 +3,7 @@ use Rattle.std.specs.Prelude.{IfOk}
 use Rattle.dp_packet.specs.declared.packet.Response.{Response}
 use Rattle.dp_engine.specs.declared.session.SessionEnd.TheVariants.{Detached}
 use Rattle.dp_engine.specs.inner.Turns.{Tells}
-use Rattle.dp_engine.proofs.telling.detach.Goals as goal
+use Rattle.dp_engine.proofs.replies.detach.Goals as goal
 
 pub returns : goal.returns
 returns c =
