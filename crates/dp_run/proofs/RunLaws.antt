@@ -21,10 +21,10 @@ use Rattle.dp_state.specs.declared.moments.Outcome.{Outcome}
 use Rattle.dp_state.specs.declared.moments.Outcome.TheVariants as way
 use Rattle.dp_meaning.specs.Trace.{outcome_of, plain}
 use Rattle.dp_meaning.proofs.Exits.{exit_small}
-use Rattle.dp_run.specs.declared.error.ProgramError.{ProgramError}
-use Rattle.dp_run.specs.declared.error.ProgramError.TheVariants as none
-use Rattle.dp_run.specs.declared.error.RunError.{RunError}
-use Rattle.dp_run.specs.declared.error.RunError.TheVariants as run
+use Rattle.dp_run.specs.declared.errors.ProgramError.{ProgramError}
+use Rattle.dp_run.specs.declared.errors.ProgramError.TheVariants as none
+use Rattle.dp_run.specs.declared.errors.RunError.{RunError}
+use Rattle.dp_run.specs.declared.errors.RunError.TheVariants as run
 use Rattle.dp_run.specs.Programs.{AreFetched, Asks, Comes, Files, Holds, IsHeld, Make, NoProgram, Told, is_bad_file, IsMade, IsRefused, IsUnread}
 use Rattle.dp_run.specs.Programs.{refusal}
 use Rattle.dp_run.specs.Runs.{Ends, RunCaused, Runs, judged, of_program}

@@ -11,9 +11,9 @@ use Rattle.dp_tree.specs.FileNames.{file_limit}
 use Rattle.dp_tree.specs.declared.bundle.Bundle.{Bundle}
 use Rattle.dp_bundle.specs.declared.errors.BundleError.{BundleError}
 use Rattle.dp_bundle.specs.declared.errors.BundleError.TheVariants as unmade
-use Rattle.dp_run.specs.declared.error.ProgramError.{ProgramError}
-use Rattle.dp_run.specs.declared.error.ProgramError.TheVariants.{Shelf, Missing, TooLong, Source}
-use Rattle.dp_run.specs.declared.error.ProgramError.TheVariants.{Memory}
+use Rattle.dp_run.specs.declared.errors.ProgramError.{ProgramError}
+use Rattle.dp_run.specs.declared.errors.ProgramError.TheVariants.{Shelf, Missing, TooLong, Source}
+use Rattle.dp_run.specs.declared.errors.ProgramError.TheVariants.{Memory}
 
 -- ---- the program
 

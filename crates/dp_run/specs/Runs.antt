@@ -8,10 +8,10 @@ use Rattle.dp_tree.specs.declared.bundle.Bundle.{Bundle}
 use Rattle.dp_state.specs.declared.moments.Outcome.{Outcome}
 use Rattle.dp_state.specs.declared.moments.Outcome.TheVariants as way
 use Rattle.dp_meaning.specs.Trace.{outcome_of, plain}
-use Rattle.dp_run.specs.declared.error.ProgramError.{ProgramError}
-use Rattle.dp_run.specs.declared.error.RunError.{RunError}
-use Rattle.dp_run.specs.declared.error.RunError.TheVariants.{Program, Fatal, Bound, OutFault}
-use Rattle.dp_run.specs.declared.error.RunError.TheVariants.{Memory}
+use Rattle.dp_run.specs.declared.errors.ProgramError.{ProgramError}
+use Rattle.dp_run.specs.declared.errors.RunError.{RunError}
+use Rattle.dp_run.specs.declared.errors.RunError.TheVariants.{Program, Fatal, Bound, OutFault}
+use Rattle.dp_run.specs.declared.errors.RunError.TheVariants.{Memory}
 use Rattle.dp_run.specs.Programs.{Files, Make, NoProgram}
 
 -- the program of these files ended so, and all that it wrote was put

@@ -1,14 +1,14 @@
 //! Programs whose files lie on a shelf, and their run, with its output on a sink.
 #![tactic(auto)]
 
-mod ending;
-mod error;
-mod fetching;
+mod ends;
+mod errors;
+mod fetches;
 mod programs;
-mod running;
+mod runs;
 
-pub use ending::judge;
-pub use error::{ProgramError, RunError};
-pub use fetching::fetch_files;
+pub use ends::judge;
+pub use errors::{ProgramError, RunError};
+pub use fetches::fetch_files;
 pub use programs::{fetch_program, make_program};
-pub use running::run;
+pub use runs::run;

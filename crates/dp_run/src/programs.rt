@@ -7,8 +7,8 @@ ghost use Rattle.dp_tree.specs.declared.bundle.Bundle.{Bundle as Program};
 ghost use Rattle.dp_bundle.specs.declared.errors.BundleError.{BundleError as Unmade};
 ghost use Rattle.dp_run.specs.Programs.{Asks, Holds, IsHeld, IsMade, IsRefused, Make, NoProgram};
 
-use crate::error::ProgramError;
-use crate::fetching::fetch_files;
+use crate::errors::ProgramError;
+use crate::fetches::fetch_files;
 use dp_bundle::FromTexts;
 use dp_outside::Shelf;
 use dp_tree::Bundle;

@@ -6,7 +6,7 @@ use Rattle.dp_outside.specs.Changes.{Change}
 use Rattle.dp_outside.specs.Links.{CountsReturned, Link}
 use Rattle.dp_outside.specs.Telling.{grown}
 use Rattle.dp_tree.specs.declared.bundle.Bundle.{Bundle}
-use Rattle.dp_run.specs.declared.error.ProgramError.{ProgramError}
+use Rattle.dp_run.specs.declared.errors.ProgramError.{ProgramError}
 use Rattle.dp_run.specs.Programs.{Make, NoProgram}
 use Rattle.dp_top.specs.declared.failures.Failure.TheVariants as failure
 use Rattle.dp_top.specs.declared.failures.Refused.{Refused}

@@ -12,8 +12,8 @@ use Rattle.std.proofs.lemmas.Option.{same_Some}
 use Rattle.dp_lists.specs.declared.event.Event.{Event}
 use Rattle.dp_lists.specs.Lists.{IsFirstBad}
 use Rattle.dp_lists.proofs.ListLaws.{bad_excludes}
-use Rattle.dp_run.specs.declared.error.ProgramError.{ProgramError}
-use Rattle.dp_run.specs.declared.error.ProgramError.TheVariants as none
+use Rattle.dp_run.specs.declared.errors.ProgramError.{ProgramError}
+use Rattle.dp_run.specs.declared.errors.ProgramError.TheVariants as none
 use Rattle.dp_run.specs.Programs.{AreFetched, Files, IsHeld as IsRunHeld, IsMade, IsUnread, Make, NoProgram, Told}
 use Rattle.dp_run.proofs.RunLaws.{program_caused, program_made}
 use Rattle.dp_world.specs.declared.errors.ReplayError.TheVariants as ends

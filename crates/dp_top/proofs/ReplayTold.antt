@@ -6,8 +6,8 @@ use Rattle.dp_bundle.specs.declared.errors.BundleError.{BundleError}
 use Rattle.dp_bundle.specs.declared.errors.BundleError.TheVariants as unmade
 use Rattle.dp_tree.specs.declared.bundle.Bundle.{Bundle}
 use Rattle.dp_lists.specs.declared.event.Event.{Event}
-use Rattle.dp_run.specs.declared.error.ProgramError.{ProgramError}
-use Rattle.dp_run.specs.declared.error.ProgramError.TheVariants as none
+use Rattle.dp_run.specs.declared.errors.ProgramError.{ProgramError}
+use Rattle.dp_run.specs.declared.errors.ProgramError.TheVariants as none
 use Rattle.dp_run.specs.Programs.{Files, Holds, IsHeld as IsRunHeld, NoProgram, refusal}
 use Rattle.dp_run.proofs.RunLaws.{held_unfetched}
 use Rattle.dp_top.specs.declared.failures.Failure.{Failure}

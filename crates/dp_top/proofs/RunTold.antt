@@ -10,10 +10,10 @@ use Rattle.dp_lexer.specs.declared.errors.LexError.TheVariants as lex
 use Rattle.dp_parse.specs.declared.errors.ParseError.{ParseError}
 use Rattle.dp_parse.specs.declared.errors.ParseError.TheVariants as parse
 use Rattle.dp_run.proofs.Growing.{grown_by_none}
-use Rattle.dp_run.specs.declared.error.ProgramError.{ProgramError}
-use Rattle.dp_run.specs.declared.error.ProgramError.TheVariants as none
-use Rattle.dp_run.specs.declared.error.RunError.{RunError}
-use Rattle.dp_run.specs.declared.error.RunError.TheVariants as run
+use Rattle.dp_run.specs.declared.errors.ProgramError.{ProgramError}
+use Rattle.dp_run.specs.declared.errors.ProgramError.TheVariants as none
+use Rattle.dp_run.specs.declared.errors.RunError.{RunError}
+use Rattle.dp_run.specs.declared.errors.RunError.TheVariants as run
 use Rattle.dp_run.specs.Programs.{Asks, IsHeld as IsRunHeld, Told, is_bad_file, refusal}
 use Rattle.dp_run.specs.Runs.{of_program}
 use Rattle.dp_top.specs.declared.failures.Refused.{Refused}

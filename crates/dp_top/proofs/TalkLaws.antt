@@ -15,8 +15,8 @@ use Rattle.dp_engine.specs.Served.{ending_after}
 use Rattle.dp_engine.specs.Serving.{Serves, ServesTo}
 use Rattle.dp_engine.specs.Session.{State, outcome_of}
 use Rattle.dp_meaning.proofs.Exits.{exit_small}
-use Rattle.dp_run.specs.declared.error.RunError.{RunError}
-use Rattle.dp_run.specs.declared.error.ProgramError.{ProgramError}
+use Rattle.dp_run.specs.declared.errors.RunError.{RunError}
+use Rattle.dp_run.specs.declared.errors.ProgramError.{ProgramError}
 use Rattle.dp_run.specs.Programs.{IsHeld as IsRunHeld, Make, NoProgram}
 use Rattle.dp_run.specs.Runs.{judged as judged_end}
 use Rattle.dp_state.specs.declared.moments.Outcome.{Outcome}

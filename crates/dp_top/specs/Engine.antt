@@ -4,7 +4,7 @@ use Rattle.dp_outside.specs.Changes.{Change, IsUntouched}
 use Rattle.dp_tree.specs.declared.bundle.Bundle.{Bundle}
 use Rattle.dp_engine.specs.declared.service.Served.{Served}
 use Rattle.dp_engine.specs.Serving.{Serves}
-use Rattle.dp_run.specs.declared.error.ProgramError.{ProgramError}
+use Rattle.dp_run.specs.declared.errors.ProgramError.{ProgramError}
 use Rattle.dp_run.specs.Programs.{Make, NoProgram}
 use Rattle.dp_top.specs.declared.failures.Failure.{Failure}
 use Rattle.dp_top.specs.declared.failures.Failure.TheVariants as failure

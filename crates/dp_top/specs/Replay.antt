@@ -6,8 +6,8 @@ use Rattle.dp_outside.specs.Files.{Fetches, Lacks}
 use Rattle.dp_tree.specs.declared.bundle.Bundle.{Bundle}
 use Rattle.dp_lists.specs.declared.event.Event.{Event}
 use Rattle.dp_lists.specs.Lists.{IsFirstBad, IsList}
-use Rattle.dp_run.specs.declared.error.ProgramError.{ProgramError}
-use Rattle.dp_run.specs.declared.error.ProgramError.TheVariants as none
+use Rattle.dp_run.specs.declared.errors.ProgramError.{ProgramError}
+use Rattle.dp_run.specs.declared.errors.ProgramError.TheVariants as none
 use Rattle.dp_run.specs.Programs.{Files, Make, NoProgram}
 use Rattle.dp_world.specs.declared.errors.ReplayError.{ReplayError}
 use Rattle.dp_world.specs.declared.errors.ReplayError.TheVariants as ends

@@ -2,10 +2,10 @@
 use Rattle.std.specs.Prelude.{◌≡◌, ◌⊎◌, ℕ, List, [], get_or, take, Option, None, Some}
 use Rattle.dp_outside.specs.Changes.{Change}
 use Rattle.dp_outside.specs.Telling.{grown}
-use Rattle.dp_run.specs.declared.error.ProgramError.{ProgramError}
-use Rattle.dp_run.specs.declared.error.ProgramError.TheVariants as none
-use Rattle.dp_run.specs.declared.error.RunError.{RunError}
-use Rattle.dp_run.specs.declared.error.RunError.TheVariants as run
+use Rattle.dp_run.specs.declared.errors.ProgramError.{ProgramError}
+use Rattle.dp_run.specs.declared.errors.ProgramError.TheVariants as none
+use Rattle.dp_run.specs.declared.errors.RunError.{RunError}
+use Rattle.dp_run.specs.declared.errors.RunError.TheVariants as run
 use Rattle.dp_run.specs.Programs.{Files, Told}
 use Rattle.dp_run.specs.Runs.{RunCaused}
 use Rattle.dp_top.specs.declared.failures.Failure.{Failure}

@@ -10,10 +10,10 @@ use Rattle.dp_tree.specs.FileNames.{file_limit}
 use Rattle.dp_tree.specs.declared.bundle.Bundle.{Bundle}
 use Rattle.dp_state.specs.declared.moments.Outcome.{Outcome}
 use Rattle.dp_meaning.specs.Trace.{outcome_of, plain}
-use Rattle.dp_run.specs.declared.error.ProgramError.{ProgramError}
-use Rattle.dp_run.specs.declared.error.ProgramError.TheVariants as none
-use Rattle.dp_run.specs.declared.error.RunError.{RunError}
-use Rattle.dp_run.specs.declared.error.RunError.TheVariants.{OutFault, Memory}
+use Rattle.dp_run.specs.declared.errors.ProgramError.{ProgramError}
+use Rattle.dp_run.specs.declared.errors.ProgramError.TheVariants as none
+use Rattle.dp_run.specs.declared.errors.RunError.{RunError}
+use Rattle.dp_run.specs.declared.errors.RunError.TheVariants.{OutFault, Memory}
 use Rattle.dp_run.specs.Programs.{Files}
 use Rattle.dp_run.specs.Runs.{judged}
 

@@ -5,7 +5,7 @@ use Rattle.dp_run.specs.Programs.{AreFetched}
 use Rattle.dp_run.specs.inner.Steps.{FetchCaused, IsNext}
 use Rattle.dp_run.proofs.RunLaws.{fetched_none, so_many, one_more, none_more, all_fetched, all_asked, asked_last}
 use Rattle.dp_run.proofs.RunLaws.{asked_more, unread}
-use Rattle.dp_run.proofs.fetching.fetch_files.Goals as goal
+use Rattle.dp_run.proofs.fetches.fetch_files.Goals as goal
 
 pub loop-name-init : goal.loop-name-init
 loop-name-init g c =

@@ -7,7 +7,7 @@ ghost use Rattle.dp_tree.specs.FileNames.{file_limit};
 ghost use Rattle.dp_run.specs.Programs.{AreFetched, Asks, IsUnread, NoProgram};
 ghost use Rattle.dp_run.specs.inner.Steps.{FetchCaused, IsNext};
 
-use crate::error::ProgramError;
+use crate::errors::ProgramError;
 use dp_outside::{Shelf, ShelfError};
 use dp_tree::FILE_LIMIT;
 use dp_value::{Bytes, Items};

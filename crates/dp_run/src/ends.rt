@@ -6,7 +6,7 @@ ghost use Rattle.dp_outside.specs.Changes.{change};
 ghost use Rattle.dp_run.specs.Runs.{judged};
 ghost use Rattle.dp_run.specs.inner.Steps.{IsPut, IsUnput, IsPlainPut, IsPlainUnput};
 
-use crate::error::RunError;
+use crate::errors::RunError;
 use dp_outside::Sink;
 use dp_state::{Outcome, State};
 use dp_step::{Machine, Steps};

@@ -1,7 +1,7 @@
 use Rattle.std.proofs.Common.{map, string_bytes, refl}
 use Rattle.dp_outside.specs.Changes.{change}
 use Rattle.dp_run.proofs.RunLaws.{asked_none, asked_run, ends_run, held_none, held_run, small_status}
-use Rattle.dp_run.proofs.running.run.Goals as goal
+use Rattle.dp_run.proofs.runs.run.Goals as goal
 
 pub returns-in-Ok-clause-ends : goal.returns-in-Ok-clause-ends
 returns-in-Ok-clause-ends g c =

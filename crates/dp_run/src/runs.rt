@@ -8,8 +8,8 @@ ghost use Rattle.dp_bundle.specs.declared.errors.BundleError.{BundleError as Unm
 ghost use Rattle.dp_run.specs.Programs.{Asks, Holds, IsHeld};
 ghost use Rattle.dp_run.specs.Runs.{Runs, RunCaused, of_program};
 
-use crate::ending::run_program;
-use crate::error::RunError;
+use crate::ends::run_program;
+use crate::errors::RunError;
 use crate::programs::fetch_program;
 use dp_outside::{Shelf, Sink};
 use std::alloc::Global;

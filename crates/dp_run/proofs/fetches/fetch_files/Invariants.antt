@@ -1,7 +1,7 @@
 use Rattle.std.proofs.Common.{◌≡◌, ◌≤◌, map, take, string_bytes}
 use Rattle.dp_outside.specs.Telling.{grown}
 use Rattle.dp_run.specs.Programs.{AreFetched}
-use Rattle.dp_run.proofs.fetching.fetch_files.Given as goal
+use Rattle.dp_run.proofs.fetches.fetch_files.Given as goal
 
 abbrev pub invariant-loop-name : goal.invariant-loop-name
 invariant-loop-name g l =
