@@ -10,7 +10,7 @@ use Rattle.dp_outside.specs.Changes.{Change}
 use Rattle.dp_wire.specs.Frames.{command_frame, packet_limit}
 use Rattle.dp_wire.proofs.PacketLaws.{value-decimal}
 use Rattle.dp_wire.specs.Received.{Received}
-use Rattle.dp_ide.specs.declared.error.IdeError.{IdeError}
+use Rattle.dp_ide.specs.declared.errors.IdeError.{IdeError}
 use Rattle.dp_ide.specs.declared.heard.Heard.{Heard as Kept}
 use Rattle.dp_ide.specs.declared.instruction.Act.{Act}
 use Rattle.dp_ide.specs.declared.instruction.Act.TheVariants.{Send, Attr, Code, Prop, Out, Print}

@@ -13,8 +13,8 @@ use Rattle.dp_wire.specs.Frames.{IsPacketText, packet_frame, packets_in, rest_of
 use Rattle.dp_wire.specs.Places.{place_behind, refused_at, IsRefusedAt}
 use Rattle.dp_wire.specs.Received.{Received, IsCause, last_place}
 use Rattle.dp_wire.proofs.PacketLaws.{packets-first}
-use Rattle.dp_ide.specs.declared.error.IdeError.{IdeError}
-use Rattle.dp_ide.specs.declared.error.IdeError.TheVariants.{BadScript, Differs, PeerEnd, BadPacket, ReadFault, WriteFault, OutFault, Memory}
+use Rattle.dp_ide.specs.declared.errors.IdeError.{IdeError}
+use Rattle.dp_ide.specs.declared.errors.IdeError.TheVariants.{BadScript, Differs, PeerEnd, BadPacket, ReadFault, WriteFault, OutFault, Memory}
 use Rattle.dp_ide.specs.declared.heard.Heard.{Heard as Kept}
 use Rattle.dp_ide.specs.declared.heard.Message.{Message}
 use Rattle.dp_ide.specs.Messages.{AreMessages, answers, output_in}

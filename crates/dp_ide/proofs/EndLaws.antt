@@ -19,8 +19,8 @@ use Rattle.dp_reply.specs.Readings.{packet_in}
 use Rattle.dp_wire.specs.Frames.{packets_in, rest_of_packets, IsPartialPacket}
 use Rattle.dp_wire.specs.Places.{place_behind}
 use Rattle.dp_wire.proofs.LengthLaws.{partial_refused}
-use Rattle.dp_ide.specs.declared.error.IdeError.{IdeError}
-use Rattle.dp_ide.specs.declared.error.IdeError.TheVariants.{BadScript, Differs, PeerEnd, BadPacket, ReadFault, WriteFault, OutFault, Memory}
+use Rattle.dp_ide.specs.declared.errors.IdeError.{IdeError}
+use Rattle.dp_ide.specs.declared.errors.IdeError.TheVariants.{BadScript, Differs, PeerEnd, BadPacket, ReadFault, WriteFault, OutFault, Memory}
 use Rattle.dp_ide.specs.declared.heard.Message.{Message}
 use Rattle.dp_ide.specs.declared.instruction.Act.{Act}
 use Rattle.dp_ide.specs.declared.instruction.Act.TheVariants.{Send, Attr, Code, Prop, Out, Print}

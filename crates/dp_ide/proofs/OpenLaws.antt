@@ -7,8 +7,8 @@ use Rattle.std.proofs.lemmas.Bool.{false≢true}
 use Rattle.dp_outside.specs.Changes.{Change}
 use Rattle.dp_wire.specs.Frames.{packet_frame}
 use Rattle.dp_wire.specs.Received.{Received}
-use Rattle.dp_ide.specs.declared.error.IdeError.{IdeError}
-use Rattle.dp_ide.specs.declared.error.IdeError.TheVariants.{BadPacket}
+use Rattle.dp_ide.specs.declared.errors.IdeError.{IdeError}
+use Rattle.dp_ide.specs.declared.errors.IdeError.TheVariants.{BadPacket}
 use Rattle.dp_ide.specs.declared.heard.Heard.{Heard as Kept}
 use Rattle.dp_ide.specs.declared.heard.Message.{Message}
 use Rattle.dp_ide.specs.declared.instruction.Act.{Act}

@@ -16,8 +16,8 @@ use Rattle.dp_wire.specs.Places.{place_behind, IsRefusedAt}
 use Rattle.dp_wire.specs.Received.{Received}
 use Rattle.dp_wire.proofs.LengthLaws.{partial-none, refused-never}
 use Rattle.dp_wire.proofs.PacketLaws.{packets-first}
-use Rattle.dp_ide.specs.declared.error.IdeError.{IdeError}
-use Rattle.dp_ide.specs.declared.error.IdeError.TheVariants.{BadScript, Differs, PeerEnd, BadPacket, ReadFault, WriteFault, OutFault, Memory}
+use Rattle.dp_ide.specs.declared.errors.IdeError.{IdeError}
+use Rattle.dp_ide.specs.declared.errors.IdeError.TheVariants.{BadScript, Differs, PeerEnd, BadPacket, ReadFault, WriteFault, OutFault, Memory}
 use Rattle.dp_ide.specs.declared.heard.Heard.{Heard as Kept}
 use Rattle.dp_ide.specs.declared.heard.Message.{Message}
 use Rattle.dp_ide.specs.declared.instruction.Act.{Act}

@@ -6,8 +6,8 @@ use Rattle.dp_outside.specs.Causes.{Rose}
 use Rattle.dp_outside.specs.Changes.{Change}
 use Rattle.dp_outside.specs.Streams.{AppendsFront}
 use Rattle.dp_wire.specs.Frames.{packets_in, rest_of_packets, IsPartialPacket}
-use Rattle.dp_ide.specs.declared.error.IdeError.{IdeError}
-use Rattle.dp_ide.specs.declared.error.IdeError.TheVariants.{Differs, PeerEnd, BadPacket, ReadFault, WriteFault, OutFault, Memory}
+use Rattle.dp_ide.specs.declared.errors.IdeError.{IdeError}
+use Rattle.dp_ide.specs.declared.errors.IdeError.TheVariants.{Differs, PeerEnd, BadPacket, ReadFault, WriteFault, OutFault, Memory}
 use Rattle.dp_ide.specs.declared.heard.Message.{Message}
 use Rattle.dp_ide.specs.declared.instruction.Act.TheVariants.{Send, Print}
 use Rattle.dp_ide.specs.declared.instruction.Instruction.{Instruction}

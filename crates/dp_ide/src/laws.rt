@@ -1,7 +1,7 @@
 //! What holds of messages and of the ends of a player.
 ghost use Rattle.std.specs.Prelude.{◌≡◌, ℕ, List, IsSome, Result, true};
 ghost use Rattle.dp_outside.specs.Changes.{Change};
-ghost use Rattle.dp_ide.specs.declared.error.IdeError.{IdeError};
+ghost use Rattle.dp_ide.specs.declared.errors.IdeError.{IdeError};
 ghost use Rattle.dp_ide.specs.declared.heard.Message.{Message};
 ghost use Rattle.dp_ide.specs.declared.instruction.Instruction.{Instruction};
 ghost use Rattle.dp_ide.specs.Messages.{IsMessage};

@@ -2,21 +2,21 @@
 #![tactic(auto)]
 
 mod acts;
-mod awaiting;
 mod contents;
-mod error;
+mod errors;
 mod heard;
 mod instruction;
 mod laws;
 mod lines;
-mod playing;
-mod reading;
+mod plays;
+mod readers;
 mod script;
 mod texts;
+mod waits;
 
 pub use dp_value::Memory;
-pub use error::IdeError;
+pub use errors::IdeError;
 pub use instruction::{Act, Instruction};
 pub use laws::{one_end, one_message};
-pub use playing::play;
+pub use plays::play;
 pub use script::Script;

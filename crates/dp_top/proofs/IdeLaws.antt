@@ -7,8 +7,8 @@ use Rattle.dp_outside.specs.Files.{Fetches, Lacks}
 use Rattle.dp_outside.specs.Links.{CountsReturned, Door, Link}
 use Rattle.dp_outside.specs.Telling.{BeginsEmpty, grown}
 use Rattle.dp_run.specs.Programs.{Files}
-use Rattle.dp_ide.specs.declared.error.IdeError.{IdeError}
-use Rattle.dp_ide.specs.declared.error.IdeError.TheVariants as ends
+use Rattle.dp_ide.specs.declared.errors.IdeError.{IdeError}
+use Rattle.dp_ide.specs.declared.errors.IdeError.TheVariants as ends
 use Rattle.dp_ide.specs.declared.instruction.Instruction.{Instruction}
 use Rattle.dp_ide.specs.Plays.{Ends, EndsPlaying, EndsWaiting}
 use Rattle.dp_ide.specs.Scripts.{IsFirstBad}

@@ -4,8 +4,8 @@ use Rattle.dp_outside.specs.Causes.{Rose}
 use Rattle.dp_outside.specs.Changes.{Change, IsUntouched}
 use Rattle.dp_outside.specs.Files.{Fetches, Lacks}
 use Rattle.dp_run.specs.Programs.{Files}
-use Rattle.dp_ide.specs.declared.error.IdeError.{IdeError}
-use Rattle.dp_ide.specs.declared.error.IdeError.TheVariants as ends
+use Rattle.dp_ide.specs.declared.errors.IdeError.{IdeError}
+use Rattle.dp_ide.specs.declared.errors.IdeError.TheVariants as ends
 use Rattle.dp_ide.specs.declared.instruction.Instruction.{Instruction}
 use Rattle.dp_ide.specs.Scripts.{IsFirstBad, IsScript}
 use Rattle.dp_ide.specs.Plays.{Ends}

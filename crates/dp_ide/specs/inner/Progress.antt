@@ -9,8 +9,8 @@ use Rattle.dp_outside.specs.Streams.{AppendsFront}
 use Rattle.dp_wire.specs.Frames.{BeginsPacket, IsCommand, IsPacketText, IsPartialPacket, command_frame, packet_frame}
 use Rattle.dp_wire.specs.Places.{place_behind, IsRefusedAt}
 use Rattle.dp_wire.specs.Received.{Received}
-use Rattle.dp_ide.specs.declared.error.IdeError.{IdeError}
-use Rattle.dp_ide.specs.declared.error.IdeError.TheVariants.{Differs, PeerEnd, BadPacket, ReadFault, WriteFault, OutFault, Memory}
+use Rattle.dp_ide.specs.declared.errors.IdeError.{IdeError}
+use Rattle.dp_ide.specs.declared.errors.IdeError.TheVariants.{Differs, PeerEnd, BadPacket, ReadFault, WriteFault, OutFault, Memory}
 use Rattle.dp_ide.specs.declared.instruction.Act.TheVariants.{Send, Print}
 use Rattle.dp_ide.specs.declared.instruction.Instruction.{Instruction}
 use Rattle.dp_ide.specs.declared.heard.Heard.{Heard as Kept}

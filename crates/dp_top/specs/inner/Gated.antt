@@ -2,7 +2,7 @@
 use Rattle.std.specs.Prelude.{◌≡◌, ◌⊎◌, ℕ, ◌+◌, ◌<◌, ◌≤◌, List, [], ◌∷◌, length, Option, None, Some, Result, Ok, Err, ⊤}
 use Rattle.dp_outside.specs.Changes.{Change, IsUntouched}
 use Rattle.dp_outside.specs.Links.{Link}
-use Rattle.dp_ide.specs.declared.error.IdeError.{IdeError}
+use Rattle.dp_ide.specs.declared.errors.IdeError.{IdeError}
 use Rattle.dp_ide.specs.declared.instruction.Instruction.{Instruction}
 use Rattle.dp_ide.specs.Plays.{Ends}
 use Rattle.dp_top.specs.declared.failures.Failure.{Failure}

@@ -3,7 +3,7 @@ use Rattle.dp_outside.specs.Changes.{change}
 use Rattle.dp_wire.specs.Frames.{IsCommand}
 use Rattle.dp_ide.specs.declared.instruction.Act.TheVariants.{Send, Attr, Prop, Out}
 use Rattle.dp_ide.proofs.ActsPlayed.{attr_performed, both_then, code_performed, ok_then, out_performed, print_performed, prop_performed, sent_performed}
-use Rattle.dp_ide.proofs.playing.perform.Goals as goal
+use Rattle.dp_ide.proofs.plays.perform.Goals as goal
 
 pub exchange-requires : goal.exchange-requires
 exchange-requires g c = subst IsCommand (sym c.as_slice.ensures) (c.requires c.in-Send.line c.in-Send.id c.in-Send.is)

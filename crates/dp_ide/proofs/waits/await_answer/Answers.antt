@@ -1,10 +1,10 @@
 use Rattle.std.proofs.Common.{◌++◌, Bool, [], refl, subst, arith}
 use Rattle.std.proofs.KnownBytes.{Consumes-nil, Consumes-trans}
 use Rattle.dp_outside.specs.Changes.{change}
-use Rattle.dp_ide.specs.declared.error.IdeError.TheVariants.{Memory}
+use Rattle.dp_ide.specs.declared.errors.IdeError.TheVariants.{Memory}
 use Rattle.dp_ide.specs.inner.Progress.{Hears}
 use Rattle.dp_ide.proofs.AwaitLaws.{answer_failed, answer_taken, passes_more, passes_none}
-use Rattle.dp_ide.proofs.awaiting.await_answer.Goals as goal
+use Rattle.dp_ide.proofs.waits.await_answer.Goals as goal
 
 pub packets-init : goal.packets-init
 packets-init g c = (

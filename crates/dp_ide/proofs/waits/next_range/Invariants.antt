@@ -1,7 +1,7 @@
 use Rattle.std.proofs.Common.{◌≤◌, ℕ, List}
 use Rattle.std.specs.Io.KnownBytes.{Consumes}
 use Rattle.dp_ide.specs.inner.Progress.{HoldsMore}
-use Rattle.dp_ide.proofs.awaiting.next_range.Given as goal
+use Rattle.dp_ide.proofs.waits.next_range.Given as goal
 
 abbrev pub invariant-pieces : goal.invariant-pieces
 invariant-pieces g l =

@@ -5,7 +5,7 @@ ghost use Rattle.dp_ide.specs.declared.instruction.Instruction.{Instruction as T
 ghost use Rattle.dp_ide.specs.inner.Reading.{ReadFails, SaidBehind};
 
 use crate::acts::act_in;
-use crate::error::IdeError;
+use crate::errors::IdeError;
 use crate::instruction::Instruction;
 use crate::lines::{is_idle, split_line};
 use crate::script::Script;

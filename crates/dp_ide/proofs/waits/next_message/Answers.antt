@@ -1,7 +1,7 @@
 use Rattle.std.proofs.Common.{◌+◌, ◌-◌, List, ℕ, take, drop, subst}
 use Rattle.dp_ide.specs.Messages.{IsMessage}
 use Rattle.dp_ide.proofs.AwaitLaws.{takes_front}
-use Rattle.dp_ide.proofs.awaiting.next_message.Goals as goal
+use Rattle.dp_ide.proofs.waits.next_message.Goals as goal
 
 pub returns-in-Ok-Some-clause-ok : goal.returns-in-Ok-Some-clause-ok
 returns-in-Ok-Some-clause-ok g c =

@@ -1,6 +1,6 @@
 use Rattle.std.proofs.Common.{◌≡◌, Some, None, sym, ap, ◌∙◌}
 use Rattle.dp_reply.specs.Readings.{packet_in}
-use Rattle.dp_ide.proofs.awaiting.message_of.Goals as goal
+use Rattle.dp_ide.proofs.waits.message_of.Goals as goal
 
 pub returns-in-Err-BadMarkup : goal.returns-in-Err-BadMarkup
 returns-in-Err-BadMarkup c =

@@ -10,12 +10,12 @@ ghost use Rattle.dp_ide.specs.Plays.{Ends};
 ghost use Rattle.dp_ide.specs.Playing.{wants};
 ghost use Rattle.dp_ide.specs.inner.Progress.{EndsFrom, OpenFails, PerformFails, ExchangeFails, IsPlayable, Performs, PrintFails, Refuses, SendFails, Stood, TakesAnswer, printed_line};
 
-use crate::awaiting::{await_answer, next_message};
 use crate::contents::{attribute, code_in, content_in, is_init};
-use crate::error::IdeError;
+use crate::errors::IdeError;
 use crate::heard::{Heard, Message};
 use crate::instruction::{Act, Instruction};
 use crate::script::Script;
+use crate::waits::{await_answer, next_message};
 use dp_markup::write;
 use dp_outside::{Sink, Source};
 use dp_value::Bytes;

@@ -7,7 +7,7 @@ use Rattle.dp_ide.specs.Scripts.{lines_of}
 use Rattle.dp_ide.specs.inner.Progress.{IsPlayable}
 use Rattle.dp_ide.proofs.OpenLaws.{playable}
 use Rattle.dp_ide.proofs.PlayLaws.{ends_unopened}
-use Rattle.dp_ide.proofs.playing.play.Goals as goal
+use Rattle.dp_ide.proofs.plays.play.Goals as goal
 
 pub perform_each-end-requires : goal.perform_each-end-requires
 perform_each-end-requires g c =

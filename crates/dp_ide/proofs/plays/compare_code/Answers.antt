@@ -1,6 +1,6 @@
 use Rattle.std.proofs.Common.{rules, ◌≡◌, decimal, arith}
 use Rattle.dp_ide.proofs.ActsPlayed.{same_numbers}
-use Rattle.dp_ide.proofs.playing.compare_code.Goals as goal
+use Rattle.dp_ide.proofs.plays.compare_code.Goals as goal
 
 pub returns-clause-ok : goal.returns-clause-ok
 returns-clause-ok c =

@@ -3,7 +3,7 @@ use Rattle.dp_outside.specs.Changes.{change}
 use Rattle.dp_wire.specs.Frames.{IsPartialPacket}
 use Rattle.dp_wire.specs.Places.{refused_at}
 use Rattle.dp_ide.proofs.AwaitLaws.{piece_failed, refused_next}
-use Rattle.dp_ide.proofs.awaiting.next_range.Goals as goal
+use Rattle.dp_ide.proofs.waits.next_range.Goals as goal
 
 pub returns-in-Err-clause-err : goal.returns-in-Err-clause-err
 returns-in-Err-clause-err g c =

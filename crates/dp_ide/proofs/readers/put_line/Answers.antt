@@ -1,7 +1,7 @@
 use Rattle.std.proofs.Common.{rules, ◌≡◌, true, [], sym, append-nil}
 use Rattle.dp_ide.specs.Scripts.{is_idle}
 use Rattle.dp_ide.proofs.ActLaws.{idle_alone}
-use Rattle.dp_ide.proofs.reading.put_line.Goals as goal
+use Rattle.dp_ide.proofs.readers.put_line.Goals as goal
 
 pub returns-then-is_idle-clause-ok : goal.returns-then-is_idle-clause-ok
 returns-then-is_idle-clause-ok c =

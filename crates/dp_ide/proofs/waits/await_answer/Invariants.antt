@@ -1,7 +1,7 @@
 use Rattle.std.proofs.Common.{◌≤◌, ℕ, List}
 use Rattle.std.specs.Io.KnownBytes.{Consumes}
 use Rattle.dp_ide.specs.inner.Progress.{PassesOver}
-use Rattle.dp_ide.proofs.awaiting.await_answer.Given as goal
+use Rattle.dp_ide.proofs.waits.await_answer.Given as goal
 
 abbrev pub invariant-packets : goal.invariant-packets
 invariant-packets g l =

@@ -1,7 +1,7 @@
 use Rattle.std.proofs.Common.{◌≤◌, take}
 use Rattle.dp_outside.specs.Changes.{change}
 use Rattle.dp_ide.specs.inner.Progress.{Performs}
-use Rattle.dp_ide.proofs.playing.perform_each.Given as goal
+use Rattle.dp_ide.proofs.plays.perform_each.Given as goal
 
 abbrev pub invariant-loop-one : goal.invariant-loop-one
 invariant-loop-one g l =

@@ -7,7 +7,7 @@ ghost use Rattle.dp_ide.specs.declared.heard.Message.{Message as Told};
 ghost use Rattle.dp_ide.specs.inner.Progress.{AnswerFails, Hears, HoldsMore, HoldsNext, NextFails, PieceFails, TakesAnswer, TakesNext};
 
 use crate::contents::{answers, output_in};
-use crate::error::IdeError;
+use crate::errors::IdeError;
 use crate::heard::{Heard, Message};
 use dp_markup::{MarkupError, read};
 use dp_outside::Source;

@@ -4,7 +4,7 @@ use Rattle.dp_outside.specs.Changes.{change}
 use Rattle.dp_ide.specs.declared.instruction.Instruction.{Instruction}
 use Rattle.dp_ide.specs.inner.Progress.{IsPlayable, Performs}
 use Rattle.dp_ide.proofs.PlayLaws.{ends_done, ends_failing, performs_none, performs_then, split_at}
-use Rattle.dp_ide.proofs.playing.perform_each.Goals as goal
+use Rattle.dp_ide.proofs.plays.perform_each.Goals as goal
 
 pub loop-one-init : goal.loop-one-init
 loop-one-init g c = (

@@ -40,7 +40,7 @@ pub enum IdeError {
 
 impl From<AllocError> for IdeError {
     ghost use Rattle.std.specs.Prelude.{◌≡◌};
-    ghost use Rattle.dp_ide.specs.declared.error.IdeError.TheVariants.{Memory as WantOfMemory};
+    ghost use Rattle.dp_ide.specs.declared.errors.IdeError.TheVariants.{Memory as WantOfMemory};
 
     ghost from_gives = { λ _ e. e ≡ WantOfMemory };
 
@@ -51,7 +51,7 @@ impl From<AllocError> for IdeError {
 
 impl<T: Drop> From<AllocFailed<T>> for IdeError {
     ghost use Rattle.std.specs.Prelude.{◌≡◌};
-    ghost use Rattle.dp_ide.specs.declared.error.IdeError.TheVariants.{Memory as WantOfMemory};
+    ghost use Rattle.dp_ide.specs.declared.errors.IdeError.TheVariants.{Memory as WantOfMemory};
 
     ghost from_gives = { λ _ e. e ≡ WantOfMemory };
 

@@ -1,6 +1,6 @@
 use Rattle.dp_outside.specs.Changes.{change}
 use Rattle.dp_ide.proofs.OpenLaws.{opened, unopened, unread}
-use Rattle.dp_ide.proofs.playing.open.Goals as goal
+use Rattle.dp_ide.proofs.plays.open.Goals as goal
 
 pub returns-in-Ok-clause-ok : goal.returns-in-Ok-clause-ok
 returns-in-Ok-clause-ok g c =
