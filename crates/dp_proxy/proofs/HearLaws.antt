@@ -7,7 +7,7 @@ use Rattle.dp_wire.specs.Frames.{has_no_nul, up_to_nul}
 use Rattle.dp_wire.proofs.FrameLaws.{no_nul-at}
 use Rattle.dp_lanes.proofs.RestLaws.{up_before}
 use Rattle.dp_proxy.specs.declared.events.Act.TheVariants.{Given}
-use Rattle.dp_proxy.specs.declared.hearing.Hearing.TheVariants.{More, Asked}
+use Rattle.dp_proxy.specs.declared.input.Hearing.TheVariants.{More, Asked}
 use Rattle.dp_proxy.specs.Pasts.{Asking, question, listening}
 use Rattle.dp_proxy.specs.inner.Turning.{FirstNul, Hears}
 

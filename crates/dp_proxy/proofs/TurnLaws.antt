@@ -26,7 +26,7 @@ use Rattle.dp_proxy.specs.declared.events.Act.TheVariants.{Ide, Engine, Given, M
 use Rattle.dp_proxy.specs.declared.errors.ProxyError.TheVariants.{BadInit, BadFrame}
 use Rattle.dp_proxy.specs.declared.events.Effect.{Effect}
 use Rattle.dp_proxy.specs.declared.events.Effect.TheVariants.{Nothing, Reply, Admitted, Turned}
-use Rattle.dp_proxy.specs.declared.hearing.Hearing.TheVariants.{More, Silence, Asked}
+use Rattle.dp_proxy.specs.declared.input.Hearing.TheVariants.{More, Silence, Asked}
 use Rattle.dp_proxy.specs.declared.passes.Passing.TheVariants.{Told, Broken}
 use Rattle.dp_proxy.specs.declared.passes.Passing.TheVariants as passing
 use Rattle.dp_proxy.specs.declared.kept.Kept.{Kept}

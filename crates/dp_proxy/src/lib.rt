@@ -5,13 +5,13 @@
 mod calls;
 mod errors;
 mod events;
-mod hearing;
 mod inits;
+mod input;
 mod kept;
 mod passes;
 mod proxy;
 mod replies;
-mod turning;
+mod turns;
 
 pub use calls::{Call, call_of};
 pub use dp_lanes::{Lane, LaneKind, PIECE_LIMIT};

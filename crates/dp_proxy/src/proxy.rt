@@ -8,7 +8,7 @@ ghost use Rattle.dp_proxy.specs.Steps.{Answers, HasHost};
 use crate::errors::ProxyError;
 use crate::events::{Effect, Event};
 use crate::kept::{Links, Step};
-use crate::turning::turn;
+use crate::turns::turn;
 use dp_registry::Registry;
 use std::alloc::Global;
 use std::marker::Model;

@@ -4,8 +4,8 @@ use Rattle.std.specs.Prelude.{Contains, ◌+◌, take, drop}
 use Rattle.dp_registry.specs.declared.entry.Entry.{Entry}
 use Rattle.dp_registry.specs.Journal.{live}
 use Rattle.dp_wire.specs.Frames.{has_no_nul}
-use Rattle.dp_proxy.specs.declared.hearing.Hearing.{Hearing}
-use Rattle.dp_proxy.specs.declared.hearing.Hearing.TheVariants.{More, Silence, Asked}
+use Rattle.dp_proxy.specs.declared.input.Hearing.{Hearing}
+use Rattle.dp_proxy.specs.declared.input.Hearing.TheVariants.{More, Silence, Asked}
 use Rattle.dp_proxy.specs.declared.errors.ProxyError.{ProxyError}
 use Rattle.dp_proxy.specs.declared.errors.ProxyError.TheVariants.{BadInit, BadFrame, Memory}
 use Rattle.dp_proxy.specs.declared.events.Act.{Act}

@@ -20,7 +20,7 @@ ghost use Rattle.dp_proxy.specs.inner.Turning.{Leads, LeavesOthers, IsOwn, Welco
 use crate::calls::is_key;
 use crate::errors::ProxyError;
 use crate::events::{Act, Effect};
-use crate::hearing::{Hearing, hear};
+use crate::input::{Hearing, hear};
 use crate::kept::{Kept, Step};
 use crate::passes::{Passing, pass as pass_on};
 use crate::replies::registration;

@@ -1,5 +1,5 @@
 use Rattle.dp_proxy.proofs.HearLaws.{command_heard}
-use Rattle.dp_proxy.proofs.hearing.take_in.Goals as goal
+use Rattle.dp_proxy.proofs.input.take_in.Goals as goal
 
 pub returns-in_ok-extend_from_slice-in-Some : goal.returns-in_ok-extend_from_slice-in-Some
 returns-in_ok-extend_from_slice-in-Some c = λ clean.

@@ -2,7 +2,7 @@ use Rattle.std.proofs.Common.{◌≡◌, refl, sym, ◌∙◌}
 use Rattle.std.proofs.lemmas.Bool.{false≢true}
 use Rattle.dp_proxy.proofs.KeyLaws.{key_is, key_again}
 use Rattle.dp_proxy.proofs.TurnLaws.{keyless_leads}
-use Rattle.dp_proxy.proofs.turning.engine.Goals as goal
+use Rattle.dp_proxy.proofs.turns.engine.Goals as goal
 
 pub admit-requires : goal.admit-requires
 admit-requires c = key_is c.args.key.now (sym c.is_key.ensures ∙ c.if-is_key.true)

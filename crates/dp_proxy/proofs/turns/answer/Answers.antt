@@ -5,7 +5,7 @@ use Rattle.dp_packet.specs.Text.{text}
 use Rattle.dp_wire.specs.Frames.{IsPacketText}
 use Rattle.dp_proxy.proofs.ReplyLaws.{reply_fits}
 use Rattle.dp_proxy.proofs.TurnLaws.{registered_leaves}
-use Rattle.dp_proxy.proofs.turning.answer.Goals as goal
+use Rattle.dp_proxy.proofs.turns.answer.Goals as goal
 
 pub returns-in_err-reply-clause-others : goal.returns-in_err-reply-clause-others
 returns-in_err-reply-clause-others c =

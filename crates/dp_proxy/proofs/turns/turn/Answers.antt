@@ -3,7 +3,7 @@ use Rattle.dp_proxy.specs.declared.kept.Kept.{Kept}
 use Rattle.dp_proxy.specs.declared.kept.Kept.TheVariants as keep
 use Rattle.dp_proxy.specs.Standing.{IsKept}
 use Rattle.dp_proxy.proofs.TurnLaws.{quiet_leads, over_still, over_comes}
-use Rattle.dp_proxy.proofs.turning.turn.Goals as goal
+use Rattle.dp_proxy.proofs.turns.turn.Goals as goal
 
 pub returns-in-Some-Over-clause-leads : goal.returns-in-Some-Over-clause-leads
 returns-in-Some-Over-clause-leads c = λ link kept.

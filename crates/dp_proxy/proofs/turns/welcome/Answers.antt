@@ -4,7 +4,7 @@ use Rattle.dp_proxy.specs.declared.events.Effect.TheVariants.{Admitted}
 use Rattle.dp_proxy.specs.declared.kept.Kept.TheVariants as keep
 use Rattle.std.proofs.Common.{Some, Ok}
 use Rattle.dp_proxy.proofs.TurnLaws.{fresh_follows}
-use Rattle.dp_proxy.proofs.turning.welcome.Goals as goal
+use Rattle.dp_proxy.proofs.turns.welcome.Goals as goal
 
 pub returns : goal.returns
 returns c =

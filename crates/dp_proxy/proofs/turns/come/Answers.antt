@@ -5,7 +5,7 @@ use Rattle.dp_proxy.specs.declared.kept.Step.{Step}
 use Rattle.dp_proxy.specs.Pasts.{New}
 use Rattle.dp_proxy.specs.inner.Turning.{Leads}
 use Rattle.dp_proxy.proofs.TurnLaws.{quiet_leads, given_before, moved_before, closed_before}
-use Rattle.dp_proxy.proofs.turning.come.Goals as goal
+use Rattle.dp_proxy.proofs.turns.come.Goals as goal
 
 pub returns-in-Given-clause-leads : goal.returns-in-Given-clause-leads
 returns-in-Given-clause-leads c =

@@ -10,7 +10,7 @@ use Rattle.dp_proxy.specs.Pasts.{New}
 use Rattle.dp_proxy.specs.Standing.{IsSound}
 use Rattle.dp_proxy.specs.inner.Turning.{Leads, IsOwn, Welcomes}
 use Rattle.dp_proxy.proofs.TurnLaws.{admitted_leads, admit_leaves, new_is_own, none_is_own, refused_answer}
-use Rattle.dp_proxy.proofs.turning.admit.Goals as goal
+use Rattle.dp_proxy.proofs.turns.admit.Goals as goal
 
 pub returns-in-Ok-clause-leads : goal.returns-in-Ok-clause-leads
 returns-in-Ok-clause-leads c =

@@ -4,7 +4,7 @@ use Rattle.dp_proxy.specs.declared.events.Act.TheVariants.{Ide}
 use Rattle.dp_proxy.specs.declared.kept.Kept.TheVariants as keep
 use Rattle.dp_proxy.specs.Pasts.{New, Asking}
 use Rattle.dp_proxy.proofs.TurnLaws.{quiet_leads, ide_comes}
-use Rattle.dp_proxy.proofs.turning.ide.Goals as goal
+use Rattle.dp_proxy.proofs.turns.ide.Goals as goal
 
 pub returns-clause-leads : goal.returns-clause-leads
 returns-clause-leads c = λ journal.
