@@ -4,7 +4,7 @@ use Rattle.std.specs.declared.ops.Range.{Range}
 use Rattle.dp_wire.specs.Places.{refused_at}
 use Rattle.dp_lanes.specs.Places.{kind_of, received_in, IsBadIn, IsFront}
 use Rattle.dp_lanes.proofs.StreamLaws.{good_part, no_front, bad_none}
-use Rattle.dp_lanes.proofs.carrying.bad_place.Goals as goal
+use Rattle.dp_lanes.proofs.moves.bad_place.Goals as goal
 
 pub returns-in-Ok-None : goal.returns-in-Ok-None
 returns-in-Ok-None c = λ kind stream follows.

@@ -1,7 +1,7 @@
 use Rattle.std.proofs.Common.{◌≡◌, ℕ, List, [], subst}
 use Rattle.dp_lanes.specs.inner.Handing.{HandsAll}
 use Rattle.dp_lanes.proofs.StreamLaws.{carried}
-use Rattle.dp_lanes.proofs.carrying.carry.Goals as goal
+use Rattle.dp_lanes.proofs.moves.carry.Goals as goal
 
 pub returns : goal.returns
 returns c = λ kind stream follows.

@@ -5,7 +5,7 @@ use Rattle.dp_lanes.specs.declared.lane.LaneKind.{LaneKind}
 use Rattle.dp_lanes.specs.Lanes.{frame}
 use Rattle.dp_lanes.specs.Places.{BeginsWith, kind_of, received_in}
 use Rattle.dp_lanes.proofs.StreamLaws.{hands_more}
-use Rattle.dp_lanes.proofs.carrying.hand_out.Goals as goal
+use Rattle.dp_lanes.proofs.moves.hand_out.Goals as goal
 
 pub frames-preserved : goal.frames-preserved
 frames-preserved c =
