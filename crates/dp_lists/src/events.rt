@@ -4,9 +4,9 @@ ghost use Rattle.dp_lists.specs.Lists.{lines_of};
 ghost use Rattle.dp_lists.specs.inner.Reading.{lines_in, size_of};
 ghost use Rattle.std.specs.Option.{option_copied};
 
-use crate::error::ListError;
+use crate::errors::ListError;
 use crate::event::Event;
-use crate::reading::Reading;
+use crate::readers::Reading;
 use crate::spelling::first_of;
 use std::alloc::Global;
 use std::marker::Model;
@@ -42,7 +42,7 @@ fn first_line(bytes: &[u8]) -> (&[u8], Option<&[u8]>)
 
 impl Events {
     ghost use Rattle.std.specs.Prelude.{◌≡◌, ◌⊎◌, [], ℕ, List, Err, IfOk, MatchResult};
-    ghost use Rattle.dp_lists.specs.declared.error.ListError.TheVariants.{BadLine as IsBadLine, Memory as WantOfMemory};
+    ghost use Rattle.dp_lists.specs.declared.errors.ListError.TheVariants.{BadLine as IsBadLine, Memory as WantOfMemory};
     ghost use Rattle.dp_lists.specs.declared.event.Event.{Event as OneEvent};
     ghost use Rattle.dp_lists.specs.Lists.{AllFit, IsList, IsFirstBad};
 

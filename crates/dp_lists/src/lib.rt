@@ -1,14 +1,14 @@
 //! Lists of events: their text, read as the events that it spells.
 #![tactic(auto)]
 
-mod error;
+mod errors;
 mod event;
 mod events;
 mod hex;
-mod reading;
+mod readers;
 mod spelling;
 
 pub use dp_value::Memory;
-pub use error::ListError;
+pub use errors::ListError;
 pub use event::{Act, Event};
 pub use events::Events;

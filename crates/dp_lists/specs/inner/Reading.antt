@@ -5,7 +5,7 @@ use Rattle.std.specs.List.{list_all}
 use Rattle.std.specs.Map.{lookup}
 use Rattle.dp_lists.specs.declared.event.Event.{Event}
 use Rattle.dp_lists.specs.declared.event.Act.{Act}
-use Rattle.dp_lists.specs.declared.reading.Reading.{Reading}
+use Rattle.dp_lists.specs.declared.readers.Reading.{Reading}
 use Rattle.dp_lists.specs.Lists.{was, makes, is_engine, AllFit, Adds, Come, lines_of}
 
 -- under the number of each link that was made stands whether an engine came on it

@@ -15,7 +15,7 @@ pub enum ListError {
 
 impl From<AllocError> for ListError {
     ghost use Rattle.std.specs.Prelude.{◌≡◌};
-    ghost use Rattle.dp_lists.specs.declared.error.ListError.TheVariants.{Memory as WantOfMemory};
+    ghost use Rattle.dp_lists.specs.declared.errors.ListError.TheVariants.{Memory as WantOfMemory};
 
     ghost from_gives = { λ _ e. e ≡ WantOfMemory };
 

@@ -1,5 +1,5 @@
 use Rattle.dp_lists.proofs.ListLaws.{noted}
-use Rattle.dp_lists.proofs.reading.Reading.note.Goals as goal
+use Rattle.dp_lists.proofs.readers.Reading.note.Goals as goal
 
 pub returns : goal.returns
 returns c =

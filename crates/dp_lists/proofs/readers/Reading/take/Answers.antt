@@ -2,7 +2,7 @@ use Rattle.std.proofs.Common.{◌≡◌, List, [], ◌∷◌, Some, None, false,
 use Rattle.dp_lists.specs.Lists.{is_idle}
 use Rattle.dp_lists.specs.inner.Spelling.{spelled}
 use Rattle.dp_lists.proofs.ListLaws.{not_spelled, may_not, fits_then, adds_one}
-use Rattle.dp_lists.proofs.reading.Reading.take.Goals as goal
+use Rattle.dp_lists.proofs.readers.Reading.take.Goals as goal
 
 pub returns-in_default-clause-takes : goal.returns-in_default-clause-takes
 returns-in_default-clause-takes c =
