@@ -8,8 +8,8 @@ mod lines;
 mod links;
 mod shown;
 mod world;
-mod writing;
+mod writes;
 
 pub use errors::ReplayError;
 pub use laws::headline;
-pub use writing::replay;
+pub use writes::replay;

@@ -1,7 +1,7 @@
 use Rattle.std.proofs.lemmas.Result.{err_from_is_err_and}
 use Rattle.dp_serving.proofs.FrontLaws.{front_none}
 use Rattle.dp_world.specs.Transcript.{shown}
-use Rattle.dp_world.proofs.writing.write_one.Goals as goal
+use Rattle.dp_world.proofs.writes.write_one.Goals as goal
 
 pub returns-in_err-put_lines-clause-writes : goal.returns-in_err-put_lines-clause-writes
 returns-in_err-put_lines-clause-writes g c = λ bundle bound of is.

@@ -5,7 +5,7 @@ use Rattle.dp_world.specs.Engines.{past_of}
 use Rattle.dp_world.specs.Transcript.{shown_of}
 use Rattle.dp_world.specs.inner.Writing.{Writes}
 use Rattle.dp_world.proofs.WritingLaws.{all_lines, replays}
-use Rattle.dp_world.proofs.writing.replay.Goals as goal
+use Rattle.dp_world.proofs.writes.replay.Goals as goal
 
 pub returns-clause-replays : goal.returns-clause-replays
 returns-clause-replays g c =

@@ -1,5 +1,5 @@
 use Rattle.dp_world.proofs.WritingLaws.{puts_session}
-use Rattle.dp_world.proofs.writing.session.Goals as goal
+use Rattle.dp_world.proofs.writes.session.Goals as goal
 
 pub returns : goal.returns
 returns g c = λ bundle bound of has.
