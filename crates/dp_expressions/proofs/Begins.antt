@@ -6,20 +6,20 @@ use Rattle.dp_lexer.specs.declared.token.TokenKind.TheVariants as kind
 use Rattle.dp_lexer.specs.Keywords.{is_reserved}
 use Rattle.dp_expressions.specs.declared.operand.Part.TheVariants as part
 use Rattle.dp_expressions.specs.declared.rank.Rank.{Rank}
-use Rattle.dp_rules.specs.declared.sign.Sign.{Sign}
-use Rattle.dp_rules.specs.declared.sign.Sign.TheVariants as sign
+use Rattle.dp_rules.specs.declared.terminal.Terminal.{Terminal}
+use Rattle.dp_rules.specs.declared.terminal.Terminal.TheVariants as terminal
 use Rattle.dp_tree.specs.declared.tree.Expression.{Expression}
 use Rattle.dp_tree.specs.declared.tree.Expression.TheVariants as tree
 use Rattle.dp_tree.specs.declared.tree.Order.TheVariants.{StepFirst}
-use Rattle.dp_rules.specs.Signs.{sign_of, same_sign, is, is_superglobal}
+use Rattle.dp_rules.specs.Terminals.{terminal_of, same_terminal, is, is_superglobal}
 use Rattle.dp_rules.specs.Rules.{Rule, Joined, Gives, Made, One, Mark, Closed, Perhaps}
 use Rattle.dp_rules.specs.Lists.{NextItem, SomeItems, AnyItems}
 use Rattle.dp_expressions.specs.Grammar.{prefix_in, step_in, inclusion_in, constant_in, place, value_of, Ladder, ranks, OperandRule, CoalesceRule, CoalesceRest, ConditionalRest, Primary, PlaceOf, PlaceRule, inner, Links, chained}
 use Rattle.dp_expressions.specs.inner.Reading.{begins_expression, tree_of}
-use Rattle.dp_rules.proofs.Signs.{placed, mark_passes, mark_alone, implied}
+use Rattle.dp_rules.proofs.Terminals.{placed, mark_passes, mark_alone, implied}
 use Rattle.dp_rules.proofs.Answers.{Rules, JoinedAt, OneAt, MadeAt, StartsIn, give, behind, joined_starts, made_starts, or_starts, starts_in_more}
 use Rattle.dp_rules.proofs.Readers.{marked}
-use Rattle.dp_rules.specs.Worths.{Text, unless, variable_in, name_in, number_in, text_in, by_sign, by_kind}
+use Rattle.dp_rules.specs.TokenValues.{Text, unless, variable_in, name_in, number_in, text_in, by_terminal, by_kind}
 use Rattle.dp_expressions.proofs.Least.{zero_token, zero_text, zero_tree, variable_name, variable_text, variable_place, gives_it, no_more, then_nothing, least_ladder, least_operand, least_whole, least_place}
 use Rattle.dp_expressions.proofs.Factored.{StepLast, from_operand}
 use Rattle.dp_rules.proofs.More.{sort_starts, one_of_sort}
@@ -27,14 +27,14 @@ use Rattle.dp_expressions.proofs.ExpressionParts.{Under, ItemAt, PlaceUnder, Ope
 
 -- ---- what expressions begin with
 
-abbrev pub begins_operand : Sign → Bool
-begins_operand s = is sign.Variable s || begins_other s
+abbrev pub begins_operand : Terminal → Bool
+begins_operand s = is terminal.Variable s || begins_other s
 
 pub operand_starts : StartsIn OperandAt begins_operand
-operand_starts m text a h = or_starts (MadeAt (JoinedAt PlaceAt (λ p _. StepLast p)) tree_of) OtherAt (is sign.Variable) begins_other
-    (made_starts (JoinedAt PlaceAt (λ p _. StepLast p)) tree_of (is sign.Variable) (joined_starts PlaceAt (λ p _. StepLast p) (is sign.Variable) place_starts)) other_starts m text a (from_operand m (inner m) text a h)
+operand_starts m text a h = or_starts (MadeAt (JoinedAt PlaceAt (λ p _. StepLast p)) tree_of) OtherAt (is terminal.Variable) begins_other
+    (made_starts (JoinedAt PlaceAt (λ p _. StepLast p)) tree_of (is terminal.Variable) (joined_starts PlaceAt (λ p _. StepLast p) (is terminal.Variable) place_starts)) other_starts m text a (from_operand m (inner m) text a h)
 
-pub ladder_starts : (rs : List Rank) (operand : Rules ℕ Expression) (test : Sign → Bool) → StartsIn operand test → StartsIn (λ m. Ladder rs (operand m)) test
+pub ladder_starts : (rs : List Rank) (operand : Rules ℕ Expression) (test : Terminal → Bool) → StartsIn operand test → StartsIn (λ m. Ladder rs (operand m)) test
 ladder_starts [] operand test starts = starts
 ladder_starts (r ∷ more) operand test starts =
     joined_starts (λ m. Ladder more (operand m)) (λ first m. Made (Links (Ladder more (operand m)) r) (λ links. chained first links)) test (ladder_starts more operand test starts)
@@ -46,10 +46,10 @@ pub conditional_starts : StartsIn ConditionalAt begins_operand
 conditional_starts = joined_starts CoalesceAt (λ test m. ConditionalRest m (inner m) test) begins_operand coalesce_starts
 
 pub include_starts : StartsIn IncludeAt begins_inclusion
-include_starts m text a h = joined_starts (OneAt (by_sign inclusion_in)) (λ how. MadeAt (Under part.Whole) (tree.Include how)) begins_inclusion (sort_starts inclusion_in) m text a h.spelled
+include_starts m text a h = joined_starts (OneAt (by_terminal inclusion_in)) (λ how. MadeAt (Under part.Whole) (tree.Include how)) begins_inclusion (sort_starts inclusion_in) m text a h.spelled
 
 place_begins : StartsIn PlaceAt begins_expression
-place_begins = starts_in_more PlaceAt (is sign.Variable) begins_expression (mark_passes begins_expression sign.Variable refl) place_starts
+place_begins = starts_in_more PlaceAt (is terminal.Variable) begins_expression (mark_passes begins_expression terminal.Variable refl) place_starts
 
 pub expression_starts : StartsIn (At part.Whole) begins_expression
 expression_starts m text a (inl h) = starts_in_more IncludeAt begins_inclusion begins_expression (implied begins_inclusion begins_expression refl) include_starts m text a h
@@ -105,10 +105,10 @@ module _ (x : Token) where
   by_text : (a : Text) → text_in x.kind ≡ Some a → Opened x
   by_text a e = ([], tree.Text a, whole_of 1 (x ∷ []) (tree.Text a) (primary_of 1 (x ∷ []) (tree.Text a) (inl (give (One (by_kind text_in)) tree.Text (x ∷ []) a (record { symbol = x; alone = refl; is_worth = e })))))
 
-  by_constant : is_some (constant_in (sign_of x.kind)) ≡ true → Opened x
+  by_constant : is_some (constant_in (terminal_of x.kind)) ≡ true → Opened x
   by_constant e = let c = one_of_sort constant_in x e in ([], c.0, whole_of 1 (x ∷ []) c.0 (primary_of 1 (x ∷ []) c.0 (inr (inl c.1))))
 
-  by_prefix : is_some (prefix_in (sign_of x.kind)) ≡ true → Opened x
+  by_prefix : is_some (prefix_in (terminal_of x.kind)) ≡ true → Opened x
   by_prefix e =
       let c = one_of_sort prefix_in x e in (
         zero_text,
@@ -116,12 +116,12 @@ module _ (x : Token) where
         whole_of 1 (x ∷ zero_text) (tree.Unary c.0 zero_tree)
             (inl (record {
               some = omega arith;
-              spelled = behind (One (by_sign prefix_in)) (λ by. Made (Under part.Alone 1) (tree.Unary by)) (x ∷ []) zero_text c.0 (tree.Unary c.0 zero_tree) c.1
+              spelled = behind (One (by_terminal prefix_in)) (λ by. Made (Under part.Alone 1) (tree.Unary by)) (x ∷ []) zero_text c.0 (tree.Unary c.0 zero_tree) c.1
                   (give (Under part.Alone 1) (tree.Unary c.0) zero_text zero_tree (least_operand 0 (inner 0)));
             })),
       )
 
-  by_step : is_some (step_in (sign_of x.kind)) ≡ true → Opened x
+  by_step : is_some (step_in (terminal_of x.kind)) ≡ true → Opened x
   by_step e =
       let c = one_of_sort step_in x e in (
         variable_text,
@@ -129,24 +129,24 @@ module _ (x : Token) where
         whole_of 1 (x ∷ variable_text) (tree.Step c.0 StepFirst variable_place)
             (inr (inl (record {
               some = omega arith;
-              spelled = behind (One (by_sign step_in)) (λ by. Made (PlaceOf ((inner 1).index)) (λ of. tree.Step by StepFirst of)) (x ∷ []) variable_text c.0 (tree.Step c.0 StepFirst variable_place) c.1
+              spelled = behind (One (by_terminal step_in)) (λ by. Made (PlaceOf ((inner 1).index)) (λ of. tree.Step by StepFirst of)) (x ∷ []) variable_text c.0 (tree.Step c.0 StepFirst variable_place) c.1
                   (give (PlaceOf ((inner 1).index)) (λ of. tree.Step c.0 StepFirst of) variable_text variable_place (least_place ((inner 1).index)));
             }))),
       )
 
-  by_inclusion : is_some (inclusion_in (sign_of x.kind)) ≡ true → Opened x
+  by_inclusion : is_some (inclusion_in (terminal_of x.kind)) ≡ true → Opened x
   by_inclusion e =
       let c = one_of_sort inclusion_in x e in (
         zero_text,
         tree.Include c.0 zero_tree,
         inl (record {
           some = omega arith;
-          spelled = behind (One (by_sign inclusion_in)) (λ how. Made (Under part.Whole 1) (tree.Include how)) (x ∷ []) zero_text c.0 (tree.Include c.0 zero_tree) c.1
+          spelled = behind (One (by_terminal inclusion_in)) (λ how. Made (Under part.Whole 1) (tree.Include how)) (x ∷ []) zero_text c.0 (tree.Include c.0 zero_tree) c.1
               (give (Under part.Whole 1) (tree.Include c.0) zero_text zero_tree (least_whole 0 (inner 0)));
         }),
       )
 
-  by_group : is sign.OpenParenthesis (sign_of x.kind) ≡ true → Opened x
+  by_group : is terminal.OpenParenthesis (terminal_of x.kind) ≡ true → Opened x
   by_group e =
       let close = placed kind.CloseParenthesis ∷ [] in (
         zero_token ∷ close,
@@ -154,43 +154,43 @@ module _ (x : Token) where
         whole_of 1 (x ∷ (zero_token ∷ close)) zero_tree (primary_of 1 (x ∷ (zero_token ∷ close)) zero_tree
             (inr (inr (inl (record {
               some = omega arith;
-              spelled = marked sign.OpenParenthesis x (Joined (Under part.Whole 1) (λ within. Joined (Mark sign.CloseParenthesis) (λ _. Gives within))) (zero_token ∷ close) zero_tree e
-                  (behind (Under part.Whole 1) (λ within. Joined (Mark sign.CloseParenthesis) (λ _. Gives within)) zero_text close zero_tree zero_tree (least_whole 0 (inner 0))
-                  (then_nothing (Mark sign.CloseParenthesis) (λ _. Gives zero_tree) close 1 zero_tree (mark_alone sign.CloseParenthesis kind.CloseParenthesis refl) (gives_it zero_tree)));
+              spelled = marked terminal.OpenParenthesis x (Joined (Under part.Whole 1) (λ within. Joined (Mark terminal.CloseParenthesis) (λ _. Gives within))) (zero_token ∷ close) zero_tree e
+                  (behind (Under part.Whole 1) (λ within. Joined (Mark terminal.CloseParenthesis) (λ _. Gives within)) zero_text close zero_tree zero_tree (least_whole 0 (inner 0))
+                  (then_nothing (Mark terminal.CloseParenthesis) (λ _. Gives zero_tree) close 1 zero_tree (mark_alone terminal.CloseParenthesis kind.CloseParenthesis refl) (gives_it zero_tree)));
             }))))),
       )
 
   -- no items
-  no_items : {A : Type 0} (item : List A → Rule A) (close : Sign) (k : TokenKind) → same_sign (sign_of k) close ≡ true → AnyItems item close (placed k ∷ []) []
+  no_items : {A : Type 0} (item : List A → Rule A) (close : Terminal) (k : TokenKind) → same_terminal (terminal_of k) close ≡ true → AnyItems item close (placed k ∷ []) []
   no_items item close k e = inl (give (Mark close) (λ _. []) (placed k ∷ []) 1 (mark_alone close k e))
 
-  by_literal : is sign.OpenBracket (sign_of x.kind) ≡ true → Opened x
+  by_literal : is terminal.OpenBracket (terminal_of x.kind) ≡ true → Opened x
   by_literal e =
       let close = placed kind.CloseBracket ∷ [] in
-      let items = AnyItems (λ _. ItemAt 1) sign.CloseBracket in (
+      let items = AnyItems (λ _. ItemAt 1) terminal.CloseBracket in (
         close,
         tree.Array [],
         whole_of 1 (x ∷ close) (tree.Array []) (primary_of 1 (x ∷ close) (tree.Array [])
             (inr (inr (inr (inl (record {
               some = omega arith;
-              spelled = marked sign.OpenBracket x (Made items tree.Array) close (tree.Array []) e
-                  (give items tree.Array close [] (no_items (λ _. ItemAt 1) sign.CloseBracket kind.CloseBracket refl));
+              spelled = marked terminal.OpenBracket x (Made items tree.Array) close (tree.Array []) e
+                  (give items tree.Array close [] (no_items (λ _. ItemAt 1) terminal.CloseBracket kind.CloseBracket refl));
             })))))),
       )
 
-  by_array : is sign.Array (sign_of x.kind) ≡ true → Opened x
+  by_array : is terminal.Array (terminal_of x.kind) ≡ true → Opened x
   by_array e =
       let close = placed kind.CloseParenthesis ∷ [] in
       let open_ = placed kind.OpenParenthesis in
-      let items = AnyItems (λ _. ItemAt 1) sign.CloseParenthesis in (
+      let items = AnyItems (λ _. ItemAt 1) terminal.CloseParenthesis in (
         open_ ∷ close,
         tree.Array [],
         whole_of 1 (x ∷ (open_ ∷ close)) (tree.Array []) (primary_of 1 (x ∷ (open_ ∷ close)) (tree.Array [])
             (inr (inr (inr (inr (inl (record {
               some = omega arith;
-              spelled = marked sign.Array x (Joined (Mark sign.OpenParenthesis) (λ _. Made items tree.Array)) (open_ ∷ close) (tree.Array []) e
-                  (marked sign.OpenParenthesis open_ (Made items tree.Array) close (tree.Array []) refl
-                  (give items tree.Array close [] (no_items (λ _. ItemAt 1) sign.CloseParenthesis kind.CloseParenthesis refl)));
+              spelled = marked terminal.Array x (Joined (Mark terminal.OpenParenthesis) (λ _. Made items tree.Array)) (open_ ∷ close) (tree.Array []) e
+                  (marked terminal.OpenParenthesis open_ (Made items tree.Array) close (tree.Array []) refl
+                  (give items tree.Array close [] (no_items (λ _. ItemAt 1) terminal.CloseParenthesis kind.CloseParenthesis refl)));
             }))))))),
       )
 
@@ -198,72 +198,72 @@ module _ (x : Token) where
   by_name name e =
       let close = placed kind.CloseParenthesis ∷ [] in
       let open_ = placed kind.OpenParenthesis in
-      let items = AnyItems (λ _. Under part.Whole 1) sign.CloseParenthesis in (
+      let items = AnyItems (λ _. Under part.Whole 1) terminal.CloseParenthesis in (
         open_ ∷ close,
         tree.Call name [],
         whole_of 1 (x ∷ (open_ ∷ close)) (tree.Call name []) (primary_of 1 (x ∷ (open_ ∷ close)) (tree.Call name [])
             (inr (inr (inr (inr (inr (record {
               some = omega arith;
-              spelled = behind (One (by_kind name_in)) (λ name. Joined (Mark sign.OpenParenthesis) (λ _. Made items (tree.Call name))) (x ∷ []) (open_ ∷ close) name (tree.Call name []) (record { symbol = x; alone = refl; is_worth = e })
-                  (marked sign.OpenParenthesis open_ (Made items (tree.Call name)) close (tree.Call name []) refl
-                  (give items (tree.Call name) close [] (no_items (λ _. Under part.Whole 1) sign.CloseParenthesis kind.CloseParenthesis refl)));
+              spelled = behind (One (by_kind name_in)) (λ name. Joined (Mark terminal.OpenParenthesis) (λ _. Made items (tree.Call name))) (x ∷ []) (open_ ∷ close) name (tree.Call name []) (record { symbol = x; alone = refl; is_worth = e })
+                  (marked terminal.OpenParenthesis open_ (Made items (tree.Call name)) close (tree.Call name []) refl
+                  (give items (tree.Call name) close [] (no_items (λ _. Under part.Whole 1) terminal.CloseParenthesis kind.CloseParenthesis refl)));
             }))))))),
       )
 
-  one_place : SomeItems (λ _. PlaceUnder 1) sign.CloseParenthesis (placed (kind.Variable variable_name) ∷ (placed kind.CloseParenthesis ∷ [])) (variable_place ∷ [])
+  one_place : SomeItems (λ _. PlaceUnder 1) terminal.CloseParenthesis (placed (kind.Variable variable_name) ∷ (placed kind.CloseParenthesis ∷ [])) (variable_place ∷ [])
   one_place =
       let close = placed kind.CloseParenthesis ∷ [] in
-      let end : Rule ℕ = Joined (Perhaps (Mark sign.Comma)) (λ _. Mark sign.CloseParenthesis) in
+      let end : Rule ℕ = Joined (Perhaps (Mark terminal.Comma)) (λ _. Mark terminal.CloseParenthesis) in
       behind (PlaceUnder 1) (λ first. Closed (NextItem (λ _. PlaceUnder 1)) (λ all. Made end (λ _. all)) (first ∷ [])) variable_text close variable_place (variable_place ∷ []) (least_place ((inner 1).index))
       (no_more (NextItem (λ _. PlaceUnder 1)) (λ all. Made end (λ _. all)) (variable_place ∷ []) close (variable_place ∷ [])
-      (give end (λ _. variable_place ∷ []) close 1 (record { front = []; back = close; value = None; split = refl; one = inr (gives_it None); other = mark_alone sign.CloseParenthesis kind.CloseParenthesis refl })))
+      (give end (λ _. variable_place ∷ []) close 1 (record { front = []; back = close; value = None; split = refl; one = inr (gives_it None); other = mark_alone terminal.CloseParenthesis kind.CloseParenthesis refl })))
 
-  by_isset : is sign.Isset (sign_of x.kind) ≡ true → Opened x
+  by_isset : is terminal.Isset (terminal_of x.kind) ≡ true → Opened x
   by_isset e =
       let open_ = placed kind.OpenParenthesis in
       let rest = placed (kind.Variable variable_name) ∷ (placed kind.CloseParenthesis ∷ []) in
-      let items = SomeItems (λ _. PlaceUnder 1) sign.CloseParenthesis in
+      let items = SomeItems (λ _. PlaceUnder 1) terminal.CloseParenthesis in
       let found = tree.Isset (variable_place ∷ []) in (
         open_ ∷ rest,
         found,
         whole_of 1 (x ∷ (open_ ∷ rest)) found
             (inr (inr (inr (inr (inl (record {
               some = omega arith;
-              spelled = marked sign.Isset x (Joined (Mark sign.OpenParenthesis) (λ _. Made items tree.Isset)) (open_ ∷ rest) found e
-                  (marked sign.OpenParenthesis open_ (Made items tree.Isset) rest found refl
+              spelled = marked terminal.Isset x (Joined (Mark terminal.OpenParenthesis) (λ _. Made items tree.Isset)) (open_ ∷ rest) found e
+                  (marked terminal.OpenParenthesis open_ (Made items tree.Isset) rest found refl
                   (give items tree.Isset rest (variable_place ∷ []) one_place));
             })))))),
       )
 
-  variable_opens : (name : Text) (b : Bool) → is_superglobal name ≡ b → x.kind ≡ kind.Variable name → begins_expression (cond b sign.Superglobal sign.Variable) ≡ true → Opened x
+  variable_opens : (name : Text) (b : Bool) → is_superglobal name ≡ b → x.kind ≡ kind.Variable name → begins_expression (cond b terminal.Superglobal terminal.Variable) ≡ true → Opened x
   variable_opens name true is e begins = absurd (cc)
   variable_opens name false is e begins = by_variable name (ap variable_in e ∙ ap (λ b. unless b name) is)
 
-  name_opens : (name : Text) (b : Bool) → is_reserved name ≡ b → x.kind ≡ kind.Name name → begins_expression (cond b sign.Reserved sign.Name) ≡ true → Opened x
+  name_opens : (name : Text) (b : Bool) → is_reserved name ≡ b → x.kind ≡ kind.Name name → begins_expression (cond b terminal.Reserved terminal.Name) ≡ true → Opened x
   name_opens name true is e begins = absurd (cc)
   name_opens name false is e begins = by_name name (ap name_in e ∙ ap (λ b. unless b name) is)
 
-  by_kind_of : (k : TokenKind) → x.kind ≡ k → begins_expression (sign_of k) ≡ true → Opened x
+  by_kind_of : (k : TokenKind) → x.kind ≡ k → begins_expression (terminal_of k) ≡ true → Opened x
   by_kind_of (kind.Variable name) e begins = variable_opens name (is_superglobal name) refl e begins
   by_kind_of (kind.Name name) e begins = name_opens name (is_reserved name) refl e begins
   by_kind_of (kind.Number n) e begins = by_number n (ap number_in e)
   by_kind_of (kind.Text bytes) e begins = by_text bytes (ap text_in e)
-  by_kind_of kind.Null e begins = by_constant (ap (λ k. is_some (constant_in (sign_of k))) e)
-  by_kind_of kind.True e begins = by_constant (ap (λ k. is_some (constant_in (sign_of k))) e)
-  by_kind_of kind.False e begins = by_constant (ap (λ k. is_some (constant_in (sign_of k))) e)
-  by_kind_of kind.Bang e begins = by_prefix (ap (λ k. is_some (prefix_in (sign_of k))) e)
-  by_kind_of kind.Minus e begins = by_prefix (ap (λ k. is_some (prefix_in (sign_of k))) e)
-  by_kind_of kind.Plus e begins = by_prefix (ap (λ k. is_some (prefix_in (sign_of k))) e)
-  by_kind_of kind.Increment e begins = by_step (ap (λ k. is_some (step_in (sign_of k))) e)
-  by_kind_of kind.Decrement e begins = by_step (ap (λ k. is_some (step_in (sign_of k))) e)
-  by_kind_of kind.Include e begins = by_inclusion (ap (λ k. is_some (inclusion_in (sign_of k))) e)
-  by_kind_of kind.Require e begins = by_inclusion (ap (λ k. is_some (inclusion_in (sign_of k))) e)
-  by_kind_of kind.OpenParenthesis e begins = by_group (ap (λ k. is sign.OpenParenthesis (sign_of k)) e)
-  by_kind_of kind.OpenBracket e begins = by_literal (ap (λ k. is sign.OpenBracket (sign_of k)) e)
-  by_kind_of kind.Array e begins = by_array (ap (λ k. is sign.Array (sign_of k)) e)
-  by_kind_of kind.Isset e begins = by_isset (ap (λ k. is sign.Isset (sign_of k)) e)
+  by_kind_of kind.Null e begins = by_constant (ap (λ k. is_some (constant_in (terminal_of k))) e)
+  by_kind_of kind.True e begins = by_constant (ap (λ k. is_some (constant_in (terminal_of k))) e)
+  by_kind_of kind.False e begins = by_constant (ap (λ k. is_some (constant_in (terminal_of k))) e)
+  by_kind_of kind.Bang e begins = by_prefix (ap (λ k. is_some (prefix_in (terminal_of k))) e)
+  by_kind_of kind.Minus e begins = by_prefix (ap (λ k. is_some (prefix_in (terminal_of k))) e)
+  by_kind_of kind.Plus e begins = by_prefix (ap (λ k. is_some (prefix_in (terminal_of k))) e)
+  by_kind_of kind.Increment e begins = by_step (ap (λ k. is_some (step_in (terminal_of k))) e)
+  by_kind_of kind.Decrement e begins = by_step (ap (λ k. is_some (step_in (terminal_of k))) e)
+  by_kind_of kind.Include e begins = by_inclusion (ap (λ k. is_some (inclusion_in (terminal_of k))) e)
+  by_kind_of kind.Require e begins = by_inclusion (ap (λ k. is_some (inclusion_in (terminal_of k))) e)
+  by_kind_of kind.OpenParenthesis e begins = by_group (ap (λ k. is terminal.OpenParenthesis (terminal_of k)) e)
+  by_kind_of kind.OpenBracket e begins = by_literal (ap (λ k. is terminal.OpenBracket (terminal_of k)) e)
+  by_kind_of kind.Array e begins = by_array (ap (λ k. is terminal.Array (terminal_of k)) e)
+  by_kind_of kind.Isset e begins = by_isset (ap (λ k. is terminal.Isset (terminal_of k)) e)
   by_kind_of _ e begins = absurd (cc)
 
 -- such a token begins an expression with one level of nesting
-pub begins_one : (x : Token) → begins_expression (sign_of x.kind) ≡ true → Opened x
+pub begins_one : (x : Token) → begins_expression (terminal_of x.kind) ≡ true → Opened x
 begins_one x begins = by_kind_of x x.kind refl begins

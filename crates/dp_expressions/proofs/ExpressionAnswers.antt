@@ -8,17 +8,17 @@ use Rattle.dp_expressions.specs.declared.operand.Part.{Part}
 use Rattle.dp_expressions.specs.declared.operand.Part.TheVariants as part
 use Rattle.dp_expressions.specs.declared.rank.Rank.{Rank}
 use Rattle.dp_expressions.specs.declared.rank.Rank.TheVariants as rank
-use Rattle.dp_rules.specs.declared.sign.Sign.{Sign}
-use Rattle.dp_rules.specs.declared.sign.Sign.TheVariants as sign
+use Rattle.dp_rules.specs.declared.terminal.Terminal.{Terminal}
+use Rattle.dp_rules.specs.declared.terminal.Terminal.TheVariants as terminal
 use Rattle.dp_tree.specs.declared.tree.Expression.{Expression}
 use Rattle.dp_tree.specs.declared.tree.Expression.TheVariants as tree
 use Rattle.dp_tree.specs.declared.tree.Place.{Place}
-use Rattle.dp_rules.specs.Signs.{is, head}
+use Rattle.dp_rules.specs.Terminals.{is, head}
 use Rattle.dp_rules.specs.inner.Input.{Reader, ◌>>=◌, ◌>>◌, made, mark, enter, sort}
 use Rattle.dp_rules.specs.Rules.{Joined, Made, Mark, One}
 use Rattle.dp_expressions.specs.Grammar.{inclusion_in, assignment_in, assigned, value_of, ranks, CoalesceRest, Branches, ConditionalRest, inner, IsExpression, IsPlace}
 use Rattle.dp_expressions.specs.inner.Reading.{begins_expression, ladder, ladder_from, alone, coalesce_rest, coalesce, middle, branches, conditional_rest, going_on, included, pushed, assignment, rest_of, opening, whole, reads_part, below, reading, reading_place}
-use Rattle.dp_rules.proofs.Signs.{placed, mark_passes, mark_fails, not_true, excluded, implied}
+use Rattle.dp_rules.proofs.Terminals.{placed, mark_passes, mark_fails, not_true, excluded, implied}
 use Rattle.dp_rules.proofs.Answers.{Rules, JoinedAt, EitherAt, GivesAt, OneAt, MarkAt, MadeAt, PerhapsAt, IsRead, Answers, Follows, Can, Apart, StartsIn, give, behind, mark_starts, joined_starts, made_starts, nests_starts, gives_apart, starts_follow, gives_follow, either_follows, joined_answers, made_answers, gives_answers, equal_answers, either_answers, perhaps_answers, within_answers}
 use Rattle.dp_rules.proofs.Readers.{marked, mark_then}
 use Rattle.dp_expressions.proofs.Heights.{looser, stop_at, looser_less}
@@ -31,12 +31,12 @@ use Rattle.dp_expressions.proofs.LadderAnswers.{operates, in_order, LadderAt, Fr
 use Rattle.dp_expressions.proofs.OperandAnswers.{operand_stop, index_answers, alone_answers}
 use Rattle.dp_expressions.proofs.OperandAnswers as operands
 use Rattle.dp_expressions.proofs.OpeningAnswers.{opening_answers, opening_starts}
-use Rattle.dp_rules.specs.Worths.{by_sign}
+use Rattle.dp_rules.specs.TokenValues.{by_terminal}
 
 -- ---- behind operands
 
 abbrev CoalesceTailAt : Rules ℕ Expression
-CoalesceTailAt = JoinedAt (MarkAt sign.Coalesce) (λ _. Under part.Coalesce)
+CoalesceTailAt = JoinedAt (MarkAt terminal.Coalesce) (λ _. Under part.Coalesce)
 
 abbrev CoalescedAt : Expression → Rules ℕ Expression
 CoalescedAt left = MadeAt (NestedAt CoalesceTailAt) (λ right. tree.Coalesce left right)
@@ -54,12 +54,12 @@ abbrev MiddleAt : Rules ℕ (Option Expression)
 MiddleAt = PerhapsAt (NestedAt (Under part.Whole))
 
 abbrev OtherwiseAt : Expression → Option Expression → Rules ℕ Expression
-OtherwiseAt test between = JoinedAt (MarkAt sign.Colon) (λ _. MadeAt CoalesceAt (λ otherwise. tree.Conditional test between otherwise))
+OtherwiseAt test between = JoinedAt (MarkAt terminal.Colon) (λ _. MadeAt CoalesceAt (λ otherwise. tree.Conditional test between otherwise))
 
 abbrev GoingAt : Expression → Rules ℕ Expression
 GoingAt first m = Going m (inner m) first
 
-abbrev begins_assignment : Sign → Bool
+abbrev begins_assignment : Terminal → Bool
 begins_assignment s = is_some (assignment_in s)
 
 abbrev AssignmentAt : Place → Rules ℕ Expression
@@ -68,33 +68,33 @@ AssignmentAt to m = AssignmentTail m (inner m) to
 abbrev RestAt : Operand → Rules ℕ Expression
 RestAt v m = Rest m (inner m) v
 
-coalesced_starts : (left : Expression) → StartsIn (CoalescedAt left) (is sign.Coalesce)
-coalesced_starts left = made_starts (NestedAt CoalesceTailAt) (λ right. tree.Coalesce left right) (is sign.Coalesce)
-    (nests_starts (λ m. m) CoalesceTailAt (is sign.Coalesce) (joined_starts (MarkAt sign.Coalesce) (λ _. Under part.Coalesce) (is sign.Coalesce) (mark_starts sign.Coalesce)))
+coalesced_starts : (left : Expression) → StartsIn (CoalescedAt left) (is terminal.Coalesce)
+coalesced_starts left = made_starts (NestedAt CoalesceTailAt) (λ right. tree.Coalesce left right) (is terminal.Coalesce)
+    (nests_starts (λ m. m) CoalesceTailAt (is terminal.Coalesce) (joined_starts (MarkAt terminal.Coalesce) (λ _. Under part.Coalesce) (is terminal.Coalesce) (mark_starts terminal.Coalesce)))
 
-branches_starts : (test : Expression) → StartsIn (BranchesAt test) (is sign.Question)
-branches_starts test = joined_starts (MarkAt sign.Question) (λ _. JoinedAt MiddleAt (OtherwiseAt test)) (is sign.Question) (mark_starts sign.Question)
+branches_starts : (test : Expression) → StartsIn (BranchesAt test) (is terminal.Question)
+branches_starts test = joined_starts (MarkAt terminal.Question) (λ _. JoinedAt MiddleAt (OtherwiseAt test)) (is terminal.Question) (mark_starts terminal.Question)
 
 assignment_starts : (to : Place) → StartsIn (AssignmentAt to) begins_assignment
-assignment_starts to m text a h = joined_starts (OneAt (by_sign assignment_in)) (λ how. MadeAt (Under part.Whole) (assigned to how)) begins_assignment (sort_starts assignment_in) m text a h.spelled
+assignment_starts to m text a h = joined_starts (OneAt (by_terminal assignment_in)) (λ how. MadeAt (Under part.Whole) (assigned to how)) begins_assignment (sort_starts assignment_in) m text a h.spelled
 
-coalesce_rest_pass : (t : Sign → Bool) → t sign.Coalesce ≡ true → Follows {A = Expression} (λ _ s. t s) CoalesceRestAt (λ _ s. t s)
+coalesce_rest_pass : (t : Terminal → Bool) → t terminal.Coalesce ≡ true → Follows {A = Expression} (λ _ s. t s) CoalesceRestAt (λ _ s. t s)
 coalesce_rest_pass t passes = either_follows (λ _ s. t s) CoalescedAt (λ left. GivesAt left) (λ _ s. t s)
-    (starts_follow (λ _ s. t s) CoalescedAt (λ _ s. t s) (is sign.Coalesce) (λ a s e. mark_passes t sign.Coalesce passes s e) coalesced_starts)
+    (starts_follow (λ _ s. t s) CoalescedAt (λ _ s. t s) (is terminal.Coalesce) (λ a s e. mark_passes t terminal.Coalesce passes s e) coalesced_starts)
     (gives_follow (λ left. left) (λ _ s. t s) (λ _ s. t s) (λ a s e. e))
 
-conditional_rest_pass : (t : Sign → Bool) → t sign.Question ≡ true → Follows {A = Expression} (λ _ s. t s) ConditionalRestAt (λ _ s. t s)
+conditional_rest_pass : (t : Terminal → Bool) → t terminal.Question ≡ true → Follows {A = Expression} (λ _ s. t s) ConditionalRestAt (λ _ s. t s)
 conditional_rest_pass t passes = either_follows (λ _ s. t s) BranchesAt (λ test. GivesAt test) (λ _ s. t s)
-    (starts_follow (λ _ s. t s) BranchesAt (λ _ s. t s) (is sign.Question) (λ a s e. mark_passes t sign.Question passes s e) branches_starts)
+    (starts_follow (λ _ s. t s) BranchesAt (λ _ s. t s) (is terminal.Question) (λ a s e. mark_passes t terminal.Question passes s e) branches_starts)
     (gives_follow (λ test. test) (λ _ s. t s) (λ _ s. t s) (λ a s e. e))
 
-going_pass : (t : Sign → Bool) → ((r : Rank) (s : Sign) → operates r s ≡ true → t s ≡ true) → t sign.Coalesce ≡ true → t sign.Question ≡ true → Follows {A = Expression} (λ _ s. t s) GoingAt (λ _ s. t s)
+going_pass : (t : Terminal → Bool) → ((r : Rank) (s : Terminal) → operates r s ≡ true → t s ≡ true) → t terminal.Coalesce ≡ true → t terminal.Question ≡ true → Follows {A = Expression} (λ _ s. t s) GoingAt (λ _ s. t s)
 going_pass t operators coalesces asks = joined_follows (λ _ s. t s) (λ first. JoinedAt (FromAt OperandAt ranks first) CoalesceRestAt) (λ _ s. t s) ConditionalRestAt (λ _ s. t s)
     (joined_follows (λ _ s. t s) (FromAt OperandAt ranks) (λ _ s. t s) CoalesceRestAt (λ _ s. t s) (from_pass OperandAt t operators ranks) (coalesce_rest_pass t coalesces))
     (conditional_rest_pass t asks)
 
 -- operators go on more loosely than an operand
-operators_looser : (r : Rank) (s : Sign) → operates r s ≡ true → looser 2 s ≡ true
+operators_looser : (r : Rank) (s : Terminal) → operates r s ≡ true → looser 2 s ≡ true
 operators_looser rank.Product s = implied (operates rank.Product) (looser 2) refl s
 operators_looser rank.Sum s = implied (operates rank.Sum) (looser 2) refl s
 operators_looser rank.Concatenation s = implied (operates rank.Concatenation) (looser 2) refl s
@@ -103,10 +103,10 @@ operators_looser rank.Equality s = implied (operates rank.Equality) (looser 2) r
 operators_looser rank.And s = implied (operates rank.And) (looser 2) refl s
 operators_looser rank.Or s = implied (operates rank.Or) (looser 2) refl s
 
-abbrev no_assignment : Sign → Bool
+abbrev no_assignment : Terminal → Bool
 no_assignment s = not (begins_assignment s)
 
-operators_no_assignment : (r : Rank) (s : Sign) → operates r s ≡ true → no_assignment s ≡ true
+operators_no_assignment : (r : Rank) (s : Terminal) → operates r s ≡ true → no_assignment s ≡ true
 operators_no_assignment rank.Product s = implied (operates rank.Product) no_assignment refl s
 operators_no_assignment rank.Sum s = implied (operates rank.Sum) no_assignment refl s
 operators_no_assignment rank.Concatenation s = implied (operates rank.Concatenation) no_assignment refl s
@@ -142,7 +142,7 @@ level_behind zero = zero
 level_behind (suc m) = m
 
 PushedAt : Place → Rules ℕ Expression
-PushedAt to m = Joined (Mark sign.Assign) (λ _. Made (IsExpression (level_behind m)) (tree.Push to))
+PushedAt to m = Joined (Mark terminal.Assign) (λ _. Made (IsExpression (level_behind m)) (tree.Push to))
 
 to_push_tail : (to : Place) (m : ℕ) (text : List Token) (a : Expression) → PushedAt to m text a → PushTail m (inner m) to text a
 unfolding PushedAt level_behind
@@ -157,7 +157,7 @@ from_push_tail to (suc m) text a h = h
 least_push : (m : ℕ) (to : Place) → PushTail m (inner m) to (placed kind.Assign ∷ zero_text) (tree.Push to zero_tree)
 unfolding PushedAt
 least_push m to = to_push_tail to m (placed kind.Assign ∷ zero_text) (tree.Push to zero_tree)
-    (marked sign.Assign (placed kind.Assign) (Made (IsExpression (level_behind m)) (tree.Push to)) zero_text (tree.Push to zero_tree) refl (give (IsExpression (level_behind m)) (tree.Push to) zero_text zero_tree (least_expression (level_behind m))))
+    (marked terminal.Assign (placed kind.Assign) (Made (IsExpression (level_behind m)) (tree.Push to)) zero_text (tree.Push to zero_tree) refl (give (IsExpression (level_behind m)) (tree.Push to) zero_text zero_tree (least_expression (level_behind m))))
 
 module _ (n : ℕ) (read : Part → Reader Expression) (reads : Reads (suc n) read) where
   behind_answers : (ts : List Token) → Answers ◌≤◌ (λ m. IsExpression (level_behind m)) (stop_at 12) (suc n) ts (read part.Whole ts)
@@ -174,25 +174,25 @@ module _ (n : ℕ) (read : Part → Reader Expression) (reads : Reads (suc n) re
   pushed_answers : (to : Place) (ts : List Token) → Answers ◌≤◌ (λ m. PushTail m (inner m) to) (stop_at 12) (suc n) ts (pushed (suc n) read to ts)
   unfolding pushed PushedAt
   pushed_answers to ts = equal_answers ◌≤◌ level_self (PushedAt to) (λ m. PushTail m (inner m) to) (stop_at 12) (suc n) ts (to_push_tail to) (from_push_tail to) (pushed (suc n) read to ts)
-      (mark_then ◌≤◌ level_self sign.Assign (λ _. MadeAt (λ m. IsExpression (level_behind m)) (tree.Push to)) (stop_at 12) (suc n) (λ _. made (read part.Whole) (tree.Push to))
+      (mark_then ◌≤◌ level_self terminal.Assign (λ _. MadeAt (λ m. IsExpression (level_behind m)) (tree.Push to)) (stop_at 12) (suc n) (λ _. made (read part.Whole) (tree.Push to))
       (λ m above _. (zero_text, tree.Push to zero_tree, give (IsExpression (level_behind m)) (tree.Push to) zero_text zero_tree (least_expression (level_behind m))))
       (λ _ us. made_answers ◌≤◌ level_self (λ m. IsExpression (level_behind m)) (tree.Push to) (stop_at 12) (stop_at 12) (suc n) us (λ a s e. e) (read part.Whole us) (behind_answers us)) ts)
 
 -- ---- the readers of one level
 
 module _ (level : ℕ) (read : Part → Reader Expression) (reads : Reads level read) where
-  coalesced_answers : (left : Expression) (ts : List Token) → is sign.Coalesce (head ts) ≡ true → Answers ◌≤◌ (CoalescedAt left) (stop_at 10) level ts (made (enter level >> (mark sign.Coalesce >> read part.Coalesce)) (λ right. tree.Coalesce left right) ts)
-  coalesced_answers left ts here = made_answers ◌≤◌ level_self (NestedAt CoalesceTailAt) (λ right. tree.Coalesce left right) (stop_at 10) (stop_at 10) level ts (λ a s e. e) ((enter level >> (mark sign.Coalesce >> read part.Coalesce)) ts)
-      (nested_answers (is sign.Coalesce) CoalesceTailAt (stop_at 10) level ts (mark sign.Coalesce >> read part.Coalesce) refl here
-      (λ x e. (zero_text, zero_tree, marked sign.Coalesce x (Under part.Coalesce 2) zero_text zero_tree e (least_coalesce 1 (inner 1))))
-      (λ some. mark_then ◌≤◌ level_self sign.Coalesce (λ _. Under part.Coalesce) (stop_at 10) level (λ _. read part.Coalesce) (λ m above _. some_coalesce_under level some m above)
+  coalesced_answers : (left : Expression) (ts : List Token) → is terminal.Coalesce (head ts) ≡ true → Answers ◌≤◌ (CoalescedAt left) (stop_at 10) level ts (made (enter level >> (mark terminal.Coalesce >> read part.Coalesce)) (λ right. tree.Coalesce left right) ts)
+  coalesced_answers left ts here = made_answers ◌≤◌ level_self (NestedAt CoalesceTailAt) (λ right. tree.Coalesce left right) (stop_at 10) (stop_at 10) level ts (λ a s e. e) ((enter level >> (mark terminal.Coalesce >> read part.Coalesce)) ts)
+      (nested_answers (is terminal.Coalesce) CoalesceTailAt (stop_at 10) level ts (mark terminal.Coalesce >> read part.Coalesce) refl here
+      (λ x e. (zero_text, zero_tree, marked terminal.Coalesce x (Under part.Coalesce 2) zero_text zero_tree e (least_coalesce 1 (inner 1))))
+      (λ some. mark_then ◌≤◌ level_self terminal.Coalesce (λ _. Under part.Coalesce) (stop_at 10) level (λ _. read part.Coalesce) (λ m above _. some_coalesce_under level some m above)
       (λ _ us. inner_answers level read reads some part.Coalesce us refl) ts))
 
   coalesce_rest_answers : (left : Expression) (ts : List Token) → Answers ◌≤◌ (CoalesceRestAt left) (stop_at 10) level ts (coalesce_rest level read left ts)
   unfolding coalesce_rest
-  coalesce_rest_answers left ts = either_answers ◌≤◌ level_self (CoalescedAt left) (GivesAt left) (is sign.Coalesce) (stop_at 10) level ts
-      (coalesced_starts left) (gives_apart left (stop_at 10) (is sign.Coalesce) (excluded (looser 10) (is sign.Coalesce) refl))
-      (made (enter level >> (mark sign.Coalesce >> read part.Coalesce)) (λ right. tree.Coalesce left right) ts) (Ok (left, ts)) (coalesced_answers left ts) (λ _. gives_answers ◌≤◌ level_self left (stop_at 10) level ts)
+  coalesce_rest_answers left ts = either_answers ◌≤◌ level_self (CoalescedAt left) (GivesAt left) (is terminal.Coalesce) (stop_at 10) level ts
+      (coalesced_starts left) (gives_apart left (stop_at 10) (is terminal.Coalesce) (excluded (looser 10) (is terminal.Coalesce) refl))
+      (made (enter level >> (mark terminal.Coalesce >> read part.Coalesce)) (λ right. tree.Coalesce left right) ts) (Ok (left, ts)) (coalesced_answers left ts) (λ _. gives_answers ◌≤◌ level_self left (stop_at 10) level ts)
 
   coalesce_rest_follows : Follows (stop_at 9) CoalesceRestAt (stop_at 10)
   coalesce_rest_follows m left text a r h is = coalesce_rest_pass (looser 9) refl m left text a r h (looser_less 9 10 (omega arith) (head r) is)
@@ -207,47 +207,47 @@ module _ (level : ℕ) (read : Part → Reader Expression) (reads : Reads level 
 
   -- ---- conditionals
 
-  abbrev middle_stop : Option Expression → Sign → Bool
-  middle_stop a s = is sign.Colon s
+  abbrev middle_stop : Option Expression → Terminal → Bool
+  middle_stop a s = is terminal.Colon s
 
   middle_answers : (ts : List Token) → Answers ◌≤◌ MiddleAt middle_stop level ts (middle level read ts)
   unfolding middle
   middle_answers ts = perhaps_answers ◌≤◌ level_self (NestedAt (Under part.Whole)) begins_expression (stop_at 12) middle_stop level ts
-      (nests_starts (λ m. m) (Under part.Whole) begins_expression whole_under_starts) (λ a s e. mark_passes (looser 12) sign.Colon refl s e) (λ s e. mark_fails begins_expression sign.Colon refl s e)
+      (nests_starts (λ m. m) (Under part.Whole) begins_expression whole_under_starts) (λ a s e. mark_passes (looser 12) terminal.Colon refl s e) (λ s e. mark_fails begins_expression terminal.Colon refl s e)
       ((enter level >> read part.Whole) ts)
       (λ here. nested_answers begins_expression (Under part.Whole) (stop_at 12) level ts (read part.Whole) refl here begins_one (λ some. inner_answers level read reads some part.Whole ts refl))
 
-  otherwise_answers : (test : Expression) (between : Option Expression) (ts : List Token) → Answers ◌≤◌ (OtherwiseAt test between) (stop_at 12) level ts ((mark sign.Colon >> made (coalesce level read) (λ otherwise. tree.Conditional test between otherwise)) ts)
+  otherwise_answers : (test : Expression) (between : Option Expression) (ts : List Token) → Answers ◌≤◌ (OtherwiseAt test between) (stop_at 12) level ts ((mark terminal.Colon >> made (coalesce level read) (λ otherwise. tree.Conditional test between otherwise)) ts)
   otherwise_answers test between ts =
       let f : Expression → Expression = λ otherwise. tree.Conditional test between otherwise in
-      mark_then ◌≤◌ level_self sign.Colon (λ _. MadeAt CoalesceAt f) (stop_at 12) level (λ _. made (coalesce level read) f)
+      mark_then ◌≤◌ level_self terminal.Colon (λ _. MadeAt CoalesceAt f) (stop_at 12) level (λ _. made (coalesce level read) f)
       (λ m above _. (zero_text, f zero_tree, give (CoalesceAt m) f zero_text zero_tree (least_coalesce m (inner m))))
       (λ _ us. made_answers ◌≤◌ level_self CoalesceAt f (stop_at 10) (stop_at 12) level us (λ a s e. looser_less 10 12 (omega arith) s e) (coalesce level read us) (coalesce_answers us)) ts
 
   least_otherwise : (test : Expression) (between : Option Expression) (m : ℕ) → OtherwiseAt test between m (placed kind.Colon ∷ zero_text) (tree.Conditional test between zero_tree)
-  least_otherwise test between m = marked sign.Colon (placed kind.Colon) (Made (CoalesceAt m) (λ otherwise. tree.Conditional test between otherwise)) zero_text (tree.Conditional test between zero_tree) refl
+  least_otherwise test between m = marked terminal.Colon (placed kind.Colon) (Made (CoalesceAt m) (λ otherwise. tree.Conditional test between otherwise)) zero_text (tree.Conditional test between zero_tree) refl
       (give (CoalesceAt m) (λ otherwise. tree.Conditional test between otherwise) zero_text zero_tree (least_coalesce m (inner m)))
 
-  otherwise_starts : (test : Expression) (between : Option Expression) → StartsIn (OtherwiseAt test between) (is sign.Colon)
-  otherwise_starts test between = joined_starts (MarkAt sign.Colon) (λ _. MadeAt CoalesceAt (λ otherwise. tree.Conditional test between otherwise)) (is sign.Colon) (mark_starts sign.Colon)
+  otherwise_starts : (test : Expression) (between : Option Expression) → StartsIn (OtherwiseAt test between) (is terminal.Colon)
+  otherwise_starts test between = joined_starts (MarkAt terminal.Colon) (λ _. MadeAt CoalesceAt (λ otherwise. tree.Conditional test between otherwise)) (is terminal.Colon) (mark_starts terminal.Colon)
 
-  asked_answers : (test : Expression) (ts : List Token) → Answers ◌≤◌ (JoinedAt MiddleAt (OtherwiseAt test)) (stop_at 12) level ts ((middle level read >>= (λ between. mark sign.Colon >> made (coalesce level read) (λ otherwise. tree.Conditional test between otherwise))) ts)
+  asked_answers : (test : Expression) (ts : List Token) → Answers ◌≤◌ (JoinedAt MiddleAt (OtherwiseAt test)) (stop_at 12) level ts ((middle level read >>= (λ between. mark terminal.Colon >> made (coalesce level read) (λ otherwise. tree.Conditional test between otherwise))) ts)
   asked_answers test ts = joined_answers ◌≤◌ level_self MiddleAt (OtherwiseAt test) middle_stop (stop_at 12) level ts
-      (starts_follow middle_stop (OtherwiseAt test) (stop_at 12) (is sign.Colon) (λ a s e. e) (otherwise_starts test))
-      (middle level read ts) (λ between. mark sign.Colon >> made (coalesce level read) (λ otherwise. tree.Conditional test between otherwise))
+      (starts_follow middle_stop (OtherwiseAt test) (stop_at 12) (is terminal.Colon) (λ a s e. e) (otherwise_starts test))
+      (middle level read ts) (λ between. mark terminal.Colon >> made (coalesce level read) (λ otherwise. tree.Conditional test between otherwise))
       (λ m above between. (placed kind.Colon ∷ zero_text, tree.Conditional test between zero_tree, least_otherwise test between m)) (middle_answers ts) (λ between us _. otherwise_answers test between us)
 
   branches_answers : (test : Expression) (ts : List Token) → Answers ◌≤◌ (BranchesAt test) (stop_at 12) level ts (branches level read test ts)
   unfolding branches
-  branches_answers test ts = mark_then ◌≤◌ level_self sign.Question (λ _. JoinedAt MiddleAt (OtherwiseAt test)) (stop_at 12) level
-      (λ _. middle level read >>= (λ between. mark sign.Colon >> made (coalesce level read) (λ otherwise. tree.Conditional test between otherwise)))
+  branches_answers test ts = mark_then ◌≤◌ level_self terminal.Question (λ _. JoinedAt MiddleAt (OtherwiseAt test)) (stop_at 12) level
+      (λ _. middle level read >>= (λ between. mark terminal.Colon >> made (coalesce level read) (λ otherwise. tree.Conditional test between otherwise)))
       (λ m above _. (placed kind.Colon ∷ zero_text, tree.Conditional test None zero_tree, behind (MiddleAt m) (λ between. OtherwiseAt test between m) [] (placed kind.Colon ∷ zero_text) None (tree.Conditional test None zero_tree) (inr (gives_it None)) (least_otherwise test None m)))
       (λ _. asked_answers test) ts
 
   conditional_rest_answers : (test : Expression) (ts : List Token) → Answers ◌≤◌ (ConditionalRestAt test) (stop_at 12) level ts (conditional_rest level read test ts)
   unfolding conditional_rest
-  conditional_rest_answers test ts = either_answers ◌≤◌ level_self (BranchesAt test) (GivesAt test) (is sign.Question) (stop_at 12) level ts
-      (branches_starts test) (gives_apart test (stop_at 12) (is sign.Question) (excluded (looser 12) (is sign.Question) refl))
+  conditional_rest_answers test ts = either_answers ◌≤◌ level_self (BranchesAt test) (GivesAt test) (is terminal.Question) (stop_at 12) level ts
+      (branches_starts test) (gives_apart test (stop_at 12) (is terminal.Question) (excluded (looser 12) (is terminal.Question) refl))
       (branches level read test ts) (Ok (test, ts)) (λ _. branches_answers test ts) (λ _. gives_answers ◌≤◌ level_self test (stop_at 12) level ts)
 
   conditional_rest_follows : Follows (stop_at 10) ConditionalRestAt (stop_at 12)
@@ -267,27 +267,27 @@ module _ (level : ℕ) (read : Part → Reader Expression) (reads : Reads level 
 
   assignment_answers : (to : Place) (ts : List Token) → begins_assignment (head ts) ≡ true → Answers ◌≤◌ (AssignmentAt to) (stop_at 12) level ts (assignment level read to ts)
   unfolding assignment
-  assignment_answers to ts here = nested_answers begins_assignment (JoinedAt (OneAt (by_sign assignment_in)) (λ how. MadeAt (Under part.Whole) (assigned to how))) (stop_at 12) level ts (sort assignment_in >>= (λ how. made (read part.Whole) (assigned to how))) refl here
+  assignment_answers to ts here = nested_answers begins_assignment (JoinedAt (OneAt (by_terminal assignment_in)) (λ how. MadeAt (Under part.Whole) (assigned to how))) (stop_at 12) level ts (sort assignment_in >>= (λ how. made (read part.Whole) (assigned to how))) refl here
       (λ x e. let o = one_of_sort assignment_in x e in (
         zero_text,
         assigned to o.0 zero_tree,
-        behind (One (by_sign assignment_in)) (λ how. Made (Under part.Whole 2) (assigned to how)) (x ∷ []) zero_text o.0 (assigned to o.0 zero_tree) o.1
+        behind (One (by_terminal assignment_in)) (λ how. Made (Under part.Whole 2) (assigned to how)) (x ∷ []) zero_text o.0 (assigned to o.0 zero_tree) o.1
             (give (Under part.Whole 2) (assigned to o.0) zero_text zero_tree (least_whole 1 (inner 1))),
       ))
-      (λ some. one_then (by_sign assignment_in) (λ how. MadeAt (Under part.Whole) (assigned to how)) (stop_at 12) level ts (λ how. made (read part.Whole) (assigned to how))
+      (λ some. one_then (by_terminal assignment_in) (λ how. MadeAt (Under part.Whole) (assigned to how)) (stop_at 12) level ts (λ how. made (read part.Whole) (assigned to how))
       (λ m above how. let w = some_whole_under level some m above in (w.0, assigned to how w.1, give (Under part.Whole m) (assigned to how) w.0 w.1 w.2))
       (λ how us. made_answers ◌≤◌ level_self (Under part.Whole) (assigned to how) (stop_at 12) (stop_at 12) level us (λ a s e. e) (read part.Whole us) (inner_answers level read reads some part.Whole us refl)))
 
   included_answers : (ts : List Token) → begins_inclusion (head ts) ≡ true → Answers ◌≤◌ IncludeAt (stop_at 12) level ts (included level read ts)
   unfolding included
-  included_answers ts here = nested_answers begins_inclusion (JoinedAt (OneAt (by_sign inclusion_in)) (λ how. MadeAt (Under part.Whole) (tree.Include how))) (stop_at 12) level ts (sort inclusion_in >>= (λ how. made (read part.Whole) (tree.Include how))) refl here
+  included_answers ts here = nested_answers begins_inclusion (JoinedAt (OneAt (by_terminal inclusion_in)) (λ how. MadeAt (Under part.Whole) (tree.Include how))) (stop_at 12) level ts (sort inclusion_in >>= (λ how. made (read part.Whole) (tree.Include how))) refl here
       (λ x e. let o = one_of_sort inclusion_in x e in (
         zero_text,
         tree.Include o.0 zero_tree,
-        behind (One (by_sign inclusion_in)) (λ how. Made (Under part.Whole 2) (tree.Include how)) (x ∷ []) zero_text o.0 (tree.Include o.0 zero_tree) o.1
+        behind (One (by_terminal inclusion_in)) (λ how. Made (Under part.Whole 2) (tree.Include how)) (x ∷ []) zero_text o.0 (tree.Include o.0 zero_tree) o.1
             (give (Under part.Whole 2) (tree.Include o.0) zero_text zero_tree (least_whole 1 (inner 1))),
       ))
-      (λ some. one_then (by_sign inclusion_in) (λ how. MadeAt (Under part.Whole) (tree.Include how)) (stop_at 12) level ts (λ how. made (read part.Whole) (tree.Include how))
+      (λ some. one_then (by_terminal inclusion_in) (λ how. MadeAt (Under part.Whole) (tree.Include how)) (stop_at 12) level ts (λ how. made (read part.Whole) (tree.Include how))
       (λ m above how. let w = some_whole_under level some m above in (w.0, tree.Include how w.1, give (Under part.Whole m) (tree.Include how) w.0 w.1 w.2))
       (λ how us. made_answers ◌≤◌ level_self (Under part.Whole) (tree.Include how) (stop_at 12) (stop_at 12) level us (λ a s e. e) (read part.Whole us) (inner_answers level read reads some part.Whole us refl)))
 

@@ -4,14 +4,14 @@ use Rattle.dp_lexer.specs.declared.token.Token.{Token}
 use Rattle.dp_expressions.specs.declared.operand.Operand.{Operand}
 use Rattle.dp_expressions.specs.declared.operand.Part.{Part}
 use Rattle.dp_expressions.specs.declared.operand.Part.TheVariants as part
-use Rattle.dp_rules.specs.declared.sign.Sign.{Sign}
-use Rattle.dp_rules.specs.declared.sign.Sign.TheVariants as sign
+use Rattle.dp_rules.specs.declared.terminal.Terminal.{Terminal}
+use Rattle.dp_rules.specs.declared.terminal.Terminal.TheVariants as terminal
 use Rattle.dp_tree.specs.declared.tree.Expression.{Expression}
 use Rattle.dp_tree.specs.declared.tree.Expression.TheVariants as tree
 use Rattle.dp_tree.specs.declared.tree.Place.{Place}
 use Rattle.dp_tree.specs.declared.tree.Item.{Item}
 use Rattle.dp_tree.specs.declared.tree.Order.TheVariants.{StepFirst}
-use Rattle.dp_rules.specs.Signs.{is, head}
+use Rattle.dp_rules.specs.Terminals.{is, head}
 use Rattle.dp_rules.specs.inner.Input.{Reader}
 use Rattle.dp_rules.specs.Rules.{Joined, Made, Mark}
 use Rattle.dp_rules.specs.Lists.{SomeItems, AnyItems}
@@ -21,7 +21,7 @@ use Rattle.dp_expressions.proofs.Heights.{stop_at}
 use Rattle.dp_expressions.proofs.Least.{zero_text, zero_tree, least_whole, least_coalesce, least_operand}
 use Rattle.dp_expressions.proofs.Factored.{PrimaryIndexed, OtherRule, OpeningRule}
 use Rattle.dp_rules.proofs.More.{sort_starts, variable_starts, name_starts, number_starts, text_starts}
-use Rattle.dp_rules.specs.Worths.{variable_in, name_in, number_in, text_in, by_sign, by_kind}
+use Rattle.dp_rules.specs.TokenValues.{variable_in, name_in, number_in, text_in, by_terminal, by_kind}
 
 -- ---- the rules at each level
 
@@ -46,11 +46,11 @@ stop_of part.Alone a s = stop_at 2 a s
 stop_of part.Index a s = true
 
 -- An index is read only before its bracket.
-abbrev pub may_read : Part → Sign → Bool
+abbrev pub may_read : Part → Terminal → Bool
 may_read part.Whole s = true
 may_read part.Coalesce s = true
 may_read part.Alone s = true
-may_read part.Index s = is sign.OpenBracket s
+may_read part.Index s = is terminal.OpenBracket s
 
 -- what the reader of the level below answers, if there is one
 abbrev pub Reads : ℕ → (Part → Reader Expression) → Type 0
@@ -139,7 +139,7 @@ abbrev pub TextAt : Rules ℕ Expression
 TextAt = MadeAt (OneAt (by_kind text_in)) tree.Text
 
 abbrev pub ConstantAt : Rules ℕ Expression
-ConstantAt = OneAt (by_sign constant_in)
+ConstantAt = OneAt (by_terminal constant_in)
 
 abbrev pub OtherAt : Rules ℕ Expression
 OtherAt m = OtherRule m (inner m)
@@ -159,109 +159,109 @@ ConditionalAt m = ConditionalRule m (inner m)
 abbrev pub IncludeAt : Rules ℕ Expression
 IncludeAt m = IncludeRule m (inner m)
 
-abbrev pub begins_constant : Sign → Bool
+abbrev pub begins_constant : Terminal → Bool
 begins_constant s = is_some (constant_in s)
 
-abbrev pub begins_prefix : Sign → Bool
+abbrev pub begins_prefix : Terminal → Bool
 begins_prefix s = is_some (prefix_in s)
 
-abbrev pub begins_step : Sign → Bool
+abbrev pub begins_step : Terminal → Bool
 begins_step s = is_some (step_in s)
 
-abbrev pub begins_inclusion : Sign → Bool
+abbrev pub begins_inclusion : Terminal → Bool
 begins_inclusion s = is_some (inclusion_in s)
 
 -- in the order of the reader's tests
-abbrev pub begins_behind_array : Sign → Bool
-begins_behind_array s = is sign.Array s || is sign.Name s
+abbrev pub begins_behind_array : Terminal → Bool
+begins_behind_array s = is terminal.Array s || is terminal.Name s
 
-abbrev pub begins_behind_bracket : Sign → Bool
-begins_behind_bracket s = is sign.OpenBracket s || begins_behind_array s
+abbrev pub begins_behind_bracket : Terminal → Bool
+begins_behind_bracket s = is terminal.OpenBracket s || begins_behind_array s
 
-abbrev pub begins_behind_group : Sign → Bool
-begins_behind_group s = is sign.OpenParenthesis s || begins_behind_bracket s
+abbrev pub begins_behind_group : Terminal → Bool
+begins_behind_group s = is terminal.OpenParenthesis s || begins_behind_bracket s
 
-abbrev pub begins_behind_constant : Sign → Bool
+abbrev pub begins_behind_constant : Terminal → Bool
 begins_behind_constant s = begins_constant s || begins_behind_group s
 
-abbrev pub begins_primary : Sign → Bool
-begins_primary s = is sign.Text s || begins_behind_constant s
+abbrev pub begins_primary : Terminal → Bool
+begins_primary s = is terminal.Text s || begins_behind_constant s
 
-abbrev pub begins_behind_isset : Sign → Bool
-begins_behind_isset s = is sign.Isset s || begins_primary s
+abbrev pub begins_behind_isset : Terminal → Bool
+begins_behind_isset s = is terminal.Isset s || begins_primary s
 
-abbrev pub begins_behind_number : Sign → Bool
-begins_behind_number s = is sign.Number s || begins_behind_isset s
+abbrev pub begins_behind_number : Terminal → Bool
+begins_behind_number s = is terminal.Number s || begins_behind_isset s
 
-abbrev pub begins_behind_step : Sign → Bool
+abbrev pub begins_behind_step : Terminal → Bool
 begins_behind_step s = begins_step s || begins_behind_number s
 
-abbrev pub begins_other : Sign → Bool
+abbrev pub begins_other : Terminal → Bool
 begins_other s = begins_prefix s || begins_behind_step s
 
-pub index_starts : StartsIn IndexAt (is sign.OpenBracket)
-index_starts m text a h = joined_starts (MarkAt sign.OpenBracket) (λ _. JoinedAt (Under part.Whole) (λ at. JoinedAt (MarkAt sign.CloseBracket) (λ _. GivesAt at))) (is sign.OpenBracket) (mark_starts sign.OpenBracket) m text a h.spelled
+pub index_starts : StartsIn IndexAt (is terminal.OpenBracket)
+index_starts m text a h = joined_starts (MarkAt terminal.OpenBracket) (λ _. JoinedAt (Under part.Whole) (λ at. JoinedAt (MarkAt terminal.CloseBracket) (λ _. GivesAt at))) (is terminal.OpenBracket) (mark_starts terminal.OpenBracket) m text a h.spelled
 
-pub index_under_starts : StartsIn (Under part.Index) (is sign.OpenBracket)
+pub index_under_starts : StartsIn (Under part.Index) (is terminal.OpenBracket)
 index_under_starts zero text a h = absurd h
 index_under_starts (suc k) text a h = index_starts k text a h
 
-pub place_starts : StartsIn PlaceAt (is sign.Variable)
-place_starts = joined_starts (OneAt (by_kind variable_in)) (λ name. MadeAt (ManyAt IndexAt) (place name)) (is sign.Variable) variable_starts
+pub place_starts : StartsIn PlaceAt (is terminal.Variable)
+place_starts = joined_starts (OneAt (by_kind variable_in)) (λ name. MadeAt (ManyAt IndexAt) (place name)) (is terminal.Variable) variable_starts
 
-pub place_under_starts : StartsIn PlaceUnder (is sign.Variable)
-place_under_starts = joined_starts (OneAt (by_kind variable_in)) (λ name. MadeAt (ManyAt (Under part.Index)) (place name)) (is sign.Variable) variable_starts
+pub place_under_starts : StartsIn PlaceUnder (is terminal.Variable)
+place_under_starts = joined_starts (OneAt (by_kind variable_in)) (λ name. MadeAt (ManyAt (Under part.Index)) (place name)) (is terminal.Variable) variable_starts
 
-pub group_starts : StartsIn GroupAt (is sign.OpenParenthesis)
-group_starts m text a h = joined_starts (MarkAt sign.OpenParenthesis) (λ _. JoinedAt (Under part.Whole) (λ within. JoinedAt (MarkAt sign.CloseParenthesis) (λ _. GivesAt within))) (is sign.OpenParenthesis) (mark_starts sign.OpenParenthesis) m text a h.spelled
+pub group_starts : StartsIn GroupAt (is terminal.OpenParenthesis)
+group_starts m text a h = joined_starts (MarkAt terminal.OpenParenthesis) (λ _. JoinedAt (Under part.Whole) (λ within. JoinedAt (MarkAt terminal.CloseParenthesis) (λ _. GivesAt within))) (is terminal.OpenParenthesis) (mark_starts terminal.OpenParenthesis) m text a h.spelled
 
-pub literal_starts : StartsIn LiteralAt (is sign.OpenBracket)
-literal_starts m text a h = joined_starts (MarkAt sign.OpenBracket) (λ _ m. Made (AnyItems (λ _. ItemAt m) sign.CloseBracket) tree.Array) (is sign.OpenBracket) (mark_starts sign.OpenBracket) m text a h.spelled
+pub literal_starts : StartsIn LiteralAt (is terminal.OpenBracket)
+literal_starts m text a h = joined_starts (MarkAt terminal.OpenBracket) (λ _ m. Made (AnyItems (λ _. ItemAt m) terminal.CloseBracket) tree.Array) (is terminal.OpenBracket) (mark_starts terminal.OpenBracket) m text a h.spelled
 
-pub array_call_starts : StartsIn ArrayCallAt (is sign.Array)
-array_call_starts m text a h = joined_starts (MarkAt sign.Array) (λ _ m. Joined (Mark sign.OpenParenthesis) (λ _. Made (AnyItems (λ _. ItemAt m) sign.CloseParenthesis) tree.Array)) (is sign.Array) (mark_starts sign.Array) m text a h.spelled
+pub array_call_starts : StartsIn ArrayCallAt (is terminal.Array)
+array_call_starts m text a h = joined_starts (MarkAt terminal.Array) (λ _ m. Joined (Mark terminal.OpenParenthesis) (λ _. Made (AnyItems (λ _. ItemAt m) terminal.CloseParenthesis) tree.Array)) (is terminal.Array) (mark_starts terminal.Array) m text a h.spelled
 
-pub call_starts : StartsIn CallAt (is sign.Name)
-call_starts m text a h = joined_starts (OneAt (by_kind name_in)) (λ name m. Joined (Mark sign.OpenParenthesis) (λ _. Made (AnyItems (λ _. Under part.Whole m) sign.CloseParenthesis) (tree.Call name))) (is sign.Name) name_starts m text a h.spelled
+pub call_starts : StartsIn CallAt (is terminal.Name)
+call_starts m text a h = joined_starts (OneAt (by_kind name_in)) (λ name m. Joined (Mark terminal.OpenParenthesis) (λ _. Made (AnyItems (λ _. Under part.Whole m) terminal.CloseParenthesis) (tree.Call name))) (is terminal.Name) name_starts m text a h.spelled
 
-pub isset_starts : StartsIn IssetAt (is sign.Isset)
-isset_starts m text a h = joined_starts (MarkAt sign.Isset) (λ _ m. Joined (Mark sign.OpenParenthesis) (λ _. Made (SomeItems (λ _. PlaceUnder m) sign.CloseParenthesis) tree.Isset)) (is sign.Isset) (mark_starts sign.Isset) m text a h.spelled
+pub isset_starts : StartsIn IssetAt (is terminal.Isset)
+isset_starts m text a h = joined_starts (MarkAt terminal.Isset) (λ _ m. Joined (Mark terminal.OpenParenthesis) (λ _. Made (SomeItems (λ _. PlaceUnder m) terminal.CloseParenthesis) tree.Isset)) (is terminal.Isset) (mark_starts terminal.Isset) m text a h.spelled
 
 pub prefixed_starts : StartsIn PrefixedAt begins_prefix
-prefixed_starts m text a h = joined_starts (OneAt (by_sign prefix_in)) (λ by. MadeAt (Under part.Alone) (tree.Unary by)) begins_prefix (sort_starts prefix_in) m text a h.spelled
+prefixed_starts m text a h = joined_starts (OneAt (by_terminal prefix_in)) (λ by. MadeAt (Under part.Alone) (tree.Unary by)) begins_prefix (sort_starts prefix_in) m text a h.spelled
 
 pub stepped_first_starts : StartsIn SteppedFirstAt begins_step
-stepped_first_starts m text a h = joined_starts (OneAt (by_sign step_in)) (λ by m. Made (PlaceUnder m) (λ of. tree.Step by StepFirst of)) begins_step (sort_starts step_in) m text a h.spelled
+stepped_first_starts m text a h = joined_starts (OneAt (by_terminal step_in)) (λ by m. Made (PlaceUnder m) (λ of. tree.Step by StepFirst of)) begins_step (sort_starts step_in) m text a h.spelled
 
-pub number_rule_starts : StartsIn NumberAt (is sign.Number)
-number_rule_starts = made_starts (OneAt (by_kind number_in)) tree.Number (is sign.Number) number_starts
+pub number_rule_starts : StartsIn NumberAt (is terminal.Number)
+number_rule_starts = made_starts (OneAt (by_kind number_in)) tree.Number (is terminal.Number) number_starts
 
-pub text_rule_starts : StartsIn TextAt (is sign.Text)
-text_rule_starts = made_starts (OneAt (by_kind text_in)) tree.Text (is sign.Text) text_starts
+pub text_rule_starts : StartsIn TextAt (is terminal.Text)
+text_rule_starts = made_starts (OneAt (by_kind text_in)) tree.Text (is terminal.Text) text_starts
 
 pub behind_array_starts : StartsIn (EitherAt ArrayCallAt CallAt) begins_behind_array
-behind_array_starts = or_starts ArrayCallAt CallAt (is sign.Array) (is sign.Name) array_call_starts call_starts
+behind_array_starts = or_starts ArrayCallAt CallAt (is terminal.Array) (is terminal.Name) array_call_starts call_starts
 
 pub behind_bracket_starts : StartsIn (EitherAt LiteralAt (EitherAt ArrayCallAt CallAt)) begins_behind_bracket
-behind_bracket_starts = or_starts LiteralAt (EitherAt ArrayCallAt CallAt) (is sign.OpenBracket) begins_behind_array literal_starts behind_array_starts
+behind_bracket_starts = or_starts LiteralAt (EitherAt ArrayCallAt CallAt) (is terminal.OpenBracket) begins_behind_array literal_starts behind_array_starts
 
 pub behind_group_starts : StartsIn (EitherAt GroupAt (EitherAt LiteralAt (EitherAt ArrayCallAt CallAt))) begins_behind_group
-behind_group_starts = or_starts GroupAt (EitherAt LiteralAt (EitherAt ArrayCallAt CallAt)) (is sign.OpenParenthesis) begins_behind_bracket group_starts behind_bracket_starts
+behind_group_starts = or_starts GroupAt (EitherAt LiteralAt (EitherAt ArrayCallAt CallAt)) (is terminal.OpenParenthesis) begins_behind_bracket group_starts behind_bracket_starts
 
 pub behind_constant_starts : StartsIn (EitherAt ConstantAt (EitherAt GroupAt (EitherAt LiteralAt (EitherAt ArrayCallAt CallAt)))) begins_behind_constant
 behind_constant_starts = or_starts ConstantAt (EitherAt GroupAt (EitherAt LiteralAt (EitherAt ArrayCallAt CallAt))) begins_constant begins_behind_group (sort_starts constant_in) behind_group_starts
 
 pub primary_starts : StartsIn PrimaryAt begins_primary
-primary_starts = or_starts TextAt (EitherAt ConstantAt (EitherAt GroupAt (EitherAt LiteralAt (EitherAt ArrayCallAt CallAt)))) (is sign.Text) begins_behind_constant text_rule_starts behind_constant_starts
+primary_starts = or_starts TextAt (EitherAt ConstantAt (EitherAt GroupAt (EitherAt LiteralAt (EitherAt ArrayCallAt CallAt)))) (is terminal.Text) begins_behind_constant text_rule_starts behind_constant_starts
 
 pub primary_indexed_starts : StartsIn PrimaryIndexedAt begins_primary
 primary_indexed_starts = joined_starts PrimaryAt (λ base. MadeAt (ManyAt IndexAt) (indexed base)) begins_primary primary_starts
 
 pub behind_isset_starts : StartsIn (EitherAt IssetAt PrimaryIndexedAt) begins_behind_isset
-behind_isset_starts = or_starts IssetAt PrimaryIndexedAt (is sign.Isset) begins_primary isset_starts primary_indexed_starts
+behind_isset_starts = or_starts IssetAt PrimaryIndexedAt (is terminal.Isset) begins_primary isset_starts primary_indexed_starts
 
 pub behind_number_starts : StartsIn (EitherAt NumberAt (EitherAt IssetAt PrimaryIndexedAt)) begins_behind_number
-behind_number_starts = or_starts NumberAt (EitherAt IssetAt PrimaryIndexedAt) (is sign.Number) begins_behind_isset number_rule_starts behind_isset_starts
+behind_number_starts = or_starts NumberAt (EitherAt IssetAt PrimaryIndexedAt) (is terminal.Number) begins_behind_isset number_rule_starts behind_isset_starts
 
 pub behind_step_starts : StartsIn (EitherAt SteppedFirstAt (EitherAt NumberAt (EitherAt IssetAt PrimaryIndexedAt))) begins_behind_step
 behind_step_starts = or_starts SteppedFirstAt (EitherAt NumberAt (EitherAt IssetAt PrimaryIndexedAt)) begins_step begins_behind_number stepped_first_starts behind_number_starts

@@ -4,7 +4,7 @@ use Rattle.dp_lexer.specs.declared.token.Token.{Token}
 use Rattle.dp_expressions.specs.declared.operand.Operand.{Operand}
 use Rattle.dp_expressions.specs.declared.operand.Operand.TheVariants as opened
 use Rattle.dp_expressions.specs.declared.rank.Rank.{Rank}
-use Rattle.dp_rules.specs.declared.sign.Sign.TheVariants as sign
+use Rattle.dp_rules.specs.declared.terminal.Terminal.TheVariants as terminal
 use Rattle.dp_tree.specs.declared.tree.Expression.{Expression}
 use Rattle.dp_tree.specs.declared.tree.Expression.TheVariants as tree
 use Rattle.dp_tree.specs.declared.tree.Place.{Place}
@@ -14,7 +14,7 @@ use Rattle.dp_expressions.specs.Grammar.{Inner, step_in, assignment_in, place, i
 use Rattle.dp_expressions.specs.inner.Reading.{tree_of}
 use Rattle.dp_rules.proofs.Answers.{give, given}
 use Rattle.dp_rules.proofs.ListAnswers.{behind_made, made_behind}
-use Rattle.dp_rules.specs.Worths.{number_in, Kind, Sort, Variable}
+use Rattle.dp_rules.specs.TokenValues.{number_in, Kind, Sort, Variable}
 
 -- ---- one after the other
 
@@ -139,7 +139,7 @@ StepLast p = Made (Sort step_in) (λ by. opened.Other (tree.Step by ValueFirst p
 
 -- `[]`, where a level is left
 abbrev pub EmptyIndex : ℕ → Rule ℕ
-EmptyIndex level = Nests level (Joined (Mark sign.OpenBracket) (λ _. Mark sign.CloseBracket))
+EmptyIndex level = Nests level (Joined (Mark terminal.OpenBracket) (λ _. Mark terminal.CloseBracket))
 
 module _ (level : ℕ) (i : Inner) where
   abbrev pub PrimaryIndexed : Rule Expression
@@ -227,8 +227,8 @@ module _ (level : ℕ) (i : Inner) where
 -- Behind a place and `[]`, which is spelled only where a level is left. At level 0, where it is not, this is a rule that
 -- the rules of the levels above spell too.
 abbrev pub PushTail : ℕ → Inner → Place → Rule Expression
-PushTail zero i to = Joined (Mark sign.Assign) (λ _. Made (IsExpression 0) (tree.Push to))
-PushTail (suc level) i to = Joined (Mark sign.Assign) (λ _. Made i.expression (tree.Push to))
+PushTail zero i to = Joined (Mark terminal.Assign) (λ _. Made (IsExpression 0) (tree.Push to))
+PushTail (suc level) i to = Joined (Mark terminal.Assign) (λ _. Made i.expression (tree.Push to))
 
 module _ (level : ℕ) (i : Inner) where
   -- an expression from its first operand
@@ -299,7 +299,7 @@ module _ (level : ℕ) (i : Inner) where
   goes front back text first e split one other = inr (inr (inr (going_on level i text e (record { front = front; back = back; value = first; split = split; one = one; other = other }))))
 
   pushes : (front back text : List Token) (p : Place) (e : Expression) → text ≡ front ++ back → PushedPlace front p
-      → Made (Nests level (Joined (Mark sign.Assign) (λ _. i.expression))) (λ from. tree.Push p from) back e → ExpressionRule level i text e
+      → Made (Nests level (Joined (Mark terminal.Assign) (λ _. i.expression))) (λ from. tree.Push p from) back e → ExpressionRule level i text e
   pushes front back text p e split j rest =
       let g = given (EmptyIndex level) (λ _. j.value) j.back p j.other in
       inr (inl (record {
@@ -308,7 +308,7 @@ module _ (level : ℕ) (i : Inner) where
         value = j.value;
         split = split ∙ ap (λ l. l ++ back) j.split ∙ append_assoc j.front j.back back;
         one = j.one;
-        other = record { front = j.back; back = back; value = g.0; split = refl; one = g.1; other = subst (λ q. Made (Nests level (Joined (Mark sign.Assign) (λ _. i.expression))) (λ from. tree.Push q from) back e) g.2 rest };
+        other = record { front = j.back; back = back; value = g.0; split = refl; one = g.1; other = subst (λ q. Made (Nests level (Joined (Mark terminal.Assign) (λ _. i.expression))) (λ from. tree.Push q from) back e) g.2 rest };
       }))
 
   pub no_push : (text : List Token) (p : Place) → level ≡ 0 → PushedPlace text p → ⊥
@@ -318,16 +318,16 @@ module _ (i : Inner) where
   push_tail : (level : ℕ) (front back text : List Token) (p : Place) (e : Expression) → text ≡ front ++ back → PushedPlace level i front p → PushTail level i p back e → ExpressionRule level i text e
   push_tail zero front back text p e split one rest = absurd (no_push 0 i front p refl one)
   push_tail (suc level) front back text p e split one rest =
-      let h = made_behind (Mark sign.Assign) (λ _. i.expression) (tree.Push p) back e rest in
-      let g = given (Joined (Mark sign.Assign) (λ _. i.expression)) (tree.Push p) back e h in
+      let h = made_behind (Mark terminal.Assign) (λ _. i.expression) (tree.Push p) back e rest in
+      let g = given (Joined (Mark terminal.Assign) (λ _. i.expression)) (tree.Push p) back e h in
       pushes (suc level) i front back text p e split one
-      (subst (λ x. Made (Nests (suc level) (Joined (Mark sign.Assign) (λ _. i.expression))) (λ from. tree.Push p from) back x) (sym g.2)
-      (give (Nests (suc level) (Joined (Mark sign.Assign) (λ _. i.expression))) (tree.Push p) back g.0 (record { some = omega arith; spelled = g.1 })))
+      (subst (λ x. Made (Nests (suc level) (Joined (Mark terminal.Assign) (λ _. i.expression))) (λ from. tree.Push p from) back x) (sym g.2)
+      (give (Nests (suc level) (Joined (Mark terminal.Assign) (λ _. i.expression))) (tree.Push p) back g.0 (record { some = omega arith; spelled = g.1 })))
 
-  tail_of_push : (level : ℕ) (front back : List Token) (p : Place) (e : Expression) → PushedPlace level i front p → Made (Nests level (Joined (Mark sign.Assign) (λ _. i.expression))) (λ from. tree.Push p from) back e → PushTail level i p back e
+  tail_of_push : (level : ℕ) (front back : List Token) (p : Place) (e : Expression) → PushedPlace level i front p → Made (Nests level (Joined (Mark terminal.Assign) (λ _. i.expression))) (λ from. tree.Push p from) back e → PushTail level i p back e
   tail_of_push zero front back p e one rest = absurd (no_push 0 i front p refl one)
   tail_of_push (suc level) front back p e one rest =
-      behind_made (Mark sign.Assign) (λ _. i.expression) (tree.Push p) back e (made_inside (suc level) (Joined (Mark sign.Assign) (λ _. i.expression)) (tree.Push p) back e rest).spelled
+      behind_made (Mark terminal.Assign) (λ _. i.expression) (tree.Push p) back e (made_inside (suc level) (Joined (Mark terminal.Assign) (λ _. i.expression)) (tree.Push p) back e rest).spelled
 
 module _ (level : ℕ) (i : Inner) where
   opened_expression : (front back text : List Token) (v : Operand) (e : Expression) → text ≡ front ++ back → Spells level i v front → Rest level i v back e → ExpressionRule level i text e

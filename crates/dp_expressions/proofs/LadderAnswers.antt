@@ -3,31 +3,31 @@ use Rattle.std.proofs.Common.{◌≡◌, ℕ, ◌<◌, ◌≤◌, Bool, true, fa
 use Rattle.dp_lexer.specs.declared.token.Token.{Token}
 use Rattle.dp_expressions.specs.declared.rank.Rank.{Rank}
 use Rattle.dp_expressions.specs.declared.rank.Rank.TheVariants as rank
-use Rattle.dp_rules.specs.declared.sign.Sign.{Sign}
+use Rattle.dp_rules.specs.declared.terminal.Terminal.{Terminal}
 use Rattle.dp_tree.specs.declared.tree.Expression.{Expression}
 use Rattle.dp_tree.specs.declared.tree.Link.{Link}
-use Rattle.dp_rules.specs.Signs.{head}
+use Rattle.dp_rules.specs.Terminals.{head}
 use Rattle.dp_rules.specs.inner.Input.{Reader, ◌>>=◌, made, gives}
 use Rattle.dp_expressions.specs.Grammar.{operator_in, link, chained, may_go_on, LinkOf, NextLink, Links, Ladder, ranks}
 use Rattle.dp_expressions.specs.inner.Reading.{link_of, links_step, links_of, ladder, ladder_from}
-use Rattle.dp_rules.proofs.Signs.{and_parts, both, excluded}
+use Rattle.dp_rules.proofs.Terminals.{and_parts, both, excluded}
 use Rattle.dp_rules.proofs.Answers.{Rules, GivesAt, OneAt, MadeAt, StepAt, Answers, Follows, Can, GoesOn, StartsIn, give, joined_starts, made_starts, starts_in_more, gives_apart, gives_follow, made_answers, gives_answers, joined_answers, when_holds}
 use Rattle.dp_rules.proofs.Loops.{step_stop, closed_follows, closed_answers, piece_first}
 use Rattle.dp_expressions.proofs.Heights.{height, rank_height, looser, stop_at, looser_less, rank_operators}
 use Rattle.dp_expressions.proofs.Least.{gives_it, then_nothing, least_ladder}
 use Rattle.dp_expressions.proofs.Factored.{From}
 use Rattle.dp_rules.proofs.More.{level_self, sort_starts, one_then, joined_follows, made_follows}
-use Rattle.dp_rules.specs.Worths.{by_sign}
+use Rattle.dp_rules.specs.TokenValues.{by_terminal}
 
-abbrev pub operates : Rank → Sign → Bool
+abbrev pub operates : Rank → Terminal → Bool
 operates r s = is_some (operator_in r s)
 
 -- an operator goes on more loosely than what binds more tightly
-operator_looser : (h : ℕ) (r : Rank) → h < rank_height r → (s : Sign) → operates r s ≡ true → looser h s ≡ true
+operator_looser : (h : ℕ) (r : Rank) → h < rank_height r → (s : Terminal) → operates r s ≡ true → looser h s ≡ true
 operator_looser h r below s is = let at : height s ≡ rank_height r = rank_operators r s is in lt-ltb h (height s) (omega arith)
 
 -- behind a rank is no operator of it
-no_operator : (r : Rank) (s : Sign) → looser (rank_height r) s ≡ true → operates r s ≡ false
+no_operator : (r : Rank) (s : Terminal) → looser (rank_height r) s ≡ true → operates r s ≡ false
 no_operator rank.Product s = excluded (looser 3) (operates rank.Product) refl s
 no_operator rank.Sum s = excluded (looser 4) (operates rank.Sum) refl s
 no_operator rank.Concatenation s = excluded (looser 5) (operates rank.Concatenation) refl s
@@ -52,11 +52,11 @@ module _ (operand : Rules ℕ Expression) (r : Rank) where
   abbrev pub LinksAt : Rules ℕ (List Link)
   LinksAt m = Links (operand m) r
 
-  abbrev goes_on : List Link → Sign → Bool
+  abbrev goes_on : List Link → Terminal → Bool
   goes_on links s = may_go_on r links && operates r s
 
   link_starts : StartsIn LinkAt (operates r)
-  link_starts = joined_starts (OneAt (by_sign (operator_in r))) (λ by. MadeAt operand (link by)) (operates r) (sort_starts (operator_in r))
+  link_starts = joined_starts (OneAt (by_terminal (operator_in r))) (λ by. MadeAt operand (link by)) (operates r) (sort_starts (operator_in r))
 
   next_starts : (links : List Link) → StartsIn (NextLinkAt links) (goes_on links)
   next_starts links m text a h =
@@ -64,7 +64,7 @@ module _ (operand : Rules ℕ Expression) (r : Rank) where
       (s.0, s.1, s.2, both (may_go_on r links) (operates r _) h.holds s.3)
 
   -- what a test lets stand behind, it lets stand behind further links, if it lets the operators
-  pub links_pass : (t : Sign → Bool) → ((s : Sign) → operates r s ≡ true → t s ≡ true) → Follows {A = Expression} (λ _ s. t s) (λ _. LinksAt) (λ _ s. t s)
+  pub links_pass : (t : Terminal → Bool) → ((s : Terminal) → operates r s ≡ true → t s ≡ true) → Follows {A = Expression} (λ _ s. t s) (λ _. LinksAt) (λ _ s. t s)
   links_pass t passes m e = closed_follows NextLinkAt (λ links. GivesAt links) (λ _ s. t s) (λ _ s. t s)
       (λ links. starts_in_more (NextLinkAt links) (goes_on links) t (λ s e. passes s (and_parts (may_go_on r links) (operates r s) e).1) (next_starts links))
       (gives_follow (λ links. links) (λ _ s. t s) (λ _ s. t s) (λ links s e. e)) m []
@@ -83,7 +83,7 @@ module _ (operand : Rules ℕ Expression) (r : Rank) where
     module _ (level : ℕ) (can : Can ◌≤◌ level operand) (reader : Reader Expression) (reads : (ts : List Token) → Answers ◌≤◌ operand (stop_at h) level ts (reader ts)) where
       link_answers : (ts : List Token) → Answers ◌≤◌ LinkAt (stop_at h) level ts (link_of reader r ts)
       unfolding link_of
-      link_answers ts = one_then (by_sign (operator_in r)) (λ by. MadeAt operand (link by)) (stop_at h) level ts (λ by. made reader (link by))
+      link_answers ts = one_then (by_terminal (operator_in r)) (λ by. MadeAt operand (link by)) (stop_at h) level ts (λ by. made reader (link by))
           (λ m above by. let c = can m above in (c.0, link by c.1, give (operand m) (link by) c.0 c.1 c.2))
           (λ by us. made_answers ◌≤◌ level_self operand (link by) (stop_at h) (stop_at h) level us (λ a s e. e) (reader us) (reads us))
 
@@ -133,7 +133,7 @@ module _ (operand : Rules ℕ Expression) where
   chained_goes_on : (level : ℕ) (r : Rank) (more : List Rank) → GoesOn ◌≤◌ level (ChainedAt r more)
   chained_goes_on level r more m above first = ([], first, give (Links (Ladder more (operand m)) r) (λ links. chained first links) [] [] (record { count = 0; chain = gives_it [] }))
 
-  pub from_pass : (t : Sign → Bool) → ((r : Rank) (s : Sign) → operates r s ≡ true → t s ≡ true) → (rs : List Rank) → Follows (λ _ s. t s) (FromAt rs) (λ _ s. t s)
+  pub from_pass : (t : Terminal → Bool) → ((r : Rank) (s : Terminal) → operates r s ≡ true → t s ≡ true) → (rs : List Rank) → Follows (λ _ s. t s) (FromAt rs) (λ _ s. t s)
   from_pass t passes [] = gives_follow (λ e. e) (λ _ s. t s) (λ _ s. t s) (λ e s is. is)
   from_pass t passes (r ∷ more) = joined_follows (λ _ s. t s) (FromAt more) (λ _ s. t s) (ChainedAt r more) (λ _ s. t s) (from_pass t passes more)
       (made_follows (λ _ s. t s) (λ _. LinksAt (LadderAt more) r) (λ first links. chained first links) (λ _ s. t s) (λ _ s. t s) (λ a b s e. e) (links_pass (LadderAt more) r t (passes r)))

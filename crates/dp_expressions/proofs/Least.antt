@@ -5,12 +5,12 @@ use Rattle.dp_lexer.specs.declared.token.TokenKind.TheVariants as kind
 use Rattle.dp_expressions.specs.declared.rank.Rank.{Rank}
 use Rattle.dp_tree.specs.declared.tree.Expression.{Expression}
 use Rattle.dp_tree.specs.declared.tree.Expression.TheVariants as tree
-use Rattle.dp_rules.specs.declared.sign.Sign.TheVariants as sign
+use Rattle.dp_rules.specs.declared.terminal.Terminal.TheVariants as terminal
 use Rattle.dp_tree.specs.declared.tree.Place.{Place}
 use Rattle.dp_rules.specs.Rules.{Rule, Joined, Gives, Closed}
 use Rattle.dp_expressions.specs.Grammar.{Inner, Ladder, PlaceOf, place, Index, OperandRule, CoalesceRule, ConditionalRule, ExpressionRule, ranks, inner, IsExpression, IsPlace}
-use Rattle.dp_rules.proofs.Signs.{placed, mark_alone}
-use Rattle.dp_rules.specs.Worths.{Text}
+use Rattle.dp_rules.proofs.Terminals.{placed, mark_alone}
+use Rattle.dp_rules.specs.TokenValues.{Text}
 
 -- `0`
 abbrev pub zero_token : Token
@@ -88,14 +88,14 @@ least_index level i some h = record {
     back = zero_token ∷ (placed kind.CloseBracket ∷ []);
     value = 1;
     split = refl;
-    one = mark_alone sign.OpenBracket kind.OpenBracket refl;
+    one = mark_alone terminal.OpenBracket kind.OpenBracket refl;
     other = record {
       front = zero_text;
       back = placed kind.CloseBracket ∷ [];
       value = zero_tree;
       split = refl;
       one = h;
-      other = record { front = placed kind.CloseBracket ∷ []; back = []; value = 1; split = refl; one = mark_alone sign.CloseBracket kind.CloseBracket refl; other = gives_it zero_tree };
+      other = record { front = placed kind.CloseBracket ∷ []; back = []; value = 1; split = refl; one = mark_alone terminal.CloseBracket kind.CloseBracket refl; other = gives_it zero_tree };
     };
   };
 }

@@ -5,12 +5,12 @@ use Rattle.dp_lexer.specs.declared.token.Token.{Token}
 use Rattle.dp_expressions.specs.declared.operand.Part.{Part}
 use Rattle.dp_expressions.specs.declared.operand.Part.TheVariants as part
 use Rattle.dp_grammar.specs.declared.refusal.Refusal.TheVariants.{Unexpected, TooDeep, Memory}
-use Rattle.dp_rules.specs.declared.sign.Sign.{Sign}
-use Rattle.dp_rules.specs.declared.sign.Sign.TheVariants as sign
+use Rattle.dp_rules.specs.declared.terminal.Terminal.{Terminal}
+use Rattle.dp_rules.specs.declared.terminal.Terminal.TheVariants as terminal
 use Rattle.dp_tree.specs.declared.tree.Expression.{Expression}
 use Rattle.dp_tree.specs.declared.tree.Place.{Place}
 use Rattle.dp_grammar.specs.Rules.{head as first}
-use Rattle.dp_rules.specs.Signs.{sign_of, is, head}
+use Rattle.dp_rules.specs.Terminals.{terminal_of, is, head}
 use Rattle.dp_rules.specs.Refused.{IsViable, IsDeadAt, IsUnexpected, IsTooDeep}
 use Rattle.dp_rules.specs.inner.Input.{Outcome, Reader}
 use Rattle.dp_rules.proofs.Answers.{Rules, Stop, Begins, IsRead, IsRefused, Agrees, Answers, StartsIn}
@@ -25,7 +25,7 @@ use Rattle.dp_expressions.proofs.ExpressionAnswers.{expression_answers, place_an
 
 -- The reader reads the rule at this level, of tokens that it may read, as what is spelled is.
 pub record ReadsAt {A : Type 0} (rule : Rules ℕ A) (stop : Stop A) (level : ℕ) (may : List Token → Type 0) (p : Reader A) : Type 0 where
-  pub stops : (a : A) → stop a sign.End ≡ true
+  pub stops : (a : A) → stop a terminal.End ≡ true
   pub answers : (ts : List Token) → may ts → Answers ◌≤◌ rule stop level ts (p ts)
   pub spelled_may : (text : List Token) (a : A) → rule level text a → may text
   pub some : (ts : List Token) × (a : A) × rule level ts a
@@ -133,8 +133,8 @@ module _ {A : Type 0} {rule : Rules ℕ A} {stop : Stop A} {level : ℕ} {may : 
 
 -- ---- expressions and places
 
-bracket : (text : List Token) → (x : Token) × (rest : List Token) × (text ≡ x ∷ rest) × (is sign.OpenBracket (sign_of x.kind) ≡ true) → is sign.OpenBracket (head text) ≡ true
-bracket text s = ap (λ l. is sign.OpenBracket (head l)) s.2 ∙ s.3
+bracket : (text : List Token) → (x : Token) × (rest : List Token) × (text ≡ x ∷ rest) × (is terminal.OpenBracket (terminal_of x.kind) ≡ true) → is terminal.OpenBracket (head text) ≡ true
+bracket text s = ap (λ l. is terminal.OpenBracket (head l)) s.2 ∙ s.3
 
 pub part_reads : (p : Part) (level : ℕ) (ts : List Token) → may_read p level ts → IsReadBy (rule_of p) level ts (reading level p ts)
 part_reads part.Whole level ts may = reads_at {rule = At part.Whole} {stop = stop_of part.Whole} {level = level} {may = λ _. Unit {0}} {p = reading level part.Whole} (record {
@@ -155,12 +155,12 @@ part_reads part.Alone level ts may = reads_at {rule = At part.Alone} {stop = sto
   spelled_may = λ text a h. tt;
   some = (zero_text, zero_tree, least_operand level (inner level));
 }) ts tt
-part_reads part.Index level ts may = reads_at {rule = At part.Index} {stop = stop_of part.Index} {level = level} {may = λ us. is sign.OpenBracket (head us) ≡ true} {p = reading level part.Index} (record {
+part_reads part.Index level ts may = reads_at {rule = At part.Index} {stop = stop_of part.Index} {level = level} {may = λ us. is terminal.OpenBracket (head us) ≡ true} {p = reading level part.Index} (record {
   stops = λ a. refl;
   answers = λ us ok. expression_answers part.Index level us ok;
   spelled_may = λ text a h. bracket text (index_starts level text a h);
   some = some_index level may.0;
-}) ts (ap (is sign.OpenBracket) may.1)
+}) ts (ap (is terminal.OpenBracket) may.1)
   where
     some_index : (level : ℕ) → 0 < level → (us : List Token) × (a : Expression) × At part.Index level us a
     some_index zero some = absurd (omega arith)

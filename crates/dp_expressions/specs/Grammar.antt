@@ -8,8 +8,8 @@ use Rattle.dp_expressions.specs.declared.operand.Assignment.{Assignment}
 use Rattle.dp_expressions.specs.declared.operand.Assignment.TheVariants as assignment
 use Rattle.dp_expressions.specs.declared.rank.Rank.{Rank}
 use Rattle.dp_expressions.specs.declared.rank.Rank.TheVariants as rank
-use Rattle.dp_rules.specs.declared.sign.Sign.{Sign}
-use Rattle.dp_rules.specs.declared.sign.Sign.TheVariants as sign
+use Rattle.dp_rules.specs.declared.terminal.Terminal.{Terminal}
+use Rattle.dp_rules.specs.declared.terminal.Terminal.TheVariants as terminal
 use Rattle.dp_tree.specs.declared.tree.Expression.{Expression}
 use Rattle.dp_tree.specs.declared.tree.Expression.TheVariants as tree
 use Rattle.dp_tree.specs.declared.tree.Place.{Place}
@@ -20,62 +20,62 @@ use Rattle.dp_tree.specs.declared.tree.Operator.TheVariants as operator
 use Rattle.dp_tree.specs.declared.tree.Order.TheVariants.{StepFirst, ValueFirst}
 use Rattle.dp_tree.specs.declared.tree.Inclusion.{Inclusion}
 use Rattle.dp_tree.specs.declared.tree.Inclusion.TheVariants as inclusion
-use Rattle.dp_rules.specs.Worths.{Text, name_in, number_in, text_in, Sort, Kind, Variable}
+use Rattle.dp_rules.specs.TokenValues.{Text, name_in, number_in, text_in, Sort, Kind, Variable}
 use Rattle.dp_rules.specs.Rules.{Rule, ◌>>=◌, ◌>>◌, ◌or◌, Gives, Made, Mark, When, Nests, Closed, Many, Perhaps}
 use Rattle.dp_rules.specs.Lists.{SomeItems, AnyItems}
 
 -- ---- what a token is worth, by its sort
 
-abbrev pub prefix_in : Sign → Option UnaryOp
-prefix_in sign.Bang = Some unary.Not
-prefix_in sign.Minus = Some unary.Minus
-prefix_in sign.Plus = Some unary.Plus
+abbrev pub prefix_in : Terminal → Option UnaryOp
+prefix_in terminal.Bang = Some unary.Not
+prefix_in terminal.Minus = Some unary.Minus
+prefix_in terminal.Plus = Some unary.Plus
 prefix_in _ = None
 
-abbrev pub step_in : Sign → Option UnaryOp
-step_in sign.Increment = Some unary.Increment
-step_in sign.Decrement = Some unary.Decrement
+abbrev pub step_in : Terminal → Option UnaryOp
+step_in terminal.Increment = Some unary.Increment
+step_in terminal.Decrement = Some unary.Decrement
 step_in _ = None
 
-abbrev pub inclusion_in : Sign → Option Inclusion
-inclusion_in sign.Include = Some inclusion.Include
-inclusion_in sign.Require = Some inclusion.Require
+abbrev pub inclusion_in : Terminal → Option Inclusion
+inclusion_in terminal.Include = Some inclusion.Include
+inclusion_in terminal.Require = Some inclusion.Require
 inclusion_in _ = None
 
-abbrev pub assignment_in : Sign → Option Assignment
-assignment_in sign.Assign = Some assignment.Plain
-assignment_in sign.AddAssign = Some (assignment.Compound binary.Add)
-assignment_in sign.SubtractAssign = Some (assignment.Compound binary.Sub)
-assignment_in sign.MultiplyAssign = Some (assignment.Compound binary.Mul)
-assignment_in sign.ConcatAssign = Some (assignment.Compound binary.Concat)
-assignment_in sign.RemainderAssign = Some (assignment.Compound binary.Rem)
-assignment_in sign.CoalesceAssign = Some assignment.Coalesce
+abbrev pub assignment_in : Terminal → Option Assignment
+assignment_in terminal.Assign = Some assignment.Plain
+assignment_in terminal.AddAssign = Some (assignment.Compound binary.Add)
+assignment_in terminal.SubtractAssign = Some (assignment.Compound binary.Sub)
+assignment_in terminal.MultiplyAssign = Some (assignment.Compound binary.Mul)
+assignment_in terminal.ConcatAssign = Some (assignment.Compound binary.Concat)
+assignment_in terminal.RemainderAssign = Some (assignment.Compound binary.Rem)
+assignment_in terminal.CoalesceAssign = Some assignment.Coalesce
 assignment_in _ = None
 
-abbrev pub constant_in : Sign → Option Expression
-constant_in sign.Null = Some tree.Null
-constant_in sign.True = Some (tree.Bool true)
-constant_in sign.False = Some (tree.Bool false)
+abbrev pub constant_in : Terminal → Option Expression
+constant_in terminal.Null = Some tree.Null
+constant_in terminal.True = Some (tree.Bool true)
+constant_in terminal.False = Some (tree.Bool false)
 constant_in _ = None
 
 -- the operators of each rank
-abbrev pub operator_in : Rank → Sign → Option Operator
-operator_in rank.Or sign.EitherOf = Some operator.Or
-operator_in rank.And sign.BothOf = Some operator.And
-operator_in rank.Equality sign.Equal = Some (operator.Of binary.Equal)
-operator_in rank.Equality sign.NotEqual = Some (operator.Of binary.NotEqual)
-operator_in rank.Equality sign.Identical = Some (operator.Of binary.Identical)
-operator_in rank.Equality sign.NotIdentical = Some (operator.Of binary.NotIdentical)
-operator_in rank.Equality sign.Spaceship = Some (operator.Of binary.Spaceship)
-operator_in rank.Comparison sign.Less = Some (operator.Of binary.Less)
-operator_in rank.Comparison sign.LessOrEqual = Some (operator.Of binary.LessEqual)
-operator_in rank.Comparison sign.Greater = Some (operator.Of binary.Greater)
-operator_in rank.Comparison sign.GreaterOrEqual = Some (operator.Of binary.GreaterEqual)
-operator_in rank.Concatenation sign.Dot = Some (operator.Of binary.Concat)
-operator_in rank.Sum sign.Plus = Some (operator.Of binary.Add)
-operator_in rank.Sum sign.Minus = Some (operator.Of binary.Sub)
-operator_in rank.Product sign.Star = Some (operator.Of binary.Mul)
-operator_in rank.Product sign.Percent = Some (operator.Of binary.Rem)
+abbrev pub operator_in : Rank → Terminal → Option Operator
+operator_in rank.Or terminal.EitherOf = Some operator.Or
+operator_in rank.And terminal.BothOf = Some operator.And
+operator_in rank.Equality terminal.Equal = Some (operator.Of binary.Equal)
+operator_in rank.Equality terminal.NotEqual = Some (operator.Of binary.NotEqual)
+operator_in rank.Equality terminal.Identical = Some (operator.Of binary.Identical)
+operator_in rank.Equality terminal.NotIdentical = Some (operator.Of binary.NotIdentical)
+operator_in rank.Equality terminal.Spaceship = Some (operator.Of binary.Spaceship)
+operator_in rank.Comparison terminal.Less = Some (operator.Of binary.Less)
+operator_in rank.Comparison terminal.LessOrEqual = Some (operator.Of binary.LessEqual)
+operator_in rank.Comparison terminal.Greater = Some (operator.Of binary.Greater)
+operator_in rank.Comparison terminal.GreaterOrEqual = Some (operator.Of binary.GreaterEqual)
+operator_in rank.Concatenation terminal.Dot = Some (operator.Of binary.Concat)
+operator_in rank.Sum terminal.Plus = Some (operator.Of binary.Add)
+operator_in rank.Sum terminal.Minus = Some (operator.Of binary.Sub)
+operator_in rank.Product terminal.Star = Some (operator.Of binary.Mul)
+operator_in rank.Product terminal.Percent = Some (operator.Of binary.Rem)
 operator_in _ _ = None
 
 -- the ranks, those that bind more tightly later
@@ -172,9 +172,9 @@ module _ (level : ℕ) (inner : Inner) where
   -- "[" expr "]"
   abbrev pub Index : Rule Expression
   Index = Nests level (do
-    Mark sign.OpenBracket
+    Mark terminal.OpenBracket
     at ← inner.expression
-    Mark sign.CloseBracket
+    Mark terminal.CloseBracket
     Gives at)
 
   -- place = var *( "[" expr "]" )
@@ -184,15 +184,15 @@ module _ (level : ℕ) (inner : Inner) where
   -- "(" expr ")"
   abbrev pub Group : Rule Expression
   Group = Nests level (do
-    Mark sign.OpenParenthesis
+    Mark terminal.OpenParenthesis
     within ← inner.expression
-    Mark sign.CloseParenthesis
+    Mark terminal.CloseParenthesis
     Gives within)
 
   -- item = expr [ "=>" expr ]
   abbrev pub ItemRest : Expression → Rule Item
   ItemRest first =
-      Made (Mark sign.Arrow >> inner.expression) (λ value. item (Some first) value)
+      Made (Mark terminal.Arrow >> inner.expression) (λ value. item (Some first) value)
       or Gives (item None first)
 
   abbrev pub ItemRule : Rule Item
@@ -201,32 +201,32 @@ module _ (level : ℕ) (inner : Inner) where
   -- "[" items "]"
   abbrev pub Literal : Rule Expression
   Literal = Nests level (do
-    Mark sign.OpenBracket
-    items ← AnyItems (λ _. ItemRule) sign.CloseBracket
+    Mark terminal.OpenBracket
+    items ← AnyItems (λ _. ItemRule) terminal.CloseBracket
     Gives (tree.Array items))
 
   -- "array" "(" items ")"
   abbrev pub ArrayCall : Rule Expression
   ArrayCall = Nests level (do
-    Mark sign.Array
-    Mark sign.OpenParenthesis
-    items ← AnyItems (λ _. ItemRule) sign.CloseParenthesis
+    Mark terminal.Array
+    Mark terminal.OpenParenthesis
+    items ← AnyItems (λ _. ItemRule) terminal.CloseParenthesis
     Gives (tree.Array items))
 
   -- name "(" args ")"
   abbrev pub Call : Rule Expression
   Call = Nests level (do
     name ← Kind name_in
-    Mark sign.OpenParenthesis
-    arguments ← AnyItems (λ _. inner.expression) sign.CloseParenthesis
+    Mark terminal.OpenParenthesis
+    arguments ← AnyItems (λ _. inner.expression) terminal.CloseParenthesis
     Gives (tree.Call name arguments))
 
   -- "isset" "(" places ")"
   abbrev pub Isset : Rule Expression
   Isset = Nests level (do
-    Mark sign.Isset
-    Mark sign.OpenParenthesis
-    places ← SomeItems (λ _. PlaceOf inner.index) sign.CloseParenthesis
+    Mark terminal.Isset
+    Mark terminal.OpenParenthesis
+    places ← SomeItems (λ _. PlaceOf inner.index) terminal.CloseParenthesis
     Gives (tree.Isset places))
 
   -- prim but var = string | "true" | "false" | "null" | "(" expr ")" | "[" items "]"
@@ -271,7 +271,8 @@ module _ (level : ℕ) (inner : Inner) where
   -- coal = or [ "??" coal ]
   abbrev pub CoalesceRest : Expression → Rule Expression
   CoalesceRest left =
-      Made (Nests level (Mark sign.Coalesce >> inner.coalesce)) (λ right. tree.Coalesce left right)
+      Made (Nests level (Mark terminal.Coalesce >> inner.coalesce))
+      (λ right. tree.Coalesce left right)
       or Gives left
 
   abbrev pub CoalesceRule : Rule Expression
@@ -280,9 +281,9 @@ module _ (level : ℕ) (inner : Inner) where
   -- tern = coal [ "?" [ expr ] ":" coal ]
   abbrev pub Branches : Expression → Rule Expression
   Branches test = do
-    Mark sign.Question
+    Mark terminal.Question
     middle ← Perhaps (Nests level inner.expression)
-    Mark sign.Colon
+    Mark terminal.Colon
     otherwise ← CoalesceRule
     Gives (tree.Conditional test middle otherwise)
 
@@ -303,8 +304,8 @@ module _ (level : ℕ) (inner : Inner) where
   abbrev pub PushRule : Rule Expression
   PushRule = do
     to ← PlaceRule
-    Nests level (Mark sign.OpenBracket >> Mark sign.CloseBracket)
-    from ← Nests level (Mark sign.Assign >> inner.expression)
+    Nests level (Mark terminal.OpenBracket >> Mark terminal.CloseBracket)
+    from ← Nests level (Mark terminal.Assign >> inner.expression)
     Gives (tree.Push to from)
 
   -- place ( "=" | "+=" | "-=" | "*=" | ".=" | "%=" | "??=" ) expr

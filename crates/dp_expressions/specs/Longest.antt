@@ -4,9 +4,9 @@ use Rattle.dp_lexer.specs.declared.token.Token.{Token}
 use Rattle.dp_expressions.specs.declared.operand.Part.{Part}
 use Rattle.dp_expressions.specs.declared.operand.Part.TheVariants as part
 use Rattle.dp_grammar.specs.declared.refusal.Refusal.TheVariants.{Unexpected, TooDeep, Memory}
-use Rattle.dp_rules.specs.declared.sign.Sign.TheVariants as sign
+use Rattle.dp_rules.specs.declared.terminal.Terminal.TheVariants as terminal
 use Rattle.dp_tree.specs.declared.tree.Expression.{Expression}
-use Rattle.dp_rules.specs.Signs.{head}
+use Rattle.dp_rules.specs.Terminals.{head}
 use Rattle.dp_rules.specs.Rules.{Rule}
 use Rattle.dp_rules.specs.Refused.{IsViable, IsUnexpected, IsTooDeep}
 use Rattle.dp_rules.specs.inner.Input.{Outcome}
@@ -46,4 +46,4 @@ abbrev pub may_read : Part → ℕ → List Token → Type 0
 may_read part.Whole level ts = ⊤
 may_read part.Coalesce level ts = ⊤
 may_read part.Alone level ts = ⊤
-may_read part.Index level ts = (0 < level) × (head ts ≡ sign.OpenBracket)
+may_read part.Index level ts = (0 < level) × (head ts ≡ terminal.OpenBracket)

@@ -10,8 +10,8 @@ use crate::inside::{Called, Inside};
 use crate::ladders::RANKS;
 use crate::nodes::{assigned, included, pushed, value_of};
 use crate::operand::{Operand, Part};
-use crate::worths::{assignment, assignment_in, begins_expression, inclusion, inclusion_in};
-use dp_rules::{Refusal, Sign, Tokens};
+use crate::token_values::{assignment, assignment_in, begins_expression, inclusion, inclusion_in};
+use dp_rules::{Refusal, Terminal, Tokens};
 use dp_tree::{Boxed, Expression, Place};
 use std::alloc::Global;
 
@@ -21,7 +21,7 @@ impl<R: Inside> Grammar<R> {
         ensures { Reads (within spec.coalesce_right self.now tokens.old) result tokens.new }
     {
         self.enter(tokens)?;
-        tokens.mark(Sign::Coalesce)?;
+        tokens.mark(Terminal::Coalesce)?;
         self.inner(tokens, Part::Coalesce)
     }
 
@@ -33,7 +33,7 @@ impl<R: Inside> Grammar<R> {
     ) -> Result<Expression, Refusal>
         ensures { Reads (within spec.coalesce_rest self.now left tokens.old) result tokens.new }
     {
-        if !tokens.sees(Sign::Coalesce) {
+        if !tokens.sees(Terminal::Coalesce) {
             return Ok(left);
         }
         let left = Boxed::new(self.alloc(), left)?;
@@ -69,9 +69,9 @@ impl<R: Inside> Grammar<R> {
         ensures { Reads (within spec.branches self.now test tokens.old) result tokens.new }
     {
         let test = Boxed::new(self.alloc(), test)?;
-        tokens.mark(Sign::Question)?;
+        tokens.mark(Terminal::Question)?;
         let middle = self.middle(tokens)?;
-        tokens.mark(Sign::Colon)?;
+        tokens.mark(Terminal::Colon)?;
         let last = self.coalesce(tokens)?;
         Ok(Expression::Conditional(test, middle, Boxed::new(self.alloc(), last)?))
     }
@@ -84,7 +84,7 @@ impl<R: Inside> Grammar<R> {
     ) -> Result<Expression, Refusal>
         ensures { Reads (within spec.conditional_rest self.now test tokens.old) result tokens.new }
     {
-        if tokens.sees(Sign::Question) {
+        if tokens.sees(Terminal::Question) {
             self.branches(tokens, test)
         } else {
             Ok(test)
@@ -116,7 +116,7 @@ impl<R: Inside> Grammar<R> {
         ensures { Reads (within spec.pushed self.now to tokens.old) result tokens.new }
     {
         self.enter(tokens)?;
-        tokens.mark(Sign::Assign)?;
+        tokens.mark(Terminal::Assign)?;
         let from = self.inner(tokens, Part::Whole)?;
         Ok(pushed(self.alloc(), to, from)?)
     }

@@ -12,7 +12,7 @@ use crate::kept::both;
 use crate::nodes::chained;
 use crate::operand::Part;
 use crate::rank::Rank;
-use crate::worths::{is_single, operator, operator_in};
+use crate::token_values::{is_single, operator, operator_in};
 use dp_rules::{Refusal, Tokens, none, with};
 use dp_tree::{Expression, Link};
 use dp_value::Items;

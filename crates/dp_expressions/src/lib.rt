@@ -15,7 +15,7 @@ mod operands;
 mod pieces;
 mod places;
 mod rank;
-mod worths;
+mod token_values;
 
 pub use expressions::{expression, place};
 pub use kept::both;

@@ -11,8 +11,8 @@ use crate::kept::both;
 use crate::nodes::{indexed, tree_of, unary};
 use crate::operand::{Operand, Part};
 use crate::pieces::{Below, Entry, PlaceBelow};
-use crate::worths::{constant, names_constant, prefix, prefix_in, step, step_in};
-use dp_rules::{Refusal, Sign, Tokens, any_items, some_items};
+use crate::token_values::{constant, names_constant, prefix, prefix_in, step, step_in};
+use dp_rules::{Refusal, Terminal, Tokens, any_items, some_items};
 use dp_tree::{Expression, Item, Order, Place};
 use std::alloc::Global;
 
@@ -23,9 +23,9 @@ impl<R: Inside> Grammar<R> {
         ensures { Reads (within spec.group self.now tokens.old) result tokens.new }
     {
         self.enter(tokens)?;
-        tokens.mark(Sign::OpenParenthesis)?;
+        tokens.mark(Terminal::OpenParenthesis)?;
         let within = self.inner(tokens, Part::Whole)?;
-        let (within, _) = both(within, tokens.mark(Sign::CloseParenthesis))?;
+        let (within, _) = both(within, tokens.mark(Terminal::CloseParenthesis))?;
         Ok(within)
     }
 
@@ -34,13 +34,13 @@ impl<R: Inside> Grammar<R> {
         requires { 0 < self.now }
         ensures { Reads (within spec.item_rest self.now first tokens.old) result tokens.new }
     {
-        if !tokens.sees(Sign::Arrow) {
+        if !tokens.sees(Terminal::Arrow) {
             return Ok(Item {
                 key: None,
                 value: first,
             });
         }
-        let (first, _) = both(first, tokens.mark(Sign::Arrow))?;
+        let (first, _) = both(first, tokens.mark(Terminal::Arrow))?;
         let (first, value) = both(first, self.inner(tokens, Part::Whole))?;
         Ok(Item {
             key: Some(first),
@@ -63,9 +63,9 @@ impl<R: Inside> Grammar<R> {
         ensures { Reads (within spec.literal self.now tokens.old) result tokens.new }
     {
         self.enter(tokens)?;
-        tokens.mark(Sign::OpenBracket)?;
+        tokens.mark(Terminal::OpenBracket)?;
         let entry = Entry { grammar: self };
-        let items = any_items(self.alloc(), tokens, Sign::CloseBracket, &entry)?;
+        let items = any_items(self.alloc(), tokens, Terminal::CloseBracket, &entry)?;
         Ok(Expression::Array(items))
     }
 
@@ -74,10 +74,10 @@ impl<R: Inside> Grammar<R> {
         ensures { Reads (within spec.array_call self.now tokens.old) result tokens.new }
     {
         self.enter(tokens)?;
-        tokens.mark(Sign::Array)?;
-        tokens.mark(Sign::OpenParenthesis)?;
+        tokens.mark(Terminal::Array)?;
+        tokens.mark(Terminal::OpenParenthesis)?;
         let entry = Entry { grammar: self };
-        let items = any_items(self.alloc(), tokens, Sign::CloseParenthesis, &entry)?;
+        let items = any_items(self.alloc(), tokens, Terminal::CloseParenthesis, &entry)?;
         Ok(Expression::Array(items))
     }
 
@@ -87,12 +87,12 @@ impl<R: Inside> Grammar<R> {
     {
         self.enter(tokens)?;
         let name = tokens.name(self.alloc())?;
-        tokens.mark(Sign::OpenParenthesis)?;
+        tokens.mark(Terminal::OpenParenthesis)?;
         let argument = Below {
             grammar: self,
             part: Part::Whole,
         };
-        let arguments = any_items(self.alloc(), tokens, Sign::CloseParenthesis, &argument)?;
+        let arguments = any_items(self.alloc(), tokens, Terminal::CloseParenthesis, &argument)?;
         Ok(Expression::Call(name, arguments))
     }
 
@@ -101,10 +101,10 @@ impl<R: Inside> Grammar<R> {
         ensures { Reads (within spec.isset self.now tokens.old) result tokens.new }
     {
         self.enter(tokens)?;
-        tokens.mark(Sign::Isset)?;
-        tokens.mark(Sign::OpenParenthesis)?;
+        tokens.mark(Terminal::Isset)?;
+        tokens.mark(Terminal::OpenParenthesis)?;
         let place = PlaceBelow { grammar: self };
-        let places = some_items(self.alloc(), tokens, Sign::CloseParenthesis, &place)?;
+        let places = some_items(self.alloc(), tokens, Terminal::CloseParenthesis, &place)?;
         Ok(Expression::Isset(places))
     }
 
@@ -112,22 +112,22 @@ impl<R: Inside> Grammar<R> {
     fn primary(&self, tokens: &mut Tokens<'_>) -> Result<Expression, Refusal>
         ensures { Reads (within spec.primary self.now tokens.old) result tokens.new }
     {
-        if tokens.sees(Sign::Text) {
+        if tokens.sees(Terminal::Text) {
             return Ok(Expression::Text(tokens.text(self.alloc())?));
         }
         if names_constant(tokens.peek()) {
             return constant(tokens);
         }
-        if tokens.sees(Sign::OpenParenthesis) {
+        if tokens.sees(Terminal::OpenParenthesis) {
             return self.group(tokens);
         }
-        if tokens.sees(Sign::OpenBracket) {
+        if tokens.sees(Terminal::OpenBracket) {
             return self.literal(tokens);
         }
-        if tokens.sees(Sign::Array) {
+        if tokens.sees(Terminal::Array) {
             return self.array_call(tokens);
         }
-        if tokens.sees(Sign::Name) {
+        if tokens.sees(Terminal::Name) {
             return self.call(tokens);
         }
         Err(tokens.refuse())
@@ -164,10 +164,10 @@ impl<R: Inside> Grammar<R> {
         if step_in(tokens.peek()).is_some() {
             return self.stepped_first(tokens);
         }
-        if tokens.sees(Sign::Number) {
+        if tokens.sees(Terminal::Number) {
             return Ok(Expression::Number(tokens.number()?));
         }
-        if tokens.sees(Sign::Isset) {
+        if tokens.sees(Terminal::Isset) {
             return self.isset(tokens);
         }
         let base = self.primary(tokens)?;
@@ -196,7 +196,7 @@ impl<R: Inside> Grammar<R> {
     pub(crate) fn alone(&self, tokens: &mut Tokens<'_>) -> Result<Expression, Refusal>
         ensures { Reads (within spec.alone self.now tokens.old) result tokens.new }
     {
-        if !tokens.sees(Sign::Variable) {
+        if !tokens.sees(Terminal::Variable) {
             return self.other(tokens);
         }
         let place = self.place_rule(tokens)?;

@@ -10,7 +10,7 @@ use crate::inside::Inside;
 use crate::kept::both;
 use crate::operand::Part;
 use crate::pieces::{Below, Index};
-use dp_rules::{Refusal, Sign, Tokens, many};
+use dp_rules::{Refusal, Terminal, Tokens, many};
 use dp_tree::{Expression, Place};
 use dp_value::Items;
 use std::alloc::Global;
@@ -22,9 +22,9 @@ impl<R: Inside> Grammar<R> {
         ensures { Reads (within spec.index self.now tokens.old) result tokens.new }
     {
         self.enter(tokens)?;
-        tokens.mark(Sign::OpenBracket)?;
+        tokens.mark(Terminal::OpenBracket)?;
         let at = self.inner(tokens, Part::Whole)?;
-        let (at, _) = both(at, tokens.mark(Sign::CloseBracket))?;
+        let (at, _) = both(at, tokens.mark(Terminal::CloseBracket))?;
         Ok(at)
     }
 
@@ -35,7 +35,7 @@ impl<R: Inside> Grammar<R> {
         many(
             self.alloc(),
             tokens,
-            Sign::OpenBracket,
+            Terminal::OpenBracket,
             &Index { grammar: self },
         )
     }
@@ -59,7 +59,7 @@ impl<R: Inside> Grammar<R> {
         let indices = many(
             self.alloc(),
             tokens,
-            Sign::OpenBracket,
+            Terminal::OpenBracket,
             &Below {
                 grammar: self,
                 part: Part::Index,

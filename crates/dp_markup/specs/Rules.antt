@@ -1,7 +1,21 @@
 -- What the rules of the grammar of markup are made of: those of dp_grammar, over bytes.
 use Rattle.std.specs.Prelude.{◌==◌, ℕ, List, [], ◌∷◌}
 use Rattle.dp_grammar.specs.Rules as grammar
-pub use Rattle.dp_grammar.specs.Rules.{Joined, ◌>>=◌, ◌>>◌, ◌or◌, Gives, Made, One, passing, Tested, When, Chain, Closed, Step}
+pub use Rattle.dp_grammar.specs.Rules.{
+  Joined,
+  ◌>>=◌,
+  ◌>>◌,
+  ◌or◌,
+  Gives,
+  Made,
+  One,
+  passing,
+  Tested,
+  When,
+  Chain,
+  Closed,
+  Step,
+}
 
 abbrev pub Rule : Type 0 → Type 1
 Rule A = grammar.Rule ℕ A

@@ -15,7 +15,7 @@ use Rattle.dp_parse.proofs.StatementReaders.{Deeper, same_depth}
 use Rattle.dp_parse.proofs.StatementParts.{closing, AreRead}
 use Rattle.dp_parse.proofs.FileReaders.{end_stop, no_file, file_answers, file_leaves_none, expression_text_answers, some_text, text_leaves_none}
 use Rattle.dp_rules.proofs.Verdicts.{ReadsAll, one_tree}
-use Rattle.dp_rules.proofs.Signs.{implied}
+use Rattle.dp_rules.proofs.Terminals.{implied}
 
 -- expressions and places are read
 pub known : AreRead (looser 12) (looser 1)

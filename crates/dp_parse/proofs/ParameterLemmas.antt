@@ -3,12 +3,12 @@ use Rattle.std.proofs.Common.{◌≡◌, Bool, true, false, not, if◌then◌els
 use Rattle.dp_lexer.specs.declared.token.Token.{Token}
 use Rattle.dp_lexer.specs.declared.token.TokenKind.{TokenKind}
 use Rattle.dp_lexer.specs.declared.token.TokenKind.TheVariants as kind
-use Rattle.dp_rules.specs.Worths.{Text, unless, variable_in}
+use Rattle.dp_rules.specs.TokenValues.{Text, unless, variable_in}
 use Rattle.dp_rules.specs.inner.Input.{Reader, and_then, met, variable}
 use Rattle.dp_parse.specs.inner.Parameters.{parameter, chosen, stands, checked}
 use Rattle.dp_rules.specs.inner.ReadingLists.{any_items}
-use Rattle.dp_rules.specs.declared.sign.Sign.{Sign}
-use Rattle.dp_rules.specs.Signs.{is_superglobal}
+use Rattle.dp_rules.specs.declared.terminal.Terminal.{Terminal}
+use Rattle.dp_rules.specs.Terminals.{is_superglobal}
 use Rattle.dp_parse.specs.Statements.{parameter_in}
 
 module _ (found : List Text) (t : Token) (ts : List Token) where
@@ -92,5 +92,5 @@ unfolding variable
 parameter_is found [] = refl
 parameter_is found (t ∷ ts) = by_kinds found t ts t.kind
 
-pub parameters_are : (close : Sign) (ts : List Token) → any_items parameter close ts ≡ any_items checked close ts
+pub parameters_are : (close : Terminal) (ts : List Token) → any_items parameter close ts ≡ any_items checked close ts
 parameters_are close ts = ap (λ (item : List Text → Reader Text). any_items item close ts) (λ i found us. parameter_is found us i)

@@ -7,15 +7,15 @@ use Rattle.dp_lexer.specs.declared.token.TokenKind.TheVariants as kind
 use Rattle.dp_parse.specs.declared.ended.Body.{Body}
 use Rattle.dp_parse.specs.declared.ended.Ended.{Ended}
 use Rattle.dp_expressions.specs.declared.operand.Part.TheVariants as part
-use Rattle.dp_rules.specs.declared.sign.Sign.{Sign}
-use Rattle.dp_rules.specs.declared.sign.Sign.TheVariants as sign
+use Rattle.dp_rules.specs.declared.terminal.Terminal.{Terminal}
+use Rattle.dp_rules.specs.declared.terminal.Terminal.TheVariants as terminal
 use Rattle.dp_tree.specs.declared.tree.Arm.{Arm}
 use Rattle.dp_tree.specs.declared.tree.Binding.{Binding}
 use Rattle.dp_tree.specs.declared.tree.Expression.{Expression}
 use Rattle.dp_tree.specs.declared.tree.Statement.{Statement}
 use Rattle.dp_tree.specs.declared.tree.StatementKind.{StatementKind}
 use Rattle.dp_tree.specs.declared.tree.StatementKind.TheVariants as tree
-use Rattle.dp_rules.specs.Signs.{sign_of, is, head}
+use Rattle.dp_rules.specs.Terminals.{terminal_of, is, head}
 use Rattle.dp_rules.specs.Lines.{line_of}
 use Rattle.dp_rules.specs.inner.Input.{Reader, gives, made, mark, closed, ◌>>=◌, ◌>>◌}
 use Rattle.dp_rules.specs.Rules.{Joined, Mark, Without}
@@ -23,7 +23,7 @@ use Rattle.dp_rules.specs.inner.ReadingLists.{any_plain_items}
 use Rattle.dp_expressions.specs.inner.Reading.{reading}
 use Rattle.dp_parse.specs.Statements.{Depth, Arms, ended, whole, with_arm, stated, Bodies, ElseIf, Bound, Block, Test, ArmRule, NextArm, Otherwise, If, LoopBody, While, DoWhile, For, Foreach}
 use Rattle.dp_parse.specs.inner.ReadingStatements.{bodies_step, bodies, bound, block, head_test, next_arm, otherwise, behind_else, arms_step, arms, if_rule, loop_body, while_rule, do_while, for_rule, foreach, by_keyword, any_statement, on_its_line, braced, head_body}
-use Rattle.dp_rules.proofs.Signs.{not_true, or_left, or_right, contrary, placed, mark_alone, mark_passes, mark_fails, mark_apart}
+use Rattle.dp_rules.proofs.Terminals.{not_true, or_left, or_right, contrary, placed, mark_alone, mark_passes, mark_fails, mark_apart}
 use Rattle.dp_rules.proofs.Answers.{Rules, Anything, JoinedAt, EitherAt, GivesAt, MarkAt, MadeAt, WithoutAt, ClosedAt, StepAt, Answers, Follows, StartsIn, Apart, give, given, mark_starts, joined_starts, either_starts, made_starts, starts_in_more, starts_apart, gives_apart, either_apart, starts_follow, gives_answers, made_answers, carried, equal_answers, either_answers, without_answers, online_answers}
 use Rattle.dp_rules.proofs.Loops.{step_stop, closed_now, closed_follows, closed_answers, end_first}
 use Rattle.dp_rules.proofs.ListAnswers.{AnyPlainItemsAt}
@@ -32,7 +32,7 @@ use Rattle.dp_parse.proofs.StatementParts.{AreRead, ExpressionAt, PlaceAt, State
 use Rattle.dp_parse.proofs.StatementStarts.{begins_statement, BodyAt, AnyAt, LineAt, Chosen, unchosen, open_ends_other, statement_no_else, starts, any_starts, body_starts, BracedAt, BracedLineAt, HeadBodyAt, braced_starts, braced_line_starts, head_starts}
 
 -- where an arm may end: before an `else` only where its body is not open
-abbrev pub arms_stop : Arms → Sign → Bool
+abbrev pub arms_stop : Arms → Terminal → Bool
 arms_stop a s = open_ends a.1 s
 
 -- ---- bodies up to a closing brace
@@ -40,28 +40,28 @@ arms_stop a s = open_ends a.1 s
 abbrev pub BodiesAt : ℕ → Rules Depth (List Statement)
 BodiesAt loops m = Bodies (BodyAt loops m)
 
-module _ (ends place_ends : Sign → Bool) (known : AreRead ends place_ends) (level : Depth) (loops : ℕ) (body : ℕ → Reader Body) (reads : (n : ℕ) → IsPartReader 1 (BodyAt n) body_stop level (body n)) where
+module _ (ends place_ends : Terminal → Bool) (known : AreRead ends place_ends) (level : Depth) (loops : ℕ) (body : ℕ → Reader Body) (reads : (n : ℕ) → IsPartReader 1 (BodyAt n) body_stop level (body n)) where
   -- ---- bodies up to a closing brace
 
   abbrev OneBody : List Statement → Rules Depth (List Statement)
   OneBody all = MadeAt (BodyAt loops) (λ b. all ++ b.statement ∷ [])
 
   abbrev CloseBodies : List Statement → Rules Depth (List Statement)
-  CloseBodies all = MadeAt (MarkAt sign.CloseBrace) (λ _. all)
+  CloseBodies all = MadeAt (MarkAt terminal.CloseBrace) (λ _. all)
 
-  abbrev between_bodies : List Statement → Sign → Bool
+  abbrev between_bodies : List Statement → Terminal → Bool
   between_bodies all s = not (takes_else s)
 
   one_starts_body : (all : List Statement) → StartsIn (OneBody all) begins_statement
   one_starts_body all = made_starts (BodyAt loops) (λ b. all ++ b.statement ∷ []) begins_statement (body_starts ends place_ends known loops)
 
-  close_starts_brace : (all : List Statement) → StartsIn (CloseBodies all) (is sign.CloseBrace)
-  close_starts_brace all = made_starts (MarkAt sign.CloseBrace) (λ _. all) (is sign.CloseBrace) (mark_starts sign.CloseBrace)
+  close_starts_brace : (all : List Statement) → StartsIn (CloseBodies all) (is terminal.CloseBrace)
+  close_starts_brace all = made_starts (MarkAt terminal.CloseBrace) (λ _. all) (is terminal.CloseBrace) (mark_starts terminal.CloseBrace)
 
   bodies_steps : 1 ≤ level.bodies → (all : List Statement) (ts : List Token) → Answers Deeper (StepAt OneBody CloseBodies all) (step_stop between_bodies Anything) level ts (bodies_step (body loops) all ts)
-  bodies_steps some all ts = end_first Deeper same_depth OneBody CloseBodies between_bodies Anything level all ts (is sign.CloseBrace) (made (body loops) (λ b. all ++ b.statement ∷ []) ts) (made (mark sign.CloseBrace) (λ _. all) ts)
-      (close_starts_brace all) (starts_apart (OneBody all) between_bodies (is sign.CloseBrace) begins_statement (mark_apart begins_statement sign.CloseBrace refl) (one_starts_body all))
-      (λ _. (made_reader 1 level (MarkAt sign.CloseBrace) (λ _. all) Anything Anything (mark sign.CloseBrace) (λ a s e. refl) (mark_reader 1 level sign.CloseBrace kind.CloseBrace refl)).answers some ts)
+  bodies_steps some all ts = end_first Deeper same_depth OneBody CloseBodies between_bodies Anything level all ts (is terminal.CloseBrace) (made (body loops) (λ b. all ++ b.statement ∷ []) ts) (made (mark terminal.CloseBrace) (λ _. all) ts)
+      (close_starts_brace all) (starts_apart (OneBody all) between_bodies (is terminal.CloseBrace) begins_statement (mark_apart begins_statement terminal.CloseBrace refl) (one_starts_body all))
+      (λ _. (made_reader 1 level (MarkAt terminal.CloseBrace) (λ _. all) Anything Anything (mark terminal.CloseBrace) (λ a s e. refl) (mark_reader 1 level terminal.CloseBrace kind.CloseBrace refl)).answers some ts)
       (λ _. (made_reader 1 level (BodyAt loops) (λ b. all ++ b.statement ∷ []) body_stop between_bodies (body loops) (λ b s e. open_ends_other b.is_open s (not_true (takes_else s) e)) (reads loops)).answers some ts)
 
   pub bodies_reader : IsPartReader 1 (BodiesAt loops) Anything level (bodies (body loops))
@@ -69,27 +69,27 @@ module _ (ends place_ends : Sign → Bool) (known : AreRead ends place_ends) (le
   bodies_reader = record {
     answers = λ some. closed_answers Deeper same_depth OneBody CloseBodies between_bodies Anything level
         (λ all. starts_in_more (OneBody all) begins_statement (between_bodies all) (λ s e. ap not (statement_no_else s e)) (one_starts_body all))
-        (starts_follow between_bodies CloseBodies Anything (is sign.CloseBrace) (λ all s. mark_passes (between_bodies all) sign.CloseBrace refl s) close_starts_brace)
-        (λ m above all. (placed kind.CloseBrace ∷ [], all, give (Mark sign.CloseBrace) (λ _. all) (placed kind.CloseBrace ∷ []) 1 (mark_alone sign.CloseBrace kind.CloseBrace refl)))
+        (starts_follow between_bodies CloseBodies Anything (is terminal.CloseBrace) (λ all s. mark_passes (between_bodies all) terminal.CloseBrace refl s) close_starts_brace)
+        (λ m above all. (placed kind.CloseBrace ∷ [], all, give (Mark terminal.CloseBrace) (λ _. all) (placed kind.CloseBrace ∷ []) 1 (mark_alone terminal.CloseBrace kind.CloseBrace refl)))
         (bodies_step (body loops)) (bodies_steps some) [];
-    least = λ m some. (placed kind.CloseBrace ∷ [], [], closed_now OneBody CloseBodies m [] (placed kind.CloseBrace ∷ []) [] (give (Mark sign.CloseBrace) (λ _. []) (placed kind.CloseBrace ∷ []) 1 (mark_alone sign.CloseBrace kind.CloseBrace refl)));
+    least = λ m some. (placed kind.CloseBrace ∷ [], [], closed_now OneBody CloseBodies m [] (placed kind.CloseBrace ∷ []) [] (give (Mark terminal.CloseBrace) (λ _. []) (placed kind.CloseBrace ∷ []) 1 (mark_alone terminal.CloseBrace kind.CloseBrace refl)));
   }
 
   -- ---- braces and the bodies of heads
 
   braced_reader : IsPartReader 1 (BracedAt loops) ended_stop level (braced (body loops))
   unfolding braced
-  braced_reader = mark_then 1 level sign.OpenBrace kind.OpenBrace refl (λ _. JoinedAt (BodiesAt loops) (λ all. GivesAt (whole (tree.Block all)))) ended_stop (λ _. bodies (body loops) >>= (λ all. gives (whole (tree.Block all))))
+  braced_reader = mark_then 1 level terminal.OpenBrace kind.OpenBrace refl (λ _. JoinedAt (BodiesAt loops) (λ all. GivesAt (whole (tree.Block all)))) ended_stop (λ _. bodies (body loops) >>= (λ all. gives (whole (tree.Block all))))
       (λ _. then_reader 1 level (BodiesAt loops) (λ all. GivesAt (whole (tree.Block all))) ended_stop (bodies (body loops)) (λ all. gives (whole (tree.Block all))) bodies_reader (λ all. gives_reader 1 level (whole (tree.Block all)) ended_stop))
 
-  pub block_answers : (ts : List Token) → is sign.OpenBrace (head ts) ≡ true → Answers Deeper (StatementAt Block loops) ended_stop level ts (reader_at block loops level body ts)
+  pub block_answers : (ts : List Token) → is terminal.OpenBrace (head ts) ≡ true → Answers Deeper (StatementAt Block loops) ended_stop level ts (reader_at block loops level body ts)
   unfolding block
-  block_answers ts here = nests_reader sign.OpenBrace (λ _. JoinedAt (BodiesAt loops) (λ all. GivesAt (whole (tree.Block all)))) ended_stop level (braced (body loops)) ts refl here braced_reader
+  block_answers ts here = nests_reader terminal.OpenBrace (λ _. JoinedAt (BodiesAt loops) (λ all. GivesAt (whole (tree.Block all)))) ended_stop level (braced (body loops)) ts refl here braced_reader
       (λ line m some. let g = bodies_reader.least m some in (g.0, whole (tree.Block g.1), give (BodiesAt loops m) (λ all. whole (tree.Block all)) g.0 g.1 g.2))
 
   braced_line_answers : 1 ≤ level.bodies → (ts : List Token) → Answers Deeper (BracedLineAt loops) body_stop level ts (on_its_line (braced (body loops)) ts)
   unfolding on_its_line
-  braced_line_answers some ts = online_answers Deeper same_depth (λ line. MadeAt (BracedAt loops) (stated line)) (is sign.OpenBrace) body_stop level ts (λ line. made_starts (BracedAt loops) (stated line) (is sign.OpenBrace) (braced_starts ends place_ends known loops))
+  braced_line_answers some ts = online_answers Deeper same_depth (λ line. MadeAt (BracedAt loops) (stated line)) (is terminal.OpenBrace) body_stop level ts (λ line. made_starts (BracedAt loops) (stated line) (is terminal.OpenBrace) (braced_starts ends place_ends known loops))
       (made (braced (body loops)) (stated (line_of ts)) ts)
       (made_answers Deeper same_depth (BracedAt loops) (stated (line_of ts)) ended_stop body_stop level ts (λ a s e. e) (braced (body loops) ts) (braced_reader.answers some ts))
 
@@ -98,24 +98,24 @@ module _ (ends place_ends : Sign → Bool) (known : AreRead ends place_ends) (le
   least_braced m =
       let close : List Token = placed kind.CloseBrace ∷ [] in
       let text : List Token = placed kind.OpenBrace ∷ close in
-      let none : BodiesAt loops m close [] = closed_now OneBody CloseBodies m [] close [] (give (Mark sign.CloseBrace) (λ _. []) close 1 (mark_alone sign.CloseBrace kind.CloseBrace refl)) in
-      let braces : BracedAt loops m text (whole (tree.Block [])) = record { front = placed kind.OpenBrace ∷ []; back = close; value = 1; split = refl; one = mark_alone sign.OpenBrace kind.OpenBrace refl; other = give (BodiesAt loops m) (λ all. whole (tree.Block all)) close [] none } in
+      let none : BodiesAt loops m close [] = closed_now OneBody CloseBodies m [] close [] (give (Mark terminal.CloseBrace) (λ _. []) close 1 (mark_alone terminal.CloseBrace kind.CloseBrace refl)) in
+      let braces : BracedAt loops m text (whole (tree.Block [])) = record { front = placed kind.OpenBrace ∷ []; back = close; value = 1; split = refl; one = mark_alone terminal.OpenBrace kind.OpenBrace refl; other = give (BodiesAt loops m) (λ all. whole (tree.Block all)) close [] none } in
       record { first = placed kind.OpenBrace; behind = close; begins = refl; spelled = give (BracedAt loops m) (stated 1) text (whole (tree.Block [])) braces }
 
-  brace_apart : Apart (WithoutAt sign.OpenBrace (BodyAt loops)) body_stop (is sign.OpenBrace)
+  brace_apart : Apart (WithoutAt terminal.OpenBrace (BodyAt loops)) body_stop (is terminal.OpenBrace)
   brace_apart m text b r h here =
       let s = body_starts ends place_ends known loops m text b h.spelled in
-      ap (λ l. is sign.OpenBrace (head (l ++ r))) s.2 ∙ ap (λ l. is sign.OpenBrace (head l)) (sym s.2) ∙ h.apart
+      ap (λ l. is terminal.OpenBrace (head (l ++ r))) s.2 ∙ ap (λ l. is terminal.OpenBrace (head l)) (sym s.2) ∙ h.apart
 
   pub head_reader : IsPartReader 1 (HeadBodyAt loops) body_stop level (head_body (body loops))
   unfolding head_body
   head_reader = record {
-    answers = λ some ts. either_answers Deeper same_depth (BracedLineAt loops) (WithoutAt sign.OpenBrace (BodyAt loops)) (is sign.OpenBrace) body_stop level ts (braced_line_starts ends place_ends known loops) brace_apart
-        (on_its_line (braced (body loops)) ts) (body loops ts) (λ _. braced_line_answers some ts) (λ none. without_answers Deeper same_depth sign.OpenBrace (BodyAt loops) body_stop level ts refl none (body loops ts) ((reads loops).answers some ts));
+    answers = λ some ts. either_answers Deeper same_depth (BracedLineAt loops) (WithoutAt terminal.OpenBrace (BodyAt loops)) (is terminal.OpenBrace) body_stop level ts (braced_line_starts ends place_ends known loops) brace_apart
+        (on_its_line (braced (body loops)) ts) (body loops ts) (λ _. braced_line_answers some ts) (λ none. without_answers Deeper same_depth terminal.OpenBrace (BodyAt loops) body_stop level ts refl none (body loops ts) ((reads loops).answers some ts));
     least = λ m some. (placed kind.OpenBrace ∷ (placed kind.CloseBrace ∷ []), stated 1 (whole (tree.Block [])), inl (least_braced m));
   }
 
-module _ (ends place_ends : Sign → Bool) (known : AreRead ends place_ends) (level : Depth) (loops : ℕ) (body : ℕ → Reader Body) (reads : (n : ℕ) → IsPartReader 1 (BodyAt n) body_stop level (body n)) where
+module _ (ends place_ends : Terminal → Bool) (known : AreRead ends place_ends) (level : Depth) (loops : ℕ) (body : ℕ → Reader Body) (reads : (n : ℕ) → IsPartReader 1 (BodyAt n) body_stop level (body n)) where
   -- what reads the body of a head, in so many loops
   heads : (n : ℕ) → IsPartReader 1 (HeadBodyAt n) body_stop level (head_body (body n))
   heads n = head_reader ends place_ends known level n body reads
@@ -148,42 +148,42 @@ module _ (ends place_ends : Sign → Bool) (known : AreRead ends place_ends) (le
 
   -- what is behind an `else`
   abbrev ElseAt : List Arm → Rules Depth Ended
-  ElseAt before = MadeAt (WithoutAt sign.If (HeadBodyAt loops)) (with_else before)
+  ElseAt before = MadeAt (WithoutAt terminal.If (HeadBodyAt loops)) (with_else before)
 
   abbrev GoOnAt : List Arm → ℕ → Rules Depth (ControlFlow Ended Arms)
-  GoOnAt before line = MadeAt (JoinedAt (MarkAt sign.If) (λ _. ArmAt before line)) Continue
+  GoOnAt before line = MadeAt (JoinedAt (MarkAt terminal.If) (λ _. ArmAt before line)) Continue
 
   abbrev BehindAt : List Arm → ℕ → Rules Depth (ControlFlow Ended Arms)
   BehindAt before line = EitherAt (GoOnAt before line) (MadeAt (ElseAt before) Break)
 
-  go_on_starts : (before : List Arm) (line : ℕ) → StartsIn (GoOnAt before line) (is sign.If)
-  go_on_starts before line = made_starts (JoinedAt (MarkAt sign.If) (λ _. ArmAt before line)) Continue (is sign.If) (joined_starts (MarkAt sign.If) (λ _. ArmAt before line) (is sign.If) (mark_starts sign.If))
+  go_on_starts : (before : List Arm) (line : ℕ) → StartsIn (GoOnAt before line) (is terminal.If)
+  go_on_starts before line = made_starts (JoinedAt (MarkAt terminal.If) (λ _. ArmAt before line)) Continue (is terminal.If) (joined_starts (MarkAt terminal.If) (λ _. ArmAt before line) (is terminal.If) (mark_starts terminal.If))
 
   -- what is behind an `else` that no `if` follows begins with no `if`
-  else_apart : (before : List Arm) → Apart (MadeAt (ElseAt before) Break) (step_stop arms_stop ended_stop) (is sign.If)
+  else_apart : (before : List Arm) → Apart (MadeAt (ElseAt before) Break) (step_stop arms_stop ended_stop) (is terminal.If)
   else_apart before m text v r h here =
       let e = given (ElseAt before m) Break text v h in
-      let b = given (Without sign.If (HeadBodyAt loops m)) (with_else before) text e.0 e.1 in
+      let b = given (Without terminal.If (HeadBodyAt loops m)) (with_else before) text e.0 e.1 in
       let s = head_starts ends place_ends known loops m text b.0 b.1.spelled in
-      ap (λ l. is sign.If (head (l ++ r))) s.2 ∙ ap (λ l. is sign.If (head l)) (sym s.2) ∙ b.1.apart
+      ap (λ l. is terminal.If (head (l ++ r))) s.2 ∙ ap (λ l. is terminal.If (head l)) (sym s.2) ∙ b.1.apart
 
   behind_answers : 1 ≤ level.bodies → (before : List Arm) (line : ℕ) (ts : List Token) → Answers Deeper (BehindAt before line) (step_stop arms_stop ended_stop) level ts (reader_at behind_else loops level body before line ts)
   unfolding behind_else otherwise
-  behind_answers some before line ts = either_answers Deeper same_depth (GoOnAt before line) (MadeAt (ElseAt before) Break) (is sign.If) (step_stop arms_stop ended_stop) level ts (go_on_starts before line) (else_apart before)
-      (made (mark sign.If >> reader_at next_arm loops level body before line) Continue ts) (made (made (head_body (body loops)) (with_else before)) Break ts)
-      (λ _. (made_reader 1 level (JoinedAt (MarkAt sign.If) (λ _. ArmAt before line)) Continue arms_stop (step_stop arms_stop ended_stop) (mark sign.If >> reader_at next_arm loops level body before line) (λ a s e. e)
-      (mark_then 1 level sign.If kind.If refl (λ _. ArmAt before line) arms_stop (λ _. reader_at next_arm loops level body before line) (λ _. arm_reader before line))).answers some ts)
+  behind_answers some before line ts = either_answers Deeper same_depth (GoOnAt before line) (MadeAt (ElseAt before) Break) (is terminal.If) (step_stop arms_stop ended_stop) level ts (go_on_starts before line) (else_apart before)
+      (made (mark terminal.If >> reader_at next_arm loops level body before line) Continue ts) (made (made (head_body (body loops)) (with_else before)) Break ts)
+      (λ _. (made_reader 1 level (JoinedAt (MarkAt terminal.If) (λ _. ArmAt before line)) Continue arms_stop (step_stop arms_stop ended_stop) (mark terminal.If >> reader_at next_arm loops level body before line) (λ a s e. e)
+      (mark_then 1 level terminal.If kind.If refl (λ _. ArmAt before line) arms_stop (λ _. reader_at next_arm loops level body before line) (λ _. arm_reader before line))).answers some ts)
       (λ none. made_answers Deeper same_depth (ElseAt before) Break ended_stop (step_stop arms_stop ended_stop) level ts (λ a s e. e) (made (head_body (body loops)) (with_else before) ts)
-      (made_answers Deeper same_depth (WithoutAt sign.If (HeadBodyAt loops)) (with_else before) body_stop ended_stop level ts (λ b s e. e) (head_body (body loops) ts)
-      (without_answers Deeper same_depth sign.If (HeadBodyAt loops) body_stop level ts refl none (head_body (body loops) ts) ((heads loops).answers some ts))))
+      (made_answers Deeper same_depth (WithoutAt terminal.If (HeadBodyAt loops)) (with_else before) body_stop ended_stop level ts (λ b s e. e) (head_body (body loops) ts)
+      (without_answers Deeper same_depth terminal.If (HeadBodyAt loops) body_stop level ts refl none (head_body (body loops) ts) ((heads loops).answers some ts))))
 
   -- ---- one step of the arms: the grammar's, and that of the reader, which reads an `else` before it looks further
 
   abbrev WordAt : List Arm → Rules Depth (ControlFlow Ended Arms)
-  WordAt before = MadeAt (JoinedAt (MarkAt sign.ElseIf) (ArmAt before)) Continue
+  WordAt before = MadeAt (JoinedAt (MarkAt terminal.ElseIf) (ArmAt before)) Continue
 
   abbrev AfterElseAt : List Arm → Rules Depth (ControlFlow Ended Arms)
-  AfterElseAt before = JoinedAt (MarkAt sign.Else) (BehindAt before)
+  AfterElseAt before = JoinedAt (MarkAt terminal.Else) (BehindAt before)
 
   abbrev NoneAt : Arms → Rules Depth (ControlFlow Ended Arms)
   NoneAt a = GivesAt (Break (without_else a))
@@ -195,26 +195,26 @@ module _ (ends place_ends : Sign → Bool) (known : AreRead ends place_ends) (le
   to_next a closed m text x j = inr (give (NextAt a m) Continue text x (record { holds = closed; spelled = j }))
 
   -- `else` and `if` are one word of the grammar
-  two_words : (before : List Arm) (m : Depth) (text front back : List Token) (line : ℕ) (x : Arms) → text ≡ front ++ back → Mark sign.Else front line → Joined (Mark sign.If) (λ _. ArmAt before line m) back x → Joined ElseIf (λ n. ArmAt before n m) text x
+  two_words : (before : List Arm) (m : Depth) (text front back : List Token) (line : ℕ) (x : Arms) → text ≡ front ++ back → Mark terminal.Else front line → Joined (Mark terminal.If) (λ _. ArmAt before line m) back x → Joined ElseIf (λ n. ArmAt before n m) text x
   two_words before m text front back line x split word j = record {
     front = front ++ j.front;
     back = j.back;
     value = line;
     split = split ∙ ap (λ l. front ++ l) j.split ∙ sym (append_assoc front j.front j.back);
-    one = inr (record { front = front; back = j.front; value = line; split = refl; one = word; other = give (Mark sign.If) (λ _. line) j.front j.value j.one });
+    one = inr (record { front = front; back = j.front; value = line; split = refl; one = word; other = give (Mark terminal.If) (λ _. line) j.front j.value j.one });
     other = j.other;
   }
 
   to_step : (a : Arms) → not a.1 ≡ true → (m : Depth) (text : List Token) (v : ControlFlow Ended Arms) → FactoredAt a m text v → StepAt NextAt LastAt a m text v
   to_step a closed m text v (inl h) =
-      let g = given (Joined (Mark sign.ElseIf) (λ line. ArmAt a.0 line m)) Continue text v h in
+      let g = given (Joined (Mark terminal.ElseIf) (λ line. ArmAt a.0 line m)) Continue text v h in
       let j = g.1 in
       subst (λ x. StepAt NextAt LastAt a m text x) (sym g.2) (to_next a closed m text g.0 (record { front = j.front; back = j.back; value = j.value; split = j.split; one = inl j.one; other = j.other }))
   to_step a closed m text v (inr (inl j)) = go j.other
     where
       go : BehindAt a.0 j.value m j.back v → StepAt NextAt LastAt a m text v
       go (inl h) =
-          let g = given (Joined (Mark sign.If) (λ _. ArmAt a.0 j.value m)) Continue j.back v h in
+          let g = given (Joined (Mark terminal.If) (λ _. ArmAt a.0 j.value m)) Continue j.back v h in
           subst (λ x. StepAt NextAt LastAt a m text x) (sym g.2) (to_next a closed m text g.0 (two_words a.0 m text j.front j.back j.value g.0 j.split j.one g.1))
       go (inr h) =
           let g = given (ElseAt a.0 m) Break j.back v h in
@@ -223,17 +223,17 @@ module _ (ends place_ends : Sign → Bool) (known : AreRead ends place_ends) (le
   to_step a closed m text v (inr (inr g)) = subst (λ x. StepAt NextAt LastAt a m text x) (sym g.same) (inl (give (LastAt a m) Break text (without_else a) (inr (record { empty = g.empty; same = refl }))))
 
   from_next : (a : Arms) (m : Depth) (text : List Token) (x : Arms) → (j : Joined ElseIf (λ line. ArmAt a.0 line m) text x) → ElseIf j.front j.value → FactoredAt a m text (Continue x)
-  from_next a m text x j (inl word) = inl (give (Joined (Mark sign.ElseIf) (λ line. ArmAt a.0 line m)) Continue text x (record { front = j.front; back = j.back; value = j.value; split = j.split; one = word; other = j.other }))
+  from_next a m text x j (inl word) = inl (give (Joined (Mark terminal.ElseIf) (λ line. ArmAt a.0 line m)) Continue text x (record { front = j.front; back = j.back; value = j.value; split = j.split; one = word; other = j.other }))
   from_next a m text x j (inr words) =
-      let g = given (Mark sign.If) (λ _. words.value) words.back j.value words.other in
-      let arm : Joined (Mark sign.If) (λ _. ArmAt a.0 words.value m) (words.back ++ j.back) x = record { front = words.back; back = j.back; value = g.0; split = refl; one = g.1; other = subst (λ n. ArmAt a.0 n m j.back x) g.2 j.other } in
+      let g = given (Mark terminal.If) (λ _. words.value) words.back j.value words.other in
+      let arm : Joined (Mark terminal.If) (λ _. ArmAt a.0 words.value m) (words.back ++ j.back) x = record { front = words.back; back = j.back; value = g.0; split = refl; one = g.1; other = subst (λ n. ArmAt a.0 n m j.back x) g.2 j.other } in
       inr (inl (record {
         front = words.front;
         back = words.back ++ j.back;
         value = words.value;
         split = j.split ∙ ap (λ l. l ++ j.back) words.split ∙ append_assoc words.front words.back j.back;
         one = words.one;
-        other = inl (give (Joined (Mark sign.If) (λ _. ArmAt a.0 words.value m)) Continue (words.back ++ j.back) x arm);
+        other = inl (give (Joined (Mark terminal.If) (λ _. ArmAt a.0 words.value m)) Continue (words.back ++ j.back) x arm);
       }))
 
   from_last : (a : Arms) (m : Depth) (text : List Token) (x : Ended) → LastAt a m text x → FactoredAt a m text (Break x)
@@ -258,34 +258,34 @@ module _ (ends place_ends : Sign → Bool) (known : AreRead ends place_ends) (le
   to_open : (a : Arms) (m : Depth) (text : List Token) (v : ControlFlow Ended Arms) → NoneAt a m text v → StepAt NextAt LastAt a m text v
   to_open a m text v g = subst (λ x. StepAt NextAt LastAt a m text x) (sym g.same) (inl (give (LastAt a m) Break text (without_else a) (inr (record { empty = g.empty; same = refl }))))
 
-  word_starts : (before : List Arm) → StartsIn (WordAt before) (is sign.ElseIf)
-  word_starts before = made_starts (JoinedAt (MarkAt sign.ElseIf) (ArmAt before)) Continue (is sign.ElseIf) (joined_starts (MarkAt sign.ElseIf) (ArmAt before) (is sign.ElseIf) (mark_starts sign.ElseIf))
+  word_starts : (before : List Arm) → StartsIn (WordAt before) (is terminal.ElseIf)
+  word_starts before = made_starts (JoinedAt (MarkAt terminal.ElseIf) (ArmAt before)) Continue (is terminal.ElseIf) (joined_starts (MarkAt terminal.ElseIf) (ArmAt before) (is terminal.ElseIf) (mark_starts terminal.ElseIf))
 
-  after_else_starts : (before : List Arm) → StartsIn (AfterElseAt before) (is sign.Else)
-  after_else_starts before = joined_starts (MarkAt sign.Else) (BehindAt before) (is sign.Else) (mark_starts sign.Else)
+  after_else_starts : (before : List Arm) → StartsIn (AfterElseAt before) (is terminal.Else)
+  after_else_starts before = joined_starts (MarkAt terminal.Else) (BehindAt before) (is terminal.Else) (mark_starts terminal.Else)
 
-  none_apart : (a : Arms) (test : Sign → Bool) → ((x : Sign) → test x ≡ true → takes_else x ≡ true) → Apart (NoneAt a) (step_stop arms_stop ended_stop) test
+  none_apart : (a : Arms) (test : Terminal → Bool) → ((x : Terminal) → test x ≡ true → takes_else x ≡ true) → Apart (NoneAt a) (step_stop arms_stop ended_stop) test
   none_apart a test passes = gives_apart (Break (without_else a)) (step_stop arms_stop ended_stop) test (λ x here. contrary (test x) (takes_else x) (passes x) (not_true (takes_else x) here))
 
   least_arm : (m : Depth) → 1 ≤ m.bodies → (before : List Arm) (line : ℕ) → (ts : List Token) × (v : ControlFlow Ended Arms) × BehindAt before line m ts v
   least_arm m some before line =
-      let g = (mark_then 1 level sign.If kind.If refl (λ _. ArmAt before line) arms_stop (λ _. reader_at next_arm loops level body before line) (λ _. arm_reader before line)).least m some in
-      (g.0, Continue g.1, inl (give (Joined (Mark sign.If) (λ _. ArmAt before line m)) Continue g.0 g.1 g.2))
+      let g = (mark_then 1 level terminal.If kind.If refl (λ _. ArmAt before line) arms_stop (λ _. reader_at next_arm loops level body before line) (λ _. arm_reader before line)).least m some in
+      (g.0, Continue g.1, inl (give (Joined (Mark terminal.If) (λ _. ArmAt before line m)) Continue g.0 g.1 g.2))
 
   factored_answers : 1 ≤ level.bodies → (a : Arms) (ts : List Token) → Answers Deeper (FactoredAt a) (step_stop arms_stop ended_stop) level ts
-      (cond (is sign.ElseIf (head ts)) (made (mark sign.ElseIf >>= reader_at next_arm loops level body a.0) Continue ts) (cond (is sign.Else (head ts)) ((mark sign.Else >>= reader_at behind_else loops level body a.0) ts) (Ok (Break (without_else a), ts))))
-  factored_answers some a ts = either_answers Deeper same_depth (WordAt a.0) (EitherAt (AfterElseAt a.0) (NoneAt a)) (is sign.ElseIf) (step_stop arms_stop ended_stop) level ts (word_starts a.0)
-      (either_apart (AfterElseAt a.0) (NoneAt a) (step_stop arms_stop ended_stop) (is sign.ElseIf)
-      (starts_apart (AfterElseAt a.0) (step_stop arms_stop ended_stop) (is sign.ElseIf) (is sign.Else) (mark_fails (is sign.ElseIf) sign.Else refl) (after_else_starts a.0))
-      (none_apart a (is sign.ElseIf) (λ x. or_right (is sign.Else x) (is sign.ElseIf x))))
-      (made (mark sign.ElseIf >>= reader_at next_arm loops level body a.0) Continue ts)
-      (cond (is sign.Else (head ts)) ((mark sign.Else >>= reader_at behind_else loops level body a.0) ts) (Ok (Break (without_else a), ts)))
-      (λ _. (made_reader 1 level (JoinedAt (MarkAt sign.ElseIf) (ArmAt a.0)) Continue arms_stop (step_stop arms_stop ended_stop) (mark sign.ElseIf >>= reader_at next_arm loops level body a.0) (λ x s e. e)
-      (mark_then 1 level sign.ElseIf kind.ElseIf refl (ArmAt a.0) arms_stop (reader_at next_arm loops level body a.0) (arm_reader a.0))).answers some ts)
-      (λ _. either_answers Deeper same_depth (AfterElseAt a.0) (NoneAt a) (is sign.Else) (step_stop arms_stop ended_stop) level ts (after_else_starts a.0)
-      (none_apart a (is sign.Else) (λ x. or_left (is sign.Else x) (is sign.ElseIf x)))
-      ((mark sign.Else >>= reader_at behind_else loops level body a.0) ts) (Ok (Break (without_else a), ts))
-      (λ _. (mark_then 1 level sign.Else kind.Else refl (BehindAt a.0) (step_stop arms_stop ended_stop) (reader_at behind_else loops level body a.0)
+      (cond (is terminal.ElseIf (head ts)) (made (mark terminal.ElseIf >>= reader_at next_arm loops level body a.0) Continue ts) (cond (is terminal.Else (head ts)) ((mark terminal.Else >>= reader_at behind_else loops level body a.0) ts) (Ok (Break (without_else a), ts))))
+  factored_answers some a ts = either_answers Deeper same_depth (WordAt a.0) (EitherAt (AfterElseAt a.0) (NoneAt a)) (is terminal.ElseIf) (step_stop arms_stop ended_stop) level ts (word_starts a.0)
+      (either_apart (AfterElseAt a.0) (NoneAt a) (step_stop arms_stop ended_stop) (is terminal.ElseIf)
+      (starts_apart (AfterElseAt a.0) (step_stop arms_stop ended_stop) (is terminal.ElseIf) (is terminal.Else) (mark_fails (is terminal.ElseIf) terminal.Else refl) (after_else_starts a.0))
+      (none_apart a (is terminal.ElseIf) (λ x. or_right (is terminal.Else x) (is terminal.ElseIf x))))
+      (made (mark terminal.ElseIf >>= reader_at next_arm loops level body a.0) Continue ts)
+      (cond (is terminal.Else (head ts)) ((mark terminal.Else >>= reader_at behind_else loops level body a.0) ts) (Ok (Break (without_else a), ts)))
+      (λ _. (made_reader 1 level (JoinedAt (MarkAt terminal.ElseIf) (ArmAt a.0)) Continue arms_stop (step_stop arms_stop ended_stop) (mark terminal.ElseIf >>= reader_at next_arm loops level body a.0) (λ x s e. e)
+      (mark_then 1 level terminal.ElseIf kind.ElseIf refl (ArmAt a.0) arms_stop (reader_at next_arm loops level body a.0) (arm_reader a.0))).answers some ts)
+      (λ _. either_answers Deeper same_depth (AfterElseAt a.0) (NoneAt a) (is terminal.Else) (step_stop arms_stop ended_stop) level ts (after_else_starts a.0)
+      (none_apart a (is terminal.Else) (λ x. or_left (is terminal.Else x) (is terminal.ElseIf x)))
+      ((mark terminal.Else >>= reader_at behind_else loops level body a.0) ts) (Ok (Break (without_else a), ts))
+      (λ _. (mark_then 1 level terminal.Else kind.Else refl (BehindAt a.0) (step_stop arms_stop ended_stop) (reader_at behind_else loops level body a.0)
       (λ line. record { answers = λ more. behind_answers more a.0 line; least = λ m more. least_arm m more a.0 line })).answers some ts)
       (λ _. gives_answers Deeper same_depth (Break (without_else a)) (step_stop arms_stop ended_stop) level ts))
 
@@ -293,31 +293,31 @@ module _ (ends place_ends : Sign → Bool) (known : AreRead ends place_ends) (le
   arms_steps some a ts = go a.1 refl
     where
       go : (b : Bool) → a.1 ≡ b → Answers Deeper (StepAt NextAt LastAt a) (step_stop arms_stop ended_stop) level ts
-          (cond (not b && is sign.ElseIf (head ts)) (made (mark sign.ElseIf >>= reader_at next_arm loops level body a.0) Continue ts)
-          (cond (not b && is sign.Else (head ts)) ((mark sign.Else >>= reader_at behind_else loops level body a.0) ts) (Ok (Break (without_else a), ts))))
+          (cond (not b && is terminal.ElseIf (head ts)) (made (mark terminal.ElseIf >>= reader_at next_arm loops level body a.0) Continue ts)
+          (cond (not b && is terminal.Else (head ts)) ((mark terminal.Else >>= reader_at behind_else loops level body a.0) ts) (Ok (Break (without_else a), ts))))
       go true is_open = equal_answers Deeper same_depth (NoneAt a) (StepAt NextAt LastAt a) (step_stop arms_stop ended_stop) level ts (to_open a) (from_open a is_open) (Ok (Break (without_else a), ts))
           (gives_answers Deeper same_depth (Break (without_else a)) (step_stop arms_stop ended_stop) level ts)
       go false is_closed = equal_answers Deeper same_depth (FactoredAt a) (StepAt NextAt LastAt a) (step_stop arms_stop ended_stop) level ts (to_step a (ap not is_closed)) (from_step a)
-          (cond (is sign.ElseIf (head ts)) (made (mark sign.ElseIf >>= reader_at next_arm loops level body a.0) Continue ts) (cond (is sign.Else (head ts)) ((mark sign.Else >>= reader_at behind_else loops level body a.0) ts) (Ok (Break (without_else a), ts))))
+          (cond (is terminal.ElseIf (head ts)) (made (mark terminal.ElseIf >>= reader_at next_arm loops level body a.0) Continue ts) (cond (is terminal.Else (head ts)) ((mark terminal.Else >>= reader_at behind_else loops level body a.0) ts) (Ok (Break (without_else a), ts))))
           (factored_answers some a ts)
 
   -- ---- the arms
 
   else_if_starts : StartsIn {L = Depth} (λ _. ElseIf) takes_else
-  else_if_starts = either_starts (MarkAt sign.ElseIf) (JoinedAt (MarkAt sign.Else) (λ line. MadeAt (MarkAt sign.If) (λ _. line))) takes_else
-      (starts_in_more (MarkAt sign.ElseIf) (is sign.ElseIf) takes_else (λ s. or_right (is sign.Else s) (is sign.ElseIf s)) (mark_starts sign.ElseIf))
-      (starts_in_more (JoinedAt (MarkAt sign.Else) (λ line. MadeAt (MarkAt sign.If) (λ _. line))) (is sign.Else) takes_else (λ s. or_left (is sign.Else s) (is sign.ElseIf s))
-      (joined_starts (MarkAt sign.Else) (λ line. MadeAt (MarkAt sign.If) (λ _. line)) (is sign.Else) (mark_starts sign.Else)))
+  else_if_starts = either_starts (MarkAt terminal.ElseIf) (JoinedAt (MarkAt terminal.Else) (λ line. MadeAt (MarkAt terminal.If) (λ _. line))) takes_else
+      (starts_in_more (MarkAt terminal.ElseIf) (is terminal.ElseIf) takes_else (λ s. or_right (is terminal.Else s) (is terminal.ElseIf s)) (mark_starts terminal.ElseIf))
+      (starts_in_more (JoinedAt (MarkAt terminal.Else) (λ line. MadeAt (MarkAt terminal.If) (λ _. line))) (is terminal.Else) takes_else (λ s. or_left (is terminal.Else s) (is terminal.ElseIf s))
+      (joined_starts (MarkAt terminal.Else) (λ line. MadeAt (MarkAt terminal.If) (λ _. line)) (is terminal.Else) (mark_starts terminal.Else)))
 
   -- behind a body that is not open, any token may come
-  closed_ends : (b : Bool) (s : Sign) → not b ≡ true → open_ends b s ≡ true
+  closed_ends : (b : Bool) (s : Terminal) → not b ≡ true → open_ends b s ≡ true
   closed_ends true s e = absurd (cc)
   closed_ends false s e = refl
 
   next_starts : (a : Arms) → StartsIn (NextAt a) (arms_stop a)
   next_starts a m text x h =
       let s = joined_starts (λ _. ElseIf) (ArmAt a.0) takes_else else_if_starts m text x h.spelled in
-      (s.0, s.1, s.2, closed_ends a.1 (sign_of s.0.kind) h.holds)
+      (s.0, s.1, s.2, closed_ends a.1 (terminal_of s.0.kind) h.holds)
 
   last_follows : Follows arms_stop LastAt ended_stop
   last_follows m a text x r (inl h) here = closed_ends a.1 (head (text ++ r)) h.holds
@@ -336,9 +336,9 @@ module _ (ends place_ends : Sign → Bool) (known : AreRead ends place_ends) (le
     least = λ m some. ([], without_else a, closed_now NextAt LastAt m a [] (without_else a) (inr (record { empty = refl; same = refl })));
   }
 
-  pub if_answers : (ts : List Token) → is sign.If (head ts) ≡ true → Answers Deeper (StatementAt If loops) ended_stop level ts (reader_at if_rule loops level body ts)
+  pub if_answers : (ts : List Token) → is terminal.If (head ts) ≡ true → Answers Deeper (StatementAt If loops) ended_stop level ts (reader_at if_rule loops level body ts)
   unfolding if_rule
-  if_answers ts here = keyword_nests sign.If kind.If refl (λ line. JoinedAt (ArmAt [] line) ArmsAt) ended_stop level (λ line. reader_at next_arm loops level body [] line >>= reader_at arms loops level body) ts refl here
+  if_answers ts here = keyword_nests terminal.If kind.If refl (λ line. JoinedAt (ArmAt [] line) ArmsAt) ended_stop level (λ line. reader_at next_arm loops level body [] line >>= reader_at arms loops level body) ts refl here
       (λ line. joined_reader 1 level (ArmAt [] line) ArmsAt arms_stop ended_stop (reader_at next_arm loops level body [] line) (reader_at arms loops level body) arms_follow (arm_reader [] line) arms_reader)
 
   -- ---- loops
@@ -350,67 +350,67 @@ module _ (ends place_ends : Sign → Bool) (known : AreRead ends place_ends) (le
   unfolding loop_body
   loop_body_reader of = made_reader 1 level (HeadBodyAt (suc loops)) (λ b. ended (of b.statement) b.is_open) body_stop ended_stop (head_body (body (suc loops))) (λ b s e. e) (heads (suc loops))
 
-  pub while_answers : (ts : List Token) → is sign.While (head ts) ≡ true → Answers Deeper (StatementAt While loops) ended_stop level ts (reader_at while_rule loops level body ts)
+  pub while_answers : (ts : List Token) → is terminal.While (head ts) ≡ true → Answers Deeper (StatementAt While loops) ended_stop level ts (reader_at while_rule loops level body ts)
   unfolding while_rule
-  while_answers ts here = keyword_nests sign.While kind.While refl (λ _. JoinedAt (StatementAt Test loops) (λ found. LoopBodyAt (λ b. tree.While found b))) ended_stop level
+  while_answers ts here = keyword_nests terminal.While kind.While refl (λ _. JoinedAt (StatementAt Test loops) (λ found. LoopBodyAt (λ b. tree.While found b))) ended_stop level
       (λ _. reader_at head_test loops level body >>= (λ found. reader_at loop_body loops level body (λ b. tree.While found b))) ts refl here
       (λ _. then_reader 1 level (StatementAt Test loops) (λ found. LoopBodyAt (λ b. tree.While found b)) ended_stop (reader_at head_test loops level body) (λ found. reader_at loop_body loops level body (λ b. tree.While found b))
       (test_reader 1 level loops body ends place_ends known) (λ found. loop_body_reader (λ b. tree.While found b)))
 
   abbrev AfterBodyAt : Body → ℕ → Rules Depth Ended
-  AfterBodyAt b line = JoinedAt (StatementAt Test loops) (λ found. JoinedAt (MarkAt sign.Semicolon) (λ _. GivesAt (whole (tree.DoWhile b.statement line found))))
+  AfterBodyAt b line = JoinedAt (StatementAt Test loops) (λ found. JoinedAt (MarkAt terminal.Semicolon) (λ _. GivesAt (whole (tree.DoWhile b.statement line found))))
 
   after_body : Body → ℕ → Reader Ended
-  after_body b line = reader_at head_test loops level body >>= (λ found. mark sign.Semicolon >> gives (whole (tree.DoWhile b.statement line found)))
+  after_body b line = reader_at head_test loops level body >>= (λ found. mark terminal.Semicolon >> gives (whole (tree.DoWhile b.statement line found)))
 
   after_body_reader : (b : Body) (line : ℕ) → IsPartReader 1 (AfterBodyAt b line) ended_stop level (after_body b line)
   unfolding after_body
-  after_body_reader b line = before_mark 1 level (StatementAt Test loops) Anything sign.Semicolon kind.Semicolon refl (λ a. refl) (λ found _. GivesAt (whole (tree.DoWhile b.statement line found))) ended_stop (reader_at head_test loops level body)
+  after_body_reader b line = before_mark 1 level (StatementAt Test loops) Anything terminal.Semicolon kind.Semicolon refl (λ a. refl) (λ found _. GivesAt (whole (tree.DoWhile b.statement line found))) ended_stop (reader_at head_test loops level body)
       (λ found _. gives (whole (tree.DoWhile b.statement line found))) (test_reader 1 level loops body ends place_ends known) (λ found _. gives_reader 1 level (whole (tree.DoWhile b.statement line found)) ended_stop)
 
-  pub do_while_answers : (ts : List Token) → is sign.Do (head ts) ≡ true → Answers Deeper (StatementAt DoWhile loops) ended_stop level ts (reader_at do_while loops level body ts)
+  pub do_while_answers : (ts : List Token) → is terminal.Do (head ts) ≡ true → Answers Deeper (StatementAt DoWhile loops) ended_stop level ts (reader_at do_while loops level body ts)
   unfolding do_while after_body
-  do_while_answers ts here = keyword_nests sign.Do kind.Do refl (λ _. JoinedAt (HeadBodyAt (suc loops)) (λ b. JoinedAt (MarkAt sign.While) (AfterBodyAt b))) ended_stop level (λ _. head_body (body (suc loops)) >>= (λ b. mark sign.While >>= after_body b)) ts refl here
-      (λ _. before_mark 1 level (HeadBodyAt (suc loops)) body_stop sign.While kind.While refl (λ b. open_ends_other b.is_open sign.While refl) AfterBodyAt ended_stop (head_body (body (suc loops))) after_body (heads (suc loops)) after_body_reader)
+  do_while_answers ts here = keyword_nests terminal.Do kind.Do refl (λ _. JoinedAt (HeadBodyAt (suc loops)) (λ b. JoinedAt (MarkAt terminal.While) (AfterBodyAt b))) ended_stop level (λ _. head_body (body (suc loops)) >>= (λ b. mark terminal.While >>= after_body b)) ts refl here
+      (λ _. before_mark 1 level (HeadBodyAt (suc loops)) body_stop terminal.While kind.While refl (λ b. open_ends_other b.is_open terminal.While refl) AfterBodyAt ended_stop (head_body (body (suc loops))) after_body (heads (suc loops)) after_body_reader)
 
   -- ---- for
 
-  abbrev ExpressionsAt : Sign → Rules Depth (List Expression)
+  abbrev ExpressionsAt : Terminal → Rules Depth (List Expression)
   ExpressionsAt close = AnyPlainItemsAt (λ _. ExpressionAt) close
 
-  abbrev expressions : Sign → Reader (List Expression)
+  abbrev expressions : Terminal → Reader (List Expression)
   expressions close = any_plain_items (λ _. reading level.expressions part.Whole) close
 
-  up_to_semicolon : IsPartReader 1 (ExpressionsAt sign.Semicolon) Anything level (expressions sign.Semicolon)
-  up_to_semicolon = any_expressions 1 level loops body ends place_ends known sign.Semicolon kind.Semicolon refl refl refl refl
+  up_to_semicolon : IsPartReader 1 (ExpressionsAt terminal.Semicolon) Anything level (expressions terminal.Semicolon)
+  up_to_semicolon = any_expressions 1 level loops body ends place_ends known terminal.Semicolon kind.Semicolon refl refl refl refl
 
-  up_to_close : IsPartReader 1 (ExpressionsAt sign.CloseParenthesis) Anything level (expressions sign.CloseParenthesis)
-  up_to_close = any_expressions 1 level loops body ends place_ends known sign.CloseParenthesis kind.CloseParenthesis refl refl refl refl
+  up_to_close : IsPartReader 1 (ExpressionsAt terminal.CloseParenthesis) Anything level (expressions terminal.CloseParenthesis)
+  up_to_close = any_expressions 1 level loops body ends place_ends known terminal.CloseParenthesis kind.CloseParenthesis refl refl refl refl
 
   abbrev AfterTestsAt : List Expression → List Expression → Rules Depth Ended
-  AfterTestsAt before tests = JoinedAt (ExpressionsAt sign.CloseParenthesis) (λ after. LoopBodyAt (λ b. tree.For before tests after b))
+  AfterTestsAt before tests = JoinedAt (ExpressionsAt terminal.CloseParenthesis) (λ after. LoopBodyAt (λ b. tree.For before tests after b))
 
   abbrev after_tests : List Expression → List Expression → Reader Ended
-  after_tests before tests = expressions sign.CloseParenthesis >>= (λ after. reader_at loop_body loops level body (λ b. tree.For before tests after b))
+  after_tests before tests = expressions terminal.CloseParenthesis >>= (λ after. reader_at loop_body loops level body (λ b. tree.For before tests after b))
 
   after_tests_reader : (before tests : List Expression) → IsPartReader 1 (AfterTestsAt before tests) ended_stop level (after_tests before tests)
-  after_tests_reader before tests = then_reader 1 level (ExpressionsAt sign.CloseParenthesis) (λ after. LoopBodyAt (λ b. tree.For before tests after b)) ended_stop (expressions sign.CloseParenthesis)
+  after_tests_reader before tests = then_reader 1 level (ExpressionsAt terminal.CloseParenthesis) (λ after. LoopBodyAt (λ b. tree.For before tests after b)) ended_stop (expressions terminal.CloseParenthesis)
       (λ after. reader_at loop_body loops level body (λ b. tree.For before tests after b)) up_to_close (λ after. loop_body_reader (λ b. tree.For before tests after b))
 
   abbrev AfterBeforeAt : List Expression → Rules Depth Ended
-  AfterBeforeAt before = JoinedAt (ExpressionsAt sign.Semicolon) (AfterTestsAt before)
+  AfterBeforeAt before = JoinedAt (ExpressionsAt terminal.Semicolon) (AfterTestsAt before)
 
-  after_before_reader : (before : List Expression) → IsPartReader 1 (AfterBeforeAt before) ended_stop level (expressions sign.Semicolon >>= after_tests before)
-  after_before_reader before = then_reader 1 level (ExpressionsAt sign.Semicolon) (AfterTestsAt before) ended_stop (expressions sign.Semicolon) (after_tests before) up_to_semicolon (after_tests_reader before)
+  after_before_reader : (before : List Expression) → IsPartReader 1 (AfterBeforeAt before) ended_stop level (expressions terminal.Semicolon >>= after_tests before)
+  after_before_reader before = then_reader 1 level (ExpressionsAt terminal.Semicolon) (AfterTestsAt before) ended_stop (expressions terminal.Semicolon) (after_tests before) up_to_semicolon (after_tests_reader before)
 
-  pub for_answers : (ts : List Token) → is sign.For (head ts) ≡ true → Answers Deeper (StatementAt For loops) ended_stop level ts (reader_at for_rule loops level body ts)
+  pub for_answers : (ts : List Token) → is terminal.For (head ts) ≡ true → Answers Deeper (StatementAt For loops) ended_stop level ts (reader_at for_rule loops level body ts)
   unfolding for_rule
   for_answers ts here =
-      let rest : Rules Depth Ended = JoinedAt (ExpressionsAt sign.Semicolon) AfterBeforeAt in
-      let read : Reader Ended = expressions sign.Semicolon >>= (λ before. expressions sign.Semicolon >>= after_tests before) in
-      keyword_nests sign.For kind.For refl (λ _. JoinedAt (MarkAt sign.OpenParenthesis) (λ _. rest)) ended_stop level (λ _. mark sign.OpenParenthesis >> read) ts refl here
-      (λ _. mark_then 1 level sign.OpenParenthesis kind.OpenParenthesis refl (λ _. rest) ended_stop (λ _. read)
-      (λ _. then_reader 1 level (ExpressionsAt sign.Semicolon) AfterBeforeAt ended_stop (expressions sign.Semicolon) (λ before. expressions sign.Semicolon >>= after_tests before) up_to_semicolon after_before_reader))
+      let rest : Rules Depth Ended = JoinedAt (ExpressionsAt terminal.Semicolon) AfterBeforeAt in
+      let read : Reader Ended = expressions terminal.Semicolon >>= (λ before. expressions terminal.Semicolon >>= after_tests before) in
+      keyword_nests terminal.For kind.For refl (λ _. JoinedAt (MarkAt terminal.OpenParenthesis) (λ _. rest)) ended_stop level (λ _. mark terminal.OpenParenthesis >> read) ts refl here
+      (λ _. mark_then 1 level terminal.OpenParenthesis kind.OpenParenthesis refl (λ _. rest) ended_stop (λ _. read)
+      (λ _. then_reader 1 level (ExpressionsAt terminal.Semicolon) AfterBeforeAt ended_stop (expressions terminal.Semicolon) (λ before. expressions terminal.Semicolon >>= after_tests before) up_to_semicolon after_before_reader))
 
   -- ---- foreach
 
@@ -421,43 +421,43 @@ module _ (ends place_ends : Sign → Bool) (known : AreRead ends place_ends) (le
   after_bound subject found line = reader_at loop_body loops level body (λ b. tree.Foreach subject found b)
 
   abbrev AfterAsAt : Expression → ℕ → Rules Depth Ended
-  AfterAsAt subject line = JoinedAt (λ _. Bound) (λ found. JoinedAt (MarkAt sign.CloseParenthesis) (AfterBoundAt subject found))
+  AfterAsAt subject line = JoinedAt (λ _. Bound) (λ found. JoinedAt (MarkAt terminal.CloseParenthesis) (AfterBoundAt subject found))
 
   abbrev after_as : Expression → ℕ → Reader Ended
-  after_as subject line = bound >>= (λ found. mark sign.CloseParenthesis >>= after_bound subject found)
+  after_as subject line = bound >>= (λ found. mark terminal.CloseParenthesis >>= after_bound subject found)
 
   after_as_reader : (subject : Expression) (line : ℕ) → IsPartReader 1 (AfterAsAt subject line) ended_stop level (after_as subject line)
-  after_as_reader subject line = before_mark 1 level (λ _. Bound) (bound_stop 1 level) sign.CloseParenthesis kind.CloseParenthesis refl (λ a. refl) (AfterBoundAt subject) ended_stop bound (after_bound subject) (bound_reader 1 level)
+  after_as_reader subject line = before_mark 1 level (λ _. Bound) (bound_stop 1 level) terminal.CloseParenthesis kind.CloseParenthesis refl (λ a. refl) (AfterBoundAt subject) ended_stop bound (after_bound subject) (bound_reader 1 level)
       (λ found _. loop_body_reader (λ b. tree.Foreach subject found b))
 
-  pub foreach_answers : (ts : List Token) → is sign.Foreach (head ts) ≡ true → Answers Deeper (StatementAt Foreach loops) ended_stop level ts (reader_at foreach loops level body ts)
+  pub foreach_answers : (ts : List Token) → is terminal.Foreach (head ts) ≡ true → Answers Deeper (StatementAt Foreach loops) ended_stop level ts (reader_at foreach loops level body ts)
   unfolding foreach
   foreach_answers ts here =
-      let rest : Rules Depth Ended = JoinedAt ExpressionAt (λ subject. JoinedAt (MarkAt sign.As) (AfterAsAt subject)) in
-      let read : Reader Ended = reading level.expressions part.Whole >>= (λ subject. mark sign.As >>= after_as subject) in
-      keyword_nests sign.Foreach kind.Foreach refl (λ _. JoinedAt (MarkAt sign.OpenParenthesis) (λ _. rest)) ended_stop level (λ _. mark sign.OpenParenthesis >> read) ts refl here
-      (λ _. mark_then 1 level sign.OpenParenthesis kind.OpenParenthesis refl (λ _. rest) ended_stop (λ _. read)
-      (λ _. expression_then 1 level loops body ends place_ends known sign.As kind.As refl refl AfterAsAt ended_stop after_as after_as_reader))
+      let rest : Rules Depth Ended = JoinedAt ExpressionAt (λ subject. JoinedAt (MarkAt terminal.As) (AfterAsAt subject)) in
+      let read : Reader Ended = reading level.expressions part.Whole >>= (λ subject. mark terminal.As >>= after_as subject) in
+      keyword_nests terminal.Foreach kind.Foreach refl (λ _. JoinedAt (MarkAt terminal.OpenParenthesis) (λ _. rest)) ended_stop level (λ _. mark terminal.OpenParenthesis >> read) ts refl here
+      (λ _. mark_then 1 level terminal.OpenParenthesis kind.OpenParenthesis refl (λ _. rest) ended_stop (λ _. read)
+      (λ _. expression_then 1 level loops body ends place_ends known terminal.As kind.As refl refl AfterAsAt ended_stop after_as after_as_reader))
 
   -- ---- any statement
 
-  chosen_answers : (s : Sign) (ts : List Token) → head ts ≡ s → Answers Deeper (Chosen loops s) ended_stop level ts (reader_at by_keyword loops level body s ts)
+  chosen_answers : (s : Terminal) (ts : List Token) → head ts ≡ s → Answers Deeper (Chosen loops s) ended_stop level ts (reader_at by_keyword loops level body s ts)
   unfolding by_keyword
-  chosen_answers sign.Echo ts e = (echo_reader 0 level loops body ends place_ends known).answers (omega arith) ts
-  chosen_answers sign.OpenBrace ts e = block_answers ends place_ends known level loops body reads ts (ap (is sign.OpenBrace) e)
-  chosen_answers sign.Semicolon ts e = (empty_reader 0 level).answers (omega arith) ts
-  chosen_answers sign.If ts e = if_answers ts (ap (is sign.If) e)
-  chosen_answers sign.While ts e = while_answers ts (ap (is sign.While) e)
-  chosen_answers sign.Do ts e = do_while_answers ts (ap (is sign.Do) e)
-  chosen_answers sign.For ts e = for_answers ts (ap (is sign.For) e)
-  chosen_answers sign.Foreach ts e = foreach_answers ts (ap (is sign.Foreach) e)
-  chosen_answers sign.Break ts e = break_answers 0 level loops body (omega arith) ts
-  chosen_answers sign.Continue ts e = continue_answers 0 level loops body (omega arith) ts
-  chosen_answers sign.Return ts e = (return_reader 0 level loops body ends place_ends known).answers (omega arith) ts
-  chosen_answers sign.Global ts e = (global_reader 0 level).answers (omega arith) ts
-  chosen_answers sign.Unset ts e = (unset_reader 0 level loops body ends place_ends known).answers (omega arith) ts
-  chosen_answers sign.Exit ts e = (exit_reader 0 level loops body ends place_ends known).answers (omega arith) ts
-  chosen_answers sign.Die ts e = (exit_reader 0 level loops body ends place_ends known).answers (omega arith) ts
+  chosen_answers terminal.Echo ts e = (echo_reader 0 level loops body ends place_ends known).answers (omega arith) ts
+  chosen_answers terminal.OpenBrace ts e = block_answers ends place_ends known level loops body reads ts (ap (is terminal.OpenBrace) e)
+  chosen_answers terminal.Semicolon ts e = (empty_reader 0 level).answers (omega arith) ts
+  chosen_answers terminal.If ts e = if_answers ts (ap (is terminal.If) e)
+  chosen_answers terminal.While ts e = while_answers ts (ap (is terminal.While) e)
+  chosen_answers terminal.Do ts e = do_while_answers ts (ap (is terminal.Do) e)
+  chosen_answers terminal.For ts e = for_answers ts (ap (is terminal.For) e)
+  chosen_answers terminal.Foreach ts e = foreach_answers ts (ap (is terminal.Foreach) e)
+  chosen_answers terminal.Break ts e = break_answers 0 level loops body (omega arith) ts
+  chosen_answers terminal.Continue ts e = continue_answers 0 level loops body (omega arith) ts
+  chosen_answers terminal.Return ts e = (return_reader 0 level loops body ends place_ends known).answers (omega arith) ts
+  chosen_answers terminal.Global ts e = (global_reader 0 level).answers (omega arith) ts
+  chosen_answers terminal.Unset ts e = (unset_reader 0 level loops body ends place_ends known).answers (omega arith) ts
+  chosen_answers terminal.Exit ts e = (exit_reader 0 level loops body ends place_ends known).answers (omega arith) ts
+  chosen_answers terminal.Die ts e = (exit_reader 0 level loops body ends place_ends known).answers (omega arith) ts
   chosen_answers _ ts e = (perform_reader 0 level loops body ends place_ends known).answers (omega arith) ts
 
   any_answers : (ts : List Token) → Answers Deeper (AnyAt loops) ended_stop level ts (reader_at any_statement loops level body ts)
@@ -465,7 +465,7 @@ module _ (ends place_ends : Sign → Bool) (known : AreRead ends place_ends) (le
   any_answers ts = carried Deeper same_depth (Chosen loops (head ts)) (AnyAt loops) ended_stop ended_stop level ts (λ m above text a h. unchosen loops (head ts) m text a h)
       (λ m us e a r begins.
       let s = starts ends place_ends known loops m begins.text a begins.spelled in
-      let here : sign_of s.first.kind ≡ head ts = sym (ap head (begins.split ∙ ap (λ l. l ++ r) s.split)) ∙ e in
+      let here : terminal_of s.first.kind ≡ head ts = sym (ap head (begins.split ∙ ap (λ l. l ++ r) s.split)) ∙ e in
       record { text = begins.text; split = begins.split; spelled = subst (λ k. Chosen loops k m begins.text a) here s.chosen; stops = begins.stops })
       (reader_at by_keyword loops level body (head ts) ts) (chosen_answers (head ts) ts refl)
 

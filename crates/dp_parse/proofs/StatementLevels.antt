@@ -3,13 +3,13 @@ use Rattle.std.proofs.Common.{◌≡◌, inl, inr, ℕ, zero, suc, ◌≤◌, Bo
 use Rattle.dp_lexer.specs.declared.token.Token.{Token}
 use Rattle.dp_lexer.specs.declared.token.TokenKind.TheVariants as kind
 use Rattle.dp_parse.specs.declared.ended.Body.{Body}
-use Rattle.dp_rules.specs.declared.sign.Sign.{Sign}
-use Rattle.dp_rules.specs.declared.sign.Sign.TheVariants as sign
+use Rattle.dp_rules.specs.declared.terminal.Terminal.{Terminal}
+use Rattle.dp_rules.specs.declared.terminal.Terminal.TheVariants as terminal
 use Rattle.dp_tree.specs.declared.tree.StatementKind.TheVariants as tree
 use Rattle.dp_rules.specs.Rules.{Mark}
 use Rattle.dp_parse.specs.Statements.{Depth, whole, stated, body_at}
 use Rattle.dp_parse.specs.inner.ReadingStatements.{any_statement, on_its_line, body_below, statement}
-use Rattle.dp_rules.proofs.Signs.{placed, mark_alone}
+use Rattle.dp_rules.proofs.Terminals.{placed, mark_alone}
 use Rattle.dp_rules.proofs.Answers.{Answers, give, below_answers}
 use Rattle.dp_parse.proofs.StatementReaders.{Deeper, IsPartReader}
 use Rattle.dp_parse.proofs.StatementParts.{AreRead, reader_at, body_stop}
@@ -55,7 +55,7 @@ least_line loops m =
       first = placed kind.Semicolon;
       behind = [];
       begins = refl;
-      spelled = give (AnyAt loops m) (stated 1) text (whole tree.Empty) (inr (inr (inr (inl (give (Mark sign.Semicolon) (λ _. whole tree.Empty) text 1 (mark_alone sign.Semicolon kind.Semicolon refl))))));
+      spelled = give (AnyAt loops m) (stated 1) text (whole tree.Empty) (inr (inr (inr (inl (give (Mark terminal.Semicolon) (λ _. whole tree.Empty) text 1 (mark_alone terminal.Semicolon kind.Semicolon refl))))));
     }
 
 pub least_body : (loops : ℕ) (m : Depth) → 1 ≤ m.bodies → (ts : List Token) × (b : Body) × BodyAt loops m ts b
@@ -65,7 +65,7 @@ least_body loops m some = go m.bodies some
     go zero none = absurd (omega arith)
     go (suc n) some = (placed kind.Semicolon ∷ [], stated 1 (whole tree.Empty), least_line loops (depth_of m.expressions n))
 
-module _ (ends place_ends : Sign → Bool) (known : AreRead ends place_ends) where
+module _ (ends place_ends : Terminal → Bool) (known : AreRead ends place_ends) where
   pub body_reader : (expressions n loops : ℕ) → IsPartReader 1 (BodyAt loops) body_stop (depth_of expressions n) (body_below expressions n loops)
   unfolding body_below
   body_reader expressions zero loops = record { answers = λ none. absurd (omega arith); least = least_body loops }

@@ -6,13 +6,13 @@ use Rattle.dp_lexer.specs.declared.token.TokenKind.TheVariants as kind
 use Rattle.dp_parse.specs.declared.ended.Body.{Body}
 use Rattle.dp_parse.specs.declared.ended.Ended.{Ended}
 use Rattle.dp_expressions.specs.declared.operand.Part.TheVariants as part
-use Rattle.dp_rules.specs.declared.sign.Sign.{Sign}
-use Rattle.dp_rules.specs.declared.sign.Sign.TheVariants as sign
+use Rattle.dp_rules.specs.declared.terminal.Terminal.{Terminal}
+use Rattle.dp_rules.specs.declared.terminal.Terminal.TheVariants as terminal
 use Rattle.dp_tree.specs.declared.tree.Binding.{Binding}
 use Rattle.dp_tree.specs.declared.tree.Expression.{Expression}
 use Rattle.dp_tree.specs.declared.tree.Place.{Place}
 use Rattle.dp_tree.specs.declared.tree.StatementKind.TheVariants as tree
-use Rattle.dp_rules.specs.Signs.{sign_of, same_sign, is}
+use Rattle.dp_rules.specs.Terminals.{terminal_of, same_terminal, is}
 use Rattle.dp_rules.specs.inner.Input.{Reader, gives, made, mark, refuse, ◌>>=◌, ◌>>◌, kind, variable}
 use Rattle.dp_rules.specs.Rules.{Rule, Joined, Made, Mark, Perhaps, Closed}
 use Rattle.dp_rules.specs.Lists.{NextItem}
@@ -22,18 +22,18 @@ use Rattle.dp_expressions.specs.inner.Reading.{begins_expression, reading, readi
 use Rattle.dp_parse.specs.Statements.{Depth, whole, binding, Bound, GlobalRule, Empty, Perform, Echo, Test, Loops, Return, Unset, Exit, body_at}
 use Rattle.dp_parse.specs.Statements as grammar_of
 use Rattle.dp_parse.specs.inner.ReadingStatements.{empty, bound_rest, bound, global_rule, exit_word, perform, echo, head_test, levels, loops_rule, break_rule, continue_rule, maybe_up_to, return_rule, unset, exit_value, exit}
-use Rattle.dp_rules.proofs.Signs.{not_true, placed, mark_alone, mark_fails, mark_apart}
+use Rattle.dp_rules.proofs.Terminals.{not_true, placed, mark_alone, mark_fails, mark_apart}
 use Rattle.dp_rules.proofs.Answers.{Rules, Stop, Anything, JoinedAt, EitherAt, GivesAt, OneAt, MarkAt, MadeAt, Answers, StartsIn, give, behind, mark_starts, joined_starts, made_starts, starts_apart, gives_apart, one_starts, one_answers, gives_answers, either_answers, within_answers, when_answers}
 use Rattle.dp_rules.proofs.More.{variable_starts}
 use Rattle.dp_rules.proofs.ListAnswers.{PlainItemsAt, SomeItemsAt, AnyPlainItemsAt, AreItems, plain_items_answers, some_items_answers, any_plain_items_answers}
 use Rattle.dp_parse.proofs.StatementReaders.{Deeper, same_depth, IsPartReader, gives_reader, mark_reader, then_reader, made_reader, mark_then, before_mark, either_reader, stricter}
-use Rattle.dp_rules.specs.Worths.{Text, Variable, variable_in, by_kind, number_up_to}
+use Rattle.dp_rules.specs.TokenValues.{Text, Variable, variable_in, by_kind, number_up_to}
 
 -- ---- lists with commas
 
-module _ (base : ℕ) (level : Depth) {A : Type 0} (rule : Rules Depth A) (item_stop : Stop A) (test : Sign → Bool) (read : Reader A) (reader : IsPartReader base rule item_stop level read)
-    (starts : StartsIn rule test) (not_comma : test sign.Comma ≡ false) (stops_comma : (a : A) → item_stop a sign.Comma ≡ true)
-    (close : Sign) (k : TokenKind) (closes : same_sign (sign_of k) close ≡ true) (not_close : test close ≡ false) (close_apart : same_sign close sign.Comma ≡ false) (stops_close : (a : A) → item_stop a close ≡ true) where
+module _ (base : ℕ) (level : Depth) {A : Type 0} (rule : Rules Depth A) (item_stop : Stop A) (test : Terminal → Bool) (read : Reader A) (reader : IsPartReader base rule item_stop level read)
+    (starts : StartsIn rule test) (not_comma : test terminal.Comma ≡ false) (stops_comma : (a : A) → item_stop a terminal.Comma ≡ true)
+    (close : Terminal) (k : TokenKind) (closes : same_terminal (terminal_of k) close ≡ true) (not_close : test close ≡ false) (close_apart : same_terminal close terminal.Comma ≡ false) (stops_close : (a : A) → item_stop a close ≡ true) where
   items : base ≤ level.bodies → AreItems Deeper (λ _. rule) close item_stop test level (λ _. read)
   items some = record {
     starts = λ all. starts;
@@ -66,7 +66,7 @@ module _ (base : ℕ) (level : Depth) {A : Type 0} (rule : Rules Depth A) (item_
   pub some_reader : IsPartReader base (SomeItemsAt (λ _. rule) close) Anything level (some_items (λ _. read) close)
   some_reader = record {
     answers = λ some. some_items_answers Deeper same_depth (λ _. rule) close item_stop test level (λ _. read) (items some);
-    least = least_items (Joined (Perhaps (Mark sign.Comma)) (λ _. Mark close)) (record { front = []; back = placed k ∷ []; value = None; split = refl; one = inr (record { empty = refl; same = refl }); other = mark_alone close k closes });
+    least = least_items (Joined (Perhaps (Mark terminal.Comma)) (λ _. Mark close)) (record { front = []; back = placed k ∷ []; value = None; split = refl; one = inr (record { empty = refl; same = refl }); other = mark_alone close k closes });
   }
 
   pub any_plain_reader : IsPartReader base (AnyPlainItemsAt (λ _. rule) close) Anything level (any_plain_items (λ _. read) close)
@@ -78,18 +78,18 @@ module _ (base : ℕ) (level : Depth) {A : Type 0} (rule : Rules Depth A) (item_
 -- ---- expressions and places, as they are read
 
 -- the tokens that may stand behind an expression in a statement
-abbrev pub closing : Sign → Bool
-closing s = is sign.Semicolon s || is sign.CloseParenthesis s || is sign.Comma s || is sign.As s || is sign.End s
+abbrev pub closing : Terminal → Bool
+closing s = is terminal.Semicolon s || is terminal.CloseParenthesis s || is terminal.Comma s || is terminal.As s || is terminal.End s
 
-pub record AreRead (ends place_ends : Sign → Bool) : Type 0 where
+pub record AreRead (ends place_ends : Terminal → Bool) : Type 0 where
   pub reads : (level : ℕ) (ts : List Token) → Answers ◌≤◌ IsExpression (λ _ s. ends s) level ts (reading level part.Whole ts)
   pub reads_place : (level : ℕ) (ts : List Token) → Answers ◌≤◌ IsPlace (λ _ s. place_ends s) level ts (reading_place level ts)
   pub starts : StartsIn IsExpression begins_expression
-  pub place_starts : StartsIn IsPlace (is sign.Variable)
+  pub place_starts : StartsIn IsPlace (is terminal.Variable)
   pub least : (level : ℕ) → (ts : List Token) × (a : Expression) × IsExpression level ts a
   pub least_place : (level : ℕ) → (ts : List Token) × (a : Place) × IsPlace level ts a
-  pub stops : (s : Sign) → closing s ≡ true → ends s ≡ true
-  pub stops_place : (s : Sign) → closing s ≡ true → place_ends s ≡ true
+  pub stops : (s : Terminal) → closing s ≡ true → ends s ≡ true
+  pub stops_place : (s : Terminal) → closing s ≡ true → place_ends s ≡ true
 
 abbrev pub ExpressionAt : Rules Depth Expression
 ExpressionAt m = IsExpression m.expressions
@@ -107,17 +107,17 @@ reader_at read loops level body = read level.bodies loops (reading level.express
 
 -- ---- what a statement may be followed by
 
-abbrev pub takes_else : Sign → Bool
-takes_else s = is sign.Else s || is sign.ElseIf s
+abbrev pub takes_else : Terminal → Bool
+takes_else s = is terminal.Else s || is terminal.ElseIf s
 
 -- what is open does not end before an `else`
-abbrev pub open_ends : Bool → Sign → Bool
+abbrev pub open_ends : Bool → Terminal → Bool
 open_ends is_open s = not (is_open && takes_else s)
 
-abbrev pub ended_stop : Ended → Sign → Bool
+abbrev pub ended_stop : Ended → Terminal → Bool
 ended_stop e s = open_ends e.is_open s
 
-abbrev pub body_stop : Body → Sign → Bool
+abbrev pub body_stop : Body → Terminal → Bool
 body_stop b s = open_ends b.is_open s
 
 module _ (base : ℕ) (level : Depth) where
@@ -135,26 +135,26 @@ module _ (base : ℕ) (level : Depth) where
 
   pub empty_reader : IsPartReader base (λ _. Empty) ended_stop level empty
   unfolding empty
-  empty_reader = made_reader base level (MarkAt sign.Semicolon) (λ _. whole tree.Empty) Anything ended_stop (mark sign.Semicolon) (λ a s e. refl) (mark_reader base level sign.Semicolon kind.Semicolon refl)
+  empty_reader = made_reader base level (MarkAt terminal.Semicolon) (λ _. whole tree.Empty) Anything ended_stop (mark terminal.Semicolon) (λ a s e. refl) (mark_reader base level terminal.Semicolon kind.Semicolon refl)
 
   -- ---- the variables of a `foreach`
 
-  abbrev pub bound_stop : Binding → Sign → Bool
-  bound_stop b s = not (is sign.Arrow s)
+  abbrev pub bound_stop : Binding → Terminal → Bool
+  bound_stop b s = not (is terminal.Arrow s)
 
   abbrev BoundRestAt : Text → Rules Depth Binding
-  BoundRestAt first = EitherAt (MadeAt (JoinedAt (MarkAt sign.Arrow) (λ _ _. Variable)) (λ value. binding (Some first) value)) (GivesAt (binding None first))
+  BoundRestAt first = EitherAt (MadeAt (JoinedAt (MarkAt terminal.Arrow) (λ _ _. Variable)) (λ value. binding (Some first) value)) (GivesAt (binding None first))
 
-  arrow_starts : (first : Text) → StartsIn {L = Depth} (MadeAt (JoinedAt (MarkAt sign.Arrow) (λ _ _. Variable)) (λ value. binding (Some first) value)) (is sign.Arrow)
-  arrow_starts first = made_starts (JoinedAt (MarkAt sign.Arrow) (λ _ _. Variable)) (λ value. binding (Some first) value) (is sign.Arrow) (joined_starts (MarkAt sign.Arrow) (λ _ _. Variable) (is sign.Arrow) (mark_starts sign.Arrow))
+  arrow_starts : (first : Text) → StartsIn {L = Depth} (MadeAt (JoinedAt (MarkAt terminal.Arrow) (λ _ _. Variable)) (λ value. binding (Some first) value)) (is terminal.Arrow)
+  arrow_starts first = made_starts (JoinedAt (MarkAt terminal.Arrow) (λ _ _. Variable)) (λ value. binding (Some first) value) (is terminal.Arrow) (joined_starts (MarkAt terminal.Arrow) (λ _ _. Variable) (is terminal.Arrow) (mark_starts terminal.Arrow))
 
   bound_rest_reader : (first : Text) → IsPartReader base (BoundRestAt first) bound_stop level (bound_rest first)
   unfolding bound_rest
-  bound_rest_reader first = either_reader base level (MadeAt (JoinedAt (MarkAt sign.Arrow) (λ _ _. Variable)) (λ value. binding (Some first) value)) (GivesAt (binding None first)) (is sign.Arrow) bound_stop
-      (made (mark sign.Arrow >> variable) (λ value. binding (Some first) value)) (gives (binding None first)) (arrow_starts first)
-      (gives_apart (binding None first) bound_stop (is sign.Arrow) (λ s e. not_true (is sign.Arrow s) e))
-      (made_reader base level (JoinedAt (MarkAt sign.Arrow) (λ _ _. Variable)) (λ value. binding (Some first) value) Anything bound_stop (mark sign.Arrow >> variable) (λ a s e. refl)
-      (mark_then base level sign.Arrow kind.Arrow refl (λ _ _. Variable) Anything (λ _. variable) (λ _. variable_reader)))
+  bound_rest_reader first = either_reader base level (MadeAt (JoinedAt (MarkAt terminal.Arrow) (λ _ _. Variable)) (λ value. binding (Some first) value)) (GivesAt (binding None first)) (is terminal.Arrow) bound_stop
+      (made (mark terminal.Arrow >> variable) (λ value. binding (Some first) value)) (gives (binding None first)) (arrow_starts first)
+      (gives_apart (binding None first) bound_stop (is terminal.Arrow) (λ s e. not_true (is terminal.Arrow s) e))
+      (made_reader base level (JoinedAt (MarkAt terminal.Arrow) (λ _ _. Variable)) (λ value. binding (Some first) value) Anything bound_stop (mark terminal.Arrow >> variable) (λ a s e. refl)
+      (mark_then base level terminal.Arrow kind.Arrow refl (λ _ _. Variable) Anything (λ _. variable) (λ _. variable_reader)))
       (gives_reader base level (binding None first) bound_stop)
 
   pub bound_reader : IsPartReader base (λ _. Bound) bound_stop level bound
@@ -165,76 +165,76 @@ module _ (base : ℕ) (level : Depth) where
 
   pub global_reader : IsPartReader base (λ _. GlobalRule) ended_stop level global_rule
   unfolding global_rule
-  global_reader = made_reader base level (JoinedAt (MarkAt sign.Global) (λ _. PlainItemsAt (λ _ _. Variable) sign.Semicolon)) (λ names. whole (tree.Global names)) Anything ended_stop (mark sign.Global >> plain_items (λ _. variable) sign.Semicolon) (λ a s e. refl)
-      (mark_then base level sign.Global kind.Global refl (λ _. PlainItemsAt (λ _ _. Variable) sign.Semicolon) Anything (λ _. plain_items (λ _. variable) sign.Semicolon)
-      (λ _. plain_reader base level (λ _. Variable) Anything (is sign.Variable) variable variable_reader variable_starts refl (λ a. refl) sign.Semicolon kind.Semicolon refl refl refl (λ a. refl)))
+  global_reader = made_reader base level (JoinedAt (MarkAt terminal.Global) (λ _. PlainItemsAt (λ _ _. Variable) terminal.Semicolon)) (λ names. whole (tree.Global names)) Anything ended_stop (mark terminal.Global >> plain_items (λ _. variable) terminal.Semicolon) (λ a s e. refl)
+      (mark_then base level terminal.Global kind.Global refl (λ _. PlainItemsAt (λ _ _. Variable) terminal.Semicolon) Anything (λ _. plain_items (λ _. variable) terminal.Semicolon)
+      (λ _. plain_reader base level (λ _. Variable) Anything (is terminal.Variable) variable variable_reader variable_starts refl (λ a. refl) terminal.Semicolon kind.Semicolon refl refl refl (λ a. refl)))
 
-  exit_word_reader : IsPartReader base (EitherAt (MarkAt sign.Exit) (MarkAt sign.Die)) Anything level exit_word
+  exit_word_reader : IsPartReader base (EitherAt (MarkAt terminal.Exit) (MarkAt terminal.Die)) Anything level exit_word
   unfolding exit_word
-  exit_word_reader = either_reader base level (MarkAt sign.Exit) (MarkAt sign.Die) (is sign.Exit) Anything (mark sign.Exit) (mark sign.Die) (mark_starts sign.Exit)
-      (starts_apart (MarkAt sign.Die) Anything (is sign.Exit) (is sign.Die) (mark_fails (is sign.Exit) sign.Die refl) (mark_starts sign.Die))
-      (mark_reader base level sign.Exit kind.Exit refl) (mark_reader base level sign.Die kind.Die refl)
+  exit_word_reader = either_reader base level (MarkAt terminal.Exit) (MarkAt terminal.Die) (is terminal.Exit) Anything (mark terminal.Exit) (mark terminal.Die) (mark_starts terminal.Exit)
+      (starts_apart (MarkAt terminal.Die) Anything (is terminal.Exit) (is terminal.Die) (mark_fails (is terminal.Exit) terminal.Die refl) (mark_starts terminal.Die))
+      (mark_reader base level terminal.Exit kind.Exit refl) (mark_reader base level terminal.Die kind.Die refl)
 
   module _ (loops : ℕ) (body : ℕ → Reader Body) where
     -- ---- how many loops
 
-    abbrev levels_stop : ℕ → Sign → Bool
-    levels_stop n s = is sign.Semicolon s
+    abbrev levels_stop : ℕ → Terminal → Bool
+    levels_stop n s = is terminal.Semicolon s
 
     abbrev LevelsAt : Rules Depth ℕ
     LevelsAt = EitherAt (OneAt (by_kind (number_up_to loops))) (GivesAt 1)
 
-    levels_starts : StartsIn {L = Depth} (OneAt (by_kind (number_up_to loops))) (is sign.Number)
-    levels_starts = one_starts (by_kind (number_up_to loops)) (is sign.Number) (λ t a e. of t.kind a e)
+    levels_starts : StartsIn {L = Depth} (OneAt (by_kind (number_up_to loops))) (is terminal.Number)
+    levels_starts = one_starts (by_kind (number_up_to loops)) (is terminal.Number) (λ t a e. of t.kind a e)
       where
-        of : (k : TokenKind) (a : ℕ) → number_up_to loops k ≡ Some a → is sign.Number (sign_of k) ≡ true
+        of : (k : TokenKind) (a : ℕ) → number_up_to loops k ≡ Some a → is terminal.Number (terminal_of k) ≡ true
         of (kind.Number n) a e = refl
         of _ a e = absurd (cc)
 
     levels_reader : IsPartReader base LevelsAt levels_stop level (reader_at levels loops level body)
     unfolding levels
     levels_reader = record {
-      answers = λ some ts. either_answers Deeper same_depth (OneAt (by_kind (number_up_to loops))) (GivesAt 1) (is sign.Number) levels_stop level ts levels_starts
-          (gives_apart 1 levels_stop (is sign.Number) (mark_fails (is sign.Number) sign.Semicolon refl))
+      answers = λ some ts. either_answers Deeper same_depth (OneAt (by_kind (number_up_to loops))) (GivesAt 1) (is terminal.Number) levels_stop level ts levels_starts
+          (gives_apart 1 levels_stop (is terminal.Number) (mark_fails (is terminal.Number) terminal.Semicolon refl))
           (kind (number_up_to loops) ts) (Ok (1, ts)) (λ _. one_answers Deeper same_depth (by_kind (number_up_to loops)) levels_stop level ts) (λ _. gives_answers Deeper same_depth 1 levels_stop level ts);
       least = λ m some. ([], 1, inr (record { empty = refl; same = refl }));
     }
 
     loops_reader : IsPartReader base (StatementAt Loops loops) Anything level (reader_at loops_rule loops level body)
     unfolding loops_rule
-    loops_reader = before_mark base level LevelsAt levels_stop sign.Semicolon kind.Semicolon refl (λ a. refl) (λ n _. GivesAt n) Anything (reader_at levels loops level body) (λ n _. gives n) levels_reader (λ n _. gives_reader base level n Anything)
+    loops_reader = before_mark base level LevelsAt levels_stop terminal.Semicolon kind.Semicolon refl (λ a. refl) (λ n _. GivesAt n) Anything (reader_at levels loops level body) (λ n _. gives n) levels_reader (λ n _. gives_reader base level n Anything)
 
     -- a word and how many loops, in a loop
-    in_loop_reader : (s : Sign) (k : TokenKind) → same_sign (sign_of k) s ≡ true → (f : ℕ → Ended)
+    in_loop_reader : (s : Terminal) (k : TokenKind) → same_terminal (terminal_of k) s ≡ true → (f : ℕ → Ended)
         → IsPartReader base (MadeAt (JoinedAt (MarkAt s) (λ _. StatementAt Loops loops)) f) ended_stop level (made (mark s >> reader_at loops_rule loops level body) f)
     in_loop_reader s k is_sort f = made_reader base level (JoinedAt (MarkAt s) (λ _. StatementAt Loops loops)) f Anything ended_stop (mark s >> reader_at loops_rule loops level body) (λ n x e. refl)
         (mark_then base level s k is_sort (λ _. StatementAt Loops loops) Anything (λ _. reader_at loops_rule loops level body) (λ _. loops_reader))
 
     pub break_answers : base ≤ level.bodies → (ts : List Token) → Answers Deeper (StatementAt grammar_of.Break loops) ended_stop level ts (reader_at break_rule loops level body ts)
     unfolding break_rule refuse
-    break_answers some ts = when_answers Deeper same_depth (nat_lt 0 loops) (MadeAt (JoinedAt (MarkAt sign.Break) (λ _. StatementAt Loops loops)) (λ n. whole (tree.Break n))) ended_stop level ts
-        (made (mark sign.Break >> reader_at loops_rule loops level body) (λ n. whole (tree.Break n)) ts)
-        (λ _. (in_loop_reader sign.Break kind.Break refl (λ n. whole (tree.Break n))).answers some ts)
+    break_answers some ts = when_answers Deeper same_depth (nat_lt 0 loops) (MadeAt (JoinedAt (MarkAt terminal.Break) (λ _. StatementAt Loops loops)) (λ n. whole (tree.Break n))) ended_stop level ts
+        (made (mark terminal.Break >> reader_at loops_rule loops level body) (λ n. whole (tree.Break n)) ts)
+        (λ _. (in_loop_reader terminal.Break kind.Break refl (λ n. whole (tree.Break n))).answers some ts)
 
     pub continue_answers : base ≤ level.bodies → (ts : List Token) → Answers Deeper (StatementAt grammar_of.Continue loops) ended_stop level ts (reader_at continue_rule loops level body ts)
     unfolding continue_rule refuse
-    continue_answers some ts = when_answers Deeper same_depth (nat_lt 0 loops) (MadeAt (JoinedAt (MarkAt sign.Continue) (λ _. StatementAt Loops loops)) (λ n. whole (tree.Continue n))) ended_stop level ts
-        (made (mark sign.Continue >> reader_at loops_rule loops level body) (λ n. whole (tree.Continue n)) ts)
-        (λ _. (in_loop_reader sign.Continue kind.Continue refl (λ n. whole (tree.Continue n))).answers some ts)
+    continue_answers some ts = when_answers Deeper same_depth (nat_lt 0 loops) (MadeAt (JoinedAt (MarkAt terminal.Continue) (λ _. StatementAt Loops loops)) (λ n. whole (tree.Continue n))) ended_stop level ts
+        (made (mark terminal.Continue >> reader_at loops_rule loops level body) (λ n. whole (tree.Continue n)) ts)
+        (λ _. (in_loop_reader terminal.Continue kind.Continue refl (λ n. whole (tree.Continue n))).answers some ts)
 
     -- ---- statements of expressions and places
 
-    module _ (ends place_ends : Sign → Bool) (known : AreRead ends place_ends) where
+    module _ (ends place_ends : Terminal → Bool) (known : AreRead ends place_ends) where
       abbrev expression : Reader Expression
       expression = reading level.expressions part.Whole
 
       abbrev place : Reader Place
       place = reading_place level.expressions
 
-      abbrev expression_stop : Expression → Sign → Bool
+      abbrev expression_stop : Expression → Terminal → Bool
       expression_stop a s = ends s
 
-      abbrev place_stop : Place → Sign → Bool
+      abbrev place_stop : Place → Terminal → Bool
       place_stop a s = place_ends s
 
       pub expression_reader : IsPartReader base ExpressionAt expression_stop level expression
@@ -254,49 +254,49 @@ module _ (base : ℕ) (level : Depth) where
       pub expression_starts : StartsIn ExpressionAt begins_expression
       expression_starts m text a h = known.starts m.expressions text a h
 
-      place_starts : StartsIn PlaceAt (is sign.Variable)
+      place_starts : StartsIn PlaceAt (is terminal.Variable)
       place_starts m text a h = known.place_starts m.expressions text a h
 
       -- an expression, a token that may stand behind it, and the rest
-      pub expression_then : {A : Type 0} (s : Sign) (k : TokenKind) → same_sign (sign_of k) s ≡ true → closing s ≡ true → (rest : Expression → ℕ → Rules Depth A) (stop : Stop A) (f : Expression → ℕ → Reader A)
+      pub expression_then : {A : Type 0} (s : Terminal) (k : TokenKind) → same_terminal (terminal_of k) s ≡ true → closing s ≡ true → (rest : Expression → ℕ → Rules Depth A) (stop : Stop A) (f : Expression → ℕ → Reader A)
           → ((a : Expression) (line : ℕ) → IsPartReader base (rest a line) stop level (f a line))
           → IsPartReader base (JoinedAt ExpressionAt (λ a. JoinedAt (MarkAt s) (rest a))) stop level (expression >>= (λ a. mark s >>= f a))
       expression_then s k is_sort closes rest stop f other = before_mark base level ExpressionAt expression_stop s k is_sort (λ a. known.stops s closes) rest stop expression f expression_reader other
 
       pub perform_reader : IsPartReader base (StatementAt Perform loops) ended_stop level (reader_at perform loops level body)
       unfolding perform
-      perform_reader = expression_then sign.Semicolon kind.Semicolon refl refl (λ value _. GivesAt (whole (tree.Expression value))) ended_stop (λ value _. gives (whole (tree.Expression value))) (λ value _. gives_reader base level (whole (tree.Expression value)) ended_stop)
+      perform_reader = expression_then terminal.Semicolon kind.Semicolon refl refl (λ value _. GivesAt (whole (tree.Expression value))) ended_stop (λ value _. gives (whole (tree.Expression value))) (λ value _. gives_reader base level (whole (tree.Expression value)) ended_stop)
 
-      plain_expressions : IsPartReader base (PlainItemsAt (λ _. ExpressionAt) sign.Semicolon) Anything level (plain_items (λ _. expression) sign.Semicolon)
-      plain_expressions = plain_reader base level ExpressionAt expression_stop begins_expression expression expression_reader expression_starts refl (λ a. known.stops sign.Comma refl) sign.Semicolon kind.Semicolon refl refl refl (λ a. known.stops sign.Semicolon refl)
+      plain_expressions : IsPartReader base (PlainItemsAt (λ _. ExpressionAt) terminal.Semicolon) Anything level (plain_items (λ _. expression) terminal.Semicolon)
+      plain_expressions = plain_reader base level ExpressionAt expression_stop begins_expression expression expression_reader expression_starts refl (λ a. known.stops terminal.Comma refl) terminal.Semicolon kind.Semicolon refl refl refl (λ a. known.stops terminal.Semicolon refl)
 
       -- the expressions of a `for`, up to the token that ends them
-      pub any_expressions : (close : Sign) (k : TokenKind) → same_sign (sign_of k) close ≡ true → begins_expression close ≡ false → same_sign close sign.Comma ≡ false → closing close ≡ true
+      pub any_expressions : (close : Terminal) (k : TokenKind) → same_terminal (terminal_of k) close ≡ true → begins_expression close ≡ false → same_terminal close terminal.Comma ≡ false → closing close ≡ true
           → IsPartReader base (AnyPlainItemsAt (λ _. ExpressionAt) close) Anything level (any_plain_items (λ _. expression) close)
-      any_expressions close k is_sort not_first not_comma closes = any_plain_reader base level ExpressionAt expression_stop begins_expression expression expression_reader expression_starts refl (λ a. known.stops sign.Comma refl) close k is_sort not_first not_comma (λ a. known.stops close closes)
+      any_expressions close k is_sort not_first not_comma closes = any_plain_reader base level ExpressionAt expression_stop begins_expression expression expression_reader expression_starts refl (λ a. known.stops terminal.Comma refl) close k is_sort not_first not_comma (λ a. known.stops close closes)
 
       pub echo_reader : IsPartReader base (StatementAt Echo loops) ended_stop level (reader_at echo loops level body)
       unfolding echo
-      echo_reader = mark_then base level sign.Echo kind.Echo refl (λ _. JoinedAt (PlainItemsAt (λ _. ExpressionAt) sign.Semicolon) (λ values. GivesAt (whole (tree.Echo values)))) ended_stop
-          (λ _. plain_items (λ _. expression) sign.Semicolon >>= (λ values. gives (whole (tree.Echo values))))
-          (λ _. then_reader base level (PlainItemsAt (λ _. ExpressionAt) sign.Semicolon) (λ values. GivesAt (whole (tree.Echo values))) ended_stop (plain_items (λ _. expression) sign.Semicolon) (λ values. gives (whole (tree.Echo values)))
+      echo_reader = mark_then base level terminal.Echo kind.Echo refl (λ _. JoinedAt (PlainItemsAt (λ _. ExpressionAt) terminal.Semicolon) (λ values. GivesAt (whole (tree.Echo values)))) ended_stop
+          (λ _. plain_items (λ _. expression) terminal.Semicolon >>= (λ values. gives (whole (tree.Echo values))))
+          (λ _. then_reader base level (PlainItemsAt (λ _. ExpressionAt) terminal.Semicolon) (λ values. GivesAt (whole (tree.Echo values))) ended_stop (plain_items (λ _. expression) terminal.Semicolon) (λ values. gives (whole (tree.Echo values)))
           plain_expressions (λ values. gives_reader base level (whole (tree.Echo values)) ended_stop))
 
       pub test_reader : IsPartReader base (StatementAt Test loops) Anything level (reader_at head_test loops level body)
       unfolding head_test
-      test_reader = mark_then base level sign.OpenParenthesis kind.OpenParenthesis refl (λ _. JoinedAt ExpressionAt (λ found. JoinedAt (MarkAt sign.CloseParenthesis) (λ _. GivesAt found))) Anything
-          (λ _. expression >>= (λ found. mark sign.CloseParenthesis >> gives found))
-          (λ _. expression_then sign.CloseParenthesis kind.CloseParenthesis refl refl (λ found _. GivesAt found) Anything (λ found _. gives found) (λ found _. gives_reader base level found Anything))
+      test_reader = mark_then base level terminal.OpenParenthesis kind.OpenParenthesis refl (λ _. JoinedAt ExpressionAt (λ found. JoinedAt (MarkAt terminal.CloseParenthesis) (λ _. GivesAt found))) Anything
+          (λ _. expression >>= (λ found. mark terminal.CloseParenthesis >> gives found))
+          (λ _. expression_then terminal.CloseParenthesis kind.CloseParenthesis refl refl (λ found _. GivesAt found) Anything (λ found _. gives found) (λ found _. gives_reader base level found Anything))
 
       -- ---- an expression that may be missing
 
-      abbrev NoneAt : Sign → Rules Depth (Option Expression)
+      abbrev NoneAt : Terminal → Rules Depth (Option Expression)
       NoneAt close = MadeAt (MarkAt close) (λ _. None)
 
-      abbrev SomeAt : Sign → Rules Depth (Option Expression)
+      abbrev SomeAt : Terminal → Rules Depth (Option Expression)
       SomeAt close = JoinedAt ExpressionAt (λ value. MadeAt (MarkAt close) (λ _. Some value))
 
-      maybe_reader : (close : Sign) (k : TokenKind) → same_sign (sign_of k) close ≡ true → begins_expression close ≡ false → closing close ≡ true
+      maybe_reader : (close : Terminal) (k : TokenKind) → same_terminal (terminal_of k) close ≡ true → begins_expression close ≡ false → closing close ≡ true
           → IsPartReader base (EitherAt (NoneAt close) (SomeAt close)) Anything level (reader_at maybe_up_to loops level body close)
       unfolding maybe_up_to
       maybe_reader close k is_sort not_first closes = either_reader base level (NoneAt close) (SomeAt close) (is close) Anything (made (mark close) (λ _. None)) (expression >>= (λ value. made (mark close) (λ _. Some value)))
@@ -307,45 +307,45 @@ module _ (base : ℕ) (level : Depth) where
 
       pub return_reader : IsPartReader base (StatementAt Return loops) ended_stop level (reader_at return_rule loops level body)
       unfolding return_rule
-      return_reader = made_reader base level (JoinedAt (MarkAt sign.Return) (λ _. EitherAt (NoneAt sign.Semicolon) (SomeAt sign.Semicolon))) (λ value. whole (tree.Return value)) Anything ended_stop (mark sign.Return >> reader_at maybe_up_to loops level body sign.Semicolon) (λ a s e. refl)
-          (mark_then base level sign.Return kind.Return refl (λ _. EitherAt (NoneAt sign.Semicolon) (SomeAt sign.Semicolon)) Anything (λ _. reader_at maybe_up_to loops level body sign.Semicolon) (λ _. maybe_reader sign.Semicolon kind.Semicolon refl refl refl))
+      return_reader = made_reader base level (JoinedAt (MarkAt terminal.Return) (λ _. EitherAt (NoneAt terminal.Semicolon) (SomeAt terminal.Semicolon))) (λ value. whole (tree.Return value)) Anything ended_stop (mark terminal.Return >> reader_at maybe_up_to loops level body terminal.Semicolon) (λ a s e. refl)
+          (mark_then base level terminal.Return kind.Return refl (λ _. EitherAt (NoneAt terminal.Semicolon) (SomeAt terminal.Semicolon)) Anything (λ _. reader_at maybe_up_to loops level body terminal.Semicolon) (λ _. maybe_reader terminal.Semicolon kind.Semicolon refl refl refl))
 
       -- ---- unset and exit
 
-      some_places : IsPartReader base (SomeItemsAt (λ _. PlaceAt) sign.CloseParenthesis) Anything level (some_items (λ _. place) sign.CloseParenthesis)
-      some_places = some_reader base level PlaceAt place_stop (is sign.Variable) place place_reader place_starts refl (λ a. known.stops_place sign.Comma refl) sign.CloseParenthesis kind.CloseParenthesis refl refl refl (λ a. known.stops_place sign.CloseParenthesis refl)
+      some_places : IsPartReader base (SomeItemsAt (λ _. PlaceAt) terminal.CloseParenthesis) Anything level (some_items (λ _. place) terminal.CloseParenthesis)
+      some_places = some_reader base level PlaceAt place_stop (is terminal.Variable) place place_reader place_starts refl (λ a. known.stops_place terminal.Comma refl) terminal.CloseParenthesis kind.CloseParenthesis refl refl refl (λ a. known.stops_place terminal.CloseParenthesis refl)
 
       pub unset_reader : IsPartReader base (StatementAt Unset loops) ended_stop level (reader_at unset loops level body)
       unfolding unset
       unset_reader =
           let last : List Place → ℕ → Rules Depth Ended = λ places _. GivesAt (whole (tree.Unset places)) in
-          let rest : Rules Depth Ended = JoinedAt (SomeItemsAt (λ _. PlaceAt) sign.CloseParenthesis) (λ places. JoinedAt (MarkAt sign.Semicolon) (last places)) in
-          let read : Reader Ended = some_items (λ _. place) sign.CloseParenthesis >>= (λ places. mark sign.Semicolon >> gives (whole (tree.Unset places))) in
-          mark_then base level sign.Unset kind.Unset refl (λ _. JoinedAt (MarkAt sign.OpenParenthesis) (λ _. rest)) ended_stop (λ _. mark sign.OpenParenthesis >> read)
-          (λ _. mark_then base level sign.OpenParenthesis kind.OpenParenthesis refl (λ _. rest) ended_stop (λ _. read)
-          (λ _. before_mark base level (SomeItemsAt (λ _. PlaceAt) sign.CloseParenthesis) Anything sign.Semicolon kind.Semicolon refl (λ a. refl) last ended_stop (some_items (λ _. place) sign.CloseParenthesis) (λ places _. gives (whole (tree.Unset places)))
+          let rest : Rules Depth Ended = JoinedAt (SomeItemsAt (λ _. PlaceAt) terminal.CloseParenthesis) (λ places. JoinedAt (MarkAt terminal.Semicolon) (last places)) in
+          let read : Reader Ended = some_items (λ _. place) terminal.CloseParenthesis >>= (λ places. mark terminal.Semicolon >> gives (whole (tree.Unset places))) in
+          mark_then base level terminal.Unset kind.Unset refl (λ _. JoinedAt (MarkAt terminal.OpenParenthesis) (λ _. rest)) ended_stop (λ _. mark terminal.OpenParenthesis >> read)
+          (λ _. mark_then base level terminal.OpenParenthesis kind.OpenParenthesis refl (λ _. rest) ended_stop (λ _. read)
+          (λ _. before_mark base level (SomeItemsAt (λ _. PlaceAt) terminal.CloseParenthesis) Anything terminal.Semicolon kind.Semicolon refl (λ a. refl) last ended_stop (some_items (λ _. place) terminal.CloseParenthesis) (λ places _. gives (whole (tree.Unset places)))
           some_places (λ places _. gives_reader base level (whole (tree.Unset places)) ended_stop)))
 
-      abbrev value_stop : Option Expression → Sign → Bool
-      value_stop a s = is sign.Semicolon s
+      abbrev value_stop : Option Expression → Terminal → Bool
+      value_stop a s = is terminal.Semicolon s
 
       abbrev ValueAt : Rules Depth (Option Expression)
-      ValueAt = JoinedAt (MarkAt sign.OpenParenthesis) (λ _. EitherAt (NoneAt sign.CloseParenthesis) (SomeAt sign.CloseParenthesis))
+      ValueAt = JoinedAt (MarkAt terminal.OpenParenthesis) (λ _. EitherAt (NoneAt terminal.CloseParenthesis) (SomeAt terminal.CloseParenthesis))
 
       exit_value_reader : IsPartReader base (EitherAt ValueAt (GivesAt None)) value_stop level (reader_at exit_value loops level body)
       unfolding exit_value
-      exit_value_reader = either_reader base level ValueAt (GivesAt None) (is sign.OpenParenthesis) value_stop (mark sign.OpenParenthesis >> reader_at maybe_up_to loops level body sign.CloseParenthesis) (gives None)
-          (joined_starts (MarkAt sign.OpenParenthesis) (λ _. EitherAt (NoneAt sign.CloseParenthesis) (SomeAt sign.CloseParenthesis)) (is sign.OpenParenthesis) (mark_starts sign.OpenParenthesis))
-          (gives_apart None value_stop (is sign.OpenParenthesis) (mark_fails (is sign.OpenParenthesis) sign.Semicolon refl))
-          (stricter base level ValueAt Anything value_stop (mark sign.OpenParenthesis >> reader_at maybe_up_to loops level body sign.CloseParenthesis) (λ a s e. refl)
-          (mark_then base level sign.OpenParenthesis kind.OpenParenthesis refl (λ _. EitherAt (NoneAt sign.CloseParenthesis) (SomeAt sign.CloseParenthesis)) Anything (λ _. reader_at maybe_up_to loops level body sign.CloseParenthesis) (λ _. maybe_reader sign.CloseParenthesis kind.CloseParenthesis refl refl refl)))
+      exit_value_reader = either_reader base level ValueAt (GivesAt None) (is terminal.OpenParenthesis) value_stop (mark terminal.OpenParenthesis >> reader_at maybe_up_to loops level body terminal.CloseParenthesis) (gives None)
+          (joined_starts (MarkAt terminal.OpenParenthesis) (λ _. EitherAt (NoneAt terminal.CloseParenthesis) (SomeAt terminal.CloseParenthesis)) (is terminal.OpenParenthesis) (mark_starts terminal.OpenParenthesis))
+          (gives_apart None value_stop (is terminal.OpenParenthesis) (mark_fails (is terminal.OpenParenthesis) terminal.Semicolon refl))
+          (stricter base level ValueAt Anything value_stop (mark terminal.OpenParenthesis >> reader_at maybe_up_to loops level body terminal.CloseParenthesis) (λ a s e. refl)
+          (mark_then base level terminal.OpenParenthesis kind.OpenParenthesis refl (λ _. EitherAt (NoneAt terminal.CloseParenthesis) (SomeAt terminal.CloseParenthesis)) Anything (λ _. reader_at maybe_up_to loops level body terminal.CloseParenthesis) (λ _. maybe_reader terminal.CloseParenthesis kind.CloseParenthesis refl refl refl)))
           (gives_reader base level None value_stop)
 
       pub exit_reader : IsPartReader base (StatementAt Exit loops) ended_stop level (reader_at exit loops level body)
       unfolding exit
       exit_reader =
           let last : Option Expression → ℕ → Rules Depth Ended = λ value _. GivesAt (whole (tree.Exit value)) in
-          then_reader base level (EitherAt (MarkAt sign.Exit) (MarkAt sign.Die)) (λ _. JoinedAt (EitherAt ValueAt (GivesAt None)) (λ value. JoinedAt (MarkAt sign.Semicolon) (last value))) ended_stop exit_word
-          (λ _. reader_at exit_value loops level body >>= (λ value. mark sign.Semicolon >> gives (whole (tree.Exit value)))) exit_word_reader
-          (λ _. before_mark base level (EitherAt ValueAt (GivesAt None)) value_stop sign.Semicolon kind.Semicolon refl (λ a. refl) last ended_stop (reader_at exit_value loops level body) (λ value _. gives (whole (tree.Exit value)))
+          then_reader base level (EitherAt (MarkAt terminal.Exit) (MarkAt terminal.Die)) (λ _. JoinedAt (EitherAt ValueAt (GivesAt None)) (λ value. JoinedAt (MarkAt terminal.Semicolon) (last value))) ended_stop exit_word
+          (λ _. reader_at exit_value loops level body >>= (λ value. mark terminal.Semicolon >> gives (whole (tree.Exit value)))) exit_word_reader
+          (λ _. before_mark base level (EitherAt ValueAt (GivesAt None)) value_stop terminal.Semicolon kind.Semicolon refl (λ a. refl) last ended_stop (reader_at exit_value loops level body) (λ value _. gives (whole (tree.Exit value)))
           exit_value_reader (λ value _. gives_reader base level (whole (tree.Exit value)) ended_stop))

@@ -8,7 +8,7 @@ use Rattle.dp_lexer.specs.declared.token.TokenKind.TheVariants as kind
 use Rattle.dp_parse.specs.declared.ended.Ended.{Ended}
 use Rattle.dp_parse.specs.declared.ended.Body.{Body}
 use Rattle.dp_parse.specs.declared.ended.Parts.{Parts}
-use Rattle.dp_rules.specs.declared.sign.Sign.TheVariants as sign
+use Rattle.dp_rules.specs.declared.terminal.Terminal.TheVariants as terminal
 use Rattle.dp_tree.specs.declared.tree.Arm.{Arm}
 use Rattle.dp_tree.specs.declared.tree.Binding.{Binding}
 use Rattle.dp_tree.specs.declared.tree.Expression.{Expression}
@@ -20,7 +20,7 @@ use Rattle.dp_tree.specs.declared.tree.StatementKind.TheVariants as tree
 use Rattle.dp_rules.specs.Rules.{Rule, ◌>>=◌, ◌>>◌, ◌or◌, Gives, Made, Mark, When, Nests, Without, OnLine, Closed, Perhaps}
 use Rattle.dp_rules.specs.Lists.{PlainItems, SomeItems, AnyPlainItems, AnyItems}
 use Rattle.dp_expressions.specs.Grammar.{IsExpression, IsPlace}
-use Rattle.dp_rules.specs.Worths.{Text, Variable, Kind, variable_in, name_in, number_up_to}
+use Rattle.dp_rules.specs.TokenValues.{Text, Variable, Kind, variable_in, name_in, number_up_to}
 
 abbrev pub ended : StatementKind → Bool → Ended
 ended k is_open = record { kind = k; is_open = is_open }
@@ -52,27 +52,28 @@ OnItsLine rule = OnLine (λ line. Made rule (stated line))
 abbrev pub Bodies : Rule Body → Rule (List Statement)
 Bodies body =
     Closed (λ all. Made body (λ b. all ++ b.statement ∷ []))
-    (λ all. Made (Mark sign.CloseBrace) (λ _. all)) []
+    (λ all. Made (Mark terminal.CloseBrace) (λ _. all)) []
 
 -- "{" *stmt "}"
 abbrev pub Braced : Rule Body → Rule Ended
 Braced body = do
-  Mark sign.OpenBrace
+  Mark terminal.OpenBrace
   all ← Bodies body
   Gives (whole (tree.Block all))
 
 -- The body of a head is a statement. Where it is one in braces, it is no block that counts for
 -- itself.
 abbrev pub HeadBody : Rule Body → Rule Body
-HeadBody body = OnItsLine (Braced body) or Without sign.OpenBrace body
+HeadBody body = OnItsLine (Braced body) or Without terminal.OpenBrace body
 
 -- ";"
 abbrev pub Empty : Rule Ended
-Empty = Made (Mark sign.Semicolon) (λ _. whole tree.Empty)
+Empty = Made (Mark terminal.Semicolon) (λ _. whole tree.Empty)
 
 -- elseif = "elseif" | "else" "if"
 abbrev pub ElseIf : Rule ℕ
-ElseIf = Mark sign.ElseIf or (Mark sign.Else >>= (λ line. Made (Mark sign.If) (λ _. line)))
+ElseIf =
+    Mark terminal.ElseIf or (Mark terminal.Else >>= (λ line. Made (Mark terminal.If) (λ _. line)))
 
 -- the arms so far, of which the last one ends with this body
 abbrev pub Arms : Type 0
@@ -84,13 +85,13 @@ with_arm arms line test b = (arms ++ arm line test b.statement ∷ [], b.is_open
 -- var [ "=>" var ]
 abbrev pub Bound : Rule Binding
 Bound = Variable >>= (λ first.
-    Made (Mark sign.Arrow >> Variable) (λ value. binding (Some first) value)
+    Made (Mark terminal.Arrow >> Variable) (λ value. binding (Some first) value)
     or Gives (binding None first))
 
 -- "global" var *( "," var ) ";"
 abbrev pub GlobalRule : Rule Ended
 GlobalRule =
-    Made (Mark sign.Global >> PlainItems (λ _. Variable) sign.Semicolon)
+    Made (Mark terminal.Global >> PlainItems (λ _. Variable) terminal.Semicolon)
     (λ names. whole (tree.Global names))
 
 -- The number is how many levels of bodies are left, and the next in how many loops the statement
@@ -101,14 +102,14 @@ module _ (level : ℕ) (loops : ℕ) (expression : Rule Expression) (place : Rul
   abbrev pub Perform : Rule Ended
   Perform = do
     value ← expression
-    Mark sign.Semicolon
+    Mark terminal.Semicolon
     Gives (whole (tree.Expression value))
 
   -- "echo" expr *( "," expr ) ";"
   abbrev pub Echo : Rule Ended
   Echo = do
-    Mark sign.Echo
-    values ← PlainItems (λ _. expression) sign.Semicolon
+    Mark terminal.Echo
+    values ← PlainItems (λ _. expression) terminal.Semicolon
     Gives (whole (tree.Echo values))
 
   -- "{" *stmt "}"
@@ -118,9 +119,9 @@ module _ (level : ℕ) (loops : ℕ) (expression : Rule Expression) (place : Rul
   -- "(" expr ")"
   abbrev pub Test : Rule Expression
   Test = do
-    Mark sign.OpenParenthesis
+    Mark terminal.OpenParenthesis
     test ← expression
-    Mark sign.CloseParenthesis
+    Mark terminal.CloseParenthesis
     Gives test
 
   -- "(" expr ")" stmt, behind the word on this line
@@ -137,14 +138,14 @@ module _ (level : ℕ) (loops : ℕ) (expression : Rule Expression) (place : Rul
   -- "else" stmt, where the body before it takes none. With an `if` behind it, it is an elseif.
   abbrev pub Otherwise : Arms → Rule Ended
   Otherwise a = When (not a.1) (do
-    Mark sign.Else
-    b ← Without sign.If (HeadBody (body loops))
+    Mark terminal.Else
+    b ← Without terminal.If (HeadBody (body loops))
     Gives (ended (tree.If a.0 (Some b.statement)) b.is_open))
 
   -- "if" "(" expr ")" stmt *( elseif "(" expr ")" stmt ) [ "else" stmt ]
   abbrev pub If : Rule Ended
   If = Nests level (do
-    line ← Mark sign.If
+    line ← Mark terminal.If
     first ← ArmRule [] line
     Closed NextArm (λ a. Otherwise a or Gives (ended (tree.If a.0 None) true)) first)
 
@@ -155,52 +156,52 @@ module _ (level : ℕ) (loops : ℕ) (expression : Rule Expression) (place : Rul
   -- "while" "(" expr ")" stmt
   abbrev pub While : Rule Ended
   While = Nests level (do
-    Mark sign.While
+    Mark terminal.While
     test ← Test
     LoopBody (λ b. tree.While test b))
 
   -- "do" stmt "while" "(" expr ")" ";"
   abbrev pub DoWhile : Rule Ended
   DoWhile = Nests level (do
-    Mark sign.Do
+    Mark terminal.Do
     b ← HeadBody (body (suc loops))
-    line ← Mark sign.While
+    line ← Mark terminal.While
     test ← Test
-    Mark sign.Semicolon
+    Mark terminal.Semicolon
     Gives (whole (tree.DoWhile b.statement line test)))
 
   -- "for" "(" exprs ";" exprs ";" exprs ")" stmt
   abbrev pub For : Rule Ended
   For = Nests level (do
-    Mark sign.For
-    Mark sign.OpenParenthesis
-    before ← AnyPlainItems (λ _. expression) sign.Semicolon
-    tests ← AnyPlainItems (λ _. expression) sign.Semicolon
-    after ← AnyPlainItems (λ _. expression) sign.CloseParenthesis
+    Mark terminal.For
+    Mark terminal.OpenParenthesis
+    before ← AnyPlainItems (λ _. expression) terminal.Semicolon
+    tests ← AnyPlainItems (λ _. expression) terminal.Semicolon
+    after ← AnyPlainItems (λ _. expression) terminal.CloseParenthesis
     LoopBody (λ b. tree.For before tests after b))
 
   -- "foreach" "(" expr "as" var [ "=>" var ] ")" stmt
   abbrev pub Foreach : Rule Ended
   Foreach = Nests level (do
-    Mark sign.Foreach
-    Mark sign.OpenParenthesis
+    Mark terminal.Foreach
+    Mark terminal.OpenParenthesis
     subject ← expression
-    Mark sign.As
+    Mark terminal.As
     bound ← Bound
-    Mark sign.CloseParenthesis
+    Mark terminal.CloseParenthesis
     LoopBody (λ b. tree.Foreach subject bound b))
 
   -- [ number ] ";", where none is 1
   abbrev pub Loops : Rule ℕ
-  Loops = (Kind (number_up_to loops) or Gives 1) >>= (λ n. Made (Mark sign.Semicolon) (λ _. n))
+  Loops = (Kind (number_up_to loops) or Gives 1) >>= (λ n. Made (Mark terminal.Semicolon) (λ _. n))
 
   -- ( "break" | "continue" ) [ number ] ";", in a loop
   abbrev pub Break : Rule Ended
-  Break = When (nat_lt 0 loops) (Made (Mark sign.Break >> Loops) (λ n. whole (tree.Break n)))
+  Break = When (nat_lt 0 loops) (Made (Mark terminal.Break >> Loops) (λ n. whole (tree.Break n)))
 
   abbrev pub Continue : Rule Ended
   Continue =
-      When (nat_lt 0 loops) (Made (Mark sign.Continue >> Loops) (λ n. whole (tree.Continue n)))
+      When (nat_lt 0 loops) (Made (Mark terminal.Continue >> Loops) (λ n. whole (tree.Continue n)))
 
   -- [ expr ] and what ends it
   abbrev pub MaybeUpTo : Rule ℕ → Rule (Option Expression)
@@ -209,27 +210,28 @@ module _ (level : ℕ) (loops : ℕ) (expression : Rule Expression) (place : Rul
   -- "return" [ expr ] ";"
   abbrev pub Return : Rule Ended
   Return =
-      Made (Mark sign.Return >> MaybeUpTo (Mark sign.Semicolon))
+      Made (Mark terminal.Return >> MaybeUpTo (Mark terminal.Semicolon))
       (λ value. whole (tree.Return value))
 
   -- "unset" "(" places ")" ";"
   abbrev pub Unset : Rule Ended
   Unset = do
-    Mark sign.Unset
-    Mark sign.OpenParenthesis
-    places ← SomeItems (λ _. place) sign.CloseParenthesis
-    Mark sign.Semicolon
+    Mark terminal.Unset
+    Mark terminal.OpenParenthesis
+    places ← SomeItems (λ _. place) terminal.CloseParenthesis
+    Mark terminal.Semicolon
     Gives (whole (tree.Unset places))
 
   -- ( "exit" | "die" ) [ "(" [ expr ] ")" ] ";"
   abbrev pub ExitValue : Rule (Option Expression)
-  ExitValue = (Mark sign.OpenParenthesis >> MaybeUpTo (Mark sign.CloseParenthesis)) or Gives None
+  ExitValue =
+      (Mark terminal.OpenParenthesis >> MaybeUpTo (Mark terminal.CloseParenthesis)) or Gives None
 
   abbrev pub Exit : Rule Ended
   Exit = do
-    Mark sign.Exit or Mark sign.Die
+    Mark terminal.Exit or Mark terminal.Die
     value ← ExitValue
-    Mark sign.Semicolon
+    Mark terminal.Semicolon
     Gives (whole (tree.Exit value))
 
   abbrev pub AnyStatement : Rule Ended
@@ -265,11 +267,11 @@ function_of line name parameters body =
 -- "function" name "(" [ var *( "," var ) [ "," ] ] ")" "{" *stmt "}"
 abbrev pub FunctionRule : Depth → Rule Function
 FunctionRule depth = Nests depth.bodies (do
-  line ← Mark sign.Function
+  line ← Mark terminal.Function
   name ← Kind name_in
-  Mark sign.OpenParenthesis
-  parameters ← AnyItems (λ found. Kind (parameter_in found)) sign.CloseParenthesis
-  Mark sign.OpenBrace
+  Mark terminal.OpenParenthesis
+  parameters ← AnyItems (λ found. Kind (parameter_in found)) terminal.CloseParenthesis
+  Mark terminal.OpenBrace
   all ← Bodies (body_at depth.expressions depth.bodies 0)
   Gives (function_of line name parameters all))
 
@@ -293,4 +295,5 @@ Spells depth =
 
 -- an expression by itself: expr [ ";" ]
 abbrev pub SpellsExpression : ℕ → Rule Expression
-SpellsExpression level = IsExpression level >>= (λ e. Made (Perhaps (Mark sign.Semicolon)) (λ _. e))
+SpellsExpression level =
+    IsExpression level >>= (λ e. Made (Perhaps (Mark terminal.Semicolon)) (λ _. e))

@@ -13,7 +13,7 @@ use crate::levels::{BODY_LEVELS, expression};
 use crate::parameters::parameters;
 use crate::statements::{bodies_over, statement};
 use dp_expressions::both;
-use dp_rules::{Refusal, Sign, Tokens, enter, none, with};
+use dp_rules::{Refusal, Terminal, Tokens, enter, none, with};
 use dp_tree::{Expression, Function, Statement};
 use dp_value::{Items, Memory};
 use std::alloc::Global;
@@ -46,11 +46,11 @@ pub(crate) fn function(alloc: Global, tokens: &mut Tokens<'_>) -> Result<Functio
     ensures { Reads (spec.function_rule limits.limits tokens.old) result tokens.new }
 {
     enter(BODY_LEVELS, tokens)?;
-    let line = tokens.mark(Sign::Function)?;
+    let line = tokens.mark(Terminal::Function)?;
     let name = tokens.name(alloc)?;
-    tokens.mark(Sign::OpenParenthesis)?;
+    tokens.mark(Terminal::OpenParenthesis)?;
     let parameters = parameters(alloc, tokens)?;
-    tokens.mark(Sign::OpenBrace)?;
+    tokens.mark(Terminal::OpenBrace)?;
     let body = function_body(alloc, tokens)?;
     Ok(Function {
         line,
@@ -90,10 +90,10 @@ fn file_step(
 ) -> Result<ControlFlow<Parts, Parts>, Refusal>
     ensures { Reads (spec.file_step limits.limits parts tokens.old) result tokens.new }
 {
-    if tokens.sees(Sign::End) {
+    if tokens.sees(Terminal::End) {
         return Ok(ControlFlow::Break(parts));
     }
-    if tokens.sees(Sign::Function) {
+    if tokens.sees(Terminal::Function) {
         let function = function(alloc, tokens)?;
         return Ok(ControlFlow::Continue(with_function(parts, function)?));
     }
@@ -123,7 +123,7 @@ pub(crate) fn file(alloc: Global, tokens: &mut Tokens<'_>) -> Result<Parts, Refu
 fn at_end(tokens: &mut Tokens<'_>, found: Expression) -> Result<Expression, Refusal>
     ensures { Reads (spec.at_end found tokens.old) result tokens.new }
 {
-    let end = if tokens.sees(Sign::End) {
+    let end = if tokens.sees(Terminal::End) {
         Ok(())
     } else {
         Err(tokens.refuse())
@@ -137,10 +137,10 @@ fn at_end(tokens: &mut Tokens<'_>, found: Expression) -> Result<Expression, Refu
 fn semicolon(tokens: &mut Tokens<'_>, found: Expression) -> Result<Expression, Refusal>
     ensures { Reads (spec.semicolon found tokens.old) result tokens.new }
 {
-    if !tokens.sees(Sign::Semicolon) {
+    if !tokens.sees(Terminal::Semicolon) {
         return at_end(tokens, found);
     }
-    let (found, _) = both(found, tokens.mark(Sign::Semicolon))?;
+    let (found, _) = both(found, tokens.mark(Terminal::Semicolon))?;
     at_end(tokens, found)
 }
 

@@ -13,7 +13,7 @@ use crate::grammar::Statements;
 use crate::inside::Inside;
 use crate::levels::{expression, some_places};
 use dp_expressions::both;
-use dp_rules::{Piece, Refusal, Sign, Tokens, plain_items};
+use dp_rules::{Piece, Refusal, Terminal, Tokens, plain_items};
 use dp_tree::{Expression, StatementKind};
 use dp_value::{Bytes, Items};
 use std::alloc::Global;
@@ -36,16 +36,21 @@ impl Piece<Bytes> for ListedVariable {
 
 /// One variable or more, and what closes them.
 fn variables(alloc: Global, tokens: &mut Tokens<'_>) -> Result<Items<Bytes>, Refusal>
-    ensures { Reads (lists.plain_items (λ _. input.variable) Sign.Semicolon tokens.old) result tokens.new }
+    ensures { Reads (lists.plain_items (λ _. input.variable) Terminal.Semicolon tokens.old) result tokens.new }
 {
-    plain_items(alloc, tokens, Sign::Semicolon, &ListedVariable { alloc })
+    plain_items(
+        alloc,
+        tokens,
+        Terminal::Semicolon,
+        &ListedVariable { alloc },
+    )
 }
 
 #[tactic(auto, unfolding(crate::specs::inner::ReadingStatements::global_rule))]
 pub(crate) fn global_rule(alloc: Global, tokens: &mut Tokens<'_>) -> Result<Ended, Refusal>
     ensures { Reads (spec.global_rule tokens.old) result tokens.new }
 {
-    tokens.mark(Sign::Global)?;
+    tokens.mark(Terminal::Global)?;
     let names = variables(alloc, tokens)?;
     whole(alloc, tokens, StatementKind::Global(names))
 }
@@ -54,10 +59,10 @@ pub(crate) fn global_rule(alloc: Global, tokens: &mut Tokens<'_>) -> Result<Ende
 fn exit_word(tokens: &mut Tokens<'_>) -> Result<u32, Refusal>
     ensures { Reads (spec.exit_word tokens.old) result tokens.new }
 {
-    if tokens.sees(Sign::Exit) {
-        tokens.mark(Sign::Exit)
+    if tokens.sees(Terminal::Exit) {
+        tokens.mark(Terminal::Exit)
     } else {
-        tokens.mark(Sign::Die)
+        tokens.mark(Terminal::Die)
     }
 }
 
@@ -67,7 +72,7 @@ impl<R: Inside> Statements<R> {
     fn levels(&self, tokens: &mut Tokens<'_>) -> Result<u32, Refusal>
         ensures { Reads (within spec.levels self.now tokens.old) result tokens.new }
     {
-        if tokens.sees(Sign::Number) {
+        if tokens.sees(Terminal::Number) {
             tokens.number_up_to(self.loops())
         } else {
             Ok(1)
@@ -79,7 +84,7 @@ impl<R: Inside> Statements<R> {
         ensures { Reads (within spec.loops_rule self.now tokens.old) result tokens.new }
     {
         let count = self.levels(tokens)?;
-        tokens.mark(Sign::Semicolon)?;
+        tokens.mark(Terminal::Semicolon)?;
         Ok(count)
     }
 
@@ -90,7 +95,7 @@ impl<R: Inside> Statements<R> {
         if self.loops() == 0 {
             return Err(tokens.refuse());
         }
-        tokens.mark(Sign::Break)?;
+        tokens.mark(Terminal::Break)?;
         let count = self.loops_rule(tokens)?;
         whole(self.alloc(), tokens, StatementKind::Break(count))
     }
@@ -102,7 +107,7 @@ impl<R: Inside> Statements<R> {
         if self.loops() == 0 {
             return Err(tokens.refuse());
         }
-        tokens.mark(Sign::Continue)?;
+        tokens.mark(Terminal::Continue)?;
         let count = self.loops_rule(tokens)?;
         whole(self.alloc(), tokens, StatementKind::Continue(count))
     }
@@ -112,7 +117,7 @@ impl<R: Inside> Statements<R> {
     fn maybe_up_to(
         &self,
         tokens: &mut Tokens<'_>,
-        close: Sign,
+        close: Terminal,
     ) -> Result<Option<Expression>, Refusal>
         ensures { Reads (within spec.maybe_up_to self.now close tokens.old) result tokens.new }
     {
@@ -129,8 +134,8 @@ impl<R: Inside> Statements<R> {
     pub(crate) fn return_rule(&self, tokens: &mut Tokens<'_>) -> Result<Ended, Refusal>
         ensures { Reads (within spec.return_rule self.now tokens.old) result tokens.new }
     {
-        tokens.mark(Sign::Return)?;
-        let value = self.maybe_up_to(tokens, Sign::Semicolon)?;
+        tokens.mark(Terminal::Return)?;
+        let value = self.maybe_up_to(tokens, Terminal::Semicolon)?;
         whole(self.alloc(), tokens, StatementKind::Return(value))
     }
 
@@ -138,10 +143,10 @@ impl<R: Inside> Statements<R> {
     pub(crate) fn unset(&self, tokens: &mut Tokens<'_>) -> Result<Ended, Refusal>
         ensures { Reads (within spec.unset self.now tokens.old) result tokens.new }
     {
-        tokens.mark(Sign::Unset)?;
-        tokens.mark(Sign::OpenParenthesis)?;
-        let places = some_places(self.alloc(), tokens, Sign::CloseParenthesis)?;
-        tokens.mark(Sign::Semicolon)?;
+        tokens.mark(Terminal::Unset)?;
+        tokens.mark(Terminal::OpenParenthesis)?;
+        let places = some_places(self.alloc(), tokens, Terminal::CloseParenthesis)?;
+        tokens.mark(Terminal::Semicolon)?;
         whole(self.alloc(), tokens, StatementKind::Unset(places))
     }
 
@@ -149,9 +154,9 @@ impl<R: Inside> Statements<R> {
     fn exit_value(&self, tokens: &mut Tokens<'_>) -> Result<Option<Expression>, Refusal>
         ensures { Reads (within spec.exit_value self.now tokens.old) result tokens.new }
     {
-        if tokens.sees(Sign::OpenParenthesis) {
-            tokens.mark(Sign::OpenParenthesis)?;
-            self.maybe_up_to(tokens, Sign::CloseParenthesis)
+        if tokens.sees(Terminal::OpenParenthesis) {
+            tokens.mark(Terminal::OpenParenthesis)?;
+            self.maybe_up_to(tokens, Terminal::CloseParenthesis)
         } else {
             Ok(None)
         }
@@ -163,7 +168,7 @@ impl<R: Inside> Statements<R> {
     {
         exit_word(tokens)?;
         let value = self.exit_value(tokens)?;
-        let (value, _) = both(value, tokens.mark(Sign::Semicolon))?;
+        let (value, _) = both(value, tokens.mark(Terminal::Semicolon))?;
         whole(self.alloc(), tokens, StatementKind::Exit(value))
     }
 }

@@ -6,7 +6,7 @@ ghost use Rattle.dp_parse.specs.inner.Within as limited;
 ghost use Rattle.dp_rules.specs.inner.ReadingLists as lists;
 
 use dp_expressions::Part;
-use dp_rules::{Piece, Refusal, Sign, Tokens, any_plain_items, plain_items, some_items};
+use dp_rules::{Piece, Refusal, Terminal, Tokens, any_plain_items, plain_items, some_items};
 use dp_tree::{Expression, Place};
 use dp_value::Items;
 use std::alloc::Global;
@@ -65,7 +65,7 @@ impl Piece<Place> for ListedPlace {
 pub(crate) fn some_expressions(
     alloc: Global,
     tokens: &mut Tokens<'_>,
-    close: Sign,
+    close: Terminal,
 ) -> Result<Items<Expression>, Refusal>
     ensures { Reads (lists.plain_items (λ _. limited.expression) close tokens.old) result tokens.new }
 {
@@ -76,7 +76,7 @@ pub(crate) fn some_expressions(
 pub(crate) fn any_expressions(
     alloc: Global,
     tokens: &mut Tokens<'_>,
-    close: Sign,
+    close: Terminal,
 ) -> Result<Items<Expression>, Refusal>
     ensures { Reads (lists.any_plain_items (λ _. limited.expression) close tokens.old) result tokens.new }
 {
@@ -87,7 +87,7 @@ pub(crate) fn any_expressions(
 pub(crate) fn some_places(
     alloc: Global,
     tokens: &mut Tokens<'_>,
-    close: Sign,
+    close: Terminal,
 ) -> Result<Items<Place>, Refusal>
     ensures { Reads (lists.some_items (λ _. limited.place) close tokens.old) result tokens.new }
 {

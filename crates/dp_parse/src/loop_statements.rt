@@ -11,7 +11,7 @@ use crate::grammar::Statements;
 use crate::inside::Inside;
 use crate::levels::{any_expressions, expression};
 use dp_expressions::both;
-use dp_rules::{Refusal, Sign, Tokens};
+use dp_rules::{Refusal, Terminal, Tokens};
 use dp_tree::{Binding, Expression, StatementKind};
 use dp_value::Bytes;
 use std::alloc::Global;
@@ -20,8 +20,8 @@ use std::alloc::Global;
 fn bound_rest(alloc: Global, tokens: &mut Tokens<'_>, first: Bytes) -> Result<Binding, Refusal>
     ensures { Reads (spec.bound_rest first tokens.old) result tokens.new }
 {
-    if tokens.sees(Sign::Arrow) {
-        tokens.mark(Sign::Arrow)?;
+    if tokens.sees(Terminal::Arrow) {
+        tokens.mark(Terminal::Arrow)?;
         let value = tokens.variable(alloc)?;
         return Ok(Binding {
             key: Some(first),
@@ -57,7 +57,7 @@ impl<R: Inside> Statements<R> {
         ensures { Reads (within spec.while_rule self.now tokens.old) result tokens.new }
     {
         self.enter(tokens)?;
-        tokens.mark(Sign::While)?;
+        tokens.mark(Terminal::While)?;
         let test = self.test(tokens)?;
         let (test, found) = both(test, self.looped(tokens))?;
         let Body { statement, is_open } = found;
@@ -75,12 +75,12 @@ impl<R: Inside> Statements<R> {
         ensures { Reads (within spec.do_while self.now tokens.old) result tokens.new }
     {
         self.enter(tokens)?;
-        tokens.mark(Sign::Do)?;
+        tokens.mark(Terminal::Do)?;
         let found = self.looped(tokens)?;
         let body = found.statement;
-        let line = tokens.mark(Sign::While)?;
+        let line = tokens.mark(Terminal::While)?;
         let test = self.test(tokens)?;
-        let (test, _) = both(test, tokens.mark(Sign::Semicolon))?;
+        let (test, _) = both(test, tokens.mark(Terminal::Semicolon))?;
         whole(
             self.alloc(),
             tokens,
@@ -93,11 +93,11 @@ impl<R: Inside> Statements<R> {
         ensures { Reads (within spec.for_rule self.now tokens.old) result tokens.new }
     {
         self.enter(tokens)?;
-        tokens.mark(Sign::For)?;
-        tokens.mark(Sign::OpenParenthesis)?;
-        let before = any_expressions(self.alloc(), tokens, Sign::Semicolon)?;
-        let tests = any_expressions(self.alloc(), tokens, Sign::Semicolon)?;
-        let after = any_expressions(self.alloc(), tokens, Sign::CloseParenthesis)?;
+        tokens.mark(Terminal::For)?;
+        tokens.mark(Terminal::OpenParenthesis)?;
+        let before = any_expressions(self.alloc(), tokens, Terminal::Semicolon)?;
+        let tests = any_expressions(self.alloc(), tokens, Terminal::Semicolon)?;
+        let after = any_expressions(self.alloc(), tokens, Terminal::CloseParenthesis)?;
         let Body { statement, is_open } = self.looped(tokens)?;
         let kind = StatementKind::For {
             before,
@@ -113,8 +113,8 @@ impl<R: Inside> Statements<R> {
         ensures { Reads (within spec.foreach self.now tokens.old) result tokens.new }
     {
         self.enter(tokens)?;
-        tokens.mark(Sign::Foreach)?;
-        tokens.mark(Sign::OpenParenthesis)?;
+        tokens.mark(Terminal::Foreach)?;
+        tokens.mark(Terminal::OpenParenthesis)?;
         let subject = expression(self.alloc(), tokens)?;
         self.foreach_bound(tokens, subject)
     }
@@ -124,9 +124,9 @@ impl<R: Inside> Statements<R> {
         requires { 0 < self.now.0 }
         ensures { Reads (within spec.foreach_bound self.now subject tokens.old) result tokens.new }
     {
-        let (subject, _) = both(subject, tokens.mark(Sign::As))?;
+        let (subject, _) = both(subject, tokens.mark(Terminal::As))?;
         let (subject, binding) = both(subject, bound(self.alloc(), tokens))?;
-        let (subject, _) = both(subject, tokens.mark(Sign::CloseParenthesis))?;
+        let (subject, _) = both(subject, tokens.mark(Terminal::CloseParenthesis))?;
         self.foreach_body(tokens, subject, binding)
     }
 

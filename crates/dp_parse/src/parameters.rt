@@ -6,7 +6,7 @@ ghost use Rattle.dp_parse.specs.inner.Parameters as spec;
 ghost use Rattle.dp_rules.specs.inner.ReadingLists as lists;
 
 use crate::names::Names;
-use dp_rules::{Refusal, Sign, Tokens};
+use dp_rules::{Refusal, Terminal, Tokens};
 use dp_value::{Bytes, Items};
 use std::alloc::Global;
 use std::ops::ControlFlow;
@@ -31,10 +31,10 @@ fn behind_comma(
     tokens: &mut Tokens<'_>,
     found: Names,
 ) -> Result<ControlFlow<Names, Names>, Refusal>
-    ensures { Reads (lists.behind_comma spec.checked Sign.CloseParenthesis found tokens.old) result tokens.new }
+    ensures { Reads (lists.behind_comma spec.checked Terminal.CloseParenthesis found tokens.old) result tokens.new }
 {
-    if tokens.sees(Sign::CloseParenthesis) {
-        tokens.mark(Sign::CloseParenthesis)?;
+    if tokens.sees(Terminal::CloseParenthesis) {
+        tokens.mark(Terminal::CloseParenthesis)?;
         return Ok(ControlFlow::Break(found));
     }
     Ok(ControlFlow::Continue(parameter(alloc, tokens, found)?))
@@ -45,18 +45,18 @@ fn comma_step(
     tokens: &mut Tokens<'_>,
     found: Names,
 ) -> Result<ControlFlow<Names, Names>, Refusal>
-    ensures { Reads (lists.comma_step spec.checked Sign.CloseParenthesis found tokens.old) result tokens.new }
+    ensures { Reads (lists.comma_step spec.checked Terminal.CloseParenthesis found tokens.old) result tokens.new }
 {
-    if tokens.sees(Sign::Comma) {
-        tokens.mark(Sign::Comma)?;
+    if tokens.sees(Terminal::Comma) {
+        tokens.mark(Terminal::Comma)?;
         return behind_comma(alloc, tokens, found);
     }
-    tokens.mark(Sign::CloseParenthesis)?;
+    tokens.mark(Terminal::CloseParenthesis)?;
     Ok(ControlFlow::Break(found))
 }
 
 fn comma_turns(alloc: Global, tokens: &mut Tokens<'_>, first: Names) -> Result<Names, Refusal>
-    ensures { Reads (closed (lists.comma_step spec.checked Sign.CloseParenthesis) first tokens.old) result tokens.new }
+    ensures { Reads (closed (lists.comma_step spec.checked Terminal.CloseParenthesis) first tokens.old) result tokens.new }
 {
     let mut state = first;
     for _turn in 0..tokens.left() + 1 {
@@ -70,7 +70,7 @@ fn comma_turns(alloc: Global, tokens: &mut Tokens<'_>, first: Names) -> Result<N
 
 #[tactic(auto, unfolding(dp_rules::specs::inner::ReadingLists::some_items))]
 fn some_parameters(alloc: Global, tokens: &mut Tokens<'_>) -> Result<Names, Refusal>
-    ensures { Reads (lists.some_items spec.checked Sign.CloseParenthesis tokens.old) result tokens.new }
+    ensures { Reads (lists.some_items spec.checked Terminal.CloseParenthesis tokens.old) result tokens.new }
 {
     let first = parameter(alloc, tokens, Names::new(alloc))?;
     comma_turns(alloc, tokens, first)
@@ -78,10 +78,10 @@ fn some_parameters(alloc: Global, tokens: &mut Tokens<'_>) -> Result<Names, Refu
 
 #[tactic(auto, unfolding(dp_rules::specs::inner::ReadingLists::any_items))]
 fn checked_parameters(alloc: Global, tokens: &mut Tokens<'_>) -> Result<Items<Bytes>, Refusal>
-    ensures { Reads (lists.any_items spec.checked Sign.CloseParenthesis tokens.old) result tokens.new }
+    ensures { Reads (lists.any_items spec.checked Terminal.CloseParenthesis tokens.old) result tokens.new }
 {
-    if tokens.sees(Sign::CloseParenthesis) {
-        tokens.mark(Sign::CloseParenthesis)?;
+    if tokens.sees(Terminal::CloseParenthesis) {
+        tokens.mark(Terminal::CloseParenthesis)?;
         return Ok(Items::of(Vec::new(alloc)));
     }
     let names = some_parameters(alloc, tokens)?;
@@ -91,7 +91,7 @@ fn checked_parameters(alloc: Global, tokens: &mut Tokens<'_>) -> Result<Items<By
 /// The parameters of a function behind its `(`, and the `)`.
 #[tactic(auto, using(crate::proofs::ParameterLemmas::parameters_are))]
 pub(crate) fn parameters(alloc: Global, tokens: &mut Tokens<'_>) -> Result<Items<Bytes>, Refusal>
-    ensures { Reads (lists.any_items spec.parameter Sign.CloseParenthesis tokens.old) result tokens.new }
+    ensures { Reads (lists.any_items spec.parameter Terminal.CloseParenthesis tokens.old) result tokens.new }
 {
     checked_parameters(alloc, tokens)
 }

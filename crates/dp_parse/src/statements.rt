@@ -13,7 +13,7 @@ use crate::inside::{Called, Inside};
 use crate::jumps::global_rule;
 use crate::levels::{expression, some_expressions};
 use dp_expressions::both;
-use dp_rules::{Refusal, Sign, Tokens, none};
+use dp_rules::{Refusal, Terminal, Tokens, none};
 use dp_tree::{Statement, StatementKind};
 use dp_value::Items;
 use std::alloc::Global;
@@ -23,7 +23,7 @@ use std::ops::ControlFlow;
 fn empty(alloc: Global, tokens: &mut Tokens<'_>) -> Result<Ended, Refusal>
     ensures { Reads (spec.empty tokens.old) result tokens.new }
 {
-    tokens.mark(Sign::Semicolon)?;
+    tokens.mark(Terminal::Semicolon)?;
     whole(alloc, tokens, StatementKind::Empty)
 }
 
@@ -38,8 +38,8 @@ impl<R: Inside> Statements<R> {
         requires near { loops ≤ self.now.1 + 1 }
         ensures { Reads (spec.bodies_step (limited.body self.now.0 loops) all tokens.old) result tokens.new }
     {
-        if tokens.sees(Sign::CloseBrace) {
-            tokens.mark(Sign::CloseBrace)?;
+        if tokens.sees(Terminal::CloseBrace) {
+            tokens.mark(Terminal::CloseBrace)?;
             return Ok(ControlFlow::Break(all));
         }
         let body = self.body(tokens, loops)?;
@@ -74,7 +74,7 @@ impl<R: Inside> Statements<R> {
         requires near { loops ≤ self.now.1 + 1 }
         ensures { Reads (spec.braced (limited.body self.now.0 loops) tokens.old) result tokens.new }
     {
-        tokens.mark(Sign::OpenBrace)?;
+        tokens.mark(Terminal::OpenBrace)?;
         let all = self.bodies(tokens, loops)?;
         whole(self.alloc(), tokens, StatementKind::Block(all))
     }
@@ -86,7 +86,7 @@ impl<R: Inside> Statements<R> {
         requires near { loops ≤ self.now.1 + 1 }
         ensures { Reads (spec.head_body (limited.body self.now.0 loops) tokens.old) result tokens.new }
     {
-        if tokens.sees(Sign::OpenBrace) {
+        if tokens.sees(Terminal::OpenBrace) {
             let line = tokens.line();
             let found = self.braced(tokens, loops)?;
             return Ok(stated(self.alloc(), line, found)?);
@@ -99,7 +99,7 @@ impl<R: Inside> Statements<R> {
         ensures { Reads (within spec.perform self.now tokens.old) result tokens.new }
     {
         let value = expression(self.alloc(), tokens)?;
-        let (value, _) = both(value, tokens.mark(Sign::Semicolon))?;
+        let (value, _) = both(value, tokens.mark(Terminal::Semicolon))?;
         whole(self.alloc(), tokens, StatementKind::Expression(value))
     }
 
@@ -107,8 +107,8 @@ impl<R: Inside> Statements<R> {
     fn echo(&self, tokens: &mut Tokens<'_>) -> Result<Ended, Refusal>
         ensures { Reads (within spec.echo self.now tokens.old) result tokens.new }
     {
-        tokens.mark(Sign::Echo)?;
-        let values = some_expressions(self.alloc(), tokens, Sign::Semicolon)?;
+        tokens.mark(Terminal::Echo)?;
+        let values = some_expressions(self.alloc(), tokens, Terminal::Semicolon)?;
         whole(self.alloc(), tokens, StatementKind::Echo(values))
     }
 
@@ -125,20 +125,20 @@ impl<R: Inside> Statements<R> {
         ensures { Reads (within spec.any_statement self.now tokens.old) result tokens.new }
     {
         match tokens.peek() {
-            Sign::Echo => self.echo(tokens),
-            Sign::OpenBrace => self.block(tokens),
-            Sign::Semicolon => empty(self.alloc(), tokens),
-            Sign::If => self.if_rule(tokens),
-            Sign::While => self.while_rule(tokens),
-            Sign::Do => self.do_while(tokens),
-            Sign::For => self.for_rule(tokens),
-            Sign::Foreach => self.foreach(tokens),
-            Sign::Break => self.break_rule(tokens),
-            Sign::Continue => self.continue_rule(tokens),
-            Sign::Return => self.return_rule(tokens),
-            Sign::Global => global_rule(self.alloc(), tokens),
-            Sign::Unset => self.unset(tokens),
-            Sign::Exit | Sign::Die => self.exit(tokens),
+            Terminal::Echo => self.echo(tokens),
+            Terminal::OpenBrace => self.block(tokens),
+            Terminal::Semicolon => empty(self.alloc(), tokens),
+            Terminal::If => self.if_rule(tokens),
+            Terminal::While => self.while_rule(tokens),
+            Terminal::Do => self.do_while(tokens),
+            Terminal::For => self.for_rule(tokens),
+            Terminal::Foreach => self.foreach(tokens),
+            Terminal::Break => self.break_rule(tokens),
+            Terminal::Continue => self.continue_rule(tokens),
+            Terminal::Return => self.return_rule(tokens),
+            Terminal::Global => global_rule(self.alloc(), tokens),
+            Terminal::Unset => self.unset(tokens),
+            Terminal::Exit | Terminal::Die => self.exit(tokens),
             _ => self.perform(tokens),
         }
     }

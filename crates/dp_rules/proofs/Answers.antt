@@ -6,13 +6,13 @@ use Rattle.dp_lexer.specs.declared.token.Token.{Token}
 use Rattle.dp_grammar.specs.declared.refusal.Refusal.TheVariants.{Unexpected, TooDeep, Memory}
 use Rattle.dp_grammar.specs.Rules.{head as first}
 use Rattle.dp_grammar.proofs.Answers as all
-use Rattle.dp_rules.specs.declared.sign.Sign.{Sign}
-use Rattle.dp_rules.specs.declared.sign.Sign.TheVariants as sign
-use Rattle.dp_rules.specs.Signs.{sign_of, next_sign, same_sign, is, head}
+use Rattle.dp_rules.specs.declared.terminal.Terminal.{Terminal}
+use Rattle.dp_rules.specs.declared.terminal.Terminal.TheVariants as terminal
+use Rattle.dp_rules.specs.Terminals.{terminal_of, next_sign, same_terminal, is, head}
 use Rattle.dp_rules.specs.Lines.{line_of, next_line}
 use Rattle.dp_rules.specs.inner.Input.{Outcome, Reader, and_then, gives, one, enter}
 use Rattle.dp_rules.specs.Rules.{Rule, line_at, Mark, Without, OnLine}
-use Rattle.dp_rules.proofs.Signs.{line_back}
+use Rattle.dp_rules.proofs.Terminals.{line_back}
 pub use Rattle.dp_grammar.proofs.Answers.{JoinedAt, EitherAt, GivesAt, OneAt, MadeAt, PerhapsAt, WhenAt, NestsAt, ClosedAt, StepAt, ManyAt, Agrees, Opens, Can, GoesOn, give, given, behind}
 
 -- a rule at each level of nesting
@@ -21,22 +21,22 @@ Rules L A = L → Rule A
 
 -- where a value may end: with what sort of token next
 abbrev pub Stop : Type 0 → Type 0
-Stop A = A → Sign → Bool
+Stop A = A → Terminal → Bool
 
-abbrev pub Anything : {A : Type 0} → A → Sign → Bool
+abbrev pub Anything : {A : Type 0} → A → Terminal → Bool
 Anything a s = true
 
 -- a test of sorts, of what comes next
-abbrev pub at : (Sign → Bool) → Option Token → Bool
+abbrev pub at : (Terminal → Bool) → Option Token → Bool
 at test o = test (next_sign o)
 
 abbrev pub ends : {A : Type 0} → Stop A → A → Option Token → Bool
 ends stop a o = stop a (next_sign o)
 
-abbrev pub MarkAt : {L : Type 0} → Sign → Rules L ℕ
+abbrev pub MarkAt : {L : Type 0} → Terminal → Rules L ℕ
 MarkAt s = λ _. Mark s
 
-abbrev pub WithoutAt : {L A : Type 0} → Sign → Rules L A → Rules L A
+abbrev pub WithoutAt : {L A : Type 0} → Terminal → Rules L A → Rules L A
 WithoutAt s rule = λ level. Without s (rule level)
 
 abbrev pub OnLineAt : {L A : Type 0} → (ℕ → Rules L A) → Rules L A
@@ -59,61 +59,61 @@ abbrev pub Follows : {L A B : Type 0} → Stop A → (A → Rules L B) → Stop 
 Follows first_stop second stop = all.Follows (ends first_stop) second (ends stop)
 
 -- each spelling begins with a token of a sort that passes the test
-abbrev pub StartsIn : {L A : Type 0} → Rules L A → (Sign → Bool) → Type 0
+abbrev pub StartsIn : {L A : Type 0} → Rules L A → (Terminal → Bool) → Type 0
 StartsIn rule test = all.StartsIn rule (at test)
 
 -- No spelling, with what may be behind it, begins with a token that passes the test.
-abbrev pub Apart : {L A : Type 0} → Rules L A → Stop A → (Sign → Bool) → Type 0
+abbrev pub Apart : {L A : Type 0} → Rules L A → Stop A → (Terminal → Bool) → Type 0
 Apart rule stop test = all.Apart rule (ends stop) (at test)
 
 -- ---- what a rule starts with
 
-pub begun : {L A : Type 0} (rule : Rules L A) (test : Sign → Bool) → StartsIn rule test → (m : L) (text r : List Token) (a : A) → rule m text a → test (head (text ++ r)) ≡ true
+pub begun : {L A : Type 0} (rule : Rules L A) (test : Terminal → Bool) → StartsIn rule test → (m : L) (text r : List Token) (a : A) → rule m text a → test (head (text ++ r)) ≡ true
 begun rule test = all.begun rule (at test)
 
-pub one_starts : {L A : Type 0} (worth : Token → Option A) (test : Sign → Bool) → ((t : Token) (a : A) → worth t ≡ Some a → test (sign_of t.kind) ≡ true) → StartsIn {L = L} (OneAt worth) test
+pub one_starts : {L A : Type 0} (worth : Token → Option A) (test : Terminal → Bool) → ((t : Token) (a : A) → worth t ≡ Some a → test (terminal_of t.kind) ≡ true) → StartsIn {L = L} (OneAt worth) test
 one_starts worth test = all.one_starts worth (at test)
 
-pub mark_starts : {L : Type 0} (s : Sign) → StartsIn {L = L} (MarkAt s) (is s)
+pub mark_starts : {L : Type 0} (s : Terminal) → StartsIn {L = L} (MarkAt s) (is s)
 mark_starts s m text a o = (o.symbol, [], o.alone, (line_back s o.symbol a o.is_worth).0)
 
-pub joined_starts : {L A B : Type 0} (first : Rules L A) (second : A → Rules L B) (test : Sign → Bool) → StartsIn first test → StartsIn (JoinedAt first second) test
+pub joined_starts : {L A B : Type 0} (first : Rules L A) (second : A → Rules L B) (test : Terminal → Bool) → StartsIn first test → StartsIn (JoinedAt first second) test
 joined_starts first_rule second test = all.joined_starts first_rule second (at test)
 
-pub made_starts : {L A B : Type 0} (rule : Rules L A) (f : A → B) (test : Sign → Bool) → StartsIn rule test → StartsIn (MadeAt rule f) test
+pub made_starts : {L A B : Type 0} (rule : Rules L A) (f : A → B) (test : Terminal → Bool) → StartsIn rule test → StartsIn (MadeAt rule f) test
 made_starts rule f test = all.made_starts rule f (at test)
 
-pub either_starts : {L A : Type 0} (first second : Rules L A) (test : Sign → Bool) → StartsIn first test → StartsIn second test → StartsIn (EitherAt first second) test
+pub either_starts : {L A : Type 0} (first second : Rules L A) (test : Terminal → Bool) → StartsIn first test → StartsIn second test → StartsIn (EitherAt first second) test
 either_starts one other test = all.either_starts one other (at test)
 
-pub when_starts : {L A : Type 0} (condition : Bool) (rule : Rules L A) (test : Sign → Bool) → StartsIn rule test → StartsIn (WhenAt condition rule) test
+pub when_starts : {L A : Type 0} (condition : Bool) (rule : Rules L A) (test : Terminal → Bool) → StartsIn rule test → StartsIn (WhenAt condition rule) test
 when_starts condition rule test = all.when_starts condition rule (at test)
 
-pub nests_starts : {L A : Type 0} (depth : L → ℕ) (rule : Rules L A) (test : Sign → Bool) → StartsIn rule test → StartsIn (NestsAt depth rule) test
+pub nests_starts : {L A : Type 0} (depth : L → ℕ) (rule : Rules L A) (test : Terminal → Bool) → StartsIn rule test → StartsIn (NestsAt depth rule) test
 nests_starts depth rule test = all.nests_starts depth rule (at test)
 
-pub without_starts : {L A : Type 0} (s : Sign) (rule : Rules L A) (test : Sign → Bool) → StartsIn rule test → StartsIn (WithoutAt s rule) test
+pub without_starts : {L A : Type 0} (s : Terminal) (rule : Rules L A) (test : Terminal → Bool) → StartsIn rule test → StartsIn (WithoutAt s rule) test
 without_starts s rule test starts m text a h = starts m text a h.spelled
 
-pub online_starts : {L A : Type 0} (rule : ℕ → Rules L A) (test : Sign → Bool) → ((line : ℕ) → StartsIn (rule line) test) → StartsIn (OnLineAt rule) test
+pub online_starts : {L A : Type 0} (rule : ℕ → Rules L A) (test : Terminal → Bool) → ((line : ℕ) → StartsIn (rule line) test) → StartsIn (OnLineAt rule) test
 online_starts rule test starts m text a h = starts h.first.line m text a h.spelled
 
-pub starts_in_more : {L A : Type 0} (rule : Rules L A) (test wider : Sign → Bool) → ((s : Sign) → test s ≡ true → wider s ≡ true) → StartsIn rule test → StartsIn rule wider
+pub starts_in_more : {L A : Type 0} (rule : Rules L A) (test wider : Terminal → Bool) → ((s : Terminal) → test s ≡ true → wider s ≡ true) → StartsIn rule test → StartsIn rule wider
 starts_in_more rule test wider more = all.starts_in_more rule (at test) (at wider) (λ o. more (next_sign o))
 
-pub or_starts : {L A : Type 0} (first second : Rules L A) (s t : Sign → Bool) → StartsIn first s → StartsIn second t → StartsIn (EitherAt first second) (λ x. s x || t x)
+pub or_starts : {L A : Type 0} (first second : Rules L A) (s t : Terminal → Bool) → StartsIn first s → StartsIn second t → StartsIn (EitherAt first second) (λ x. s x || t x)
 or_starts one other s t = all.or_starts one other (at s) (at t)
 
-pub starts_apart : {L A : Type 0} (rule : Rules L A) (stop : Stop A) (test other : Sign → Bool) → ((s : Sign) → other s ≡ true → test s ≡ false) → StartsIn rule other → Apart rule stop test
+pub starts_apart : {L A : Type 0} (rule : Rules L A) (stop : Stop A) (test other : Terminal → Bool) → ((s : Terminal) → other s ≡ true → test s ≡ false) → StartsIn rule other → Apart rule stop test
 starts_apart rule stop test other apart = all.starts_apart rule (ends stop) (at test) (at other) (λ o. apart (next_sign o))
 
-pub gives_apart : {L A : Type 0} (a : A) (stop : Stop A) (test : Sign → Bool) → ((s : Sign) → stop a s ≡ true → test s ≡ false) → Apart {L = L} (GivesAt a) stop test
+pub gives_apart : {L A : Type 0} (a : A) (stop : Stop A) (test : Terminal → Bool) → ((s : Terminal) → stop a s ≡ true → test s ≡ false) → Apart {L = L} (GivesAt a) stop test
 gives_apart a stop test apart = all.gives_apart a (ends stop) (at test) (λ o. apart (next_sign o))
 
-pub made_apart : {L A B : Type 0} (rule : Rules L A) (f : A → B) (rule_stop : Stop A) (stop : Stop B) (test : Sign → Bool) → ((a : A) (s : Sign) → stop (f a) s ≡ true → rule_stop a s ≡ true) → Apart rule rule_stop test → Apart (MadeAt rule f) stop test
+pub made_apart : {L A B : Type 0} (rule : Rules L A) (f : A → B) (rule_stop : Stop A) (stop : Stop B) (test : Terminal → Bool) → ((a : A) (s : Terminal) → stop (f a) s ≡ true → rule_stop a s ≡ true) → Apart rule rule_stop test → Apart (MadeAt rule f) stop test
 made_apart rule f rule_stop stop test weaker = all.made_apart rule f (ends rule_stop) (ends stop) (at test) (λ a o. weaker a (next_sign o))
 
-pub either_apart : {L A : Type 0} (first second : Rules L A) (stop : Stop A) (test : Sign → Bool) → Apart first stop test → Apart second stop test → Apart (EitherAt first second) stop test
+pub either_apart : {L A : Type 0} (first second : Rules L A) (stop : Stop A) (test : Terminal → Bool) → Apart first stop test → Apart second stop test → Apart (EitherAt first second) stop test
 either_apart one other stop test = all.either_apart one other (ends stop) (at test)
 
 -- ---- what may follow
@@ -121,11 +121,11 @@ either_apart one other stop test = all.either_apart one other (ends stop) (at te
 pub anything_follows : {L A B : Type 0} (second : A → Rules L B) (stop : Stop B) → Follows Anything second stop
 anything_follows second stop = all.anything_follows second (ends stop)
 
-pub starts_follow : {L A B : Type 0} (first_stop : Stop A) (second : A → Rules L B) (stop : Stop B) (test : Sign → Bool) → ((a : A) (s : Sign) → test s ≡ true → first_stop a s ≡ true) → ((a : A) → StartsIn (second a) test)
+pub starts_follow : {L A B : Type 0} (first_stop : Stop A) (second : A → Rules L B) (stop : Stop B) (test : Terminal → Bool) → ((a : A) (s : Terminal) → test s ≡ true → first_stop a s ≡ true) → ((a : A) → StartsIn (second a) test)
     → Follows first_stop second stop
 starts_follow first_stop second stop test stops = all.starts_follow (ends first_stop) second (ends stop) (at test) (λ a o. stops a (next_sign o))
 
-pub gives_follow : {L A B : Type 0} (f : A → B) (first_stop : Stop A) (stop : Stop B) → ((a : A) (s : Sign) → stop (f a) s ≡ true → first_stop a s ≡ true) → Follows {L = L} first_stop (λ a. GivesAt (f a)) stop
+pub gives_follow : {L A B : Type 0} (f : A → B) (first_stop : Stop A) (stop : Stop B) → ((a : A) (s : Terminal) → stop (f a) s ≡ true → first_stop a s ≡ true) → Follows {L = L} first_stop (λ a. GivesAt (f a)) stop
 gives_follow f first_stop stop weaker = all.gives_follow f (ends first_stop) (ends stop) (λ a o. weaker a (next_sign o))
 
 pub either_follows : {L A B : Type 0} (first_stop : Stop A) (one other : A → Rules L B) (stop : Stop B) → Follows first_stop one stop → Follows first_stop other stop → Follows first_stop (λ a. EitherAt (one a) (other a)) stop
@@ -141,7 +141,7 @@ module _ {L : Type 0} (Above : L → L → Type 0) (same_level : (l : L) → Abo
   pub one_answers : {A : Type 0} (worth : Token → Option A) (stop : Stop A) (level : L) (ts : List Token) → Answers Above (OneAt worth) stop level ts (one worth ts)
   one_answers worth stop = all.one_answers Above same_level worth (ends stop)
 
-  pub mark_answers : (s : Sign) (stop : Stop ℕ) (level : L) (ts : List Token) → Answers Above (MarkAt s) stop level ts (one (line_at s) ts)
+  pub mark_answers : (s : Terminal) (stop : Stop ℕ) (level : L) (ts : List Token) → Answers Above (MarkAt s) stop level ts (one (line_at s) ts)
   mark_answers s = one_answers (line_at s)
 
   pub gives_answers : {A : Type 0} (value : A) (stop : Stop A) (level : L) (ts : List Token) → Answers Above (GivesAt value) stop level ts (Ok (value, ts))
@@ -155,7 +155,7 @@ module _ {L : Type 0} (Above : L → L → Type 0) (same_level : (l : L) → Abo
         → Answers Above (JoinedAt one second) stop level ts (and_then o f)
     joined_answers = all.joined_answers Above same_level one second (ends first_stop) (ends stop) level ts follows
 
-  pub made_answers : {A B : Type 0} (rule : Rules L A) (f : A → B) (rule_stop : Stop A) (stop : Stop B) (level : L) (ts : List Token) → ((a : A) (s : Sign) → stop (f a) s ≡ true → rule_stop a s ≡ true)
+  pub made_answers : {A B : Type 0} (rule : Rules L A) (f : A → B) (rule_stop : Stop A) (stop : Stop B) (level : L) (ts : List Token) → ((a : A) (s : Terminal) → stop (f a) s ≡ true → rule_stop a s ≡ true)
       → (o : Outcome A) → Answers Above rule rule_stop level ts o → Answers Above (MadeAt rule f) stop level ts (and_then o (λ a. gives (f a)))
   made_answers rule f rule_stop stop level ts weaker = all.made_answers Above same_level rule f (ends rule_stop) (ends stop) level ts (λ a o. weaker a (next_sign o))
 
@@ -172,13 +172,13 @@ module _ {L : Type 0} (Above : L → L → Type 0) (same_level : (l : L) → Abo
       → (o : Outcome A) → Answers Above rule stop level ts o → Answers Above other stop level ts o
   equal_answers rule other stop = all.equal_answers Above same_level rule other (ends stop)
 
-  pub stricter_answers : {A : Type 0} (rule : Rules L A) (stop stricter : Stop A) (level : L) (ts : List Token) → ((a : A) (s : Sign) → stricter a s ≡ true → stop a s ≡ true)
+  pub stricter_answers : {A : Type 0} (rule : Rules L A) (stop stricter : Stop A) (level : L) (ts : List Token) → ((a : A) (s : Terminal) → stricter a s ≡ true → stop a s ≡ true)
       → (o : Outcome A) → Answers Above rule stop level ts o → Answers Above rule stricter level ts o
   stricter_answers rule stop stricter level ts weaker = all.stricter_answers Above same_level rule (ends stop) (ends stricter) level ts (λ a o. weaker a (next_sign o))
 
   -- ---- one rule or the other, by the next token
 
-  module _ {A : Type 0} (one second : Rules L A) (test : Sign → Bool) (stop : Stop A) (level : L) (ts : List Token) (starts : StartsIn one test) (apart : Apart second stop test) where
+  module _ {A : Type 0} (one second : Rules L A) (test : Terminal → Bool) (stop : Stop A) (level : L) (ts : List Token) (starts : StartsIn one test) (apart : Apart second stop test) where
     pub by_first : test (head ts) ≡ true → (o : Outcome A) → Answers Above one stop level ts o → Answers Above (EitherAt one second) stop level ts o
     by_first = all.by_first Above same_level one second (at test) (ends stop) level ts starts apart
 
@@ -193,12 +193,12 @@ module _ {L : Type 0} (Above : L → L → Type 0) (same_level : (l : L) → Abo
         → Answers Above (EitherAt second one) stop level ts (cond (test (head ts)) o p)
     either_answers_back = all.either_answers_back Above same_level one second (at test) (ends stop) level ts starts apart
 
-  pub guarded_answers : {A : Type 0} (rule : Rules L A) (test : Sign → Bool) (stop : Stop A) (level : L) (ts : List Token) → StartsIn rule test
+  pub guarded_answers : {A : Type 0} (rule : Rules L A) (test : Terminal → Bool) (stop : Stop A) (level : L) (ts : List Token) → StartsIn rule test
       → (o : Outcome A) → (test (head ts) ≡ true → Answers Above rule stop level ts o) → Answers Above rule stop level ts (cond (test (head ts)) o (Err (Unexpected (length ts))))
   guarded_answers rule test stop = all.guarded_answers Above same_level rule (at test) (ends stop)
 
-  pub perhaps_answers : {A : Type 0} (rule : Rules L A) (test : Sign → Bool) (rule_stop : Stop A) (stop : Stop (Option A)) (level : L) (ts : List Token) → StartsIn rule test
-      → ((a : A) (s : Sign) → stop (Some a) s ≡ true → rule_stop a s ≡ true) → ((s : Sign) → stop None s ≡ true → test s ≡ false)
+  pub perhaps_answers : {A : Type 0} (rule : Rules L A) (test : Terminal → Bool) (rule_stop : Stop A) (stop : Stop (Option A)) (level : L) (ts : List Token) → StartsIn rule test
+      → ((a : A) (s : Terminal) → stop (Some a) s ≡ true → rule_stop a s ≡ true) → ((s : Terminal) → stop None s ≡ true → test s ≡ false)
       → (o : Outcome A) → (test (head ts) ≡ true → Answers Above rule rule_stop level ts o)
       → Answers Above (PerhapsAt rule) stop level ts (cond (test (head ts)) (and_then o (λ a. gives (Some a))) (Ok (None, ts)))
   perhaps_answers rule test rule_stop stop level ts starts weaker apart = all.perhaps_answers Above same_level rule (at test) (ends rule_stop) (ends stop) level ts starts (λ a o. weaker a (next_sign o)) (λ o. apart (next_sign o))
@@ -216,16 +216,16 @@ module _ {L : Type 0} (Above : L → L → Type 0) (same_level : (l : L) → Abo
   -- ---- the rule by its first token
 
   -- the rule, where its first token is of another sort
-  pub without_answers : {A : Type 0} (s : Sign) (rule : Rules L A) (stop : Stop A) (level : L) (ts : List Token) → same_sign sign.End s ≡ false → same_sign (head ts) s ≡ false
+  pub without_answers : {A : Type 0} (s : Terminal) (rule : Rules L A) (stop : Stop A) (level : L) (ts : List Token) → same_terminal terminal.End s ≡ false → same_terminal (head ts) s ≡ false
       → (o : Outcome A) → Answers Above rule stop level ts o → Answers Above (WithoutAt s rule) stop level ts o
   without_answers s rule stop level ts end apart = all.first_symbol_answers Above same_level rule (WithoutAt s rule) (ends stop) level ts
-      (λ m x us more a split h. record { apart = ap (λ l. same_sign (head l) s) (sym split) ∙ apart; spelled = h })
+      (λ m x us more a split h. record { apart = ap (λ l. same_terminal (head l) s) (sym split) ∙ apart; spelled = h })
       (λ m a h. record { apart = end; spelled = h })
       (λ m us e a r begins. record { text = begins.text; split = begins.split; spelled = begins.spelled.spelled; stops = begins.stops })
       (λ n a h m us b r begins. record { text = begins.text; split = begins.split; spelled = begins.spelled.spelled; stops = begins.stops })
 
   -- the rule that is told the line of the next token
-  pub online_answers : {A : Type 0} (rule : ℕ → Rules L A) (test : Sign → Bool) (stop : Stop A) (level : L) (ts : List Token) → ((line : ℕ) → StartsIn (rule line) test)
+  pub online_answers : {A : Type 0} (rule : ℕ → Rules L A) (test : Terminal → Bool) (stop : Stop A) (level : L) (ts : List Token) → ((line : ℕ) → StartsIn (rule line) test)
       → (o : Outcome A) → Answers Above (rule (line_of ts)) stop level ts o → Answers Above (OnLineAt rule) stop level ts o
   online_answers {A = A} rule test stop level ts starts = all.first_symbol_answers Above same_level (rule (line_of ts)) (OnLineAt rule) (ends stop) level ts
       (λ m x us more a split h. record { first = x; behind = more; begins = refl; spelled = subst (λ n. rule n m (x ∷ more) a) (ap line_of split) h })

@@ -1,4 +1,4 @@
-pub mod Signs
+pub mod Terminals
 pub mod Answers
 pub mod Loops
 pub mod Readers

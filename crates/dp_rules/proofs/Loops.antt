@@ -5,15 +5,15 @@ use Rattle.std.proofs.Common.{◌≡◌, suc, Bool, true, false, List, [], ◌�
 use Rattle.dp_lexer.specs.declared.token.Token.{Token}
 use Rattle.dp_grammar.proofs.Answers as theory
 use Rattle.dp_grammar.proofs.Loops as all
-use Rattle.dp_rules.specs.declared.sign.Sign.{Sign}
-use Rattle.dp_rules.specs.Signs.{next_sign, head}
+use Rattle.dp_rules.specs.declared.terminal.Terminal.{Terminal}
+use Rattle.dp_rules.specs.Terminals.{next_sign, head}
 use Rattle.dp_rules.specs.inner.Input.{Outcome, Reader, and_then, gives, until}
 use Rattle.dp_rules.specs.inner.ReadingLists.{many}
 use Rattle.dp_rules.proofs.Answers.{Rules, Stop, at, ends, ClosedAt, StepAt, ManyAt, Answers, Follows, GoesOn, StartsIn, Apart}
 pub use Rattle.dp_grammar.proofs.Loops.{closed_now, closed_goes_on, many_none}
 
 -- where a step may end: between two pieces, or at the end
-abbrev pub step_stop : {A B : Type 0} → Stop A → Stop B → ControlFlow B A → Sign → Bool
+abbrev pub step_stop : {A B : Type 0} → Stop A → Stop B → ControlFlow B A → Terminal → Bool
 step_stop between stop (Continue a) s = between a s
 step_stop between stop (Break b) s = stop b s
 
@@ -39,7 +39,7 @@ module _ {L : Type 0} (Above : L → L → Type 0) (same_level : (l : L) → Abo
 
   -- ---- steps that look at the next token
 
-  module _ {A B : Type 0} (piece : A → Rules L A) (end : A → Rules L B) (between : Stop A) (stop : Stop B) (level : L) (a : A) (ts : List Token) (test : Sign → Bool) (o : Outcome A) (p : Outcome B) where
+  module _ {A B : Type 0} (piece : A → Rules L A) (end : A → Rules L B) (between : Stop A) (stop : Stop B) (level : L) (a : A) (ts : List Token) (test : Terminal → Bool) (o : Outcome A) (p : Outcome B) where
     -- whether a piece comes next
     pub piece_first : StartsIn (piece a) test → Apart (end a) stop test
         → (test (head ts) ≡ true → Answers Above (piece a) between level ts o) → (test (head ts) ≡ false → Answers Above (end a) stop level ts p)
@@ -59,9 +59,9 @@ module _ {L : Type 0} (Above : L → L → Type 0) (same_level : (l : L) → Abo
 -- ---- any number of pieces
 
 module _ {L A : Type 0} (rule : Rules L A) where
-  module _ (Above : L → L → Type 0) (same_level : (l : L) → Above l l) (test : Sign → Bool) (piece_stop : Stop A) (stop : Stop (List A)) (level : L) (piece : Reader A)
-      (starts : StartsIn rule test) (before_next : (a : A) (s : Sign) → test s ≡ true → piece_stop a s ≡ true) (at_end : (all : List A) (a : A) (s : Sign) → stop (all ++ a ∷ []) s ≡ true → piece_stop a s ≡ true)
-      (apart : (all : List A) (s : Sign) → stop all s ≡ true → test s ≡ false)
+  module _ (Above : L → L → Type 0) (same_level : (l : L) → Above l l) (test : Terminal → Bool) (piece_stop : Stop A) (stop : Stop (List A)) (level : L) (piece : Reader A)
+      (starts : StartsIn rule test) (before_next : (a : A) (s : Terminal) → test s ≡ true → piece_stop a s ≡ true) (at_end : (all : List A) (a : A) (s : Terminal) → stop (all ++ a ∷ []) s ≡ true → piece_stop a s ≡ true)
+      (apart : (all : List A) (s : Terminal) → stop all s ≡ true → test s ≡ false)
       (reads : (ts : List Token) → test (head ts) ≡ true → Answers Above rule piece_stop level ts (piece ts)) where
     pub many_answers : (ts : List Token) → Answers Above (ManyAt rule) stop level ts (many test piece ts)
     unfolding many

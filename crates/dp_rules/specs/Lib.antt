@@ -1,7 +1,7 @@
-pub mod Signs
+pub mod Terminals
 pub mod Lines
 pub mod Rules
-pub mod Worths
+pub mod TokenValues
 pub mod Lists
 pub mod Refused
 pub mod inner

@@ -4,11 +4,11 @@ ghost use Rattle.std.specs.Prelude.{◌≡◌, ◌^◌, ◌<◌, length, OnOk};
 ghost use Rattle.dp_rules.specs.inner.Input as input;
 ghost use Rattle.dp_rules.specs.inner.Input.{Reads, ReadsSlice, Surely};
 ghost use Rattle.dp_rules.specs.Lines.{line_of};
-ghost use Rattle.dp_rules.specs.Signs as signs;
-ghost use Rattle.dp_rules.specs.Signs.{head};
-ghost use Rattle.dp_rules.specs.Worths as worths;
+ghost use Rattle.dp_rules.specs.Terminals as terminals;
+ghost use Rattle.dp_rules.specs.Terminals.{head};
+ghost use Rattle.dp_rules.specs.TokenValues as token_values;
 
-use crate::sign::{Sign, is_superglobal, same_sign, sign_of};
+use crate::terminal::{Terminal, is_superglobal, same_terminal, terminal_of};
 use dp_grammar::Refusal;
 use dp_lexer::{Token, TokenKind, is_reserved};
 use dp_value::Bytes;
@@ -20,13 +20,13 @@ use std::marker::Model;
 #[derive(Drop)]
 pub struct Tokens<'a> {
     rest: &'a [Token],
-    next: Sign,
+    next: Terminal,
 }
 
 impl<'a> Model for Tokens<'a> {
     ghost use Rattle.std.specs.Prelude.{◌≡◌, List};
     ghost use Rattle.dp_lexer.specs.declared.token.Token.{Token};
-    ghost use Rattle.dp_rules.specs.Signs.{head};
+    ghost use Rattle.dp_rules.specs.Terminals.{head};
 
     ghost Value = { List Token };
 
@@ -36,12 +36,12 @@ impl<'a> Model for Tokens<'a> {
 }
 
 // What sort of token comes first.
-fn first_sign(tokens: &[Token]) -> Sign
+fn first_terminal(tokens: &[Token]) -> Terminal
     ensures { result ≡ head tokens.now }
 {
     match tokens {
-        [] => Sign::End,
-        [first, ..] => sign_of(&first.kind),
+        [] => Terminal::End,
+        [first, ..] => terminal_of(&first.kind),
     }
 }
 
@@ -50,7 +50,7 @@ impl<'a> Tokens<'a> {
     pub fn new(rest: &'a [Token]) -> Tokens<'a>
         ensures { result ≡ rest.now }
     {
-        let next = first_sign(rest);
+        let next = first_terminal(rest);
         Tokens { rest, next }
     }
 
@@ -63,17 +63,17 @@ impl<'a> Tokens<'a> {
     }
 
     /// What sort of token comes next.
-    pub fn peek(&self) -> Sign
+    pub fn peek(&self) -> Terminal
         ensures { result ≡ head self.now }
     {
         self.next
     }
 
     /// Whether a token of this sort comes next.
-    pub fn sees(&self, sign: Sign) -> bool
-        ensures { result ≡ signs.is sign (head self.now) }
+    pub fn sees(&self, terminal: Terminal) -> bool
+        ensures { result ≡ terminals.is terminal (head self.now) }
     {
-        same_sign(self.next, sign)
+        same_terminal(self.next, terminal)
     }
 
     /// The line of the next token, or 0 at the end.
@@ -88,8 +88,8 @@ impl<'a> Tokens<'a> {
 
     /// A number from 1 to this one.
     pub fn number_up_to(&mut self, most: u32) -> Result<u32, Refusal>
-        ensures reads { Reads (input.kind (worths.number_up_to most) self.old) result self.new }
-        ensures surely { Surely (input.kind (worths.number_up_to most) self.old) result }
+        ensures reads { Reads (input.kind (token_values.number_up_to most) self.old) result self.new }
+        ensures surely { Surely (input.kind (token_values.number_up_to most) self.old) result }
     {
         match self.rest {
             [first, rest @ ..] => match &first.kind {
@@ -111,12 +111,12 @@ impl<'a> Tokens<'a> {
     }
 
     /// A token of this sort, for its line.
-    pub fn mark(&mut self, sign: Sign) -> Result<u32, Refusal>
-        ensures reads { Reads (input.mark sign self.old) result self.new }
-        ensures surely { Surely (input.mark sign self.old) result }
+    pub fn mark(&mut self, terminal: Terminal) -> Result<u32, Refusal>
+        ensures reads { Reads (input.mark terminal self.old) result self.new }
+        ensures surely { Surely (input.mark terminal self.old) result }
     {
         match self.rest {
-            [first, rest @ ..] if same_sign(self.next, sign) => {
+            [first, rest @ ..] if same_terminal(self.next, terminal) => {
                 *self = Tokens::new(rest);
                 Ok(first.line)
             }
@@ -152,7 +152,7 @@ impl<'a> Tokens<'a> {
 
     /// A name that a function may have, by a copy of it.
     pub fn name(&mut self, alloc: Global) -> Result<Bytes, Refusal>
-        ensures { Reads (input.kind worths.name_in self.old) result self.new }
+        ensures { Reads (input.kind token_values.name_in self.old) result self.new }
     {
         match self.rest {
             [first, rest @ ..] => match &first.kind {
@@ -168,8 +168,8 @@ impl<'a> Tokens<'a> {
 
     /// A number.
     pub fn number(&mut self) -> Result<i64, Refusal>
-        ensures reads { Reads (input.kind worths.number_in self.old) result self.new }
-        ensures surely { Surely (input.kind worths.number_in self.old) result }
+        ensures reads { Reads (input.kind token_values.number_in self.old) result self.new }
+        ensures surely { Surely (input.kind token_values.number_in self.old) result }
     {
         match self.rest {
             [first, rest @ ..] => match &first.kind {
@@ -185,7 +185,7 @@ impl<'a> Tokens<'a> {
 
     /// The bytes of a text, by a copy of them.
     pub fn text(&mut self, alloc: Global) -> Result<Bytes, Refusal>
-        ensures { Reads (input.kind worths.text_in self.old) result self.new }
+        ensures { Reads (input.kind token_values.text_in self.old) result self.new }
     {
         match self.rest {
             [first, rest @ ..] => match &first.kind {

@@ -5,9 +5,9 @@
 
 mod cursor;
 mod lists;
-mod sign;
+mod terminal;
 
 pub use cursor::{Tokens, enter};
 pub use dp_grammar::Refusal;
 pub use lists::{Piece, any_items, any_plain_items, many, none, plain_items, some_items, with};
-pub use sign::Sign;
+pub use terminal::Terminal;

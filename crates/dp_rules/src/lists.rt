@@ -2,11 +2,11 @@
 
 ghost use Rattle.std.specs.Prelude.{◌≡◌, ◌++◌, ◌∷◌, [], IfOk};
 ghost use Rattle.dp_rules.specs.inner.Input.{Reader, Reads, closed};
-ghost use Rattle.dp_rules.specs.Signs as signs;
+ghost use Rattle.dp_rules.specs.Terminals as terminals;
 ghost use Rattle.dp_rules.specs.inner.ReadingLists as spec;
 
 use crate::cursor::Tokens;
-use crate::sign::Sign;
+use crate::terminal::Terminal;
 use dp_grammar::Refusal;
 use dp_value::{Items, Memory};
 use std::alloc::Global;
@@ -44,7 +44,7 @@ pub trait Piece<T> {
 /// The next item, or the end behind a comma.
 fn behind_comma<T: Drop, P: Piece<T>>(
     tokens: &mut Tokens<'_>,
-    close: Sign,
+    close: Terminal,
     item: &P,
     all: Items<T>,
 ) -> Result<ControlFlow<Items<T>, Items<T>>, Refusal>
@@ -61,15 +61,15 @@ fn behind_comma<T: Drop, P: Piece<T>>(
 
 fn comma_step<T: Drop, P: Piece<T>>(
     tokens: &mut Tokens<'_>,
-    close: Sign,
+    close: Terminal,
     item: &P,
     all: Items<T>,
 ) -> Result<ControlFlow<Items<T>, Items<T>>, Refusal>
     requires { P.ready item.now }
     ensures { Reads (spec.comma_step (λ _. P.reads item.now) close all tokens.old) result tokens.new }
 {
-    if tokens.sees(Sign::Comma) {
-        tokens.mark(Sign::Comma)?;
+    if tokens.sees(Terminal::Comma) {
+        tokens.mark(Terminal::Comma)?;
         return behind_comma(tokens, close, item, all);
     }
     tokens.mark(close)?;
@@ -81,7 +81,7 @@ fn comma_step<T: Drop, P: Piece<T>>(
 pub fn some_items<T: Drop, P: Piece<T>>(
     alloc: Global,
     tokens: &mut Tokens<'_>,
-    close: Sign,
+    close: Terminal,
     item: &P,
 ) -> Result<Items<T>, Refusal>
     requires { P.ready item.now }
@@ -93,7 +93,7 @@ pub fn some_items<T: Drop, P: Piece<T>>(
 
 fn comma_turns<T: Drop, P: Piece<T>>(
     tokens: &mut Tokens<'_>,
-    close: Sign,
+    close: Terminal,
     item: &P,
     first: Items<T>,
 ) -> Result<Items<T>, Refusal>
@@ -115,7 +115,7 @@ fn comma_turns<T: Drop, P: Piece<T>>(
 pub fn any_items<T: Drop, P: Piece<T>>(
     alloc: Global,
     tokens: &mut Tokens<'_>,
-    close: Sign,
+    close: Terminal,
     item: &P,
 ) -> Result<Items<T>, Refusal>
     requires { P.ready item.now }
@@ -130,15 +130,15 @@ pub fn any_items<T: Drop, P: Piece<T>>(
 
 fn plain_step<T: Drop, P: Piece<T>>(
     tokens: &mut Tokens<'_>,
-    close: Sign,
+    close: Terminal,
     item: &P,
     all: Items<T>,
 ) -> Result<ControlFlow<Items<T>, Items<T>>, Refusal>
     requires { P.ready item.now }
     ensures { Reads (spec.plain_step (λ _. P.reads item.now) close all tokens.old) result tokens.new }
 {
-    if tokens.sees(Sign::Comma) {
-        tokens.mark(Sign::Comma)?;
+    if tokens.sees(Terminal::Comma) {
+        tokens.mark(Terminal::Comma)?;
         let value = item.read(tokens)?;
         return Ok(ControlFlow::Continue(with(all, value)?));
     }
@@ -148,7 +148,7 @@ fn plain_step<T: Drop, P: Piece<T>>(
 
 fn plain_turns<T: Drop, P: Piece<T>>(
     tokens: &mut Tokens<'_>,
-    close: Sign,
+    close: Terminal,
     item: &P,
     first: Items<T>,
 ) -> Result<Items<T>, Refusal>
@@ -170,7 +170,7 @@ fn plain_turns<T: Drop, P: Piece<T>>(
 pub fn plain_items<T: Drop, P: Piece<T>>(
     alloc: Global,
     tokens: &mut Tokens<'_>,
-    close: Sign,
+    close: Terminal,
     item: &P,
 ) -> Result<Items<T>, Refusal>
     requires { P.ready item.now }
@@ -185,7 +185,7 @@ pub fn plain_items<T: Drop, P: Piece<T>>(
 pub fn any_plain_items<T: Drop, P: Piece<T>>(
     alloc: Global,
     tokens: &mut Tokens<'_>,
-    close: Sign,
+    close: Terminal,
     item: &P,
 ) -> Result<Items<T>, Refusal>
     requires { P.ready item.now }
@@ -203,11 +203,11 @@ pub fn any_plain_items<T: Drop, P: Piece<T>>(
 pub fn many<T: Drop, P: Piece<T>>(
     alloc: Global,
     tokens: &mut Tokens<'_>,
-    begin: Sign,
+    begin: Terminal,
     piece: &P,
 ) -> Result<Items<T>, Refusal>
     requires { P.ready piece.now }
-    ensures { Reads (spec.many (signs.is begin) (P.reads piece.now) tokens.old) result tokens.new }
+    ensures { Reads (spec.many (terminals.is begin) (P.reads piece.now) tokens.old) result tokens.new }
 {
     let mut state = none(alloc);
     for _turn in 0..tokens.left() + 1 {
@@ -221,12 +221,12 @@ pub fn many<T: Drop, P: Piece<T>>(
 
 fn many_step<T: Drop, P: Piece<T>>(
     tokens: &mut Tokens<'_>,
-    begin: Sign,
+    begin: Terminal,
     piece: &P,
     all: Items<T>,
 ) -> Result<ControlFlow<Items<T>, Items<T>>, Refusal>
     requires { P.ready piece.now }
-    ensures { Reads (spec.many_step (signs.is begin) (P.reads piece.now) all tokens.old) result tokens.new }
+    ensures { Reads (spec.many_step (terminals.is begin) (P.reads piece.now) all tokens.old) result tokens.new }
 {
     if !tokens.sees(begin) {
         return Ok(ControlFlow::Break(all));

@@ -7,40 +7,40 @@ use Rattle.dp_expressions.specs.declared.operand.Operand.TheVariants as operand
 use Rattle.dp_expressions.specs.declared.operand.Part.{Part}
 use Rattle.dp_expressions.specs.declared.operand.Part.TheVariants as part
 use Rattle.dp_expressions.specs.declared.rank.Rank.{Rank}
-use Rattle.dp_rules.specs.declared.sign.Sign.{Sign}
-use Rattle.dp_rules.specs.declared.sign.Sign.TheVariants as sign
+use Rattle.dp_rules.specs.declared.terminal.Terminal.{Terminal}
+use Rattle.dp_rules.specs.declared.terminal.Terminal.TheVariants as terminal
 use Rattle.dp_tree.specs.declared.tree.Expression.{Expression}
 use Rattle.dp_tree.specs.declared.tree.Expression.TheVariants as tree
 use Rattle.dp_tree.specs.declared.tree.Place.{Place}
 use Rattle.dp_tree.specs.declared.tree.Item.{Item}
 use Rattle.dp_tree.specs.declared.tree.Link.{Link}
 use Rattle.dp_tree.specs.declared.tree.Order.TheVariants.{StepFirst, ValueFirst}
-use Rattle.dp_rules.specs.Signs.{is, head}
+use Rattle.dp_rules.specs.Terminals.{is, head}
 use Rattle.dp_rules.specs.inner.Input.{Reader, ◌>>=◌, ◌>>◌, gives, made, refuse, sort, kind, sees, variable, mark, enter, closed}
 use Rattle.dp_rules.specs.inner.ReadingLists.{some_items, any_items, many}
 use Rattle.dp_expressions.specs.Grammar.{prefix_in, step_in, inclusion_in, assignment_in, constant_in, operator_in, may_go_on, ranks, place, item, link, indexed, value_of, chained, assigned}
-use Rattle.dp_rules.specs.Worths.{Text, name_in, number_in, text_in}
+use Rattle.dp_rules.specs.TokenValues.{Text, name_in, number_in, text_in}
 
 -- a token with which an expression may begin
-abbrev pub begins_expression : Sign → Bool
-begins_expression sign.Variable = true
-begins_expression sign.Name = true
-begins_expression sign.Number = true
-begins_expression sign.Text = true
-begins_expression sign.Null = true
-begins_expression sign.True = true
-begins_expression sign.False = true
-begins_expression sign.Array = true
-begins_expression sign.Isset = true
-begins_expression sign.Include = true
-begins_expression sign.Require = true
-begins_expression sign.OpenParenthesis = true
-begins_expression sign.OpenBracket = true
-begins_expression sign.Bang = true
-begins_expression sign.Minus = true
-begins_expression sign.Plus = true
-begins_expression sign.Increment = true
-begins_expression sign.Decrement = true
+abbrev pub begins_expression : Terminal → Bool
+begins_expression terminal.Variable = true
+begins_expression terminal.Name = true
+begins_expression terminal.Number = true
+begins_expression terminal.Text = true
+begins_expression terminal.Null = true
+begins_expression terminal.True = true
+begins_expression terminal.False = true
+begins_expression terminal.Array = true
+begins_expression terminal.Isset = true
+begins_expression terminal.Include = true
+begins_expression terminal.Require = true
+begins_expression terminal.OpenParenthesis = true
+begins_expression terminal.OpenBracket = true
+begins_expression terminal.Bang = true
+begins_expression terminal.Minus = true
+begins_expression terminal.Plus = true
+begins_expression terminal.Increment = true
+begins_expression terminal.Decrement = true
 begins_expression _ = false
 
 -- an operand as an expression. A push is none before its `=`, and counts as its place.
@@ -88,13 +88,13 @@ module _ (level : ℕ) (inner : Part → Reader Expression) where
   unfoldable pub index : Reader Expression
   index = do
     enter level
-    mark sign.OpenBracket
+    mark terminal.OpenBracket
     at ← inner part.Whole
-    mark sign.CloseBracket
+    mark terminal.CloseBracket
     gives at
 
   unfoldable pub indices : Reader (List Expression)
-  indices = many (is sign.OpenBracket) index
+  indices = many (is terminal.OpenBracket) index
 
   unfoldable pub place_rule : Reader Place
   place_rule = do
@@ -106,21 +106,21 @@ module _ (level : ℕ) (inner : Part → Reader Expression) where
   unfoldable pub place_below : Reader Place
   place_below = do
     name ← variable
-    found ← many (is sign.OpenBracket) (inner part.Index)
+    found ← many (is terminal.OpenBracket) (inner part.Index)
     gives (place name found)
 
   unfoldable pub group : Reader Expression
   group = do
     enter level
-    mark sign.OpenParenthesis
+    mark terminal.OpenParenthesis
     within ← inner part.Whole
-    mark sign.CloseParenthesis
+    mark terminal.CloseParenthesis
     gives within
 
   unfoldable pub item_rest : Expression → Reader Item
   item_rest first ts =
-      if is sign.Arrow (head ts)
-      then made (mark sign.Arrow >> inner part.Whole) (λ value. item (Some first) value) ts
+      if is terminal.Arrow (head ts)
+      then made (mark terminal.Arrow >> inner part.Whole) (λ value. item (Some first) value) ts
       else Ok (item None first, ts)
 
   unfoldable pub item_rule : Reader Item
@@ -129,42 +129,42 @@ module _ (level : ℕ) (inner : Part → Reader Expression) where
   unfoldable pub literal : Reader Expression
   literal = do
     enter level
-    mark sign.OpenBracket
-    items ← any_items (λ _. item_rule) sign.CloseBracket
+    mark terminal.OpenBracket
+    items ← any_items (λ _. item_rule) terminal.CloseBracket
     gives (tree.Array items)
 
   unfoldable pub array_call : Reader Expression
   array_call = do
     enter level
-    mark sign.Array
-    mark sign.OpenParenthesis
-    items ← any_items (λ _. item_rule) sign.CloseParenthesis
+    mark terminal.Array
+    mark terminal.OpenParenthesis
+    items ← any_items (λ _. item_rule) terminal.CloseParenthesis
     gives (tree.Array items)
 
   unfoldable pub call : Reader Expression
   call = do
     enter level
     name ← kind name_in
-    mark sign.OpenParenthesis
-    arguments ← any_items (λ _. inner part.Whole) sign.CloseParenthesis
+    mark terminal.OpenParenthesis
+    arguments ← any_items (λ _. inner part.Whole) terminal.CloseParenthesis
     gives (tree.Call name arguments)
 
   unfoldable pub isset : Reader Expression
   isset = do
     enter level
-    mark sign.Isset
-    mark sign.OpenParenthesis
-    places ← some_items (λ _. place_below) sign.CloseParenthesis
+    mark terminal.Isset
+    mark terminal.OpenParenthesis
+    places ← some_items (λ _. place_below) terminal.CloseParenthesis
     gives (tree.Isset places)
 
   unfoldable pub primary : Reader Expression
   primary ts =
-      if is sign.Text (head ts) then made (kind text_in) tree.Text ts
+      if is terminal.Text (head ts) then made (kind text_in) tree.Text ts
       else if sees constant_in ts then sort constant_in ts
-      else if is sign.OpenParenthesis (head ts) then group ts
-      else if is sign.OpenBracket (head ts) then literal ts
-      else if is sign.Array (head ts) then array_call ts
-      else if is sign.Name (head ts) then call ts
+      else if is terminal.OpenParenthesis (head ts) then group ts
+      else if is terminal.OpenBracket (head ts) then literal ts
+      else if is terminal.Array (head ts) then array_call ts
+      else if is terminal.Name (head ts) then call ts
       else refuse ts
 
   unfoldable pub prefixed : Reader Expression
@@ -186,8 +186,8 @@ module _ (level : ℕ) (inner : Part → Reader Expression) where
   other ts =
       if sees prefix_in ts then prefixed ts
       else if sees step_in ts then stepped_first ts
-      else if is sign.Number (head ts) then made (kind number_in) tree.Number ts
-      else if is sign.Isset (head ts) then isset ts
+      else if is terminal.Number (head ts) then made (kind number_in) tree.Number ts
+      else if is terminal.Isset (head ts) then isset ts
       else (primary >>= (λ base. made indices (indexed base))) ts
 
   -- behind a place
@@ -199,7 +199,7 @@ module _ (level : ℕ) (inner : Part → Reader Expression) where
 
   unfoldable pub alone : Reader Expression
   alone ts =
-      if is sign.Variable (head ts) then made (place_rule >>= step_last) tree_of ts
+      if is terminal.Variable (head ts) then made (place_rule >>= step_last) tree_of ts
       else other ts
 
   -- an index or, where an assignment may follow, `[]`
@@ -207,16 +207,16 @@ module _ (level : ℕ) (inner : Part → Reader Expression) where
       Text → List Expression → Reader (ControlFlow Operand (List Expression))
   index_or_push name found = do
     enter level
-    mark sign.OpenBracket
+    mark terminal.OpenBracket
     (λ ts.
-        if is sign.CloseBracket (head ts)
-        then made (mark sign.CloseBracket) (λ _. Break (operand.Push (place name found))) ts
-        else made (inner part.Whole >>= (λ at. mark sign.CloseBracket >> gives at))
+        if is terminal.CloseBracket (head ts)
+        then made (mark terminal.CloseBracket) (λ _. Break (operand.Push (place name found))) ts
+        else made (inner part.Whole >>= (λ at. mark terminal.CloseBracket >> gives at))
         (λ at. Continue (found ++ at ∷ [])) ts)
 
   abbrev pub opening_step : Text → List Expression → Reader (ControlFlow Operand (List Expression))
   opening_step name found ts =
-      if is sign.OpenBracket (head ts) then index_or_push name found ts
+      if is terminal.OpenBracket (head ts) then index_or_push name found ts
       else made (step_last (place name found)) Break ts
 
   -- what an expression begins with, where it is a variable
@@ -225,16 +225,17 @@ module _ (level : ℕ) (inner : Part → Reader Expression) where
 
   unfoldable pub opening : Reader Operand
   opening ts =
-      if is sign.Variable (head ts) then opening_place ts
+      if is terminal.Variable (head ts) then opening_place ts
       else made other operand.Other ts
 
   -- what stands right of a `??`, with the operator
   abbrev pub coalesce_right : Reader Expression
-  coalesce_right = enter level >> (mark sign.Coalesce >> inner part.Coalesce)
+  coalesce_right = enter level >> (mark terminal.Coalesce >> inner part.Coalesce)
 
   unfoldable pub coalesce_rest : Expression → Reader Expression
   coalesce_rest left ts =
-      if is sign.Coalesce (head ts) then made coalesce_right (λ right. tree.Coalesce left right) ts
+      if is terminal.Coalesce (head ts)
+      then made coalesce_right (λ right. tree.Coalesce left right) ts
       else Ok (left, ts)
 
   unfoldable pub coalesce : Reader Expression
@@ -249,18 +250,19 @@ module _ (level : ℕ) (inner : Part → Reader Expression) where
   -- the last part of a conditional, with its colon
   abbrev pub last_branch : Expression → Option Expression → Reader Expression
   last_branch test between = do
-    mark sign.Colon
+    mark terminal.Colon
     otherwise ← coalesce
     gives (tree.Conditional test between otherwise)
 
   unfoldable pub branches : Expression → Reader Expression
   branches test = do
-    mark sign.Question
+    mark terminal.Question
     between ← middle
     last_branch test between
 
   unfoldable pub conditional_rest : Expression → Reader Expression
-  conditional_rest test ts = if is sign.Question (head ts) then branches test ts else Ok (test, ts)
+  conditional_rest test ts =
+      if is terminal.Question (head ts) then branches test ts else Ok (test, ts)
 
   -- an expression whose first operand was read
   unfoldable pub going_on : Expression → Reader Expression
@@ -276,7 +278,7 @@ module _ (level : ℕ) (inner : Part → Reader Expression) where
   unfoldable pub pushed : Place → Reader Expression
   pushed to = do
     enter level
-    mark sign.Assign
+    mark terminal.Assign
     from ← inner part.Whole
     gives (tree.Push to from)
 

@@ -3,7 +3,21 @@ use Rattle.std.specs.Prelude.{ℕ, ◌==◌, List, [], ◌∷◌}
 use Rattle.dp_grammar.specs.inner.Input as grammar
 use Rattle.dp_markup.specs.Rules.{passing}
 pub use Rattle.dp_grammar.specs.Rules.{head}
-pub use Rattle.dp_grammar.specs.inner.Input.{next, and_then, ◌>>=◌, ◌>>◌, gives, made, met, one, tested, next_of, closed, Reads, ReadsSlice}
+pub use Rattle.dp_grammar.specs.inner.Input.{
+  next,
+  and_then,
+  ◌>>=◌,
+  ◌>>◌,
+  gives,
+  made,
+  met,
+  one,
+  tested,
+  next_of,
+  closed,
+  Reads,
+  ReadsSlice,
+}
 unfoldable pub use Rattle.dp_grammar.specs.inner.Input.{refuse, until}
 
 -- a value and the bytes behind it, or a refusal

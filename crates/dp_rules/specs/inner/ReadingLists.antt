@@ -2,12 +2,12 @@
 use Rattle.std.specs.Prelude.{Bool, if◌then◌else◌, List, [], ◌∷◌, ◌++◌, Ok}
 use Rattle.std.specs.declared.ops.ControlFlow.{ControlFlow}
 use Rattle.std.specs.declared.ops.ControlFlow.TheVariants.{Continue, Break}
-use Rattle.dp_rules.specs.declared.sign.Sign.{Sign}
-use Rattle.dp_rules.specs.declared.sign.Sign.TheVariants as sign
-use Rattle.dp_rules.specs.Signs.{is, head}
+use Rattle.dp_rules.specs.declared.terminal.Terminal.{Terminal}
+use Rattle.dp_rules.specs.declared.terminal.Terminal.TheVariants as terminal
+use Rattle.dp_rules.specs.Terminals.{is, head}
 use Rattle.dp_rules.specs.inner.Input.{Reader, ◌>>=◌, ◌>>◌, made, mark, closed}
 
-module _ {A : Type 0} (item : List A → Reader A) (close : Sign) where
+module _ {A : Type 0} (item : List A → Reader A) (close : Terminal) where
   abbrev pub next_item : List A → Reader (ControlFlow (List A) (List A))
   next_item all = made (made (item all) (λ a. all ++ a ∷ [])) Continue
 
@@ -16,7 +16,8 @@ module _ {A : Type 0} (item : List A → Reader A) (close : Sign) where
 
   abbrev pub plain_step : List A → Reader (ControlFlow (List A) (List A))
   plain_step all ts =
-      if is sign.Comma (head ts) then (mark sign.Comma >> next_item all) ts else last_item all ts
+      if is terminal.Comma (head ts) then (mark terminal.Comma >> next_item all) ts
+      else last_item all ts
 
   -- behind a comma
   abbrev pub behind_comma : List A → Reader (ControlFlow (List A) (List A))
@@ -24,7 +25,8 @@ module _ {A : Type 0} (item : List A → Reader A) (close : Sign) where
 
   abbrev pub comma_step : List A → Reader (ControlFlow (List A) (List A))
   comma_step all ts =
-      if is sign.Comma (head ts) then (mark sign.Comma >> behind_comma all) ts else last_item all ts
+      if is terminal.Comma (head ts) then (mark terminal.Comma >> behind_comma all) ts
+      else last_item all ts
 
   unfoldable pub plain_items : Reader (List A)
   plain_items = item [] >>= (λ first. closed plain_step (first ∷ []))
@@ -42,7 +44,7 @@ module _ {A : Type 0} (item : List A → Reader A) (close : Sign) where
   any_items ts = if is close (head ts) then no_items ts else some_items ts
 
 -- any number of them, while the test of the next token holds
-module _ {A : Type 0} (test : Sign → Bool) (piece : Reader A) where
+module _ {A : Type 0} (test : Terminal → Bool) (piece : Reader A) where
   abbrev pub many_step : List A → Reader (ControlFlow (List A) (List A))
   many_step all ts =
       if test (head ts) then made (made piece (λ a. all ++ a ∷ [])) Continue ts

@@ -1,5 +1,5 @@
 use Rattle.std.proofs.Common.{◌≡◌, ◌-◌}
-use Rattle.dp_rules.specs.declared.sign.Sign.TheVariants.{CloseParenthesis}
+use Rattle.dp_rules.specs.declared.terminal.Terminal.TheVariants.{CloseParenthesis}
 use Rattle.dp_rules.specs.inner.Input.{closed, until}
 use Rattle.dp_parse.specs.inner.Parameters.{checked}
 use Rattle.dp_rules.specs.inner.ReadingLists.{comma_step}

@@ -4,8 +4,8 @@ use Rattle.dp_lexer.specs.declared.token.Token.{Token}
 use Rattle.dp_lexer.specs.declared.token.TokenKind.{TokenKind}
 use Rattle.dp_lexer.specs.declared.token.TokenKind.TheVariants as kind
 use Rattle.dp_lexer.specs.Keywords.{is_reserved}
-use Rattle.dp_rules.specs.declared.sign.Sign.{Sign}
-use Rattle.dp_rules.specs.Signs.{sign_of, is_superglobal}
+use Rattle.dp_rules.specs.declared.terminal.Terminal.{Terminal}
+use Rattle.dp_rules.specs.Terminals.{terminal_of, is_superglobal}
 use Rattle.dp_rules.specs.Rules.{Rule, One}
 
 abbrev pub Text : Type 0
@@ -38,14 +38,14 @@ number_up_to most (kind.Number (pos n)) = if nat_le 1 n && nat_le n most then So
 number_up_to most _ = None
 
 -- a token by its sort, and by its kind
-abbrev pub by_sign : {A : Type 0} → (Sign → Option A) → Token → Option A
-by_sign worth t = worth (sign_of t.kind)
+abbrev pub by_terminal : {A : Type 0} → (Terminal → Option A) → Token → Option A
+by_terminal worth t = worth (terminal_of t.kind)
 
 abbrev pub by_kind : {A : Type 0} → (TokenKind → Option A) → Token → Option A
 by_kind worth t = worth t.kind
 
-abbrev pub Sort : {A : Type 0} → (Sign → Option A) → Rule A
-Sort worth = One (by_sign worth)
+abbrev pub Sort : {A : Type 0} → (Terminal → Option A) → Rule A
+Sort worth = One (by_terminal worth)
 
 abbrev pub Kind : {A : Type 0} → (TokenKind → Option A) → Rule A
 Kind worth = One (by_kind worth)

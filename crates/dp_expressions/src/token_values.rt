@@ -1,0 +1,195 @@
+//! What a token is worth to a rule of expressions, by its sort, and such tokens read.
+
+ghost use Rattle.std.specs.Prelude.{◌≡◌, is_some};
+ghost use Rattle.dp_expressions.specs.Grammar as grammar;
+ghost use Rattle.dp_expressions.specs.inner.Reading as spec;
+ghost use Rattle.dp_rules.specs.inner.Input as input;
+ghost use Rattle.dp_rules.specs.inner.Input.{Reads};
+
+use crate::operand::Assignment;
+use crate::rank::Rank;
+use dp_rules::{Refusal, Terminal, Tokens};
+use dp_tree::{Expression, Inclusion, Operator};
+use dp_value::{BinaryOp, UnaryOp};
+
+/// The operator that stands before its operand.
+pub(crate) fn prefix_in(terminal: Terminal) -> Option<UnaryOp>
+    ensures { result ≡ grammar.prefix_in terminal }
+{
+    match terminal {
+        Terminal::Bang => Some(UnaryOp::Not),
+        Terminal::Minus => Some(UnaryOp::Minus),
+        Terminal::Plus => Some(UnaryOp::Plus),
+        _ => None,
+    }
+}
+
+/// The operator that steps a place by one.
+pub(crate) fn step_in(terminal: Terminal) -> Option<UnaryOp>
+    ensures { result ≡ grammar.step_in terminal }
+{
+    match terminal {
+        Terminal::Increment => Some(UnaryOp::Increment),
+        Terminal::Decrement => Some(UnaryOp::Decrement),
+        _ => None,
+    }
+}
+
+/// How a file is included.
+pub(crate) fn inclusion_in(terminal: Terminal) -> Option<Inclusion>
+    ensures { result ≡ grammar.inclusion_in terminal }
+{
+    match terminal {
+        Terminal::Include => Some(Inclusion::Include),
+        Terminal::Require => Some(Inclusion::Require),
+        _ => None,
+    }
+}
+
+/// How an assignment makes its value.
+pub(crate) fn assignment_in(terminal: Terminal) -> Option<Assignment>
+    ensures { result ≡ grammar.assignment_in terminal }
+{
+    match terminal {
+        Terminal::Assign => Some(Assignment::Plain),
+        Terminal::AddAssign => Some(Assignment::Compound(BinaryOp::Add)),
+        Terminal::SubtractAssign => Some(Assignment::Compound(BinaryOp::Sub)),
+        Terminal::MultiplyAssign => Some(Assignment::Compound(BinaryOp::Mul)),
+        Terminal::ConcatAssign => Some(Assignment::Compound(BinaryOp::Concat)),
+        Terminal::RemainderAssign => Some(Assignment::Compound(BinaryOp::Rem)),
+        Terminal::CoalesceAssign => Some(Assignment::Coalesce),
+        _ => None,
+    }
+}
+
+/// The constant that a keyword names.
+pub(crate) fn constant_in(terminal: Terminal) -> Option<Expression>
+    ensures { result ≡ grammar.constant_in terminal }
+{
+    match terminal {
+        Terminal::Null => Some(Expression::Null),
+        Terminal::True => Some(Expression::Bool(true)),
+        Terminal::False => Some(Expression::Bool(false)),
+        _ => None,
+    }
+}
+
+/// Whether a keyword names a constant.
+pub(crate) fn names_constant(terminal: Terminal) -> bool
+    ensures { result ≡ is_some (grammar.constant_in terminal) }
+{
+    matches!(terminal, Terminal::Null | Terminal::True | Terminal::False)
+}
+
+/// The operator of this rank.
+pub(crate) fn operator_in(rank: Rank, terminal: Terminal) -> Option<Operator>
+    ensures { result ≡ grammar.operator_in rank terminal }
+{
+    match (rank, terminal) {
+        (Rank::Or, Terminal::EitherOf) => Some(Operator::Or),
+        (Rank::And, Terminal::BothOf) => Some(Operator::And),
+        (Rank::Equality, Terminal::Equal) => Some(Operator::Of(BinaryOp::Equal)),
+        (Rank::Equality, Terminal::NotEqual) => Some(Operator::Of(BinaryOp::NotEqual)),
+        (Rank::Equality, Terminal::Identical) => Some(Operator::Of(BinaryOp::Identical)),
+        (Rank::Equality, Terminal::NotIdentical) => Some(Operator::Of(BinaryOp::NotIdentical)),
+        (Rank::Equality, Terminal::Spaceship) => Some(Operator::Of(BinaryOp::Spaceship)),
+        (Rank::Comparison, Terminal::Less) => Some(Operator::Of(BinaryOp::Less)),
+        (Rank::Comparison, Terminal::LessOrEqual) => Some(Operator::Of(BinaryOp::LessEqual)),
+        (Rank::Comparison, Terminal::Greater) => Some(Operator::Of(BinaryOp::Greater)),
+        (Rank::Comparison, Terminal::GreaterOrEqual) => Some(Operator::Of(BinaryOp::GreaterEqual)),
+        (Rank::Concatenation, Terminal::Dot) => Some(Operator::Of(BinaryOp::Concat)),
+        (Rank::Sum, Terminal::Plus) => Some(Operator::Of(BinaryOp::Add)),
+        (Rank::Sum, Terminal::Minus) => Some(Operator::Of(BinaryOp::Sub)),
+        (Rank::Product, Terminal::Star) => Some(Operator::Of(BinaryOp::Mul)),
+        (Rank::Product, Terminal::Percent) => Some(Operator::Of(BinaryOp::Rem)),
+        _ => None,
+    }
+}
+
+/// Whether at most one operator of this rank joins operands.
+pub(crate) fn is_single(rank: Rank) -> bool
+    ensures { result ≡ grammar.is_single rank }
+{
+    matches!(rank, Rank::Equality | Rank::Comparison)
+}
+
+/// Whether an expression may begin with this.
+pub(crate) fn begins_expression(terminal: Terminal) -> bool
+    ensures { result ≡ spec.begins_expression terminal }
+{
+    matches!(
+        terminal,
+        Terminal::Variable
+            | Terminal::Name
+            | Terminal::Number
+            | Terminal::Text
+            | Terminal::Null
+            | Terminal::True
+            | Terminal::False
+            | Terminal::Array
+            | Terminal::Isset
+            | Terminal::Include
+            | Terminal::Require
+            | Terminal::OpenParenthesis
+            | Terminal::OpenBracket
+            | Terminal::Bang
+            | Terminal::Minus
+            | Terminal::Plus
+            | Terminal::Increment
+            | Terminal::Decrement
+    )
+}
+
+/// An operator that stands before its operand.
+#[tactic(auto, using(dp_rules::proofs::Taking::sort_taken))]
+pub(crate) fn prefix(tokens: &mut Tokens<'_>) -> Result<UnaryOp, Refusal>
+    ensures { Reads (input.sort grammar.prefix_in tokens.old) result tokens.new }
+{
+    let found = prefix_in(tokens.peek());
+    tokens.take(found)
+}
+
+/// An operator that steps a place by one.
+#[tactic(auto, using(dp_rules::proofs::Taking::sort_taken))]
+pub(crate) fn step(tokens: &mut Tokens<'_>) -> Result<UnaryOp, Refusal>
+    ensures { Reads (input.sort grammar.step_in tokens.old) result tokens.new }
+{
+    let found = step_in(tokens.peek());
+    tokens.take(found)
+}
+
+/// The word that includes a file.
+#[tactic(auto, using(dp_rules::proofs::Taking::sort_taken))]
+pub(crate) fn inclusion(tokens: &mut Tokens<'_>) -> Result<Inclusion, Refusal>
+    ensures { Reads (input.sort grammar.inclusion_in tokens.old) result tokens.new }
+{
+    let found = inclusion_in(tokens.peek());
+    tokens.take(found)
+}
+
+/// An operator that assigns.
+#[tactic(auto, using(dp_rules::proofs::Taking::sort_taken))]
+pub(crate) fn assignment(tokens: &mut Tokens<'_>) -> Result<Assignment, Refusal>
+    ensures { Reads (input.sort grammar.assignment_in tokens.old) result tokens.new }
+{
+    let found = assignment_in(tokens.peek());
+    tokens.take(found)
+}
+
+/// A keyword that names a constant.
+#[tactic(auto, using(dp_rules::proofs::Taking::sort_taken))]
+pub(crate) fn constant(tokens: &mut Tokens<'_>) -> Result<Expression, Refusal>
+    ensures { Reads (input.sort grammar.constant_in tokens.old) result tokens.new }
+{
+    let found = constant_in(tokens.peek());
+    tokens.take(found)
+}
+
+/// An operator of this rank.
+#[tactic(auto, using(dp_rules::proofs::Taking::sort_taken))]
+pub(crate) fn operator(tokens: &mut Tokens<'_>, rank: Rank) -> Result<Operator, Refusal>
+    ensures { Reads (input.sort (grammar.operator_in rank) tokens.old) result tokens.new }
+{
+    let found = operator_in(rank, tokens.peek());
+    tokens.take(found)
+}
