@@ -46,7 +46,7 @@ pub fn step_place(
     step_from(alloc, op, order, name, indices, old, state)
 }
 
-/// A `++` or `--` of an old value.
+// A `++` or `--` of an old value.
 fn step_from(
     alloc: Global,
     op: UnaryOp,
@@ -62,7 +62,7 @@ fn step_from(
     write_step(alloc, order, name, indices, old, new, state)
 }
 
-/// Writes the new value of a `++` or `--`.
+// Writes the new value of a `++` or `--`.
 fn write_step(
     alloc: Global,
     order: Order,
@@ -78,7 +78,7 @@ fn write_step(
     Ok(ordered(order, old, new))
 }
 
-/// The value of a `++` or `--`.
+// The value of a `++` or `--`.
 fn ordered(order: Order, old: Value, new: Value) -> Value
     ensures { result ≡ stepped order old new }
 {

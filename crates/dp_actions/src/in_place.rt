@@ -38,7 +38,7 @@ pub fn entry_of<'a>(base: &'a Expression, indices: &'a [Expression]) -> Option<E
     }
 }
 
-/// The entry of a variable under these indices, where the first one changes nothing.
+// The entry of a variable under these indices, where the first one changes nothing.
 fn pure_entry<'a>(name: &'a Bytes, indices: &'a [Expression]) -> Option<Entry<'a>>
     ensures { IfSome result (λ entry. (entry.name.now ≡ name.now) × (indices.now ≡ entry.index.now ∷ entry.rest.now) × (pure entry.index.now ≡ true)) }
 {

@@ -43,7 +43,7 @@ pub fn put(
     put_under(alloc, array, &key, value, state)
 }
 
-/// An array with a value under a key.
+// An array with a value under a key.
 fn put_under(
     alloc: Global,
     array: Value,

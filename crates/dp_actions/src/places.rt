@@ -73,7 +73,7 @@ pub fn assign_place(
     assign_keyed(name, keys.as_slice(), push, value, state)
 }
 
-/// The same under keys.
+// The same under keys.
 fn assign_keyed(
     name: &Bytes,
     keys: &[Option<Key>],
@@ -88,7 +88,7 @@ fn assign_keyed(
     Ok(copy)
 }
 
-/// Writes a value under keys.
+// Writes a value under keys.
 fn write_keyed(
     name: &Bytes,
     keys: &[Option<Key>],
@@ -123,7 +123,7 @@ pub fn unset_place(
     settled(step, state)
 }
 
-/// The keys that indices become. One that is an array becomes none.
+// The keys that indices become. One that is an array becomes none.
 fn keys_of(alloc: Global, indices: &[Value]) -> Result<Vec<Option<Key>>, Memory>
     ensures { IfOk result (λ keys. keys.items ≡ keys_of_indices indices.now) }
 {

@@ -10,7 +10,7 @@ use std::alloc::Global;
 use std::io::{ErrorKind, Read, Write};
 
 /// One read, made again where a signal interrupts it.
-pub fn read_some<R: Read>(reader: &mut R, buf: &mut [u8]) -> Result<usize, Failed>
+pub(crate) fn read_some<R: Read>(reader: &mut R, buf: &mut [u8]) -> Result<usize, Failed>
     ensures bound { IfOk result (λ count. count ≤ length buf.new) }
     ensures bytes { ReadConsumes (R.remaining reader.old) (R.remaining reader.new) result buf.new }
 {
@@ -28,7 +28,7 @@ pub fn read_some<R: Read>(reader: &mut R, buf: &mut [u8]) -> Result<usize, Faile
 }
 
 /// One write, made again where a signal interrupts it. It takes at least one byte.
-pub fn write_some<W: Write>(writer: &mut W, bytes: &[u8]) -> Result<usize, Failed>
+pub(crate) fn write_some<W: Write>(writer: &mut W, bytes: &[u8]) -> Result<usize, Failed>
     ensures some { IfOk result (λ count. (0 < count) × (count ≤ length bytes.now)) }
     ensures bytes { WriteAppends (W.contents writer.old) (W.contents writer.new) result bytes.now }
 {
@@ -60,7 +60,7 @@ fn write_pieces<W: Write>(writer: &mut W, bytes: &[u8]) -> Result<(), Failed>
 
 /// Writes all of the bytes, or fails after a front of them, and hands them on to where the writer writes.
 #[tactic(auto, using(crate::proofs::Fronts::all_and_kept))]
-pub fn write_whole<W: Write>(writer: &mut W, bytes: &[u8]) -> Result<(), Failed>
+pub(crate) fn write_whole<W: Write>(writer: &mut W, bytes: &[u8]) -> Result<(), Failed>
     ensures { PutAppends (W.contents writer.old) (W.contents writer.new) result bytes.now }
 {
     write_pieces(writer, bytes)?;
@@ -71,7 +71,7 @@ pub fn write_whole<W: Write>(writer: &mut W, bytes: &[u8]) -> Result<(), Failed>
 }
 
 /// The first `limit + 1` bytes that the reader gives, or all of them where there are fewer.
-pub fn read_front<R: Read>(
+pub(crate) fn read_front<R: Read>(
     alloc: Global,
     reader: &mut R,
     limit: usize,

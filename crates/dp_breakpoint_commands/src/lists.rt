@@ -20,13 +20,13 @@ use dp_value::Memory;
 use dp_wire::PACKET_LIMIT;
 use std::alloc::Global;
 
-/// The most bytes of a packet's text.
+// The most bytes of a packet's text.
 const LIMIT: u64 = PACKET_LIMIT as u64;
 
-/// The size of a response without its command's name, its id and what stands in it.
+// The size of a response without its command's name, its id and what stands in it.
 const BARE_SIZE: u64 = 98;
 
-/// The room for breakpoints in the response to a command.
+// The room for breakpoints in the response to a command.
 fn room_for_lines(to: &Addressee) -> u64
     ensures { result + length (text (packet.Response (spec.lines_response to.now.command to.now.id []))) ≡ packet_limit }
 {
@@ -35,7 +35,7 @@ fn room_for_lines(to: &Addressee) -> u64
     LIMIT - (BARE_SIZE + command + id)
 }
 
-/// The first of the breakpoints as a packet shows them, up to the one for which there is no room.
+// The first of the breakpoints as a packet shows them, up to the one for which there is no room.
 fn fitting_lines(
     alloc: Global,
     bundle: &Bundle,

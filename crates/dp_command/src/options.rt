@@ -21,7 +21,7 @@ pub fn option_value(options: &[(u8, Bytes)], letter: u8) -> Option<&[u8]>
     None
 }
 
-pub fn is_given(options: &[(u8, Bytes)], letter: u8) -> bool
+pub(crate) fn is_given(options: &[(u8, Bytes)], letter: u8) -> bool
     ensures { result ≡ spec.is_given letter options.now }
 {
     option_value(options, letter).is_some()
@@ -41,7 +41,11 @@ pub fn has_duplicate(options: &[(u8, Bytes)]) -> bool
 }
 
 /// A copy of the value of a letter, where one is given.
-pub fn copy_of(alloc: Global, options: &[(u8, Bytes)], letter: u8) -> Result<Option<Bytes>, Memory>
+pub(crate) fn copy_of(
+    alloc: Global,
+    options: &[(u8, Bytes)],
+    letter: u8,
+) -> Result<Option<Bytes>, Memory>
     ensures { IfOk result (λ value. value ≡ spec.given letter options.now) }
 {
     match option_value(options, letter) {
@@ -51,7 +55,11 @@ pub fn copy_of(alloc: Global, options: &[(u8, Bytes)], letter: u8) -> Result<Opt
 }
 
 /// A copy of the value of a letter that is required.
-pub fn text_given(alloc: Global, options: &[(u8, Bytes)], letter: u8) -> Result<Bytes, Memory>
+pub(crate) fn text_given(
+    alloc: Global,
+    options: &[(u8, Bytes)],
+    letter: u8,
+) -> Result<Bytes, Memory>
     ensures { IfOk result (λ value. value ≡ spec.text_given letter options.now) }
 {
     match option_value(options, letter) {
@@ -60,7 +68,7 @@ pub fn text_given(alloc: Global, options: &[(u8, Bytes)], letter: u8) -> Result<
     }
 }
 
-pub fn number_given(options: &[(u8, Bytes)], letter: u8) -> Option<u32>
+pub(crate) fn number_given(options: &[(u8, Bytes)], letter: u8) -> Option<u32>
     ensures { result ≡ spec.number_given letter options.now }
 {
     match option_value(options, letter) {
@@ -69,13 +77,13 @@ pub fn number_given(options: &[(u8, Bytes)], letter: u8) -> Option<u32>
     }
 }
 
-pub fn number_or_zero(options: &[(u8, Bytes)], letter: u8) -> u32
+pub(crate) fn number_or_zero(options: &[(u8, Bytes)], letter: u8) -> u32
     ensures { result ≡ spec.number_or_zero letter options.now }
 {
     number_given(options, letter).unwrap_or(0)
 }
 
-pub fn mode_of(value: &[u8]) -> Option<StreamMode>
+pub(crate) fn mode_of(value: &[u8]) -> Option<StreamMode>
     ensures { result ≡ spec.mode_of value.now }
 {
     match value {
@@ -86,7 +94,7 @@ pub fn mode_of(value: &[u8]) -> Option<StreamMode>
     }
 }
 
-pub fn mode_given(options: &[(u8, Bytes)], letter: u8) -> StreamMode
+pub(crate) fn mode_given(options: &[(u8, Bytes)], letter: u8) -> StreamMode
     ensures { result ≡ spec.mode_given letter options.now }
 {
     let mode = match option_value(options, letter) {

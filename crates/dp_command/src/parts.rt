@@ -12,7 +12,7 @@ const LONGEST: usize = 64;
 
 // What stands behind one space or more.
 #[tactic(auto, unfolding(crate::specs::inner::Reading::spaces_at))]
-pub fn spaces(bytes: &[u8]) -> Result<&[u8], LineError>
+pub(crate) fn spaces(bytes: &[u8]) -> Result<&[u8], LineError>
     ensures { Gives (λ rest. rest.now) result (spaces_at bytes.now) }
 {
     match bytes {
@@ -22,7 +22,7 @@ pub fn spaces(bytes: &[u8]) -> Result<&[u8], LineError>
 }
 
 #[tactic(auto, unfolding(crate::specs::inner::Reading::name_at))]
-pub fn name(bytes: &[u8]) -> Result<(&[u8], &[u8]), LineError>
+pub(crate) fn name(bytes: &[u8]) -> Result<(&[u8], &[u8]), LineError>
     ensures { Gives (λ found. (found.0.now, found.1.now)) result (name_at bytes.now) }
 {
     let (name, rest) = run(Sort::Name, bytes);
@@ -49,7 +49,7 @@ fn dashed_letter(bytes: &[u8]) -> Option<(u8, &[u8])>
 
 // The letter of the option that stands here.
 #[tactic(auto, unfolding(crate::specs::inner::Reading::letter_at, crate::specs::inner::Reading::spaces_at))]
-pub fn letter(bytes: &[u8]) -> Option<(u8, &[u8])>
+pub(crate) fn letter(bytes: &[u8]) -> Option<(u8, &[u8])>
     ensures { MatchOption result (letter_at bytes.now ≡ None) (λ found. letter_at bytes.now ≡ Some (found.0, found.1.now)) }
 {
     match bytes {
@@ -72,7 +72,7 @@ fn text(bytes: &[u8]) -> Result<&[u8], LineError>
 
 // The text of the payload where there is one, up to the end of the line.
 #[tactic(auto, unfolding(crate::specs::inner::Reading::ending_at))]
-pub fn ending(bytes: &[u8]) -> Result<Option<&[u8]>, LineError>
+pub(crate) fn ending(bytes: &[u8]) -> Result<Option<&[u8]>, LineError>
     ensures { Gives (λ found. seen_text (λ t. t.now) found) result (ending_at bytes.now) }
 {
     if run(Sort::Space, bytes).1.is_empty() {

@@ -7,7 +7,7 @@ use crate::names::CommandName;
 
 /// What the value of an option may be.
 #[derive(Clone, Copy, Debug)]
-pub enum Kind {
+pub(crate) enum Kind {
     /// Any bytes.
     Text,
     /// A decimal of at most 2,147,483,647.
@@ -18,14 +18,14 @@ pub enum Kind {
 
 /// An option that a command has: its letter, and what its value may be.
 #[derive(Clone, Copy, Debug)]
-pub enum Slot {
+pub(crate) enum Slot {
     Required(u8, Kind),
     Optional(u8, Kind),
 }
 
 /// Whether a payload stands in a command.
 #[derive(Clone, Copy, Debug)]
-pub enum Presence {
+pub(crate) enum Presence {
     Never,
     Optional,
     Required,
@@ -87,7 +87,7 @@ const SOURCE: [Slot; 3] = [
 
 /// The options that a command has besides `-i`.
 #[tactic(auto, unfolding(crate::specs::Table::slots_of))]
-pub fn slots_of(name: CommandName) -> &'static [Slot]
+pub(crate) fn slots_of(name: CommandName) -> &'static [Slot]
     ensures { result.now ≡ slots_of name }
 {
     match name {
@@ -109,7 +109,7 @@ pub fn slots_of(name: CommandName) -> &'static [Slot]
 
 /// Whether a command has a payload.
 #[tactic(auto, unfolding(crate::specs::Table::payload_of))]
-pub fn payload_of(name: CommandName) -> Presence
+pub(crate) fn payload_of(name: CommandName) -> Presence
     ensures { result ≡ payload_of name }
 {
     match name {

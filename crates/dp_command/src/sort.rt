@@ -7,7 +7,7 @@ ghost use Rattle.dp_command.specs.inner.Reading.{test_of, run_at};
 
 /// A sort of bytes of which a part of a line consists.
 #[derive(Clone, Copy, Debug)]
-pub enum Sort {
+pub(crate) enum Sort {
     /// Spaces.
     Space,
     /// What a command's name may hold.
@@ -19,7 +19,7 @@ pub enum Sort {
 }
 
 impl Sort {
-    pub fn has(self, b: u8) -> bool
+    pub(crate) fn has(self, b: u8) -> bool
         ensures { result ≡ test_of self b }
     {
         match self {
@@ -31,7 +31,7 @@ impl Sort {
     }
 }
 
-pub fn is_letter(b: u8) -> bool
+pub(crate) fn is_letter(b: u8) -> bool
     ensures { result ≡ sorts.is_letter b }
 {
     (b'a' <= b && b <= b'z') || (b'A' <= b && b <= b'Z')
@@ -49,7 +49,7 @@ fn run_len(sort: Sort, bytes: &[u8]) -> usize
 }
 
 // The run of bytes of a sort at the front, and what stands behind it.
-pub fn run(sort: Sort, bytes: &[u8]) -> (&[u8], &[u8])
+pub(crate) fn run(sort: Sort, bytes: &[u8]) -> (&[u8], &[u8])
     ensures { (result.0.now, result.1.now) ≡ run_at (test_of sort) bytes.now }
 {
     bytes.split_at(run_len(sort, bytes))

@@ -109,7 +109,7 @@ fn given(alloc: Global, bytes: &[u8]) -> Result<(Vec<(u8, Bytes)>, &[u8]), LineE
 }
 
 #[tactic(auto, unfolding(crate::specs::inner::Reading::options_at))]
-pub fn options(alloc: Global, bytes: &[u8]) -> Result<(Items<(u8, Bytes)>, &[u8]), LineError>
+pub(crate) fn options(alloc: Global, bytes: &[u8]) -> Result<(Items<(u8, Bytes)>, &[u8]), LineError>
     ensures { Gives (λ found. (found.0, found.1.now)) result (options_at bytes.now) }
 {
     let (options, rest) = given(alloc, bytes)?;
@@ -118,7 +118,7 @@ pub fn options(alloc: Global, bytes: &[u8]) -> Result<(Items<(u8, Bytes)>, &[u8]
 
 // What a text decodes to: strict base64, of which each list of bytes has one.
 #[tactic(auto, unfolding(base64::specs::GeneralPurpose::decoded_of))]
-pub fn payload(alloc: Global, text: &[u8]) -> Result<Bytes, LineError>
+pub(crate) fn payload(alloc: Global, text: &[u8]) -> Result<Bytes, LineError>
     ensures { Gives (λ p. p) result (decoded_of standard text.now) }
 {
     match STANDARD.decode(alloc, text) {

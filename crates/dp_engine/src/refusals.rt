@@ -10,7 +10,7 @@ use dp_features::Setting;
 use std::alloc::Global;
 
 /// Why a feature is not set to a value. Takes no memory.
-pub fn feature_refusal(name: &[u8], value: &[u8]) -> Option<u16>
+pub(crate) fn feature_refusal(name: &[u8], value: &[u8]) -> Option<u16>
     ensures { result ≡ first_code ((is_other_encoding name.now value.now, 900)
         ∷ (is_none (setting_named name.now value.now), 3) ∷ []) }
 {

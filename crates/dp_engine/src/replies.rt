@@ -21,13 +21,13 @@ use std::alloc::Global;
 
 /// What one command tells, and how it has ended its session, if it has.
 #[derive(Debug, Drop)]
-pub struct Turn {
+pub(crate) struct Turn {
     /// The text of its response.
     pub text: Bytes,
     pub ended: Option<SessionEnd>,
 }
 
-/// A response, after which the session has ended so, or goes on.
+// A response, after which the session has ended so, or goes on.
 fn told(alloc: Global, response: Response, ended: Option<SessionEnd>) -> Result<Turn, Memory>
     requires { Fits response }
     ensures { IfOk result (Tells response ended) }
@@ -37,7 +37,7 @@ fn told(alloc: Global, response: Response, ended: Option<SessionEnd>) -> Result<
 }
 
 /// A response, after which the session goes on.
-pub fn tell(alloc: Global, response: Response) -> Result<Turn, Memory>
+pub(crate) fn tell(alloc: Global, response: Response) -> Result<Turn, Memory>
     requires { Fits response }
     ensures { IfOk result (Tells response None) }
 {
@@ -45,7 +45,7 @@ pub fn tell(alloc: Global, response: Response) -> Result<Turn, Memory>
 }
 
 /// An error with this code.
-pub fn refuse(alloc: Global, to: &Addressee, code: u16) -> Result<Turn, Memory>
+pub(crate) fn refuse(alloc: Global, to: &Addressee, code: u16) -> Result<Turn, Memory>
     requires { IsCode code }
     ensures { IfOk result (Tells (fault_response to.now.command to.now.id code) None) }
 {
@@ -54,7 +54,7 @@ pub fn refuse(alloc: Global, to: &Addressee, code: u16) -> Result<Turn, Memory>
 }
 
 /// The state and the reason of a session that stands so.
-pub fn tell_status(alloc: Global, to: &Addressee, standing: Standing) -> Result<Turn, Memory>
+pub(crate) fn tell_status(alloc: Global, to: &Addressee, standing: Standing) -> Result<Turn, Memory>
     ensures { IfOk result (Tells (status_response to.now.command to.now.id
         (phase_name (phase_of standing)) (reason_name (reason_at standing))) None) }
 {
@@ -65,7 +65,7 @@ pub fn tell_status(alloc: Global, to: &Addressee, standing: Standing) -> Result<
 }
 
 /// A feature's value, or whether there is a command of this name.
-pub fn tell_feature(
+pub(crate) fn tell_feature(
     alloc: Global,
     to: &Addressee,
     features: &Features,
@@ -80,7 +80,7 @@ pub fn tell_feature(
     }
 }
 
-/// A feature's value.
+// A feature's value.
 fn tell_value(
     alloc: Global,
     to: &Addressee,
@@ -97,7 +97,7 @@ fn tell_value(
     tell(alloc, response)
 }
 
-/// Whether there is a command of a name that no feature has.
+// Whether there is a command of a name that no feature has.
 fn tell_command(
     alloc: Global,
     to: &Addressee,
@@ -113,7 +113,7 @@ fn tell_command(
     tell(alloc, response)
 }
 
-/// How it is told whether a command has this name.
+// How it is told whether a command has this name.
 fn supported(name: &[u8]) -> &'static [u8]
     ensures text { result.now ≡ flag (is_some (name_of name.now)) }
     ensures short { length result.now ≤ 16 }
@@ -122,7 +122,7 @@ fn supported(name: &[u8]) -> &'static [u8]
 }
 
 /// The session has stopped, and ends so.
-pub fn stop(alloc: Global, to: &Addressee, end: SessionEnd) -> Result<Turn, Memory>
+pub(crate) fn stop(alloc: Global, to: &Addressee, end: SessionEnd) -> Result<Turn, Memory>
     ensures { IfOk result (Tells (spec.stopped_response to.now.command to.now.id) (Some end)) }
 {
     let response = responses::status(alloc, to, b"stopped", b"ok")?;
@@ -130,7 +130,7 @@ pub fn stop(alloc: Global, to: &Addressee, end: SessionEnd) -> Result<Turn, Memo
 }
 
 /// The session ends, and the program runs on by itself.
-pub fn detach(alloc: Global, to: &Addressee) -> Result<Turn, Memory>
+pub(crate) fn detach(alloc: Global, to: &Addressee) -> Result<Turn, Memory>
     ensures { IfOk result (Tells
         (status_response to.now.command to.now.id (codes "stopping") (codes "ok")) (Some SessionEnd.Detached)) }
 {

@@ -18,7 +18,7 @@ fn pair(alloc: Global, name: &[u8], value: &[u8]) -> Result<(Bytes, Bytes), Memo
     Ok((name, value))
 }
 
-/// Two attributes.
+// Two attributes.
 fn pairs(
     alloc: Global,
     first: (&[u8], &[u8]),
@@ -52,7 +52,7 @@ fn response(
 }
 
 /// The text of the packet of a response.
-pub fn text(alloc: Global, response: Response) -> Result<Bytes, Memory>
+pub(crate) fn text(alloc: Global, response: Response) -> Result<Bytes, Memory>
     requires { Fits response }
     ensures value { IfOk result (λ text. text ≡ spec.response_text response) }
     ensures is_text { IfOk result IsPacketText }
@@ -61,7 +61,7 @@ pub fn text(alloc: Global, response: Response) -> Result<Bytes, Memory>
 }
 
 /// A response that tells a status and its reason.
-pub fn status(
+pub(crate) fn status(
     alloc: Global,
     to: &Addressee,
     status: &[u8],
@@ -76,7 +76,7 @@ pub fn status(
     response(alloc, to, attributes, Body::Nothing)
 }
 
-/// What tells a value, where there is one.
+// What tells a value, where there is one.
 fn told(value: Option<Bytes>) -> Body
     ensures { result ≡ spec.value_body value }
 {
@@ -87,7 +87,7 @@ fn told(value: Option<Bytes>) -> Body
 }
 
 /// A feature, whether it is supported, and its value where it has one.
-pub fn feature(
+pub(crate) fn feature(
     alloc: Global,
     to: &Addressee,
     feature: &[u8],
@@ -106,7 +106,7 @@ pub fn feature(
 }
 
 /// A feature that was set.
-pub fn feature_set(alloc: Global, to: &Addressee, feature: &[u8]) -> Result<Response, Memory>
+pub(crate) fn feature_set(alloc: Global, to: &Addressee, feature: &[u8]) -> Result<Response, Memory>
     requires feature { length feature.now ≤ 1048576 }
     ensures value { IfOk result (λ r. r ≡ spec.set_response to.now.command to.now.id feature.now) }
     ensures fits { IfOk result Fits }
@@ -115,7 +115,7 @@ pub fn feature_set(alloc: Global, to: &Addressee, feature: &[u8]) -> Result<Resp
     response(alloc, to, attributes, Body::Nothing)
 }
 
-/// Whether a command succeeds, as an attribute.
+// Whether a command succeeds, as an attribute.
 fn success_attributes(alloc: Global, success: bool) -> Result<Items<(Bytes, Bytes)>, Memory>
     ensures { IfOk result (λ pairs. pairs ≡ (codes "success", flag_text success) ∷ []) }
 {
@@ -125,7 +125,7 @@ fn success_attributes(alloc: Global, success: bool) -> Result<Items<(Bytes, Byte
 }
 
 /// A command that succeeds or does not.
-pub fn success(alloc: Global, to: &Addressee, success: bool) -> Result<Response, Memory>
+pub(crate) fn success(alloc: Global, to: &Addressee, success: bool) -> Result<Response, Memory>
     ensures value { IfOk result (λ r. r ≡ spec.success_response to.now.command to.now.id success) }
     ensures fits { IfOk result Fits }
 {
@@ -134,7 +134,7 @@ pub fn success(alloc: Global, to: &Addressee, success: bool) -> Result<Response,
 }
 
 /// How it is told whether something is so.
-pub fn flag(holds: bool) -> &'static [u8]
+pub(crate) fn flag(holds: bool) -> &'static [u8]
     ensures text { result.now ≡ flag_text holds }
     ensures short { length result.now ≤ 16 }
 {
@@ -142,7 +142,7 @@ pub fn flag(holds: bool) -> &'static [u8]
 }
 
 /// An error with this code.
-pub fn fault(alloc: Global, to: &Addressee, code: u16) -> Result<Response, Memory>
+pub(crate) fn fault(alloc: Global, to: &Addressee, code: u16) -> Result<Response, Memory>
     requires code { IsCode code }
     ensures value { IfOk result (λ r. r ≡ spec.fault_response to.now.command to.now.id code) }
     ensures fits { IfOk result Fits }

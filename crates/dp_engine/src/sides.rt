@@ -6,7 +6,7 @@ use dp_command::Request;
 
 /// What a request is answered from.
 #[derive(Clone, Copy, Debug, PartialEq, Eq)]
-pub enum Side {
+pub(crate) enum Side {
     /// What the session itself knows, and where its program goes on to.
     Session,
     /// The breakpoints that are held.
@@ -19,7 +19,7 @@ pub enum Side {
 
 impl Side {
     /// What a request is answered from. Takes no memory.
-    pub fn of(request: &Request) -> Side
+    pub(crate) fn of(request: &Request) -> Side
         ensures { result ≡ side_of request.now }
     {
         match request {

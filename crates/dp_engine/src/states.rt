@@ -9,7 +9,7 @@ use dp_state::Outcome;
 
 /// The state of a session: DBGp 1.0, "status".
 #[derive(Clone, Copy, Debug, PartialEq, Eq)]
-pub enum Phase {
+pub(crate) enum Phase {
     /// Before the first continuation.
     Starting,
     /// At a moment.
@@ -20,7 +20,7 @@ pub enum Phase {
 
 /// Why a session came into its state: DBGp 1.0, "status".
 #[derive(Clone, Copy, Debug, PartialEq, Eq)]
-pub enum Reason {
+pub(crate) enum Reason {
     Ok,
     /// The program could not go on.
     Error,
@@ -30,14 +30,14 @@ pub enum Reason {
 
 /// Where a session stands: its state, and how its program has ended, if it has.
 #[derive(Clone, Copy, Debug, PartialEq, Eq)]
-pub enum Standing {
+pub(crate) enum Standing {
     Starting,
     Break,
     Stopping(Outcome),
 }
 
 impl Standing {
-    pub fn phase(self) -> Phase
+    pub(crate) fn phase(self) -> Phase
         ensures { result ≡ phase_of self }
     {
         match self {
@@ -47,7 +47,7 @@ impl Standing {
         }
     }
 
-    pub fn reason(self) -> Reason
+    pub(crate) fn reason(self) -> Reason
         ensures { result ≡ reason_at self }
     {
         match self {
@@ -58,7 +58,7 @@ impl Standing {
     }
 
     /// How a session ends that is stopped: a program that has not ended is killed.
-    pub fn end_by_stop(self) -> SessionEnd
+    pub(crate) fn end_by_stop(self) -> SessionEnd
         ensures { result ≡ end_of self }
     {
         match self {
@@ -71,7 +71,7 @@ impl Standing {
 
 impl Phase {
     /// Its name in a response. Takes no memory.
-    pub fn name(self) -> &'static [u8]
+    pub(crate) fn name(self) -> &'static [u8]
         ensures text { result.now ≡ spec.phase_name self }
         ensures short { length result.now ≤ 16 }
     {
@@ -82,7 +82,7 @@ impl Phase {
         }
     }
 
-    /// Whether the program has not ended.
+    // Whether the program has not ended.
     fn is_before_end(self) -> bool
         ensures { result ≡ spec.before_end self }
     {
@@ -93,7 +93,7 @@ impl Phase {
         }
     }
 
-    /// Whether the program stands at a moment.
+    // Whether the program stands at a moment.
     fn is_at_moment(self) -> bool
         ensures { result ≡ spec.at_moment self }
     {
@@ -105,7 +105,7 @@ impl Phase {
     }
 
     /// Whether the state allows a command. Takes no memory.
-    pub fn allows(self, name: CommandName) -> bool
+    pub(crate) fn allows(self, name: CommandName) -> bool
         ensures { result ≡ spec.allows self name }
     {
         match name {
@@ -140,7 +140,7 @@ impl Phase {
 
 impl Reason {
     /// The reason that a program's end gives.
-    pub fn of(outcome: Outcome) -> Self
+    pub(crate) fn of(outcome: Outcome) -> Self
         ensures { result ≡ spec.reason_of outcome }
     {
         match outcome {
@@ -156,7 +156,7 @@ impl Reason {
     }
 
     /// Its name in a response. Takes no memory.
-    pub fn name(self) -> &'static [u8]
+    pub(crate) fn name(self) -> &'static [u8]
         ensures text { result.now ≡ spec.reason_name self }
         ensures short { length result.now ≤ 16 }
     {

@@ -13,7 +13,7 @@ use dp_view_commands::ViewError;
 use dp_write_commands::{Written, write_response};
 use std::alloc::Global;
 
-/// Puts a write behind others, where there is room for it.
+// Puts a write behind others, where there is room for it.
 fn keep(writes: &mut Vec<NumberedWrite>, write: NumberedWrite)
     requires { vec_len writes.old < vec_capacity writes.old }
     ensures { writes.new.items ≡ writes.old.items ++ write ∷ [] }
@@ -27,7 +27,7 @@ fn keep(writes: &mut Vec<NumberedWrite>, write: NumberedWrite)
 
 /// Makes the write that a command asks for at a moment, and keeps it behind the others. Where it is refused, or memory runs
 /// out, nothing has changed.
-pub fn accept(
+pub(crate) fn accept(
     alloc: Global,
     bundle: &Bundle,
     features: &Features,

@@ -12,7 +12,7 @@ use crate::script::Script;
 use dp_value::Items;
 use std::alloc::Global;
 
-/// Puts what the line of this number says behind what the lines before it say.
+// Puts what the line of this number says behind what the lines before it say.
 fn put_line(
     alloc: Global,
     line: &[u8],

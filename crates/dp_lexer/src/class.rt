@@ -6,7 +6,7 @@ ghost use Rattle.dp_lexer.specs.inner.Lexing as spec;
 
 /// What a byte may begin.
 #[derive(Clone, Copy, Debug, PartialEq, Eq)]
-pub enum Class {
+pub(crate) enum Class {
     Name,
     Number,
     Space,
@@ -17,58 +17,58 @@ pub enum Class {
     Other,
 }
 
-pub fn is_space(b: u8) -> bool
+pub(crate) fn is_space(b: u8) -> bool
     ensures { result ≡ sorts.is_space b }
 {
     b == b' ' || b == b'\t' || b == b'\n' || b == b'\r'
 }
 
-pub fn is_digit(b: u8) -> bool
+pub(crate) fn is_digit(b: u8) -> bool
     ensures { result ≡ sorts.is_digit b }
 {
     b >= b'0' && b <= b'9'
 }
 
-pub fn is_octal(b: u8) -> bool
+pub(crate) fn is_octal(b: u8) -> bool
     ensures { result ≡ sorts.is_octal b }
 {
     b >= b'0' && b <= b'7'
 }
 
-pub fn is_hexadecimal(b: u8) -> bool
+pub(crate) fn is_hexadecimal(b: u8) -> bool
     ensures { result ≡ sorts.is_hexadecimal b }
 {
     is_digit(b) || (b >= b'a' && b <= b'f') || (b >= b'A' && b <= b'F')
 }
 
-pub fn is_letter(b: u8) -> bool
+pub(crate) fn is_letter(b: u8) -> bool
     ensures { result ≡ sorts.is_letter b }
 {
     (b >= b'a' && b <= b'z') || (b >= b'A' && b <= b'Z')
 }
 
 // Whether a name may begin with the byte.
-pub fn is_start(b: u8) -> bool
+pub(crate) fn is_start(b: u8) -> bool
     ensures { result ≡ sorts.is_start b }
 {
     is_letter(b) || b == b'_' || b >= 0x80
 }
 
 // Whether a name may go on with the byte.
-pub fn is_part(b: u8) -> bool
+pub(crate) fn is_part(b: u8) -> bool
     ensures { result ≡ sorts.is_part b }
 {
     is_start(b) || is_digit(b)
 }
 
 // Whether the byte may not stand directly behind a number.
-pub fn runs_on(b: u8) -> bool
+pub(crate) fn runs_on(b: u8) -> bool
     ensures { result ≡ sorts.runs_on b }
 {
     is_digit(b) || is_letter(b) || b == b'_' || b == b'.'
 }
 
-pub fn class_of(b: u8) -> Class
+pub(crate) fn class_of(b: u8) -> Class
     ensures { result ≡ spec.class_of b }
 {
     if is_start(b) {

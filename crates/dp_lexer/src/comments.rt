@@ -66,7 +66,7 @@ fn close_len(z: &[u8]) -> Option<usize>
 }
 
 /// The comment whose `#` stands before these bytes.
-pub fn behind_hash(rest: &[u8]) -> Result<(Option<TokenKind>, usize), Wrong>
+pub(crate) fn behind_hash(rest: &[u8]) -> Result<(Option<TokenKind>, usize), Wrong>
     ensures { Finds (spec.hash_at rest.now) result }
 {
     match rest {
@@ -76,7 +76,7 @@ pub fn behind_hash(rest: &[u8]) -> Result<(Option<TokenKind>, usize), Wrong>
 }
 
 /// The comment whose first slash stands before these bytes.
-pub fn behind_slash(rest: &[u8]) -> Result<(Option<TokenKind>, usize), Wrong>
+pub(crate) fn behind_slash(rest: &[u8]) -> Result<(Option<TokenKind>, usize), Wrong>
     ensures { Finds (spec.slash_at rest.now) result }
 {
     match rest {

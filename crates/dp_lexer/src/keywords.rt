@@ -9,7 +9,7 @@ use crate::token::TokenKind;
 use std::alloc::{AllocError, Global};
 
 /// Whether a name is this word, in any case of letters.
-pub fn is_word(name: &[u8], word: &[u8]) -> bool
+pub(crate) fn is_word(name: &[u8], word: &[u8]) -> bool
     ensures { result ≡ str_eq_ignore_ascii_case name.now word.now }
 {
     name.eq_ignore_ascii_case(word)
@@ -92,7 +92,7 @@ fn keyword(name: &[u8]) -> Option<TokenKind>
 }
 
 /// Whether a name is a keyword.
-pub fn is_keyword(name: &[u8]) -> bool
+pub(crate) fn is_keyword(name: &[u8]) -> bool
     ensures { result ≡ is_some (words.keyword_of name.now) }
 {
     match keyword(name) {
@@ -102,7 +102,7 @@ pub fn is_keyword(name: &[u8]) -> bool
 }
 
 /// What a name is: a keyword or itself.
-pub fn word_of(alloc: Global, name: &[u8]) -> Result<TokenKind, AllocError>
+pub(crate) fn word_of(alloc: Global, name: &[u8]) -> Result<TokenKind, AllocError>
     ensures { IfOk result (λ kind. kind ≡ words.word_of name.now) }
 {
     match keyword(name) {

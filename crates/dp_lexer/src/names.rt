@@ -26,7 +26,7 @@ fn name_len(z: &[u8]) -> usize
 }
 
 // The name or the keyword that stands at the front.
-pub fn name(alloc: Global, z: &[u8]) -> Result<(Option<TokenKind>, usize), Wrong>
+pub(crate) fn name(alloc: Global, z: &[u8]) -> Result<(Option<TokenKind>, usize), Wrong>
     ensures { Finds (spec.name_at z.now) result }
 {
     let len = name_len(z);
@@ -37,7 +37,7 @@ pub fn name(alloc: Global, z: &[u8]) -> Result<(Option<TokenKind>, usize), Wrong
 }
 
 // The variable whose dollar stands before these bytes.
-pub fn variable(alloc: Global, rest: &[u8]) -> Result<(Option<TokenKind>, usize), Wrong>
+pub(crate) fn variable(alloc: Global, rest: &[u8]) -> Result<(Option<TokenKind>, usize), Wrong>
     ensures { Finds (spec.dollar_at rest.now) result }
 {
     match rest {

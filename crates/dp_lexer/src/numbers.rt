@@ -15,7 +15,7 @@ use crate::token::TokenKind;
 const WIDEST: u64 = 9223372036854775807;
 
 // Whether a hexadecimal digit stands at the front.
-pub fn begins_hexadecimal(z: &[u8]) -> bool
+pub(crate) fn begins_hexadecimal(z: &[u8]) -> bool
     ensures { result ≡ sorts.begins sorts.is_hexadecimal z.now }
 {
     match z {
@@ -47,7 +47,7 @@ fn hexadecimal_len(z: &[u8]) -> usize
 }
 
 // What a hexadecimal digit counts.
-pub fn digit_value(d: u8) -> u64
+pub(crate) fn digit_value(d: u8) -> u64
     requires { sorts.is_hexadecimal d ≡ true }
     ensures value { result ≡ digit_value d }
     ensures small { result < 16 }
@@ -71,7 +71,7 @@ fn with_digit(value: u64, base: u64, digit: u64) -> Option<u64>
 }
 
 // The number that digits spell, where it is not too wide.
-pub fn value_of(base: u64, digits: &[u8]) -> Option<u64>
+pub(crate) fn value_of(base: u64, digits: &[u8]) -> Option<u64>
     requires base { 1 ≤ base }
     requires digits { Each sorts.is_hexadecimal digits.now }
     ensures { MatchOption result (widest < value_in base digits.now)
@@ -135,7 +135,7 @@ fn zero(z: &[u8]) -> Result<(Option<TokenKind>, usize), Wrong>
 }
 
 /// The number that stands at the front.
-pub fn number(z: &[u8]) -> Result<(Option<TokenKind>, usize), Wrong>
+pub(crate) fn number(z: &[u8]) -> Result<(Option<TokenKind>, usize), Wrong>
     ensures { Finds (spec.number_at z.now) result }
 {
     match z {

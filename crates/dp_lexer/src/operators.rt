@@ -100,7 +100,7 @@ fn double_operator(b: u8, c: u8, rest: &[u8]) -> Result<(Option<TokenKind>, usiz
 }
 
 /// The operator of this first byte, before these bytes.
-pub fn operator(b: u8, rest: &[u8]) -> Result<(Option<TokenKind>, usize), Wrong>
+pub(crate) fn operator(b: u8, rest: &[u8]) -> Result<(Option<TokenKind>, usize), Wrong>
     ensures { Finds (spec.operator_at b rest.now) result }
 {
     match rest {

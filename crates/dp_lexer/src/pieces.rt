@@ -16,7 +16,7 @@ use std::alloc::Global;
 
 /// The piece that comes next, if it is a token its kind, and its length.
 #[tactic(auto, unfolding(crate::specs::inner::Lexing::piece_at))]
-pub fn piece(alloc: Global, z: &[u8]) -> Result<(Option<TokenKind>, usize), Wrong>
+pub(crate) fn piece(alloc: Global, z: &[u8]) -> Result<(Option<TokenKind>, usize), Wrong>
     ensures { Finds (spec.piece_at z.now) result }
 {
     let [b, rest @ ..] = z else {

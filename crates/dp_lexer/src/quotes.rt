@@ -16,7 +16,7 @@ use std::alloc::{AllocError, Global};
 
 /// What a part of a text stands for: a byte, or a backslash and this byte.
 #[derive(Clone, Copy, Debug)]
-pub enum Meant {
+pub(crate) enum Meant {
     Byte(u8),
     Pair(u8),
 }
@@ -248,7 +248,11 @@ fn double_text(alloc: Global, rest: &[u8]) -> Result<(Option<TokenKind>, usize),
 }
 
 /// The text whose opening quote, of this kind, stands before these bytes.
-pub fn text(alloc: Global, quote: u8, rest: &[u8]) -> Result<(Option<TokenKind>, usize), Wrong>
+pub(crate) fn text(
+    alloc: Global,
+    quote: u8,
+    rest: &[u8],
+) -> Result<(Option<TokenKind>, usize), Wrong>
     ensures { Finds (spec.quote_at quote rest.now) result }
 {
     if quote == b'\'' {

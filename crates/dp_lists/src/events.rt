@@ -29,7 +29,7 @@ impl Model for Events {
     ghost invariant = { λ e. AllFit [] e.events.items };
 }
 
-/// The first line, and what stands behind it, if more lines do.
+// The first line, and what stands behind it, if more lines do.
 fn first_line(bytes: &[u8]) -> (&[u8], Option<&[u8]>)
     ensures lines { lines_of bytes.now ≡ result.0.now ∷ lines_in (option_copied result.1) }
     ensures less { size_of (option_copied result.1) ≤ length bytes.now }

@@ -82,7 +82,7 @@ fn spaced_mark_step(input: &mut Input<'_>, byte: u8) -> Result<ControlFlow<u8, (
 
 /// White space, and then this byte.
 #[tactic(auto, unfolding(crate::specs::inner::Reading::spaced_mark))]
-pub fn spaced_mark(input: &mut Input<'_>, byte: u8) -> Result<u8, Refusal>
+pub(crate) fn spaced_mark(input: &mut Input<'_>, byte: u8) -> Result<u8, Refusal>
     ensures { Reads (spec.spaced_mark byte input.old) result input.new }
 {
     for _turn in 0..input.left() + 1 {
@@ -123,7 +123,7 @@ pub(crate) fn spaced_value(alloc: Global, input: &mut Input<'_>) -> Result<Growi
     Err(input.refuse())
 }
 
-/// An attribute, behind those that were found.
+// An attribute, behind those that were found.
 #[tactic(auto, unfolding(crate::specs::inner::Reading::attribute))]
 fn attribute(alloc: Global, input: &mut Input<'_>, mut found: Found) -> Result<Found, Refusal>
     ensures { Reads (spec.attribute found input.old) result input.new }
@@ -157,7 +157,7 @@ fn tag_piece(alloc: Global, input: &mut Input<'_>, tag: Tag) -> Result<Tag, Refu
     })
 }
 
-/// Whether the start tag that ends here is the whole element.
+// Whether the start tag that ends here is the whole element.
 #[tactic(auto, unfolding(crate::specs::inner::Reading::tag_end))]
 fn tag_end(alloc: Global, input: &mut Input<'_>, name: Bytes, tag: Tag) -> Result<StartTag, Refusal>
     ensures { Reads (spec.tag_end name tag input.old) result input.new }
@@ -203,7 +203,7 @@ fn tag_from(
 
 /// A start tag behind its `<`.
 #[tactic(auto, unfolding(crate::specs::inner::Reading::start))]
-pub fn start(alloc: Global, input: &mut Input<'_>) -> Result<StartTag, Refusal>
+pub(crate) fn start(alloc: Global, input: &mut Input<'_>) -> Result<StartTag, Refusal>
     ensures { Reads (spec.start input.old) result input.new }
 {
     let name = Bytes::from_slice(alloc, input.name()?)?;

@@ -6,7 +6,7 @@ ghost use Rattle.dp_markup.specs.Classes as class;
 use crate::states::Radix;
 
 /// White space of markup: space, tab, line feed, carriage return.
-pub fn is_white(byte: u8) -> bool
+pub(crate) fn is_white(byte: u8) -> bool
     ensures { result ≡ class.is_white byte }
 {
     byte == b' ' || byte == b'\t' || byte == b'\n' || byte == b'\r'
@@ -24,31 +24,31 @@ fn is_digit(byte: u8) -> bool
     b'0' <= byte && byte <= b'9'
 }
 
-pub fn is_name_start(byte: u8) -> bool
+pub(crate) fn is_name_start(byte: u8) -> bool
     ensures { result ≡ class.is_name_start byte }
 {
     is_letter(byte) || byte == b'_' || byte == b':'
 }
 
-pub fn is_name_byte(byte: u8) -> bool
+pub(crate) fn is_name_byte(byte: u8) -> bool
     ensures { result ≡ class.is_name_byte byte }
 {
     is_name_start(byte) || is_digit(byte) || byte == b'-' || byte == b'.'
 }
 
-pub fn is_quote(byte: u8) -> bool
+pub(crate) fn is_quote(byte: u8) -> bool
     ensures { result ≡ class.is_quote byte }
 {
     byte == b'"' || byte == b'\''
 }
 
-pub fn is_plain_in_text(byte: u8) -> bool
+pub(crate) fn is_plain_in_text(byte: u8) -> bool
     ensures { result ≡ class.is_plain_in_text byte }
 {
     !(byte == b'<' || byte == b'&')
 }
 
-pub fn is_plain_in_value(quote: u8, byte: u8) -> bool
+pub(crate) fn is_plain_in_value(quote: u8, byte: u8) -> bool
     ensures { result ≡ class.is_plain_in_value quote byte }
 {
     !(byte == b'<' || byte == b'&' || byte == quote)

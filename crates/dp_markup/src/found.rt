@@ -12,7 +12,7 @@ use std::marker::Model;
 /// Attributes in the order in which they came, no two of which have one name. A name is looked up
 /// by its hash.
 #[derive(Debug, Drop)]
-pub struct Found {
+pub(crate) struct Found {
     attributes: IndexMap<Bytes, Bytes>,
 }
 
@@ -25,7 +25,7 @@ impl Model for Found {
 }
 
 impl Found {
-    pub fn new(alloc: Global) -> Found
+    pub(crate) fn new(alloc: Global) -> Found
         ensures { result ≡ [] }
     {
         Found {
@@ -35,7 +35,7 @@ impl Found {
 
     /// Whether no attribute has this name yet.
     #[tactic(auto, using(crate::proofs::Lookups::not_found))]
-    pub fn lacks(&self, name: &Bytes) -> bool
+    pub(crate) fn lacks(&self, name: &Bytes) -> bool
         ensures { result ≡ is_new self.now name.now }
     {
         self.attributes.get(name).is_none()
@@ -43,7 +43,7 @@ impl Found {
 
     /// Puts an attribute behind the others.
     #[tactic(auto, using(crate::proofs::Lookups::behind))]
-    pub fn add(&mut self, name: Bytes, value: Bytes) -> Result<(), Memory>
+    pub(crate) fn add(&mut self, name: Bytes, value: Bytes) -> Result<(), Memory>
         requires { is_new self.old name ≡ true }
         ensures { OnOk result (self.new ≡ self.old ++ (name, value) ∷ []) }
     {
@@ -52,7 +52,7 @@ impl Found {
     }
 
     /// The attributes.
-    pub fn into_items(self, alloc: Global) -> Result<Items<(Bytes, Bytes)>, Memory>
+    pub(crate) fn into_items(self, alloc: Global) -> Result<Items<(Bytes, Bytes)>, Memory>
         ensures { IfOk result (λ items. items ≡ self) }
     {
         let attributes: Vec<(Bytes, Bytes)> = self.attributes.into_iter().collect(alloc)?;

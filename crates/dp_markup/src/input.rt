@@ -15,7 +15,7 @@ use std::marker::Model;
 
 /// The bytes that are still to be read.
 #[derive(Drop)]
-pub struct Input<'a> {
+pub(crate) struct Input<'a> {
     rest: &'a [u8],
 }
 
@@ -28,14 +28,14 @@ impl<'a> Model for Input<'a> {
 }
 
 impl<'a> Input<'a> {
-    pub fn new(rest: &'a [u8]) -> Input<'a>
+    pub(crate) fn new(rest: &'a [u8]) -> Input<'a>
         ensures { result ≡ rest.now }
     {
         Input { rest }
     }
 
     /// How many bytes are left.
-    pub fn left(&self) -> usize
+    pub(crate) fn left(&self) -> usize
         ensures count { result ≡ length self.now }
         ensures small { result < 2 ^ 63 }
     {
@@ -43,27 +43,27 @@ impl<'a> Input<'a> {
     }
 
     /// The refusal that names the next byte, or the end.
-    pub fn refuse(&self) -> Refusal
+    pub(crate) fn refuse(&self) -> Refusal
         ensures { result ≡ Refusal.Unexpected (length self.now) }
     {
         Refusal::Unexpected(self.rest.len())
     }
 
     /// The next byte.
-    pub fn peek(&self) -> Option<u8>
+    pub(crate) fn peek(&self) -> Option<u8>
         ensures { result ≡ head self.now }
     {
         self.rest.first().copied()
     }
 
     /// Whether a byte is left.
-    pub fn has_more(&self) -> bool
+    pub(crate) fn has_more(&self) -> bool
         ensures { result ≡ next (λ _. true) (head self.now) }
     {
         self.peek().is_some()
     }
 
-    pub fn sees(&self, byte: u8) -> bool
+    pub(crate) fn sees(&self, byte: u8) -> bool
         ensures { result ≡ next (spec.same byte) (head self.now) }
     {
         match self.peek() {
@@ -72,7 +72,7 @@ impl<'a> Input<'a> {
         }
     }
 
-    pub fn sees_white(&self) -> bool
+    pub(crate) fn sees_white(&self) -> bool
         ensures { result ≡ next class.is_white (head self.now) }
     {
         match self.peek() {
@@ -81,7 +81,7 @@ impl<'a> Input<'a> {
         }
     }
 
-    pub fn sees_quote(&self) -> bool
+    pub(crate) fn sees_quote(&self) -> bool
         ensures { result ≡ next class.is_quote (head self.now) }
     {
         match self.peek() {
@@ -90,7 +90,7 @@ impl<'a> Input<'a> {
         }
     }
 
-    pub fn sees_name(&self) -> bool
+    pub(crate) fn sees_name(&self) -> bool
         ensures { result ≡ next class.is_name_start (head self.now) }
     {
         match self.peek() {
@@ -100,7 +100,7 @@ impl<'a> Input<'a> {
     }
 
     /// Passes the next byte.
-    pub fn skip(&mut self)
+    pub(crate) fn skip(&mut self)
         ensures { self.new ≡ drop 1 self.old }
     {
         if let [_, rest @ ..] = self.rest {
@@ -109,7 +109,7 @@ impl<'a> Input<'a> {
     }
 
     /// This byte.
-    pub fn mark(&mut self, byte: u8) -> Result<u8, Refusal>
+    pub(crate) fn mark(&mut self, byte: u8) -> Result<u8, Refusal>
         ensures { Reads (read.mark byte self.old) result self.new }
     {
         match self.rest {
@@ -126,7 +126,7 @@ impl<'a> Input<'a> {
     }
 
     /// A byte of white space.
-    pub fn white(&mut self) -> Result<u8, Refusal>
+    pub(crate) fn white(&mut self) -> Result<u8, Refusal>
         ensures { Reads (read.one (passing class.is_white) self.old) result self.new }
     {
         match self.rest {
@@ -143,7 +143,7 @@ impl<'a> Input<'a> {
     }
 
     /// A quote of either kind.
-    pub fn quote(&mut self) -> Result<u8, Refusal>
+    pub(crate) fn quote(&mut self) -> Result<u8, Refusal>
         ensures { Reads (read.one (passing class.is_quote) self.old) result self.new }
     {
         match self.rest {
@@ -161,7 +161,7 @@ impl<'a> Input<'a> {
 
     /// These bytes.
     #[tactic(auto, unfolding(crate::specs::inner::Input::word))]
-    pub fn word(&mut self, bytes: &[u8]) -> Result<(), Refusal>
+    pub(crate) fn word(&mut self, bytes: &[u8]) -> Result<(), Refusal>
         ensures { Reads (read.word bytes.now self.old) result self.new }
     {
         for byte in bytes {
@@ -172,7 +172,7 @@ impl<'a> Input<'a> {
 
     /// A name, without a copy.
     #[tactic(auto, unfolding(crate::specs::inner::Reading::name, crate::specs::inner::Input::refuse))]
-    pub fn name(&mut self) -> Result<&'a [u8], Refusal>
+    pub(crate) fn name(&mut self) -> Result<&'a [u8], Refusal>
         ensures { ReadsSlice (spec.name self.old) result self.new }
     {
         if !self.sees_name() {
@@ -185,7 +185,7 @@ impl<'a> Input<'a> {
 
     /// The bytes up to the first place where the mark stands, and the mark.
     #[tactic(auto, unfolding(crate::specs::inner::Reading::up_to, crate::specs::inner::Reading::cut))]
-    pub fn up_to(&mut self, mark: &[u8]) -> Result<&'a [u8], Refusal>
+    pub(crate) fn up_to(&mut self, mark: &[u8]) -> Result<&'a [u8], Refusal>
         ensures { ReadsSlice (spec.up_to mark.now self.old) result self.new }
     {
         let Some(at) = mark_place(mark, self.rest) else {
@@ -197,7 +197,7 @@ impl<'a> Input<'a> {
     }
 }
 
-/// How many bytes of a name stand at the front.
+// How many bytes of a name stand at the front.
 fn name_len(bytes: &[u8]) -> usize
     ensures count { result ≡ prefix_len class.is_name_byte bytes.now }
     ensures within { result ≤ length bytes.now }
@@ -210,7 +210,7 @@ fn name_len(bytes: &[u8]) -> usize
     bytes.len()
 }
 
-/// The first place where the mark stands.
+// The first place where the mark stands.
 fn mark_place(mark: &[u8], bytes: &[u8]) -> Option<usize>
     ensures place { result ≡ spec.mark_place mark.now bytes.now }
     ensures within { IfSome result (λ at. at + length mark.now ≤ length bytes.now) }

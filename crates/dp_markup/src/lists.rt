@@ -9,7 +9,7 @@ use std::marker::Model;
 
 /// A list that grows at its end.
 #[derive(Debug, Drop)]
-pub struct Growing<T> {
+pub(crate) struct Growing<T> {
     values: Vec<T>,
 }
 
@@ -25,7 +25,7 @@ impl<T> Model for Growing<T> {
 }
 
 impl<T: Drop> Growing<T> {
-    pub fn new(alloc: Global) -> Self
+    pub(crate) fn new(alloc: Global) -> Self
         ensures { result ≡ [] }
     {
         Growing {
@@ -33,26 +33,26 @@ impl<T: Drop> Growing<T> {
         }
     }
 
-    pub fn push(&mut self, value: T) -> Result<(), Memory>
+    pub(crate) fn push(&mut self, value: T) -> Result<(), Memory>
         ensures { OnOk result (self.new ≡ self.old ++ value ∷ []) }
     {
         self.values.push(value)?;
         Ok(())
     }
 
-    pub fn is_empty(&self) -> bool
+    pub(crate) fn is_empty(&self) -> bool
         ensures { result ≡ (length self.now == 0) }
     {
         self.values.is_empty()
     }
 
-    pub fn as_slice(&self) -> &[T]
+    pub(crate) fn as_slice(&self) -> &[T]
         ensures { result.now ≡ self.now }
     {
         self.values.as_slice()
     }
 
-    pub fn into_items(self) -> Items<T>
+    pub(crate) fn into_items(self) -> Items<T>
         ensures { result ≡ self }
     {
         Items::of(self.values)
@@ -60,13 +60,13 @@ impl<T: Drop> Growing<T> {
 }
 
 impl Growing<u8> {
-    pub fn extend(&mut self, bytes: &[u8]) -> Result<(), Memory>
+    pub(crate) fn extend(&mut self, bytes: &[u8]) -> Result<(), Memory>
         ensures { OnOk result (self.new ≡ self.old ++ bytes.now) }
     {
         self.values.extend_from_slice(bytes)
     }
 
-    pub fn into_bytes(self) -> Bytes
+    pub(crate) fn into_bytes(self) -> Bytes
         ensures { result ≡ self }
     {
         Bytes::of(self.values)

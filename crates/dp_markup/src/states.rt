@@ -7,14 +7,14 @@ use dp_value::{Bytes, Items};
 
 /// How far a start tag has been read: its attributes so far, and whether white space came last.
 #[derive(Debug, Drop)]
-pub struct Tag {
+pub(crate) struct Tag {
     pub found: Found,
     pub apart: bool,
 }
 
 /// A start tag: `is_empty` where it is the whole element, as `<a/>`.
 #[derive(Debug, Drop)]
-pub struct StartTag {
+pub(crate) struct StartTag {
     pub name: Bytes,
     pub attributes: Items<(Bytes, Bytes)>,
     pub is_empty: bool,
@@ -23,14 +23,14 @@ pub struct StartTag {
 /// How far the content of an element has been read: its nodes so far, and the bytes of the text
 /// that is not ended yet.
 #[derive(Debug, Drop)]
-pub struct Content {
+pub(crate) struct Content {
     pub nodes: Growing<Node>,
     pub run: Growing<u8>,
 }
 
 /// How the number of a reference is written.
 #[derive(Debug, Clone, Copy)]
-pub enum Radix {
+pub(crate) enum Radix {
     Decimal,
     Hexadecimal,
 }

@@ -56,7 +56,7 @@ impl<O: Outside> Evaluator<'_, O> {
         self.compound_under(op, &place.name, indices.as_slice(), right, state)
     }
 
-    /// A compound assignment under indices that are evaluated.
+    // A compound assignment under indices that are evaluated.
     #[cycle(evaluate)]
     fn compound_under(
         &self,
@@ -89,7 +89,7 @@ impl<O: Outside> Evaluator<'_, O> {
         self.coalesce_under(&place.name, indices.as_slice(), right, state)
     }
 
-    /// A `??=` under indices that are evaluated.
+    // A `??=` under indices that are evaluated.
     #[cycle(evaluate)]
     fn coalesce_under(
         &self,
@@ -151,7 +151,7 @@ impl<O: Outside> Evaluator<'_, O> {
         Ok(Value::Bool(true))
     }
 
-    /// The value of a place as isset finds it.
+    // The value of a place as isset finds it.
     #[cycle(evaluate)]
     fn found_at(&self, place: &Place, state: &mut State) -> Result<Value, Halt>
         ensures { Evaluates (O.rules self.now.outside.now) (found_at (place_run place.now) (goes_by self.now) state.old) result state.new }

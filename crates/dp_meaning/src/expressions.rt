@@ -85,7 +85,7 @@ impl<O: Outside> Evaluator<'_, O> {
         Ok(Items::of(values))
     }
 
-    /// The value of an `include` or a `require`.
+    // The value of an `include` or a `require`.
     #[cycle(evaluate)]
     fn inclusion(&self, how: Inclusion, file: &Expression, state: &mut State) -> Result<Value, Halt>
         ensures { Evaluates (O.rules self.now.outside.now) (included how (expression_run file.now) (goes_by self.now) state.old) result state.new }

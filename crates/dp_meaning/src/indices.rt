@@ -41,7 +41,7 @@ impl<O: Outside> Evaluator<'_, O> {
         }
     }
 
-    /// The value of what indices stand behind.
+    // The value of what indices stand behind.
     #[cycle(evaluate)]
     fn base(&self, reading: Reading, e: &Expression, state: &mut State) -> Result<Value, Halt>
         ensures { Evaluates (O.rules self.now.outside.now) (base_run reading (expression_run e.now) (goes_by self.now) state.old) result state.new }
@@ -52,7 +52,7 @@ impl<O: Outside> Evaluator<'_, O> {
         }
     }
 
-    /// A value under indices.
+    // A value under indices.
     #[cycle(evaluate)]
     fn under(
         &self,
@@ -72,7 +72,7 @@ impl<O: Outside> Evaluator<'_, O> {
         Ok(value)
     }
 
-    /// The entry of a variable under an index that changes nothing.
+    // The entry of a variable under an index that changes nothing.
     #[cycle(evaluate)]
     fn variable_entry(
         &self,

@@ -30,7 +30,7 @@ impl<O: Outside> Evaluator<'_, O> {
         self.links(value, links, state)
     }
 
-    /// The value of operands that are joined to a first one.
+    // The value of operands that are joined to a first one.
     #[cycle(evaluate)]
     fn links(&self, first: Value, links: &[Link], state: &mut State) -> Result<Value, Halt>
         ensures { Evaluates (O.rules self.now.outside.now) (links_run (map link_run links.now) first (goes_by self.now) state.old) result state.new }
@@ -43,7 +43,7 @@ impl<O: Outside> Evaluator<'_, O> {
         Ok(value)
     }
 
-    /// The value of two operands that are joined.
+    // The value of two operands that are joined.
     #[cycle(evaluate)]
     fn link(&self, left: &Value, link: &Link, state: &mut State) -> Result<Value, Halt>
         ensures { Evaluates (O.rules self.now.outside.now) (link_run link.now left.now (goes_by self.now) state.old) result state.new }
@@ -106,7 +106,7 @@ impl<O: Outside> Evaluator<'_, O> {
         }
     }
 
-    /// The value of a conditional whose test holds.
+    // The value of a conditional whose test holds.
     #[cycle(evaluate)]
     fn chosen(
         &self,

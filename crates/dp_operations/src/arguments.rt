@@ -7,7 +7,7 @@ ghost use Rattle.dp_operations.specs.Builtins.{double as two_of, single as one_o
 use dp_value::Value;
 
 /// The argument, where there is exactly one.
-pub fn single(args: &[Value]) -> Option<&Value>
+pub(crate) fn single(args: &[Value]) -> Option<&Value>
     ensures { option_map (λ a. data_of a.now) result ≡ one_of (map data_of args.now) }
 {
     match args {
@@ -17,7 +17,7 @@ pub fn single(args: &[Value]) -> Option<&Value>
 }
 
 /// The arguments, where there are exactly two.
-pub fn double(args: &[Value]) -> Option<(&Value, &Value)>
+pub(crate) fn double(args: &[Value]) -> Option<(&Value, &Value)>
     ensures { option_map (λ p. (data_of p.0.now, data_of p.1.now)) result ≡ two_of (map data_of args.now) }
 {
     match args {

@@ -60,7 +60,7 @@ pub(crate) enum Found<'a> {
     Entry(&'a Value),
 }
 
-/// What a reading gives under indices, one after another.
+// What a reading gives under indices, one after another.
 fn read_by(
     alloc: Global,
     holder: &Value,
@@ -82,7 +82,7 @@ fn read_by(
     }
 }
 
-/// What a reading gives under an index.
+// What a reading gives under an index.
 fn under<'a>(
     alloc: Global,
     holder: &'a Value,
@@ -112,7 +112,7 @@ fn under<'a>(
     }
 }
 
-/// The byte of a text under an index; only an integer has a position.
+// The byte of a text under an index; only an integer has a position.
 fn letter_at(bytes: &[u8], index: &Value) -> Option<u8>
     ensures { option_map (λ byte. text (byte ∷ [])) result ≡ letter_of bytes.now (data_of index.now) }
 {
@@ -122,7 +122,7 @@ fn letter_at(bytes: &[u8], index: &Value) -> Option<u8>
     }
 }
 
-/// A byte of a text by its position, which is counted from the end where it is negative.
+// A byte of a text by its position, which is counted from the end where it is negative.
 fn byte_at(bytes: &[u8], position: i64) -> Option<u8>
     ensures { result ≡ byte_of bytes.now position }
 {
@@ -136,7 +136,7 @@ fn byte_at(bytes: &[u8], position: i64) -> Option<u8>
     bytes.get(position as usize).copied()
 }
 
-/// A copy of what stands under an index; null where nothing does.
+// A copy of what stands under an index; null where nothing does.
 fn copy(alloc: Global, found: Found) -> Result<Value, Memory>
     ensures { IfOk result (λ value. data_of value ≡ data_of_found found.entry) }
 {

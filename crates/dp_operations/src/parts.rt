@@ -15,7 +15,7 @@ use dp_value::{Bytes, CallError, Memory, Value, WEIGHT_LIMIT};
 use std::alloc::Global;
 
 /// A part of a text: from an offset on, a count of bytes or all.
-pub fn part(alloc: Global, args: &[Value]) -> Result<Value, CallError>
+pub(crate) fn part(alloc: Global, args: &[Value]) -> Result<Value, CallError>
     ensures { CallAnswers result (on_three table.part (three_of (map data_of args.now))) }
 {
     match args {
@@ -25,7 +25,7 @@ pub fn part(alloc: Global, args: &[Value]) -> Result<Value, CallError>
     }
 }
 
-/// A part of a text, where the operands are a text, an integer, and an integer or null.
+// A part of a text, where the operands are a text, an integer, and an integer or null.
 fn part_from(alloc: Global, a: &Value, b: &Value, c: &Value) -> Result<Value, CallError>
     ensures { CallAnswers result (table.part (data_of a.now) (data_of b.now) (data_of c.now)) }
 {
@@ -40,7 +40,7 @@ fn part_from(alloc: Global, a: &Value, b: &Value, c: &Value) -> Result<Value, Ca
     }
 }
 
-/// The part of some bytes from an offset on, a count of bytes or all.
+// The part of some bytes from an offset on, a count of bytes or all.
 fn cut(alloc: Global, bytes: &[u8], offset: i64, count: Option<i64>) -> Result<Value, CallError>
     ensures { CallAnswers result (Ok (text (part_of bytes.now offset count))) }
 {
@@ -49,7 +49,7 @@ fn cut(alloc: Global, bytes: &[u8], offset: i64, count: Option<i64>) -> Result<V
     Ok(Value::Text(Bytes::from_slice(alloc, &bytes[start..end])?))
 }
 
-/// Where a part begins.
+// Where a part begins.
 fn start(len: usize, offset: i64) -> usize
     ensures start { result ≡ start_of len offset }
     ensures within { result ≤ len }
@@ -61,7 +61,7 @@ fn start(len: usize, offset: i64) -> usize
     }
 }
 
-/// Where a part that begins at a place ends.
+// Where a part that begins at a place ends.
 fn end(len: usize, start: usize, count: Option<i64>) -> usize
     requires { start ≤ len }
     ensures end { result ≡ end_of len start count }
@@ -76,7 +76,7 @@ fn end(len: usize, start: usize, count: Option<i64>) -> usize
 }
 
 /// A text repeated.
-pub fn repetition(alloc: Global, args: &[Value]) -> Result<Value, CallError>
+pub(crate) fn repetition(alloc: Global, args: &[Value]) -> Result<Value, CallError>
     ensures { CallAnswers result (on_two table.repetition (two_of (map data_of args.now))) }
 {
     let Some((a, b)) = double(args) else {
@@ -88,7 +88,7 @@ pub fn repetition(alloc: Global, args: &[Value]) -> Result<Value, CallError>
     }
 }
 
-/// Some bytes a number of times.
+// Some bytes a number of times.
 fn repeated(alloc: Global, bytes: &[u8], count: i64) -> Result<Value, CallError>
     ensures { CallAnswers result (repetition_of bytes.now count) }
 {
@@ -102,7 +102,7 @@ fn repeated(alloc: Global, bytes: &[u8], count: i64) -> Result<Value, CallError>
     Ok(Value::Text(Bytes::of(copies(alloc, bytes, count)?)))
 }
 
-/// Some bytes a number of times.
+// Some bytes a number of times.
 fn copies(alloc: Global, bytes: &[u8], count: u64) -> Result<Vec<u8>, Memory>
     ensures { IfOk result (λ v. v.items ≡ repeated_of count bytes.now) }
 {
@@ -117,7 +117,7 @@ fn copies(alloc: Global, bytes: &[u8], count: u64) -> Result<Vec<u8>, Memory>
 }
 
 /// The values of an array as texts, with a text between them.
-pub fn joining(alloc: Global, args: &[Value]) -> Result<Value, CallError>
+pub(crate) fn joining(alloc: Global, args: &[Value]) -> Result<Value, CallError>
     ensures { CallAnswers result (on_two table.joining (two_of (map data_of args.now))) }
 {
     let Some((a, b)) = double(args) else {
@@ -131,7 +131,7 @@ pub fn joining(alloc: Global, args: &[Value]) -> Result<Value, CallError>
     }
 }
 
-/// The texts of values, with a text between them.
+// The texts of values, with a text between them.
 fn joined(alloc: Global, glue: &[u8], values: &[Value]) -> Result<Value, CallError>
     ensures { CallAnswers result (joining_of (join_by glue.now (map text_of (map data_of values.now)))) }
 {
@@ -147,7 +147,7 @@ fn joined(alloc: Global, glue: &[u8], values: &[Value]) -> Result<Value, CallErr
     Ok(Value::Text(Bytes::of(bytes)))
 }
 
-/// Adds bytes at the end of a text, where it does not become too heavy.
+// Adds bytes at the end of a text, where it does not become too heavy.
 fn append(bytes: &mut Vec<u8>, more: &[u8]) -> Result<(), CallError>
     ensures ok { OnOk result ((bytes.new.items ≡ bytes.old.items ++ more.now) × (length bytes.new.items ≤ weight_limit)) }
     ensures only { IfErr result (λ e. (e ≡ CallError.Memory) ⊎ ((e ≡ CallError.TooHeavy) × (weight_limit < length bytes.old.items + length more.now))) }

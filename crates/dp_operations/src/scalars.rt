@@ -10,7 +10,7 @@ use dp_value::{Bytes, CallError, Value};
 use std::alloc::Global;
 
 /// The length of a text.
-pub fn length(args: &[Value]) -> Result<Value, CallError>
+pub(crate) fn length(args: &[Value]) -> Result<Value, CallError>
     ensures { CallGives result (on_one length_of (one_of (map data_of args.now))) }
 {
     let Some(a) = single(args) else {
@@ -25,7 +25,7 @@ pub fn length(args: &[Value]) -> Result<Value, CallError>
 }
 
 /// The first byte of a text, or 0.
-pub fn first_byte(args: &[Value]) -> Result<Value, CallError>
+pub(crate) fn first_byte(args: &[Value]) -> Result<Value, CallError>
     ensures { CallGives result (on_one first_byte_of (one_of (map data_of args.now))) }
 {
     let Some(a) = single(args) else {
@@ -39,7 +39,7 @@ pub fn first_byte(args: &[Value]) -> Result<Value, CallError>
     }
 }
 
-/// The first of some bytes, or 0.
+// The first of some bytes, or 0.
 fn first(bytes: &[u8]) -> u8
     ensures { result ≡ table.first_byte bytes.now }
 {
@@ -50,7 +50,7 @@ fn first(bytes: &[u8]) -> u8
 }
 
 /// The byte of an integer modulo 256, as a text.
-pub fn byte(alloc: Global, args: &[Value]) -> Result<Value, CallError>
+pub(crate) fn byte(alloc: Global, args: &[Value]) -> Result<Value, CallError>
     ensures { CallAnswers result (on_one byte_of (one_of (map data_of args.now))) }
 {
     let Some(a) = single(args) else {
@@ -68,7 +68,7 @@ pub fn byte(alloc: Global, args: &[Value]) -> Result<Value, CallError>
 }
 
 /// The quotient of two integers, toward zero.
-pub fn quotient(args: &[Value]) -> Result<Value, CallError>
+pub(crate) fn quotient(args: &[Value]) -> Result<Value, CallError>
     ensures { CallGives result (on_two table.quotient (two_of (map data_of args.now))) }
 {
     let Some((a, b)) = double(args) else {
@@ -80,7 +80,7 @@ pub fn quotient(args: &[Value]) -> Result<Value, CallError>
     }
 }
 
-/// The quotient of two integers, toward zero.
+// The quotient of two integers, toward zero.
 fn divided(m: i64, n: i64) -> Result<Value, CallError>
     ensures { CallGives result (quotient_of m n) }
 {

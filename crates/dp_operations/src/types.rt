@@ -9,7 +9,7 @@ use crate::arguments::single;
 use dp_value::{CallError, Value};
 
 /// Whether the argument is an integer.
-pub fn is_int(args: &[Value]) -> Result<Value, CallError>
+pub(crate) fn is_int(args: &[Value]) -> Result<Value, CallError>
     ensures { CallGives result (on_one (told table.is_int) (one_of (map data_of args.now))) }
 {
     let Some(a) = single(args) else {
@@ -22,7 +22,7 @@ pub fn is_int(args: &[Value]) -> Result<Value, CallError>
 }
 
 /// Whether the argument is a text.
-pub fn is_string(args: &[Value]) -> Result<Value, CallError>
+pub(crate) fn is_string(args: &[Value]) -> Result<Value, CallError>
     ensures { CallGives result (on_one (told table.is_string) (one_of (map data_of args.now))) }
 {
     let Some(a) = single(args) else {
@@ -35,7 +35,7 @@ pub fn is_string(args: &[Value]) -> Result<Value, CallError>
 }
 
 /// Whether the argument is a bool.
-pub fn is_bool(args: &[Value]) -> Result<Value, CallError>
+pub(crate) fn is_bool(args: &[Value]) -> Result<Value, CallError>
     ensures { CallGives result (on_one (told table.is_bool) (one_of (map data_of args.now))) }
 {
     let Some(a) = single(args) else {
@@ -48,7 +48,7 @@ pub fn is_bool(args: &[Value]) -> Result<Value, CallError>
 }
 
 /// Whether the argument is null.
-pub fn is_null(args: &[Value]) -> Result<Value, CallError>
+pub(crate) fn is_null(args: &[Value]) -> Result<Value, CallError>
     ensures { CallGives result (on_one (told table.is_null) (one_of (map data_of args.now))) }
 {
     let Some(a) = single(args) else {
@@ -61,7 +61,7 @@ pub fn is_null(args: &[Value]) -> Result<Value, CallError>
 }
 
 /// Whether the argument is an array.
-pub fn is_array(args: &[Value]) -> Result<Value, CallError>
+pub(crate) fn is_array(args: &[Value]) -> Result<Value, CallError>
     ensures { CallGives result (on_one (told table.is_array) (one_of (map data_of args.now))) }
 {
     let Some(a) = single(args) else {

@@ -22,7 +22,7 @@ fn find<'a>(files: &'a [(String, Vec<u8>)], name: &str) -> Option<&'a [u8]>
 
 /// What a shelf of these files answers: the first `limit + 1` bytes of the file of that name, or the whole file
 /// where it is shorter.
-pub fn fetch_from(
+pub(crate) fn fetch_from(
     alloc: Global,
     files: &[(String, Vec<u8>)],
     name: &str,

@@ -6,7 +6,7 @@ use std::marker::{Model, PhantomData};
 
 /// The names that a shelf was asked for. It takes no memory, and its calls do nothing.
 #[derive(Drop)]
-pub struct Names {
+pub(crate) struct Names {
     marker: PhantomData<u8>,
     pub ghost names: { List (List ℕ) },
 }
@@ -17,7 +17,7 @@ impl Model for Names {
 
 impl Names {
     /// No name yet.
-    pub fn new() -> Self
+    pub(crate) fn new() -> Self
         ensures { result.names ≡ [] }
     {
         Names {
@@ -26,7 +26,7 @@ impl Names {
     }
 
     /// One name more.
-    pub fn note(&mut self, _name: &[u8])
+    pub(crate) fn note(&mut self, _name: &[u8])
         ensures { self.new.names ≡ self.old.names ++ _name.now ∷ [] }
     {}
 }

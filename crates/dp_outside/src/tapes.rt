@@ -6,7 +6,7 @@ use std::marker::Model;
 
 /// Bytes that are given in pieces of given sizes. Contracts see the bytes given, those left and the sizes to come.
 #[derive(Debug, Drop)]
-pub struct Pieces {
+pub(crate) struct Pieces {
     bytes: Vec<u8>,
     at: usize,
     cuts: Vec<usize>,
@@ -40,7 +40,7 @@ fn size_of_next(cuts: &[usize], room: usize) -> usize
 
 impl Pieces {
     /// Nothing was given yet.
-    pub fn new(bytes: Vec<u8>, cuts: Vec<usize>) -> Self
+    pub(crate) fn new(bytes: Vec<u8>, cuts: Vec<usize>) -> Self
         ensures { result ≡ whole_tape bytes.items cuts.items }
     {
         Pieces {
@@ -52,14 +52,14 @@ impl Pieces {
     }
 
     /// The bytes that are left.
-    pub fn left(&self) -> &[u8]
+    pub(crate) fn left(&self) -> &[u8]
         ensures { result.now ≡ self.now.left }
     {
         &self.bytes[self.at..]
     }
 
     /// Puts the next piece at the front of `buf` and answers its length.
-    pub fn give(&mut self, buf: &mut [u8]) -> usize
+    pub(crate) fn give(&mut self, buf: &mut [u8]) -> usize
         ensures piece { result ≡ piece_length self.old (length buf.old) }
         ensures after { self.new ≡ after_piece self.old result }
         ensures bound { result ≤ length buf.new }

@@ -115,7 +115,7 @@ fn expression_nodes(alloc: Global, expression: &Option<Bytes>) -> Result<Vec<Nod
 }
 
 /// The element of a breakpoint.
-pub fn breakpoint_of(alloc: Global, line: &BreakLine) -> Result<Node, Memory>
+pub(crate) fn breakpoint_of(alloc: Global, line: &BreakLine) -> Result<Node, Memory>
     ensures { IfOk result (λ n. n ≡ spec.breakpoint_node line.now) }
 {
     let mut attributes = Vec::new(alloc);
@@ -127,7 +127,7 @@ pub fn breakpoint_of(alloc: Global, line: &BreakLine) -> Result<Node, Memory>
 }
 
 /// The elements of breakpoints.
-pub fn breakpoint_nodes(alloc: Global, lines: &[BreakLine]) -> Result<Vec<Node>, Memory>
+pub(crate) fn breakpoint_nodes(alloc: Global, lines: &[BreakLine]) -> Result<Vec<Node>, Memory>
     ensures { IfOk result (λ nodes. nodes.items ≡ map spec.breakpoint_node lines.now) }
 {
     let mut nodes = Vec::new(alloc);

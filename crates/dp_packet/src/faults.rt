@@ -57,7 +57,7 @@ fn message_node(alloc: Global, text: &[u8]) -> Result<Node, Memory>
 }
 
 /// The element of an error.
-pub fn error_node(alloc: Global, code: u16) -> Result<Node, Memory>
+pub(crate) fn error_node(alloc: Global, code: u16) -> Result<Node, Memory>
     ensures { IfOk result (λ n. n ≡ packets.error_node code) }
 {
     let mut attributes = Vec::new(alloc);
@@ -67,7 +67,7 @@ pub fn error_node(alloc: Global, code: u16) -> Result<Node, Memory>
 }
 
 /// The element of a proxy's refusal.
-pub fn refusal_node(alloc: Global, id: u8) -> Result<Node, Memory>
+pub(crate) fn refusal_node(alloc: Global, id: u8) -> Result<Node, Memory>
     ensures { IfOk result (λ n. n ≡ packets.refusal_node id) }
 {
     let mut attributes = Vec::new(alloc);

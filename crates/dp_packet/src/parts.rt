@@ -11,7 +11,7 @@ use itoa::Buffer;
 use std::alloc::Global;
 
 /// Puts an attribute behind the others.
-pub fn put(
+pub(crate) fn put(
     alloc: Global,
     attributes: &mut Vec<(Bytes, Bytes)>,
     name: &[u8],
@@ -28,7 +28,7 @@ pub fn put(
     Ok(())
 }
 
-pub fn put_number(
+pub(crate) fn put_number(
     alloc: Global,
     attributes: &mut Vec<(Bytes, Bytes)>,
     name: &[u8],
@@ -42,7 +42,7 @@ pub fn put_number(
 }
 
 /// Puts an attribute that may be missing.
-pub fn put_given(
+pub(crate) fn put_given(
     alloc: Global,
     attributes: &mut Vec<(Bytes, Bytes)>,
     name: &[u8],
@@ -57,7 +57,7 @@ pub fn put_given(
     }
 }
 
-pub fn put_given_number(
+pub(crate) fn put_given_number(
     alloc: Global,
     attributes: &mut Vec<(Bytes, Bytes)>,
     name: &[u8],
@@ -73,7 +73,7 @@ pub fn put_given_number(
 }
 
 /// Puts all of these attributes.
-pub fn put_all(
+pub(crate) fn put_all(
     alloc: Global,
     attributes: &mut Vec<(Bytes, Bytes)>,
     more: &[(Bytes, Bytes)],
@@ -91,19 +91,22 @@ pub fn put_all(
     Ok(())
 }
 
-pub fn put_namespace(alloc: Global, attributes: &mut Vec<(Bytes, Bytes)>) -> Result<(), Memory>
+pub(crate) fn put_namespace(
+    alloc: Global,
+    attributes: &mut Vec<(Bytes, Bytes)>,
+) -> Result<(), Memory>
     ensures { OnOk result (attributes.new.items ≡ attributes.old.items ++ spec.namespace ∷ []) }
 {
     put(alloc, attributes, b"xmlns", b"urn:debugger_protocol_v1")
 }
 
-pub fn flag(value: bool) -> &'static [u8]
+pub(crate) fn flag(value: bool) -> &'static [u8]
     ensures { result.now ≡ spec.flag value }
 {
     if value { b"1" } else { b"0" }
 }
 
-pub fn put_flag(
+pub(crate) fn put_flag(
     alloc: Global,
     attributes: &mut Vec<(Bytes, Bytes)>,
     name: &[u8],
@@ -116,7 +119,7 @@ pub fn put_flag(
 }
 
 /// An element of this name.
-pub fn element(
+pub(crate) fn element(
     alloc: Global,
     name: &[u8],
     attributes: Vec<(Bytes, Bytes)>,
@@ -132,7 +135,7 @@ pub fn element(
 }
 
 /// The same, as what stands in another element.
-pub fn child(
+pub(crate) fn child(
     alloc: Global,
     name: &[u8],
     attributes: Vec<(Bytes, Bytes)>,
@@ -144,7 +147,7 @@ pub fn child(
 }
 
 /// A text as what stands in an element.
-pub fn text_nodes(alloc: Global, text: &[u8]) -> Result<Vec<Node>, Memory>
+pub(crate) fn text_nodes(alloc: Global, text: &[u8]) -> Result<Vec<Node>, Memory>
     ensures { IfOk result (λ nodes. nodes.items ≡ spec.text_nodes text.now) }
 {
     let mut nodes = Vec::new(alloc);
@@ -155,7 +158,7 @@ pub fn text_nodes(alloc: Global, text: &[u8]) -> Result<Vec<Node>, Memory>
 }
 
 /// One node.
-pub fn alone(alloc: Global, n: Node) -> Result<Vec<Node>, Memory>
+pub(crate) fn alone(alloc: Global, n: Node) -> Result<Vec<Node>, Memory>
     ensures { IfOk result (λ nodes. nodes.items ≡ n ∷ []) }
 {
     let mut nodes = Vec::new(alloc);

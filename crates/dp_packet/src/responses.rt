@@ -68,7 +68,7 @@ fn body_nodes(alloc: Global, body: &Body) -> Result<Vec<Node>, Memory>
 }
 
 /// The element of a response.
-pub fn response_element(alloc: Global, response: &Response) -> Result<Element, Memory>
+pub(crate) fn response_element(alloc: Global, response: &Response) -> Result<Element, Memory>
     ensures { IfOk result (λ e. e ≡ spec.response_element response.now) }
 {
     let mut attributes = Vec::new(alloc);

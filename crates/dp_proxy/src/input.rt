@@ -18,7 +18,7 @@ pub(crate) enum Hearing {
     Asked,
 }
 
-/// The first place of a NUL.
+// The first place of a NUL.
 fn first_nul(bytes: &[u8]) -> Option<usize>
     ensures first { FirstNul bytes.now result }
     ensures within { IfSome result (λ at. at < length bytes.now) }
@@ -31,7 +31,7 @@ fn first_nul(bytes: &[u8]) -> Option<usize>
     None
 }
 
-/// Bytes come behind those that were heard, none of which is NUL.
+// Bytes come behind those that were heard, none of which is NUL.
 fn take_in(heard: &mut Vec<u8>, bytes: &[u8]) -> Result<Hearing, Memory>
     ensures { has_no_nul heard.old.items ≡ true → IfOk result (λ hearing.
         Hears heard.old.items (acted.Given bytes.now) hearing heard.new.items) }

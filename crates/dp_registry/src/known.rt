@@ -6,10 +6,10 @@ use crate::registry::Registry;
 use dp_value::{Bytes, Memory};
 use std::alloc::Global;
 
-/// The most entries that there may be, once each live session was dismissed.
+// The most entries that there may be, once each live session was dismissed.
 const MOST_ENTRIES: usize = 262_144;
 
-/// The most live sessions.
+// The most live sessions.
 const MOST_LIVE: usize = 256;
 
 impl Registry {

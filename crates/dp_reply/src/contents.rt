@@ -13,7 +13,7 @@ use dp_markup::{Element, Node, same_text};
 use dp_value::{Bytes, Memory, decimal};
 use std::alloc::Global;
 
-pub fn flag(text: &[u8]) -> Result<bool, ReplyError>
+pub(crate) fn flag(text: &[u8]) -> Result<bool, ReplyError>
     ensures { Finds (λ b. b) result (spec.flag_in text.now) }
 {
     if same_text(text, b"0") {
@@ -27,7 +27,7 @@ pub fn flag(text: &[u8]) -> Result<bool, ReplyError>
 
 /// What the text is in base64.
 #[tactic(auto, unfolding(base64::specs::GeneralPurpose::decoded_of))]
-pub fn bytes(alloc: Global, text: &[u8]) -> Result<Bytes, ReplyError>
+pub(crate) fn bytes(alloc: Global, text: &[u8]) -> Result<Bytes, ReplyError>
     ensures { Finds (λ b. b) result (spec.bytes_in text.now) }
 {
     match STANDARD.decode(alloc, text) {
@@ -38,7 +38,7 @@ pub fn bytes(alloc: Global, text: &[u8]) -> Result<Bytes, ReplyError>
 }
 
 /// The value of the attribute of this name.
-pub fn find<'a>(e: &'a Element, name: &[u8]) -> Option<&'a [u8]>
+pub(crate) fn find<'a>(e: &'a Element, name: &[u8]) -> Option<&'a [u8]>
     ensures { option_copied result ≡ spec.attribute name.now e.now }
 {
     for attribute in e.attributes.as_slice() {
@@ -50,7 +50,7 @@ pub fn find<'a>(e: &'a Element, name: &[u8]) -> Option<&'a [u8]>
 }
 
 /// The same, of an attribute that has to be there.
-pub fn attribute<'a>(e: &'a Element, name: &[u8]) -> Result<&'a [u8], ReplyError>
+pub(crate) fn attribute<'a>(e: &'a Element, name: &[u8]) -> Result<&'a [u8], ReplyError>
     ensures { Finds (λ text. text.now) result (spec.attribute name.now e.now) }
 {
     match find(e, name) {
@@ -60,7 +60,7 @@ pub fn attribute<'a>(e: &'a Element, name: &[u8]) -> Result<&'a [u8], ReplyError
 }
 
 /// A copy of the value of an attribute that has to be there.
-pub fn text(alloc: Global, e: &Element, name: &[u8]) -> Result<Bytes, ReplyError>
+pub(crate) fn text(alloc: Global, e: &Element, name: &[u8]) -> Result<Bytes, ReplyError>
     ensures { Finds (λ text. text) result (spec.attribute name.now e.now) }
 {
     let value = attribute(e, name)?;
@@ -68,7 +68,11 @@ pub fn text(alloc: Global, e: &Element, name: &[u8]) -> Result<Bytes, ReplyError
 }
 
 /// A copy of the value of an attribute that may be missing.
-pub fn optional_text(alloc: Global, e: &Element, name: &[u8]) -> Result<Option<Bytes>, Memory>
+pub(crate) fn optional_text(
+    alloc: Global,
+    e: &Element,
+    name: &[u8],
+) -> Result<Option<Bytes>, Memory>
     ensures { IfOk result (λ text. text ≡ spec.attribute name.now e.now) }
 {
     match find(e, name) {
@@ -77,14 +81,14 @@ pub fn optional_text(alloc: Global, e: &Element, name: &[u8]) -> Result<Option<B
     }
 }
 
-pub fn is_named(e: &Element, name: &[u8]) -> bool
+pub(crate) fn is_named(e: &Element, name: &[u8]) -> bool
     ensures { result ≡ spec.is_named name.now e.now }
 {
     same_text(e.name.as_slice(), name)
 }
 
 /// The number in the attribute of this name, where it is at most `most`.
-pub fn number_at(e: &Element, name: &[u8], most: u64) -> Result<u64, ReplyError>
+pub(crate) fn number_at(e: &Element, name: &[u8], most: u64) -> Result<u64, ReplyError>
     ensures found { Finds (λ n. n) result (spec.number_at name.now most e.now) }
     ensures bound { IfOk result (λ n. n ≤ most) }
 {
@@ -95,7 +99,7 @@ pub fn number_at(e: &Element, name: &[u8], most: u64) -> Result<u64, ReplyError>
     }
 }
 
-pub fn number_of_32_bits(text: &[u8]) -> Result<u32, ReplyError>
+pub(crate) fn number_of_32_bits(text: &[u8]) -> Result<u32, ReplyError>
     ensures { Finds (λ n. n) result (decimal_in spec.most_32 text.now) }
 {
     match decimal(text, u32::MAX as u64) {
@@ -104,14 +108,14 @@ pub fn number_of_32_bits(text: &[u8]) -> Result<u32, ReplyError>
     }
 }
 
-pub fn number_of_32_bits_at(e: &Element, name: &[u8]) -> Result<u32, ReplyError>
+pub(crate) fn number_of_32_bits_at(e: &Element, name: &[u8]) -> Result<u32, ReplyError>
     ensures { Finds (λ n. n) result (spec.number_at name.now spec.most_32 e.now) }
 {
     number_of_32_bits(attribute(e, name)?)
 }
 
 /// A number that may be missing.
-pub fn optional_number(e: &Element, name: &[u8]) -> Result<Option<u32>, ReplyError>
+pub(crate) fn optional_number(e: &Element, name: &[u8]) -> Result<Option<u32>, ReplyError>
     ensures { Finds (λ n. n) result
         (spec.optional_number spec.most_32 (spec.attribute name.now e.now)) }
 {
@@ -122,13 +126,13 @@ pub fn optional_number(e: &Element, name: &[u8]) -> Result<Option<u32>, ReplyErr
 }
 
 /// Whether the attribute declares a namespace.
-pub fn is_namespace(name: &[u8]) -> bool
+pub(crate) fn is_namespace(name: &[u8]) -> bool
     ensures { result ≡ spec.is_namespace name.now }
 {
     same_text(name, b"xmlns") || name.starts_with(b"xmlns:")
 }
 
-/// Whether the name is of another namespace than DBGp's.
+// Whether the name is of another namespace than DBGp's.
 fn is_foreign(name: &[u8]) -> bool
     ensures { result ≡ spec.is_foreign name.now }
 {
@@ -136,7 +140,7 @@ fn is_foreign(name: &[u8]) -> bool
 }
 
 /// The element, if there is one of DBGp's.
-pub fn element_in(node: &Node) -> Option<&Element>
+pub(crate) fn element_in(node: &Node) -> Option<&Element>
     ensures { option_to_list (option_copied result) ≡ spec.elements_of (out-Node node.now) }
 {
     match node {
@@ -152,7 +156,7 @@ pub fn element_in(node: &Node) -> Option<&Element>
 }
 
 /// All texts, joined.
-pub fn words(alloc: Global, nodes: &[Node]) -> Result<Bytes, Memory>
+pub(crate) fn words(alloc: Global, nodes: &[Node]) -> Result<Bytes, Memory>
     ensures { IfOk result (λ text. text ≡ spec.words nodes.now) }
 {
     let mut text = Vec::new(alloc);
@@ -173,7 +177,7 @@ fn put_words(text: &mut Vec<u8>, node: &Node) -> Result<(), Memory>
 }
 
 /// Whether there is no element of DBGp's.
-pub fn has_no_elements(nodes: &[Node]) -> bool
+pub(crate) fn has_no_elements(nodes: &[Node]) -> bool
     ensures { result ≡ spec.is_empty (spec.elements nodes.now) }
 {
     for node in nodes {
@@ -185,7 +189,7 @@ pub fn has_no_elements(nodes: &[Node]) -> bool
 }
 
 /// Whether there is no text.
-pub fn has_no_words(nodes: &[Node]) -> bool
+pub(crate) fn has_no_words(nodes: &[Node]) -> bool
     ensures { result ≡ spec.is_empty (spec.words nodes.now) }
 {
     for node in nodes {
@@ -206,7 +210,7 @@ fn has_words(node: &Node) -> bool
 }
 
 /// The text, where no element stands beside it.
-pub fn text_in(alloc: Global, e: &Element) -> Result<Bytes, ReplyError>
+pub(crate) fn text_in(alloc: Global, e: &Element) -> Result<Bytes, ReplyError>
     ensures { Finds (λ text. text) result (spec.text_in e.now) }
 {
     if !has_no_elements(e.children.as_slice()) {
@@ -216,7 +220,7 @@ pub fn text_in(alloc: Global, e: &Element) -> Result<Bytes, ReplyError>
 }
 
 /// The only element, or that there is none, where no text stands beside it.
-pub fn only_element(e: &Element) -> Result<Option<&Element>, ReplyError>
+pub(crate) fn only_element(e: &Element) -> Result<Option<&Element>, ReplyError>
     ensures { Finds (λ found. option_copied found) result (spec.only_in e.now) }
 {
     let nodes = e.children.as_slice();
@@ -227,7 +231,7 @@ pub fn only_element(e: &Element) -> Result<Option<&Element>, ReplyError>
 }
 
 /// The only element, or that there is none.
-pub fn only(nodes: &[Node]) -> Result<Option<&Element>, ReplyError>
+pub(crate) fn only(nodes: &[Node]) -> Result<Option<&Element>, ReplyError>
     ensures { Finds (λ found. option_copied found) result (spec.only (spec.elements nodes.now)) }
 {
     for (at, node) in nodes.iter().enumerate() {

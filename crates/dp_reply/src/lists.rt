@@ -13,7 +13,7 @@ use dp_value::Items;
 use std::alloc::Global;
 
 /// What an element of a list is read as.
-pub trait Entry: Sized + Drop {
+pub(crate) trait Entry: Sized + Drop {
     ghost entry: { Tree → Option Self };
 
     fn of(alloc: Global, e: &Element) -> Result<Self, ReplyError>
@@ -31,7 +31,7 @@ fn put<T: Entry>(alloc: Global, found: &mut Vec<T>, node: &Node) -> Result<(), R
 }
 
 /// What the elements are, where each is one of these.
-pub fn entries<T: Entry>(alloc: Global, nodes: &[Node]) -> Result<Items<T>, ReplyError>
+pub(crate) fn entries<T: Entry>(alloc: Global, nodes: &[Node]) -> Result<Items<T>, ReplyError>
     ensures { Finds (λ found. found) result (each T.entry (elements nodes.now)) }
 {
     let mut found = Vec::new(alloc);

@@ -93,7 +93,7 @@ fn array_in(alloc: Global, e: &Element, level: usize) -> Result<Shape, ReplyErro
     })
 }
 
-/// The value of a property of this type.
+// The value of a property of this type.
 #[cycle(reading)]
 fn shape_in(alloc: Global, type_name: &[u8], e: &Element, level: usize) -> Result<Shape, ReplyError>
     ensures { Finds (λ s. s) result
@@ -142,7 +142,7 @@ fn property(alloc: Global, e: &Element, level: usize) -> Result<Property, ReplyE
 }
 
 /// The property that an element is.
-pub fn property_in(alloc: Global, e: &Element) -> Result<Property, ReplyError>
+pub(crate) fn property_in(alloc: Global, e: &Element) -> Result<Property, ReplyError>
     ensures { Finds (λ p. p) result (spec.property_in e.now) }
 {
     property(alloc, e, level_limit())

@@ -78,7 +78,7 @@ impl Entry for BreakLine {
 }
 
 /// The number of an error.
-pub fn error_in(found: Option<&Element>, name: &[u8], most: u64) -> Result<u64, ReplyError>
+pub(crate) fn error_in(found: Option<&Element>, name: &[u8], most: u64) -> Result<u64, ReplyError>
     ensures found { Finds (λ n. n) result
         (spec.error_of name.now most (option_copied found.entry)) }
     ensures bound { IfOk result (λ n. n ≤ most) }
@@ -139,7 +139,7 @@ fn rows_in(alloc: Global, nodes: &[Node]) -> Result<Body, ReplyError>
     }
 }
 
-/// An error, or elements of one kind.
+// An error, or elements of one kind.
 #[tactic(auto, unfolding(crate::specs::Readings::list_in))]
 fn list_in(alloc: Global, nodes: &[Node]) -> Result<Body, ReplyError>
     ensures { Finds (λ body. body) result (spec.list_in (contents.elements nodes.now)) }
@@ -153,7 +153,7 @@ fn list_in(alloc: Global, nodes: &[Node]) -> Result<Body, ReplyError>
     }
 }
 
-/// What stands in a response.
+// What stands in a response.
 #[tactic(auto, unfolding(crate::specs::Readings::body_of))]
 fn body_in(alloc: Global, nodes: &[Node]) -> Result<Body, ReplyError>
     ensures { Finds (λ body. body) result
@@ -167,7 +167,7 @@ fn body_in(alloc: Global, nodes: &[Node]) -> Result<Body, ReplyError>
     }
 }
 
-/// Whether a response keeps the attribute of this name.
+// Whether a response keeps the attribute of this name.
 fn is_own(name: &[u8]) -> bool
     ensures { result ≡ spec.is_own_name name.now }
 {
@@ -193,7 +193,7 @@ fn own_attributes(
 
 /// The response that an element is.
 #[tactic(auto, unfolding(crate::specs::Readings::response_in))]
-pub fn response_in(alloc: Global, e: &Element) -> Result<Response, ReplyError>
+pub(crate) fn response_in(alloc: Global, e: &Element) -> Result<Response, ReplyError>
     ensures { Finds (λ response. response) result (spec.response_in e.now) }
 {
     let command = text(alloc, e, b"command")?;

@@ -86,14 +86,14 @@ pub enum Terminal {
 }
 
 /// Whether a program may not name this variable, in exactly this case of letters.
-pub fn is_superglobal(name: &[u8]) -> bool
+pub(crate) fn is_superglobal(name: &[u8]) -> bool
     ensures { result ≡ spec.is_superglobal name.now }
 {
     name == b"this".as_slice() || name == b"GLOBALS".as_slice()
 }
 
 /// What sort of token this is.
-pub fn terminal_of(kind: &TokenKind) -> Terminal
+pub(crate) fn terminal_of(kind: &TokenKind) -> Terminal
     ensures { result ≡ spec.terminal_of kind.now }
 {
     match kind {
@@ -169,7 +169,7 @@ pub fn terminal_of(kind: &TokenKind) -> Terminal
 }
 
 /// Whether two sorts are the same.
-pub fn same_terminal(a: Terminal, b: Terminal) -> bool
+pub(crate) fn same_terminal(a: Terminal, b: Terminal) -> bool
     ensures { result ≡ spec.same_terminal a b }
 {
     a as u8 == b as u8

@@ -12,7 +12,7 @@ use std::alloc::{AllocError, Global};
 
 /// Why a packet was not sent.
 #[derive(Clone, Copy, Debug, PartialEq, Eq)]
-pub enum Unsent {
+pub(crate) enum Unsent {
     /// The link's sink failed.
     Failed,
     /// Want of memory.
@@ -42,7 +42,7 @@ pub fn put_some<E: Sink>(out: &mut E, bytes: &[u8]) -> Result<(), Failed>
 }
 
 /// Sends the packets of these texts. Where that fails, a front of them was taken.
-pub fn send_all<K: Sink>(alloc: Global, texts: &[Bytes], sink: &mut K) -> Result<(), Unsent>
+pub(crate) fn send_all<K: Sink>(alloc: Global, texts: &[Bytes], sink: &mut K) -> Result<(), Unsent>
     requires { AllByRecursion IsPacketText texts.now }
     ensures taken { PutAppends (K.taken sink.old) (K.taken sink.new) result (flat_map packet_frame texts.now) }
     ensures write { IsErrOf result Unsent.Failed → Rose (K.faults sink.old) (K.faults sink.new) }
@@ -55,7 +55,7 @@ pub fn send_all<K: Sink>(alloc: Global, texts: &[Bytes], sink: &mut K) -> Result
 }
 
 /// Sends the packet of this text. Where that fails, a front of it was taken.
-pub fn send<K: Sink>(alloc: Global, text: &[u8], sink: &mut K) -> Result<(), Unsent>
+pub(crate) fn send<K: Sink>(alloc: Global, text: &[u8], sink: &mut K) -> Result<(), Unsent>
     requires { IsPacketText text.now }
     ensures taken { PutAppends (K.taken sink.old) (K.taken sink.new) result (packet_frame text.now) }
     ensures write { IsErrOf result Unsent.Failed → Rose (K.faults sink.old) (K.faults sink.new) }

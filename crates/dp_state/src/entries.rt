@@ -36,7 +36,7 @@ pub(crate) fn assign_in(
     }
 }
 
-/// The same where the name holds no value yet.
+// The same where the name holds no value yet.
 fn assign_new(
     alloc: Global,
     vars: &mut Vars,

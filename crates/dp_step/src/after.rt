@@ -78,7 +78,7 @@ pub(crate) fn receive_values<'p>(
     }
 }
 
-/// An operand of an `echo` is written.
+// An operand of an `echo` is written.
 fn echoed<'p>(
     alloc: Global,
     value: Value,
@@ -99,7 +99,7 @@ fn echoed<'p>(
     }
 }
 
-/// The program ends with a value.
+// The program ends with a value.
 fn exit_with<'p>(value: Value, state: &mut State) -> Result<Next<'p>, Halt>
     ensures { (setting : Setting) → Leads setting (λ k. after_rest setting any_after.ExitWith value k state.old) result state.new }
 {
@@ -111,7 +111,7 @@ fn exit_with<'p>(value: Value, state: &mut State) -> Result<Next<'p>, Halt>
     }
 }
 
-/// A place of an `unset` is taken away.
+// A place of an `unset` is taken away.
 fn unset_next<'p>(
     alloc: Global,
     name: &Bytes,
@@ -168,7 +168,7 @@ pub(crate) fn bind<'p>(
     }
 }
 
-/// The entry at a position is bound.
+// The entry at a position is bound.
 fn bind_at(binding: &Binding, subject: &Value, at: usize, state: &mut State) -> Result<(), Halt>
     ensures { (entry : EntryKey × Data) → slice_get (entries subject.now) at ≡ Some entry → AtOnce (bind_run binding.now entry state.old) result state.new }
 {

@@ -45,7 +45,7 @@ pub(crate) fn first_of<'p>(
     }
 }
 
-/// A part of an expression.
+// A part of an expression.
 fn first_of_part<'p>(
     alloc: Global,
     bundle: &'p Bundle,
@@ -60,7 +60,7 @@ fn first_of_part<'p>(
     }
 }
 
-/// An expression.
+// An expression.
 fn evaluate<'p>(
     alloc: Global,
     bundle: &'p Bundle,
@@ -84,7 +84,7 @@ fn evaluate<'p>(
     }
 }
 
-/// A step in an expression is one of the machine, without a moment.
+// A step in an expression is one of the machine, without a moment.
 fn widened<'p>(next: Result<PartNext<'p>, Halt>) -> Result<Small<'p>, Halt>
     ensures { (setting : Setting) (part : Follows → Run AnySignal) (t : AnyState) → PartLeads setting part next.entry t → Goes setting part result t }
 {
@@ -97,7 +97,7 @@ fn widened<'p>(next: Result<PartNext<'p>, Halt>) -> Result<Small<'p>, Halt>
     }
 }
 
-/// What is to be done next of an expression is what is to be done next.
+// What is to be done next of an expression is what is to be done next.
 fn widen<'p>(next: PartNext<'p>) -> Next<'p>
     ensures { (setting : Setting) (k : Follows) (s : AnyState) → next_rest setting result k s ≡ part_next_rest setting next.entry k s }
 {
@@ -114,7 +114,7 @@ fn widen<'p>(next: PartNext<'p>) -> Next<'p>
     }
 }
 
-/// A statement, or a part of one.
+// A statement, or a part of one.
 fn first_of_statement<'p>(
     alloc: Global,
     bound: u64,
@@ -145,7 +145,7 @@ fn first_of_statement<'p>(
     }
 }
 
-/// Turns of a loop, or an end.
+// Turns of a loop, or an end.
 fn first_of_turn<'p>(alloc: Global, hand: Hand<'p>, state: &mut State) -> Result<Small<'p>, Halt>
     ensures { (setting : Setting) → Goes setting (λ k. hand_rest setting hand.entry k state.old) result state.new }
 {
@@ -174,7 +174,7 @@ fn first_of_turn<'p>(alloc: Global, hand: Hand<'p>, state: &mut State) -> Result
     }
 }
 
-/// A step without a moment.
+// A step without a moment.
 fn moved<'p>(next: Result<Next<'p>, Halt>) -> Result<Small<'p>, Halt>
     ensures { (setting : Setting) (part : Follows → Run AnySignal) (t : AnyState) → Leads setting part next.entry t → Goes setting part result t }
 {
@@ -187,7 +187,7 @@ fn moved<'p>(next: Result<Next<'p>, Halt>) -> Result<Small<'p>, Halt>
     }
 }
 
-/// The frame of a call or a file that is done goes. It gives what its statements gave, or this where they gave none.
+// The frame of a call or a file that is done goes. It gives what its statements gave, or this where they gave none.
 fn leave<'p>(none: Value, signal: Signal, state: &mut State) -> Next<'p>
     ensures { (setting : Setting) (k : Follows) → next_rest setting result k state.new ≡ given_value k (value_returned none signal) (left state.old) }
 {
@@ -214,7 +214,7 @@ pub(crate) fn receive<'p>(
     }
 }
 
-/// Something is given to an inclusion.
+// Something is given to an inclusion.
 fn to_include<'p>(
     alloc: Global,
     bundle: &'p Bundle,
@@ -230,7 +230,7 @@ fn to_include<'p>(
     }
 }
 
-/// What was given is given to what waits behind.
+// What was given is given to what waits behind.
 fn passed_on<'p>(given: Given) -> Small<'p>
     ensures { (setting : Setting) (k : Follows) (s : AnyState) → small_rest setting result k s ≡ k given s }
 {
@@ -243,7 +243,7 @@ fn passed_on<'p>(given: Given) -> Small<'p>
     }
 }
 
-/// Something is given to a statement.
+// Something is given to a statement.
 fn to_after<'p>(
     alloc: Global,
     work: AfterValue<'p>,
@@ -261,7 +261,7 @@ fn to_after<'p>(
     }
 }
 
-/// Something is given to a part that waits for values.
+// Something is given to a part that waits for values.
 fn to_values<'p>(
     alloc: Global,
     work: ForValues<'p>,
@@ -279,7 +279,7 @@ fn to_values<'p>(
     }
 }
 
-/// Something is given to a part that waits for a signal.
+// Something is given to a part that waits for a signal.
 fn to_signal<'p>(alloc: Global, work: ForSignal<'p>, given: Given) -> Small<'p>
     ensures { (setting : Setting) (k : Follows) (s : AnyState) → small_rest setting result k s ≡ work_rest setting (any_work.ForSignal work.entry) k given s }
 {

@@ -43,7 +43,7 @@ impl<'p> Machine<'p> {
         }
     }
 
-    /// A small step with a part of an expression that was in hand.
+    // A small step with a part of an expression that was in hand.
     fn part(&mut self, part: PartHand<'p>) -> Result<Option<(MomentKind, u32)>, Halt>
         ensures { Moves self.old (rest_with self.old (any_hand.Part part.entry) self.old.state) result self.new }
     {
@@ -54,8 +54,8 @@ impl<'p> Machine<'p> {
         }
     }
 
-    /// A small step with an expression. One that changes nothing is evaluated whole, in the state as it is; where that is
-    /// fatal it is done part by part, so that the end is that of its part.
+    // A small step with an expression. One that changes nothing is evaluated whole, in the state as it is; where that is
+    // fatal it is done part by part, so that the end is that of its part.
     fn evaluate_whole(&mut self, e: &'p Expression) -> Result<Option<(MomentKind, u32)>, Halt>
         ensures { Moves self.old (rest_with self.old (any_hand.Part (any_part.Evaluate e.entry)) self.old.state) result self.new }
     {
@@ -69,7 +69,7 @@ impl<'p> Machine<'p> {
         }
     }
 
-    /// A small step with what was in hand.
+    // A small step with what was in hand.
     fn first(&mut self, hand: Hand<'p>) -> Result<Option<(MomentKind, u32)>, Halt>
         ensures { Moves self.old (rest_with self.old hand.entry self.old.state) result self.new }
     {
@@ -79,7 +79,7 @@ impl<'p> Machine<'p> {
         }
     }
 
-    /// Something is given to the innermost item of the pending work.
+    // Something is given to the innermost item of the pending work.
     fn take(&mut self, given: Given) -> Result<Option<(MomentKind, u32)>, Halt>
         ensures { Moves self.old (rest_with self.old (any_hand.Part (any_part.Give given)) self.old.state) result self.new }
     {
@@ -94,7 +94,7 @@ impl<'p> Machine<'p> {
         }
     }
 
-    /// Something is given to a part that waited.
+    // Something is given to a part that waited.
     fn pass(&mut self, work: Work<'p>, given: Given) -> Result<Option<(MomentKind, u32)>, Halt>
         ensures { Moves self.old (work_with self.old work.entry given self.old.state) result self.new }
     {
@@ -104,7 +104,7 @@ impl<'p> Machine<'p> {
         }
     }
 
-    /// What a small step comes to is kept.
+    // What a small step comes to is kept.
     fn keep(&mut self, small: Small<'p>) -> Result<Option<(MomentKind, u32)>, Halt>
         ensures { Moves self.old (small_with self.old small.entry self.old.state) result self.new }
     {
@@ -115,7 +115,7 @@ impl<'p> Machine<'p> {
         }
     }
 
-    /// What is to be done next is in hand, and what waits for it is the innermost item of the pending work.
+    // What is to be done next is in hand, and what waits for it is the innermost item of the pending work.
     fn hold(&mut self, next: Next<'p>) -> Result<(), Memory>
         ensures rest { OnOk result ((s : AnyState) → rest_of self.new s ≡ next_with self.old next.entry s) }
         ensures kept { (self.new.bundle.now ≡ self.old.bundle.now) × (self.new.bound ≡ self.old.bound) × (self.new.state ≡ self.old.state) }
@@ -130,7 +130,7 @@ impl<'p> Machine<'p> {
         }
     }
 
-    /// This is in hand, and the innermost item of the pending work is this.
+    // This is in hand, and the innermost item of the pending work is this.
     fn hold_both(&mut self, hand: Hand<'p>, item: Waiting<'p>) -> Result<(), Memory>
         ensures held { OnOk result ((self.new.hand ≡ hand.entry) × (self.new.pending.items ≡ self.old.pending.items ++ item.entry ∷ [])) }
         ensures kept { (self.new.bundle.now ≡ self.old.bundle.now) × (self.new.bound ≡ self.old.bound) × (self.new.depth ≡ self.old.depth) × (self.new.state ≡ self.old.state) }
@@ -145,7 +145,7 @@ impl<'p> Machine<'p> {
         }
     }
 
-    /// A function of a file is called.
+    // A function of a file is called.
     fn call(
         &mut self,
         file: u32,
@@ -165,7 +165,7 @@ impl<'p> Machine<'p> {
         }
     }
 
-    /// A function that was entered begins with a moment on its line.
+    // A function that was entered begins with a moment on its line.
     fn begin_body(&mut self, function: &'p Function) -> Result<Option<(MomentKind, u32)>, Halt>
         requires { 0 < self.old.depth }
         ensures { Moves self.old (body_with self.old function.now self.old.state) result self.new }
@@ -179,7 +179,7 @@ impl<'p> Machine<'p> {
         }
     }
 
-    /// The file of this number is included.
+    // The file of this number is included.
     fn include(&mut self, file: u32) -> Result<Option<(MomentKind, u32)>, Halt>
         ensures { Moves self.old (rest_with self.old (any_hand.Include file) self.old.state) result self.new }
     {
@@ -193,7 +193,7 @@ impl<'p> Machine<'p> {
         }
     }
 
-    /// A file that was entered begins.
+    // A file that was entered begins.
     fn begin_file(&mut self, file: u32) -> Result<Option<(MomentKind, u32)>, Halt>
         requires { 0 < self.old.depth }
         ensures { Moves self.old (file_with self.old file self.old.state) result self.new }
@@ -207,7 +207,7 @@ impl<'p> Machine<'p> {
         }
     }
 
-    /// The body of a call is done.
+    // The body of a call is done.
     fn end_call(&mut self, depth: u64, given: Given) -> Option<(MomentKind, u32)>
         ensures { Moves self.old (end_with self.old (any_waiting.EndCall depth) given self.old.state) (Ok result) self.new }
     {
@@ -221,7 +221,7 @@ impl<'p> Machine<'p> {
         }
     }
 
-    /// The statements of an included file are done.
+    // The statements of an included file are done.
     fn end_file(&mut self, depth: u64, given: Given) -> Option<(MomentKind, u32)>
         ensures { Moves self.old (end_with self.old (any_waiting.EndFile depth) given self.old.state) (Ok result) self.new }
     {
@@ -231,7 +231,7 @@ impl<'p> Machine<'p> {
     }
 }
 
-/// Whether this ends a call.
+// Whether this ends a call.
 fn ends_call(given: &Given) -> bool
     ensures { result ≡ call_ends given.now }
 {
@@ -242,7 +242,7 @@ fn ends_call(given: &Given) -> bool
     }
 }
 
-/// What is in hand once the body of a call is done.
+// What is in hand once the body of a call is done.
 fn call_hand<'p>(given: Given) -> Hand<'p>
     ensures { (setting : Setting) (depth : ℕ) (k : Follows) (s : SomeState) → waiting_rest setting (any_waiting.EndCall depth) k given s ≡ behind (leave_if (call_ends given) (line_of s)) (hand_rest setting result k) s }
 {
@@ -253,7 +253,7 @@ fn call_hand<'p>(given: Given) -> Hand<'p>
     }
 }
 
-/// What is in hand once the statements of an included file are done.
+// What is in hand once the statements of an included file are done.
 fn file_left<'p>(given: Given) -> Hand<'p>
     ensures { (setting : Setting) (depth : ℕ) (k : Follows) (s : SomeState) → waiting_rest setting (any_waiting.EndFile depth) k given s ≡ hand_rest setting result k s }
 {
@@ -271,7 +271,7 @@ pub(crate) fn put_hand<'p>(place: &mut Hand<'p>, hand: Hand<'p>)
     drop(mem::replace(place, hand));
 }
 
-/// One more item is pending.
+// One more item is pending.
 fn push_item<'p>(pending: &mut Vec<Waiting<'p>>, item: Waiting<'p>) -> Result<(), Memory>
     ensures { OnOk result (pending.new.items ≡ pending.old.items ++ item.entry ∷ []) }
 {

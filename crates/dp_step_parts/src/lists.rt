@@ -84,7 +84,7 @@ pub(crate) fn links<'p>(left: Value, all: &'p Items<Link>, at: usize) -> Next<'p
     }
 }
 
-/// A left operand, an operator with its right operand, and what is joined behind it.
+// A left operand, an operator with its right operand, and what is joined behind it.
 fn link<'p>(left: Value, first: &'p Link, all: &'p Items<Link>, at: usize) -> Next<'p>
     ensures { (setting : Setting) (k : Follows) (s : AnyState) → next_rest setting result k s ≡ and_then (link_run first.now left setting s) (λ v t. and_then (links_run (map link_run (members_from at all.now)) v setting t) (to_value k)) }
 {
@@ -98,7 +98,7 @@ fn link<'p>(left: Value, first: &'p Link, all: &'p Items<Link>, at: usize) -> Ne
     }
 }
 
-/// `||`: the left operand holds, or the right one decides.
+// `||`: the left operand holds, or the right one decides.
 fn or<'p>(left: bool, right: &'p Expression, all: &'p Items<Link>, at: usize) -> Next<'p>
     ensures { (setting : Setting) (k : Follows) (s : AnyState) → next_rest setting result k s ≡ if left then links_after setting (members_from at all.now) k (any_kind.Bool true) s else and_then (evaluation right.now setting s) (λ v t. links_after setting (members_from at all.now) k (any_kind.Bool (value_holds v)) t) }
 {
@@ -115,7 +115,7 @@ fn or<'p>(left: bool, right: &'p Expression, all: &'p Items<Link>, at: usize) ->
     }
 }
 
-/// `&&`: the left operand does not hold, or the right one decides.
+// `&&`: the left operand does not hold, or the right one decides.
 fn and<'p>(left: bool, right: &'p Expression, all: &'p Items<Link>, at: usize) -> Next<'p>
     ensures { (setting : Setting) (k : Follows) (s : AnyState) → next_rest setting result k s ≡ if left then and_then (evaluation right.now setting s) (λ v t. links_after setting (members_from at all.now) k (any_kind.Bool (value_holds v)) t) else links_after setting (members_from at all.now) k (any_kind.Bool false) s }
 {

@@ -48,7 +48,7 @@ pub fn give_to<'p>(
     }
 }
 
-/// Something is given to a list of parts.
+// Something is given to a list of parts.
 fn to_part<'p>(
     alloc: Global,
     work: ForPart<'p>,
@@ -69,7 +69,7 @@ fn to_part<'p>(
     }
 }
 
-/// Something is given to an expression that waits for a value.
+// Something is given to an expression that waits for a value.
 fn to_value<'p>(
     alloc: Global,
     work: ForValue<'p>,
@@ -90,7 +90,7 @@ fn to_value<'p>(
     }
 }
 
-/// Something is given to an expression that waits for values.
+// Something is given to an expression that waits for values.
 fn to_values<'p>(
     alloc: Global,
     work: ForValues<'p>,

@@ -15,10 +15,10 @@ use dp_words::Ide;
 use std::alloc::Global;
 use std::sync::Wait;
 
-/// The most bytes of a script.
+// The most bytes of a script.
 const SCRIPT_LIMIT: usize = 1_048_576;
 
-/// The failure that an end of playing is.
+// The failure that an end of playing is.
 fn failure_of(why: IdeError) -> Failure
     ensures { result ≡ failure_of why }
 {
@@ -42,7 +42,7 @@ fn failure_of(why: IdeError) -> Failure
     }
 }
 
-/// The failure that it is that a script was not fetched.
+// The failure that it is that a script was not fetched.
 fn unfetched<'a>(script: &'a str, why: ShelfError) -> Refused<'a>
     ensures failed { why ≡ ShelfError.Failed → (result.failure ≡ Failure.ShelfFailed) × (result.name.now ≡ script.now) }
     ensures missing { why ≡ ShelfError.Missing → (result.failure ≡ Failure.NoFile) × (result.name.now ≡ script.now) }
@@ -61,7 +61,7 @@ fn unfetched<'a>(script: &'a str, why: ShelfError) -> Refused<'a>
     }
 }
 
-/// The script that bytes are.
+// The script that bytes are.
 fn script_in<'a>(alloc: Global, bytes: &[u8]) -> Result<Script, Refused<'a>>
     ensures script { IfOk result (IsWholeScript bytes.now) }
     ensures bad { IfErr result (λ why. IsBadScript why.failure why.name.now bytes.now) }
@@ -75,7 +75,7 @@ fn script_in<'a>(alloc: Global, bytes: &[u8]) -> Result<Script, Refused<'a>>
     }
 }
 
-/// The script of this name.
+// The script of this name.
 fn fetch_script<'a, H: Shelf>(
     alloc: Global,
     script: &'a str,
@@ -94,7 +94,7 @@ fn fetch_script<'a, H: Shelf>(
     }
 }
 
-/// Plays a script over the link that a new gate gives, and puts the link back. `None` where it gave none.
+// Plays a script over the link that a new gate gives, and puts the link back. `None` where it gave none.
 fn meet<R: Wait + Sync, D: Gate, O: Sink>(
     rt: &R,
     alloc: Global,
@@ -125,7 +125,7 @@ fn meet<R: Wait + Sync, D: Gate, O: Sink>(
     }
 }
 
-/// Plays a script over the link that a gate at this port gives, and shuts the gate. `None` where no link came.
+// Plays a script over the link that a gate at this port gives, and shuts the gate. `None` where no link came.
 fn play_at<R: Wait + Sync, N: Net, O: Sink>(
     rt: &R,
     alloc: Global,
@@ -150,7 +150,7 @@ fn play_at<R: Wait + Sync, N: Net, O: Sink>(
     }
 }
 
-/// What is told of how a script was played.
+// What is told of how a script was played.
 fn judge<'a>(played: Option<Result<(), IdeError>>) -> Result<u8, Refused<'a>>
     ensures well { IfOk result (λ status. (status ≡ 0) × (played ≡ Some (Ok tt))) }
     ensures ill { IfErr result (λ why. IsToldBy played why.failure × (why.name.now ≡ [])) }

@@ -31,10 +31,10 @@ use std::alloc::Global;
 use std::marker::Brand;
 use std::sync::ledger::{Blank, Ledger};
 
-/// The most bytes of a list of events.
+// The most bytes of a list of events.
 const LIST_LIMIT: usize = 1_048_576;
 
-/// The failure that it is that a list was not fetched.
+// The failure that it is that a list was not fetched.
 fn unfetched<'a>(events: &'a str, why: ShelfError) -> Refused<'a>
     ensures failed { why ≡ ShelfError.Failed → (result.failure ≡ Failure.ShelfFailed) × (result.name.now ≡ events.now) }
     ensures missing { why ≡ ShelfError.Missing → (result.failure ≡ Failure.NoFile) × (result.name.now ≡ events.now) }
@@ -53,7 +53,7 @@ fn unfetched<'a>(events: &'a str, why: ShelfError) -> Refused<'a>
     }
 }
 
-/// What the file of this name has.
+// What the file of this name has.
 fn fetch_list<'a, H: Shelf>(
     alloc: Global,
     events: &'a str,
@@ -72,7 +72,7 @@ fn fetch_list<'a, H: Shelf>(
     }
 }
 
-/// The list of events that bytes are.
+// The list of events that bytes are.
 fn list_in<'a>(alloc: Global, bytes: &[u8]) -> Result<Events, Refused<'a>>
     ensures list { IfOk result (IsWholeList bytes.now) }
     ensures bad { IfErr result (λ why. IsBadList why.failure why.name.now bytes.now) }
@@ -89,7 +89,7 @@ fn list_in<'a>(alloc: Global, bytes: &[u8]) -> Result<Events, Refused<'a>>
     }
 }
 
-/// Replays a list of events over a program, with a ledger for the steps of its engines.
+// Replays a list of events over a program, with a ledger for the steps of its engines.
 fn replay_over<'a, K: Sink, L: Ledger>(
     alloc: Global,
     events: &Events,
@@ -113,7 +113,7 @@ fn replay_over<'a, K: Sink, L: Ledger>(
     }
 }
 
-/// Replays what was fetched: the list is read first, then the files.
+// Replays what was fetched: the list is read first, then the files.
 fn replay_fetched<'a, K: Sink>(
     alloc: Global,
     request: Replay<'a>,

@@ -17,7 +17,7 @@ use dp_run::{ProgramError, RunError};
 use dp_words::Program;
 use std::alloc::Global;
 
-/// The name of the file of this number.
+// The name of the file of this number.
 fn name_at(names: &[String], number: u32) -> &[u8]
     ensures { result.now ≡ name_in (map string_bytes names.now) number }
 {
@@ -27,7 +27,7 @@ fn name_at(names: &[String], number: u32) -> &[u8]
     }
 }
 
-/// The failure that it is that files make no program.
+// The failure that it is that files make no program.
 fn program_failure(why: &ProgramError) -> Failure
     ensures { result ≡ program_failure why.now }
 {
@@ -40,7 +40,7 @@ fn program_failure(why: &ProgramError) -> Failure
     }
 }
 
-/// The name of the file that it is of, where it is of one, else nothing.
+// The name of the file that it is of, where it is of one, else nothing.
 fn program_name<'a>(names: &'a [String], why: &ProgramError) -> &'a [u8]
     ensures { result.now ≡ program_name (map string_bytes names.now) why.now }
 {
@@ -54,7 +54,7 @@ fn program_name<'a>(names: &'a [String], why: &ProgramError) -> &'a [u8]
 }
 
 /// What is told of files that make no program.
-pub fn told_of_files<'a>(program: Program<'a>, why: ProgramError) -> Refused<'a>
+pub(crate) fn told_of_files<'a>(program: Program<'a>, why: ProgramError) -> Refused<'a>
     ensures { IsProgramTold result.failure result.name.now (ask_told program.entry) why }
 {
     Refused {
@@ -63,7 +63,7 @@ pub fn told_of_files<'a>(program: Program<'a>, why: ProgramError) -> Refused<'a>
     }
 }
 
-/// The failure that the end of a run is.
+// The failure that the end of a run is.
 fn failure_of(bound: u64, why: &RunError) -> Failure
     ensures { result ≡ failure_of bound why.now }
 {
@@ -83,7 +83,7 @@ fn failure_of(bound: u64, why: &RunError) -> Failure
     }
 }
 
-/// The name of the file that the end of a run is of, where it is of one, else nothing.
+// The name of the file that the end of a run is of, where it is of one, else nothing.
 fn name_told<'a>(names: &'a [String], why: &RunError) -> &'a [u8]
     ensures { result.now ≡ name_told (map string_bytes names.now) why.now }
 {
@@ -101,7 +101,7 @@ fn name_told<'a>(names: &'a [String], why: &RunError) -> &'a [u8]
 }
 
 /// What is told of the end of a run.
-pub fn told<'a>(program: Program<'a>, why: &RunError) -> Refused<'a>
+pub(crate) fn told<'a>(program: Program<'a>, why: &RunError) -> Refused<'a>
     ensures { IsRunTold result.failure result.name.now (ask_told program.entry) why.now }
 {
     Refused {
@@ -111,7 +111,7 @@ pub fn told<'a>(program: Program<'a>, why: &RunError) -> Refused<'a>
 }
 
 /// Runs a program, puts what it wrote, and answers its status.
-pub fn run<'a, H: Shelf, K: Sink>(
+pub(crate) fn run<'a, H: Shelf, K: Sink>(
     alloc: Global,
     program: Program<'a>,
     shelf: &mut H,

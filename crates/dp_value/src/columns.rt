@@ -170,7 +170,7 @@ pub(crate) fn first_entry(alloc: Global, key: Key, value: Value) -> Result<Box<C
     Ok(Box::new(alloc, columns)?)
 }
 
-/// The largest integer key ever used, once this key is used too.
+// The largest integer key ever used, once this key is used too.
 fn raised(largest: Option<i64>, key: &Key) -> Option<i64>
     ensures { result ≡ raised_by largest key.now }
 {
@@ -182,7 +182,7 @@ fn raised(largest: Option<i64>, key: &Key) -> Option<i64>
 }
 
 /// The position of a key.
-pub fn place(keys: &IndexSet<Key>, key: &Key) -> Option<usize>
+pub(crate) fn place(keys: &IndexSet<Key>, key: &Key) -> Option<usize>
     ensures place { MatchOption result (IsAbsent (key_eq key.now) keys.now.keys) (IsFirst (key_eq key.now) keys.now.keys) }
     ensures within { IfSome result (λ i. i < length keys.now.keys) }
 {
@@ -190,7 +190,7 @@ pub fn place(keys: &IndexSet<Key>, key: &Key) -> Option<usize>
 }
 
 /// Puts a value under a key: in its place where the key is there, else behind all others.
-pub fn store(
+pub(crate) fn store(
     keys: &mut IndexSet<Key>,
     values: &mut Vec<Value>,
     key: Key,
@@ -212,7 +212,7 @@ pub fn store(
 }
 
 /// Takes the pair at a position out, and gives what it weighed.
-pub fn take_out(keys: &mut IndexSet<Key>, values: &mut Vec<Value>, at: usize) -> u64
+pub(crate) fn take_out(keys: &mut IndexSet<Key>, values: &mut Vec<Value>, at: usize) -> u64
     requires within { at < length keys.old.keys }
     requires same_length { length values.old.items ≡ length keys.old.keys }
     requires light { pairs_weight (pairs_in keys.old.keys values.old.items) ≤ weight_limit }

@@ -59,7 +59,7 @@ impl Columns {
     }
 }
 
-/// The same keys in the same order.
+// The same keys in the same order.
 fn copy_keys(keys: &IndexSet<Key>) -> Result<IndexSet<Key>, Memory>
     ensures { IfOk result (λ copy. copy.keys ≡ keys.now.keys) }
 {

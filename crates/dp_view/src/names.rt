@@ -12,7 +12,7 @@ use itoa::Buffer;
 use std::alloc::Global;
 
 /// What a user calls the variable of this name: `$` and the name.
-pub fn variable_name(alloc: Global, name: &[u8]) -> Result<Bytes, Memory>
+pub(crate) fn variable_name(alloc: Global, name: &[u8]) -> Result<Bytes, Memory>
     ensures { IfOk result (λ n. n ≡ spec.variable_name name.now) }
 {
     let mut out = Vec::from_slice(alloc, b"$")?;
@@ -21,7 +21,7 @@ pub fn variable_name(alloc: Global, name: &[u8]) -> Result<Bytes, Memory>
 }
 
 /// What a user calls the entry under this key: its text.
-pub fn key_text(alloc: Global, key: &Key) -> Result<Bytes, Memory>
+pub(crate) fn key_text(alloc: Global, key: &Key) -> Result<Bytes, Memory>
     ensures { IfOk result (λ n. n ≡ spec.key_text key.now) }
 {
     match key {
@@ -70,7 +70,7 @@ fn put_indices(out: &mut Vec<u8>, keys: &[Key]) -> Result<(), Memory>
 }
 
 /// What a user calls what stands at a path: the variable, or the text of the last key.
-pub fn own_name(alloc: Global, path: &Path) -> Result<Bytes, Memory>
+pub(crate) fn own_name(alloc: Global, path: &Path) -> Result<Bytes, Memory>
     ensures { IfOk result (λ n. n ≡ spec.own_name path.now) }
 {
     let keys = path.keys.as_slice();
@@ -81,7 +81,7 @@ pub fn own_name(alloc: Global, path: &Path) -> Result<Bytes, Memory>
 }
 
 /// The name by which a command can ask for what stands at a path.
-pub fn full_name(alloc: Global, path: &Path) -> Result<Bytes, Memory>
+pub(crate) fn full_name(alloc: Global, path: &Path) -> Result<Bytes, Memory>
     ensures { IfOk result (λ n. n ≡ spec.full_name path.now) }
 {
     let mut out = Vec::from_slice(alloc, b"$")?;
@@ -99,7 +99,11 @@ fn with_index(alloc: Global, full: &[u8], key: &Key) -> Result<Bytes, Memory>
 }
 
 /// The full name of an entry, where that of its array is given.
-pub fn entry_name(alloc: Global, full: &Option<Bytes>, key: &Key) -> Result<Option<Bytes>, Memory>
+pub(crate) fn entry_name(
+    alloc: Global,
+    full: &Option<Bytes>,
+    key: &Key,
+) -> Result<Option<Bytes>, Memory>
     ensures { IfOk result (λ n. n ≡ spec.entry_name full.now key.now) }
 {
     match full {

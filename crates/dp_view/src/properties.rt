@@ -164,7 +164,7 @@ fn shape(
 }
 
 /// The property of a value with these names.
-pub fn property_of(
+pub(crate) fn property_of(
     alloc: Global,
     p: &Paging,
     name: Option<Bytes>,

@@ -8,7 +8,7 @@ ghost use Rattle.dp_view.specs.inner.Taking.{test_of};
 
 /// A sort of bytes of which a part of a name consists.
 #[derive(Clone, Copy, Debug)]
-pub enum Sort {
+pub(crate) enum Sort {
     /// What the name of a variable may hold.
     Name,
     /// What an integer may hold.
@@ -16,7 +16,7 @@ pub enum Sort {
 }
 
 /// Whether the name of a variable may begin with the byte.
-pub fn is_start(b: u8) -> bool
+pub(crate) fn is_start(b: u8) -> bool
     ensures { result ≡ bytes_of.is_start b }
 {
     (b'a' <= b && b <= b'z') || (b'A' <= b && b <= b'Z') || b == b'_' || 0x80 <= b
@@ -51,7 +51,7 @@ fn run_len(sort: Sort, bytes: &[u8]) -> usize
 }
 
 /// The run of bytes of a sort at the front, and what stands behind it.
-pub fn run(sort: Sort, bytes: &[u8]) -> (&[u8], &[u8])
+pub(crate) fn run(sort: Sort, bytes: &[u8]) -> (&[u8], &[u8])
     ensures { (result.0.now, result.1.now) ≡ run_at (test_of sort) bytes.now }
 {
     bytes.split_at(run_len(sort, bytes))

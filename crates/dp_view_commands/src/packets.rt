@@ -15,7 +15,7 @@ use dp_wire::PACKET_LIMIT;
 use itoa::Buffer;
 use std::alloc::Global;
 
-/// The most bytes of a packet's text.
+// The most bytes of a packet's text.
 const LIMIT: u32 = PACKET_LIMIT as u32;
 
 // Puts an attribute behind others.

@@ -30,14 +30,14 @@ pub(crate) fn after_text(bytes: &[u8], left: u32) -> Option<u32>
     less(left, escaped_size(bytes))
 }
 
-/// The base64 of bytes.
+// The base64 of bytes.
 fn after_base64(bytes: &[u8], left: u32) -> Option<u32>
     ensures { spec.Leaves left (spec.text_size (base64 bytes.now)) result }
 {
     less(left, base64_size(bytes))
 }
 
-/// The decimal of a number.
+// The decimal of a number.
 fn after_number(n: u64, left: u32) -> Option<u32>
     ensures { spec.Leaves left (spec.text_size (decimal n)) result }
 {
