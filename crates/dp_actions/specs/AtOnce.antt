@@ -9,7 +9,7 @@ use Rattle.dp_actions.specs.declared.halt.Halt.{Halt}
 use Rattle.dp_actions.specs.declared.halt.Halt.TheVariants.{Memory, Finished, Stopped}
 use Rattle.dp_actions.specs.Run.{Run, Done, Over}
 
--- a call that answers this and leaves this state has done this run; want of memory says nothing
+-- a call that answers this and leaves this state has done this run; out of memory says nothing
 abbrev pub Leaves : {A : Type 0} → Run A → Result A Halt → State → Type 0
 Leaves run (Ok a) s = run ≡ Done a s
 Leaves run (Err (Finished o)) s = run ≡ Over o s

@@ -11,7 +11,7 @@ pub enum Halt {
     Finished(Outcome),
     /// The moment came at which it was to stop.
     Stopped(Moment),
-    /// Want of memory.
+    /// Out of memory.
     Memory,
 }
 

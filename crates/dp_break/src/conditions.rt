@@ -18,7 +18,7 @@ use std::alloc::Global;
 // The most bytes that an expression may have.
 const EXPRESSION_LIMIT: usize = 4096;
 
-// Why there is no tree: 207, or want of memory.
+// Why there is no tree: 207, or out of memory.
 fn no_expression(why: ParseError) -> BreakError
     ensures { result ≡ error_of why }
 {

@@ -12,7 +12,7 @@ pub enum BreakError {
     /// The code of the error response. DBGp 1.0, "Error Codes": 3, 200, 202, 203, 205 or 207.
     #[error("error {0}")]
     Code(u16),
-    /// Want of memory.
+    /// Out of memory.
     #[error("out of memory")]
     Memory,
 }

@@ -16,7 +16,7 @@ abbrev pub IsCode : Option ℕ → BreakpointError → Type 0
 IsCode refusal (Code code) = refusal ≡ Some code
 IsCode refusal Memory = ⊥
 
--- why there is no answer: a refusal, or want of memory
+-- why there is no answer: a refusal, or out of memory
 abbrev pub IsCause : Option ℕ → BreakpointError → Type 0
 IsCause refusal (Code code) = refusal ≡ Some code
 IsCause refusal Memory = ⊤

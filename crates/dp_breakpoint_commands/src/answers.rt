@@ -149,7 +149,7 @@ fn update_breakpoint(
 /// It is refused with the first code of its row whose test holds, and then nothing has changed: breakpoint_set with 201, 3,
 /// 204, 200, 202, 203 or 207; breakpoint_update with 205, 3, 204, 202 or 203; breakpoint_get and breakpoint_remove with 205. A
 /// list ends before the first breakpoint with which its text would have more than 16,777,216 bytes. What is no breakpoint
-/// command is refused with 4. After want of memory nothing is said of the breakpoints.
+/// command is refused with 4. Once memory ran out nothing is said of the breakpoints.
 pub fn answer_breakpoints(
     alloc: Global,
     bundle: &Bundle,
@@ -165,7 +165,7 @@ pub fn answer_breakpoints(
     ensures accepted { OnOk result (spec.breakpoint_refusal bundle.now here breaks.old request ≡ None) }
     ensures table { OnOk result (breaks.new ≡ spec.breakpoint_table bundle.now here request breaks.old) }
     ensures refused { IfErr result (IsCause (spec.breakpoint_refusal bundle.now here breaks.old request)) }
-    // Want of memory comes before a refusal only where a URI is to be decoded, or an expression is to be read.
+    // Out of memory comes before a refusal only where a URI is to be decoded, or an expression is to be read.
     ensures surely { spec.names_uri request ≡ false
         → IfSome (spec.plain_breakpoint_refusal bundle.now here breaks.old request) (λ code.
         result ≡ Err (BreakpointError.Code code)) }

@@ -13,7 +13,7 @@ pub enum BreakpointError {
     /// The code of the error response. DBGp 1.0, "Error Codes".
     #[error("error {0}")]
     Code(u16),
-    /// Want of memory.
+    /// Out of memory.
     #[error("out of memory")]
     Memory,
 }

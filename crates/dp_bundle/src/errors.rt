@@ -16,7 +16,7 @@ pub enum BundleError {
     /// The file is longer than [`FILE_LIMIT`](dp_tree::FILE_LIMIT).
     #[error("file {file} is too long")]
     TooLong { file: u32 },
-    /// Want of memory.
+    /// Out of memory.
     #[error("out of memory")]
     Memory,
 }

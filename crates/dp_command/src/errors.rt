@@ -13,7 +13,7 @@ pub enum LineError {
     /// No command line is spelt so.
     #[error("no command line")]
     Parse,
-    /// Want of memory.
+    /// Out of memory.
     #[error("out of memory")]
     Memory,
 }
@@ -66,7 +66,7 @@ pub enum CommandError {
     /// The code of the error response: 2, 4 or 3.
     #[error("error {0}")]
     Code(u16),
-    /// Want of memory.
+    /// Out of memory.
     #[error("out of memory")]
     Memory,
 }

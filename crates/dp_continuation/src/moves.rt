@@ -45,7 +45,7 @@ fn pass(
 /// those of the moments up to there, each of which is passed once and takes one step. Where none is held and the command
 /// is `run`, it goes as fast as a program that nothing stops.
 ///
-/// After want of memory nothing is said of the machine and of the breakpoints.
+/// Once memory ran out nothing is said of the machine and of the breakpoints.
 pub fn go_on_from<L: Ledger>(
     machine: &mut Machine,
     bundle: &Bundle,

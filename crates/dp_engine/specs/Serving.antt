@@ -23,7 +23,7 @@ abbrev pub IsOver : Option SessionEnd → Type 0
 IsOver ended = (ended ≡ Some end.Killed) ⊎ ((o : Outcome) × (ended ≡ Some (end.Finished o)))
 
 -- why a session that no fault of a put cut short ended here: as dp_serving has it, but
--- that a program that had ended and one that was killed are told alike
+-- that a program that had ended and one that was killed are reported alike
 abbrev pub EndsBy : ServeEnd → Option SessionEnd → List ℕ → List ℕ → Change → Type 0
 EndsBy Stopped ended rest read source = IsOver ended
 EndsBy Detached ended rest read source = IsOverBy (over.Ended end.Detached) ended rest read source
@@ -49,7 +49,7 @@ pub record IsServed (served : Served) (bundle : Bundle) (bound : ℕ) (key : Lis
 
 -- What a fault leaves of a session with these commands. Where the link failed, the program's own
 -- output has the whole of what goes there, and the program has ended as it does with them; else
--- that output has a front of it, and no outcome is told.
+-- that output has a front of it, and no outcome is reported.
 abbrev pub CutBy : ServeEnd → Option Outcome → Bundle → ℕ → List (List ℕ) → Change → Change → Type 0
 CutBy WriteFault outcome bundle bound taken sink out =
     Rose sink.faults_before sink.faults

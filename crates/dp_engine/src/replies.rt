@@ -113,7 +113,7 @@ fn tell_command(
     tell(alloc, response)
 }
 
-// How it is told whether a command has this name.
+// How it is reported whether a command has this name.
 fn supported(name: &[u8]) -> &'static [u8]
     ensures text { result.now ≡ flag (is_some (name_of name.now)) }
     ensures short { length result.now ≤ 16 }

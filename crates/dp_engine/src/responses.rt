@@ -133,7 +133,7 @@ pub(crate) fn success(alloc: Global, to: &Addressee, success: bool) -> Result<Re
     response(alloc, to, attributes, Body::Nothing)
 }
 
-/// How it is told whether something is so.
+/// How it is reported whether something is so.
 pub(crate) fn flag(holds: bool) -> &'static [u8]
     ensures text { result.now ≡ flag_text holds }
     ensures short { length result.now ≤ 16 }

@@ -37,7 +37,7 @@ pub enum ServeEnd {
     OutFault,
     /// The most bytes of a session were read.
     ByteLimit,
-    /// Want of memory.
+    /// Out of memory.
     Memory,
 }
 

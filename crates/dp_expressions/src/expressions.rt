@@ -198,7 +198,7 @@ pub(crate) fn place_over<R: Inside + Drop>(
 }
 
 /// Reads a part of an expression with at most so many levels of nesting, and leaves what stands behind it. A refusal names
-/// the first token that is wrong or too deep, or is want of memory.
+/// the first token that is wrong or too deep, or is out of memory.
 pub fn expression(
     alloc: Global,
     tokens: &mut Tokens<'_>,

@@ -28,7 +28,7 @@ pub(crate) trait Inside {
         ensures { Reads (below level part tokens.old) result tokens.new };
 }
 
-/// A function that reads a part with as many levels as it is told.
+/// A function that reads a part with as many levels as it is given.
 #[derive(Drop)]
 pub(crate) struct Called<F> {
     pub(crate) function: F,

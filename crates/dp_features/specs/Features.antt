@@ -59,7 +59,7 @@ defaults = record {
   notify_ok = 0;
 }
 
--- the value that is told
+-- the value that is reported
 abbrev pub value_of : Features → Feature → List ℕ
 value_of features LanguageSupportsThreads = codes "0"
 value_of features LanguageName = codes "PHP"

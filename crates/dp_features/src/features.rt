@@ -84,7 +84,7 @@ impl Features {
         }
     }
 
-    /// The value of a feature, as it is told.
+    /// The value of a feature, as it is reported.
     pub fn value(&self, alloc: Global, feature: Feature) -> Result<Bytes, Memory>
         ensures value { IfOk result (λ text. text ≡ spec.value_of self.now feature) }
         ensures short { IfOk result (λ text. length text ≤ 64) }

@@ -172,7 +172,7 @@ pub record Ends (script : List Instruction) (end : Result (Unit {0}) IdeError)
   pub consumed : Consumes source.told_before source.told read
   pub how : EndsPlaying end script read sink out ⊎ EndsWaiting end script read source sink out
 
--- what was read decides: no fault, and no want of memory
+-- what was read decides: no fault, and no lack of memory
 abbrev pub is_verdict : Result (Unit {0}) IdeError → Bool
 is_verdict (Ok u) = true
 is_verdict (Err (Differs line wanted found)) = true

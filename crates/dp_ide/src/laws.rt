@@ -12,7 +12,7 @@ pub fn one_message()
     ensures { (text : List ℕ) (one other : Message) → IsMessage text one → IsMessage text other → one ≡ other }
 {}
 
-/// What was read decides how a script ends, where no fault and no want of memory cuts it short: of a source that tells
+/// What was read decides how a script ends, where no fault and no lack of memory cuts it short: of a source that tells
 /// its bytes there is one such end.
 pub fn one_end()
     ensures { (script : List Instruction) (one other : Result (Unit {0}) IdeError)

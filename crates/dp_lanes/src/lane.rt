@@ -74,7 +74,7 @@ impl Lane {
         }
     }
 
-    /// Appends a piece of the stream, where more of a frame has to come. On want of memory all stays as before.
+    /// Appends a piece of the stream, where more of a frame has to come. Where memory runs out all stays as before.
     pub fn feed(&mut self, piece: &[u8]) -> Result<(), Memory>
         requires part { IsPart (kind_of self.old) (received_in self.old).held }
         requires piece { length piece.now ≤ 65536 }

@@ -29,7 +29,7 @@ tokens_within (suc count) at line (b ∷ t) =
 abbrev pub expression_tokens : List ℕ → Option (List Token)
 expression_tokens bytes = tokens_within (length bytes) 0 1 bytes
 
--- the tokens that bytes have, and only those, are told
+-- the tokens that bytes have, and only those, are reported
 abbrev pub Tells : (List ℕ → Option (List Token)) → Type 0
 Tells told =
     (bytes : List ℕ) (tokens : List Token) → (told bytes ≡ Some tokens) ↔ AreTokens bytes tokens

@@ -20,7 +20,7 @@ pub enum LexError {
     /// A number above 9,223,372,036,854,775,807, at its first digit.
     #[error("wide number at offset {offset}")]
     WideNumber { offset: u32 },
-    /// Want of memory.
+    /// Out of memory.
     #[error("out of memory")]
     Memory,
 }

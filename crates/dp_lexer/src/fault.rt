@@ -13,7 +13,7 @@ pub enum Fault {
     WideNumber,
 }
 
-/// Why no piece was found: what is wrong and at which byte from here, or want of memory.
+/// Why no piece was found: what is wrong and at which byte from here, or out of memory.
 #[derive(Debug, Drop)]
 pub enum Wrong {
     Fault(Fault, usize),

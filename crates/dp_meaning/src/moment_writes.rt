@@ -20,7 +20,7 @@ use std::mem;
 /// How many moments an evaluation may have.
 pub(crate) const EVALUATION_LIMIT: u64 = 10_000;
 
-/// Makes those of the writes that have a number, in their order, in a state. It fails for want of memory alone, and then
+/// Makes those of the writes that have a number, in their order, in a state. It fails for lack of memory alone, and then
 /// nothing is said of the state.
 pub fn write_all(
     alloc: Global,

@@ -17,7 +17,7 @@ use Rattle.dp_operations.specs.Lists.{list_of, light_array}
 use Rattle.dp_operations.specs.Parts.{part_of, repeated, join_by}
 use Rattle.dp_operations.specs.Text.{text_of}
 
--- r is the value or the refusal that the table has, or want of memory
+-- r is the value or the refusal that the table has, or out of memory
 abbrev pub CallAnswers : Result Value CallError → Result Data CallError → Type 0
 CallAnswers r table =
     MatchResult r (λ v. table ≡ Ok (data_of v)) (λ e. (e ≡ Memory) ⊎ (table ≡ Err e))

@@ -2,7 +2,7 @@
 use Rattle.std.specs.Prelude.{◌≡◌, ℕ, List}
 use Rattle.std.specs.declared.option.Option.{Option}
 
--- what an object told and how often it had failed, before a call and after it
+-- what an object reported and how often it had failed, before a call and after it
 pub record Change : Type 0 where
   pub told_before : Option (List ℕ)
   pub told : Option (List ℕ)

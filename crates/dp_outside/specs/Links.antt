@@ -22,14 +22,14 @@ abbrev pub made : {A E : Type 0} → (A → Link) → Result A E → Option Link
 made tells (Ok a) = Some (tells a)
 made tells (Err e) = None
 
--- a dial: the address that it was for, and what the link told when it was given, where one was
+-- a dial: the address that it was for, and what the link reported when it was given, where one was
 pub record Dial : Type 0 where
   pub host : List ℕ
   pub port : ℕ
   pub made : Option Link
 
--- a gate that was shut: its port, the links that it had given as they told when they were given,
--- and those that had come back as they told then
+-- a gate that was shut: its port, the links that it had given as they reported when they were given,
+-- and those that had come back as they reported then
 pub record Door : Type 0 where
   pub port : ℕ
   pub accepted : Option (List Link)

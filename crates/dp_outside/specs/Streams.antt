@@ -1,5 +1,5 @@
 -- What a take and a put do to the bytes that a source has given and a sink has taken, where these
--- are told.
+-- are reported.
 use Rattle.std.specs.Prelude.{ℕ, List, take, Result, MatchResult}
 use Rattle.std.specs.declared.option.Option.{Option}
 use Rattle.std.specs.Io.KnownBytes.{Appends, Keeps}
@@ -10,7 +10,7 @@ abbrev pub TakeGives : {E : Type 0} → Option (List ℕ) → Option (List ℕ) 
 TakeGives old new result buf =
     MatchResult result (λ n. Appends old new (take n buf)) (λ _. Keeps old new)
 
--- the told bytes grow by some front of these
+-- the reported bytes grow by some front of these
 abbrev pub AppendsFront : Option (List ℕ) → Option (List ℕ) → List ℕ → Type 0
 AppendsFront old new bytes = (n : ℕ) × Appends old new (take n bytes)
 

@@ -36,7 +36,7 @@ pub use sources::Source;
 pub use sure::{SureByteSink, SureByteSource, SureMapShelf};
 use thiserror::Error;
 
-/// Want of memory: an allocation was refused.
+/// Out of memory: an allocation was refused.
 pub use std::alloc::AllocError as Memory;
 
 /// A call on an object of the outside failed. The object's count of faults rose.

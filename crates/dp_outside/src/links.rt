@@ -23,7 +23,7 @@ pub trait Dialer: Sized + Send + Drop {
     /// What it was asked for so far, in order, where it tells that.
     ghost dials: { Self → Option (List Dial) };
 
-    /// The links that came back so far, in order, as they told then, where it tells that.
+    /// The links that came back so far, in order, as they reported then, where it tells that.
     ghost retired: { Self → Option (List Link) };
 
     /// Makes a link. Its counts of faults begin with 0, and its source has given nothing. It may wait.
@@ -76,10 +76,10 @@ pub trait Gate: Sized + Send + Drop {
     /// The port that others ask for. It never changes.
     ghost port: { Self → ℕ };
 
-    /// The links that it has given so far, in order, as they told when they were given, where it tells that.
+    /// The links that it has given so far, in order, as they reported when they were given, where it tells that.
     ghost accepted: { Self → Option (List Link) };
 
-    /// The links that came back so far, in order, as they told then, where it tells that.
+    /// The links that came back so far, in order, as they reported then, where it tells that.
     ghost retired: { Self → Option (List Link) };
 
     /// The next link and the host at its other end. Its counts of faults begin with 0, and its source has given
@@ -123,7 +123,7 @@ pub trait Gate: Sized + Send + Drop {
 pub trait Net: Dialer {
     type Door: Gate + Drop;
 
-    /// The gates that were shut so far, in order, as they told then, where it tells that.
+    /// The gates that were shut so far, in order, as they reported then, where it tells that.
     ghost shut_doors: { Self → Option (List Door) };
 
     /// Opens a gate at a port. Its counts begin with 0, and what it tells with nothing.

@@ -1,5 +1,5 @@
 -- The tree of an expression as a function of its bytes: their tokens, read to the end. That this is
--- the tree that the bytes spell, and none is told where they spell none, is a law (`Tells`, proved
+-- the tree that the bytes spell, and none is reported where they spell none, is a law (`Tells`, proved
 -- by `expressions_are_told`).
 use Rattle.std.specs.Prelude.{◌≡◌, ◌≢◌, ◌↔◌, ℕ, List, Option, Some, None, Result, Ok, Err}
 use Rattle.dp_lexer.specs.declared.token.Token.{Token}
@@ -26,7 +26,7 @@ tree_in (Some ts) = value_in (expression_text expression_levels ts)
 abbrev pub expression_in : List ℕ → Option Expression
 expression_in bytes = tree_in (expression_tokens bytes)
 
--- the tree that bytes spell, and only that, is told
+-- the tree that bytes spell, and only that, is reported
 abbrev pub Tells : (List ℕ → Option Expression) → Type 0
 Tells told = (bytes : List ℕ) (e : Expression) → (told bytes ≡ Some e) ↔ IsExpressionText bytes e
 

@@ -22,7 +22,7 @@ pub enum ParseError {
     /// A function, by its name as written, has the name of a built-in function or of a function before it.
     #[error("a function is declared twice")]
     DoubleFunction { name: Bytes },
-    /// Want of memory.
+    /// Out of memory.
     #[error("out of memory")]
     Memory,
 }

@@ -29,7 +29,7 @@ pub(crate) trait Inside {
         ensures { Reads (limited.body level around tokens.old) result tokens.new };
 }
 
-/// A function that reads a body with as many levels as it is told, in so many loops.
+/// A function that reads a body with as many levels as it is given, in so many loops.
 #[derive(Drop)]
 pub(crate) struct Called<F> {
     pub(crate) function: F,

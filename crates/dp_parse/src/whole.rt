@@ -74,7 +74,7 @@ pub fn parse_expression(alloc: Global, bytes: &[u8]) -> Result<Expression, Parse
     ensures cause { IfErr result (λ e. IsNoExpression bytes.now e) }
     ensures refuses { (why : ParseError) → why ≢ ParseError.Memory → IsNoExpression bytes.now why →
         MatchResult result (λ _. ⊥) (λ e. (e ≡ why) ⊎ (e ≡ ParseError.Memory)) }
-    // The same, where the tree is told as a function of the bytes.
+    // The same, where the tree is reported as a function of the bytes.
     ensures told { Told (expression_in bytes.now) result }
 {
     let tokens = match lex_expression(alloc, bytes) {

@@ -78,7 +78,7 @@ abbrev pub IsKeyed : Call → Type 0
 IsKeyed (Register port key multiple) = IsKey key
 IsKeyed (Stop key) = IsKey key
 
--- the verdict is one on a registration or a stop, and no want of memory
+-- the verdict is one on a registration or a stop, and no lack of memory
 abbrev pub IsAnswerable : Result ⊤ Refusal → Type 0
 IsAnswerable (Err (refusal.Busy session)) = ⊥
 IsAnswerable (Err refusal.Memory) = ⊥

@@ -27,7 +27,7 @@ acts_with (Joined key pass acts) act = acts ++ act ∷ []
 acts_with link act = []
 
 -- Each answer has its cause: an effect is that of the table; an engine has no key exactly where it
--- is told so; a link is broken exactly where its place is told.
+-- is reported so; a link is broken exactly where its place is reported.
 abbrev pub AnswersAt : List Entry → Link → Act → Result Effect ProxyError → Type 0
 AnswersAt journal link act (Ok effect) =
     ComesWithKey link act × ((turn journal link act).effect ≡ Some effect)

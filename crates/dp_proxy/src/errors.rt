@@ -33,7 +33,7 @@ pub enum ProxyError {
     /// At this offset of what came on the link no frame begins. The link is closed.
     #[error("bad frame at offset {offset}")]
     BadFrame { offset: u64 },
-    /// Want of memory. The proxy has failed for good.
+    /// Out of memory. The proxy has failed for good.
     #[error("out of memory")]
     Memory,
 }

@@ -23,7 +23,7 @@ pub(crate) enum Kept {
     Over,
 }
 
-/// What is kept of a link after an event, and what the event was told.
+/// What is kept of a link after an event, and what the event was reported.
 #[derive(Debug, Drop)]
 pub(crate) struct Step {
     pub kept: Option<Kept>,

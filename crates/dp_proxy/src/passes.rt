@@ -1,4 +1,4 @@
-//! What an act of a session is told.
+//! What an act of a session is reported.
 ghost use Rattle.std.specs.Prelude.{[], ◌∷◌, ◌++◌, List, IfOk};
 ghost use Rattle.dp_proxy.specs.declared.events.Act.{Act as OneAct};
 ghost use Rattle.dp_proxy.specs.declared.events.Act.TheVariants as acted;
@@ -10,7 +10,7 @@ use dp_lanes::{Lane, bad_place, carry};
 use dp_value::{Bytes, Memory};
 use std::alloc::Global;
 
-/// What an act of a session is told, and whether it ends the session.
+/// What an act of a session is reported, and whether it ends the session.
 #[derive(Debug, Drop)]
 pub(crate) enum Passing {
     /// This; the session goes on.

@@ -90,7 +90,7 @@ fn accepted(alloc: Global, host: &[u8], call: Call) -> Result<ProxyReply, Memory
 
 /// Answers one command of a host, without its NUL: makes the call that it names, and replies.
 ///
-/// After want of memory the registry is as before, or the call was made.
+/// Once memory ran out the registry is as before, or the call was made.
 pub fn registration(
     alloc: Global,
     registry: &mut Registry,

@@ -75,7 +75,7 @@ admit_verdict journal key =
     if is_crowded journal then Err (full journal)
     else admitting (holder journal key) (live_under key journal) (next_session journal)
 
--- a call is answered its verdict, or want of memory
+-- a call is answered its verdict, or out of memory
 abbrev pub IsAnswer : {X : Type 0} → Result X Refusal → Result X Refusal → Type 0
 IsAnswer verdict answer = (answer ≡ Err Memory) ⊎ (answer ≡ verdict)
 

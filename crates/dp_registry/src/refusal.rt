@@ -25,7 +25,7 @@ pub enum Refusal {
     /// There is no room: the journal has so many entries, and so many sessions are live.
     #[error("registry is full")]
     Full { events: u64, live: u64 },
-    /// Want of memory.
+    /// Out of memory.
     #[error("out of memory")]
     Memory,
 }

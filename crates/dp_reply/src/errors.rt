@@ -10,7 +10,7 @@ pub enum ReplyError {
     /// The text is no markup within 64 levels, or its element is no packet.
     #[error("no DBGp packet")]
     NotDbgp,
-    /// Want of memory.
+    /// Out of memory.
     #[error("out of memory")]
     Memory,
 }

@@ -1,4 +1,4 @@
-//! The calls that rows name. The first field of a row names its call and has the input; what comes of it is told in
+//! The calls that rows name. The first field of a row names its call and has the input; what comes of it is reported in
 //! words, which the field `gives` has to have.
 
 use crate::asked::{told_call, told_key};

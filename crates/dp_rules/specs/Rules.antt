@@ -39,7 +39,7 @@ pub record Without {A : Type 0} (s : Terminal) (rule : Rule A) (text : List Toke
   pub apart : same_terminal (head text) s ≡ false
   pub spelled : rule text a
 
--- a rule that is told the line of its first token
+-- a rule that is given the line of its first token
 pub record OnLine {A : Type 0} (rule : ℕ → Rule A) (text : List Token) (a : A) : Type 0 where
   pub first : Token
   pub behind : List Token

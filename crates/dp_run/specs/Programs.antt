@@ -91,7 +91,7 @@ refusal (unmade.Source file why) = Source file why
 refusal (unmade.TooLong file) = TooLong file
 refusal unmade.Memory = Memory
 
--- Where the files make a program, none is told as bad; where they make a refusal, that is told,
+-- Where the files make a program, none is reported as bad; where they make a refusal, that is reported,
 -- unless the shelf or
 -- memory failed.
 abbrev pub IsHeld : {A : Type 0} → Result Bundle BundleError → Result A ProgramError → ℕ → ℕ

@@ -22,7 +22,7 @@ pub enum ProgramError {
     /// The file is not in the grammar.
     #[error("file {file}: {error}")]
     Source { file: u32, error: ParseError },
-    /// Want of memory.
+    /// Out of memory.
     #[error("out of memory")]
     Memory,
 }
@@ -60,7 +60,7 @@ pub enum RunError {
     /// The output failed.
     #[error("the output failed")]
     OutFault,
-    /// Want of memory.
+    /// Out of memory.
     #[error("out of memory")]
     Memory,
 }

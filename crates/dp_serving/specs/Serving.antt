@@ -67,7 +67,7 @@ CutBy Out reply sink out =
     Rose out.faults_before out.faults × AppendsFront out.told_before out.told reply.program
 CutBy Memory reply sink out = AppendsFront out.told_before out.told reply.program
 
--- the state that a session is in after a fault; after want of memory it has failed for good, and
+-- the state that a session is in after a fault; once memory ran out it has failed for good, and
 -- nothing is known of it
 abbrev pub IsLeftIn : {S E : Type 0} → Fault E → S → S → Type 0
 IsLeftIn (Write ended) after state = after ≡ state

@@ -35,7 +35,7 @@ impl<A: Responder> Conversation<A> {
         Conversation { session, held }
     }
 
-    /// Appends a piece of what the session is fed. On want of memory nothing has changed.
+    /// Appends a piece of what the session is fed. Where memory runs out nothing has changed.
     pub fn feed(&mut self, piece: &[u8]) -> Result<(), Memory>
         ensures session { self.new.session ≡ self.old.session }
         ensures ok { OnOk result (self.new.held.held ≡ self.old.held.held ++ piece.now) }
@@ -46,7 +46,7 @@ impl<A: Responder> Conversation<A> {
 
     /// Answers the first whole command that is held, if there is one. A caller stops once an answer has ended the session.
     ///
-    /// After want of memory the session has failed for good.
+    /// Once memory ran out the session has failed for good.
     pub fn next(&mut self, alloc: Global) -> Result<Next<A::End>, Memory>
         ensures comes { IfOk result (λ next. ComesNext A.step self.old.session self.new.session
             self.old.held.held self.new.held.held next) }

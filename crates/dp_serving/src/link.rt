@@ -43,7 +43,7 @@ pub enum Fault<E> {
     Write(Option<E>),
     /// The program's own output failed.
     Out,
-    /// Want of memory.
+    /// Out of memory.
     Memory,
 }
 
@@ -139,7 +139,7 @@ fn answer_held<A: Responder, K: Sink, E: Sink>(
     }
 }
 
-// Reads one piece, which follows what is held. On want of memory it was read and is not held.
+// Reads one piece, which follows what is held. Where memory runs out it was read and is not held.
 fn read_piece<A: Responder, S: Source>(
     source: &mut S,
     talk: &mut Conversation<A>,
@@ -222,7 +222,7 @@ fn exchange<A: Responder, S: Source, K: Sink, E: Sink>(
 
 /// Sends the first packet of a session and answers each command that comes, until the session is over or a fault of a
 /// sink cuts it short. It waits in the calls of the link alone. The session is handed back with how it ended; nothing is
-/// read behind the piece in which a command ended it, and after want of memory it has failed for good.
+/// read behind the piece in which a command ended it, and once memory ran out it has failed for good.
 pub fn converse<A: Responder + Drop, S: Source, K: Sink, E: Sink>(
     alloc: Global,
     session: A,

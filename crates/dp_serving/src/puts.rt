@@ -15,7 +15,7 @@ use std::alloc::{AllocError, Global};
 pub(crate) enum Unsent {
     /// The link's sink failed.
     Failed,
-    /// Want of memory.
+    /// Out of memory.
     Memory,
 }
 

@@ -26,7 +26,7 @@ pub trait Responder {
     /// What a command leads to.
     ghost step: { Self → List ℕ → Reply Self Self.End };
 
-    /// Answers one command, without its NUL. After want of memory it has failed for good: nothing is said of it then.
+    /// Answers one command, without its NUL. Once memory ran out it has failed for good: nothing is said of it then.
     fn answer(&mut self, alloc: Global, line: &[u8]) -> Result<Answer<Self::End>, Memory>
         requires { IsCommand line.now }
         ensures ok { IfOk result (λ answer. reply_of answer self.new ≡ step self.old line.now) }

@@ -4,7 +4,7 @@ ghost use Rattle.dp_outside.specs.Changes.{Change};
 ghost use Rattle.dp_show.specs.Shows.{Shows};
 ghost use Rattle.dp_show.specs.declared.errors.ShowError.TheVariants.{PeerEnd, BadPacket};
 
-/// What was read decides how it ends, where no fault and no want of memory cuts it short: all was shown, or the input
+/// What was read decides how it ends, where no fault and no lack of memory cuts it short: all was shown, or the input
 /// ended inside a frame, or there stands what is no packet. No two of these hold of one input that tells its bytes.
 pub fn ends_apart()
     ensures whole_or_inside { (input out other : Change) → IsSome input.told_before

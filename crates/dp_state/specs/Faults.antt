@@ -1,4 +1,4 @@
--- The fatal faults that refusals of operations on values are. Want of memory is none, and no table
+-- The fatal faults that refusals of operations on values are. Out of memory is none, and no table
 -- of theirs has it.
 use Rattle.dp_state.specs.declared.moments.FatalKind.{FatalKind}
 use Rattle.dp_state.specs.declared.moments.FatalKind.TheVariants as fatal
@@ -38,7 +38,7 @@ kind_of_write write.NextIndex = fatal.NextIndex
 kind_of_write write.TooHeavy = fatal.TooHeavy
 kind_of_write write.Memory = fatal.TooHeavy
 
--- what a call on values that was refused is for a step: a fatal fault, or want of memory
+-- what a call on values that was refused is for a step: a fatal fault, or out of memory
 abbrev pub fault_of_value : ValueError → Fault
 fault_of_value value.Memory = Memory
 fault_of_value e = Fatal (kind_of_value e)

@@ -137,7 +137,7 @@ entered frame s =
 abbrev pub left : State → State
 left s = record s { frames = take (length s.frames - 1) s.frames }
 
--- why a step is not made: as it is asked, or for want of memory
+-- why a step is not made: as it is asked, or for lack of memory
 abbrev pub IsCause : Result State FatalKind → Fault → Type 0
 IsCause asked fault.Memory = ⊤
 IsCause asked (fault.Fatal kind) = asked ≡ Err kind

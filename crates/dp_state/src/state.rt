@@ -43,6 +43,6 @@ pub struct State {
 pub enum Fault {
     /// The program cannot go on.
     Fatal(FatalKind),
-    /// Want of memory.
+    /// Out of memory.
     Memory,
 }

@@ -110,7 +110,7 @@ impl<'p> Machine<'p> {
         }
     }
 
-    /// From now on it answers want of memory.
+    /// From now on it answers that it is out of memory.
     pub(crate) fn fail(&mut self) -> Memory
         ensures { HasFailed self.new }
     {

@@ -79,7 +79,7 @@ pub(crate) enum Hand<'p> {
     LeftFile(Signal),
     /// The program is over.
     Over(Outcome),
-    /// Want of memory came.
+    /// Out of memory came.
     Failed,
 }
 

@@ -22,7 +22,7 @@ pub enum StepError {
     NoFrame,
     /// There is no such place, or it cannot hold the value.
     NoPlace,
-    /// Want of memory.
+    /// Out of memory.
     Memory,
 }
 
@@ -36,7 +36,7 @@ impl Machine<'_> {
     ghost use Rattle.dp_step.specs.Stands.{StandsFor};
 
     /// Makes those of the writes that have the number of the moment, in their order; before the first moment there is none to
-    /// make. After want of memory nothing is said of the machine.
+    /// make. Once memory ran out nothing is said of the machine.
     pub fn write_all(&mut self, writes: &[NumberedWrite]) -> Result<(), Memory>
         ensures { (bundle : SomeBundle) (bound : ℕ) (made : List NumberedWrite) (n : ℕ) → StandsFor bundle bound made n self.old
             → OnOk result (StandsFor bundle bound (made ++ of_number n writes.now) n self.new) }
@@ -137,7 +137,7 @@ impl Machine<'_> {
         }
     }
 
-    // From now on it answers want of memory.
+    // From now on it answers that it is out of memory.
     fn failed(&mut self) -> StepError
         ensures failed { HasFailed self.new }
         ensures memory { result ≡ any_error.Memory }

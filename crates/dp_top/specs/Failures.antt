@@ -1,4 +1,4 @@
--- What is told of a failure: a status, and a line on the error output.
+-- What is reported of a failure: a status, and a line on the error output.
 use Rattle.std.specs.Prelude.{◌⊎◌, ℕ, List, ◌++◌, codes, Option, Some, None}
 use Rattle.std.specs.Fmt.{decimal}
 use Rattle.std.specs.Io.KnownBytes.{Appends}

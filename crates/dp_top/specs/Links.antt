@@ -13,7 +13,7 @@ abbrev pub between : Option (List ℕ) → Option (List ℕ) → ℕ → Change
 between given back faults =
     record { told_before = given; told = back; faults_before = 0; faults = faults }
 
--- the link told this when it was given and that when it came back; its source and its sink had
+-- the link reported this when it was given and that when it came back; its source and its sink had
 -- failed so often
 pub record IsUsed (given back : Link) (source sink : Change) : Type 0 where
   pub source_is : source ≡ between given.left back.left source.faults
@@ -41,7 +41,7 @@ pub record IsUndialled (address : Address) (old new : Net) : Type 0 where
 
 -- ---- links that others make
 
--- where the list is told, it is this one
+-- where the list is reported, it is this one
 abbrev pub Tells : Option (List Link) → List Link → Type 0
 Tells None links = ⊤
 Tells (Some told) links = told ≡ links

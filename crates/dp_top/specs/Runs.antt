@@ -1,4 +1,4 @@
--- What is told of the end of a run, and of files that make no program.
+-- What is reported of the end of a run, and of files that make no program.
 use Rattle.std.specs.Prelude.{◌≡◌, ◌⊎◌, ℕ, List, [], get_or, take, Option, None, Some}
 use Rattle.dp_outside.specs.Changes.{Change}
 use Rattle.dp_outside.specs.Telling.{grown}
@@ -71,12 +71,12 @@ abbrev pub IsRunTold : Failure → List ℕ → Ask → RunError → Type 0
 IsRunTold failure name ask why =
     (failure ≡ failure_of ask.bound why) × (name ≡ name_told ask.names why)
 
--- it is told so, or memory ran out for its line
+-- it is reported so, or memory ran out for its line
 abbrev pub IsToldOrStarved : Failure → List ℕ → Ask → RunError → Type 0
 IsToldOrStarved failure name ask why =
     IsRunTold failure name ask why ⊎ ((failure ≡ Memory) × (name ≡ []))
 
--- why the run failed, as it is told
+-- why the run failed, as it is reported
 pub record RunFails (failure : Failure) (name : List ℕ) (files : Files) (before after : ℕ)
     (ask : Ask) (out : Change) : Type 0 where
   pub why : RunError

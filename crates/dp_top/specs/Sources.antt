@@ -1,4 +1,4 @@
--- Files that the parser refuses: what is told of them.
+-- Files that the parser refuses: what is reported of them.
 use Rattle.std.specs.Prelude.{ℕ, List, ◌++◌, codes}
 use Rattle.std.specs.Fmt.{decimal}
 use Rattle.dp_lexer.specs.declared.errors.LexError.TheVariants as lex

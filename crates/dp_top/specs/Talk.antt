@@ -18,7 +18,7 @@ use Rattle.dp_words.specs.CommandLine.{Ask}
 use Rattle.dp_top.specs.Runs.{IsProgramTold, failure_of, name_told}
 use Rattle.dp_top.specs.Seen.{Seen, changed}
 
--- ---- what is told of an end
+-- ---- what is reported of an end
 
 -- a status, or a failure with the name of the file that it is of, where it is of one, else nothing
 abbrev pub Told : Type 0

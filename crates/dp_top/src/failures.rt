@@ -1,4 +1,4 @@
-//! Why a command fails, and what is told of it.
+//! Why a command fails, and what is reported of it.
 ghost use Rattle.std.specs.Prelude.{◌≡◌, ◌⊎◌, ◌≤◌, ◌++◌, ℕ, IfOk, codes, decimal};
 ghost use Rattle.dp_outside.specs.Changes.{change};
 ghost use Rattle.dp_top.specs.Sources.{failure_of, reason_name, bad_source};
@@ -86,7 +86,7 @@ pub(crate) enum Failure {
     Network,
     /// A command stopped the program before its end.
     Stopped,
-    /// Want of memory.
+    /// Out of memory.
     Memory,
 }
 
@@ -343,7 +343,7 @@ pub(crate) fn say<E: Sink>(err: &mut E, line: &[u8])
     let _ = err.put(line);
 }
 
-/// Tells a failure on the error output, and answers its status; want of memory where there is none for its line.
+/// Tells a failure on the error output, and answers its status; out of memory where there is none for its line.
 pub(crate) fn report<E: Sink>(alloc: Global, failure: &Failure, file: &[u8], err: &mut E) -> u8
     ensures told { ((result ≡ status_of failure.now)
         × Says (change E.taken E.faults err.old err.new) (line_of failure.now file.now))

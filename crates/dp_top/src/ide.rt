@@ -150,7 +150,7 @@ fn play_at<R: Wait + Sync, N: Net, O: Sink>(
     }
 }
 
-// What is told of how a script was played.
+// What is reported of how a script was played.
 fn judge<'a>(played: Option<Result<(), IdeError>>) -> Result<u8, Refused<'a>>
     ensures well { IfOk result (λ status. (status ≡ 0) × (played ≡ Some (Ok tt))) }
     ensures ill { IfErr result (λ why. IsToldBy played why.failure × (why.name.now ≡ [])) }

@@ -53,7 +53,7 @@ fn program_name<'a>(names: &'a [String], why: &ProgramError) -> &'a [u8]
     }
 }
 
-/// What is told of files that make no program.
+/// What is reported of files that make no program.
 pub(crate) fn told_of_files<'a>(program: Program<'a>, why: ProgramError) -> Refused<'a>
     ensures { IsProgramTold result.failure result.name.now (ask_told program.entry) why }
 {
@@ -100,7 +100,7 @@ fn name_told<'a>(names: &'a [String], why: &RunError) -> &'a [u8]
     }
 }
 
-/// What is told of the end of a run.
+/// What is reported of the end of a run.
 pub(crate) fn told<'a>(program: Program<'a>, why: &RunError) -> Refused<'a>
     ensures { IsRunTold result.failure result.name.now (ask_told program.entry) why.now }
 {

@@ -45,7 +45,7 @@ use std::sync::Wait;
 /// | 206 | the input of `show` ended inside a frame, or the link of `ide` before a packet that was awaited | `peer ended` |
 /// | 207 | bytes stand in no command's or packet's place, a text is no packet, or too many came | `bad packet offset N` |
 /// | 208 | the input or a dial failed, no link came, or it failed | `network failed` |
-/// | 209 | want of memory | `out of memory` |
+/// | 209 | out of memory | `out of memory` |
 /// | 210 | a command stopped the program before its end | `stopped by the IDE` |
 /// | 255 | the program could not go on, or would have had more moments than N | `fatal KIND in NAME on line N`, `bound reached after N steps` |
 ///
@@ -63,7 +63,7 @@ pub fn top<R: Wait + Sync, H: Shelf, S: Source, K: Sink, E: Sink, N: Net, P: Spa
     spawner: &mut P,
 ) -> u8
     ensures usage { result ≡ 200 → (task : Task) → Asks (map string_bytes words.now) task → ⊥ }
-    // Words that ask for nothing are told, unless memory ran out as they were read.
+    // Words that ask for nothing are reported, unless memory ran out as they were read.
     ensures usage_only { ((task : Task) → Asks (map string_bytes words.now) task → ⊥)
         → (result ≡ 200) ⊎ (result ≡ 209) }
     ensures usage_told { result ≡ 200 → Says (change E.taken E.faults err.old err.new) (codes "usage\n") }
@@ -92,7 +92,7 @@ pub fn top<R: Wait + Sync, H: Shelf, S: Source, K: Sink, E: Sink, N: Net, P: Spa
         net.old)
         (seen H.Shelf S.Source K.Sink E.Sink N.Dialer N.shut_doors shelf.new input.new out.new err.new net.new)
         → (result ≤ 199) ⊎ (result ≡ 255) ⊎ (result ≡ 209) }
-    // Likewise the session is served whole, or what is no command is told.
+    // Likewise the session is served whole, or what is no command is reported.
     ensures complete_talk { (key : List ℕ) (ask : Ask) (program : Bundle) → IsTalk (map string_bytes words.now) key ask
         → Holds (H.files shelf.old) ask.names (Ok program)
         → NoneRose (seen H.Shelf S.Source K.Sink E.Sink N.Dialer N.shut_doors shelf.old input.old out.old err.old
@@ -107,19 +107,19 @@ pub fn top<R: Wait + Sync, H: Shelf, S: Source, K: Sink, E: Sink, N: Net, P: Spa
         net.old)
         (seen H.Shelf S.Source K.Sink E.Sink N.Dialer N.shut_doors shelf.new input.new out.new err.new net.new)
         → (result ≤ 199) ⊎ (result ≡ 207) ⊎ (result ≡ 210) ⊎ (result ≡ 255) ⊎ (result ≡ 209) }
-    // Where they make none, that is told, unless the shelf fails first.
+    // Where they make none, that is reported, unless the shelf fails first.
     ensures refused { (task : Task) (ask : Ask) (why : BundleError) → Asks (map string_bytes words.now) task
         → ask_in task ≡ Some ask
         → Holds (H.files shelf.old) ask.names (Err why)
         → (result ≡ 201) ⊎ (result ≡ 209) ⊎ Rose (H.faults shelf.old) (H.faults shelf.new) }
-    // Where no count rose, every packet is shown, or the input ended inside one, or what is no packet is told.
+    // Where no count rose, every packet is shown, or the input ended inside one, or what is no packet is reported.
     ensures complete_show { Asks (map string_bytes words.now) Task.show
         → NoneRose (seen H.Shelf S.Source K.Sink E.Sink N.Dialer N.shut_doors shelf.old input.old out.old err.old
         net.old)
         (seen H.Shelf S.Source K.Sink E.Sink N.Dialer N.shut_doors shelf.new input.new out.new err.new net.new)
         → (result ≡ 0) ⊎ (result ≡ 206) ⊎ (result ≡ 207) ⊎ (result ≡ 209) }
 
-    // A file that is no script is told at its first line that is none, or at line 0 where it is too long, unless the shelf fails.
+    // A file that is no script is reported at its first line that is none, or at line 0 where it is too long, unless the shelf fails.
     ensures script_refused { (port line : ℕ) (script : List ℕ) → IsIde (map string_bytes words.now) port script
         → IsSome (H.files shelf.old) → IsNoScript (H.files shelf.old) script line
         → (result ≡ 204) ⊎ (result ≡ 209) ⊎ Rose (H.faults shelf.old) (H.faults shelf.new) }
@@ -127,7 +127,7 @@ pub fn top<R: Wait + Sync, H: Shelf, S: Source, K: Sink, E: Sink, N: Net, P: Spa
         → IsIde (map string_bytes words.now) port script
         → IsSome (H.files shelf.old) → IsHeldScript (H.files shelf.old) script instructions → result ≡ 204 → ⊥ }
     // Where it is one, and no count rose, the script is played to its end, or what differs, the link's end or what is no packet
-    // is told.
+    // is reported.
     ensures complete_ide { (port : ℕ) (script : List ℕ) (instructions : List Instruction)
         → IsIde (map string_bytes words.now) port script
         → IsSome (H.files shelf.old) → IsHeldScript (H.files shelf.old) script instructions
@@ -136,7 +136,7 @@ pub fn top<R: Wait + Sync, H: Shelf, S: Source, K: Sink, E: Sink, N: Net, P: Spa
         (seen H.Shelf S.Source K.Sink E.Sink N.Dialer N.shut_doors shelf.new input.new out.new err.new net.new)
         → (result ≡ 0) ⊎ (result ≡ 205) ⊎ (result ≡ 206) ⊎ (result ≡ 207) ⊎ (result ≡ 209) }
 
-    // A file that is no list of events is told at its first line that adds nothing, or at line 0 where it is too long, unless the
+    // A file that is no list of events is reported at its first line that adds nothing, or at line 0 where it is too long, unless the
     // shelf fails or lacks a file of the program.
     ensures list_refused { (events : List ℕ) (ask : Ask) (line : ℕ) (made : Result Bundle BundleError)
         → IsReplay (map string_bytes words.now) events ask → IsNoList (H.files shelf.old) events line
@@ -145,7 +145,7 @@ pub fn top<R: Wait + Sync, H: Shelf, S: Source, K: Sink, E: Sink, N: Net, P: Spa
     ensures list_held { (events : List ℕ) (ask : Ask) (list : List Event)
         → IsReplay (map string_bytes words.now) events ask
         → IsSome (H.files shelf.old) → IsHeldList (H.files shelf.old) events list → result ≡ 204 → ⊥ }
-    // Where it is one, files that make no program are told, unless the shelf fails first.
+    // Where it is one, files that make no program are reported, unless the shelf fails first.
     ensures replay_refused { (events : List ℕ) (ask : Ask) (list : List Event) (why : BundleError)
         → IsReplay (map string_bytes words.now) events ask → IsHeldList (H.files shelf.old) events list
         → Holds (H.files shelf.old) ask.names (Err why)

@@ -29,7 +29,7 @@ pub enum ValueError {
     /// The result would pass the weight limit.
     #[error("value too heavy")]
     TooHeavy,
-    /// Want of memory.
+    /// Out of memory.
     #[error("out of memory")]
     Memory,
 }
@@ -55,7 +55,7 @@ pub enum CallError {
     /// The result would pass the weight limit.
     #[error("value too heavy")]
     TooHeavy,
-    /// Want of memory.
+    /// Out of memory.
     #[error("out of memory")]
     Memory,
     /// The number of arguments is wrong, or an argument is out of its range.
@@ -81,7 +81,7 @@ pub enum WriteError {
     /// An array on the way would pass the weight limit.
     #[error("value too heavy")]
     TooHeavy,
-    /// Want of memory.
+    /// Out of memory.
     #[error("out of memory")]
     Memory,
 }

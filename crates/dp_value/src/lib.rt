@@ -35,5 +35,5 @@ pub use value::{PhpArray, Value, WEIGHT_LIMIT};
 pub use weights::weight;
 pub use writes::write_at;
 
-/// Want of memory: an allocation was refused.
+/// Out of memory: an allocation was refused.
 pub use std::alloc::AllocError as Memory;

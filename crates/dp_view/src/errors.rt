@@ -13,7 +13,7 @@ pub enum ViewError {
     /// no such context, 300 where a name is no name of a property or nothing stands there, tried in this order.
     #[error("error {0}")]
     Code(u16),
-    /// Want of memory.
+    /// Out of memory.
     #[error("out of memory")]
     Memory,
 }

@@ -1,4 +1,4 @@
-//! Reading the names of properties. What names no path is told before memory is taken.
+//! Reading the names of properties. What names no path is reported before memory is taken.
 
 ghost use Rattle.std.specs.Prelude.{◌≡◌, ok_or, IfOk};
 ghost use Rattle.dp_value.specs.KeyOf.{key_of_text};

@@ -24,7 +24,7 @@ Answers (Ok made) asked = asked ≡ Ok made
 Answers (Err (Code code)) asked = asked ≡ Err code
 Answers (Err Memory) asked = ⊤
 
--- The code of a refusal that is told whatever memory there is: each one, but that there is nothing
+-- The code of a refusal that is reported whatever memory there is: each one, but that there is nothing
 -- at a name that is one, that this is too long, and that there is no such file.
 abbrev pub refusal_at_once : Bundle → ℕ → Features → State → Text → Text → Request → Option ℕ
 refusal_at_once bundle here features s command id (request.StackGet level) =

@@ -71,7 +71,7 @@ pub fn view_response(
 ) -> Result<Response, ViewError>
     ensures answer { Answers result (spec.view_response
         bundle.now here features.now state.now to.now.command to.now.id request.now) }
-    // These refusals are told whatever memory there is.
+    // These refusals are reported whatever memory there is.
     ensures at_once { IfSome
         (refusal_at_once bundle.now here features.now state.now to.now.command to.now.id request.now)
         (λ code. result ≡ Err (ViewError.Code code)) }

@@ -80,7 +80,7 @@ impl<'a> Engine<'a> {
         }
     }
 
-    /// Reads at most so many bytes more of what it has sent. On want of memory none was read.
+    /// Reads at most so many bytes more of what it has sent. Where memory runs out none was read.
     pub fn next(&mut self, alloc: Global, most: u32) -> Result<Bytes, Memory>
         requires { self.old.read ≤ length self.old.sent.items }
         ensures piece { IfOk result (λ piece. piece ≡ take most (drop self.old.read self.old.sent.items)) }
@@ -104,7 +104,7 @@ impl<'a> Engine<'a> {
 
     /// Takes whole commands, each with its NUL, and answers them, up to one that ends the session.
     ///
-    /// After want of memory it has failed for good.
+    /// Once memory ran out it has failed for good.
     pub fn take<L: Ledger>(
         &mut self,
         alloc: Global,

@@ -77,7 +77,7 @@ pub(crate) fn makes(act: &Act) -> bool
     }
 }
 
-// What is shown of an engine that came with a key, by what the proxy was told.
+// What is shown of an engine that came with a key, by what the proxy was reported.
 fn joined<'a>(
     alloc: Global,
     bundle: &'a Bundle,
@@ -113,7 +113,7 @@ fn joined<'a>(
     }
 }
 
-// What is shown of a link that an event may make, by what the proxy was told.
+// What is shown of a link that an event may make, by what the proxy was reported.
 fn opened<'a>(
     alloc: Global,
     bundle: &'a Bundle,
@@ -172,7 +172,7 @@ pub(crate) fn pass<L: Ledger>(
     }
 }
 
-/// Makes a link, by what the proxy was told.
+/// Makes a link, by what the proxy was reported.
 pub(crate) fn make<'a>(
     alloc: Global,
     links: &mut IndexMap<u32, Shown<'a>>,

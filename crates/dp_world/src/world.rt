@@ -37,7 +37,7 @@ impl<'a> World<'a> {
         }
     }
 
-    // Takes one event. After want of memory it has failed for good.
+    // Takes one event. Once memory ran out it has failed for good.
     fn take<L: Ledger>(
         &mut self,
         alloc: Global,

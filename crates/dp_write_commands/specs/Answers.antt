@@ -1,4 +1,4 @@
--- What the call of a command that writes answers: what was written and how that is told, or the
+-- What the call of a command that writes answers: what was written and how that is reported, or the
 -- code of a refusal; or memory runs out.
 use Rattle.std.specs.Prelude.{◌≡◌, ◌≢◌, ℕ, ◌<◌, ◌≤◌, true, length, Option, None, ok_or, Result, Ok, Err, ⊤}
 use Rattle.dp_command.specs.declared.command.Request.{Request}
@@ -23,7 +23,7 @@ use Rattle.dp_write_commands.specs.declared.commands.Written.{Written}
 use Rattle.dp_write_commands.specs.Asked.{value_asked, write_asked}
 use Rattle.dp_write_commands.specs.Writing.{code_in, write_response}
 
--- the write that was asked for was made in the state, and its response is told
+-- the write that was asked for was made in the state, and its response is reported
 pub record IsWritten (bundle : Bundle) (features : Features) (before after : State)
     (command id : Text) (asked : Request) (made : Written) : Type 0 where
   pub write : write_asked before asked ≡ Ok made.write
@@ -39,7 +39,7 @@ Answers bundle features before after command id asked (Err (Code code)) =
     (write_response bundle features before command id asked ≡ Err code) × (after ≡ before)
 Answers bundle features before after command id asked (Err Memory) = after ≡ before
 
--- The code of a refusal that is told whatever memory there is: each one of property_set, but that
+-- The code of a refusal that is reported whatever memory there is: each one of property_set, but that
 -- the name is reserved and that the place cannot hold the value.
 abbrev pub refusal_at_once : State → Request → Option ℕ
 refusal_at_once s (request.PropertySet set) =

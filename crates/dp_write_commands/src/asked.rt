@@ -146,7 +146,7 @@ pub(crate) fn path_asked(
     }
 }
 
-// Why there is no tree: 206, or want of memory.
+// Why there is no tree: 206, or out of memory.
 fn no_expression(why: ParseError) -> ViewError
     ensures { result ≡ error_of why }
 {

@@ -61,7 +61,7 @@ fn make_place(
     if_done(done, response)
 }
 
-// Keeps what an evaluation left, where it is told.
+// Keeps what an evaluation left, where it is reported.
 fn keep(
     made: Result<Response, ViewError>,
     after: State,
@@ -277,7 +277,7 @@ pub fn write_response(
     request: &Request,
 ) -> Result<Written, ViewError>
     ensures answer { Answers bundle.now features.now state.old state.new to.now.command to.now.id request.now result }
-    // These refusals are told whatever memory there is.
+    // These refusals are reported whatever memory there is.
     ensures at_once { IfSome (refusal_at_once state.old request.now) (λ code. result ≡ Err (ViewError.Code code)) }
     ensures is_sent { IfOk result (λ made. IsSent made.response) }
     ensures known { HasKnownCode result }

@@ -8,7 +8,7 @@ use Rattle.dp_break.specs.declared.errors.BreakError.{BreakError}
 use Rattle.dp_break.specs.declared.errors.BreakError.TheVariants as error
 use Rattle.dp_break.specs.Conditions.{has_no_tree, is_too_long}
 
--- 207, or want of memory, which does not come where it is too long
+-- 207, or out of memory, which does not come where it is too long
 abbrev pub IsNoTree : Option (List ℕ) → BreakError → Type 0
 IsNoTree expression (error.Code code) = (code ≡ 207) × (has_no_tree expression ≡ true)
 IsNoTree expression error.Memory = is_too_long expression ≡ false

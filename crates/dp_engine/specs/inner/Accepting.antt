@@ -19,7 +19,7 @@ use Rattle.dp_write_commands.specs.Writing.{write_response}
 abbrev pub with_one : ℕ → Write → List NumberedWrite → List NumberedWrite
 with_one moment w writes = writes ++ (record { moment = moment; write = w }) ∷ []
 
--- the write was made and is kept, and its response is told
+-- the write was made and is kept, and its response is reported
 pub record IsMade (bundle : Bundle) (features : Features) (before after : State)
     (writes kept : List NumberedWrite) (moment : ℕ) (command id : Text) (asked : Request)
     (response : Response) : Type 0 where

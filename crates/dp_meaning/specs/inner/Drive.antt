@@ -68,7 +68,7 @@ Meets (Err Memory) s reached = Unit {0}
 Meets (Err (Finished o)) s reached = reached ≡ Ends o s
 Meets (Err (Stopped moment)) s reached = reached ≡ Stops moment s
 
--- the evaluator's answer is what the run gives, with the state that it leaves; want of memory says
+-- the evaluator's answer is what the run gives, with the state that it leaves; out of memory says
 -- nothing
 pub record Evaluates {A : Type 0} (rules : Rules) (run : Run A) (result : Result A Halt)
     (s : State) : Type 0 where
@@ -80,7 +80,7 @@ moment_run kind line s = At kind line s (λ t. Done tt t)
 
 -- ---- evaluations that nothing stops
 
--- a value, or none where there is no value. Want of memory says nothing
+-- a value, or none where there is no value. Out of memory says nothing
 abbrev pub IsHeld : Result Value Halt → Option Value → Type 0
 IsHeld (Ok v) answer = answer ≡ Some v
 IsHeld (Err Memory) answer = ⊥
@@ -100,7 +100,7 @@ abbrev pub halt_after : Result Signal Halt → Halt
 halt_after (Ok signal) = Finished Completed
 halt_after (Err h) = h
 
--- where it stopped. Want of memory says nothing
+-- where it stopped. Out of memory says nothing
 abbrev pub IsStopAt : Halt → State → Stop → Type 0
 IsStopAt (Finished o) s end = end ≡ stop.Ended o s
 IsStopAt (Stopped moment) s end = end ≡ stop.At moment s

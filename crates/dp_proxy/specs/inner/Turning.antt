@@ -46,7 +46,7 @@ Hears heard act Asked now = question heard act ≡ Some now
 
 -- ---- a session
 
--- what an act is told after these
+-- what an act is reported after these
 abbrev pub Passes : List Act → Act → Passing → Type 0
 Passes acts act (Told effect) = (passed acts act ≡ Some effect) × (ends acts act ≡ false)
 Passes acts act Closed = (passed acts act ≡ Some Nothing) × (ends acts act ≡ true)

@@ -14,7 +14,7 @@ use Rattle.dp_show.specs.declared.errors.ShowError.TheVariants.{PeerEnd, BadPack
 use Rattle.dp_show.specs.Lines.{line_of, lines_of, AreMarkup, IsNoMarkup}
 use Rattle.dp_wire.specs.Places.{place_behind, IsRefusedAt}
 
--- what an output has told
+-- what an output has reported
 abbrev pub Told : Type 0
 Told = Option (List ℕ)
 

@@ -77,7 +77,7 @@ abbrev pub GatedSo : Option (Result (Unit {0}) IdeError) → ℕ → List Instru
 GatedSo None port instructions out old new = IsUncalled port old new × IsUntouched out
 GatedSo (Some end) port instructions out old new = PlayedSo end port instructions out old new
 
--- the failure that is told
+-- the failure that is reported
 abbrev pub IsToldBy : Option (Result (Unit {0}) IdeError) → Failure → Type 0
 IsToldBy None why = why ≡ failure.Network
 IsToldBy (Some (Ok u)) why = ⊥

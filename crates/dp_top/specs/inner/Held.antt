@@ -13,7 +13,7 @@ use Rattle.dp_top.specs.Failures.{status_of}
 use Rattle.dp_top.specs.Replay.{IsHeldList}
 use Rattle.dp_top.specs.Seen.{Seen}
 
--- it is told as a bad source, or memory ran out
+-- it is reported as a bad source, or memory ran out
 abbrev pub IsBadSource : Failure → Type 0
 IsBadSource failure = (status_of failure ≡ 201) ⊎ (failure ≡ Memory)
 

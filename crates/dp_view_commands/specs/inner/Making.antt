@@ -14,7 +14,7 @@ unfoldable pub around : Text → Text → Attributes → ℕ
 around command id attributes =
     length (text (packet.Response (response_with command id (attributes, body.Properties []))))
 
--- this response, or want of memory
+-- this response, or out of memory
 abbrev pub Gives : Response → Result Response ViewError → Type 0
 Gives made (Ok r) = r ≡ made
 Gives made (Err (Code code)) = ⊥

@@ -37,7 +37,7 @@ unfoldable pub around : Text → Text → ℕ
 around command id =
     length (text (packet.Response (success command id (body.Properties []))))
 
--- this response, or want of memory
+-- this response, or out of memory
 abbrev pub Gives : Response → Result Response ViewError → Type 0
 Gives made (Ok r) = r ≡ made
 Gives made (Err (Code code)) = ⊥
@@ -76,7 +76,7 @@ abbrev pub with_response : Response → Result ⊤ ViewError → Result Response
 with_response r (Ok done) = Ok r
 with_response r (Err why) = Err why
 
--- the state after an evaluation, where it is told
+-- the state after an evaluation, where it is reported
 abbrev pub kept_by : Result Response ViewError → State → State → State
 kept_by (Ok r) after before = after
 kept_by (Err why) after before = before
@@ -86,7 +86,7 @@ abbrev pub with_write : Write → Result Response ViewError → Result Written V
 with_write w (Ok r) = Ok (record { response = r; write = w })
 with_write w (Err why) = Err why
 
--- a write was made and its response is told; else nothing has changed
+-- a write was made and its response is reported; else nothing has changed
 abbrev pub Makes : Bundle → Features → State → State → Text → Text → Write
     → Result Response ViewError → Type 0
 Makes bundle features before after command id w (Ok r) =
@@ -96,7 +96,7 @@ Makes bundle features before after command id w (Err (Code code)) =
     (responding bundle features before command id w ≡ Err code) × (after ≡ before)
 Makes bundle features before after command id w (Err Memory) = after ≡ before
 
--- what is asked for, or the code of a refusal, or want of memory
+-- what is asked for, or the code of a refusal, or out of memory
 abbrev pub Finds : {A : Type 0} → Result A ViewError → Result A ℕ → Type 0
 Finds (Ok a) asked = asked ≡ Ok a
 Finds (Err (Code code)) asked = asked ≡ Err code
