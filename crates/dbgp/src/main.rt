@@ -14,8 +14,8 @@ use std::sync::Wait;
 use std::thread::{Builder, Threads};
 use std::{env, thread};
 
-/// How large the stack is on which the top call runs. A value of the language is nested at most 1,048,576 deep, since each
-/// level weighs 1; copying it takes the most stack a level, less than 4 KiB.
+/// How large the stack is on which the top call runs. A value of the language is nested at most 1,048,576 deep, since
+/// each level weighs 1; copying it takes the most stack a level, less than 4 KiB.
 const STACK_SIZE: usize = 8 << 30;
 
 /// The words of the command line, without the program's name. Where the system does not give them as text there are

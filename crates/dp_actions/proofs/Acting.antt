@@ -28,11 +28,13 @@ off (Finished o) s r next l = ap (λ z. and_then z next) l
 off (Stopped moment) s r next l = l
 
 module _ {A B : Type 0} where
-  pub breaks_off : {h : Halt} {s : State} {r : Run A} (next : A → State → Run B) → AtOnce r (Err h) s → AtOnce (and_then r next) (Err h) s
+  pub breaks_off : {h : Halt} {s : State} {r : Run A} (next : A → State → Run B) → AtOnce r (Err h) s
+      → AtOnce (and_then r next) (Err h) s
   breaks_off {h} {s} {r} next e = record { leaves = off h s r next e.leaves }
 
   -- a first part that gives something is left out
-  pub first_done : {a : A} {s : State} {r : Run A} (next : A → State → Run B) → AtOnce r (Ok a) s → and_then r next ≡ next a s
+  pub first_done : {a : A} {s : State} {r : Run A} (next : A → State → Run B) → AtOnce r (Ok a) s
+      → and_then r next ≡ next a s
   unfolding and_then
   first_done next e = ap (λ z. and_then z next) e.leaves
 
@@ -42,7 +44,8 @@ module _ {A B : Type 0} where
   goes_on {a} {s} {t} {r} next {x} e f = subst (λ z. AtOnce z x t) (sym (first_done next e)) f
 
 -- what the exit of a `?` returns
-pub exits : {B : Type 0} {run : Run B} {s : State} (h : Halt) (x : Result B Halt) → IsErrAnd x (λ y. y ≡ h) → AtOnce run (Err h) s → AtOnce run x s
+pub exits : {B : Type 0} {run : Run B} {s : State} (h : Halt) (x : Result B Halt) → IsErrAnd x (λ y. y ≡ h)
+    → AtOnce run (Err h) s → AtOnce run x s
 exits {B} {run} {s} h x i e = let p = err_from_is_err_and x i in rw (p.1, p.2) e
 
 pub ruleset acting = (gives, ends, wants_memory, breaks_off, goes_on)

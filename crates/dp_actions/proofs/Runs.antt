@@ -19,5 +19,6 @@ and_then-Done (Over o s) = refl
 and_then-Done (At kind line s go) = λ i. At kind line s (λ t. and_then-Done (go t) i)
 
 -- where what follows is the same, the whole is
-pub and_then-same : {A B : Type 0} (r : Run A) (f g : A → State → Run B) → ((a : A) (s : State) → f a s ≡ g a s) → and_then r f ≡ and_then r g
+pub and_then-same : {A B : Type 0} (r : Run A) (f g : A → State → Run B) → ((a : A) (s : State) → f a s ≡ g a s)
+    → and_then r f ≡ and_then r g
 and_then-same r f g h = λ i. and_then r (λ a s. h a s i)

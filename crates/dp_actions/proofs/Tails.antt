@@ -29,7 +29,8 @@ use Rattle.dp_actions.specs.Values.{builtin_run, holds, is_missing, value_run, w
 use Rattle.dp_actions.proofs.Acting.{gives, ends, wants_memory, breaks_off, goes_on}
 
 module _ (s : State) where
-  pub value-ok : (table : Result Data ValueError) (v : Value) → table ≡ Ok (data_of v) → AtOnce (value_run table s) (Ok v) s
+  pub value-ok : (table : Result Data ValueError) (v : Value) → table ≡ Ok (data_of v)
+      → AtOnce (value_run table s) (Ok v) s
   value-ok table v e = rw (e, value_of-data_of) gives
 
   pub value-err : (table : Result Data ValueError) (why : ValueError) → (why ≡ value.Memory) ⊎ (table ≡ Err why)
@@ -43,7 +44,8 @@ module _ (s : State) where
   value-err table value.TooHeavy (inr e) = rw e ends
   value-err table value.Memory (inr e) = wants_memory
 
-  pub builtin-ok : (table : Result Data CallError) (v : Value) → table ≡ Ok (data_of v) → AtOnce (builtin_run table s) (Ok v) s
+  pub builtin-ok : (table : Result Data CallError) (v : Value) → table ≡ Ok (data_of v)
+      → AtOnce (builtin_run table s) (Ok v) s
   builtin-ok table v e = rw (e, value_of-data_of) gives
 
   pub builtin-err : (table : Result Data CallError) (why : CallError) → (why ≡ call.Memory) ⊎ (table ≡ Err why)
@@ -58,7 +60,8 @@ module _ (s : State) where
   builtin-err table call.Arguments (inr e) = rw e ends
   builtin-err table call.Memory (inr e) = wants_memory
 
-  pub write-ok : (table : Result Data WriteError) (v : Value) → table ≡ Ok (data_of v) → AtOnce (write_run table s) (Ok v) s
+  pub write-ok : (table : Result Data WriteError) (v : Value) → table ≡ Ok (data_of v)
+      → AtOnce (write_run table s) (Ok v) s
   write-ok table v e = rw (e, value_of-data_of) gives
 
   pub write-err : (table : Result Data WriteError) (why : WriteError) → IsWriteCause table why
@@ -79,7 +82,8 @@ module _ (s : State) where
   step-err r fault.Memory e = wants_memory
 
   -- a step, whatever it answers
-  pub settles : (r : Result State FatalKind) (step : Result Unit Fault) (t : State) → OnOk step (r ≡ Ok t) → IfErr step (IsCause r)
+  pub settles : (r : Result State FatalKind) (step : Result Unit Fault) (t : State) → OnOk step (r ≡ Ok t)
+      → IfErr step (IsCause r)
       → OnErr step (t ≡ s) → AtOnce (taken r s) (settled_of step t) t
   settles r (Ok done) t ok refused same = step-ok r t ok
   settles r (Err why) t ok refused same = rw same (step-err r why refused)
@@ -91,15 +95,18 @@ gives-answers (Err e) table h = inr h
 
 -- ---- the binding of an entry
 
-pub entry-is : {X Y : Type 0} (f : X → Y) (r : Option X) (o : Option Y) (x : X) (y : Y) → option_map f r ≡ o → r ≡ Some x → o ≡ Some y → f x ≡ y
+pub entry-is : {X Y : Type 0} (f : X → Y) (r : Option X) (o : Option Y) (x : X) (y : Y) → option_map f r ≡ o
+    → r ≡ Some x → o ≡ Some y → f x ≡ y
 entry-is f r o x y h is found = let e : Some (f x) ≡ Some y = sym (ap (option_map f) is) ∙ h ∙ found in cc
 
-module _ (binding : Binding) (key : Key) (v : Value) (entry : Key × Data) (same : (key, data_of v) ≡ entry) (s t : State) where
+module _ (binding : Binding) (key : Key) (v : Value) (entry : Key × Data) (same : (key, data_of v) ≡ entry)
+    (s t : State) where
   bind-is : bind binding entry s ≡ and_then (bind_name binding.value v s) (λ _ u. bind_key binding.key key u)
   bind-is = sym (ap (λ (entry : Key × Data). bind binding entry s) same)
       ∙ ap (λ w. and_then (bind_name binding.value w s) (λ _ u. bind_key binding.key key u)) (value_of-data_of v)
 
-  pub bind-breaks-off : (h : Halt) → AtOnce (bind_name binding.value v s) (Err h) t → AtOnce (bind binding entry s) (Err h) t
+  pub bind-breaks-off : (h : Halt) → AtOnce (bind_name binding.value v s) (Err h) t
+      → AtOnce (bind binding entry s) (Err h) t
   bind-breaks-off h e = subst (λ r. AtOnce r (Err h) t) (sym bind-is) (breaks_off _ e)
 
   pub bind-goes-on : (x : Result Unit Halt) (u : State) → AtOnce (bind_name binding.value v s) (Ok tt) t
@@ -140,7 +147,8 @@ pub kept-none : (v : Value) → kept_of v ≡ None → holds v ≡ false
 kept-none v e = none-then (holds v) v e
 
 -- a write gives the value that is written
-pub assign-is : (r : Result State FatalKind) (v w : Value) (s t : State) → AtOnce (and_then (taken r s) (λ _ u. Done v u)) (Ok w) t → v ≡ w
+pub assign-is : (r : Result State FatalKind) (v w : Value) (s t : State)
+    → AtOnce (and_then (taken r s) (λ _ u. Done v u)) (Ok w) t → v ≡ w
 unfolding and_then
 assign-is (Ok u) v w s t e = let is : Done v u ≡ Done w t = e.leaves in cc
 assign-is (Err kind) v w s t e = let is : fatal {A = Value} kind s ≡ Done w t = e.leaves in absurd (cc)

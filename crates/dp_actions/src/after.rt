@@ -67,7 +67,8 @@ pub fn then_entry(
     at: Result<Value, Halt>,
     state: &State,
 ) -> Result<Value, Halt>
-    ensures { Then at (λ i s. value_run (entries_by reading (data_of value.now) (data_of i)) s) state.now result state.now }
+    ensures { Then at (λ i s. value_run (entries_by reading (data_of value.now) (data_of i)) s) state.now result
+        state.now }
 {
     match at {
         Ok(at) => {

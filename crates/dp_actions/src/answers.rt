@@ -20,7 +20,8 @@ use std::alloc::Global;
 
 /// The value of an operation.
 pub fn value_of(answer: Result<Value, ValueError>, state: &State) -> Result<Value, Halt>
-    ensures { (table : Result Data Refusal) → Answers answer table → AtOnce (value_run table state.now) result state.now }
+    ensures { (table : Result Data Refusal) → Answers answer table
+        → AtOnce (value_run table state.now) result state.now }
 {
     match answer {
         Ok(value) => Ok(value),
@@ -30,7 +31,8 @@ pub fn value_of(answer: Result<Value, ValueError>, state: &State) -> Result<Valu
 
 /// The value of a built-in function.
 pub fn builtin_value(answer: Result<Value, CallError>, state: &State) -> Result<Value, Halt>
-    ensures { (table : Result Data CallRefusal) → CallAnswers answer table → AtOnce (builtin_run table state.now) result state.now }
+    ensures { (table : Result Data CallRefusal) → CallAnswers answer table
+        → AtOnce (builtin_run table state.now) result state.now }
 {
     match answer {
         Ok(value) => Ok(value),

@@ -21,7 +21,8 @@ pub fn bind_entry(
     at: usize,
     state: &mut State,
 ) -> Result<(), Halt>
-    ensures { (entry : EntryKey × Data) → slice_get array.now.pairs at ≡ Some entry → AtOnce (bind binding.now entry state.old) result state.new }
+    ensures { (entry : EntryKey × Data) → slice_get array.now.pairs at ≡ Some entry
+        → AtOnce (bind binding.now entry state.old) result state.new }
 {
     match array.pair(at) {
         None => Ok(()),

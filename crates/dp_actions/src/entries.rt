@@ -20,7 +20,8 @@ pub fn then_pushed(
     value: Result<Value, Halt>,
     state: &State,
 ) -> Result<Value, Halt>
-    ensures { Then value (λ v s. write_run (write_result [] true (data_of v) (data_of array)) s) state.now result state.now }
+    ensures { Then value (λ v s. write_run (write_result [] true (data_of v) (data_of array)) s) state.now result
+        state.now }
 {
     match value {
         Ok(value) => pushed(alloc, array, value, state),
@@ -39,7 +40,8 @@ pub fn then_put(
     value: Result<Value, Halt>,
     state: &State,
 ) -> Result<Value, Halt>
-    ensures { Then value (λ v s. write_run (write_result (keys_of_indices (index.now ∷ [])) false (data_of v) (data_of array)) s) state.now result state.now }
+    ensures { Then value (λ v s. write_run (write_result (keys_of_indices (index.now ∷ [])) false (data_of v)
+        (data_of array)) s) state.now result state.now }
 {
     match value {
         Ok(value) => put(alloc, array, index, value, state),

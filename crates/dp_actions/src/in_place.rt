@@ -40,7 +40,8 @@ pub fn entry_of<'a>(base: &'a Expression, indices: &'a [Expression]) -> Option<E
 
 // The entry of a variable under these indices, where the first one changes nothing.
 fn pure_entry<'a>(name: &'a Bytes, indices: &'a [Expression]) -> Option<Entry<'a>>
-    ensures { IfSome result (λ entry. (entry.name.now ≡ name.now) × (indices.now ≡ entry.index.now ∷ entry.rest.now) × (pure entry.index.now ≡ true)) }
+    ensures { IfSome result (λ entry. (entry.name.now ≡ name.now) × (indices.now ≡ entry.index.now ∷ entry.rest.now)
+        × (pure entry.index.now ≡ true)) }
 {
     let (index, rest) = indices.split_first()?;
     if !is_pure(index) {
@@ -74,7 +75,8 @@ pub fn entry_in_place(
     at: &Value,
     state: &State,
 ) -> Result<Value, Halt>
-    ensures { AtOnce (value_run (entries_by reading (data_of (value_named name.now state.now)) (data_of at.now)) state.now) result state.now }
+    ensures { AtOnce (value_run (entries_by reading (data_of (value_named name.now state.now)) (data_of at.now))
+        state.now) result state.now }
 {
     match state.read(name) {
         Some(value) => value_of(look(alloc, reading, value, at), state),
@@ -103,7 +105,8 @@ pub fn builtin_in_place(
     name: &Bytes,
     state: &State,
 ) -> Result<Value, Halt>
-    ensures { AtOnce (builtin_run (builtin_of function (data_of (value_named name.now state.now) ∷ [])) state.now) result state.now }
+    ensures { AtOnce (builtin_run (builtin_of function (data_of (value_named name.now state.now) ∷ [])) state.now)
+        result state.now }
 {
     match state.read(name) {
         Some(value) => builtin_value(builtin(alloc, function, slice::from_ref(value)), state),

@@ -37,7 +37,8 @@ pub fn put(
     value: Value,
     state: &State,
 ) -> Result<Value, Halt>
-    ensures { AtOnce (write_run (write_result (keys_of_indices (index.now ∷ [])) false (data_of value) (data_of array)) state.now) result state.now }
+    ensures { AtOnce (write_run (write_result (keys_of_indices (index.now ∷ [])) false (data_of value)
+        (data_of array)) state.now) result state.now }
 {
     let key = key_at(alloc, index)?;
     put_under(alloc, array, &key, value, state)
@@ -51,7 +52,8 @@ fn put_under(
     value: Value,
     state: &State,
 ) -> Result<Value, Halt>
-    ensures { AtOnce (write_run (write_result (key.now ∷ []) false (data_of value) (data_of array)) state.now) result state.now }
+    ensures { AtOnce (write_run (write_result (key.now ∷ []) false (data_of value) (data_of array)) state.now) result
+        state.now }
 {
     let mut longer = array;
     match write_at(alloc, &mut longer, slice::from_ref(key), false, value) {

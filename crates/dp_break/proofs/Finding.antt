@@ -21,9 +21,11 @@ module _ (id : ℕ) where
   kept_all least (b ∷ held) next below a =
       let le = a.0 in
       let other : (b.id == id) ≡ false = ne_eqb b.id id (λ e. omega arith) in
-      ap (λ (t : Bool). cond (not t) (b ∷ kept held) (kept held)) other ∙ ap (λ l. b ∷ l) (kept_all (b.id + 1) held next (omega arith) a.1)
+      ap (λ (t : Bool). cond (not t) (b ∷ kept held) (kept held)) other
+      ∙ ap (λ l. b ∷ l) (kept_all (b.id + 1) held next (omega arith) a.1)
 
-  changed_none : (c : BreakChange) (least : ℕ) (held : List Breakpoint) (next : ℕ) → id < least → Ascend least held next → with_changed c held ≡ held
+  changed_none : (c : BreakChange) (least : ℕ) (held : List Breakpoint) (next : ℕ) → id < least → Ascend least held next
+      → with_changed c held ≡ held
   changed_none c least [] next below a = refl
   changed_none c least (b ∷ held) next below a =
       let le = a.0 in
@@ -40,45 +42,52 @@ module _ (id : ℕ) where
   abbrev pub StandsFrom : ℕ → List Breakpoint → ℕ → Type 0
   StandsFrom k held at = (i : ℕ) × (at ≡ k + i) × StandsAt held i
 
-  pub stands_from : (k least : ℕ) (held : List Breakpoint) (next at : ℕ) → Ascend least held next → position_from (λ b. b.id == id) k held ≡ Some at → StandsFrom k held at
+  pub stands_from : (k least : ℕ) (held : List Breakpoint) (next at : ℕ) → Ascend least held next
+      → position_from (λ b. b.id == id) k held ≡ Some at → StandsFrom k held at
   stands_from k least [] next at a e = absurd cc
-  stands_from k least (b ∷ held) next at a e = cases (b.id == id) refl e (λ f. stands_from (k + 1) (b.id + 1) held next at a.1 f) where
-    cases : (t : Bool) → (b.id == id) ≡ t → cond t (Some k) (position_from (λ c. c.id == id) (k + 1) held) ≡ Some at
-        → (position_from (λ c. c.id == id) (k + 1) held ≡ Some at → StandsFrom (k + 1) held at) → StandsFrom k (b ∷ held) at
-    cases true is f later =
-        let same : k ≡ at = cc in
-        let equal = eqb-true b.id id is in (
-          0,
-          omega arith,
-          record {
-            within = omega arith;
-            found = λ d. ap (λ (t : Bool). cond t (Some b) (held_as held id)) is;
-            removed =
-                sym (ap (λ (t : Bool). cond (not t) (b ∷ kept held) (kept held)) is ∙ kept_all (b.id + 1) held next (omega arith) a.1);
-            changes = λ c d.
-                sym (λ i. cond (is i) (changed c b) b ∷ changed_none c (b.id + 1) held next (omega arith) a.1 i);
-          },
-        )
-    cases false is f later =
-        let there = later f in
-        let s = there.2 in (
-          suc there.0,
-          omega (arith, there.1),
-          record {
-            within = let w = s.within in omega arith;
-            found = λ d. ap (λ (t : Bool). cond t (Some b) (held_as held id)) is ∙ s.found d;
-            removed =
-                ap (λ l. b ∷ l) s.removed ∙ sym (ap (λ (t : Bool). cond (not t) (b ∷ kept held) (kept held)) is);
-            changes = λ c d.
-                ap (λ l. b ∷ l) (s.changes c d) ∙ sym (ap (λ (t : Bool). cond t (changed c b) b ∷ with_changed c held) is);
-          },
-        )
+  stands_from k least (b ∷ held) next at a e =
+      cases (b.id == id) refl e (λ f. stands_from (k + 1) (b.id + 1) held next at a.1 f) where
+        cases : (t : Bool) → (b.id == id) ≡ t → cond t (Some k) (position_from (λ c. c.id == id) (k + 1) held) ≡ Some at
+            → (position_from (λ c. c.id == id) (k + 1) held ≡ Some at → StandsFrom (k + 1) held at)
+            → StandsFrom k (b ∷ held) at
+        cases true is f later =
+            let same : k ≡ at = cc in
+            let equal = eqb-true b.id id is in (
+              0,
+              omega arith,
+              record {
+                within = omega arith;
+                found = λ d. ap (λ (t : Bool). cond t (Some b) (held_as held id)) is;
+                removed =
+                    sym (ap (λ (t : Bool). cond (not t) (b ∷ kept held) (kept held)) is
+                    ∙ kept_all (b.id + 1) held next (omega arith) a.1);
+                changes = λ c d.
+                    sym (λ i. cond (is i) (changed c b) b ∷ changed_none c (b.id + 1) held next (omega arith) a.1 i);
+              },
+            )
+        cases false is f later =
+            let there = later f in
+            let s = there.2 in (
+              suc there.0,
+              omega (arith, there.1),
+              record {
+                within = let w = s.within in omega arith;
+                found = λ d. ap (λ (t : Bool). cond t (Some b) (held_as held id)) is ∙ s.found d;
+                removed =
+                    ap (λ l. b ∷ l) s.removed ∙ sym (ap (λ (t : Bool). cond (not t) (b ∷ kept held) (kept held)) is);
+                changes = λ c d.
+                    ap (λ l. b ∷ l) (s.changes c d)
+                    ∙ sym (ap (λ (t : Bool). cond t (changed c b) b ∷ with_changed c held) is);
+              },
+            )
 
-  pub missing_from : (k : ℕ) (held : List Breakpoint) → position_from (λ b. b.id == id) k held ≡ None → (held_as held id ≡ None) × (kept held ≡ held)
+  pub missing_from : (k : ℕ) (held : List Breakpoint) → position_from (λ b. b.id == id) k held ≡ None
+      → (held_as held id ≡ None) × (kept held ≡ held)
   missing_from k [] e = (refl, refl)
   missing_from k (b ∷ held) e = cases (b.id == id) refl e (λ f. missing_from (k + 1) held f) where
     cases : (t : Bool) → (b.id == id) ≡ t → cond t (Some k) (position_from (λ c. c.id == id) (k + 1) held) ≡ None
-        → (position_from (λ c. c.id == id) (k + 1) held ≡ None → (held_as held id ≡ None) × (kept held ≡ held)) → (held_as (b ∷ held) id ≡ None) × (kept (b ∷ held) ≡ b ∷ held)
+        → (position_from (λ c. c.id == id) (k + 1) held ≡ None → (held_as held id ≡ None) × (kept held ≡ held))
+        → (held_as (b ∷ held) id ≡ None) × (kept (b ∷ held) ≡ b ∷ held)
     cases true is f later = absurd cc
     cases false is f later =
         let there = later f in (

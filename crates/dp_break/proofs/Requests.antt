@@ -30,22 +30,27 @@ too_many n lt = grind (arith, nat_tests)
 
 pub too_long : (text : List ℕ) → 4096 < length text → IsNoTree (Some text) (error.Code 207)
 unfolding condition_of
-too_long text long = (refl, ap (λ b. is_none (cond b (option_and_then if_pure (expression_in text)) None)) (too_many (length text) long))
+too_long text long =
+    (refl, ap (λ b. is_none (cond b (option_and_then if_pure (expression_in text)) None)) (too_many (length text) long))
 
 module _ (text : List ℕ) (short : length text ≤ expression_limit) where
   condition_is : condition_of text ≡ option_and_then if_pure (expression_in text)
   unfolding condition_of
-  condition_is = ap (λ b. cond b (option_and_then if_pure (expression_in text)) None) (le-leb (length text) expression_limit short)
+  condition_is =
+      ap (λ b. cond b (option_and_then if_pure (expression_in text)) None) (le-leb (length text) expression_limit short)
 
-  pub pure_found : (e : Expression) → expression_in text ≡ Some e → IfOk (pure_or_refused e) (λ found. condition_of text ≡ Some found)
+  pub pure_found : (e : Expression) → expression_in text ≡ Some e
+      → IfOk (pure_or_refused e) (λ found. condition_of text ≡ Some found)
   pure_found e is = cases (is_pure e) (condition_is ∙ ap (option_and_then if_pure) is) where
-    cases : (p : Bool) → condition_of text ≡ cond p (Some e) None → IfOk (cond p (Ok e) (Err (error.Code 207))) (λ found. condition_of text ≡ Some found)
+    cases : (p : Bool) → condition_of text ≡ cond p (Some e) None
+        → IfOk (cond p (Ok e) (Err (error.Code 207))) (λ found. condition_of text ≡ Some found)
     cases true h = h
     cases false h = tt
 
   pub pure_refused : (e : Expression) → expression_in text ≡ Some e → IfErr (pure_or_refused e) (IsNoTree (Some text))
   pure_refused e is = cases (is_pure e) (condition_is ∙ ap (option_and_then if_pure) is) where
-    cases : (p : Bool) → condition_of text ≡ cond p (Some e) None → IfErr {T = Expression} (cond p (Ok e) (Err (error.Code 207))) (IsNoTree (Some text))
+    cases : (p : Bool) → condition_of text ≡ cond p (Some e) None
+        → IfErr {T = Expression} (cond p (Ok e) (Err (error.Code 207))) (IsNoTree (Some text))
     cases true h = tt
     cases false h = (refl, ap is_none h)
 
@@ -55,7 +60,8 @@ module _ (text : List ℕ) (short : length text ≤ expression_limit) where
   no_memory : IsNoTree (Some text) error.Memory
   no_memory = short_enough (length text) short
 
-  pub why_none : (why : ParseError) → (why ≢ parse_error.Memory → expression_in text ≡ None) → IsNoTree (Some text) (error_of why)
+  pub why_none : (why : ParseError) → (why ≢ parse_error.Memory → expression_in text ≡ None)
+      → IsNoTree (Some text) (error_of why)
   why_none parse_error.Memory told = no_memory
   why_none (parse_error.Lex lex) told = no_text (told (λ e. cc))
   why_none (parse_error.Unexpected token) told = no_text (told (λ e. cc))
@@ -100,19 +106,23 @@ module _ (bundle : Bundle) (t : Table) (r : BreakRequest) where
     cases true f = absurd cc
     cases false f = refl
 
-  name_short : (name : Option (List ℕ)) → option_map_or (λ n. nat_lt name_limit (length n)) name false ≡ false → option_map_or (λ n. nat_le (length n) name_limit) name true ≡ true
+  name_short : (name : Option (List ℕ)) → option_map_or (λ n. nat_lt name_limit (length n)) name false ≡ false
+      → option_map_or (λ n. nat_le (length n) name_limit) name true ≡ true
   name_short None e = refl
   name_short (Some name) e = le-leb (length name) name_limit (ltb-false name_limit (length name) e)
 
-  has_file : (anyfile of_function : Bool) → (anyfile ≡ true → of_function ≡ true) → (of_function || is_some (cond anyfile None (Some r.file))) ≡ true
+  has_file : (anyfile of_function : Bool) → (anyfile ≡ true → of_function ≡ true)
+      → (of_function || is_some (cond anyfile None (Some r.file))) ≡ true
   has_file true of_function any = ap (λ (t : Bool). t || false) (any refl)
   has_file false true any = refl
   has_file false false any = refl
 
-  pub sound_request : (tree : Option Expression) → IsRequest bundle r → place_refusal bundle t r ≡ None → tree ≡ tree_of r.expression → has_no_tree r.expression ≡ false
+  pub sound_request : (tree : Option Expression) → IsRequest bundle r → place_refusal bundle t r ≡ None
+      → tree ≡ tree_of r.expression → has_no_tree r.expression ≡ false
       → IsSound (asked t.next tree r)
   sound_request tree request accepted is_tree formed =
-      let free = or_parts (nat_le breakpoint_limit (length t.held) || t.next == last_id) (option_map_or (λ n. nat_lt name_limit (length n)) r.function false) (can_be_held accepted) in record {
+      let free = or_parts (nat_le breakpoint_limit (length t.held) || t.next == last_id)
+      (option_map_or (λ n. nat_lt name_limit (length n)) r.function false) (can_be_held accepted) in record {
         parts = request.parts;
         placed = has_file r.anyfile (is_of_function r.kind) request.anyfile;
         named = name_short r.function free.1;
@@ -121,12 +131,14 @@ module _ (bundle : Bundle) (t : Table) (r : BreakRequest) where
       }
 
   -- where no refusal is plain, nothing is sure
-  not_plain : {A : Type 0} (result : Result A BreakError) → place_refusal bundle t r ≡ None → is_too_long r.expression ≡ false
+  not_plain : {A : Type 0} (result : Result A BreakError) → place_refusal bundle t r ≡ None
+      → is_too_long r.expression ≡ false
       → IfSome (plain_refusal bundle t r) (λ code. result ≡ Err (error.Code code))
   not_plain result place short =
       let none : plain_refusal bundle t r ≡ None = (λ i. option_or (place i) (code_if (short i) 207)) in
       rw none tt
 
-  pub sure_formed : {A : Type 0} (result : Result A BreakError) → place_refusal bundle t r ≡ None → has_no_tree r.expression ≡ false
+  pub sure_formed : {A : Type 0} (result : Result A BreakError) → place_refusal bundle t r ≡ None
+      → has_no_tree r.expression ≡ false
       → IfSome (plain_refusal bundle t r) (λ code. result ≡ Err (error.Code code))
   sure_formed result place formed = not_plain result place (formed_short r.expression formed)

@@ -17,22 +17,27 @@ module _ (bundle : Bundle) (at : Moment × State) where
   AreMarks marks held = take (length held) marks ≡ map (hits bundle at) held
 
   map_cond : (t : Bool) (b : Breakpoint) (rest : List Breakpoint)
-      → map (after bundle (at ∷ [])) (cond t (b ∷ rest) rest) ≡ cond t (after bundle (at ∷ []) b ∷ map (after bundle (at ∷ [])) rest) (map (after bundle (at ∷ [])) rest)
+      → map (after bundle (at ∷ [])) (cond t (b ∷ rest) rest) ≡ cond t
+      (after bundle (at ∷ []) b ∷ map (after bundle (at ∷ [])) rest) (map (after bundle (at ∷ [])) rest)
   map_cond true b rest = refl
   map_cond false b rest = refl
 
   -- by whether it hits
   one : (b : Breakpoint) (rest : List Breakpoint) (h : Bool)
       → cond h (one_settled b) (b ∷ []) ++ rest
-      ≡ cond (not (((h && is_enough b (with_more (0 + cond h 1 0) b).hits) || false) && b.temporary)) (with_more (0 + cond h 1 0) b ∷ rest) rest
+      ≡ cond (not (((h && is_enough b (with_more (0 + cond h 1 0) b).hits) || false) && b.temporary))
+      (with_more (0 + cond h 1 0) b ∷ rest) rest
   one b rest false = ap (λ (c : Breakpoint). c ∷ rest) (sym (with_more-zero b))
   one b rest true = cases (stops_once_more b) b.temporary where
-    cases : (stops temporary : Bool) → cond (stops && temporary) [] (with_more 1 b ∷ []) ++ rest ≡ cond (not ((stops || false) && temporary)) (with_more 1 b ∷ rest) rest
+    cases : (stops temporary : Bool)
+        → cond (stops && temporary) [] (with_more 1 b ∷ [])
+        ++ rest ≡ cond (not ((stops || false) && temporary)) (with_more 1 b ∷ rest) rest
     cases true true = refl
     cases true false = refl
     cases false temporary = refl
 
-  pub settled-is : (marks : List Bool) (held : List Breakpoint) → AreMarks marks held → settled marks held ≡ held_after bundle (at ∷ []) held
+  pub settled-is : (marks : List Bool) (held : List Breakpoint) → AreMarks marks held
+      → settled marks held ≡ held_after bundle (at ∷ []) held
   settled-is [] [] e = refl
   settled-is (mark ∷ marks) [] e = refl
   settled-is [] (b ∷ held) e = absurd cc
@@ -43,7 +48,8 @@ module _ (bundle : Bundle) (at : Moment × State) where
       ∙ one b (held_after bundle (at ∷ []) held) (hits bundle at b)
       ∙ sym (map_cond (is_there_after bundle (at ∷ []) b) b (filter (is_there_after bundle (at ∷ [])) held))
 
-  pub some-is : (marks : List Bool) (held : List Breakpoint) → AreMarks marks held → some_settled_stops marks held ≡ one_stops bundle held [] at
+  pub some-is : (marks : List Bool) (held : List Breakpoint) → AreMarks marks held
+      → some_settled_stops marks held ≡ one_stops bundle held [] at
   some-is [] [] e = refl
   some-is (mark ∷ marks) [] e = refl
   some-is [] (b ∷ held) e = absurd cc
@@ -58,7 +64,8 @@ module _ (bundle : Bundle) (at : Moment × State) where
 
   -- ---- a moment at which none hits
 
-  pub no_hit-held : (held : List Breakpoint) → list_any (hits bundle at) held ≡ false → held_after bundle (at ∷ []) held ≡ held
+  pub no_hit-held : (held : List Breakpoint) → list_any (hits bundle at) held ≡ false
+      → held_after bundle (at ∷ []) held ≡ held
   no_hit-held [] e = refl
   no_hit-held (b ∷ held) e =
       let parts = or_parts (hits bundle at b) (list_any (hits bundle at) held) e in
@@ -66,7 +73,8 @@ module _ (bundle : Bundle) (at : Moment × State) where
       ∙ sym (one b (held_after bundle (at ∷ []) held) (hits bundle at b))
       ∙ (λ i. cond (parts.0 i) (one_settled b) (b ∷ []) ++ no_hit-held held parts.1 i)
 
-  pub no_hit-stops : (held : List Breakpoint) → list_any (hits bundle at) held ≡ false → one_stops bundle held [] at ≡ false
+  pub no_hit-stops : (held : List Breakpoint) → list_any (hits bundle at) held ≡ false
+      → one_stops bundle held [] at ≡ false
   no_hit-stops [] e = refl
   no_hit-stops (b ∷ held) e =
       let parts = or_parts (hits bundle at b) (list_any (hits bundle at) held) e in

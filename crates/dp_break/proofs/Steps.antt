@@ -7,8 +7,10 @@ use Rattle.dp_break.specs.inner.Settling.{one_settled, settled, settled_one, som
 
 -- ---- marks
 
-pub marked_more : (test : Breakpoint → Bool) (held : List Breakpoint) (marks : List Bool) (at : ℕ) (b : Breakpoint) (mark : Bool) → at < length held → length held ≤ length marks
-    → b ≡ get_or held at b → mark ≡ test b → take at marks ≡ map test (take at held) → take (at + 1) (set marks at mark) ≡ map test (take (at + 1) held)
+pub marked_more : (test : Breakpoint → Bool) (held : List Breakpoint) (marks : List Bool) (at : ℕ) (b : Breakpoint)
+    (mark : Bool) → at < length held → length held ≤ length marks
+    → b ≡ get_or held at b → mark ≡ test b → take at marks ≡ map test (take at held)
+    → take (at + 1) (set marks at mark) ≡ map test (take (at + 1) held)
 marked_more test held marks at b mark within room read is so_far =
     take_more_set marks at mark (omega arith)
     ∙ (λ i. so_far i ++ (is ∙ ap test read) i ∷ [])
@@ -16,7 +18,8 @@ marked_more test held marks at b mark within room read is so_far =
 
 -- ---- one hit
 
-pub hit_left : (old : List Breakpoint) (at : ℕ) (d b now : Breakpoint) → at < length old → b ≡ get_or old at b → now ≡ with_more 1 b → (stops_once_more b && b.temporary) ≡ false
+pub hit_left : (old : List Breakpoint) (at : ℕ) (d b now : Breakpoint) → at < length old → b ≡ get_or old at b
+    → now ≡ with_more 1 b → (stops_once_more b && b.temporary) ≡ false
     → set old at now ≡ take at old ++ one_settled (get_or old at d) ++ drop (at + 1) old
 hit_left old at d b now within read more stays =
     set_split old at now within
@@ -51,15 +54,22 @@ module _ (marks : List Bool) (old : List Breakpoint) (room : length old ≤ leng
   settled_none at e =
       let none : drop at old ≡ [] = drop_all at old (omega arith) in record {
         within = omega arith;
-        left = sym ((λ i. take_all at old (omega arith) i ++ settled (drop at marks) (none i)) ∙ ap (λ l. old ++ l) (settled-nil (drop at marks)) ∙ append_nil old);
+        left =
+            sym ((λ i. take_all at old (omega arith) i ++ settled (drop at marks) (none i))
+            ∙ ap (λ l. old ++ l) (settled-nil (drop at marks)) ∙ append_nil old);
         stops = sym (ap (some_settled_stops (drop at marks)) none ∙ some-nil (drop at marks));
       } where
         append_nil : (l : List Breakpoint) → l ++ [] ≡ l
         append_nil [] = refl
         append_nil (b ∷ l) = ap (λ m. b ∷ m) (append_nil l)
 
-  pub settled_all : (held : List Breakpoint) (stopped : Bool) (at : ℕ) → at ≡ 0 → Settled held stopped at → (held ≡ settled marks old) × (stopped ≡ some_settled_stops marks old)
-  settled_all held stopped at e s = (s.left ∙ (λ i. take (e i) old ++ settled (drop (e i) marks) (drop (e i) old)), s.stops ∙ (λ i. some_settled_stops (drop (e i) marks) (drop (e i) old)))
+  pub settled_all : (held : List Breakpoint) (stopped : Bool) (at : ℕ) → at ≡ 0 → Settled held stopped at
+      → (held ≡ settled marks old) × (stopped ≡ some_settled_stops marks old)
+  settled_all held stopped at e s = (
+    s.left ∙ (λ i. take (e i) old ++ settled (drop (e i) marks) (drop (e i) old)),
+    s.stops
+        ∙ (λ i. some_settled_stops (drop (e i) marks) (drop (e i) old)),
+  )
 
   module _ (n : ℕ) (held : List Breakpoint) (stopped : Bool) (s : Settled held stopped (n + 1)) where
     within_old : n < length old
@@ -76,7 +86,8 @@ module _ (marks : List Bool) (old : List Breakpoint) (room : length old ≤ leng
         → stops ≡ (mark && stops_once_more (get_or held n d)) → Settled left (stops || stopped) n
     unfolding rest some_rest
     step_at d mark left stops read is stopping =
-        let here : drop n marks ≡ mark ∷ drop (n + 1) marks = drop_more marks n mark (let w = within_old in omega arith) ∙ ap (λ (m : Bool). m ∷ drop (n + 1) marks) (sym read) in
+        let here : drop n marks ≡ mark ∷ drop (n + 1) marks = drop_more marks n mark (let w = within_old in omega arith)
+        ∙ ap (λ (m : Bool). m ∷ drop (n + 1) marks) (sym read) in
         let b : Breakpoint = get_or old n d in
         let there : drop n old ≡ b ∷ drop (n + 1) old = drop_more old n d within_old in
         let front : List Breakpoint = take (n + 1) old in
@@ -85,15 +96,19 @@ module _ (marks : List Bool) (old : List Breakpoint) (room : length old ≤ leng
         ap (take n) s.left ∙ take-append-le n front rest (omega arith) ∙ take-take n (n + 1) old (omega arith)
         in
         let same_here : get_or held n d ≡ b =
-        ap (λ l. get_or l n d) s.left ∙ get_or_append_left front rest d n (omega arith) ∙ get_or-take (n + 1) old n d (omega arith)
+        ap (λ l. get_or l n d) s.left ∙ get_or_append_left front rest d n (omega arith)
+        ∙ get_or-take (n + 1) old n d (omega arith)
         in
-        let same_rest : drop (n + 1) held ≡ rest = ap (drop (n + 1)) s.left ∙ drop_at front rest (n + 1) long in record {
+        let same_rest : drop (n + 1) held ≡ rest = ap (drop (n + 1)) s.left
+        ∙ drop_at front rest (n + 1) long in record {
           within = let w = s.within in omega arith;
           left =
-              is ∙ (λ i. same_front i ++ settled_one mark (same_here i) ++ same_rest i) ∙ append_assoc (take n old) (settled_one mark b) rest
+              is ∙ (λ i. same_front i ++ settled_one mark (same_here i) ++ same_rest i)
+              ∙ append_assoc (take n old) (settled_one mark b) rest
               ∙ sym (λ i. take n old ++ settled (here i) (there i));
           stops =
-              (λ i. (stopping ∙ ap (λ (c : Breakpoint). mark && stops_once_more c) same_here) i || s.stops i) ∙ sym (λ i. some_settled_stops (here i) (there i));
+              (λ i. (stopping ∙ ap (λ (c : Breakpoint). mark && stops_once_more c) same_here) i || s.stops i)
+              ∙ sym (λ i. some_settled_stops (here i) (there i));
         }
 
     -- there is a breakpoint
@@ -113,7 +128,10 @@ module _ (marks : List Bool) (old : List Breakpoint) (room : length old ≤ leng
     before = let same : at ≡ at - 1 + 1 = omega arith in subst (λ (k : ℕ). Settled held stopped k) same s
 
     pub stepped : (mark : Bool) (left : List Breakpoint) (stops now : Bool) → mark ≡ get_or marks (at - 1) mark
-        → ((d : Breakpoint) → left ≡ take (at - 1) held ++ settled_one mark (get_or held (at - 1) d) ++ drop (at - 1 + 1) held)
-        → ((d : Breakpoint) → stops ≡ (mark && stops_once_more (get_or held (at - 1) d))) → (stops || stopped) ≡ now → Settled left now (at - 1)
+        → ((d : Breakpoint) → left ≡ take (at - 1) held ++ settled_one mark (get_or held (at - 1) d)
+        ++ drop (at - 1 + 1) held)
+        → ((d : Breakpoint) → stops ≡ (mark && stops_once_more (get_or held (at - 1) d))) → (stops || stopped) ≡ now
+        → Settled left now (at - 1)
     stepped mark left stops now read is stopping e =
-        subst (λ (t : Bool). Settled left t (at - 1)) e (step (at - 1) held stopped before mark left stops read is stopping)
+        subst (λ (t : Bool). Settled left t (at - 1)) e (step
+        (at - 1) held stopped before mark left stops read is stopping)

@@ -24,7 +24,8 @@ module _ (id : ℕ) (held : List Breakpoint) (next : ℕ) where
 
   stands_at : (at : ℕ) → Ascend 1 held next → place ≡ Some at → StandsAt id held at
   stands_at at a e =
-      let there = stands_from id 0 1 held next at a (sym (position_from-zero (λ (b : Breakpoint). b.id == id) held) ∙ e) in
+      let there = stands_from id 0 1 held next at a (sym (position_from-zero (λ (b : Breakpoint). b.id == id) held) ∙ e)
+      in
       let same : there.0 ≡ at = omega (arith, there.1) in
       subst (λ (k : ℕ). StandsAt id held k) same there.2
 
@@ -45,11 +46,13 @@ module _ (id : ℕ) (held : List Breakpoint) (next : ℕ) where
 
     pub found_some : true ≡ is_some (held_as held id)
     found_some = elim held as (λ (l : List Breakpoint). l ≡ held → true ≡ is_some (held_as held id)) [
-      | [] ↦ (λ same. let w = stands.within in let none : length held ≡ 0 = sym (ap length same) in absurd (omega arith))
+      | [] ↦ (λ same. let w = stands.within in let none : length held ≡ 0 = sym (ap length same) in absurd
+          (omega arith))
       | b ∷ more ↦ (λ same. sym (ap is_some (stands.found b)))
     ] refl
 
-    pub left_some : (left : List Breakpoint) → left ≡ take at held ++ drop (suc at) held → table left next ≡ without id (table held next)
+    pub left_some : (left : List Breakpoint) → left ≡ take at held ++ drop (suc at) held
+        → table left next ≡ without id (table held next)
     left_some left is = ap (λ l. table l next) (is ∙ stands.removed)
 
     pub removed_table : (left : List Breakpoint) → left ≡ take at held ++ drop (suc at) held → IsTable (table left next)
@@ -60,7 +63,8 @@ module _ (id : ℕ) (held : List Breakpoint) (next : ℕ) where
         let short : length (filter p held) ≤ length held = omega arith in
         subst (λ l. IsTable (table l next)) (sym (is ∙ stands.removed)) (filtered_table p held next t short)
 
-    pub removed_shorter : (left : List Breakpoint) (most : ℕ) → left ≡ take at held ++ drop (suc at) held → length held ≤ most → length left ≤ most
+    pub removed_shorter : (left : List Breakpoint) (most : ℕ) → left ≡ take at held ++ drop (suc at) held
+        → length held ≤ most → length left ≤ most
     removed_shorter left most is le =
         let p : Breakpoint → Bool = λ b. not (b.id == id) in
         let few = length-filter p held in
@@ -86,23 +90,29 @@ module _ (id : ℕ) (held : List Breakpoint) (next : ℕ) where
       pub change_table : IsSound (changed c b) → IsTable (table (set held at (changed c b)) next)
       change_table sound = record {
         few = let few = t.few in let same = length-set held at (changed c b) in omega arith;
-        ascend = subst (λ l. Ascend 1 l next) (sym changes_here) (Ascend-map (λ x. cond (x.id == id) (changed c x) x) same_id 1 held next t.ascend);
+        ascend =
+            subst (λ l. Ascend 1 l next) (sym changes_here) (Ascend-map
+            (λ x. cond (x.id == id) (changed c x) x) same_id 1 held next t.ascend);
         last = t.last;
         sound = All-set IsSound held at (changed c b) sound t.sound;
       } where
         same_id : (x : Breakpoint) → (cond (x.id == id) (changed c x) x).id ≡ x.id
-        same_id x = elim (x.id == id) as (λ (v : Bool). (cond v (changed c x) x).id ≡ x.id) [ true ↦ refl | false ↦ refl ]
+        same_id x =
+            elim (x.id == id) as (λ (v : Bool). (cond v (changed c x) x).id ≡ x.id) [ true ↦ refl | false ↦ refl ]
 
       pub sound_here : IsSound b
       sound_here = subst IsSound (sym read) (All-get_or IsSound held at b stands.within t.sound)
 
-  pub missing_answer : (bundle : Bundle) (c : BreakChange) → place ≡ None → Err (error.Code 205) ≡ answer_of (update_refusal bundle c (held_as held id))
+  pub missing_answer : (bundle : Bundle) (c : BreakChange) → place ≡ None
+      → Err (error.Code 205) ≡ answer_of (update_refusal bundle c (held_as held id))
   missing_answer bundle c e = sym (ap (λ (o : Option Breakpoint). answer_of (update_refusal bundle c o)) (missing e).0)
 
 -- ---- soundness
 
-parts_kept : (kind : BreakKind) (given line : Option ℕ) (function expression : Option (List ℕ)) → (is_of_function kind && is_some given) ≡ false
-    → has_parts kind line function expression ≡ true → has_parts kind (line_given_or given line) function expression ≡ true
+parts_kept : (kind : BreakKind) (given line : Option ℕ) (function expression : Option (List ℕ))
+    → (is_of_function kind && is_some given) ≡ false
+    → has_parts kind line function expression ≡ true
+    → has_parts kind (line_given_or given line) function expression ≡ true
 parts_kept Line None line function expression free parts = parts
 parts_kept Line (Some given) line function expression free parts = refl
 parts_kept Call None line function expression free parts = parts
@@ -111,9 +121,12 @@ parts_kept Return None line function expression free parts = parts
 parts_kept Return (Some given) line function expression free parts = absurd cc
 parts_kept Conditional given line function expression free parts = parts
 
-pub changed_sound : (bundle : Bundle) (c : BreakChange) (b : Breakpoint) → change_refusal bundle c b ≡ None → IsSound b → IsSound (changed c b)
+pub changed_sound : (bundle : Bundle) (c : BreakChange) (b : Breakpoint) → change_refusal bundle c b ≡ None → IsSound b
+    → IsSound (changed c b)
 changed_sound bundle c b accepted s = record {
-  parts = parts_kept b.kind c.line b.line b.function b.expression (cases (is_of_function b.kind && is_some c.line) accepted) s.parts;
+  parts =
+      parts_kept b.kind c.line b.line b.function b.expression
+      (cases (is_of_function b.kind && is_some c.line) accepted) s.parts;
   placed = s.placed;
   named = s.named;
   tree = s.tree;

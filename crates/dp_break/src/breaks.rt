@@ -1,11 +1,13 @@
 //! The breakpoints that a session holds.
 
-ghost use Rattle.std.specs.Prelude.{◌≡◌, ◌==◌, ◌<◌, ◌≤◌, true, [], ◌∷◌, length, option_map, is_some, position, IfErr, IfOk, IfSome, OnOk, OnErr, Err};
+ghost use Rattle.std.specs.Prelude.{◌≡◌, ◌==◌, ◌<◌, ◌≤◌, true, [], ◌∷◌, length, option_map, is_some, position, IfErr};
+ghost use Rattle.std.specs.Prelude.{IfOk, IfSome, OnOk, OnErr, Err};
 ghost use Rattle.std.specs.List.{list_any};
 ghost use Rattle.dp_break.specs.Changes.{Adds, IsRequest, held_as, with_change, with_new, without};
 ghost use Rattle.dp_break.specs.Hits.{asks_expression, hits};
 ghost use Rattle.dp_break.specs.Passing.{held_after, one_stops};
-ghost use Rattle.dp_break.specs.Refusals.{IsCause, answer_of, change_refusal, place_refusal, plain_refusal, request_refusal, update_refusal};
+ghost use Rattle.dp_break.specs.Refusals.{IsCause, answer_of, change_refusal, place_refusal, plain_refusal};
+ghost use Rattle.dp_break.specs.Refusals.{request_refusal, update_refusal};
 ghost use Rattle.dp_break.specs.Tables.{IsSound, IsTable, breakpoint_limit, empty, last_id};
 
 use crate::breakpoint::{BreakChange, BreakRequest, Breakpoint};
@@ -47,7 +49,8 @@ impl Model for Breaks {
 
     ghost view = { λ b. record { held = b.held.items; next = b.next } };
 
-    ghost invariant = { λ b. (IsTable (record { held = b.held.items; next = b.next })) × (length b.held.items ≤ length b.marks.items) };
+    ghost invariant = { λ b. (IsTable (record { held = b.held.items; next = b.next }))
+        × (length b.held.items ≤ length b.marks.items) };
 }
 
 // The place of the breakpoint with this id.
@@ -111,8 +114,8 @@ impl Breaks {
             .find(|breakpoint| breakpoint.id == id)
     }
 
-    /// Holds a new breakpoint and answers its id. Ids count from 1, and none is used again. The file of a request stands
-    /// in the bundle, and the request has the parts that are of its kind.
+    /// Holds a new breakpoint and answers its id. Ids count from 1, and none is used again. The file of a request
+    /// stands in the bundle, and the request has the parts that are of its kind.
     ///
     /// It is refused with the first of these codes whose test holds: 200 where 1,000 breakpoints are held, no id below
     /// 4,294,967,295 is left, or the name of a function has more than 255 bytes; 202 where the file does not have the
@@ -167,9 +170,9 @@ impl Breaks {
         Ok(())
     }
 
-    /// Changes a breakpoint. Its count stays. It is refused with the first of these codes whose test holds: 205 where no
-    /// breakpoint has the id; 3 where a line is given to one on a function; 202 where the file does not have the line,
-    /// and 203 where no code is on it. Then nothing has changed. Takes no memory.
+    /// Changes a breakpoint. Its count stays. It is refused with the first of these codes whose test holds: 205 where
+    /// no breakpoint has the id; 3 where a line is given to one on a function; 202 where the file does not have the
+    /// line, and 203 where no code is on it. Then nothing has changed. Takes no memory.
     pub fn update(
         &mut self,
         bundle: &Bundle,
@@ -207,8 +210,9 @@ impl Breaks {
         }
     }
 
-    /// Whether a breakpoint hits at a moment in this state, which is lent so that expressions can be evaluated in it, and
-    /// left as it was. Memory is wanted only where an enabled breakpoint whose place is that of the moment has an expression.
+    /// Whether a breakpoint hits at a moment in this state, which is lent so that expressions can be evaluated in it,
+    /// and left as it was. Memory is wanted only where an enabled breakpoint whose place is that of the moment has an
+    /// expression.
     pub fn is_hit(
         &self,
         bundle: &Bundle,
@@ -223,8 +227,8 @@ impl Breaks {
     }
 
     /// Counts the hits of a moment in this state, takes out the temporary breakpoints that stop, and says whether one
-    /// stops. The state is lent and left as it was. Memory is wanted only where an enabled breakpoint whose place is that of
-    /// the moment has an expression; where it runs out, no breakpoint has changed.
+    /// stops. The state is lent and left as it was. Memory is wanted only where an enabled breakpoint whose place is
+    /// that of the moment has an expression; where it runs out, no breakpoint has changed.
     pub fn pass(
         &mut self,
         bundle: &Bundle,

@@ -74,8 +74,8 @@ fn is_place_of(breakpoint: &Breakpoint, moment: &Moment) -> bool
     }
 }
 
-/// Whether a breakpoint hits at a moment in a state, which is lent and left as it was. Memory is wanted only where that depends
-/// on its expression.
+/// Whether a breakpoint hits at a moment in a state, which is lent and left as it was. Memory is wanted only where that
+/// depends on its expression.
 pub(crate) fn is_hit(
     alloc: Global,
     bundle: &Bundle,

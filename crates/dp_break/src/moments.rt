@@ -1,6 +1,7 @@
 //! What a moment does to breakpoints.
 
-ghost use Rattle.std.specs.Prelude.{◌≡◌, ◌+◌, ◌<◌, ◌≤◌, true, ◌&&◌, length, map, take, drop, ◌++◌, slice_index_or, All, IfOk, OnErr, OnOk};
+ghost use Rattle.std.specs.Prelude.{◌≡◌, ◌+◌, ◌<◌, ◌≤◌, true, ◌&&◌, length, map, take, drop, ◌++◌, slice_index_or, All};
+ghost use Rattle.std.specs.Prelude.{IfOk, OnErr, OnOk};
 ghost use Rattle.std.specs.List.{list_any};
 ghost use Rattle.dp_break.specs.Hits.{asks_expression, hits};
 ghost use Rattle.dp_break.specs.inner.Settling.{one_settled, settled, settled_one, some_settled_stops, stops_once_more};
@@ -13,8 +14,8 @@ use dp_tree::Bundle;
 use dp_value::Memory;
 use std::alloc::Global;
 
-/// Whether one of the breakpoints hits at a moment in a state, which is lent and left as it was. Memory is wanted only where
-/// one of them asks its expression.
+/// Whether one of the breakpoints hits at a moment in a state, which is lent and left as it was. Memory is wanted only
+/// where one of them asks its expression.
 pub(crate) fn any_hits(
     alloc: Global,
     bundle: &Bundle,
@@ -35,8 +36,8 @@ pub(crate) fn any_hits(
     Ok(false)
 }
 
-/// Marks the places of the breakpoints that hit at a moment in a state, which is lent and left as it was. Memory is wanted
-/// only where one of them asks its expression.
+/// Marks the places of the breakpoints that hit at a moment in a state, which is lent and left as it was. Memory is
+/// wanted only where one of them asks its expression.
 pub(crate) fn mark(
     alloc: Global,
     bundle: &Bundle,
@@ -85,7 +86,8 @@ fn settle_at(held: &mut Vec<Breakpoint>, at: usize, mark: bool) -> bool
     requires { at < length held.old.items }
     ensures stops { (d : Breakpoint) → result ≡ (mark && stops_once_more (slice_index_or held.old.items at d)) }
     ensures left { (d : Breakpoint) → held.new.items ≡
-        take at held.old.items ++ settled_one mark (slice_index_or held.old.items at d) ++ drop (at + 1) held.old.items }
+        take at held.old.items ++ settled_one mark (slice_index_or held.old.items at d)
+        ++ drop (at + 1) held.old.items }
 {
     if mark { hit(held, at) } else { false }
 }

@@ -40,7 +40,8 @@ known_or : (x y : Option ℕ) → AreKnown x → AreKnown y → AreKnown (option
 known_or None y p q = q
 known_or (Some code) y p q = p
 
-known_map : {A : Type 0} (f : A → Option ℕ) (o : Option A) (otherwise : Option ℕ) → ((a : A) → AreKnown (f a)) → AreKnown otherwise → AreKnown (option_map_or f o otherwise)
+known_map : {A : Type 0} (f : A → Option ℕ) (o : Option A) (otherwise : Option ℕ) → ((a : A) → AreKnown (f a))
+    → AreKnown otherwise → AreKnown (option_map_or f o otherwise)
 known_map f None otherwise p q = q
 known_map f (Some a) otherwise p q = p a
 
@@ -50,7 +51,8 @@ known_if b known h = known_cond b (Some known) None (known_some known h) known_n
 known_first : (tests : List Test) → AllByRecursion (λ test. IsKnown test.1) tests → AreKnown (first_code tests)
 known_first [] h = known_none
 known_first (test ∷ tests) h = cases test.0 (known_first tests h.1) where
-  cases : (b : Bool) → AreKnown (first_code tests) → AreKnown (option_map (λ (t : Test). t.1) (cond b (Some test) (find (λ (t : Test). t.0) tests)))
+  cases : (b : Bool) → AreKnown (first_code tests)
+      → AreKnown (option_map (λ (t : Test). t.1) (cond b (Some test) (find (λ (t : Test). t.0) tests)))
   cases true later = known_some test.1 h.0
   cases false later = later
 
@@ -64,24 +66,41 @@ known_line bundle None line = known_none
 known_line bundle (Some file) None = known_none
 known_line bundle (Some file) (Some line) =
     known_map (λ f. line_refusal f.tree line) (slice_get bundle.files file) (Some 202)
-    (λ f. known_cond _ (Some 202) _ (known_some 202 (known 202 refl (omega arith))) (known_cond _ None (Some 203) known_none (known_some 203 (known 203 refl (omega arith)))))
+    (λ f. known_cond _ (Some 202) _ (known_some 202 (known 202 refl (omega arith)))
+    (known_cond _ None (Some 203) known_none (known_some 203 (known 203 refl (omega arith)))))
     (known_some 202 (known 202 refl (omega arith)))
 
 known_request : (bundle : Bundle) (t : Table) (r : BreakRequest) → AreKnown (request_refusal bundle t r)
 known_request bundle t r =
-    known_or (place_refusal bundle t r) _ (known_cond _ (Some 200) _ (known_some 200 (known 200 refl (omega arith))) (known_line bundle (Some r.file) r.line))
+    known_or (place_refusal bundle t r) _ (known_cond _ (Some 200) _ (known_some 200 (known 200 refl (omega arith)))
+    (known_line bundle (Some r.file) r.line))
     (known_if _ 207 (known 207 refl (omega arith)))
 
 known_words : (bundle : Bundle) (set : BreakpointSet) → AreKnown (setting.refusal bundle set)
 unfolding setting.refusal setting.word_tests
 known_words bundle set =
-    known_first (setting.word_tests set ++ setting.file_tests bundle set.file)
-    (known 201 refl (omega arith), (known 3 refl (omega arith), (known 3 refl (omega arith), (known 3 refl (omega arith), (known 204 refl (omega arith), (known 200 refl (omega arith), tt))))))
+    known_first (setting.word_tests set ++ setting.file_tests bundle set.file) (
+      known 201 refl (omega arith),
+      (
+        known 3 refl (omega arith),
+        (
+          known 3 refl (omega arith),
+          (
+            known 3 refl (omega arith),
+            (known 204 refl (omega arith), (known 200 refl (omega arith), tt)),
+          ),
+        ),
+      ),
+    )
 
-known_change : (bundle : Bundle) (update : BreakpointUpdate) (b : Breakpoint) → AreKnown (change_refused bundle update b)
+known_change : (bundle : Bundle) (update : BreakpointUpdate) (b : Breakpoint)
+    → AreKnown (change_refused bundle update b)
 known_change bundle update b =
     known_or (first_code (change_tests b.kind update)) _
-    (known_first (change_tests b.kind update) (known 3 refl (omega arith), (known 3 refl (omega arith), (known 204 refl (omega arith), tt))))
+    (known_first (change_tests b.kind update) (
+      known 3 refl (omega arith),
+      (known 3 refl (omega arith), (known 204 refl (omega arith), tt)),
+    ))
     (known_cond _ (Some 3) _ (known_some 3 (known 3 refl (omega arith))) (known_line bundle b.file update.line))
 
 missing : AreKnown (Some 205)
@@ -90,9 +109,11 @@ missing = known_some 205 (known 205 refl (omega arith))
 unimplemented : AreKnown (Some 4)
 unimplemented = known_some 4 (known 4 refl (omega arith))
 
-pub refusal_known : (bundle : Bundle) (here : ℕ) (t : Table) (r : Request) → AreKnown (breakpoint_refusal bundle here t r)
+pub refusal_known : (bundle : Bundle) (here : ℕ) (t : Table) (r : Request)
+    → AreKnown (breakpoint_refusal bundle here t r)
 refusal_known bundle here t (request.BreakpointSet set) =
-    known_or (setting.refusal bundle set) _ (known_words bundle set) (known_request bundle t (setting.request bundle here set))
+    known_or (setting.refusal bundle set) _ (known_words bundle set)
+    (known_request bundle t (setting.request bundle here set))
 refusal_known bundle here t (request.Breakpoint action id) = known_if _ 205 (known 205 refl (omega arith))
 refusal_known bundle here t (request.BreakpointUpdate update) =
     known_map (change_refused bundle update) (held_as t.held update.id) (Some 205) (known_change bundle update) missing

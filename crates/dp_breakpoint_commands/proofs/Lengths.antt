@@ -33,24 +33,40 @@ state_short false = omega arith
 abbrev pub lines_size : List BreakLine → ℕ
 lines_size lines = length (nodes_text (map breakpoint_node lines))
 
-lines_more : (past : List BreakLine) (line : BreakLine) → lines_size (past ++ line ∷ []) ≡ lines_size past + line_size line
+lines_more : (past : List BreakLine) (line : BreakLine)
+    → lines_size (past ++ line ∷ []) ≡ lines_size past + line_size line
 lines_more [] line = omega (arith, length-append (node_text (breakpoint_node line)) [])
 lines_more (l ∷ past) line =
-    omega (arith, length-append (node_text (breakpoint_node l)) (nodes_text (map breakpoint_node (past ++ line ∷ []))), length-append (node_text (breakpoint_node l)) (nodes_text (map breakpoint_node past)), lines_more past line)
+    omega (
+      arith,
+      length-append (node_text (breakpoint_node l)) (nodes_text (map breakpoint_node (past ++ line ∷ []))),
+      length-append (node_text (breakpoint_node l)) (nodes_text (map breakpoint_node past)),
+      lines_more past line,
+    )
 
 module _ (command id : Text) where
   abbrev pub size_with : List BreakLine → ℕ
   size_with lines = length (text (packet.Response (lines_response command id lines)))
 
-  size_is : (lines : List BreakLine) → size_with lines ≡ 65 + attributes_size (namespace ∷ (codes "command", command) ∷ (codes "transaction_id", id) ∷ []) + lines_size lines
+  size_is : (lines : List BreakLine)
+      → size_with lines ≡ 65 + attributes_size (namespace ∷ (codes "command", command) ∷ (codes "transaction_id", id)
+      ∷ []) + lines_size lines
   size_is lines =
       let p : Packet = packet.Response (lines_response command id lines) in
       omega (arith, packet_length p, written_length (element_of p))
 
-  pub bare_size : size_with [] ≡ 98 + length (attribute_text (codes "command", command)) + length (attribute_text (codes "transaction_id", id))
-  bare_size = omega (arith, size_is [], attribute_length (codes "command") command, attribute_length (codes "transaction_id") id)
+  pub bare_size : size_with [] ≡ 98 + length (attribute_text (codes "command", command)) + length
+      (attribute_text (codes "transaction_id", id))
+  bare_size =
+      omega (
+        arith,
+        size_is [],
+        attribute_length (codes "command") command,
+        attribute_length (codes "transaction_id") id,
+      )
 
-  size_more : (past : List BreakLine) (line : BreakLine) → size_with (past ++ line ∷ []) ≡ size_with past + line_size line
+  size_more : (past : List BreakLine) (line : BreakLine)
+      → size_with (past ++ line ∷ []) ≡ size_with past + line_size line
   size_more past line = omega (arith, size_is (past ++ line ∷ []), size_is past, lines_more past line)
 
   -- ---- lists
@@ -61,27 +77,38 @@ module _ (command id : Text) where
   abbrev fits_behind : Reached BreakLine → Bool
   fits_behind r = lines_fit command id (r.past ++ r.here ∷ [])
 
-  one_more : (k : ℕ) (l : BreakLine) (rs : List (Reached BreakLine)) (past : List BreakLine) → map (λ r. r.here) (take (1 + k) (reached past l ∷ rs)) ≡ l ∷ map (λ r. r.here) (take k rs)
-  one_more k l rs past = ap (λ (m : ℕ). map (λ (r : Reached BreakLine). r.here) (take m (reached past l ∷ rs))) next where
-    next : 1 + k ≡ suc k
-    next = omega arith
+  one_more : (k : ℕ) (l : BreakLine) (rs : List (Reached BreakLine)) (past : List BreakLine)
+      → map (λ r. r.here) (take (1 + k) (reached past l ∷ rs)) ≡ l ∷ map (λ r. r.here) (take k rs)
+  one_more k l rs past =
+      ap (λ (m : ℕ). map (λ (r : Reached BreakLine). r.here) (take m (reached past l ∷ rs))) next where
+        next : 1 + k ≡ suc k
+        next = omega arith
 
-  listed_from : (room : ℕ) (past lines : List BreakLine) → room + size_with past ≡ packet_limit → map (λ r. r.here) (take_while fits_behind (each_from past lines)) ≡ fitting room lines
+  listed_from : (room : ℕ) (past lines : List BreakLine) → room + size_with past ≡ packet_limit
+      → map (λ r. r.here) (take_while fits_behind (each_from past lines)) ≡ fitting room lines
   listed_from room past [] e = refl
   listed_from room past (l ∷ more) e =
-      ap (λ (b : Bool). map (λ (r : Reached BreakLine). r.here) (take (cond b (1 + prefix_len fits_behind (each_from (past ++ l ∷ []) more)) 0) (reached past l ∷ each_from (past ++ l ∷ []) more)))
-      (ap (λ (n : ℕ). nat_le n packet_limit) (size_more past l) ∙ same_test (line_size l) (size_with past) room packet_limit e)
-      ∙ cases (nat_le (line_size l) room) refl (λ within. listed_from (room - line_size l) (past ++ l ∷ []) more (omega (arith, e, size_more past l, within))) where
+      ap (λ (b : Bool). map (λ (r : Reached BreakLine). r.here)
+      (take (cond b (1 + prefix_len fits_behind (each_from (past ++ l ∷ []) more)) 0)
+      (reached past l ∷ each_from (past ++ l ∷ []) more)))
+      (ap (λ (n : ℕ). nat_le n packet_limit) (size_more past l)
+      ∙ same_test (line_size l) (size_with past) room packet_limit e)
+      ∙ cases (nat_le (line_size l) room) refl (λ within. listed_from (room - line_size l) (past ++ l ∷ []) more
+      (omega (arith, e, size_more past l, within))) where
         cases : (b : Bool) → nat_le (line_size l) room ≡ b
-            → (line_size l ≤ room → map (λ r. r.here) (take_while fits_behind (each_from (past ++ l ∷ []) more)) ≡ fitting (room - line_size l) more)
-            → map (λ r. r.here) (take (cond b (1 + prefix_len fits_behind (each_from (past ++ l ∷ []) more)) 0) (reached past l ∷ each_from (past ++ l ∷ []) more))
+            → (line_size l ≤ room
+            → map (λ r. r.here) (take_while fits_behind (each_from (past ++ l ∷ []) more)) ≡ fitting
+            (room - line_size l) more)
+            → map (λ r. r.here) (take (cond b (1 + prefix_len fits_behind (each_from (past ++ l ∷ []) more)) 0)
+            (reached past l ∷ each_from (past ++ l ∷ []) more))
             ≡ cond b (l ∷ fitting (room - line_size l) more) []
         cases true is later =
             one_more (prefix_len fits_behind (each_from (past ++ l ∷ []) more)) l (each_from (past ++ l ∷ []) more) past
             ∙ ap (λ (ls : List BreakLine). l ∷ ls) (later (leb-true (line_size l) room is))
         cases false is later = refl
 
-  pub listed_are : (room : ℕ) (lines : List BreakLine) → room + size_with [] ≡ packet_limit → listed command id lines ≡ fitting room lines
+  pub listed_are : (room : ℕ) (lines : List BreakLine) → room + size_with [] ≡ packet_limit
+      → listed command id lines ≡ fitting room lines
   listed_are room lines e = listed_from room [] lines e
 
   -- ---- what is listed fits
@@ -89,17 +116,35 @@ module _ (command id : Text) where
   fitting_small : (room : ℕ) (lines : List BreakLine) → lines_size (fitting room lines) ≤ room
   fitting_small room [] = omega arith
   fitting_small room (l ∷ more) = cases (nat_le (line_size l) room) refl (fitting_small (room - line_size l) more) where
-    cases : (b : Bool) → nat_le (line_size l) room ≡ b → lines_size (fitting (room - line_size l) more) ≤ room - line_size l → lines_size (cond b (l ∷ fitting (room - line_size l) more) []) ≤ room
+    cases : (b : Bool) → nat_le (line_size l) room ≡ b
+        → lines_size (fitting (room - line_size l) more) ≤ room - line_size l
+        → lines_size (cond b (l ∷ fitting (room - line_size l) more) []) ≤ room
     cases true is later =
-        omega (arith, leb-true (line_size l) room is, later, length-append (node_text (breakpoint_node l)) (nodes_text (map breakpoint_node (fitting (room - line_size l) more))))
+        omega (
+          arith,
+          leb-true (line_size l) room is,
+          later,
+          length-append (node_text (breakpoint_node l))
+              (nodes_text (map breakpoint_node (fitting (room - line_size l) more))),
+        )
     cases false is later = omega arith
 
   module _ (short_name : length command ≤ 64) (short_id : length id ≤ 64) where
     name_short : length (attribute_text (codes "command", command)) ≤ 395
-    name_short = omega (arith, attributes_short ((codes "command", command) ∷ []), length-append (attribute_text (codes "command", command)) [])
+    name_short =
+        omega (
+          arith,
+          attributes_short ((codes "command", command) ∷ []),
+          length-append (attribute_text (codes "command", command)) [],
+        )
 
     id_short : length (attribute_text (codes "transaction_id", id)) ≤ 402
-    id_short = omega (arith, attributes_short ((codes "transaction_id", id) ∷ []), length-append (attribute_text (codes "transaction_id", id)) [])
+    id_short =
+        omega (
+          arith,
+          attributes_short ((codes "transaction_id", id) ∷ []),
+          length-append (attribute_text (codes "transaction_id", id)) [],
+        )
 
     pub bare_short : size_with [] ≤ 895
     bare_short = omega (arith, bare_size, name_short, id_short)
@@ -117,7 +162,8 @@ module _ (command id : Text) where
       pub number : for_id ≤ 402
       pub room : packet_limit - (98 + for_name + for_id) + size_with [] ≡ packet_limit
 
-    pub room_is : (name number : ℕ) → name ≡ counted (length (attribute_text (codes "command", command))) → number ≡ counted (length (attribute_text (codes "transaction_id", id)))
+    pub room_is : (name number : ℕ) → name ≡ counted (length (attribute_text (codes "command", command)))
+        → number ≡ counted (length (attribute_text (codes "transaction_id", id)))
         → IsRoom name number
     room_is name number is_name is_number = record {
       name = omega (arith, is_name, name_short);
@@ -128,10 +174,17 @@ module _ (command id : Text) where
     pub bare_response_fits : length (text (packet.Response (bare_response command id))) ≤ packet_limit
     bare_response_fits = omega (arith, bare_response_short command id [])
 
-    pub set_response_fits : (enabled : Bool) (number : ℕ) → number < 2 ^ 32 → length (text (packet.Response (set_response command id enabled number))) ≤ packet_limit
+    pub set_response_fits : (enabled : Bool) (number : ℕ) → number < 2 ^ 32
+        → length (text (packet.Response (set_response command id enabled number))) ≤ packet_limit
     set_response_fits enabled number small =
         let digits = length-decimal-le 10 number (omega arith) (omega (arith, small)) (omega (arith, small)) in
-        omega (arith, bare_response_short command id ((codes "state", state_name enabled) ∷ (codes "id", decimal number) ∷ []), digits, state_short enabled)
+        omega (
+          arith,
+          bare_response_short command id ((codes "state", state_name enabled) ∷ (codes "id", decimal number)
+              ∷ []),
+          digits,
+          state_short enabled,
+        )
 
     -- one breakpoint that is short
     pub one_short : (line : BreakLine) → lines_size (line ∷ []) ≤ 40000 → size_with (line ∷ []) ≤ packet_limit
@@ -140,22 +193,29 @@ module _ (command id : Text) where
 -- ---- responses that were made
 
 -- one that was made fits where the one that was asked for does
-pub made_fits : {E : Type 0} (command id : Text) (what : Body) (attributes asked : Attributes) (made : Result Response E) → IfOk made (λ r. r ≡ response command id attributes what)
-    → attributes ≡ asked → length (text (packet.Response (response command id asked what))) ≤ packet_limit → IfOk made (λ r. length (text (packet.Response r)) ≤ packet_limit)
+pub made_fits : {E : Type 0} (command id : Text) (what : Body) (attributes asked : Attributes)
+    (made : Result Response E) → IfOk made (λ r. r ≡ response command id attributes what)
+    → attributes ≡ asked → length (text (packet.Response (response command id asked what))) ≤ packet_limit
+    → IfOk made (λ r. length (text (packet.Response r)) ≤ packet_limit)
 made_fits command id what attributes asked (Ok r) is same fits =
-    subst (λ (x : Response). length (text (packet.Response x)) ≤ packet_limit) (sym (is ∙ ap (λ (a : Attributes). response command id a what) same)) fits
+    subst (λ (x : Response). length (text (packet.Response x)) ≤ packet_limit)
+    (sym (is ∙ ap (λ (a : Attributes). response command id a what) same)) fits
 made_fits command id what attributes asked (Err e) is same fits = tt
 
-pub lines_made_fit : {E : Type 0} (command id : Text) (lines asked : List BreakLine) (made : Result Response E) → IfOk made (λ r. r ≡ lines_response command id lines)
-    → lines ≡ asked → length (text (packet.Response (lines_response command id asked))) ≤ packet_limit → IfOk made (λ r. length (text (packet.Response r)) ≤ packet_limit)
+pub lines_made_fit : {E : Type 0} (command id : Text) (lines asked : List BreakLine) (made : Result Response E)
+    → IfOk made (λ r. r ≡ lines_response command id lines)
+    → lines ≡ asked → length (text (packet.Response (lines_response command id asked))) ≤ packet_limit
+    → IfOk made (λ r. length (text (packet.Response r)) ≤ packet_limit)
 lines_made_fit command id lines asked (Ok r) is same fits =
-    subst (λ (x : Response). length (text (packet.Response x)) ≤ packet_limit) (sym (is ∙ ap (lines_response command id) same)) fits
+    subst (λ (x : Response). length (text (packet.Response x)) ≤ packet_limit)
+    (sym (is ∙ ap (lines_response command id) same)) fits
 lines_made_fit command id lines asked (Err e) is same fits = tt
 
 -- ---- lines that are put
 
 -- one line more that was put
-pub put_line : (past lines more : List BreakLine) (left room : ℕ) (line : BreakLine) (rest : List BreakLine) → past ++ fitting left lines ≡ fitting room more → lines ≡ line ∷ rest → line_size line ≤ left
+pub put_line : (past lines more : List BreakLine) (left room : ℕ) (line : BreakLine) (rest : List BreakLine)
+    → past ++ fitting left lines ≡ fitting room more → lines ≡ line ∷ rest → line_size line ≤ left
     → (past ++ line ∷ []) ++ fitting (left - line_size line) rest ≡ fitting room more
 put_line past lines more left room line rest so_far is within =
     append_assoc past (line ∷ []) (fitting (left - line_size line) rest)
@@ -166,7 +226,8 @@ put_line past lines more left room line rest so_far is within =
       test = grind (arith, nat_tests)
 
 -- the lines end before one for which there is no room
-pub no_line : (past lines more : List BreakLine) (left room : ℕ) (line : BreakLine) (rest : List BreakLine) → past ++ fitting left lines ≡ fitting room more → lines ≡ line ∷ rest → suc left ≤ line_size line
+pub no_line : (past lines more : List BreakLine) (left room : ℕ) (line : BreakLine) (rest : List BreakLine)
+    → past ++ fitting left lines ≡ fitting room more → lines ≡ line ∷ rest → suc left ≤ line_size line
     → past ≡ fitting room more
 no_line past lines more left room line rest so_far is past_room =
     sym (append-nil past)

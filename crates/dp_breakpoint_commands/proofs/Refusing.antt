@@ -31,7 +31,8 @@ abbrev code_after : Bool → Test → List Test → Option ℕ
 code_after holds test more = option_map (λ t. t.1) (if holds then Some test else find (λ t. t.0) more)
 
 -- a code that some tests have stays with more tests behind them
-earlier_code : (tests more : List Test) (code : ℕ) → first_code tests ≡ Some code → first_code (tests ++ more) ≡ Some code
+earlier_code : (tests more : List Test) (code : ℕ) → first_code tests ≡ Some code
+    → first_code (tests ++ more) ≡ Some code
 earlier_code [] more code e = absurd cc
 earlier_code (t ∷ tests) more code e = by t.0 (earlier_code tests more code) e where
   by : (holds : Bool) → (first_code tests ≡ Some code → first_code (tests ++ more) ≡ Some code)
@@ -48,17 +49,20 @@ later_code (t ∷ tests) more e = by t.0 (later_code tests more) e where
   by true rest h = absurd cc
   by false rest h = rest h
 
-pub accepted : (bundle : Bundle) (set : BreakpointSet) → first_code (word_tests set) ≡ None → first_code (file_tests bundle set.file) ≡ None → refusal bundle set ≡ None
+pub accepted : (bundle : Bundle) (set : BreakpointSet) → first_code (word_tests set) ≡ None
+    → first_code (file_tests bundle set.file) ≡ None → refusal bundle set ≡ None
 unfolding refusal
 accepted bundle set words file = later_code (word_tests set) (file_tests bundle set.file) words ∙ file
 
-pub words_refused : (bundle : Bundle) (set : BreakpointSet) (e : BreakpointError) → IsCode (first_code (word_tests set)) e → IsCause (refusal bundle set) e
+pub words_refused : (bundle : Bundle) (set : BreakpointSet) (e : BreakpointError)
+    → IsCode (first_code (word_tests set)) e → IsCause (refusal bundle set) e
 unfolding refusal
 words_refused bundle set (Code code) h = earlier_code (word_tests set) (file_tests bundle set.file) code h
 words_refused bundle set Memory h = absurd h
 
 -- the same where no memory is wanted
-pub words_only : (bundle : Bundle) (set : BreakpointSet) (e : BreakpointError) → IsCode (first_code (word_tests set)) e → IsCode (refusal bundle set) e
+pub words_only : (bundle : Bundle) (set : BreakpointSet) (e : BreakpointError) → IsCode (first_code (word_tests set)) e
+    → IsCode (refusal bundle set) e
 unfolding refusal
 words_only bundle set (Code code) h = earlier_code (word_tests set) (file_tests bundle set.file) code h
 words_only bundle set Memory h = absurd h
@@ -79,7 +83,8 @@ file_only bundle set Memory words h = absurd h
 -- ---- what is accepted
 
 -- the first test does not hold, and none of the others does
-passed : (holds : Bool) (code : ℕ) (more : List Test) → first_code ((holds, code) ∷ more) ≡ None → (holds ≡ false) × (first_code more ≡ None)
+passed : (holds : Bool) (code : ℕ) (more : List Test) → first_code ((holds, code) ∷ more) ≡ None
+    → (holds ≡ false) × (first_code more ≡ None)
 passed true code more e = absurd cc
 passed false code more e = (refl, e)
 
@@ -107,7 +112,8 @@ each_passed set e =
 
 -- ---- files
 
-file_below : (bundle : Bundle) (here : ℕ) (value : Option (List ℕ)) → here < length bundle.files → unwrap_or (meant (requested_file bundle) value) here < length bundle.files
+file_below : (bundle : Bundle) (here : ℕ) (value : Option (List ℕ)) → here < length bundle.files
+    → unwrap_or (meant (requested_file bundle) value) here < length bundle.files
 file_below bundle here None h = h
 file_below bundle here (Some value) h = by (requested_file bundle value) refl where
   by : (found : Option ℕ) → requested_file bundle value ≡ found → unwrap_or found here < length bundle.files
@@ -121,13 +127,15 @@ is_there None h = absurd cc
 is_there (Some x) h = refl
 
 -- a word that is there and has a meaning means something
-is_meant : {A : Type 0} (meaning : List ℕ → Option A) (given : Option (List ℕ)) → is_none given ≡ false → has_no_meaning meaning given ≡ false → is_some (meant meaning given) ≡ true
+is_meant : {A : Type 0} (meaning : List ℕ → Option A) (given : Option (List ℕ)) → is_none given ≡ false
+    → has_no_meaning meaning given ≡ false → is_some (meant meaning given) ≡ true
 unfolding has_no_meaning
 is_meant meaning None there known = absurd cc
 is_meant meaning (Some word) there known = is_there (meaning word) known
 
 -- a word that is not there means nothing
-is_not_meant : {A : Type 0} (meaning : List ℕ → Option A) (given : Option (List ℕ)) → is_some given ≡ false → not (is_some (meant meaning given)) ≡ true
+is_not_meant : {A : Type 0} (meaning : List ℕ → Option A) (given : Option (List ℕ)) → is_some given ≡ false
+    → not (is_some (meant meaning given)) ≡ true
 is_not_meant meaning None h = refl
 is_not_meant meaning (Some word) h = absurd cc
 
@@ -143,14 +151,16 @@ both_hold : (a b : Bool) → a ≡ true → b ≡ true → (a && b) ≡ true
 both_hold true b p q = q
 both_hold false b p q = absurd cc
 
-parts_of_function : (set : BreakpointSet) → is_none set.function ≡ false → (is_some set.line || is_some set.exception) ≡ false
+parts_of_function : (set : BreakpointSet) → is_none set.function ≡ false
+    → (is_some set.line || is_some set.exception) ≡ false
     → (is_some set.function && not (is_some (meant number_in set.line))) ≡ true
 parts_of_function set there none =
     both_hold (is_some set.function) (not (is_some (meant number_in set.line)))
     (is_there set.function there)
     (is_not_meant number_in set.line (or_left (is_some set.line) (is_some set.exception) none))
 
-parts_of : (set : BreakpointSet) → IsAccepted set → has_parts (unwrap_or (kind_named set.kind) Line) (meant number_in set.line) set.function set.expression ≡ true
+parts_of : (set : BreakpointSet) → IsAccepted set
+    → has_parts (unwrap_or (kind_named set.kind) Line) (meant number_in set.line) set.function set.expression ≡ true
 parts_of set a = by (kind_named set.kind) a.known a.whole a.fitting where
   number_formed : has_no_meaning number_in set.line ≡ false
   number_formed = or_left _ _ (or_left _ _ a.formed)
@@ -164,7 +174,8 @@ parts_of set a = by (kind_named set.kind) a.known a.whole a.fitting where
   by (Some Return) known whole fitting = parts_of_function set whole fitting
   by (Some Conditional) known whole fitting = is_there set.expression whole
 
-pub request_sound : (bundle : Bundle) (here : ℕ) (set : BreakpointSet) → first_code (word_tests set) ≡ None → here < length bundle.files → IsRequest bundle (request bundle here set)
+pub request_sound : (bundle : Bundle) (here : ℕ) (set : BreakpointSet) → first_code (word_tests set) ≡ None
+    → here < length bundle.files → IsRequest bundle (request bundle here set)
 request_sound bundle here set e h = record {
   file = file_below bundle here set.file h;
   parts = parts_of set (each_passed set e);
@@ -186,25 +197,38 @@ abbrev failed : {A : Type 0} → BreakpointError → Result A BreakpointError
 failed e = Err e
 
 -- a request that what is held accepts is refused by no plain test
-pub plain_passed : {A : Type 0} (bundle : Bundle) (here : ℕ) (t : Table) (set : BreakpointSet) (r : BreakRequest) (id : ℕ) → refusal bundle set ≡ None → r ≡ request bundle here set
-    → IfSome (plain_refusal bundle t r) (λ code. held_id id ≡ Err (held.Code code)) → (result : Result A BreakpointError) → IfSome (plain_set_refusal bundle here t set) (λ code. result ≡ Err (Code code))
+pub plain_passed : {A : Type 0} (bundle : Bundle) (here : ℕ) (t : Table) (set : BreakpointSet) (r : BreakRequest)
+    (id : ℕ) → refusal bundle set ≡ None → r ≡ request bundle here set
+    → IfSome (plain_refusal bundle t r) (λ code. held_id id ≡ Err (held.Code code))
+    → (result : Result A BreakpointError)
+    → IfSome (plain_set_refusal bundle here t set) (λ code. result ≡ Err (Code code))
 plain_passed {A} bundle here t set r id free is h result =
-    subst (λ (o : Option ℕ). IfSome (option_or o (plain_refusal bundle t (request bundle here set))) (λ code. result ≡ Err (Code code))) (sym free)
-    (by (plain_refusal bundle t (request bundle here set)) (subst (λ (x : BreakRequest). IfSome (plain_refusal bundle t x) (λ code. held_id id ≡ Err (held.Code code))) is h)) where
-      by : (o : Option ℕ) → IfSome o (λ code. held_id id ≡ Err (held.Code code)) → IfSome o (λ code. result ≡ Err (Code code))
-      by None h = tt
-      by (Some code) h = absurd cc
+    subst (λ (o : Option ℕ). IfSome (option_or o (plain_refusal bundle t (request bundle here set)))
+    (λ code. result ≡ Err (Code code))) (sym free)
+    (by (plain_refusal bundle t (request bundle here set)) (subst
+    (λ (x : BreakRequest). IfSome (plain_refusal bundle t x) (λ code. held_id id ≡ Err (held.Code code))) is h))
+  where
+    by : (o : Option ℕ) → IfSome o (λ code. held_id id ≡ Err (held.Code code))
+        → IfSome o (λ code. result ≡ Err (Code code))
+    by None h = tt
+    by (Some code) h = absurd cc
 
 -- one that a plain test refuses is refused so
-pub plain_told : {A : Type 0} (bundle : Bundle) (here : ℕ) (t : Table) (set : BreakpointSet) (r : BreakRequest) (e : BreakError) → refusal bundle set ≡ None → r ≡ request bundle here set
-    → IfSome (plain_refusal bundle t r) (λ code. not_held e ≡ Err (held.Code code)) → (result : Result A BreakpointError) → IsErrAnd result (λ x. x ≡ error_of e)
+pub plain_told : {A : Type 0} (bundle : Bundle) (here : ℕ) (t : Table) (set : BreakpointSet) (r : BreakRequest)
+    (e : BreakError) → refusal bundle set ≡ None → r ≡ request bundle here set
+    → IfSome (plain_refusal bundle t r) (λ code. not_held e ≡ Err (held.Code code))
+    → (result : Result A BreakpointError) → IsErrAnd result (λ x. x ≡ error_of e)
     → IfSome (plain_set_refusal bundle here t set) (λ code. result ≡ Err (Code code))
 plain_told bundle here t set r e free is h (Ok a) told = absurd told
 plain_told {A} bundle here t set r e free is h (Err x) told =
-    subst (λ (o : Option ℕ). IfSome (option_or o (plain_refusal bundle t (request bundle here set))) (λ code. failed {A = A} x ≡ Err (Code code))) (sym free)
-    (by (plain_refusal bundle t (request bundle here set)) (subst (λ (y : BreakRequest). IfSome (plain_refusal bundle t y) (λ code. not_held e ≡ Err (held.Code code))) is h)) where
-      by : (o : Option ℕ) → IfSome o (λ code. not_held e ≡ Err (held.Code code)) → IfSome o (λ code. failed {A = A} x ≡ Err (Code code))
-      by None h = tt
-      by (Some code) h =
-          let same : e ≡ held.Code code = cc in
-          ap (λ (y : BreakpointError). failed {A = A} y) (told ∙ ap error_of same)
+    subst (λ (o : Option ℕ). IfSome (option_or o (plain_refusal bundle t (request bundle here set)))
+    (λ code. failed {A = A} x ≡ Err (Code code))) (sym free)
+    (by (plain_refusal bundle t (request bundle here set)) (subst
+    (λ (y : BreakRequest). IfSome (plain_refusal bundle t y) (λ code. not_held e ≡ Err (held.Code code))) is h))
+  where
+    by : (o : Option ℕ) → IfSome o (λ code. not_held e ≡ Err (held.Code code))
+        → IfSome o (λ code. failed {A = A} x ≡ Err (Code code))
+    by None h = tt
+    by (Some code) h =
+        let same : e ≡ held.Code code = cc in
+        ap (λ (y : BreakpointError). failed {A = A} y) (told ∙ ap error_of same)

@@ -35,14 +35,16 @@ weight-append [] b = omega arith
 weight-append (x ∷ a) b = omega (arith, weight-append a b)
 
 -- an attribute that may be missing
-given_short : (name : Text) (value : Option Text) (most : ℕ) → IfSome value (λ v. length v ≤ most) → weight (given name value) ≤ 4 + length name + 6 * most
+given_short : (name : Text) (value : Option Text) (most : ℕ) → IfSome value (λ v. length v ≤ most)
+    → weight (given name value) ≤ 4 + length name + 6 * most
 given_short name None most h = omega arith
 given_short name (Some value) most h = omega (arith, h)
 
 decimal_short : (n : ℕ) → n < 2 ^ 64 → length (decimal n) ≤ 20
 decimal_short n small = length-decimal-le 20 n (omega arith) (omega (arith, small)) small
 
-number_short : (name : Text) (number : Option ℕ) → IfSome number (λ n. n < 2 ^ 32) → weight (given_number name number) ≤ 124 + length name
+number_short : (name : Text) (number : Option ℕ) → IfSome number (λ n. n < 2 ^ 32)
+    → weight (given_number name number) ≤ 124 + length name
 number_short name None h = omega arith
 number_short name (Some n) h = omega (arith, decimal_short n (omega (arith, h)))
 
@@ -65,11 +67,17 @@ flag_short : (value : Bool) → length (flag value) ≤ 1
 flag_short true = omega arith
 flag_short false = omega arith
 
-expression_short : (expression : Option Text) → IfSome expression (λ e. length e ≤ 4096) → length (nodes_text (expression_nodes expression)) ≤ 25000
+expression_short : (expression : Option Text) → IfSome expression (λ e. length e ≤ 4096)
+    → length (nodes_text (expression_nodes expression)) ≤ 25000
 expression_short None h = omega arith
 expression_short (Some e) h =
     let inner : Element = element (codes "expression") [] (text_nodes e) in
-    omega (arith, h, child_short inner (25 + 6 * length e) (omega (arith, written_short inner (6 * length e) (text_short e))))
+    omega (
+      arith,
+      h,
+      child_short inner (25 + 6 * length e) (omega
+          (arith, written_short inner (6 * length e) (text_short e))),
+    )
 
 -- ---- lines
 
@@ -85,14 +93,31 @@ pub record IsShort (shown : BreakLine) : Type 0 where
 
 module _ (l : BreakLine) (s : IsShort l) where
   kinds_short : weight (kind_attributes l) ≤ 300
-  kinds_short = omega (arith, decimal_short l.id (let h = s.id in omega (arith, h)), kind_short l.kind, state_short l.enabled)
+  kinds_short =
+      omega (arith, decimal_short l.id (let h = s.id in omega (arith, h)), kind_short l.kind, state_short l.enabled)
 
   places_short : weight (place_attributes l) ≤ 7000
   places_short =
-      omega (arith, weight-append (given (codes "filename") l.uri ++ given_number (codes "lineno") l.line) (given (codes "function") l.function), weight-append (given (codes "filename") l.uri) (given_number (codes "lineno") l.line), given_short (codes "filename") l.uri 773 s.uri, number_short (codes "lineno") l.line s.line, given_short (codes "function") l.function 255 s.function)
+      omega (
+        arith,
+        weight-append (given (codes "filename") l.uri ++ given_number (codes "lineno") l.line)
+            (given (codes "function") l.function),
+        weight-append (given (codes "filename") l.uri)
+            (given_number (codes "lineno") l.line),
+        given_short (codes "filename") l.uri 773 s.uri,
+        number_short (codes "lineno") l.line s.line,
+        given_short (codes "function") l.function 255 s.function,
+      )
 
   hits_short : weight (hit_attributes l) ≤ 400
-  hits_short = omega (arith, decimal_short l.hits s.hits, decimal_short l.hit_value (let h = s.hit_value in omega (arith, h)), rule_short l.hit_rule, flag_short l.temporary)
+  hits_short =
+      omega (
+        arith,
+        decimal_short l.hits s.hits,
+        decimal_short l.hit_value (let h = s.hit_value in omega (arith, h)),
+        rule_short l.hit_rule,
+        flag_short l.temporary,
+      )
 
   pub line_short : lines_size (l ∷ []) ≤ 40000
   line_short =
@@ -100,28 +125,43 @@ module _ (l : BreakLine) (s : IsShort l) where
       let e : Element = element (codes "breakpoint") attributes (expression_nodes l.expression) in
       let all = weight-append (kind_attributes l ++ place_attributes l) (hit_attributes l) in
       let front = weight-append (kind_attributes l) (place_attributes l) in
-      child_short e 40000 (omega (arith, written_short e 25000 (expression_short l.expression s.expression), all, front, kinds_short, places_short, hits_short))
+      child_short e 40000 (omega (
+        arith,
+        written_short e 25000 (expression_short l.expression s.expression),
+        all,
+        front,
+        kinds_short,
+        places_short,
+        hits_short,
+      ))
 
 -- ---- breakpoints
 
-name_short : (name : Option Text) → option_map_or (λ n. nat_le (length n) name_limit) name true ≡ true → IfSome name (λ n. length n ≤ 255)
+name_short : (name : Option Text) → option_map_or (λ n. nat_le (length n) name_limit) name true ≡ true
+    → IfSome name (λ n. length n ≤ 255)
 name_short None e = tt
 name_short (Some name) e = leb-true (length name) 255 e
 
-text_within : (expression : Option Text) → option_map_or (λ text. nat_lt expression_limit (length text)) expression false ≡ false → IfSome expression (λ e. length e ≤ 4096)
+text_within : (expression : Option Text)
+    → option_map_or (λ text. nat_lt expression_limit (length text)) expression false ≡ false
+    → IfSome expression (λ e. length e ≤ 4096)
 text_within None e = tt
 text_within (Some text) e = ltb-false 4096 (length text) e
 
-file_short : (files : List BundleFile) (number : ℕ) → All IsFileName (map (λ f. f.name) files) → IfSome (option_map (λ f. file_uri f.name) (slice_get files number)) (λ uri. length uri ≤ 773)
+file_short : (files : List BundleFile) (number : ℕ) → All IsFileName (map (λ f. f.name) files)
+    → IfSome (option_map (λ f. file_uri f.name) (slice_get files number)) (λ uri. length uri ≤ 773)
 file_short [] number h = tt
-file_short (f ∷ files) zero h = let short = (All-head IsFileName f.name (map (λ f. f.name) files) h).short in omega (arith, uri_short f.name, short)
+file_short (f ∷ files) zero h =
+    let short = (All-head IsFileName f.name (map (λ f. f.name) files) h).short in omega (arith, uri_short f.name, short)
 file_short (f ∷ files) (suc k) h = file_short files k (All-tail IsFileName f.name (map (λ f. f.name) files) h)
 
-uri_within : (bundle : Bundle) (file : Option ℕ) → AreFileNames (map (λ f. f.name) bundle.files) → IfSome (option_and_then (uri_of bundle) file) (λ uri. length uri ≤ 773)
+uri_within : (bundle : Bundle) (file : Option ℕ) → AreFileNames (map (λ f. f.name) bundle.files)
+    → IfSome (option_and_then (uri_of bundle) file) (λ uri. length uri ≤ 773)
 uri_within bundle None names = tt
 uri_within bundle (Some number) names = file_short bundle.files number names.named
 
-pub shown_short : (bundle : Bundle) (b : Breakpoint) → AreFileNames (map (λ f. f.name) bundle.files) → IsSound b → HasNumbers b → lines_size (breakpoint_line bundle b ∷ []) ≤ 40000
+pub shown_short : (bundle : Bundle) (b : Breakpoint) → AreFileNames (map (λ f. f.name) bundle.files) → IsSound b
+    → HasNumbers b → lines_size (breakpoint_line bundle b ∷ []) ≤ 40000
 shown_short bundle b names sound numbers = line_short (breakpoint_line bundle b) (record {
   id = numbers.id;
   uri = uri_within bundle b.file names;
@@ -134,17 +174,20 @@ shown_short bundle b names sound numbers = line_short (breakpoint_line bundle b)
 
 -- ---- what was found
 
-pub found_sound : (held : List Breakpoint) (id : ℕ) (b : Breakpoint) → All IsSound held → held_as held id ≡ Some b → IsSound b
+pub found_sound : (held : List Breakpoint) (id : ℕ) (b : Breakpoint) → All IsSound held → held_as held id ≡ Some b
+    → IsSound b
 found_sound [] id b sound e = absurd cc
 found_sound (x ∷ held) id b sound e = cases (x.id == id) e (found_sound held id b (All-tail IsSound x held sound)) where
   cases : (t : Bool) → cond t (Some x) (held_as held id) ≡ Some b → (held_as held id ≡ Some b → IsSound b) → IsSound b
   cases true f later = let same : x ≡ b = cc in subst IsSound same (All-head IsSound x held sound)
   cases false f later = later f
 
-kept_none : (held : List Breakpoint) (id : ℕ) → is_some (held_as held id) ≡ false → filter (λ b. not (b.id == id)) held ≡ held
+kept_none : (held : List Breakpoint) (id : ℕ) → is_some (held_as held id) ≡ false
+    → filter (λ b. not (b.id == id)) held ≡ held
 kept_none [] id e = refl
 kept_none (x ∷ held) id e = cases (x.id == id) e (kept_none held id) where
-  cases : (t : Bool) → is_some (cond t (Some x) (held_as held id)) ≡ false → (is_some (held_as held id) ≡ false → filter (λ b. not (b.id == id)) held ≡ held)
+  cases : (t : Bool) → is_some (cond t (Some x) (held_as held id)) ≡ false
+      → (is_some (held_as held id) ≡ false → filter (λ b. not (b.id == id)) held ≡ held)
       → cond (not t) (x ∷ filter (λ b. not (b.id == id)) held) (filter (λ b. not (b.id == id)) held) ≡ x ∷ held
   cases true f later = absurd cc
   cases false f later = ap (λ (l : List Breakpoint). x ∷ l) (later f)

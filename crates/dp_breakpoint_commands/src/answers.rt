@@ -143,13 +143,14 @@ fn update_breakpoint(
     Ok(bare_response(alloc, to)?)
 }
 
-/// Does what a breakpoint command asks for, at a moment in the file of this number, and answers it. DBGp 1.0, "breakpoint_set",
-/// "breakpoint_get", "breakpoint_update", "breakpoint_remove", "breakpoint_list".
+/// Does what a breakpoint command asks for, at a moment in the file of this number, and answers it. DBGp 1.0,
+/// "breakpoint_set", "breakpoint_get", "breakpoint_update", "breakpoint_remove", "breakpoint_list".
 ///
-/// It is refused with the first code of its row whose test holds, and then nothing has changed: breakpoint_set with 201, 3,
-/// 204, 200, 202, 203 or 207; breakpoint_update with 205, 3, 204, 202 or 203; breakpoint_get and breakpoint_remove with 205. A
-/// list ends before the first breakpoint with which its text would have more than 16,777,216 bytes. What is no breakpoint
-/// command is refused with 4. Once memory ran out nothing is said of the breakpoints.
+/// It is refused with the first code of its row whose test holds, and then nothing has changed: breakpoint_set with
+/// 201, 3, 204, 200, 202, 203 or 207; breakpoint_update with 205, 3, 204, 202 or 203; breakpoint_get and
+/// breakpoint_remove with 205. A list ends before the first breakpoint with which its text would have more than
+/// 16,777,216 bytes. What is no breakpoint command is refused with 4. Once memory ran out nothing is said of the
+/// breakpoints.
 pub fn answer_breakpoints(
     alloc: Global,
     bundle: &Bundle,

@@ -35,8 +35,8 @@ fn copy_of(text: &Option<Bytes>) -> Result<Option<Bytes>, Memory>
     }
 }
 
-/// A breakpoint as a packet shows it: with the URI of its file in place of the number, if the bundle has the file, and without
-/// the tree of its expression.
+/// A breakpoint as a packet shows it: with the URI of its file in place of the number, if the bundle has the file, and
+/// without the tree of its expression.
 pub fn breakpoint_line(alloc: Global, bundle: &Bundle, b: &Breakpoint) -> Result<BreakLine, Memory>
     ensures line { IfOk result (λ line. line ≡ spec.breakpoint_line bundle.now b.now) }
     ensures memory { OnErr result (spec.has_text b.now ≡ true) }

@@ -28,7 +28,8 @@ const BARE_SIZE: u64 = 98;
 
 // The room for breakpoints in the response to a command.
 fn room_for_lines(to: &Addressee) -> u64
-    ensures { result + length (text (packet.Response (spec.lines_response to.now.command to.now.id []))) ≡ packet_limit }
+    ensures { result + length (text (packet.Response (spec.lines_response to.now.command to.now.id []))) ≡
+        packet_limit }
 {
     let command = attribute_size(b"command", to.command.as_slice());
     let id = attribute_size(b"transaction_id", to.id.as_slice());
@@ -59,8 +60,8 @@ fn fitting_lines(
     Ok(lines)
 }
 
-// The breakpoints that a response to a command lists. Each is measured before it is put in, so that none is made behind the
-// first that would not fit.
+// The breakpoints that a response to a command lists. Each is measured before it is put in, so that none is made behind
+// the first that would not fit.
 #[tactic(auto, using(crate::proofs::Lengths::listed_are))]
 fn listed_lines(
     alloc: Global,

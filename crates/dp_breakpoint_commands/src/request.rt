@@ -76,7 +76,8 @@ impl Words {
     }
 }
 
-// The number of the file that `-f` names, where it is given. One that the bundle does not have is refused with code 200.
+// The number of the file that `-f` names, where it is given. One that the bundle does not have is refused with code
+// 200.
 #[tactic(auto, unfolding(crate::specs::Words::has_no_meaning))]
 fn file_given(
     alloc: Global,
@@ -120,9 +121,10 @@ fn request_in(words: Words, file: u32, set: BreakpointSet) -> BreakRequest
 /// The breakpoint that a breakpoint_set command asks for, where the file of the current moment is `here`. DBGp 1.0,
 /// "breakpoint_set".
 ///
-/// It is refused with the first of the codes 201, 3, 204 and 200 whose test holds; that a breakpoint cannot be held, and the
-/// codes 202, 203 and 207, are not tested here. A missing `-f` is the file of the moment, but for a call or return breakpoint,
-/// which is then for the functions of any file. The other defaults are enabled, `>=`, 0 for the hit value, and not temporary.
+/// It is refused with the first of the codes 201, 3, 204 and 200 whose test holds; that a breakpoint cannot be held,
+/// and the codes 202, 203 and 207, are not tested here. A missing `-f` is the file of the moment, but for a call or
+/// return breakpoint, which is then for the functions of any file. The other defaults are enabled, `>=`, 0 for the hit
+/// value, and not temporary.
 #[tactic(auto, using(crate::proofs::Refusing::refusing))]
 pub fn breakpoint_request(
     alloc: Global,

@@ -75,7 +75,8 @@ fn flag_named(word: &[u8]) -> Option<bool>
 pub(crate) fn rule_given(word: &Option<Bytes>) -> Result<Option<HitRule>, BreakpointError>
     ensures meaning { IfOk result (λ meaning. meaning ≡ spec.meant spec.rule_named word.now) }
     ensures accepted { OnOk result (spec.has_no_meaning spec.rule_named word.now ≡ false) }
-    ensures refused { IfErr result (λ e. (e ≡ BreakpointError.Code 3) × (spec.has_no_meaning spec.rule_named word.now ≡ true)) }
+    ensures refused { IfErr result (λ e. (e ≡ BreakpointError.Code 3)
+        × (spec.has_no_meaning spec.rule_named word.now ≡ true)) }
 {
     match word {
         None => Ok(None),
@@ -91,7 +92,8 @@ pub(crate) fn rule_given(word: &Option<Bytes>) -> Result<Option<HitRule>, Breakp
 pub(crate) fn state_given(word: &Option<Bytes>) -> Result<Option<bool>, BreakpointError>
     ensures meaning { IfOk result (λ meaning. meaning ≡ spec.meant spec.state_named word.now) }
     ensures accepted { OnOk result (spec.has_no_meaning spec.state_named word.now ≡ false) }
-    ensures refused { IfErr result (λ e. (e ≡ BreakpointError.Code 204) × (spec.has_no_meaning spec.state_named word.now ≡ true)) }
+    ensures refused { IfErr result (λ e. (e ≡ BreakpointError.Code 204)
+        × (spec.has_no_meaning spec.state_named word.now ≡ true)) }
 {
     match word {
         None => Ok(None),
@@ -107,7 +109,8 @@ pub(crate) fn state_given(word: &Option<Bytes>) -> Result<Option<bool>, Breakpoi
 pub(crate) fn flag_given(word: &Option<Bytes>) -> Result<Option<bool>, BreakpointError>
     ensures meaning { IfOk result (λ meaning. meaning ≡ spec.meant spec.flag_named word.now) }
     ensures accepted { OnOk result (spec.has_no_meaning spec.flag_named word.now ≡ false) }
-    ensures refused { IfErr result (λ e. (e ≡ BreakpointError.Code 3) × (spec.has_no_meaning spec.flag_named word.now ≡ true)) }
+    ensures refused { IfErr result (λ e. (e ≡ BreakpointError.Code 3)
+        × (spec.has_no_meaning spec.flag_named word.now ≡ true)) }
 {
     match word {
         None => Ok(None),
@@ -123,7 +126,8 @@ pub(crate) fn flag_given(word: &Option<Bytes>) -> Result<Option<bool>, Breakpoin
 pub(crate) fn number_given(word: &Option<Bytes>) -> Result<Option<u32>, BreakpointError>
     ensures meaning { IfOk result (λ meaning. meaning ≡ spec.meant spec.number_in word.now) }
     ensures accepted { OnOk result (spec.has_no_meaning spec.number_in word.now ≡ false) }
-    ensures refused { IfErr result (λ e. (e ≡ BreakpointError.Code 3) × (spec.has_no_meaning spec.number_in word.now ≡ true)) }
+    ensures refused { IfErr result (λ e. (e ≡ BreakpointError.Code 3)
+        × (spec.has_no_meaning spec.number_in word.now ≡ true)) }
 {
     match word {
         None => Ok(None),

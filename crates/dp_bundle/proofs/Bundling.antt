@@ -15,9 +15,11 @@ use Rattle.dp_bundle.specs.inner.Sources.{source_of}
 
 -- ---- one file
 
-pub one_file : (name text : List ℕ) (tree : File) → ((other : File) → IsFile text other → tree ≡ other) → (file : BundleFile) → IsBundleFile (name, text) file
+pub one_file : (name text : List ℕ) (tree : File) → ((other : File) → IsFile text other → tree ≡ other)
+    → (file : BundleFile) → IsBundleFile (name, text) file
     → (let made : BundleFile = record { name = name; text = text; tree = tree } in made) ≡ file
-one_file name text tree only file h = λ i. record { name = sym h.named i; text = sym h.spelled i; tree = only file.tree h.tree i }
+one_file name text tree only file h =
+    λ i. record { name = sym h.named i; text = sym h.spelled i; tree = only file.tree h.tree i }
 
 named_source : (number : ℕ) (why : ParseError) → why ≢ parse_error.Memory → source_of number why ≡ Source number why
 named_source number (parse_error.Lex w) differs = refl
@@ -28,15 +30,19 @@ named_source number parse_error.Memory differs = absurd (differs refl)
 
 -- a text has no tree, for this reason
 module _ (number : ℕ) (text : List ℕ) (short : length text ≤ file_limit) where
-  pub source_cause : (why : ParseError) → IsNoFile text why → (source_of number why ≡ Memory) ⊎ IsRefused number text (source_of number why)
+  pub source_cause : (why : ParseError) → IsNoFile text why
+      → (source_of number why ≡ Memory) ⊎ IsRefused number text (source_of number why)
   source_cause (parse_error.Lex w) wrong = inr (refl, short, (λ h. cc), wrong)
   source_cause (parse_error.Unexpected w) wrong = inr (refl, short, (λ h. cc), wrong)
   source_cause (parse_error.TooDeep w) wrong = inr (refl, short, (λ h. cc), wrong)
   source_cause (parse_error.DoubleFunction w) wrong = inr (refl, short, (λ h. cc), wrong)
   source_cause parse_error.Memory wrong = inl refl
 
-  pub source_refuses : (why : ParseError) → ((other : ParseError) → other ≢ parse_error.Memory → IsNoFile text other → (why ≡ other) ⊎ (why ≡ parse_error.Memory))
-      → (asked : BundleError) → IsRefused number text asked → (source_of number why ≡ asked) ⊎ (source_of number why ≡ Memory)
+  pub source_refuses : (why : ParseError)
+      → ((other : ParseError) → other ≢ parse_error.Memory → IsNoFile text other
+      → (why ≡ other) ⊎ (why ≡ parse_error.Memory))
+      → (asked : BundleError) → IsRefused number text asked
+      → (source_of number why ≡ asked) ⊎ (source_of number why ≡ Memory)
   source_refuses why refuses (Source file w) h = elim (refuses w h.2 h.3) [
     | inl same ↦ inl (ap (source_of number) same ∙ named_source number w h.2 ∙ ap (λ n. Source n w) (sym h.0))
     | inr memory ↦ inr (ap (source_of number) memory)
@@ -54,7 +60,8 @@ joined-nothing : (r : Result (List BundleFile) BundleError) → joined [] r ≡ 
 joined-nothing (Ok more) = refl
 joined-nothing (Err why) = refl
 
-joined-one : (done : List BundleFile) (made : BundleFile) (r : Result (List BundleFile) BundleError) → joined done (joined (made ∷ []) r) ≡ joined (done ++ made ∷ []) r
+joined-one : (done : List BundleFile) (made : BundleFile) (r : Result (List BundleFile) BundleError)
+    → joined done (joined (made ∷ []) r) ≡ joined (done ++ made ∷ []) r
 joined-one done made (Ok more) = ap Ok (sym (append_assoc done (made ∷ []) more))
 joined-one done made (Err why) = refl
 
@@ -71,7 +78,8 @@ bundle_in-files_in (Ok bundle) = refl
 bundle_in-files_in (Err why) = refl
 
 -- what the rest makes, where all make this
-pub record Leaves (number : ℕ) (done : List BundleFile) (rest : List Given) (r : Result (List BundleFile) BundleError) : Type 0 where
+pub record Leaves (number : ℕ) (done : List BundleFile) (rest : List Given)
+    (r : Result (List BundleFile) BundleError) : Type 0 where
   pub left : Result (List BundleFile) BundleError
   pub makes : MakesFrom number rest left
   pub same : r ≡ joined done left
@@ -79,7 +87,8 @@ pub record Leaves (number : ℕ) (done : List BundleFile) (rest : List Given) (r
 -- what all files make is what the rest makes, behind those that are made
 pub record Stands (files : List Given) (done : List BundleFile) (rest : List Given) : Type 0 where
   pub counted : length done + length rest ≡ length files
-  pub made : (r : Result (List BundleFile) BundleError) → MakesFrom (length done) rest r → MakesFrom 0 files (joined done r)
+  pub made : (r : Result (List BundleFile) BundleError) → MakesFrom (length done) rest r
+      → MakesFrom 0 files (joined done r)
   pub only : (r : Result (List BundleFile) BundleError) → MakesFrom 0 files r → Leaves (length done) done rest r
 
 pub stands_first : (files : List Given) → Stands files [] files
@@ -89,30 +98,37 @@ stands_first files = record {
   only = λ r h. record { left = r; makes = h; same = sym (joined-nothing r) };
 }
 
-made_one : (number : ℕ) (given : Given) (rest : List Given) (made : BundleFile) (r : Result (List BundleFile) BundleError)
+made_one : (number : ℕ) (given : Given) (rest : List Given) (made : BundleFile)
+    (r : Result (List BundleFile) BundleError)
     → IsBundleFile given made → MakesFrom (suc number) rest r → MakesFrom number (given ∷ rest) (joined (made ∷ []) r)
 made_one number given rest made (Ok more) is h = (is, h)
 made_one number given rest made (Err why) is h = inr ((made, is), h)
 
-only_one : (number : ℕ) (given : Given) (rest : List Given) (made : BundleFile) → ((other : BundleFile) → IsBundleFile given other → made ≡ other)
-    → ((why : BundleError) → IsRefused number given.1 why → ⊥) → (r : Result (List BundleFile) BundleError) → MakesFrom number (given ∷ rest) r → Leaves (suc number) (made ∷ []) rest r
+only_one : (number : ℕ) (given : Given) (rest : List Given) (made : BundleFile)
+    → ((other : BundleFile) → IsBundleFile given other → made ≡ other)
+    → ((why : BundleError) → IsRefused number given.1 why → ⊥) → (r : Result (List BundleFile) BundleError)
+    → MakesFrom number (given ∷ rest) r → Leaves (suc number) (made ∷ []) rest r
 only_one number given rest made one none (Ok []) h = absurd h
-only_one number given rest made one none (Ok (other ∷ more)) h = record { left = Ok more; makes = h.1; same = ap (λ (x : BundleFile). Ok (x ∷ more)) (sym (one other h.0)) }
+only_one number given rest made one none (Ok (other ∷ more)) h =
+    record { left = Ok more; makes = h.1; same = ap (λ (x : BundleFile). Ok (x ∷ more)) (sym (one other h.0)) }
 only_one number given rest made one none (Err why) h = elim h [
   | inl refused ↦ absurd (none why refused)
   | inr later ↦ record { left = Err why; makes = later.1; same = refl }
 ]
 
-module _ (files : List Given) (done : List BundleFile) (given : Given) (rest : List Given) (stands : Stands files done (given ∷ rest)) where
+module _ (files : List Given) (done : List BundleFile) (given : Given) (rest : List Given)
+    (stands : Stands files done (given ∷ rest)) where
   -- the next file is made
-  pub stands_next : (made : BundleFile) → IsBundleFile given made → ((other : BundleFile) → IsBundleFile given other → made ≡ other)
+  pub stands_next : (made : BundleFile) → IsBundleFile given made
+      → ((other : BundleFile) → IsBundleFile given other → made ≡ other)
       → ((why : BundleError) → IsRefused (length done) given.1 why → ⊥) → Stands files (done ++ made ∷ []) rest
   stands_next made is one none =
       let longer : length (done ++ made ∷ []) ≡ suc (length done) = omega (arith, length_push done made) in
       record {
         counted = let c : length done + suc (length rest) ≡ length files = stands.counted in omega (arith, longer);
         made = λ r h. subst (MakesFrom 0 files) (joined-one done made r)
-            (stands.made (joined (made ∷ []) r) (made_one (length done) given rest made r is (subst (λ n. MakesFrom n rest r) longer h)));
+            (stands.made (joined (made ∷ []) r) (made_one (length done) given rest made r is
+            (subst (λ n. MakesFrom n rest r) longer h)));
         only = λ r h.
             let before = stands.only r h in
             let last = only_one (length done) given rest made one none before.left before.makes in
@@ -126,7 +142,8 @@ module _ (files : List Given) (done : List BundleFile) (given : Given) (rest : L
   -- the next file is refused
   module _ (why : BundleError) (only : (other : BundleFile) → IsBundleFile given other → why ≡ Memory)
       (refuses : (asked : BundleError) → IsRefused (length done) given.1 asked → (why ≡ asked) ⊎ (why ≡ Memory)) where
-    left_refused : (left : Result (List BundleFile) BundleError) → MakesFrom (length done) (given ∷ rest) left → (Err why ≡ joined done left) ⊎ (why ≡ Memory)
+    left_refused : (left : Result (List BundleFile) BundleError) → MakesFrom (length done) (given ∷ rest) left
+        → (Err why ≡ joined done left) ⊎ (why ≡ Memory)
     left_refused (Ok []) h = absurd h
     left_refused (Ok (other ∷ more)) h = inr (only other h.0)
     left_refused (Err asked) h = elim h [
@@ -154,7 +171,8 @@ module _ (files : List Given) (done : List BundleFile) (stands : Stands files do
   pub all_made : IsMade files (Ok (record { files = done }))
   all_made = inr (subst (λ l. MakesFrom 0 files (Ok l)) (append-nil done) (stands.made (Ok []) tt))
 
-  left_made : (left : Result (List BundleFile) BundleError) → MakesFrom (length done) [] left → joined done left ≡ Ok done
+  left_made : (left : Result (List BundleFile) BundleError) → MakesFrom (length done) [] left
+      → joined done left ≡ Ok done
   left_made (Ok []) h = ap Ok (append-nil done)
   left_made (Ok (other ∷ more)) h = absurd h
   left_made (Err why) h = absurd h

@@ -50,25 +50,30 @@ group_is a b c d p q r s (suc zero) = omega arith
 group_is a b c d p q r s (suc (suc zero)) = omega arith
 group_is a b c d p q r s (suc (suc (suc i))) = omega arith
 
-symbol_is : (dec s : List ℕ) (i : ℕ) → IsDecodeTable dec → IsBytes s → symbol_error dec s i ≡ None → slice_index dec (slice_index s i) < 64
+symbol_is : (dec s : List ℕ) (i : ℕ) → IsDecodeTable dec → IsBytes s → symbol_error dec s i ≡ None
+    → slice_index dec (slice_index s i) < 64
 symbol_is dec s i table bytes e = elim (table (slice_index s i) (bytes i)) [
   | inl bad ↦ cc (rw bad at e)
   | inr good ↦ good
 ]
 
-one_group : (dec s : List ℕ) (i : ℕ) → IsDecodeTable dec → IsBytes s → group_error dec s i ≡ None → IsBytes (group_bytes dec s i)
+one_group : (dec s : List ℕ) (i : ℕ) → IsDecodeTable dec → IsBytes s → group_error dec s i ≡ None
+    → IsBytes (group_bytes dec s i)
 one_group dec s i table bytes e =
     let p = nothing_first (symbol_error dec s i) _ e in
     let q = nothing_first (symbol_error dec s (i + 1)) _ p.1 in
     let r = nothing_first (symbol_error dec s (i + 2)) (symbol_error dec s (i + 3)) q.1 in
-    group_is _ _ _ _ (symbol_is dec s i table bytes p.0) (symbol_is dec s (i + 1) table bytes q.0) (symbol_is dec s (i + 2) table bytes r.0) (symbol_is dec s (i + 3) table bytes r.1)
+    group_is _ _ _ _ (symbol_is dec s i table bytes p.0) (symbol_is dec s (i + 1) table bytes q.0)
+    (symbol_is dec s (i + 2) table bytes r.0) (symbol_is dec s (i + 3) table bytes r.1)
 
-all_groups : (dec s : List ℕ) (q : ℕ) → IsDecodeTable dec → IsBytes s → groups_error dec s q ≡ None → IsBytes (groups_bytes dec s q)
+all_groups : (dec s : List ℕ) (q : ℕ) → IsDecodeTable dec → IsBytes s → groups_error dec s q ≡ None
+    → IsBytes (groups_bytes dec s q)
 unfolding groups_error groups_bytes
 all_groups dec s zero table bytes e = no_bytes
 all_groups dec s (suc q) table bytes e =
     let p = nothing_first (groups_error dec s q) (group_error dec s (4 * q)) e in
-    append_bytes (groups_bytes dec s q) (group_bytes dec s (4 * q)) (all_groups dec s q table bytes p.0) (one_group dec s (4 * q) table bytes p.1)
+    append_bytes (groups_bytes dec s q) (group_bytes dec s (4 * q)) (all_groups dec s q table bytes p.0)
+    (one_group dec s (4 * q) table bytes p.1)
 
 -- ---- the last group
 
@@ -83,8 +88,10 @@ result_cases : {T E : Type 0} (r : Result T E) → ((x : T) × (r ≡ Ok x)) ⊎
 result_cases (Ok x) = inl (x, refl)
 result_cases (Err e) = inr (e, refl)
 
-last_is : (enc dec s : List ℕ) (pad : ℕ) (allow : Bool) (mode : DecodePaddingMode) → is_inverse enc dec ≡ true → IsBytes s
-    → suffix_error dec pad allow mode (4 * groups_before_last (length s)) s ≡ None → IsBytes (suffix_bytes dec pad (4 * groups_before_last (length s)) s)
+last_is : (enc dec s : List ℕ) (pad : ℕ) (allow : Bool) (mode : DecodePaddingMode) → is_inverse enc dec ≡ true
+    → IsBytes s
+    → suffix_error dec pad allow mode (4 * groups_before_last (length s)) s ≡ None
+    → IsBytes (suffix_bytes dec pad (4 * groups_before_last (length s)) s)
 last_is enc dec s pad allow mode inverse bytes none =
     let at : ℕ = 4 * groups_before_last (length s) in
     let rest : List ℕ = drop at s in
@@ -92,8 +99,11 @@ last_is enc dec s pad allow mode inverse bytes none =
     let rest_bytes : (k : ℕ) → slice_index rest k < 256 = λ k. rw (get_or-drop at s k 0) (bytes (at + k)) in
     elim (result_cases (scan_last dec pad at s)) [
       | inl ok ↦
-          let held = IsScanned-scan enc dec rest pad at rest no_leftover ok.0 0 inverse rest_bytes (omega arith) (omega arith) refl
-          ((refl, refl, λ j lt. absurd (omega arith), λ j low lt. absurd (omega arith)), (omega arith, omega arith, omega arith, zeros)) ok.1 in
+          let held = IsScanned-scan enc dec rest pad at rest no_leftover ok.0 0 inverse rest_bytes (omega arith)
+          (omega arith) refl (
+            (refl, refl, λ j lt. absurd (omega arith), λ j low lt. absurd (omega arith)),
+            (omega arith, omega arith, omega arith, zeros),
+          ) ok.1 in
           let small = held.1.3 in
           rw ok.1 (take_bytes _ _ (group_is _ _ _ _ (small 0) (small 1) (small 2) (small 3)))
       | inr bad ↦ cc (rw bad.1 at none)
@@ -113,15 +123,18 @@ decoded_small e s b bytes ok =
     let parts = outcome_is _ _ b ok in
     let p = nothing_first (lone_error dec pad s) _ parts.0 in
     let q = nothing_first (groups_error dec s (groups_before_last (length s))) _ p.1 in
-    let groups = all_groups dec s (groups_before_last (length s)) (IsDecodeTable_from e.encode_table dec inverse) bytes q.0 in
-    let last = last_is e.encode_table dec s pad e.config.decode_allow_trailing_bits e.config.decode_padding_mode inverse bytes q.1 in
+    let groups = all_groups dec s (groups_before_last (length s))
+    (IsDecodeTable_from e.encode_table dec inverse) bytes q.0 in
+    let last = last_is e.encode_table dec s pad e.config.decode_allow_trailing_bits e.config.decode_padding_mode inverse
+    bytes q.1 in
     subst IsBytes parts.1 (append_bytes _ _ groups last)
 
 some_ok : {T E : Type 0} (r : Result T E) (x : T) → result_ok r ≡ Some x → r ≡ Ok x
 some_ok (Ok y) x e = cc e
 some_ok (Err y) x e = cc e
 
-pub decoded_is : (text payload : List ℕ) → IsBytes text → decoded_of standard text ≡ Some payload → IsBytes payload × (text ≡ encode_of standard payload)
+pub decoded_is : (text payload : List ℕ) → IsBytes text → decoded_of standard text ≡ Some payload
+    → IsBytes payload × (text ≡ encode_of standard payload)
 unfolding decoded_of
 decoded_is text payload bytes e =
     let ok = some_ok (decode_of standard text) payload e in

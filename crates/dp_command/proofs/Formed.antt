@@ -9,7 +9,8 @@ use Rattle.dp_command.specs.Sorts.{is_letter}
 use Rattle.dp_command.specs.Grammar.{Repeated, Given, Ending, spelt}
 use Rattle.dp_command.specs.Canonical.{IsWellFormed}
 
-letters_of : (options : List (ℕ × List ℕ)) (bytes : List ℕ) → Repeated Given options bytes → AllByRecursion (λ o. is_letter o.0 ≡ true) options
+letters_of : (options : List (ℕ × List ℕ)) (bytes : List ℕ) → Repeated Given options bytes
+    → AllByRecursion (λ o. is_letter o.0 ≡ true) options
 letters_of [] bytes j = tt
 letters_of (o ∷ more) bytes j = (j.first.second.0, letters_of more j.back j.second)
 
@@ -25,6 +26,7 @@ spelt_is bytes line j = record {
 }
 
 -- each line that was found is well formed
-pub formed : (bytes : List ℕ) (result : Result Line LineError) → IfOk result (λ line. spelt bytes line) → IfOk result IsWellFormed
+pub formed : (bytes : List ℕ) (result : Result Line LineError) → IfOk result (λ line. spelt bytes line)
+    → IfOk result IsWellFormed
 formed bytes (Ok line) found = spelt_is bytes line found
 formed bytes (Err e) found = tt

@@ -19,20 +19,24 @@ Parts = List ℕ × List (ℕ × List ℕ) × Option (List ℕ)
 
 -- ---- what is spelt is read
 
-payload_again : (name : List ℕ) (options : List (ℕ × List ℕ)) (payload : Option (List ℕ)) (back : List ℕ) → Ending payload back → with_text name options (text_of payload) ≡ Some (line_with name options payload)
+payload_again : (name : List ℕ) (options : List (ℕ × List ℕ)) (payload : Option (List ℕ)) (back : List ℕ)
+    → Ending payload back → with_text name options (text_of payload) ≡ Some (line_with name options payload)
 payload_again name options None back j = refl
 payload_again name options (Some p) back j =
-    ap (λ (found : Option (List ℕ)). option_map (λ q. line_with name options (Some q)) found) (encoded_is p j.second.second.second.first.0)
+    ap (λ (found : Option (List ℕ)). option_map (λ q. line_with name options (Some q)) found)
+    (encoded_is p j.second.second.second.first.0)
 
 pub line_again : (bytes : List ℕ) (line : Line) → spelt bytes line → line_of bytes ≡ Some line
 unfolding line_of
 line_again bytes line s =
-    ap (λ (r : Option Parts). r >>= λ parts. with_text parts.0 parts.1 parts.2) (parts_again bytes line.name line.options line.payload s)
+    ap (λ (r : Option Parts). r >>= λ parts. with_text parts.0 parts.1 parts.2)
+    (parts_again bytes line.name line.options line.payload s)
     ∙ payload_again line.name line.options line.payload s.second.back s.second.second
 
 -- ---- what is read is spelt
 
-map_some : {A B : Type 0} (f : A → B) (r : Option A) (y : B) → option_map f r ≡ Some y → (x : A) × (r ≡ Some x) × (f x ≡ y)
+map_some : {A B : Type 0} (f : A → B) (r : Option A) (y : B) → option_map f r ≡ Some y
+    → (x : A) × (r ≡ Some x) × (f x ≡ y)
 map_some f None y e = absurd cc
 map_some f (Some x) y e = (x, refl, some_is (f x) y e)
 
@@ -40,7 +44,8 @@ map_some f (Some x) y e = (x, refl, some_is (f x) y e)
 part_is : (bytes front back : List ℕ) → IsBytes bytes → bytes ≡ front ++ back → IsBytes front × IsBytes back
 part_is bytes front back all e = let both = subst IsBytes e all in (front_is front back both, back_is front back both)
 
-parts_spelt : (bytes name : List ℕ) (options : List (ℕ × List ℕ)) (text : Option (List ℕ)) (line : Line) → IsBytes bytes → parts_at bytes ≡ Some (name, options, text)
+parts_spelt : (bytes name : List ℕ) (options : List (ℕ × List ℕ)) (text : Option (List ℕ)) (line : Line) → IsBytes bytes
+    → parts_at bytes ≡ Some (name, options, text)
     → with_text name options text ≡ Some line → spelt bytes line
 parts_spelt bytes name options None line all e with =
     subst (spelt bytes) (some_is (line_with name options None) line with) (none_found bytes name options e)
@@ -68,18 +73,21 @@ line_found bytes line all e =
 
 -- ---- what a function that reads answers
 
-pub read_found : (bytes : List ℕ) (result : Result Line LineError) → IsBytes bytes → Gives (λ line. line) result (line_of bytes) → IfOk result (λ line. spelt bytes line)
+pub read_found : (bytes : List ℕ) (result : Result Line LineError) → IsBytes bytes
+    → Gives (λ line. line) result (line_of bytes) → IfOk result (λ line. spelt bytes line)
 read_found bytes (Ok line) all e = line_found bytes line all e
 read_found bytes (Err e) all f = tt
 
-pub read_only : (bytes : List ℕ) (result : Result Line LineError) (line : Line) → Gives (λ line. line) result (line_of bytes) → spelt bytes line
+pub read_only : (bytes : List ℕ) (result : Result Line LineError) (line : Line)
+    → Gives (λ line. line) result (line_of bytes) → spelt bytes line
     → MatchResult result (λ read. read ≡ line) (λ e. e ≡ errors.Memory)
 read_only bytes (Ok read) line e s = some_is read line (sym e ∙ line_again bytes line s)
 read_only bytes (Err errors.Memory) line e s = refl
 read_only bytes (Err errors.Parse) line e s = let p : None ≡ Some line = sym e ∙ line_again bytes line s in absurd cc
 
 -- a line that is spelt is never refused
-pub never_parse : (result : Result Line LineError) (line : Line) → result ≡ Err errors.Parse → MatchResult result (λ read. read ≡ line) (λ e. e ≡ errors.Memory) → ⊥
+pub never_parse : (result : Result Line LineError) (line : Line) → result ≡ Err errors.Parse
+    → MatchResult result (λ read. read ≡ line) (λ e. e ≡ errors.Memory) → ⊥
 never_parse (Ok read) line e m = absurd cc
 never_parse (Err errors.Memory) line e m = absurd cc
 never_parse (Err errors.Parse) line e m = absurd cc

@@ -15,7 +15,8 @@ use Rattle.dp_command.specs.Canonical.{all_bare, needs_quotes, quoted, canonical
 
 inner_written : (value : List ℕ) → Repeated InQuotes value (flat_map in_quotes value)
 inner_written [] = refl
-inner_written (b ∷ t) = record { front = in_quotes b; back = flat_map in_quotes t; whole = refl; first = refl; second = inner_written t }
+inner_written (b ∷ t) =
+    record { front = in_quotes b; back = flat_map in_quotes t; whole = refl; first = refl; second = inner_written t }
 
 all_bare_each : (value : List ℕ) → all_bare value ≡ true → Each is_bare value
 all_bare_each [] e = tt
@@ -31,7 +32,15 @@ value_cases value true e = inr (record {
   back = flat_map in_quotes value ++ 34 ∷ [];
   whole = refl;
   first = refl;
-  second = record { front = flat_map in_quotes value; back = 34 ∷ []; whole = refl; first = inner_written value; second = refl };
+  second =
+      record {
+        front = flat_map in_quotes value;
+        back = 34
+            ∷ [];
+        whole = refl;
+        first = inner_written value;
+        second = refl;
+      };
 })
 value_cases [] false e = absurd cc
 value_cases (b ∷ t) false e =
@@ -52,14 +61,32 @@ option_written o e = record {
       back = 32 ∷ canonical_value o.1;
       whole = refl;
       first = refl;
-      second = record { front = 32 ∷ []; back = canonical_value o.1; whole = refl; first = ((refl, tt), omega arith); second = value_cases o.1 (needs_quotes o.1) refl };
+      second =
+          record {
+            front = 32
+                ∷ [];
+            back = canonical_value o.1;
+            whole = refl;
+            first = ((refl, tt), omega arith);
+            second = value_cases o.1
+                (needs_quotes o.1) refl;
+          };
     },
   );
 }
 
-options_written : (os : List (ℕ × List ℕ)) → AllByRecursion (λ o. is_letter o.0 ≡ true) os → Repeated Given os (flat_map canonical_option os)
+options_written : (os : List (ℕ × List ℕ)) → AllByRecursion (λ o. is_letter o.0 ≡ true) os
+    → Repeated Given os (flat_map canonical_option os)
 options_written [] all = refl
-options_written (o ∷ os) all = record { front = canonical_option o; back = flat_map canonical_option os; whole = refl; first = option_written o all.0; second = options_written os all.1 }
+options_written (o ∷ os) all =
+    record {
+      front = canonical_option o;
+      back = flat_map canonical_option os;
+      whole = refl;
+      first = option_written o
+          all.0;
+      second = options_written os all.1;
+    }
 
 payload_written : (payload : Option (List ℕ)) → IfSome payload IsBytes → Ending payload (canonical_payload payload)
 payload_written None fits = tt
@@ -78,7 +105,15 @@ payload_written (Some p) fits = record {
       back = encode_of standard p;
       whole = refl;
       first = ((refl, tt), omega arith);
-      second = record { front = encode_of standard p; back = []; whole = sym (append-nil (encode_of standard p)); first = (fits, refl); second = tt };
+      second =
+          record {
+            front = encode_of standard p;
+            back = [];
+            whole = sym (append-nil (encode_of standard p));
+            first =
+                (fits, refl);
+            second = tt;
+          };
     };
   };
 }

@@ -3,7 +3,8 @@
 ghost use Rattle.std.specs.Prelude.{◌≡◌, ◌++◌, IfOk, OnOk, length};
 ghost use Rattle.std.specs.List.{flat_map};
 ghost use Rattle.dp_command.specs.Canonical as spec;
-ghost use Rattle.dp_command.specs.Canonical.{canonical, quoted, canonical_value, canonical_option, canonical_payload, all_bare};
+ghost use Rattle.dp_command.specs.Canonical.{canonical, quoted, canonical_value, canonical_option, canonical_payload};
+ghost use Rattle.dp_command.specs.Canonical.{all_bare};
 
 use crate::Memory;
 use crate::line::Line;

@@ -1,7 +1,8 @@
 //! The parts of a line that take no memory.
 
 ghost use Rattle.std.specs.Prelude.{◌≡◌, MatchOption, None, Some};
-ghost use Rattle.dp_command.specs.inner.Reading.{spaces_at, name_at, letter_at, letter_of, text_at, ending_at, seen_text};
+ghost use Rattle.dp_command.specs.inner.Reading.{spaces_at, name_at, letter_at, letter_of, text_at, ending_at};
+ghost use Rattle.dp_command.specs.inner.Reading.{seen_text};
 ghost use Rattle.dp_command.specs.Lines.{Gives};
 
 use crate::errors::LineError;
@@ -33,7 +34,8 @@ pub(crate) fn name(bytes: &[u8]) -> Result<(&[u8], &[u8]), LineError>
 }
 
 fn dashed_letter(bytes: &[u8]) -> Option<(u8, &[u8])>
-    ensures { MatchOption result (letter_of bytes.now ≡ None) (λ found. letter_of bytes.now ≡ Some (found.0, found.1.now)) }
+    ensures { MatchOption result (letter_of bytes.now ≡ None)
+        (λ found. letter_of bytes.now ≡ Some (found.0, found.1.now)) }
 {
     match bytes {
         [dash, letter, rest @ ..] => {
@@ -50,7 +52,8 @@ fn dashed_letter(bytes: &[u8]) -> Option<(u8, &[u8])>
 // The letter of the option that stands here.
 #[tactic(auto, unfolding(crate::specs::inner::Reading::letter_at, crate::specs::inner::Reading::spaces_at))]
 pub(crate) fn letter(bytes: &[u8]) -> Option<(u8, &[u8])>
-    ensures { MatchOption result (letter_at bytes.now ≡ None) (λ found. letter_at bytes.now ≡ Some (found.0, found.1.now)) }
+    ensures { MatchOption result (letter_at bytes.now ≡ None)
+        (λ found. letter_at bytes.now ≡ Some (found.0, found.1.now)) }
 {
     match bytes {
         [b' ', ..] => dashed_letter(run(Sort::Space, bytes).1),

@@ -3,7 +3,8 @@
 ghost use Rattle.std.specs.Prelude.{length};
 ghost use Rattle.base64.specs.Engines.{standard};
 ghost use Rattle.base64.specs.GeneralPurpose.{decoded_of};
-ghost use Rattle.dp_command.specs.inner.Reading.{byte_at, items_at, quoted_at, bare_at, value_at, option_at, options_at};
+ghost use Rattle.dp_command.specs.inner.Reading.{byte_at, items_at, quoted_at, bare_at, value_at, option_at};
+ghost use Rattle.dp_command.specs.inner.Reading.{options_at};
 ghost use Rattle.dp_command.specs.Lines.{Gives};
 
 use crate::errors::LineError;

@@ -42,8 +42,8 @@ fn pass(
 
 /// Where a machine comes to that goes on from the moment at which it stands, where it is this deep, and what is held of
 /// the breakpoints then: the first moment past it at which the command or a breakpoint stops, or the end. The hits are
-/// those of the moments up to there, each of which is passed once and takes one step. Where none is held and the command
-/// is `run`, it goes as fast as a program that nothing stops.
+/// those of the moments up to there, each of which is passed once and takes one step. Where none is held and the
+/// command is `run`, it goes as fast as a program that nothing stops.
 ///
 /// Once memory ran out nothing is said of the machine and of the breakpoints.
 pub fn go_on_from<L: Ledger>(

@@ -1,4 +1,5 @@
--- One more write at the current moment: the program's run up to there stands, and the machine goes on from the state after it.
+-- One more write at the current moment: the program's run up to there stands, and the machine goes on from the state
+-- after it.
 use Rattle.std.proofs.Common.{◌≡◌, ℕ, zero, suc, ◌<◌, ◌≤◌, Bool, true, false, List, [], ◌∷◌, ◌++◌, take, refl, sym, ap, subst, ◌∙◌, arith}
 use Rattle.std.specs.Prelude.{if◌then◌else◌, nat_eq, slice_get}
 use Rattle.std.proofs.lemmas.Bool.Decides.{nat_tests}
@@ -40,11 +41,13 @@ pub own_number : (n : ℕ) → nat_eq n n ≡ true
 own_number n = grind (arith, nat_tests)
 
 -- writes before it are the same
-agree_below : (ws : List NumberedWrite) (w : NumberedWrite) (k : ℕ) → k < w.moment → of_number k ws ≡ of_number k (ws ++ w ∷ [])
+agree_below : (ws : List NumberedWrite) (w : NumberedWrite) (k : ℕ) → k < w.moment
+    → of_number k ws ≡ of_number k (ws ++ w ∷ [])
 agree_below [] w k below = ap (λ (b : Bool). if b then w ∷ [] else []) (sym (other_number k w.moment below))
 agree_below (v ∷ ws) w k below = by (nat_eq v.moment k) (agree_below ws w k below) where
   by : (b : Bool) → of_number k ws ≡ of_number k (ws ++ w ∷ [])
-      → (if b then v ∷ of_number k ws else of_number k ws) ≡ (if b then v ∷ of_number k (ws ++ w ∷ []) else of_number k (ws ++ w ∷ []))
+      → (if b then v ∷ of_number k ws else of_number k ws) ≡ (if b then v ∷ of_number k (ws ++ w ∷ [])
+      else of_number k (ws ++ w ∷ []))
   by true e = ap (λ (l : List NumberedWrite). v ∷ l) e
   by false e = e
 
@@ -53,13 +56,16 @@ module _ (bundle : Bundle) (bound : ℕ) (ws : List NumberedWrite) (w : Numbered
   more = ws ++ w ∷ []
 
   -- the moment of the write is the same
-  pub same_pair : (k : ℕ) → w.moment ≡ suc k → slice_get (program_trace bundle bound ws).moments k ≡ slice_get (program_trace bundle bound more).moments k
+  pub same_pair : (k : ℕ) → w.moment ≡ suc k
+      → slice_get (program_trace bundle bound ws).moments k ≡ slice_get (program_trace bundle bound more).moments k
   same_pair k is =
       let agree : AgreeBelow (suc k) ws more = λ j below. agree_below ws w j (omega (arith, below, is)) in
-      sym (get_taken k (program_trace bundle bound ws).moments) ∙ ap (λ (l : List (Moment × State)). slice_get l k) (past_stands bundle bound (suc k) ws more agree)
+      sym (get_taken k (program_trace bundle bound ws).moments)
+      ∙ ap (λ (l : List (Moment × State)). slice_get l k) (past_stands bundle bound (suc k) ws more agree)
       ∙ get_taken k (program_trace bundle bound more).moments
 
-  pub same_moment : (n : ℕ) → w.moment ≡ n → moment_at (program_trace bundle bound ws) n ≡ moment_at (program_trace bundle bound more) n
+  pub same_moment : (n : ℕ) → w.moment ≡ n
+      → moment_at (program_trace bundle bound ws) n ≡ moment_at (program_trace bundle bound more) n
   same_moment zero is = refl
   same_moment (suc k) is = same_pair k is
 
@@ -73,7 +79,8 @@ unfolding rest_of
 rest_left t m s = refl
 
 -- the machine stands at its moment, in the state after the write
-stands_more : (bundle : Bundle) (bound : ℕ) (ws : List NumberedWrite) (n : ℕ) (w : Write) (m : Machine) → 1 ≤ n → StandsFor bundle bound ws n m
+stands_more : (bundle : Bundle) (bound : ℕ) (ws : List NumberedWrite) (n : ℕ) (w : Write) (m : Machine) → 1 ≤ n
+    → StandsFor bundle bound ws n m
     → StandsFor bundle bound (with_one n w ws) n (left_with (one_write (evaluation_setting bundle) w m.state) m)
 stands_more bundle bound ws n w m some stands =
     let number = number-is bundle bound ws n m stands in
@@ -83,20 +90,24 @@ stands_more bundle bound ws n w m some stands =
     (ap (λ (b : Bool). if b then one else []) (own_number n))
     (all-made bundle bound ws one m n new stands (λ e. omega (arith, some, number, e)) refl refl
     (rest_left (one_write (evaluation_setting bundle) w m.state) m)
-    (λ i. if (sym (ap (nat_eq n) number ∙ own_number n)) i then one_write (evaluation_setting (sym stands.same_bundle i)) w m.state else m.state))
+    (λ i. if (sym (ap (nat_eq n) number ∙ own_number n)) i
+    then one_write (evaluation_setting (sym stands.same_bundle i)) w m.state else m.state))
 
 -- ---- what a session keeps of it
 
-module _ (bundle : Bundle) (bound : ℕ) (features : Features) (machine : Machine) (after : State) (ws kept : List NumberedWrite) (moment : ℕ) (command id : Text) (r : Request) (response : Response)
+module _ (bundle : Bundle) (bound : ℕ) (features : Features) (machine : Machine) (after : State)
+    (ws kept : List NumberedWrite) (moment : ℕ) (command id : Text) (r : Request) (response : Response)
     (made : IsMade bundle features machine.state after ws kept moment command id r response) where
   -- in a break
-  pub stands_kept : (failed : Bool) (standing : Standing) → phase_of standing ≡ phase.Break → IsAt failed standing bundle bound ws moment machine
+  pub stands_kept : (failed : Bool) (standing : Standing) → phase_of standing ≡ phase.Break
+      → IsAt failed standing bundle bound ws moment machine
       → IsAt failed standing bundle bound kept moment (left_with after machine)
   stands_kept failed Starting e h = absurd cc
   stands_kept failed Break e h = (
     h.0,
     λ f. subst (λ (t : State). StandsFor bundle bound kept moment (left_with t machine)) (sym made.state)
-        (subst (λ (l : List NumberedWrite). StandsFor bundle bound l moment (left_with (one_write (evaluation_setting bundle) made.write machine.state) machine)) (sym made.list)
+        (subst (λ (l : List NumberedWrite). StandsFor bundle bound l moment
+        (left_with (one_write (evaluation_setting bundle) made.write machine.state) machine)) (sym made.list)
         (stands_more bundle bound ws moment made.write machine h.0 (h.1 f))),
   )
   stands_kept failed (Stopping end) e h = absurd cc

@@ -53,28 +53,44 @@ either false x y most p q = q
 
 message_short : (code : ℕ) → length (message_of code) ≤ 32
 message_short code =
-    either (eqb code 1) _ _ 32 (omega arith) (either (eqb code 2) _ _ 32 (omega arith) (either (eqb code 3) _ _ 32 (omega arith) (either (eqb code 4) _ _ 32 (omega arith) (
-    either (eqb code 5) _ _ 32 (omega arith) (either (eqb code 100) _ _ 32 (omega arith) (either (eqb code 200) _ _ 32 (omega arith) (either (eqb code 201) _ _ 32 (omega arith) (
-    either (eqb code 202) _ _ 32 (omega arith) (either (eqb code 203) _ _ 32 (omega arith) (either (eqb code 204) _ _ 32 (omega arith) (either (eqb code 205) _ _ 32 (omega arith) (
-    either (eqb code 206) _ _ 32 (omega arith) (either (eqb code 207) _ _ 32 (omega arith) (either (eqb code 300) _ _ 32 (omega arith) (either (eqb code 301) _ _ 32 (omega arith) (
-    either (eqb code 302) _ _ 32 (omega arith) (either (eqb code 900) _ _ 32 (omega arith) (omega arith))))))))))))))))))
+    either (eqb code 1) _ _ 32 (omega arith) (either (eqb code 2) _ _ 32 (omega arith)
+    (either (eqb code 3) _ _ 32 (omega arith) (either (eqb code 4) _ _ 32 (omega arith) (
+    either (eqb code 5) _ _ 32 (omega arith) (either (eqb code 100) _ _ 32 (omega arith)
+    (either (eqb code 200) _ _ 32 (omega arith) (either (eqb code 201) _ _ 32 (omega arith) (
+    either (eqb code 202) _ _ 32 (omega arith) (either (eqb code 203) _ _ 32 (omega arith)
+    (either (eqb code 204) _ _ 32 (omega arith) (either (eqb code 205) _ _ 32 (omega arith) (
+    either (eqb code 206) _ _ 32 (omega arith) (either (eqb code 207) _ _ 32 (omega arith)
+    (either (eqb code 300) _ _ 32 (omega arith) (either (eqb code 301) _ _ 32 (omega arith) (
+    either (eqb code 302) _ _ 32 (omega arith) (either (eqb code 900) _ _ 32 (omega arith)
+    (omega arith))))))))))))))))))
 
 -- ---- kinds of responses
 
 module _ (command id : Text) (short_name : length command ≤ 64) (short_id : length id ≤ 64) where
-  pub status_fits : (status reason : Text) → length status ≤ 16 → length reason ≤ 16 → Fits (status_response command id status reason)
+  pub status_fits : (status reason : Text) → length status ≤ 16 → length reason ≤ 16
+      → Fits (status_response command id status reason)
   unfolding response_text
-  status_fits status reason p q = record { known = refl; short = omega (arith, bare_response_short command id (status_attributes status reason)) }
+  status_fits status reason p q =
+      record { known = refl; short = omega (arith, bare_response_short command id (status_attributes status reason)) }
 
   pub set_fits : (feature : Text) → length feature ≤ 1048576 → Fits (set_response command id feature)
   unfolding response_text
   set_fits feature p =
-      record { known = refl; short = omega (arith, bare_response_short command id ((codes "feature", feature) ∷ (codes "success", codes "1") ∷ [])) }
+      record {
+        known = refl;
+        short = omega (
+          arith,
+          bare_response_short command id
+              ((codes "feature", feature) ∷ (codes "success", codes "1") ∷ []),
+        );
+      }
 
   pub success_fits : (success : Bool) → Fits (success_response command id success)
   unfolding response_text
-  success_fits true = record { known = refl; short = omega (arith, bare_response_short command id ((codes "success", codes "1") ∷ [])) }
-  success_fits false = record { known = refl; short = omega (arith, bare_response_short command id ((codes "success", codes "0") ∷ [])) }
+  success_fits true =
+      record { known = refl; short = omega (arith, bare_response_short command id ((codes "success", codes "1") ∷ [])) }
+  success_fits false =
+      record { known = refl; short = omega (arith, bare_response_short command id ((codes "success", codes "0") ∷ [])) }
 
   abbrev pub IsShortValue : Option Text → Type 0
   IsShortValue None = Unit {0}
@@ -83,10 +99,12 @@ module _ (command id : Text) (short_name : length command ≤ 64) (short_id : le
   abbrev told : Text → Text → Attributes
   told feature supported = (codes "feature_name", feature) ∷ (codes "supported", supported) ∷ []
 
-  pub feature_fits : (feature supported : Text) (value : Option Text) → length feature ≤ 1048576 → length supported ≤ 16 → IsShortValue value
+  pub feature_fits : (feature supported : Text) (value : Option Text) → length feature ≤ 1048576 → length supported ≤ 16
+      → IsShortValue value
       → Fits (feature_response command id feature supported value)
   unfolding response_text
-  feature_fits feature supported None p q r = record { known = refl; short = omega (arith, bare_response_short command id (told feature supported)) }
+  feature_fits feature supported None p q r =
+      record { known = refl; short = omega (arith, bare_response_short command id (told feature supported)) }
   feature_fits feature supported (Some value) p q r =
       let whole : Packet = packet.Response (feature_response command id feature supported (Some value)) in
       let short = packet_short whole _ (written_short (element_of whole) (6 * length value) (text_short value)) in
@@ -97,7 +115,8 @@ module _ (command id : Text) (short_name : length command ≤ 64) (short_id : le
   value_short (Some value) p = p
 
   -- of a value that is short
-  pub feature_fits_if : (feature supported : Text) (value : Option Text) → length feature ≤ 1048576 → length supported ≤ 16 → IfSome value (λ text. length text ≤ 64)
+  pub feature_fits_if : (feature supported : Text) (value : Option Text) → length feature ≤ 1048576
+      → length supported ≤ 16 → IfSome value (λ text. length text ≤ 64)
       → Fits (feature_response command id feature supported value)
   feature_fits_if feature supported value p q r = feature_fits feature supported value p q (value_short value r)
 
@@ -108,9 +127,12 @@ module _ (command id : Text) (short_name : length command ≤ 64) (short_id : le
       record { known = known.0; short = omega (arith, fault_short command id [] code, digits, message_short code) }
 
 -- a response that was made fits where the one that was asked for does
-pub made_fits : {E : Type 0} (command id : Text) (attributes asked : Attributes) (what : Body) (made : Result Response E)
-    → IfOk made (λ r. r ≡ response command id attributes what) → attributes ≡ asked → Fits (response command id asked what) → IfOk made Fits
-made_fits command id attributes asked what (Ok r) is same fits = subst Fits (sym (is ∙ ap (λ (a : Attributes). response command id a what) same)) fits
+pub made_fits : {E : Type 0} (command id : Text) (attributes asked : Attributes) (what : Body)
+    (made : Result Response E)
+    → IfOk made (λ r. r ≡ response command id attributes what) → attributes ≡ asked
+    → Fits (response command id asked what) → IfOk made Fits
+made_fits command id attributes asked what (Ok r) is same fits =
+    subst Fits (sym (is ∙ ap (λ (a : Attributes). response command id a what) same)) fits
 made_fits command id attributes asked what (Err e) is same fits = tt
 
 -- ---- codes
@@ -121,7 +143,8 @@ HaveCodes all = AllByRecursion (λ (test : Test). IsCode test.1) all
 first_is_code : (all : List Test) (code : ℕ) → HaveCodes all → first_code all ≡ Some code → IsCode code
 first_is_code [] code h e = absurd cc
 first_is_code (test ∷ all) code h e = cases test.0 e (first_is_code all code h.1) where
-  cases : (b : Bool) → option_map (λ (t : Test). t.1) (cond b (Some test) (find (λ (t : Test). t.0) all)) ≡ Some code → (first_code all ≡ Some code → IsCode code) → IsCode code
+  cases : (b : Bool) → option_map (λ (t : Test). t.1) (cond b (Some test) (find (λ (t : Test). t.0) all)) ≡ Some code
+      → (first_code all ≡ Some code → IsCode code) → IsCode code
   cases true e later = let same : test.1 ≡ code = cc in subst IsCode same h.0
   cases false e later = later e
 
@@ -140,23 +163,29 @@ refused_view : (made : Result Response ℕ) (code : ℕ) → code_in made ≡ So
 refused_view (Ok r) code e = absurd cc
 refused_view (Err k) code e = let same : k ≡ code = cc in ap (λ (c : ℕ). Err c) same
 
-view_codes : (bundle : Bundle) (file : ℕ) (features : Features) (program : ProgramState) (command id : Text) (r : Request) (code : ℕ) → view_refusal bundle file features program command id r ≡ Some code → IsCode code
+view_codes : (bundle : Bundle) (file : ℕ) (features : Features) (program : ProgramState) (command id : Text)
+    (r : Request) (code : ℕ) → view_refusal bundle file features program command id r ≡ Some code → IsCode code
 unfolding view_refusal
-view_codes bundle file features program command id r code e = shows_code bundle file features program command id r code (refused_view _ code e)
+view_codes bundle file features program command id r code e =
+    shows_code bundle file features program command id r code (refused_view _ code e)
 
 refused_write : (made : Result Response ℕ) (code : ℕ) → code_written made ≡ Some code → made ≡ Err code
 refused_write (Ok r) code e = absurd cc
 refused_write (Err k) code e = let same : k ≡ code = cc in ap (λ (c : ℕ). Err c) same
 
-write_codes : (bundle : Bundle) (features : Features) (program : ProgramState) (command id : Text) (r : Request) (code : ℕ) → write_refusal bundle features program command id r ≡ Some code → IsCode code
+write_codes : (bundle : Bundle) (features : Features) (program : ProgramState) (command id : Text) (r : Request)
+    (code : ℕ) → write_refusal bundle features program command id r ≡ Some code → IsCode code
 unfolding write_refusal
-write_codes bundle features program command id r code e = known_code bundle features program command id r code (refused_write _ code e)
+write_codes bundle features program command id r code e =
+    known_code bundle features program command id r code (refused_write _ code e)
 
 own_codes : (state : State) (command id : Text) (r : Request) → HaveCodes (own_tests state command id r)
 own_codes state command id r = on (side_of r) where
   on : (side : Side) → HaveCodes (tests_on side state command id r)
   on Session = session_codes r
-  on Breakpoints = for_codes (breakpoint_refusal state.bundle (here state) state.breaks r) (refusal_known state.bundle (here state) state.breaks r)
+  on Breakpoints =
+      for_codes (breakpoint_refusal state.bundle (here state) state.breaks r)
+      (refusal_known state.bundle (here state) state.breaks r)
   on Program =
       for_codes (view_refusal state.bundle (here state) state.features (program_of state) command id r)
       (λ code e. view_codes state.bundle (here state) state.features (program_of state) command id r code e)
@@ -164,11 +193,14 @@ own_codes state command id r = on (side_of r) where
       for_codes (write_refusal state.bundle state.features (program_of state) command id r)
       (λ code e. write_codes state.bundle state.features (program_of state) command id r code e)
 
-row_codes : (state : State) (line : Line) (name : Option CommandName) → HaveCodes (option_map_or (row_tests state line) name [])
+row_codes : (state : State) (line : Line) (name : Option CommandName)
+    → HaveCodes (option_map_or (row_tests state line) name [])
 row_codes state line None = tt
-row_codes state line (Some name) = (is_code 3 refl (omega arith), own_codes state line.name (id_of line) (request_of name line))
+row_codes state line (Some name) =
+    (is_code 3 refl (omega arith), own_codes state line.name (id_of line) (request_of name line))
 
-pub refusal_is_code : (state : State) (line : Option Line) (code : ℕ) → refusal_of_line state line ≡ Some code → IsCode code
+pub refusal_is_code : (state : State) (line : Option Line) (code : ℕ) → refusal_of_line state line ≡ Some code
+    → IsCode code
 refusal_is_code state None code e = let same : 1 ≡ code = cc in subst IsCode same (is_code 1 refl (omega arith))
 refusal_is_code state (Some line) code e =
     first_is_code (tests state line) code (
@@ -187,10 +219,12 @@ refusal_is_code state (Some line) code e =
 
 -- ---- requests
 
-given_short : (letter : ℕ) (options : Options) (most : ℕ) → AllByRecursion (λ (o : ℕ × List ℕ). length o.1 ≤ most) options → length (text_given letter options) ≤ most
+given_short : (letter : ℕ) (options : Options) (most : ℕ)
+    → AllByRecursion (λ (o : ℕ × List ℕ). length o.1 ≤ most) options → length (text_given letter options) ≤ most
 given_short letter [] most h = omega arith
 given_short letter (o ∷ options) most h = cases (eqb o.0 letter) (given_short letter options most h.1) where
-  cases : (b : Bool) → length (text_given letter options) ≤ most → length (unwrap_or (cond b (Some o.1) (given letter options)) []) ≤ most
+  cases : (b : Bool) → length (text_given letter options) ≤ most
+      → length (unwrap_or (cond b (Some o.1) (given letter options)) []) ≤ most
   cases true later = h.0
   cases false later = later
 
@@ -200,22 +234,28 @@ request_short line name.FeatureGet h = given_short letter.n line.options command
 request_short line name.FeatureSet h = given_short letter.n line.options command_limit h.values
 request_short line other h = tt
 
-pub command_short : (line : Line) (command : Command) → IsShort line → command_of line ≡ Some command → IsShortRequest command.request
+pub command_short : (line : Line) (command : Command) → IsShort line → command_of line ≡ Some command
+    → IsShortRequest command.request
 command_short line command h e = cases (name_of line.name) e where
-  cases : (name : Option CommandName) → option_map (λ (n : CommandName). record { id = id_of line; request = request_of n line }) name ≡ Some command → IsShortRequest command.request
+  cases : (name : Option CommandName)
+      → option_map (λ (n : CommandName). record { id = id_of line; request = request_of n line }) name ≡ Some command
+      → IsShortRequest command.request
   cases None e = absurd cc
-  cases (Some name) e = let same : request_of name line ≡ command.request = cc in subst IsShortRequest same (request_short line name h)
+  cases (Some name) e =
+      let same : request_of name line ≡ command.request = cc in subst IsShortRequest same (request_short line name h)
 
 -- ---- the first packet
 
 -- the name of the main file of a program whose files have names of files
 pub main_short : (bundle : Bundle) → AreFileNames (map (λ f. f.name) bundle.files) → length (main_name bundle) ≤ 255
 main_short bundle names = by bundle.files names.named where
-  by : (files : List BundleFile) → All IsFileName (map (λ f. f.name) files) → length (option_map_or (λ file. file.name) (slice_get files 0) []) ≤ 255
+  by : (files : List BundleFile) → All IsFileName (map (λ f. f.name) files)
+      → length (option_map_or (λ file. file.name) (slice_get files 0) []) ≤ 255
   by [] all = omega arith
   by (file ∷ files) all = (all 0 file.name (omega arith)).short
 
-pub init_fits : (bundle : Bundle) (key : List ℕ) → length key ≤ 128 → length (main_name bundle) ≤ 255 → IsPacketText (init_text bundle key)
+pub init_fits : (bundle : Bundle) (key : List ℕ) → length key ≤ 128 → length (main_name bundle) ≤ 255
+    → IsPacketText (init_text bundle key)
 unfolding init_text
 init_fits bundle key p q = record {
   some_byte = packet_some (packet.Init (record { idekey = key; fileuri = file_uri (main_name bundle) }));

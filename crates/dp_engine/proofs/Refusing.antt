@@ -46,7 +46,8 @@ use Rattle.dp_engine.specs.States.{allows, at_moment}
 use Rattle.dp_packet.specs.Parts.{Text}
 
 -- the first test does not hold
-pub passed : (holds : Bool) (code : ℕ) (more : List Test) → first_code ((holds, code) ∷ more) ≡ None → (holds ≡ false) × (first_code more ≡ None)
+pub passed : (holds : Bool) (code : ℕ) (more : List Test) → first_code ((holds, code) ∷ more) ≡ None
+    → (holds ≡ false) × (first_code more ≡ None)
 passed true code more e = absurd cc
 passed false code more e = (refl, e)
 
@@ -62,7 +63,8 @@ value_is_none : (value : Option Text) → fault_in (value_body value) ≡ None
 value_is_none None = refl
 value_is_none (Some value) = refl
 
-continued_none : (command id : Text) (mode : Continuation) (phase : Phase) (state : State) → fault_of (continued command id mode phase state) ≡ None
+continued_none : (command id : Text) (mode : Continuation) (phase : Phase) (state : State)
+    → fault_of (continued command id mode phase state) ≡ None
 continued_none command id mode Starting state = refl
 continued_none command id mode Break state = refl
 continued_none command id mode Stopping state = refl
@@ -72,7 +74,8 @@ none_in (body.Fault code) h = absurd (h code refl)
 none_in what h = refl
 
 -- what is answered from the session, by its name, is done
-session_none : (command id : Text) (name : CommandName) (line : Line) (state : State) → side_of (request_of name line) ≡ Session
+session_none : (command id : Text) (name : CommandName) (line : Line) (state : State)
+    → side_of (request_of name line) ≡ Session
     → fault_of (session_done command id (request_of name line) state) ≡ None
 unfolding request_of
 session_none command id Status line state s = refl
@@ -102,49 +105,66 @@ session_none command id PropertyValue line state s = absurd cc
 session_none command id Source line state s = absurd cc
 
 -- what is shown is no error where the request is not refused
-shown_none : (command id : Text) (r : Request) (state : State) → view_refusal state.bundle (here state) state.features (program_of state) command id r ≡ None
+shown_none : (command id : Text) (r : Request) (state : State)
+    → view_refusal state.bundle (here state) state.features (program_of state) command id r ≡ None
     → fault_of (shown command id r state) ≡ None
 unfolding view_refusal
-shown_none command id r state e = by (view_response state.bundle (here state) state.features (program_of state) command id r) refl e where
-  by : (made : Result Response ℕ) → view_response state.bundle (here state) state.features (program_of state) command id r ≡ made → code_in made ≡ None → fault_in (response_in command id made).body ≡ None
-  by (Ok response) is e = none_in response.body (shows state.bundle (here state) state.features (program_of state) command id r response is).no_error
-  by (Err code) is e = absurd cc
+shown_none command id r state e =
+    by (view_response state.bundle (here state) state.features (program_of state) command id r) refl e where
+      by : (made : Result Response ℕ)
+          → view_response state.bundle (here state) state.features (program_of state) command id r ≡ made
+          → code_in made ≡ None → fault_in (response_in command id made).body ≡ None
+      by (Ok response) is e =
+          none_in response.body (shows state.bundle (here state) state.features
+          (program_of state) command id r response is).no_error
+      by (Err code) is e = absurd cc
 
 -- nor is the response to a write
-written_none : (command id : Text) (r : Request) (state : State) → write_refusal state.bundle state.features (program_of state) command id r ≡ None
+written_none : (command id : Text) (r : Request) (state : State)
+    → write_refusal state.bundle state.features (program_of state) command id r ≡ None
     → fault_of (written command id r state) ≡ None
 unfolding write_refusal
-written_none command id r state e = by (write_response state.bundle state.features (program_of state) command id r) refl e where
-  by : (made : Result Response ℕ) → write_response state.bundle state.features (program_of state) command id r ≡ made → code_written made ≡ None → fault_in (response_in command id made).body ≡ None
-  by (Ok response) is e = none_in response.body (no_error state.bundle state.features (program_of state) command id r response is)
-  by (Err code) is e = absurd cc
+written_none command id r state e =
+    by (write_response state.bundle state.features (program_of state) command id r) refl e where
+      by : (made : Result Response ℕ) → write_response state.bundle state.features (program_of state) command id r
+          ≡ made
+          → code_written made ≡ None → fault_in (response_in command id made).body ≡ None
+      by (Ok response) is e =
+          none_in response.body (no_error state.bundle state.features (program_of state) command id r response is)
+      by (Err code) is e = absurd cc
 
 -- a response to breakpoint commands is no error
-breakpoint_none : (bundle : Bundle) (command id : Text) (t : Table) (r : Request) → fault_in (breakpoint_response bundle command id t r).body ≡ None
+breakpoint_none : (bundle : Bundle) (command id : Text) (t : Table) (r : Request)
+    → fault_in (breakpoint_response bundle command id t r).body ≡ None
 breakpoint_none bundle command id t (request.BreakpointSet set) = refl
 breakpoint_none bundle command id t (request.Breakpoint Get number) = refl
 breakpoint_none bundle command id t (request.Breakpoint Remove number) = refl
 breakpoint_none bundle command id t request.BreakpointList = refl
 breakpoint_none bundle command id t other = refl
 
-in_packet_none : (command id : Text) (r : Response) → fault_in r.body ≡ None → fault_in (in_packet command id r).body ≡ None
+in_packet_none : (command id : Text) (r : Response) → fault_in r.body ≡ None
+    → fault_in (in_packet command id r).body ≡ None
 in_packet_none command id r e = by (nat_le (length (response_text r)) packet_limit) where
   by : (b : Bool) → fault_in (if b then r else response command id [] body.Nothing).body ≡ None
   by true = e
   by false = refl
 
 -- what is asked for is done
-done : (command id : Text) (name : CommandName) (line : Line) (state : State) (side : Side) → side_of (request_of name line) ≡ side
-    → first_code (tests_on side state command id (request_of name line)) ≡ None → fault_of (done_on side command id (request_of name line) state) ≡ None
+done : (command id : Text) (name : CommandName) (line : Line) (state : State) (side : Side)
+    → side_of (request_of name line) ≡ side
+    → first_code (tests_on side state command id (request_of name line)) ≡ None
+    → fault_of (done_on side command id (request_of name line) state) ≡ None
 done command id name line state Session s e = session_none command id name line state s
 done command id name line state Breakpoints s e =
     in_packet_none command id _ (breakpoint_none state.bundle command id state.breaks (request_of name line))
 done command id name line state Program s e =
     shown_none command id (request_of name line) state
-    (sym (first_for (view_refusal state.bundle (here state) state.features (program_of state) command id (request_of name line))) ∙ e)
+    (sym (first_for (view_refusal state.bundle (here state) state.features (program_of state) command id
+    (request_of name line))) ∙ e)
 done command id name line state Writes s e =
     written_none command id (request_of name line) state
-    (sym (first_for (write_refusal state.bundle state.features (program_of state) command id (request_of name line))) ∙ e)
+    (sym (first_for (write_refusal state.bundle state.features (program_of state) command id (request_of name line)))
+    ∙ e)
 
 not_false : (b : Bool) → not b ≡ false → b ≡ true
 not_false true h = refl
@@ -156,7 +176,8 @@ later_tests count state line = drop count (tests state line)
 
 -- the fourth test of a line is on its name and the state
 pub allowed : (state : State) (line : Line) → first_code (tests state line) ≡ None
-    → (of_command (allows state.phase) (name_of line.name) ≡ true) × (first_code (option_map_or (row_tests state line) (name_of line.name) []) ≡ None)
+    → (of_command (allows state.phase) (name_of line.name) ≡ true)
+    × (first_code (option_map_or (row_tests state line) (name_of line.name) []) ≡ None)
 allowed state line e =
     let name = of_command (allows state.phase) (name_of line.name) in
     let admitted = passed _ _ (later_tests 1 state line) e in
@@ -166,11 +187,15 @@ allowed state line e =
 
 taken : (state : State) (line : Line) (name : Option CommandName) → of_command (allows state.phase) name ≡ true
     → first_code (option_map_or (row_tests state line) name []) ≡ None
-    → fault_of (asked line.name (id_of line) (option_map (λ n. record { id = id_of line; request = request_of n line }) name) state) ≡ None
+    → fault_of (asked line.name (id_of line) (option_map (λ n. record { id = id_of line; request = request_of n line })
+    name) state) ≡ None
 taken state line None a e = absurd cc
-taken state line (Some name) a e = done line.name (id_of line) name line state (side_of (request_of name line)) refl (passed (not (fits_row name line)) 3 (own_tests state line.name (id_of line) (request_of name line)) e).1
+taken state line (Some name) a e =
+    done line.name (id_of line) name line state (side_of (request_of name line)) refl
+    (passed (not (fits_row name line)) 3 (own_tests state line.name (id_of line) (request_of name line)) e).1
 
-turn_cases : (line : Option Line) (state : State) (code : Option ℕ) → refusal_of_line state line ≡ code → fault_of (turn_of line code state) ≡ code
+turn_cases : (line : Option Line) (state : State) (code : Option ℕ) → refusal_of_line state line ≡ code
+    → fault_of (turn_of line code state) ≡ code
 turn_cases line state (Some code) e = refl
 turn_cases None state None e = absurd cc
 turn_cases (Some line) state None e = let a = allowed state line e in taken state line (name_of line.name) a.0 a.1
@@ -187,7 +212,8 @@ at_break Break e = refl
 at_break Stopping e = absurd cc
 
 -- in a break alone
-pub writes_at_break : (name : CommandName) (line : Line) (phase : Phase) → side_of (request_of name line) ≡ Writes → allows phase name ≡ true → phase ≡ Break
+pub writes_at_break : (name : CommandName) (line : Line) (phase : Phase) → side_of (request_of name line) ≡ Writes
+    → allows phase name ≡ true → phase ≡ Break
 unfolding request_of
 writes_at_break PropertySet line phase s a = at_break phase a
 writes_at_break Eval line phase s a = at_break phase a
@@ -233,9 +259,12 @@ none_to_program Redirect = refl
 
 -- a refusal is sent alone
 refusal_alone : (state : State) (bytes : List ℕ) (code : ℕ)
-    → sent state (refused (command_in (line_of bytes)) (id_in (line_of bytes)) code state) ≡ error_alone state bytes code
+    → sent state (refused (command_in (line_of bytes)) (id_in (line_of bytes)) code state) ≡ error_alone state bytes
+    code
 refusal_alone state bytes code = λ i. record {
-  packets = (ap (to_ide state.stdout) (nothing_written state) ∙ none_to_ide state.stdout) i ++ response_text (refused (command_in (line_of bytes)) (id_in (line_of bytes)) code state).response ∷ [];
+  packets =
+      (ap (to_ide state.stdout) (nothing_written state) ∙ none_to_ide state.stdout) i
+      ++ response_text (refused (command_in (line_of bytes)) (id_in (line_of bytes)) code state).response ∷ [];
   program = (ap (to_program state.stdout) (nothing_written state) ∙ none_to_program state.stdout) i;
   state = state;
   ended = None;
@@ -257,6 +286,8 @@ is_answered state bytes = answered_as state bytes (refusal_of_line state (line_o
 
 -- an answer that is the reply is one by the code
 pub answered_by_code : {E : Type 0} (state next : State) (bytes : List ℕ) (made : Result (Answer SessionEnd) E)
-    → IfOk made (λ x. reply_of x next ≡ answer state bytes) → IfOk made (λ x. IsAnsweredBy (refusal state bytes) state bytes (reply_of x next))
-answered_by_code state next bytes (Ok x) is = subst (IsAnsweredBy (refusal state bytes) state bytes) (sym is) (is_answered state bytes)
+    → IfOk made (λ x. reply_of x next ≡ answer state bytes)
+    → IfOk made (λ x. IsAnsweredBy (refusal state bytes) state bytes (reply_of x next))
+answered_by_code state next bytes (Ok x) is =
+    subst (IsAnsweredBy (refusal state bytes) state bytes) (sym is) (is_answered state bytes)
 answered_by_code state next bytes (Err e) is = tt

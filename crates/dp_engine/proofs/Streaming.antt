@@ -26,12 +26,19 @@ symbols = standard.encode_table
 base64_few : (bytes : Text) → length bytes ≤ 4096 → length (base64 bytes) ≤ 5500
 base64_few bytes few =
     let padding : List ℕ = replicate (padding_len (length bytes)) 61 in
-    omega (arith, few, length-append (encode_symbols symbols bytes) padding, length-encode_symbols symbols bytes, length-replicate {A = ℕ} (padding_len (length bytes)) 61)
+    omega (
+      arith,
+      few,
+      length-append (encode_symbols symbols bytes) padding,
+      length-encode_symbols symbols bytes,
+      length-replicate {A = ℕ} (padding_len (length bytes)) 61,
+    )
 
 stream_short : (piece : Text) → length piece ≤ 4096 → length (text (packet.Stream piece)) ≤ packet_limit
 stream_short piece few =
     let whole : Packet = packet.Stream piece in
-    let short = packet_short whole _ (written_short (element_of whole) (6 * length (base64 piece)) (text_short (base64 piece))) in
+    let short = packet_short whole _ (written_short (element_of whole) (6 * length (base64 piece))
+    (text_short (base64 piece))) in
     omega (arith, short, base64_few piece few)
 
 stream_is_text : (piece : Text) → length piece ≤ 4096 → IsPacketText (text (packet.Stream piece))
@@ -44,35 +51,46 @@ take_few zero bytes = omega arith
 take_few (suc most) [] = omega arith
 take_few (suc most) (b ∷ bytes) = omega (arith, take_few most bytes)
 
-pieces_are_texts : (count : ℕ) (output : Text) → AllByRecursion IsPacketText (map (λ piece. text (packet.Stream piece)) (first_pieces count output))
+pieces_are_texts : (count : ℕ) (output : Text)
+    → AllByRecursion IsPacketText (map (λ piece. text (packet.Stream piece)) (first_pieces count output))
 pieces_are_texts zero output = tt
-pieces_are_texts (suc count) output = (stream_is_text (take stream_size output) (take_few stream_size output), pieces_are_texts count (drop stream_size output))
+pieces_are_texts (suc count) output = (
+  stream_is_text (take stream_size output) (take_few stream_size output),
+  pieces_are_texts count (drop stream_size output),
+)
 
-pub both_texts : (a b : List Text) → AllByRecursion IsPacketText a → AllByRecursion IsPacketText b → AllByRecursion IsPacketText (a ++ b)
+pub both_texts : (a b : List Text) → AllByRecursion IsPacketText a → AllByRecursion IsPacketText b
+    → AllByRecursion IsPacketText (a ++ b)
 both_texts [] b h k = k
 both_texts (t ∷ a) b h k = (h.0, both_texts a b h.1 k)
 
 -- what is sent with the text of a response is texts of packets
-pub sent_texts : (mode : StreamMode) (output last : Text) → IsPacketText last → AllByRecursion IsPacketText (to_ide mode output ++ last ∷ [])
+pub sent_texts : (mode : StreamMode) (output last : Text) → IsPacketText last
+    → AllByRecursion IsPacketText (to_ide mode output ++ last ∷ [])
 sent_texts Disable output last h = (h, tt)
 sent_texts Copy output last h = both_texts (streams output) (last ∷ []) (pieces_are_texts _ output) (h, tt)
 sent_texts Redirect output last h = both_texts (streams output) (last ∷ []) (pieces_are_texts _ output) (h, tt)
 
-pub all_texts : {E : Type 0} (mode : StreamMode) (output last : Text) (made : Result (List Text) E) → IsPacketText last → IfOk made (λ texts. texts ≡ to_ide mode output ++ last ∷ [])
+pub all_texts : {E : Type 0} (mode : StreamMode) (output last : Text) (made : Result (List Text) E) → IsPacketText last
+    → IfOk made (λ texts. texts ≡ to_ide mode output ++ last ∷ [])
     → IfOk made (λ texts. AllByRecursion IsPacketText texts)
-all_texts mode output last (Ok texts) h is = subst (AllByRecursion IsPacketText) (sym is) (sent_texts mode output last h)
+all_texts mode output last (Ok texts) h is =
+    subst (AllByRecursion IsPacketText) (sym is) (sent_texts mode output last h)
 all_texts mode output last (Err e) h is = tt
 
 -- ---- one after another
 
 -- the first piece of output and the others
-pub streams_on : (output : Text) → 0 < length output → streams output ≡ text (packet.Stream (take stream_size output)) ∷ streams (drop stream_size output)
+pub streams_on : (output : Text) → 0 < length output
+    → streams output ≡ text (packet.Stream (take stream_size output)) ∷ streams (drop stream_size output)
 streams_on output some =
-    let count : (length output + 4096 - 1) / 4096 ≡ suc ((length (drop 4096 output) + 4096 - 1) / 4096) = omega (arith, some, length-drop 4096 output) in
+    let count : (length output + 4096 - 1) / 4096 ≡ suc ((length (drop 4096 output) + 4096 - 1) / 4096) = omega
+    (arith, some, length-drop 4096 output) in
     ap (λ (n : ℕ). map (λ piece. text (packet.Stream piece)) (first_pieces n output)) count
 
 -- a piece put behind others
-pub put_on : (texts all : List Text) (rest piece next : Text) → 0 < length rest → piece ≡ take stream_size rest → next ≡ drop stream_size rest
+pub put_on : (texts all : List Text) (rest piece next : Text) → 0 < length rest → piece ≡ take stream_size rest
+    → next ≡ drop stream_size rest
     → all ≡ texts ++ streams rest → all ≡ (texts ++ text (packet.Stream piece) ∷ []) ++ streams next
 put_on texts all rest piece next some p n e =
     e ∙ ap (λ (l : List Text). texts ++ l) (streams_on rest some)

@@ -1,4 +1,5 @@
--- What a command that writes is answered, however long its name and id are: no error where a response is made, and else a code that has a message.
+-- What a command that writes is answered, however long its name and id are: no error where a response is made, and else
+-- a code that has a message.
 use Rattle.std.proofs.Common.{◌≡◌, ◌≢◌, ℕ, ◌<◌, Bool, true, false, cond, [], Option, Some, None, Result, Ok, Err, nat_le, length, refl, ap, subst, arith}
 use Rattle.dp_command.specs.declared.command.Request.{Request}
 use Rattle.dp_features.specs.Features.{Features}
@@ -45,9 +46,12 @@ module _ (bundle : Bundle) (features : Features) (s : State) (command id : Text)
   response_told = by (write_asked s asked) refl where
     by : (w : Result Write ℕ) → write_asked s asked ≡ w → IsTold (and_then (responding bundle features s command id) w)
     by (Ok w) is = answer_told (answer_in (evaluation_setting bundle) w s)
-    by (Err k) is = short_code bundle features s [] [] asked (omega arith) (omega arith) k (ap (and_then (responding bundle features s [] [])) is)
+    by (Err k) is =
+        short_code bundle features s [] [] asked (omega arith) (omega arith) k
+        (ap (and_then (responding bundle features s [] [])) is)
 
-  pub no_error : (r : Response) → write_response bundle features s command id asked ≡ Ok r → (code : ℕ) → r.body ≢ body.Fault code
+  pub no_error : (r : Response) → write_response bundle features s command id asked ≡ Ok r → (code : ℕ)
+      → r.body ≢ body.Fault code
   no_error r e = subst IsTold e response_told
 
   pub known_code : (k : ℕ) → write_response bundle features s command id asked ≡ Err k → IsCode k

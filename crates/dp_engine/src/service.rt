@@ -41,8 +41,8 @@ pub enum ServeEnd {
     Memory,
 }
 
-/// A session that was served, and how its program ended: not at all where it was killed, and unknown where its output or
-/// memory failed.
+/// A session that was served, and how its program ended: not at all where it was killed, and unknown where its output
+/// or memory failed.
 #[derive(Clone, Copy, Debug, PartialEq, Eq)]
 pub struct Served {
     pub end: ServeEnd,

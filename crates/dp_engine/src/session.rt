@@ -166,7 +166,8 @@ impl<'a> Session<'a> {
         Ok((session, init))
     }
 
-    /// Answers one whole command, without its NUL. Once memory ran out it has failed for good: nothing is said of it then.
+    /// Answers one whole command, without its NUL. Once memory ran out it has failed for good: nothing is said of it
+    /// then.
     ///
     /// A command that goes on counts a step for each moment that comes on the way; no other command counts any.
     pub fn answer<L: Ledger>(&mut self, line: &[u8], steps: &mut Steps<L>) -> Result<Answer, Memory>

@@ -53,7 +53,8 @@ impl<'a> Session<'a> {
         steps: &mut Steps<L>,
     ) -> Result<Turn, Memory>
         requires { IsShort line.now }
-        ensures turn { IfOk result (IsTurn (spec.turn_of (Some line.now) (refusal_of_line self.old (Some line.now)) self.old) self.new) }
+        ensures turn { IfOk result (IsTurn (spec.turn_of (Some line.now)
+            (refusal_of_line self.old (Some line.now)) self.old) self.new) }
         ensures steps { IfOk result (λ turn. steps.new ≡ steps.old + steps_between self.old self.new) }
     {
         let to = Addressee::of(alloc, line)?;
@@ -204,7 +205,8 @@ impl<'a> Session<'a> {
         value: &[u8],
     ) -> Result<Turn, Memory>
         requires feature { length feature.now ≤ 1048576 }
-        ensures turn { IfOk result (IsTurn (answered to.now.command to.now.id (Request.FeatureSet feature.now value.now) self.old) self.new) }
+        ensures turn { IfOk result (IsTurn (answered to.now.command to.now.id
+            (Request.FeatureSet feature.now value.now) self.old) self.new) }
         ensures stays { moments_so_far self.new ≡ moments_so_far self.old }
     {
         if let Some(code) = feature_refusal(feature, value) {
@@ -247,7 +249,8 @@ impl<'a> Session<'a> {
         mode: Continuation,
         steps: &mut Steps<L>,
     ) -> Result<Turn, Memory>
-        ensures turn { IfOk result (IsTurn (spec.continued to.now.command to.now.id mode self.old.phase self.old) self.new) }
+        ensures turn { IfOk result (IsTurn (spec.continued to.now.command to.now.id mode self.old.phase self.old)
+            self.new) }
         ensures steps { IfOk result (λ turn. steps.new ≡ steps.old + steps_between self.old self.new) }
     {
         match self.standing {

@@ -25,8 +25,8 @@ fn keep(writes: &mut Vec<NumberedWrite>, write: NumberedWrite)
     }
 }
 
-/// Makes the write that a command asks for at a moment, and keeps it behind the others. Where it is refused, or memory runs
-/// out, nothing has changed.
+/// Makes the write that a command asks for at a moment, and keeps it behind the others. Where it is refused, or memory
+/// runs out, nothing has changed.
 pub(crate) fn accept(
     alloc: Global,
     bundle: &Bundle,

@@ -31,31 +31,49 @@ abbrev pub begins_operand : Terminal → Bool
 begins_operand s = is terminal.Variable s || begins_other s
 
 pub operand_starts : StartsIn OperandAt begins_operand
-operand_starts m text a h = or_starts (MadeAt (JoinedAt PlaceAt (λ p _. StepLast p)) tree_of) OtherAt (is terminal.Variable) begins_other
-    (made_starts (JoinedAt PlaceAt (λ p _. StepLast p)) tree_of (is terminal.Variable) (joined_starts PlaceAt (λ p _. StepLast p) (is terminal.Variable) place_starts)) other_starts m text a (from_operand m (inner m) text a h)
+operand_starts m text a h =
+    or_starts (MadeAt (JoinedAt PlaceAt (λ p _. StepLast p)) tree_of) OtherAt (is terminal.Variable) begins_other
+    (made_starts (JoinedAt PlaceAt (λ p _. StepLast p)) tree_of (is terminal.Variable)
+    (joined_starts PlaceAt (λ p _. StepLast p) (is terminal.Variable) place_starts)) other_starts m text a
+    (from_operand m (inner m) text a h)
 
-pub ladder_starts : (rs : List Rank) (operand : Rules ℕ Expression) (test : Terminal → Bool) → StartsIn operand test → StartsIn (λ m. Ladder rs (operand m)) test
+pub ladder_starts : (rs : List Rank) (operand : Rules ℕ Expression) (test : Terminal → Bool) → StartsIn operand test
+    → StartsIn (λ m. Ladder rs (operand m)) test
 ladder_starts [] operand test starts = starts
 ladder_starts (r ∷ more) operand test starts =
-    joined_starts (λ m. Ladder more (operand m)) (λ first m. Made (Links (Ladder more (operand m)) r) (λ links. chained first links)) test (ladder_starts more operand test starts)
+    joined_starts (λ m. Ladder more (operand m)) (λ first m. Made (Links (Ladder more (operand m)) r)
+    (λ links. chained first links)) test (ladder_starts more operand test starts)
 
 pub coalesce_starts : StartsIn CoalesceAt begins_operand
-coalesce_starts = joined_starts (λ m. Ladder ranks (OperandAt m)) (λ left m. CoalesceRest m (inner m) left) begins_operand (ladder_starts ranks OperandAt begins_operand operand_starts)
+coalesce_starts =
+    joined_starts (λ m. Ladder ranks (OperandAt m)) (λ left m. CoalesceRest m (inner m) left) begins_operand
+    (ladder_starts ranks OperandAt begins_operand operand_starts)
 
 pub conditional_starts : StartsIn ConditionalAt begins_operand
-conditional_starts = joined_starts CoalesceAt (λ test m. ConditionalRest m (inner m) test) begins_operand coalesce_starts
+conditional_starts =
+    joined_starts CoalesceAt (λ test m. ConditionalRest m (inner m) test) begins_operand coalesce_starts
 
 pub include_starts : StartsIn IncludeAt begins_inclusion
-include_starts m text a h = joined_starts (OneAt (by_terminal inclusion_in)) (λ how. MadeAt (Under part.Whole) (tree.Include how)) begins_inclusion (sort_starts inclusion_in) m text a h.spelled
+include_starts m text a h =
+    joined_starts (OneAt (by_terminal inclusion_in)) (λ how. MadeAt (Under part.Whole) (tree.Include how))
+    begins_inclusion (sort_starts inclusion_in) m text a h.spelled
 
 place_begins : StartsIn PlaceAt begins_expression
-place_begins = starts_in_more PlaceAt (is terminal.Variable) begins_expression (mark_passes begins_expression terminal.Variable refl) place_starts
+place_begins =
+    starts_in_more PlaceAt (is terminal.Variable) begins_expression
+    (mark_passes begins_expression terminal.Variable refl) place_starts
 
 pub expression_starts : StartsIn (At part.Whole) begins_expression
-expression_starts m text a (inl h) = starts_in_more IncludeAt begins_inclusion begins_expression (implied begins_inclusion begins_expression refl) include_starts m text a h
-expression_starts m text a (inr (inl j)) = let s = place_begins m j.front j.value j.one in (s.0, s.1 ++ j.back, j.split ∙ ap (λ l. l ++ j.back) s.2, s.3)
-expression_starts m text a (inr (inr (inl j))) = let s = place_begins m j.front j.value j.one in (s.0, s.1 ++ j.back, j.split ∙ ap (λ l. l ++ j.back) s.2, s.3)
-expression_starts m text a (inr (inr (inr h))) = starts_in_more ConditionalAt begins_operand begins_expression (implied begins_operand begins_expression refl) conditional_starts m text a h
+expression_starts m text a (inl h) =
+    starts_in_more IncludeAt begins_inclusion begins_expression
+    (implied begins_inclusion begins_expression refl) include_starts m text a h
+expression_starts m text a (inr (inl j)) =
+    let s = place_begins m j.front j.value j.one in (s.0, s.1 ++ j.back, j.split ∙ ap (λ l. l ++ j.back) s.2, s.3)
+expression_starts m text a (inr (inr (inl j))) =
+    let s = place_begins m j.front j.value j.one in (s.0, s.1 ++ j.back, j.split ∙ ap (λ l. l ++ j.back) s.2, s.3)
+expression_starts m text a (inr (inr (inr h))) =
+    starts_in_more ConditionalAt begins_operand begins_expression
+    (implied begins_operand begins_expression refl) conditional_starts m text a h
 
 pub whole_under_starts : StartsIn (Under part.Whole) begins_expression
 whole_under_starts zero text a h = absurd h
@@ -64,31 +82,54 @@ whole_under_starts (suc k) text a h = expression_starts k text a h
 -- ---- each such token begins an expression, where a level is left
 
 -- an operand alone
-whole_of : (level : ℕ) (text : List Token) (a : Expression) → OperandRule level (inner level) text a → At part.Whole level text a
+whole_of : (level : ℕ) (text : List Token) (a : Expression) → OperandRule level (inner level) text a
+    → At part.Whole level text a
 whole_of level text a h =
     let l = least_ladder ranks (OperandRule level (inner level)) text a h in
-    let c : CoalesceRule level (inner level) text a = then_nothing (Ladder ranks (OperandRule level (inner level))) (CoalesceRest level (inner level)) text a a l (inr (gives_it a)) in
-    inr (inr (inr (then_nothing (CoalesceRule level (inner level)) (ConditionalRest level (inner level)) text a a c (inr (gives_it a)))))
+    let c : CoalesceRule level (inner level) text a = then_nothing (Ladder ranks (OperandRule level (inner level)))
+    (CoalesceRest level (inner level)) text a a l (inr (gives_it a)) in
+    inr (inr (inr (then_nothing (CoalesceRule level (inner level)) (ConditionalRest level (inner level)) text a a c
+    (inr (gives_it a)))))
 
 -- a primary expression with no index
-primary_of : (level : ℕ) (text : List Token) (a : Expression) → Primary level (inner level) text a → OperandRule level (inner level) text a
+primary_of : (level : ℕ) (text : List Token) (a : Expression) → Primary level (inner level) text a
+    → OperandRule level (inner level) text a
 primary_of level text a h = inr (inr (inr (inr (inr (inr (record {
   front = text;
   back = [];
   value = a;
   split = sym (append-nil text);
   one = h;
-  other = record { front = []; back = []; value = []; split = refl; one = record { count = 0; chain = gives_it [] }; other = gives_it a };
+  other =
+      record {
+        front = [];
+        back = [];
+        value = [];
+        split = refl;
+        one = record
+            { count = 0; chain = gives_it [] };
+        other = gives_it a;
+      };
 }))))))
 
-place_of_name : (level : ℕ) (x : Token) (name : Text) → variable_in x.kind ≡ Some name → PlaceRule level (inner level) (x ∷ []) (place name [])
+place_of_name : (level : ℕ) (x : Token) (name : Text) → variable_in x.kind ≡ Some name
+    → PlaceRule level (inner level) (x ∷ []) (place name [])
 place_of_name level x name e = record {
   front = x ∷ [];
   back = [];
   value = name;
   split = refl;
   one = record { symbol = x; alone = refl; is_worth = e };
-  other = record { front = []; back = []; value = []; split = refl; one = record { count = 0; chain = gives_it [] }; other = gives_it (place name []) };
+  other =
+      record {
+        front = [];
+        back = [];
+        value = [];
+        split = refl;
+        one = record
+            { count = 0; chain = gives_it [] };
+        other = gives_it (place name []);
+      };
 }
 
 -- what begins with this token
@@ -97,16 +138,43 @@ Opened x = (more : List Token) × (a : Expression) × At part.Whole 1 (x ∷ mor
 
 module _ (x : Token) where
   by_variable : (name : Text) → variable_in x.kind ≡ Some name → Opened x
-  by_variable name e = ([], tree.Variable name, whole_of 1 (x ∷ []) (tree.Variable name) (inr (inr (inr (inr (inr (inl (give (PlaceRule 1 (inner 1)) value_of (x ∷ []) (place name []) (place_of_name 1 x name e)))))))))
+  by_variable name e = (
+    [],
+    tree.Variable name,
+    whole_of 1 (x ∷ []) (tree.Variable name)
+        (inr (inr (inr (inr (inr (inl (give (PlaceRule 1 (inner 1)) value_of (x ∷ []) (place name []) (place_of_name 1 x
+        name e)))))))),
+  )
 
   by_number : (a : _) → number_in x.kind ≡ Some a → Opened x
-  by_number a e = ([], tree.Number a, whole_of 1 (x ∷ []) (tree.Number a) (inr (inr (inr (inl (give (One (by_kind number_in)) tree.Number (x ∷ []) a (record { symbol = x; alone = refl; is_worth = e })))))))
+  by_number a e = (
+    [],
+    tree.Number a,
+    whole_of 1 (x ∷ []) (tree.Number a)
+        (inr (inr (inr (inl (give (One (by_kind number_in)) tree.Number (x ∷ []) a (record {
+          symbol = x;
+          alone = refl;
+          is_worth = e;
+        })))))),
+  )
 
   by_text : (a : Text) → text_in x.kind ≡ Some a → Opened x
-  by_text a e = ([], tree.Text a, whole_of 1 (x ∷ []) (tree.Text a) (primary_of 1 (x ∷ []) (tree.Text a) (inl (give (One (by_kind text_in)) tree.Text (x ∷ []) a (record { symbol = x; alone = refl; is_worth = e })))))
+  by_text a e = (
+    [],
+    tree.Text a,
+    whole_of 1 (x
+        ∷ []) (tree.Text a) (primary_of 1 (x ∷ []) (tree.Text a)
+        (inl (give (One (by_kind text_in)) tree.Text (x ∷ []) a (record { symbol = x; alone = refl; is_worth = e })))),
+  )
 
   by_constant : is_some (constant_in (terminal_of x.kind)) ≡ true → Opened x
-  by_constant e = let c = one_of_sort constant_in x e in ([], c.0, whole_of 1 (x ∷ []) c.0 (primary_of 1 (x ∷ []) c.0 (inr (inl c.1))))
+  by_constant e =
+      let c = one_of_sort constant_in x e in (
+        [],
+        c.0,
+        whole_of 1 (x ∷ []) c.0
+            (primary_of 1 (x ∷ []) c.0 (inr (inl c.1))),
+      )
 
   by_prefix : is_some (prefix_in (terminal_of x.kind)) ≡ true → Opened x
   by_prefix e =
@@ -116,7 +184,9 @@ module _ (x : Token) where
         whole_of 1 (x ∷ zero_text) (tree.Unary c.0 zero_tree)
             (inl (record {
               some = omega arith;
-              spelled = behind (One (by_terminal prefix_in)) (λ by. Made (Under part.Alone 1) (tree.Unary by)) (x ∷ []) zero_text c.0 (tree.Unary c.0 zero_tree) c.1
+              spelled =
+                  behind (One (by_terminal prefix_in)) (λ by. Made (Under part.Alone 1) (tree.Unary by))
+                  (x ∷ []) zero_text c.0 (tree.Unary c.0 zero_tree) c.1
                   (give (Under part.Alone 1) (tree.Unary c.0) zero_text zero_tree (least_operand 0 (inner 0)));
             })),
       )
@@ -129,8 +199,12 @@ module _ (x : Token) where
         whole_of 1 (x ∷ variable_text) (tree.Step c.0 StepFirst variable_place)
             (inr (inl (record {
               some = omega arith;
-              spelled = behind (One (by_terminal step_in)) (λ by. Made (PlaceOf ((inner 1).index)) (λ of. tree.Step by StepFirst of)) (x ∷ []) variable_text c.0 (tree.Step c.0 StepFirst variable_place) c.1
-                  (give (PlaceOf ((inner 1).index)) (λ of. tree.Step c.0 StepFirst of) variable_text variable_place (least_place ((inner 1).index)));
+              spelled =
+                  behind (One (by_terminal step_in)) (λ by. Made (PlaceOf ((inner 1).index))
+                  (λ of. tree.Step by StepFirst of)) (x ∷ []) variable_text c.0
+                  (tree.Step c.0 StepFirst variable_place) c.1
+                  (give (PlaceOf ((inner 1).index)) (λ of. tree.Step c.0 StepFirst of) variable_text variable_place
+                  (least_place ((inner 1).index)));
             }))),
       )
 
@@ -141,7 +215,9 @@ module _ (x : Token) where
         tree.Include c.0 zero_tree,
         inl (record {
           some = omega arith;
-          spelled = behind (One (by_terminal inclusion_in)) (λ how. Made (Under part.Whole 1) (tree.Include how)) (x ∷ []) zero_text c.0 (tree.Include c.0 zero_tree) c.1
+          spelled =
+              behind (One (by_terminal inclusion_in)) (λ how. Made (Under part.Whole 1) (tree.Include how))
+              (x ∷ []) zero_text c.0 (tree.Include c.0 zero_tree) c.1
               (give (Under part.Whole 1) (tree.Include c.0) zero_text zero_tree (least_whole 0 (inner 0)));
         }),
       )
@@ -154,14 +230,20 @@ module _ (x : Token) where
         whole_of 1 (x ∷ (zero_token ∷ close)) zero_tree (primary_of 1 (x ∷ (zero_token ∷ close)) zero_tree
             (inr (inr (inl (record {
               some = omega arith;
-              spelled = marked terminal.OpenParenthesis x (Joined (Under part.Whole 1) (λ within. Joined (Mark terminal.CloseParenthesis) (λ _. Gives within))) (zero_token ∷ close) zero_tree e
-                  (behind (Under part.Whole 1) (λ within. Joined (Mark terminal.CloseParenthesis) (λ _. Gives within)) zero_text close zero_tree zero_tree (least_whole 0 (inner 0))
-                  (then_nothing (Mark terminal.CloseParenthesis) (λ _. Gives zero_tree) close 1 zero_tree (mark_alone terminal.CloseParenthesis kind.CloseParenthesis refl) (gives_it zero_tree)));
+              spelled =
+                  marked terminal.OpenParenthesis x (Joined (Under part.Whole 1)
+                  (λ within. Joined (Mark terminal.CloseParenthesis) (λ _. Gives within)))
+                  (zero_token ∷ close) zero_tree e
+                  (behind (Under part.Whole 1) (λ within. Joined (Mark terminal.CloseParenthesis) (λ _. Gives within))
+                  zero_text close zero_tree zero_tree (least_whole 0 (inner 0))
+                  (then_nothing (Mark terminal.CloseParenthesis) (λ _. Gives zero_tree) close 1 zero_tree
+                  (mark_alone terminal.CloseParenthesis kind.CloseParenthesis refl) (gives_it zero_tree)));
             }))))),
       )
 
   -- no items
-  no_items : {A : Type 0} (item : List A → Rule A) (close : Terminal) (k : TokenKind) → same_terminal (terminal_of k) close ≡ true → AnyItems item close (placed k ∷ []) []
+  no_items : {A : Type 0} (item : List A → Rule A) (close : Terminal) (k : TokenKind)
+      → same_terminal (terminal_of k) close ≡ true → AnyItems item close (placed k ∷ []) []
   no_items item close k e = inl (give (Mark close) (λ _. []) (placed k ∷ []) 1 (mark_alone close k e))
 
   by_literal : is terminal.OpenBracket (terminal_of x.kind) ≡ true → Opened x
@@ -174,7 +256,8 @@ module _ (x : Token) where
             (inr (inr (inr (inl (record {
               some = omega arith;
               spelled = marked terminal.OpenBracket x (Made items tree.Array) close (tree.Array []) e
-                  (give items tree.Array close [] (no_items (λ _. ItemAt 1) terminal.CloseBracket kind.CloseBracket refl));
+                  (give items tree.Array close [] (no_items (λ _. ItemAt 1) terminal.CloseBracket kind.CloseBracket
+                  refl));
             })))))),
       )
 
@@ -188,9 +271,12 @@ module _ (x : Token) where
         whole_of 1 (x ∷ (open_ ∷ close)) (tree.Array []) (primary_of 1 (x ∷ (open_ ∷ close)) (tree.Array [])
             (inr (inr (inr (inr (inl (record {
               some = omega arith;
-              spelled = marked terminal.Array x (Joined (Mark terminal.OpenParenthesis) (λ _. Made items tree.Array)) (open_ ∷ close) (tree.Array []) e
+              spelled =
+                  marked terminal.Array x (Joined (Mark terminal.OpenParenthesis) (λ _. Made items tree.Array))
+                  (open_ ∷ close) (tree.Array []) e
                   (marked terminal.OpenParenthesis open_ (Made items tree.Array) close (tree.Array []) refl
-                  (give items tree.Array close [] (no_items (λ _. ItemAt 1) terminal.CloseParenthesis kind.CloseParenthesis refl)));
+                  (give items tree.Array close [] (no_items (λ _. ItemAt 1) terminal.CloseParenthesis
+                  kind.CloseParenthesis refl)));
             }))))))),
       )
 
@@ -204,19 +290,35 @@ module _ (x : Token) where
         whole_of 1 (x ∷ (open_ ∷ close)) (tree.Call name []) (primary_of 1 (x ∷ (open_ ∷ close)) (tree.Call name [])
             (inr (inr (inr (inr (inr (record {
               some = omega arith;
-              spelled = behind (One (by_kind name_in)) (λ name. Joined (Mark terminal.OpenParenthesis) (λ _. Made items (tree.Call name))) (x ∷ []) (open_ ∷ close) name (tree.Call name []) (record { symbol = x; alone = refl; is_worth = e })
+              spelled =
+                  behind (One (by_kind name_in)) (λ name. Joined (Mark terminal.OpenParenthesis)
+                  (λ _. Made items (tree.Call name))) (x ∷ []) (open_ ∷ close) name (tree.Call name [])
+                  (record { symbol = x; alone = refl; is_worth = e })
                   (marked terminal.OpenParenthesis open_ (Made items (tree.Call name)) close (tree.Call name []) refl
-                  (give items (tree.Call name) close [] (no_items (λ _. Under part.Whole 1) terminal.CloseParenthesis kind.CloseParenthesis refl)));
+                  (give items (tree.Call name) close [] (no_items
+                  (λ _. Under part.Whole 1) terminal.CloseParenthesis kind.CloseParenthesis refl)));
             }))))))),
       )
 
-  one_place : SomeItems (λ _. PlaceUnder 1) terminal.CloseParenthesis (placed (kind.Variable variable_name) ∷ (placed kind.CloseParenthesis ∷ [])) (variable_place ∷ [])
+  one_place : SomeItems (λ _. PlaceUnder 1) terminal.CloseParenthesis
+      (placed (kind.Variable variable_name) ∷ (placed kind.CloseParenthesis ∷ [])) (variable_place ∷ [])
   one_place =
       let close = placed kind.CloseParenthesis ∷ [] in
       let end : Rule ℕ = Joined (Perhaps (Mark terminal.Comma)) (λ _. Mark terminal.CloseParenthesis) in
-      behind (PlaceUnder 1) (λ first. Closed (NextItem (λ _. PlaceUnder 1)) (λ all. Made end (λ _. all)) (first ∷ [])) variable_text close variable_place (variable_place ∷ []) (least_place ((inner 1).index))
-      (no_more (NextItem (λ _. PlaceUnder 1)) (λ all. Made end (λ _. all)) (variable_place ∷ []) close (variable_place ∷ [])
-      (give end (λ _. variable_place ∷ []) close 1 (record { front = []; back = close; value = None; split = refl; one = inr (gives_it None); other = mark_alone terminal.CloseParenthesis kind.CloseParenthesis refl })))
+      behind (PlaceUnder 1) (λ first. Closed (NextItem (λ _. PlaceUnder 1)) (λ all. Made end (λ _. all)) (first ∷ []))
+      variable_text close variable_place (variable_place ∷ []) (least_place ((inner 1).index))
+      (no_more (NextItem (λ _. PlaceUnder 1)) (λ all. Made end (λ _. all)) (variable_place ∷ []) close
+      (variable_place ∷ [])
+      (give end (λ _. variable_place
+      ∷ []) close 1 (record {
+        front = [];
+        back = close;
+        value = None;
+        split = refl;
+        one = inr
+            (gives_it None);
+        other = mark_alone terminal.CloseParenthesis kind.CloseParenthesis refl;
+      })))
 
   by_isset : is terminal.Isset (terminal_of x.kind) ≡ true → Opened x
   by_isset e =
@@ -229,17 +331,21 @@ module _ (x : Token) where
         whole_of 1 (x ∷ (open_ ∷ rest)) found
             (inr (inr (inr (inr (inl (record {
               some = omega arith;
-              spelled = marked terminal.Isset x (Joined (Mark terminal.OpenParenthesis) (λ _. Made items tree.Isset)) (open_ ∷ rest) found e
+              spelled =
+                  marked terminal.Isset x (Joined (Mark terminal.OpenParenthesis) (λ _. Made items tree.Isset))
+                  (open_ ∷ rest) found e
                   (marked terminal.OpenParenthesis open_ (Made items tree.Isset) rest found refl
                   (give items tree.Isset rest (variable_place ∷ []) one_place));
             })))))),
       )
 
-  variable_opens : (name : Text) (b : Bool) → is_superglobal name ≡ b → x.kind ≡ kind.Variable name → begins_expression (cond b terminal.Superglobal terminal.Variable) ≡ true → Opened x
+  variable_opens : (name : Text) (b : Bool) → is_superglobal name ≡ b → x.kind ≡ kind.Variable name
+      → begins_expression (cond b terminal.Superglobal terminal.Variable) ≡ true → Opened x
   variable_opens name true is e begins = absurd (cc)
   variable_opens name false is e begins = by_variable name (ap variable_in e ∙ ap (λ b. unless b name) is)
 
-  name_opens : (name : Text) (b : Bool) → is_reserved name ≡ b → x.kind ≡ kind.Name name → begins_expression (cond b terminal.Reserved terminal.Name) ≡ true → Opened x
+  name_opens : (name : Text) (b : Bool) → is_reserved name ≡ b → x.kind ≡ kind.Name name
+      → begins_expression (cond b terminal.Reserved terminal.Name) ≡ true → Opened x
   name_opens name true is e begins = absurd (cc)
   name_opens name false is e begins = by_name name (ap name_in e ∙ ap (λ b. unless b name) is)
 

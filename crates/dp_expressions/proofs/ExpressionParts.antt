@@ -54,7 +54,9 @@ may_read part.Index s = is terminal.OpenBracket s
 
 -- what the reader of the level below answers, if there is one
 abbrev pub Reads : ℕ → (Part → Reader Expression) → Type 0
-Reads level read = (n : ℕ) → level ≡ suc n → (p : Part) (ts : List Token) → may_read p (head ts) ≡ true → Answers ◌≤◌ (At p) (stop_of p) n ts (read p ts)
+Reads level read =
+    (n : ℕ) → level ≡ suc n → (p : Part) (ts : List Token) → may_read p (head ts) ≡ true
+    → Answers ◌≤◌ (At p) (stop_of p) n ts (read p ts)
 
 none_under : (p : Part) (text : List Token) (a : Expression) → Under p 0 text a → ⊥
 none_under part.Whole text a h = h
@@ -74,9 +76,12 @@ down part.Coalesce k text a h = h
 down part.Alone k text a h = h
 down part.Index k text a h = h
 
-pub inner_answers : (level : ℕ) (read : Part → Reader Expression) → Reads level read → 0 < level → (p : Part) (ts : List Token) → may_read p (head ts) ≡ true → Answers ◌≤◌ (Under p) (stop_of p) level ts (read p ts)
+pub inner_answers : (level : ℕ) (read : Part → Reader Expression) → Reads level read → 0 < level
+    → (p : Part) (ts : List Token) → may_read p (head ts) ≡ true
+    → Answers ◌≤◌ (Under p) (stop_of p) level ts (read p ts)
 inner_answers zero read reads some p ts may = absurd (omega arith)
-inner_answers (suc n) read reads some p ts may = under_answers (At p) (Under p) (stop_of p) n ts (none_under p) (down p) (up p) (read p ts) (reads n refl p ts may)
+inner_answers (suc n) read reads some p ts may =
+    under_answers (At p) (Under p) (stop_of p) n ts (none_under p) (down p) (up p) (read p ts) (reads n refl p ts may)
 
 -- what an expression one level down may be, where there is such a level
 pub some_whole_under : (level : ℕ) → 0 < level → Can ◌≤◌ level (Under part.Whole)
@@ -200,38 +205,63 @@ abbrev pub begins_other : Terminal → Bool
 begins_other s = begins_prefix s || begins_behind_step s
 
 pub index_starts : StartsIn IndexAt (is terminal.OpenBracket)
-index_starts m text a h = joined_starts (MarkAt terminal.OpenBracket) (λ _. JoinedAt (Under part.Whole) (λ at. JoinedAt (MarkAt terminal.CloseBracket) (λ _. GivesAt at))) (is terminal.OpenBracket) (mark_starts terminal.OpenBracket) m text a h.spelled
+index_starts m text a h =
+    joined_starts (MarkAt terminal.OpenBracket) (λ _. JoinedAt (Under part.Whole)
+    (λ at. JoinedAt (MarkAt terminal.CloseBracket) (λ _. GivesAt at))) (is terminal.OpenBracket)
+    (mark_starts terminal.OpenBracket) m text a h.spelled
 
 pub index_under_starts : StartsIn (Under part.Index) (is terminal.OpenBracket)
 index_under_starts zero text a h = absurd h
 index_under_starts (suc k) text a h = index_starts k text a h
 
 pub place_starts : StartsIn PlaceAt (is terminal.Variable)
-place_starts = joined_starts (OneAt (by_kind variable_in)) (λ name. MadeAt (ManyAt IndexAt) (place name)) (is terminal.Variable) variable_starts
+place_starts =
+    joined_starts (OneAt (by_kind variable_in)) (λ name. MadeAt (ManyAt IndexAt) (place name))
+    (is terminal.Variable) variable_starts
 
 pub place_under_starts : StartsIn PlaceUnder (is terminal.Variable)
-place_under_starts = joined_starts (OneAt (by_kind variable_in)) (λ name. MadeAt (ManyAt (Under part.Index)) (place name)) (is terminal.Variable) variable_starts
+place_under_starts =
+    joined_starts (OneAt (by_kind variable_in)) (λ name. MadeAt (ManyAt (Under part.Index)) (place name))
+    (is terminal.Variable) variable_starts
 
 pub group_starts : StartsIn GroupAt (is terminal.OpenParenthesis)
-group_starts m text a h = joined_starts (MarkAt terminal.OpenParenthesis) (λ _. JoinedAt (Under part.Whole) (λ within. JoinedAt (MarkAt terminal.CloseParenthesis) (λ _. GivesAt within))) (is terminal.OpenParenthesis) (mark_starts terminal.OpenParenthesis) m text a h.spelled
+group_starts m text a h =
+    joined_starts (MarkAt terminal.OpenParenthesis) (λ _. JoinedAt (Under part.Whole)
+    (λ within. JoinedAt (MarkAt terminal.CloseParenthesis) (λ _. GivesAt within))) (is terminal.OpenParenthesis)
+    (mark_starts terminal.OpenParenthesis) m text a h.spelled
 
 pub literal_starts : StartsIn LiteralAt (is terminal.OpenBracket)
-literal_starts m text a h = joined_starts (MarkAt terminal.OpenBracket) (λ _ m. Made (AnyItems (λ _. ItemAt m) terminal.CloseBracket) tree.Array) (is terminal.OpenBracket) (mark_starts terminal.OpenBracket) m text a h.spelled
+literal_starts m text a h =
+    joined_starts (MarkAt terminal.OpenBracket) (λ _ m. Made (AnyItems (λ _. ItemAt m) terminal.CloseBracket)
+    tree.Array) (is terminal.OpenBracket) (mark_starts terminal.OpenBracket) m text a h.spelled
 
 pub array_call_starts : StartsIn ArrayCallAt (is terminal.Array)
-array_call_starts m text a h = joined_starts (MarkAt terminal.Array) (λ _ m. Joined (Mark terminal.OpenParenthesis) (λ _. Made (AnyItems (λ _. ItemAt m) terminal.CloseParenthesis) tree.Array)) (is terminal.Array) (mark_starts terminal.Array) m text a h.spelled
+array_call_starts m text a h =
+    joined_starts (MarkAt terminal.Array) (λ _ m. Joined (Mark terminal.OpenParenthesis)
+    (λ _. Made (AnyItems (λ _. ItemAt m) terminal.CloseParenthesis) tree.Array)) (is terminal.Array)
+    (mark_starts terminal.Array) m text a h.spelled
 
 pub call_starts : StartsIn CallAt (is terminal.Name)
-call_starts m text a h = joined_starts (OneAt (by_kind name_in)) (λ name m. Joined (Mark terminal.OpenParenthesis) (λ _. Made (AnyItems (λ _. Under part.Whole m) terminal.CloseParenthesis) (tree.Call name))) (is terminal.Name) name_starts m text a h.spelled
+call_starts m text a h =
+    joined_starts (OneAt (by_kind name_in)) (λ name m. Joined (Mark terminal.OpenParenthesis)
+    (λ _. Made (AnyItems (λ _. Under part.Whole m) terminal.CloseParenthesis) (tree.Call name)))
+    (is terminal.Name) name_starts m text a h.spelled
 
 pub isset_starts : StartsIn IssetAt (is terminal.Isset)
-isset_starts m text a h = joined_starts (MarkAt terminal.Isset) (λ _ m. Joined (Mark terminal.OpenParenthesis) (λ _. Made (SomeItems (λ _. PlaceUnder m) terminal.CloseParenthesis) tree.Isset)) (is terminal.Isset) (mark_starts terminal.Isset) m text a h.spelled
+isset_starts m text a h =
+    joined_starts (MarkAt terminal.Isset) (λ _ m. Joined (Mark terminal.OpenParenthesis)
+    (λ _. Made (SomeItems (λ _. PlaceUnder m) terminal.CloseParenthesis) tree.Isset)) (is terminal.Isset)
+    (mark_starts terminal.Isset) m text a h.spelled
 
 pub prefixed_starts : StartsIn PrefixedAt begins_prefix
-prefixed_starts m text a h = joined_starts (OneAt (by_terminal prefix_in)) (λ by. MadeAt (Under part.Alone) (tree.Unary by)) begins_prefix (sort_starts prefix_in) m text a h.spelled
+prefixed_starts m text a h =
+    joined_starts (OneAt (by_terminal prefix_in)) (λ by. MadeAt (Under part.Alone) (tree.Unary by)) begins_prefix
+    (sort_starts prefix_in) m text a h.spelled
 
 pub stepped_first_starts : StartsIn SteppedFirstAt begins_step
-stepped_first_starts m text a h = joined_starts (OneAt (by_terminal step_in)) (λ by m. Made (PlaceUnder m) (λ of. tree.Step by StepFirst of)) begins_step (sort_starts step_in) m text a h.spelled
+stepped_first_starts m text a h =
+    joined_starts (OneAt (by_terminal step_in)) (λ by m. Made (PlaceUnder m) (λ of. tree.Step by StepFirst of))
+    begins_step (sort_starts step_in) m text a h.spelled
 
 pub number_rule_starts : StartsIn NumberAt (is terminal.Number)
 number_rule_starts = made_starts (OneAt (by_kind number_in)) tree.Number (is terminal.Number) number_starts
@@ -243,28 +273,47 @@ pub behind_array_starts : StartsIn (EitherAt ArrayCallAt CallAt) begins_behind_a
 behind_array_starts = or_starts ArrayCallAt CallAt (is terminal.Array) (is terminal.Name) array_call_starts call_starts
 
 pub behind_bracket_starts : StartsIn (EitherAt LiteralAt (EitherAt ArrayCallAt CallAt)) begins_behind_bracket
-behind_bracket_starts = or_starts LiteralAt (EitherAt ArrayCallAt CallAt) (is terminal.OpenBracket) begins_behind_array literal_starts behind_array_starts
+behind_bracket_starts =
+    or_starts LiteralAt (EitherAt ArrayCallAt CallAt) (is terminal.OpenBracket) begins_behind_array literal_starts
+    behind_array_starts
 
-pub behind_group_starts : StartsIn (EitherAt GroupAt (EitherAt LiteralAt (EitherAt ArrayCallAt CallAt))) begins_behind_group
-behind_group_starts = or_starts GroupAt (EitherAt LiteralAt (EitherAt ArrayCallAt CallAt)) (is terminal.OpenParenthesis) begins_behind_bracket group_starts behind_bracket_starts
+pub behind_group_starts : StartsIn (EitherAt GroupAt (EitherAt LiteralAt (EitherAt ArrayCallAt CallAt)))
+    begins_behind_group
+behind_group_starts =
+    or_starts GroupAt (EitherAt LiteralAt (EitherAt ArrayCallAt CallAt))
+    (is terminal.OpenParenthesis) begins_behind_bracket group_starts behind_bracket_starts
 
-pub behind_constant_starts : StartsIn (EitherAt ConstantAt (EitherAt GroupAt (EitherAt LiteralAt (EitherAt ArrayCallAt CallAt)))) begins_behind_constant
-behind_constant_starts = or_starts ConstantAt (EitherAt GroupAt (EitherAt LiteralAt (EitherAt ArrayCallAt CallAt))) begins_constant begins_behind_group (sort_starts constant_in) behind_group_starts
+pub behind_constant_starts : StartsIn (EitherAt ConstantAt (EitherAt GroupAt
+    (EitherAt LiteralAt (EitherAt ArrayCallAt CallAt)))) begins_behind_constant
+behind_constant_starts =
+    or_starts ConstantAt (EitherAt GroupAt (EitherAt LiteralAt (EitherAt ArrayCallAt CallAt))) begins_constant
+    begins_behind_group (sort_starts constant_in) behind_group_starts
 
 pub primary_starts : StartsIn PrimaryAt begins_primary
-primary_starts = or_starts TextAt (EitherAt ConstantAt (EitherAt GroupAt (EitherAt LiteralAt (EitherAt ArrayCallAt CallAt)))) (is terminal.Text) begins_behind_constant text_rule_starts behind_constant_starts
+primary_starts =
+    or_starts TextAt (EitherAt ConstantAt (EitherAt GroupAt (EitherAt LiteralAt (EitherAt ArrayCallAt CallAt))))
+    (is terminal.Text) begins_behind_constant text_rule_starts behind_constant_starts
 
 pub primary_indexed_starts : StartsIn PrimaryIndexedAt begins_primary
-primary_indexed_starts = joined_starts PrimaryAt (λ base. MadeAt (ManyAt IndexAt) (indexed base)) begins_primary primary_starts
+primary_indexed_starts =
+    joined_starts PrimaryAt (λ base. MadeAt (ManyAt IndexAt) (indexed base)) begins_primary primary_starts
 
 pub behind_isset_starts : StartsIn (EitherAt IssetAt PrimaryIndexedAt) begins_behind_isset
-behind_isset_starts = or_starts IssetAt PrimaryIndexedAt (is terminal.Isset) begins_primary isset_starts primary_indexed_starts
+behind_isset_starts =
+    or_starts IssetAt PrimaryIndexedAt (is terminal.Isset) begins_primary isset_starts primary_indexed_starts
 
 pub behind_number_starts : StartsIn (EitherAt NumberAt (EitherAt IssetAt PrimaryIndexedAt)) begins_behind_number
-behind_number_starts = or_starts NumberAt (EitherAt IssetAt PrimaryIndexedAt) (is terminal.Number) begins_behind_isset number_rule_starts behind_isset_starts
+behind_number_starts =
+    or_starts NumberAt (EitherAt IssetAt PrimaryIndexedAt) (is terminal.Number) begins_behind_isset number_rule_starts
+    behind_isset_starts
 
-pub behind_step_starts : StartsIn (EitherAt SteppedFirstAt (EitherAt NumberAt (EitherAt IssetAt PrimaryIndexedAt))) begins_behind_step
-behind_step_starts = or_starts SteppedFirstAt (EitherAt NumberAt (EitherAt IssetAt PrimaryIndexedAt)) begins_step begins_behind_number stepped_first_starts behind_number_starts
+pub behind_step_starts : StartsIn (EitherAt SteppedFirstAt (EitherAt NumberAt (EitherAt IssetAt PrimaryIndexedAt)))
+    begins_behind_step
+behind_step_starts =
+    or_starts SteppedFirstAt (EitherAt NumberAt (EitherAt IssetAt PrimaryIndexedAt)) begins_step begins_behind_number
+    stepped_first_starts behind_number_starts
 
 pub other_starts : StartsIn OtherAt begins_other
-other_starts = or_starts PrefixedAt (EitherAt SteppedFirstAt (EitherAt NumberAt (EitherAt IssetAt PrimaryIndexedAt))) begins_prefix begins_behind_step prefixed_starts behind_step_starts
+other_starts =
+    or_starts PrefixedAt (EitherAt SteppedFirstAt (EitherAt NumberAt (EitherAt IssetAt PrimaryIndexedAt))) begins_prefix
+    begins_behind_step prefixed_starts behind_step_starts

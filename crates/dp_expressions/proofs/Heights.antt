@@ -62,9 +62,12 @@ looser_less g h bound s is = let less : h < height s = ltb-true h (height s) is 
 
 -- the operators of a rank are at its height
 pub rank_operators : (r : Rank) (s : Terminal) → is_some (operator_in r s) ≡ true → height s ≡ rank_height r
-rank_operators r s is = eqb-true (height s) (rank_height r) (implied (λ s. is_some (operator_in r s)) (λ s. nat_eq (height s) (rank_height r)) (all r) s is)
+rank_operators r s is =
+    eqb-true (height s) (rank_height r) (implied (λ s. is_some (operator_in r s))
+    (λ s. nat_eq (height s) (rank_height r)) (all r) s is)
   where
-    all : (r : Rank) → list_all (λ s. not (is_some (operator_in r s)) || nat_eq (height s) (rank_height r)) all_terminals ≡ true
+    all : (r : Rank) → list_all (λ s. not (is_some (operator_in r s)) || nat_eq (height s) (rank_height r))
+        all_terminals ≡ true
     all rank.Product = refl
     all rank.Sum = refl
     all rank.Concatenation = refl

@@ -37,19 +37,36 @@ abbrev pub index_text : List Token
 index_text = placed kind.OpenBracket ∷ (zero_token ∷ (placed kind.CloseBracket ∷ []))
 
 -- a spelling behind which nothing is spelled
-pub then_nothing : {A B : Type 0} (first : Rule A) (second : A → Rule B) (text : List Token) (a : A) (b : B) → first text a → second a [] b → Joined first second text b
-then_nothing first second text a b one other = record { front = text; back = []; value = a; split = sym (append-nil text); one = one; other = other }
+pub then_nothing : {A B : Type 0} (first : Rule A) (second : A → Rule B) (text : List Token) (a : A) (b : B)
+    → first text a → second a [] b → Joined first second text b
+then_nothing first second text a b one other =
+    record { front = text; back = []; value = a; split = sym (append-nil text); one = one; other = other }
 
-pub no_more : {A B : Type 0} (piece : A → Rule A) (end : A → Rule B) (a : A) (text : List Token) (b : B) → end a text b → Closed piece end a text b
+pub no_more : {A B : Type 0} (piece : A → Rule A) (end : A → Rule B) (a : A) (text : List Token) (b : B) → end a text b
+    → Closed piece end a text b
 no_more piece end a text b h = record { count = 0; chain = h }
 
 pub gives_it : {A : Type 0} (a : A) → Gives a [] a
 gives_it a = record { empty = refl; same = refl }
 
 pub least_operand : (level : ℕ) (i : Inner) → OperandRule level i zero_text zero_tree
-least_operand level i = inr (inr (inr (inl (record { front = zero_text; back = []; value = pos 0; split = refl; one = record { symbol = zero_token; alone = refl; is_worth = refl }; other = gives_it zero_tree }))))
+least_operand level i =
+    inr (inr (inr (inl (record {
+      front = zero_text;
+      back = [];
+      value = pos 0;
+      split = refl;
+      one = record {
+        symbol =
+            zero_token;
+        alone = refl;
+        is_worth = refl;
+      };
+      other = gives_it zero_tree;
+    }))))
 
-pub least_ladder : (rs : List Rank) (operand : Rule Expression) (text : List Token) (e : Expression) → operand text e → Ladder rs operand text e
+pub least_ladder : (rs : List Rank) (operand : Rule Expression) (text : List Token) (e : Expression) → operand text e
+    → Ladder rs operand text e
 least_ladder [] operand text e h = h
 least_ladder (r ∷ rs) operand text e h = record {
   front = text;
@@ -57,14 +74,41 @@ least_ladder (r ∷ rs) operand text e h = record {
   value = e;
   split = sym (append-nil text);
   one = least_ladder rs operand text e h;
-  other = record { front = []; back = []; value = []; split = refl; one = record { count = 0; chain = gives_it [] }; other = gives_it e };
+  other =
+      record {
+        front = [];
+        back = [];
+        value = [];
+        split = refl;
+        one = record
+            { count = 0; chain = gives_it [] };
+        other = gives_it e;
+      };
 }
 
 pub least_coalesce : (level : ℕ) (i : Inner) → CoalesceRule level i zero_text zero_tree
-least_coalesce level i = record { front = zero_text; back = []; value = zero_tree; split = refl; one = least_ladder ranks (OperandRule level i) zero_text zero_tree (least_operand level i); other = inr (gives_it zero_tree) }
+least_coalesce level i =
+    record {
+      front = zero_text;
+      back = [];
+      value = zero_tree;
+      split = refl;
+      one = least_ladder ranks
+          (OperandRule level i) zero_text zero_tree (least_operand level i);
+      other = inr (gives_it zero_tree);
+    }
 
 pub least_conditional : (level : ℕ) (i : Inner) → ConditionalRule level i zero_text zero_tree
-least_conditional level i = record { front = zero_text; back = []; value = zero_tree; split = refl; one = least_coalesce level i; other = inr (gives_it zero_tree) }
+least_conditional level i =
+    record {
+      front = zero_text;
+      back = [];
+      value = zero_tree;
+      split = refl;
+      one = least_coalesce level i;
+      other = inr
+          (gives_it zero_tree);
+    }
 
 pub least_whole : (level : ℕ) (i : Inner) → ExpressionRule level i zero_text zero_tree
 least_whole level i = inr (inr (inr (least_conditional level i)))
@@ -76,11 +120,21 @@ least_place index = record {
   value = variable_name;
   split = refl;
   one = record { symbol = placed (kind.Variable variable_name); alone = refl; is_worth = refl };
-  other = record { front = []; back = []; value = []; split = refl; one = record { count = 0; chain = gives_it [] }; other = gives_it variable_place };
+  other =
+      record {
+        front = [];
+        back = [];
+        value = [];
+        split = refl;
+        one = record
+            { count = 0; chain = gives_it [] };
+        other = gives_it variable_place;
+      };
 }
 
 -- an index where its expression is spelled `0` and a level is left
-pub least_index : (level : ℕ) (i : Inner) → 0 < level → i.expression zero_text zero_tree → Index level i index_text zero_tree
+pub least_index : (level : ℕ) (i : Inner) → 0 < level → i.expression zero_text zero_tree
+    → Index level i index_text zero_tree
 least_index level i some h = record {
   some = some;
   spelled = record {
@@ -95,7 +149,17 @@ least_index level i some h = record {
       value = zero_tree;
       split = refl;
       one = h;
-      other = record { front = placed kind.CloseBracket ∷ []; back = []; value = 1; split = refl; one = mark_alone terminal.CloseBracket kind.CloseBracket refl; other = gives_it zero_tree };
+      other =
+          record {
+            front = placed kind.CloseBracket
+                ∷ [];
+            back = [];
+            value = 1;
+            split = refl;
+            one = mark_alone terminal.CloseBracket kind.CloseBracket refl;
+            other
+                = gives_it zero_tree;
+          };
     };
   };
 }

@@ -82,114 +82,224 @@ module _ (name : Text) (found : List Expression) (m : ℕ) where
       go (inl h) =
           let j = n.spelled in
           let g = given (Mark terminal.CloseBracket) (λ _. Break (opened.Push p)) j.back v h in
-          let empty : EmptyIndex m text g.0 = record { some = n.some; spelled = record { front = j.front; back = j.back; value = j.value; split = j.split; one = j.one; other = g.1 } } in
-          subst (λ x. TurnAt name found m text x) (sym g.2) (inl (give (EndAt name found m) Break text (opened.Push p) (inl (give (EmptyIndex m) (λ _. opened.Push p) text g.0 empty))))
+          let empty : EmptyIndex m text g.0 = record {
+            some = n.some;
+            spelled = record
+                { front = j.front; back = j.back; value = j.value; split = j.split; one = j.one; other = g.1 };
+          } in
+          subst (λ x. TurnAt name found m text x) (sym g.2) (inl
+          (give (EndAt name found m) Break text (opened.Push p)
+          (inl (give (EmptyIndex m) (λ _. opened.Push p) text g.0 empty))))
       go (inr h) =
           let j = n.spelled in
           let g = given (ExpressionEndAt m) (λ at. Continue (one_index found at)) j.back v h in
-          let index : IndexAt m text g.0 = record { some = n.some; spelled = record { front = j.front; back = j.back; value = j.value; split = j.split; one = j.one; other = g.1 } } in
-          subst (λ x. TurnAt name found m text x) (sym g.2) (inr (give (PieceAt found m) Continue text (one_index found g.0) (give (IndexAt m) (one_index found) text g.0 index)))
+          let index : IndexAt m text g.0 = record {
+            some = n.some;
+            spelled = record
+                { front = j.front; back = j.back; value = j.value; split = j.split; one = j.one; other = g.1 };
+          } in
+          subst (λ x. TurnAt name found m text x) (sym g.2) (inr
+          (give (PieceAt found m) Continue text (one_index found g.0)
+          (give (IndexAt m) (one_index found) text g.0 index)))
   to_turn text v (inr h) =
       let g = given (StepLast p) Break text v h in
       subst (λ x. TurnAt name found m text x) (sym g.2) (inl (give (EndAt name found m) Break text g.0 (inr g.1)))
 
-  push_bracket : (text : List Token) (n : ℕ) → EmptyIndex m text n → FactoredAt name found m text (Break (opened.Push p))
+  push_bracket : (text : List Token) (n : ℕ) → EmptyIndex m text n
+      → FactoredAt name found m text (Break (opened.Push p))
   push_bracket text n h =
       let j = h.spelled in
-      inl (record { some = h.some; spelled = record { front = j.front; back = j.back; value = j.value; split = j.split; one = j.one; other = inl (give (Mark terminal.CloseBracket) (λ _. Break (opened.Push p)) j.back n j.other) } })
+      inl (record {
+        some = h.some;
+        spelled = record {
+          front = j.front;
+          back = j.back;
+          value = j.value;
+          split = j.split;
+          one = j.one;
+          other = inl (give (Mark terminal.CloseBracket) (λ _. Break (opened.Push p)) j.back n j.other);
+        };
+      })
 
-  index_bracket : (text : List Token) (at : Expression) → IndexAt m text at → FactoredAt name found m text (Continue (one_index found at))
+  index_bracket : (text : List Token) (at : Expression) → IndexAt m text at
+      → FactoredAt name found m text (Continue (one_index found at))
   index_bracket text at h =
       let j = h.spelled in
-      inl (record { some = h.some; spelled = record { front = j.front; back = j.back; value = j.value; split = j.split; one = j.one; other = inr (give (ExpressionEndAt m) (λ at. Continue (one_index found at)) j.back at j.other) } })
+      inl (record {
+        some = h.some;
+        spelled = record {
+          front = j.front;
+          back = j.back;
+          value = j.value;
+          split = j.split;
+          one = j.one;
+          other = inr (give (ExpressionEndAt m) (λ at. Continue (one_index found at)) j.back at j.other);
+        };
+      })
 
   from_turn : (text : List Token) (v : Turn) → TurnAt name found m text v → FactoredAt name found m text v
-  from_turn text v (inl h) = let g = given (EndAt name found m) Break text v h in subst (λ x. FactoredAt name found m text x) (sym g.2) (go g.0 g.1)
+  from_turn text v (inl h) =
+      let g = given (EndAt name found m) Break text v h in subst (λ x. FactoredAt name found m text x) (sym g.2)
+      (go g.0 g.1)
     where
       go : (w : Operand) → EndAt name found m text w → FactoredAt name found m text (Break w)
-      go w (inl e) = let k = given (EmptyIndex m) (λ _. opened.Push p) text w e in subst (λ x. FactoredAt name found m text (Break x)) (sym k.2) (push_bracket text k.0 k.1)
+      go w (inl e) =
+          let k = given (EmptyIndex m) (λ _. opened.Push p) text w e in subst
+          (λ x. FactoredAt name found m text (Break x)) (sym k.2) (push_bracket text k.0 k.1)
       go w (inr s) = inr (give (StepLast p) Break text w s)
   from_turn text v (inr h) =
       let g = given (PieceAt found m) Continue text v h in
       let k = given (IndexAt m) (one_index found) text g.0 g.1 in
-      subst (λ x. FactoredAt name found m text x) (sym g.2) (subst (λ x. FactoredAt name found m text (Continue x)) (sym k.2) (index_bracket text k.0 k.1))
+      subst (λ x. FactoredAt name found m text x) (sym g.2) (subst (λ x. FactoredAt name found m text (Continue x))
+      (sym k.2) (index_bracket text k.0 k.1))
 
 abbrev turn_stop : Turn → Terminal → Bool
 turn_stop = step_stop Anything operand_stop
 
 module _ (level : ℕ) (read : Part → Reader Expression) (reads : Reads level read) where
   more_starts : (found : List Expression) → StartsIn (MoreAt found) begins_expression
-  more_starts found = made_starts ExpressionEndAt (λ at. Continue (one_index found at)) begins_expression (joined_starts (Under part.Whole) (λ at. MadeAt (MarkAt terminal.CloseBracket) (λ _. at)) begins_expression whole_under_starts)
+  more_starts found =
+      made_starts ExpressionEndAt (λ at. Continue (one_index found at)) begins_expression
+      (joined_starts (Under part.Whole) (λ at. MadeAt (MarkAt terminal.CloseBracket) (λ _. at)) begins_expression
+      whole_under_starts)
 
   push_end_starts : (q : Place) → StartsIn (PushEndAt q) (is terminal.CloseBracket)
-  push_end_starts q = made_starts (MarkAt terminal.CloseBracket) (λ _. Break (opened.Push q)) (is terminal.CloseBracket) (mark_starts terminal.CloseBracket)
+  push_end_starts q =
+      made_starts (MarkAt terminal.CloseBracket) (λ _. Break (opened.Push q)) (is terminal.CloseBracket)
+      (mark_starts terminal.CloseBracket)
 
-  expression_end_answers : 0 < level → (ts : List Token) → Answers ◌≤◌ ExpressionEndAt Anything level ts ((read part.Whole >>= (λ at. mark terminal.CloseBracket >> gives at)) ts)
-  expression_end_answers some = then_mark ◌≤◌ level_self (Under part.Whole) terminal.CloseBracket (λ a _. a) (stop_at 12) Anything level (read part.Whole) (λ a. refl) (placed kind.CloseBracket) refl
+  expression_end_answers : 0 < level → (ts : List Token)
+      → Answers ◌≤◌ ExpressionEndAt Anything level ts ((read part.Whole
+      >>= (λ at. mark terminal.CloseBracket >> gives at)) ts)
+  expression_end_answers some =
+      then_mark ◌≤◌ level_self (Under part.Whole) terminal.CloseBracket (λ a _. a) (stop_at 12) Anything level
+      (read part.Whole) (λ a. refl) (placed kind.CloseBracket) refl
       (λ us. inner_answers level read reads some part.Whole us refl)
 
   abbrev behind_reader : Text → List Expression → Reader Turn
   behind_reader name found ts =
-      if is terminal.CloseBracket (head ts) then made (mark terminal.CloseBracket) (λ _. Break (opened.Push (place name found))) ts
-      else made (read part.Whole >>= (λ at. mark terminal.CloseBracket >> gives at)) (λ at. Continue (one_index found at)) ts
+      if is terminal.CloseBracket (head ts)
+      then made (mark terminal.CloseBracket) (λ _. Break (opened.Push (place name found))) ts
+      else made (read part.Whole >>= (λ at. mark terminal.CloseBracket >> gives at))
+      (λ at. Continue (one_index found at)) ts
 
-  behind_answers : 0 < level → (name : Text) (found : List Expression) (ts : List Token) → Answers ◌≤◌ (BehindAt name found) turn_stop level ts (behind_reader name found ts)
-  behind_answers some name found ts = choice_answers (PushEndAt (place name found)) (MoreAt found) (is terminal.CloseBracket) begins_expression turn_stop level ts refl (push_end_starts (place name found)) (more_starts found)
-      (made (mark terminal.CloseBracket) (λ _. Break (opened.Push (place name found))) ts) (made (read part.Whole >>= (λ at. mark terminal.CloseBracket >> gives at)) (λ at. Continue (one_index found at)) ts)
-      (λ _. made_answers ◌≤◌ level_self (MarkAt terminal.CloseBracket) (λ _. Break (opened.Push (place name found))) Anything turn_stop level ts (λ a s e. refl) (mark terminal.CloseBracket ts) (mark_answers ◌≤◌ level_self terminal.CloseBracket Anything level ts))
-      (λ _. made_answers ◌≤◌ level_self ExpressionEndAt (λ at. Continue (one_index found at)) Anything turn_stop level ts (λ a s e. refl) ((read part.Whole >>= (λ at. mark terminal.CloseBracket >> gives at)) ts) (expression_end_answers some ts))
+  behind_answers : 0 < level → (name : Text) (found : List Expression) (ts : List Token)
+      → Answers ◌≤◌ (BehindAt name found) turn_stop level ts (behind_reader name found ts)
+  behind_answers some name found ts =
+      choice_answers (PushEndAt (place name found)) (MoreAt found)
+      (is terminal.CloseBracket) begins_expression turn_stop level ts refl (push_end_starts (place name found))
+      (more_starts found)
+      (made (mark terminal.CloseBracket) (λ _. Break (opened.Push (place name found))) ts)
+      (made (read part.Whole >>= (λ at. mark terminal.CloseBracket >> gives at))
+      (λ at. Continue (one_index found at)) ts)
+      (λ _. made_answers ◌≤◌ level_self (MarkAt terminal.CloseBracket)
+      (λ _. Break (opened.Push (place name found))) Anything turn_stop level ts (λ a s e. refl)
+      (mark terminal.CloseBracket ts) (mark_answers ◌≤◌ level_self terminal.CloseBracket Anything level ts))
+      (λ _. made_answers ◌≤◌ level_self ExpressionEndAt (λ at. Continue (one_index found at)) Anything turn_stop level
+      ts (λ a s e. refl) ((read part.Whole >>= (λ at. mark terminal.CloseBracket >> gives at)) ts)
+      (expression_end_answers some ts))
 
-  some_behind : (name : Text) (found : List Expression) (m : ℕ) → BehindAt name found m (placed kind.CloseBracket ∷ []) (Break (opened.Push (place name found)))
-  some_behind name found m = inl (give (Mark terminal.CloseBracket) (λ _. Break (opened.Push (place name found))) (placed kind.CloseBracket ∷ []) 1 (mark_of terminal.CloseBracket (placed kind.CloseBracket) refl))
+  some_behind : (name : Text) (found : List Expression) (m : ℕ)
+      → BehindAt name found m (placed kind.CloseBracket ∷ []) (Break (opened.Push (place name found)))
+  some_behind name found m =
+      inl (give (Mark terminal.CloseBracket) (λ _. Break (opened.Push (place name found)))
+      (placed kind.CloseBracket ∷ []) 1 (mark_of terminal.CloseBracket (placed kind.CloseBracket) refl))
 
-  index_or_push_answers : (name : Text) (found : List Expression) (ts : List Token) → is terminal.OpenBracket (head ts) ≡ true → Answers ◌≤◌ (BracketAt name found) turn_stop level ts (index_or_push level read name found ts)
+  index_or_push_answers : (name : Text) (found : List Expression) (ts : List Token)
+      → is terminal.OpenBracket (head ts) ≡ true
+      → Answers ◌≤◌ (BracketAt name found) turn_stop level ts (index_or_push level read name found ts)
   unfolding index_or_push
-  index_or_push_answers name found ts here = nested_answers (is terminal.OpenBracket) (JoinedAt (MarkAt terminal.OpenBracket) (λ _. BehindAt name found)) turn_stop level ts (mark terminal.OpenBracket >> behind_reader name found) refl here
-      (λ x e. (placed kind.CloseBracket ∷ [], Break (opened.Push (place name found)), marked terminal.OpenBracket x (BehindAt name found 2) (placed kind.CloseBracket ∷ []) (Break (opened.Push (place name found))) e (some_behind name found 2)))
-      (λ some. mark_then ◌≤◌ level_self terminal.OpenBracket (λ _. BehindAt name found) turn_stop level (λ _. behind_reader name found) (λ m above _. (placed kind.CloseBracket ∷ [], Break (opened.Push (place name found)), some_behind name found m))
+  index_or_push_answers name found ts here =
+      nested_answers (is terminal.OpenBracket) (JoinedAt (MarkAt terminal.OpenBracket) (λ _. BehindAt name found))
+      turn_stop level ts (mark terminal.OpenBracket >> behind_reader name found) refl here
+      (λ x e. (
+        placed kind.CloseBracket
+            ∷ [],
+        Break (opened.Push (place name found)),
+        marked terminal.OpenBracket x (BehindAt name found 2)
+            (placed kind.CloseBracket ∷ []) (Break (opened.Push (place name found))) e (some_behind name found 2),
+      ))
+      (λ some. mark_then ◌≤◌ level_self terminal.OpenBracket (λ _. BehindAt name found) turn_stop level
+      (λ _. behind_reader name found) (λ m above _. (
+        placed kind.CloseBracket
+            ∷ [],
+        Break (opened.Push (place name found)),
+        some_behind name found m,
+      ))
       (λ _. behind_answers some name found) ts)
 
   bracket_starts : (name : Text) (found : List Expression) → StartsIn (BracketAt name found) (is terminal.OpenBracket)
-  bracket_starts name found = nests_starts (λ m. m) (JoinedAt (MarkAt terminal.OpenBracket) (λ _. BehindAt name found)) (is terminal.OpenBracket) (joined_starts (MarkAt terminal.OpenBracket) (λ _. BehindAt name found) (is terminal.OpenBracket) (mark_starts terminal.OpenBracket))
+  bracket_starts name found =
+      nests_starts (λ m. m) (JoinedAt (MarkAt terminal.OpenBracket) (λ _. BehindAt name found))
+      (is terminal.OpenBracket) (joined_starts (MarkAt terminal.OpenBracket) (λ _. BehindAt name found)
+      (is terminal.OpenBracket) (mark_starts terminal.OpenBracket))
 
   step_last_apart : (q : Place) → Apart {L = ℕ} (λ _. StepLast q) operand_stop (is terminal.OpenBracket)
-  step_last_apart q = either_apart (MadeAt (OneAt (by_terminal step_in)) (stepped q)) (GivesAt (opened.Place q)) operand_stop (is terminal.OpenBracket)
-      (starts_apart (MadeAt (OneAt (by_terminal step_in)) (stepped q)) operand_stop (is terminal.OpenBracket) begins_step (excluded begins_step (is terminal.OpenBracket) refl) (made_starts (OneAt (by_terminal step_in)) (stepped q) begins_step (sort_starts step_in)))
-      (gives_apart (opened.Place q) operand_stop (is terminal.OpenBracket) (excluded (looser 2) (is terminal.OpenBracket) refl))
+  step_last_apart q =
+      either_apart (MadeAt (OneAt (by_terminal step_in)) (stepped q)) (GivesAt (opened.Place q)) operand_stop
+      (is terminal.OpenBracket)
+      (starts_apart (MadeAt (OneAt (by_terminal step_in)) (stepped q)) operand_stop
+      (is terminal.OpenBracket) begins_step (excluded begins_step (is terminal.OpenBracket) refl)
+      (made_starts (OneAt (by_terminal step_in)) (stepped q) begins_step (sort_starts step_in)))
+      (gives_apart (opened.Place q) operand_stop (is terminal.OpenBracket)
+      (excluded (looser 2) (is terminal.OpenBracket) refl))
 
-  turn_answers : (name : Text) (found : List Expression) (ts : List Token) → Answers ◌≤◌ (TurnAt name found) turn_stop level ts (opening_step level read name found ts)
-  turn_answers name found ts = equal_answers ◌≤◌ level_self (FactoredAt name found) (TurnAt name found) turn_stop level ts (to_turn name found) (from_turn name found) (opening_step level read name found ts)
-      (either_answers ◌≤◌ level_self (BracketAt name found) (MadeAt (λ _. StepLast (place name found)) Break) (is terminal.OpenBracket) turn_stop level ts (bracket_starts name found)
-      (made_apart (λ _. StepLast (place name found)) Break operand_stop turn_stop (is terminal.OpenBracket) (λ x s e. e) (step_last_apart (place name found)))
+  turn_answers : (name : Text) (found : List Expression) (ts : List Token)
+      → Answers ◌≤◌ (TurnAt name found) turn_stop level ts (opening_step level read name found ts)
+  turn_answers name found ts =
+      equal_answers ◌≤◌ level_self (FactoredAt name found) (TurnAt name found) turn_stop level ts (to_turn name found)
+      (from_turn name found) (opening_step level read name found ts)
+      (either_answers ◌≤◌ level_self (BracketAt name found) (MadeAt (λ _. StepLast (place name found)) Break)
+      (is terminal.OpenBracket) turn_stop level ts (bracket_starts name found)
+      (made_apart (λ _. StepLast (place name found)) Break operand_stop turn_stop (is terminal.OpenBracket) (λ x s e. e)
+      (step_last_apart (place name found)))
       (index_or_push level read name found ts) (made (step_last level read (place name found)) Break ts)
       (index_or_push_answers name found ts)
-      (λ _. made_answers ◌≤◌ level_self (λ _. StepLast (place name found)) Break operand_stop turn_stop level ts (λ x s e. e) (step_last level read (place name found) ts) (step_last_answers level read reads (place name found) ts)))
+      (λ _. made_answers ◌≤◌ level_self (λ _. StepLast (place name found)) Break operand_stop turn_stop level ts
+      (λ x s e. e) (step_last level read (place name found) ts)
+      (step_last_answers level read reads (place name found) ts)))
 
   -- ---- the first operand
 
   abbrev OpeningPlaceAt : Rules ℕ Operand
   OpeningPlaceAt m = OpeningPlace m (inner m)
 
-  end_goes_on : (name : Text) (m : ℕ) → level ≤ m → (found : List Expression) → (ts : List Token) × (v : Operand) × EndAt name found m ts v
-  end_goes_on name m above found = ([], opened.Place (place name found), inr (inr (gives_it (opened.Place (place name found)))))
+  end_goes_on : (name : Text) (m : ℕ) → level ≤ m → (found : List Expression)
+      → (ts : List Token) × (v : Operand) × EndAt name found m ts v
+  end_goes_on name m above found =
+      ([], opened.Place (place name found), inr (inr (gives_it (opened.Place (place name found)))))
 
-  opening_place_answers : (ts : List Token) → Answers ◌≤◌ OpeningPlaceAt operand_stop level ts (opening_place level read ts)
+  opening_place_answers : (ts : List Token)
+      → Answers ◌≤◌ OpeningPlaceAt operand_stop level ts (opening_place level read ts)
   unfolding opening_place variable
-  opening_place_answers ts = one_then (by_kind variable_in) (λ name. ClosedAt PieceAt (EndAt name) []) operand_stop level ts (λ name. closed (opening_step level read name) [])
-      (λ m above name. let e = end_goes_on name m above [] in (e.0, e.1, closed_now PieceAt (EndAt name) m [] e.0 e.1 e.2))
+  opening_place_answers ts =
+      one_then (by_kind variable_in) (λ name. ClosedAt PieceAt (EndAt name) []) operand_stop level ts
+      (λ name. closed (opening_step level read name) [])
+      (λ m above name. let e = end_goes_on name m above [] in
+      (e.0, e.1, closed_now PieceAt (EndAt name) m [] e.0 e.1 e.2))
       (λ name us. closed_answers ◌≤◌ level_self PieceAt (EndAt name) Anything operand_stop level
-      (λ found. starts_in_more (PieceAt found) (is terminal.OpenBracket) (λ s. true) (λ s e. refl) (made_starts IndexAt (one_index found) (is terminal.OpenBracket) index_starts))
-      (anything_follows (EndAt name) operand_stop) (end_goes_on name) (opening_step level read name) (turn_answers name) [] us)
+      (λ found. starts_in_more (PieceAt found) (is terminal.OpenBracket) (λ s. true) (λ s e. refl)
+      (made_starts IndexAt (one_index found) (is terminal.OpenBracket) index_starts))
+      (anything_follows (EndAt name) operand_stop) (end_goes_on name) (opening_step level read name) (turn_answers name)
+      [] us)
 
   opening_place_starts : StartsIn OpeningPlaceAt (is terminal.Variable)
-  opening_place_starts = joined_starts (OneAt (by_kind variable_in)) (λ name. ClosedAt PieceAt (EndAt name) []) (is terminal.Variable) variable_starts
+  opening_place_starts =
+      joined_starts (OneAt (by_kind variable_in)) (λ name. ClosedAt PieceAt (EndAt name) [])
+      (is terminal.Variable) variable_starts
 
   pub opening_starts : StartsIn OpeningAt (λ s. is terminal.Variable s || begins_other s)
-  opening_starts = or_starts OpeningPlaceAt (MadeAt OtherAt opened.Other) (is terminal.Variable) begins_other opening_place_starts (made_starts OtherAt opened.Other begins_other other_starts)
+  opening_starts =
+      or_starts OpeningPlaceAt (MadeAt OtherAt opened.Other) (is terminal.Variable) begins_other opening_place_starts
+      (made_starts OtherAt opened.Other begins_other other_starts)
 
   pub opening_answers : (ts : List Token) → Answers ◌≤◌ OpeningAt operand_stop level ts (opening level read ts)
   unfolding opening
-  opening_answers ts = choice_answers OpeningPlaceAt (MadeAt OtherAt opened.Other) (is terminal.Variable) begins_other operand_stop level ts refl opening_place_starts (made_starts OtherAt opened.Other begins_other other_starts)
+  opening_answers ts =
+      choice_answers OpeningPlaceAt (MadeAt OtherAt opened.Other)
+      (is terminal.Variable) begins_other operand_stop level ts refl opening_place_starts
+      (made_starts OtherAt opened.Other begins_other other_starts)
       (opening_place level read ts) (made (other level read) opened.Other ts)
       (λ _. opening_place_answers ts)
-      (λ _. made_answers ◌≤◌ level_self OtherAt opened.Other (stop_at 2) operand_stop level ts (λ a s e. e) (other level read ts) (other_answers level read reads ts))
+      (λ _. made_answers ◌≤◌ level_self OtherAt opened.Other (stop_at 2) operand_stop level ts (λ a s e. e)
+      (other level read ts) (other_answers level read reads ts))

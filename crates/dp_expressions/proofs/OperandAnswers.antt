@@ -38,30 +38,45 @@ use Rattle.dp_rules.specs.TokenValues.{Text, variable_in, name_in, number_in, te
 -- ---- places
 
 -- indices, before what is no further one
-module _ (rule : Rules ℕ Expression) (reader : Reader Expression) (level : ℕ) (starts : StartsIn rule (is terminal.OpenBracket))
-    (reads : (ts : List Token) → is terminal.OpenBracket (head ts) ≡ true → Answers ◌≤◌ rule Anything level ts (reader ts)) where
-  pub indices_read : (h : ℕ) → ((s : Terminal) → looser h s ≡ true → is terminal.OpenBracket s ≡ false) → (ts : List Token) → Answers ◌≤◌ (ManyAt rule) (stop_at h) level ts (many (is terminal.OpenBracket) reader ts)
-  indices_read h apart ts = many_answers rule ◌≤◌ level_self (is terminal.OpenBracket) Anything (stop_at h) level reader starts (λ a s e. refl) (λ all a s e. refl) (λ all s e. apart s e) reads ts
+module _ (rule : Rules ℕ Expression) (reader : Reader Expression) (level : ℕ)
+    (starts : StartsIn rule (is terminal.OpenBracket))
+    (reads : (ts : List Token) → is terminal.OpenBracket (head ts) ≡ true
+    → Answers ◌≤◌ rule Anything level ts (reader ts)) where
+  pub indices_read : (h : ℕ) → ((s : Terminal) → looser h s ≡ true → is terminal.OpenBracket s ≡ false)
+      → (ts : List Token) → Answers ◌≤◌ (ManyAt rule) (stop_at h) level ts (many (is terminal.OpenBracket) reader ts)
+  indices_read h apart ts =
+      many_answers rule ◌≤◌ level_self (is terminal.OpenBracket) Anything (stop_at h) level reader starts
+      (λ a s e. refl) (λ all a s e. refl) (λ all s e. apart s e) reads ts
 
-  pub place_read : (ts : List Token) → Answers ◌≤◌ (λ m. PlaceOf (rule m)) (stop_at 1) level ts ((variable >>= (λ name. many (is terminal.OpenBracket) reader >>= (λ found. gives (place name found)))) ts)
+  pub place_read : (ts : List Token)
+      → Answers ◌≤◌ (λ m. PlaceOf (rule m)) (stop_at 1) level ts
+      ((variable >>= (λ name. many (is terminal.OpenBracket) reader >>= (λ found. gives (place name found)))) ts)
   unfolding variable
-  place_read ts = one_then (by_kind variable_in) (λ name. MadeAt (ManyAt rule) (place name)) (stop_at 1) level ts (λ name. many (is terminal.OpenBracket) reader >>= (λ found. gives (place name found)))
+  place_read ts =
+      one_then (by_kind variable_in) (λ name. MadeAt (ManyAt rule) (place name)) (stop_at 1) level ts
+      (λ name. many (is terminal.OpenBracket) reader >>= (λ found. gives (place name found)))
       (λ m above name. ([], place name [], give (Many (rule m)) (place name) [] [] (many_none rule m)))
-      (λ name us. made_answers ◌≤◌ level_self (ManyAt rule) (place name) (stop_at 1) (stop_at 1) level us (λ a s e. e) (many (is terminal.OpenBracket) reader us)
+      (λ name us. made_answers ◌≤◌ level_self (ManyAt rule) (place name) (stop_at 1) (stop_at 1) level us (λ a s e. e)
+      (many (is terminal.OpenBracket) reader us)
       (indices_read 1 (excluded (looser 1) (is terminal.OpenBracket) refl) us))
 
 -- ---- an expression between two tokens
 
 abbrev pub EnclosedAt : Terminal → Terminal → Rules ℕ Expression
-EnclosedAt before after = JoinedAt (MarkAt before) (λ _. JoinedAt (Under part.Whole) (λ e. JoinedAt (MarkAt after) (λ _. GivesAt e)))
+EnclosedAt before after =
+    JoinedAt (MarkAt before) (λ _. JoinedAt (Under part.Whole) (λ e. JoinedAt (MarkAt after) (λ _. GivesAt e)))
 
-pub enclosed_opens : (before after : Terminal) (k : TokenKind) → same_terminal (terminal_of k) after ≡ true → (x : Token) → is before (terminal_of x.kind) ≡ true → (more : List Token) × (a : Expression) × EnclosedAt before after 2 (x ∷ more) a
+pub enclosed_opens : (before after : Terminal) (k : TokenKind) → same_terminal (terminal_of k) after ≡ true
+    → (x : Token) → is before (terminal_of x.kind) ≡ true
+    → (more : List Token) × (a : Expression) × EnclosedAt before after 2 (x ∷ more) a
 enclosed_opens before after k e x is_before =
     let end = placed k ∷ [] in (
       zero_token ∷ end,
       zero_tree,
-      marked before x (Joined (Under part.Whole 2) (λ e. Made (Mark after) (λ _. e))) (zero_token ∷ end) zero_tree is_before
-          (behind (Under part.Whole 2) (λ e. Made (Mark after) (λ _. e)) zero_text end zero_tree zero_tree (least_whole 1 (inner 1)) (give (Mark after) (λ _. zero_tree) end 1 (mark_of after (placed k) e))),
+      marked before x (Joined (Under part.Whole 2) (λ e. Made (Mark after) (λ _. e)))
+          (zero_token ∷ end) zero_tree is_before
+          (behind (Under part.Whole 2) (λ e. Made (Mark after) (λ _. e)) zero_text end zero_tree zero_tree
+          (least_whole 1 (inner 1)) (give (Mark after) (λ _. zero_tree) end 1 (mark_of after (placed k) e))),
     )
 
 -- where an item may end
@@ -69,29 +84,49 @@ abbrev pub item_stop : Item → Terminal → Bool
 item_stop a s = looser 12 s && not (is terminal.Arrow s)
 
 module _ (level : ℕ) (read : Part → Reader Expression) (reads : Reads level read) where
-  whole_reads : 0 < level → (ts : List Token) → Answers ◌≤◌ (Under part.Whole) (stop_at 12) level ts (read part.Whole ts)
+  whole_reads : 0 < level → (ts : List Token)
+      → Answers ◌≤◌ (Under part.Whole) (stop_at 12) level ts (read part.Whole ts)
   whole_reads some ts = inner_answers level read reads some part.Whole ts refl
 
-  enclosed_reads : (before after : Terminal) (k : TokenKind) → same_terminal (terminal_of k) after ≡ true → looser 12 after ≡ true → 0 < level
-      → (ts : List Token) → Answers ◌≤◌ (EnclosedAt before after) Anything level ts ((mark before >> (read part.Whole >>= (λ e. mark after >> gives e))) ts)
-  enclosed_reads before after k e loose some ts = mark_then ◌≤◌ level_self before (λ _. JoinedAt (Under part.Whole) (λ e. MadeAt (MarkAt after) (λ _. e))) Anything level (λ _. read part.Whole >>= (λ e. mark after >> gives e))
-      (λ m above _. let w = some_whole_under level some m above in (w.0 ++ placed k ∷ [], w.1, behind (Under part.Whole m) (λ e. Made (Mark after) (λ _. e)) w.0 (placed k ∷ []) w.1 w.1 w.2 (give (Mark after) (λ _. w.1) (placed k ∷ []) 1 (mark_of after (placed k) e))))
-      (λ _. then_mark ◌≤◌ level_self (Under part.Whole) after (λ a _. a) (stop_at 12) Anything level (read part.Whole) (λ a. loose) (placed k) e (whole_reads some)) ts
+  enclosed_reads : (before after : Terminal) (k : TokenKind) → same_terminal (terminal_of k) after ≡ true
+      → looser 12 after ≡ true → 0 < level
+      → (ts : List Token) → Answers ◌≤◌ (EnclosedAt before after) Anything level ts
+      ((mark before >> (read part.Whole >>= (λ e. mark after >> gives e))) ts)
+  enclosed_reads before after k e loose some ts =
+      mark_then ◌≤◌ level_self before (λ _. JoinedAt (Under part.Whole) (λ e. MadeAt (MarkAt after) (λ _. e))) Anything
+      level (λ _. read part.Whole >>= (λ e. mark after >> gives e))
+      (λ m above _. let w = some_whole_under level some m above in (
+        w.0 ++ placed k ∷ [],
+        w.1,
+        behind (Under part.Whole m) (λ e. Made (Mark after) (λ _. e)) w.0
+            (placed k ∷ []) w.1 w.1 w.2 (give (Mark after) (λ _. w.1) (placed k ∷ []) 1 (mark_of after (placed k) e)),
+      ))
+      (λ _. then_mark ◌≤◌ level_self (Under part.Whole) after (λ a _. a) (stop_at 12) Anything level (read part.Whole)
+      (λ a. loose) (placed k) e (whole_reads some)) ts
 
-  enclosed_answers : (before after : Terminal) (k : TokenKind) → same_terminal (terminal_of k) after ≡ true → looser 12 after ≡ true → is before terminal.End ≡ false → (ts : List Token) → is before (head ts) ≡ true
-      → Answers ◌≤◌ (NestedAt (EnclosedAt before after)) Anything level ts ((enter level >> (mark before >> (read part.Whole >>= (λ e. mark after >> gives e)))) ts)
-  enclosed_answers before after k e loose no_end ts here = nested_answers (is before) (EnclosedAt before after) Anything level ts (mark before >> (read part.Whole >>= (λ e. mark after >> gives e))) no_end here
+  enclosed_answers : (before after : Terminal) (k : TokenKind) → same_terminal (terminal_of k) after ≡ true
+      → looser 12 after ≡ true → is before terminal.End ≡ false → (ts : List Token) → is before (head ts) ≡ true
+      → Answers ◌≤◌ (NestedAt (EnclosedAt before after)) Anything level ts
+      ((enter level >> (mark before >> (read part.Whole >>= (λ e. mark after >> gives e)))) ts)
+  enclosed_answers before after k e loose no_end ts here =
+      nested_answers (is before) (EnclosedAt before after) Anything level ts
+      (mark before >> (read part.Whole >>= (λ e. mark after >> gives e))) no_end here
       (enclosed_opens before after k e) (λ some. enclosed_reads before after k e loose some ts)
 
-  pub index_answers : (ts : List Token) → is terminal.OpenBracket (head ts) ≡ true → Answers ◌≤◌ IndexAt Anything level ts (index level read ts)
+  pub index_answers : (ts : List Token) → is terminal.OpenBracket (head ts) ≡ true
+      → Answers ◌≤◌ IndexAt Anything level ts (index level read ts)
   unfolding index
-  index_answers ts here = enclosed_answers terminal.OpenBracket terminal.CloseBracket kind.CloseBracket refl refl refl ts here
+  index_answers ts here =
+      enclosed_answers terminal.OpenBracket terminal.CloseBracket kind.CloseBracket refl refl refl ts here
 
-  pub group_answers : (ts : List Token) → is terminal.OpenParenthesis (head ts) ≡ true → Answers ◌≤◌ GroupAt Anything level ts (group level read ts)
+  pub group_answers : (ts : List Token) → is terminal.OpenParenthesis (head ts) ≡ true
+      → Answers ◌≤◌ GroupAt Anything level ts (group level read ts)
   unfolding group
-  group_answers ts here = enclosed_answers terminal.OpenParenthesis terminal.CloseParenthesis kind.CloseParenthesis refl refl refl ts here
+  group_answers ts here =
+      enclosed_answers terminal.OpenParenthesis terminal.CloseParenthesis kind.CloseParenthesis refl refl refl ts here
 
-  pub indices_answers : (h : ℕ) → ((s : Terminal) → looser h s ≡ true → is terminal.OpenBracket s ≡ false) → (ts : List Token) → Answers ◌≤◌ (ManyAt IndexAt) (stop_at h) level ts (indices level read ts)
+  pub indices_answers : (h : ℕ) → ((s : Terminal) → looser h s ≡ true → is terminal.OpenBracket s ≡ false)
+      → (ts : List Token) → Answers ◌≤◌ (ManyAt IndexAt) (stop_at h) level ts (indices level read ts)
   unfolding indices
   indices_answers h apart ts = indices_read IndexAt (index level read) level index_starts index_answers h apart ts
 
@@ -99,47 +134,76 @@ module _ (level : ℕ) (read : Part → Reader Expression) (reads : Reads level 
   unfolding place_rule indices
   place_answers ts = place_read IndexAt (index level read) level index_starts index_answers ts
 
-  pub place_below_answers : 0 < level → (ts : List Token) → Answers ◌≤◌ PlaceUnder (stop_at 1) level ts (place_below level read ts)
+  pub place_below_answers : 0 < level → (ts : List Token)
+      → Answers ◌≤◌ PlaceUnder (stop_at 1) level ts (place_below level read ts)
   unfolding place_below
-  place_below_answers some ts = place_read (Under part.Index) (read part.Index) level index_under_starts (λ us here. inner_answers level read reads some part.Index us here) ts
+  place_below_answers some ts =
+      place_read (Under part.Index) (read part.Index) level index_under_starts
+      (λ us here. inner_answers level read reads some part.Index us here) ts
 
   -- ---- items and lists
 
-  arrow_starts : (first : Expression) → StartsIn (MadeAt (JoinedAt (MarkAt terminal.Arrow) (λ _. Under part.Whole)) (λ value. item (Some first) value)) (is terminal.Arrow)
-  arrow_starts first = made_starts (JoinedAt (MarkAt terminal.Arrow) (λ _. Under part.Whole)) (λ value. item (Some first) value) (is terminal.Arrow) (joined_starts (MarkAt terminal.Arrow) (λ _. Under part.Whole) (is terminal.Arrow) (mark_starts terminal.Arrow))
+  arrow_starts : (first : Expression)
+      → StartsIn (MadeAt (JoinedAt (MarkAt terminal.Arrow) (λ _. Under part.Whole)) (λ value. item (Some first) value))
+      (is terminal.Arrow)
+  arrow_starts first =
+      made_starts (JoinedAt (MarkAt terminal.Arrow) (λ _. Under part.Whole)) (λ value. item (Some first) value)
+      (is terminal.Arrow) (joined_starts (MarkAt terminal.Arrow) (λ _. Under part.Whole) (is terminal.Arrow)
+      (mark_starts terminal.Arrow))
 
   abbrev ItemRestAt : Expression → Rules ℕ Item
   ItemRestAt first m = ItemRest m (inner m) first
 
   item_rest_follows : Follows (stop_at 12) ItemRestAt item_stop
-  item_rest_follows = either_follows (stop_at 12) (λ first. MadeAt (JoinedAt (MarkAt terminal.Arrow) (λ _. Under part.Whole)) (λ value. item (Some first) value)) (λ first. GivesAt (item None first)) item_stop
-      (starts_follow (stop_at 12) (λ first. MadeAt (JoinedAt (MarkAt terminal.Arrow) (λ _. Under part.Whole)) (λ value. item (Some first) value)) item_stop (is terminal.Arrow) (λ a s e. mark_passes (looser 12) terminal.Arrow refl s e) arrow_starts)
-      (gives_follow (λ first. item None first) (stop_at 12) item_stop (λ a s e. (and_parts (looser 12 s) (not (is terminal.Arrow s)) e).0))
+  item_rest_follows =
+      either_follows (stop_at 12) (λ first. MadeAt (JoinedAt (MarkAt terminal.Arrow) (λ _. Under part.Whole))
+      (λ value. item (Some first) value)) (λ first. GivesAt (item None first)) item_stop
+      (starts_follow (stop_at 12) (λ first. MadeAt (JoinedAt (MarkAt terminal.Arrow) (λ _. Under part.Whole))
+      (λ value. item (Some first) value)) item_stop (is terminal.Arrow)
+      (λ a s e. mark_passes (looser 12) terminal.Arrow refl s e) arrow_starts)
+      (gives_follow (λ first. item None first) (stop_at 12) item_stop
+      (λ a s e. (and_parts (looser 12 s) (not (is terminal.Arrow s)) e).0))
 
-  item_rest_answers : 0 < level → (first : Expression) (ts : List Token) → Answers ◌≤◌ (ItemRestAt first) item_stop level ts (item_rest level read first ts)
+  item_rest_answers : 0 < level → (first : Expression) (ts : List Token)
+      → Answers ◌≤◌ (ItemRestAt first) item_stop level ts (item_rest level read first ts)
   unfolding item_rest
-  item_rest_answers some first ts = either_answers ◌≤◌ level_self (MadeAt (JoinedAt (MarkAt terminal.Arrow) (λ _. Under part.Whole)) (λ value. item (Some first) value)) (GivesAt (item None first)) (is terminal.Arrow) item_stop level ts
-      (arrow_starts first) (gives_apart (item None first) item_stop (is terminal.Arrow) (λ s e. not_true (is terminal.Arrow s) (and_parts (looser 12 s) (not (is terminal.Arrow s)) e).1))
+  item_rest_answers some first ts =
+      either_answers ◌≤◌ level_self (MadeAt (JoinedAt (MarkAt terminal.Arrow) (λ _. Under part.Whole))
+      (λ value. item (Some first) value)) (GivesAt (item None first)) (is terminal.Arrow) item_stop level ts
+      (arrow_starts first) (gives_apart (item None first) item_stop (is terminal.Arrow)
+      (λ s e. not_true (is terminal.Arrow s) (and_parts (looser 12 s) (not (is terminal.Arrow s)) e).1))
       (made (mark terminal.Arrow >> read part.Whole) (λ value. item (Some first) value) ts) (Ok (item None first, ts))
-      (λ _. made_answers ◌≤◌ level_self (JoinedAt (MarkAt terminal.Arrow) (λ _. Under part.Whole)) (λ value. item (Some first) value) (stop_at 12) item_stop level ts (λ a s e. (and_parts (looser 12 s) (not (is terminal.Arrow s)) e).0)
+      (λ _. made_answers ◌≤◌ level_self (JoinedAt (MarkAt terminal.Arrow) (λ _. Under part.Whole))
+      (λ value. item (Some first) value) (stop_at 12) item_stop level ts
+      (λ a s e. (and_parts (looser 12 s) (not (is terminal.Arrow s)) e).0)
       ((mark terminal.Arrow >> read part.Whole) ts)
-      (mark_then ◌≤◌ level_self terminal.Arrow (λ _. Under part.Whole) (stop_at 12) level (λ _. read part.Whole) (λ m above _. some_whole_under level some m above) (λ _. whole_reads some) ts))
+      (mark_then ◌≤◌ level_self terminal.Arrow (λ _. Under part.Whole) (stop_at 12) level (λ _. read part.Whole)
+      (λ m above _. some_whole_under level some m above) (λ _. whole_reads some) ts))
       (λ _. gives_answers ◌≤◌ level_self (item None first) item_stop level ts)
 
   item_answers : 0 < level → (ts : List Token) → Answers ◌≤◌ ItemAt item_stop level ts (item_rule level read ts)
   unfolding item_rule
-  item_answers some ts = joined_answers ◌≤◌ level_self (Under part.Whole) ItemRestAt (stop_at 12) item_stop level ts item_rest_follows (read part.Whole ts) (item_rest level read)
-      (λ m above first. ([], item None first, inr (gives_it (item None first)))) (whole_reads some ts) (λ first us _. item_rest_answers some first us)
+  item_answers some ts =
+      joined_answers ◌≤◌ level_self (Under part.Whole) ItemRestAt (stop_at 12) item_stop level ts item_rest_follows
+      (read part.Whole ts) (item_rest level read)
+      (λ m above first. ([], item None first, inr (gives_it (item None first)))) (whole_reads some ts)
+      (λ first us _. item_rest_answers some first us)
 
   item_starts : StartsIn ItemAt begins_expression
   item_starts = joined_starts (Under part.Whole) ItemRestAt begins_expression whole_under_starts
 
   some_item : 0 < level → Can ◌≤◌ level ItemAt
   some_item some m above =
-      let w = some_whole_under level some m above in
-      (w.0, item None w.1, then_nothing (Under part.Whole m) (λ first. ItemRest m (inner m) first) w.0 w.1 (item None w.1) w.2 (inr (gives_it (item None w.1))))
+      let w = some_whole_under level some m above in (
+        w.0,
+        item None w.1,
+        then_nothing (Under part.Whole m) (λ first. ItemRest m (inner m) first) w.0 w.1
+            (item None w.1) w.2 (inr (gives_it (item None w.1))),
+      )
 
-  array_items : (close : Terminal) (k : TokenKind) → same_terminal (terminal_of k) close ≡ true → begins_expression close ≡ false → same_terminal close terminal.Comma ≡ false → (looser 12 close && not (is terminal.Arrow close)) ≡ true
+  array_items : (close : Terminal) (k : TokenKind) → same_terminal (terminal_of k) close ≡ true
+      → begins_expression close ≡ false → same_terminal close terminal.Comma ≡ false
+      → (looser 12 close && not (is terminal.Arrow close)) ≡ true
       → 0 < level → AreItems ◌≤◌ (λ _. ItemAt) close item_stop begins_expression level (λ _. item_rule level read)
   array_items close k e not_close apart loose some = record {
     starts = λ all. item_starts;
@@ -154,7 +218,9 @@ module _ (level : ℕ) (read : Part → Reader Expression) (reads : Reads level 
     reads = λ all ts. item_answers some ts;
   }
 
-  arguments : 0 < level → AreItems ◌≤◌ (λ _. Under part.Whole) terminal.CloseParenthesis (stop_at 12) begins_expression level (λ _. read part.Whole)
+  arguments : 0 < level
+      → AreItems ◌≤◌ (λ _. Under part.Whole) terminal.CloseParenthesis (stop_at 12) begins_expression level
+      (λ _. read part.Whole)
   arguments some = record {
     starts = λ all. whole_under_starts;
     not_comma = refl;
@@ -168,7 +234,8 @@ module _ (level : ℕ) (read : Part → Reader Expression) (reads : Reads level 
     reads = λ all ts. whole_reads some ts;
   }
 
-  places : 0 < level → AreItems ◌≤◌ (λ _. PlaceUnder) terminal.CloseParenthesis (stop_at 1) (is terminal.Variable) level (λ _. place_below level read)
+  places : 0 < level → AreItems ◌≤◌ (λ _. PlaceUnder) terminal.CloseParenthesis (stop_at 1) (is terminal.Variable) level
+      (λ _. place_below level read)
   places some = record {
     starts = λ all. place_under_starts;
     not_comma = refl;
@@ -184,7 +251,8 @@ module _ (level : ℕ) (read : Part → Reader Expression) (reads : Reads level 
 
 -- ---- lists in brackets and parentheses
 
-pub empty_items : {A : Type 0} (item : List A → Rule A) (close : Terminal) (k : TokenKind) → same_terminal (terminal_of k) close ≡ true → AnyItems item close (placed k ∷ []) []
+pub empty_items : {A : Type 0} (item : List A → Rule A) (close : Terminal) (k : TokenKind)
+    → same_terminal (terminal_of k) close ≡ true → AnyItems item close (placed k ∷ []) []
 empty_items item close k e = inl (give (Mark close) (λ _. []) (placed k ∷ []) 1 (mark_of close (placed k) e))
 
 -- `$a)`
@@ -195,19 +263,36 @@ one_place : (m : ℕ) → SomeItems (λ _. PlaceUnder m) terminal.CloseParenthes
 one_place m =
     let close = placed kind.CloseParenthesis ∷ [] in
     let end : Rule ℕ = Joined (Perhaps (Mark terminal.Comma)) (λ _. Mark terminal.CloseParenthesis) in
-    behind (PlaceUnder m) (λ first. Closed (NextItem (λ _. PlaceUnder m)) (λ all. Made end (λ _. all)) (first ∷ [])) variable_text close variable_place (variable_place ∷ []) (least_place ((inner m).index))
-    (no_more (NextItem (λ _. PlaceUnder m)) (λ all. Made end (λ _. all)) (variable_place ∷ []) close (variable_place ∷ [])
-    (give end (λ _. variable_place ∷ []) close 1 (record { front = []; back = close; value = None; split = refl; one = inr (gives_it None); other = mark_of terminal.CloseParenthesis (placed kind.CloseParenthesis) refl })))
+    behind (PlaceUnder m) (λ first. Closed (NextItem (λ _. PlaceUnder m)) (λ all. Made end (λ _. all)) (first ∷ []))
+    variable_text close variable_place (variable_place ∷ []) (least_place ((inner m).index))
+    (no_more (NextItem (λ _. PlaceUnder m)) (λ all. Made end (λ _. all)) (variable_place ∷ []) close
+    (variable_place ∷ [])
+    (give end (λ _. variable_place
+    ∷ []) close 1 (record {
+      front = [];
+      back = close;
+      value = None;
+      split = refl;
+      one = inr
+          (gives_it None);
+      other = mark_of terminal.CloseParenthesis (placed kind.CloseParenthesis) refl;
+    })))
 
 abbrev pub ListedAt : {A : Type 0} → Terminal → Rules ℕ (List A) → (List A → Expression) → Rules ℕ Expression
 ListedAt before items f = JoinedAt (MarkAt before) (λ _. MadeAt items f)
 
-listed_some : {A : Type 0} (before : Terminal) (t : Token) → is before (terminal_of t.kind) ≡ true → (items : Rules ℕ (List A)) (f : List A → Expression) (m : ℕ) (text : List Token) (all : List A) → items m text all → ListedAt before items f m (t ∷ text) (f all)
-listed_some before t e items f m text all h = marked before t (Made (items m) f) text (f all) e (give (items m) f text all h)
+listed_some : {A : Type 0} (before : Terminal) (t : Token) → is before (terminal_of t.kind) ≡ true
+    → (items : Rules ℕ (List A)) (f : List A → Expression) (m : ℕ) (text : List Token) (all : List A) → items m text all
+    → ListedAt before items f m (t ∷ text) (f all)
+listed_some before t e items f m text all h =
+    marked before t (Made (items m) f) text (f all) e (give (items m) f text all h)
 
-listed_reads : {A : Type 0} (level : ℕ) (before : Terminal) (items : Rules ℕ (List A)) (f : List A → Expression) (reader : Reader (List A)) → Can ◌≤◌ level items → ((ts : List Token) → Answers ◌≤◌ items Anything level ts (reader ts))
+listed_reads : {A : Type 0} (level : ℕ) (before : Terminal) (items : Rules ℕ (List A)) (f : List A → Expression)
+    (reader : Reader (List A)) → Can ◌≤◌ level items
+    → ((ts : List Token) → Answers ◌≤◌ items Anything level ts (reader ts))
     → (ts : List Token) → Answers ◌≤◌ (ListedAt before items f) Anything level ts ((mark before >> made reader f) ts)
-listed_reads level before items f reader can reads ts = mark_then ◌≤◌ level_self before (λ _. MadeAt items f) Anything level (λ _. made reader f)
+listed_reads level before items f reader can reads ts =
+    mark_then ◌≤◌ level_self before (λ _. MadeAt items f) Anything level (λ _. made reader f)
     (λ m above _. let c = can m above in (c.0, f c.1, give (items m) f c.0 c.1 c.2))
     (λ _. made_reads ◌≤◌ level_self items f Anything Anything level reader (λ a s e. refl) reads) ts
 
@@ -230,72 +315,152 @@ module _ (level : ℕ) (read : Part → Reader Expression) (reads : Reads level 
   abbrev PlacesAt : Rules ℕ (List Place)
   PlacesAt = SomeItemsAt (λ _. PlaceUnder) terminal.CloseParenthesis
 
-  literal_answers : (ts : List Token) → is terminal.OpenBracket (head ts) ≡ true → Answers ◌≤◌ LiteralAt Anything level ts (literal level read ts)
+  literal_answers : (ts : List Token) → is terminal.OpenBracket (head ts) ≡ true
+      → Answers ◌≤◌ LiteralAt Anything level ts (literal level read ts)
   unfolding literal
   literal_answers ts here =
       let items = array_items level read reads terminal.CloseBracket kind.CloseBracket refl refl refl refl in
-      nested_answers (is terminal.OpenBracket) (ListedAt terminal.OpenBracket (ItemsAt terminal.CloseBracket) tree.Array) Anything level ts (mark terminal.OpenBracket >> made (any_items (λ _. item_rule level read) terminal.CloseBracket) tree.Array) refl here
-      (λ x e. (placed kind.CloseBracket ∷ [], tree.Array [], listed_some terminal.OpenBracket x e (ItemsAt terminal.CloseBracket) tree.Array 2 (placed kind.CloseBracket ∷ []) [] (empty_items (λ _. ItemAt 2) terminal.CloseBracket kind.CloseBracket refl)))
-      (λ some. listed_reads level terminal.OpenBracket (ItemsAt terminal.CloseBracket) tree.Array (any_items (λ _. item_rule level read) terminal.CloseBracket)
-      (any_items_can ◌≤◌ level_self (λ _. ItemAt) terminal.CloseBracket item_stop begins_expression level (λ _. item_rule level read) (items some))
-      (any_items_answers ◌≤◌ level_self (λ _. ItemAt) terminal.CloseBracket item_stop begins_expression level (λ _. item_rule level read) (items some)) ts)
+      nested_answers (is terminal.OpenBracket) (ListedAt terminal.OpenBracket
+      (ItemsAt terminal.CloseBracket) tree.Array) Anything level ts
+      (mark terminal.OpenBracket >> made (any_items (λ _. item_rule level read) terminal.CloseBracket) tree.Array)
+      refl here
+      (λ x e. (
+        placed kind.CloseBracket
+            ∷ [],
+        tree.Array [],
+        listed_some terminal.OpenBracket x e (ItemsAt terminal.CloseBracket) tree.Array 2
+            (placed kind.CloseBracket
+            ∷ []) [] (empty_items (λ _. ItemAt 2) terminal.CloseBracket kind.CloseBracket refl),
+      ))
+      (λ some. listed_reads level terminal.OpenBracket (ItemsAt terminal.CloseBracket) tree.Array
+      (any_items (λ _. item_rule level read) terminal.CloseBracket)
+      (any_items_can ◌≤◌ level_self (λ _. ItemAt) terminal.CloseBracket item_stop begins_expression level
+      (λ _. item_rule level read) (items some))
+      (any_items_answers ◌≤◌ level_self (λ _. ItemAt) terminal.CloseBracket item_stop begins_expression level
+      (λ _. item_rule level read) (items some)) ts)
 
-  array_reads : 0 < level → (ts : List Token) → Answers ◌≤◌ (ListedAt terminal.OpenParenthesis (ItemsAt terminal.CloseParenthesis) tree.Array) Anything level ts ((mark terminal.OpenParenthesis >> made (any_items (λ _. item_rule level read) terminal.CloseParenthesis) tree.Array) ts)
+  array_reads : 0 < level → (ts : List Token)
+      → Answers ◌≤◌ (ListedAt terminal.OpenParenthesis (ItemsAt terminal.CloseParenthesis) tree.Array) Anything level ts
+      ((mark terminal.OpenParenthesis >> made (any_items (λ _. item_rule level read) terminal.CloseParenthesis)
+      tree.Array) ts)
   array_reads some =
-      let items = array_items level read reads terminal.CloseParenthesis kind.CloseParenthesis refl refl refl refl some in
-      listed_reads level terminal.OpenParenthesis (ItemsAt terminal.CloseParenthesis) tree.Array (any_items (λ _. item_rule level read) terminal.CloseParenthesis)
-      (any_items_can ◌≤◌ level_self (λ _. ItemAt) terminal.CloseParenthesis item_stop begins_expression level (λ _. item_rule level read) items)
-      (any_items_answers ◌≤◌ level_self (λ _. ItemAt) terminal.CloseParenthesis item_stop begins_expression level (λ _. item_rule level read) items)
+      let items = array_items level read reads terminal.CloseParenthesis kind.CloseParenthesis refl refl refl refl some
+      in
+      listed_reads level terminal.OpenParenthesis (ItemsAt terminal.CloseParenthesis) tree.Array
+      (any_items (λ _. item_rule level read) terminal.CloseParenthesis)
+      (any_items_can ◌≤◌ level_self (λ _. ItemAt) terminal.CloseParenthesis item_stop begins_expression level
+      (λ _. item_rule level read) items)
+      (any_items_answers ◌≤◌ level_self (λ _. ItemAt) terminal.CloseParenthesis item_stop begins_expression level
+      (λ _. item_rule level read) items)
 
-  some_array : (m : ℕ) → ListedAt terminal.OpenParenthesis (ItemsAt terminal.CloseParenthesis) tree.Array m (open_token ∷ (placed kind.CloseParenthesis ∷ [])) (tree.Array [])
-  some_array m = listed_some terminal.OpenParenthesis open_token refl (ItemsAt terminal.CloseParenthesis) tree.Array m (placed kind.CloseParenthesis ∷ []) [] (empty_items (λ _. ItemAt m) terminal.CloseParenthesis kind.CloseParenthesis refl)
+  some_array : (m : ℕ)
+      → ListedAt terminal.OpenParenthesis (ItemsAt terminal.CloseParenthesis) tree.Array m
+      (open_token ∷ (placed kind.CloseParenthesis ∷ [])) (tree.Array [])
+  some_array m =
+      listed_some terminal.OpenParenthesis open_token refl (ItemsAt terminal.CloseParenthesis) tree.Array m
+      (placed kind.CloseParenthesis
+      ∷ []) [] (empty_items (λ _. ItemAt m) terminal.CloseParenthesis kind.CloseParenthesis refl)
 
-  array_call_answers : (ts : List Token) → is terminal.Array (head ts) ≡ true → Answers ◌≤◌ ArrayCallAt Anything level ts (array_call level read ts)
+  array_call_answers : (ts : List Token) → is terminal.Array (head ts) ≡ true
+      → Answers ◌≤◌ ArrayCallAt Anything level ts (array_call level read ts)
   unfolding array_call
   array_call_answers ts here =
       let rest = ListedAt terminal.OpenParenthesis (ItemsAt terminal.CloseParenthesis) tree.Array in
-      let reader : Reader Expression = mark terminal.OpenParenthesis >> made (any_items (λ _. item_rule level read) terminal.CloseParenthesis) tree.Array in
-      nested_answers (is terminal.Array) (JoinedAt (MarkAt terminal.Array) (λ _. rest)) Anything level ts (mark terminal.Array >> reader) refl here
-      (λ x e. (open_token ∷ (placed kind.CloseParenthesis ∷ []), tree.Array [], marked terminal.Array x (rest 2) (open_token ∷ (placed kind.CloseParenthesis ∷ [])) (tree.Array []) e (some_array 2)))
-      (λ some. mark_then ◌≤◌ level_self terminal.Array (λ _. rest) Anything level (λ _. reader) (λ m above _. (open_token ∷ (placed kind.CloseParenthesis ∷ []), tree.Array [], some_array m)) (λ _. array_reads some) ts)
+      let reader : Reader Expression = mark terminal.OpenParenthesis >> made
+      (any_items (λ _. item_rule level read) terminal.CloseParenthesis) tree.Array in
+      nested_answers (is terminal.Array) (JoinedAt (MarkAt terminal.Array) (λ _. rest)) Anything level ts
+      (mark terminal.Array >> reader) refl here
+      (λ x e. (
+        open_token
+            ∷ (placed kind.CloseParenthesis ∷ []),
+        tree.Array [],
+        marked terminal.Array x (rest 2) (open_token ∷ (placed kind.CloseParenthesis ∷ [])) (tree.Array []) e
+            (some_array 2),
+      ))
+      (λ some. mark_then ◌≤◌ level_self terminal.Array (λ _. rest) Anything level (λ _. reader)
+      (λ m above _. (open_token ∷ (placed kind.CloseParenthesis ∷ []), tree.Array [], some_array m))
+      (λ _. array_reads some) ts)
 
-  call_reads : 0 < level → (name : Text) (ts : List Token) → Answers ◌≤◌ (ListedAt terminal.OpenParenthesis ArgumentsAt (tree.Call name)) Anything level ts ((mark terminal.OpenParenthesis >> made (any_items (λ _. read part.Whole) terminal.CloseParenthesis) (tree.Call name)) ts)
+  call_reads : 0 < level → (name : Text) (ts : List Token)
+      → Answers ◌≤◌ (ListedAt terminal.OpenParenthesis ArgumentsAt (tree.Call name)) Anything level ts
+      ((mark terminal.OpenParenthesis >> made (any_items (λ _. read part.Whole) terminal.CloseParenthesis)
+      (tree.Call name)) ts)
   call_reads some name =
       let items = arguments level read reads some in
-      listed_reads level terminal.OpenParenthesis ArgumentsAt (tree.Call name) (any_items (λ _. read part.Whole) terminal.CloseParenthesis)
-      (any_items_can ◌≤◌ level_self (λ _. Under part.Whole) terminal.CloseParenthesis (stop_at 12) begins_expression level (λ _. read part.Whole) items)
-      (any_items_answers ◌≤◌ level_self (λ _. Under part.Whole) terminal.CloseParenthesis (stop_at 12) begins_expression level (λ _. read part.Whole) items)
+      listed_reads level terminal.OpenParenthesis ArgumentsAt (tree.Call name)
+      (any_items (λ _. read part.Whole) terminal.CloseParenthesis)
+      (any_items_can ◌≤◌ level_self (λ _. Under part.Whole) terminal.CloseParenthesis
+      (stop_at 12) begins_expression level (λ _. read part.Whole) items)
+      (any_items_answers ◌≤◌ level_self (λ _. Under part.Whole) terminal.CloseParenthesis
+      (stop_at 12) begins_expression level (λ _. read part.Whole) items)
 
-  some_call : (m : ℕ) (name : Text) → ListedAt terminal.OpenParenthesis ArgumentsAt (tree.Call name) m (open_token ∷ (placed kind.CloseParenthesis ∷ [])) (tree.Call name [])
-  some_call m name = listed_some terminal.OpenParenthesis open_token refl ArgumentsAt (tree.Call name) m (placed kind.CloseParenthesis ∷ []) [] (empty_items (λ _. Under part.Whole m) terminal.CloseParenthesis kind.CloseParenthesis refl)
+  some_call : (m : ℕ) (name : Text)
+      → ListedAt terminal.OpenParenthesis ArgumentsAt (tree.Call name) m
+      (open_token ∷ (placed kind.CloseParenthesis ∷ [])) (tree.Call name [])
+  some_call m name =
+      listed_some terminal.OpenParenthesis open_token refl ArgumentsAt (tree.Call name) m
+      (placed kind.CloseParenthesis
+      ∷ []) [] (empty_items (λ _. Under part.Whole m) terminal.CloseParenthesis kind.CloseParenthesis refl)
 
-  call_answers : (ts : List Token) → is terminal.Name (head ts) ≡ true → Answers ◌≤◌ CallAt Anything level ts (call level read ts)
+  call_answers : (ts : List Token) → is terminal.Name (head ts) ≡ true
+      → Answers ◌≤◌ CallAt Anything level ts (call level read ts)
   unfolding call
   call_answers ts here =
       let rest : Text → Rules ℕ Expression = λ name. ListedAt terminal.OpenParenthesis ArgumentsAt (tree.Call name) in
-      let reader : Text → Reader Expression = λ name. mark terminal.OpenParenthesis >> made (any_items (λ _. read part.Whole) terminal.CloseParenthesis) (tree.Call name) in
-      nested_answers (is terminal.Name) (JoinedAt (OneAt (by_kind name_in)) rest) Anything level ts (one (by_kind name_in) >>= reader) refl here
-      (λ x e. let n = name_token x e in (open_token ∷ (placed kind.CloseParenthesis ∷ []), tree.Call n.0 [], behind (One (by_kind name_in)) (λ name. rest name 2) (x ∷ []) (open_token ∷ (placed kind.CloseParenthesis ∷ [])) n.0 (tree.Call n.0 []) n.1 (some_call 2 n.0)))
-      (λ some. one_then (by_kind name_in) rest Anything level ts reader (λ m above name. (open_token ∷ (placed kind.CloseParenthesis ∷ []), tree.Call name [], some_call m name)) (call_reads some))
+      let reader : Text → Reader Expression = λ name. mark terminal.OpenParenthesis >> made
+      (any_items (λ _. read part.Whole) terminal.CloseParenthesis) (tree.Call name) in
+      nested_answers (is terminal.Name) (JoinedAt (OneAt (by_kind name_in)) rest) Anything level ts
+      (one (by_kind name_in) >>= reader) refl here
+      (λ x e. let n = name_token x e in (
+        open_token
+            ∷ (placed kind.CloseParenthesis ∷ []),
+        tree.Call n.0 [],
+        behind (One (by_kind name_in)) (λ name. rest name 2) (x ∷ [])
+            (open_token ∷ (placed kind.CloseParenthesis ∷ [])) n.0 (tree.Call n.0 []) n.1 (some_call 2 n.0),
+      ))
+      (λ some. one_then (by_kind name_in) rest Anything level ts reader
+      (λ m above name. (open_token ∷ (placed kind.CloseParenthesis ∷ []), tree.Call name [], some_call m name))
+      (call_reads some))
 
-  isset_reads : 0 < level → (ts : List Token) → Answers ◌≤◌ (ListedAt terminal.OpenParenthesis PlacesAt tree.Isset) Anything level ts ((mark terminal.OpenParenthesis >> made (some_items (λ _. place_below level read) terminal.CloseParenthesis) tree.Isset) ts)
+  isset_reads : 0 < level → (ts : List Token)
+      → Answers ◌≤◌ (ListedAt terminal.OpenParenthesis PlacesAt tree.Isset) Anything level ts
+      ((mark terminal.OpenParenthesis >> made (some_items (λ _. place_below level read) terminal.CloseParenthesis)
+      tree.Isset) ts)
   isset_reads some =
       let items = places level read reads some in
-      listed_reads level terminal.OpenParenthesis PlacesAt tree.Isset (some_items (λ _. place_below level read) terminal.CloseParenthesis)
-      (some_items_can ◌≤◌ level_self (λ _. PlaceUnder) terminal.CloseParenthesis (stop_at 1) (is terminal.Variable) level (λ _. place_below level read) items)
-      (some_items_answers ◌≤◌ level_self (λ _. PlaceUnder) terminal.CloseParenthesis (stop_at 1) (is terminal.Variable) level (λ _. place_below level read) items)
+      listed_reads level terminal.OpenParenthesis PlacesAt tree.Isset
+      (some_items (λ _. place_below level read) terminal.CloseParenthesis)
+      (some_items_can ◌≤◌ level_self (λ _. PlaceUnder) terminal.CloseParenthesis (stop_at 1)
+      (is terminal.Variable) level (λ _. place_below level read) items)
+      (some_items_answers ◌≤◌ level_self (λ _. PlaceUnder) terminal.CloseParenthesis (stop_at 1)
+      (is terminal.Variable) level (λ _. place_below level read) items)
 
-  some_isset : (m : ℕ) → ListedAt terminal.OpenParenthesis PlacesAt tree.Isset m (open_token ∷ one_place_text) (tree.Isset (variable_place ∷ []))
-  some_isset m = listed_some terminal.OpenParenthesis open_token refl PlacesAt tree.Isset m one_place_text (variable_place ∷ []) (one_place m)
+  some_isset : (m : ℕ)
+      → ListedAt terminal.OpenParenthesis PlacesAt tree.Isset m (open_token ∷ one_place_text)
+      (tree.Isset (variable_place ∷ []))
+  some_isset m =
+      listed_some terminal.OpenParenthesis open_token refl PlacesAt tree.Isset m one_place_text (variable_place ∷ [])
+      (one_place m)
 
-  isset_answers : (ts : List Token) → is terminal.Isset (head ts) ≡ true → Answers ◌≤◌ IssetAt Anything level ts (isset level read ts)
+  isset_answers : (ts : List Token) → is terminal.Isset (head ts) ≡ true
+      → Answers ◌≤◌ IssetAt Anything level ts (isset level read ts)
   unfolding isset
   isset_answers ts here =
       let rest = ListedAt terminal.OpenParenthesis PlacesAt tree.Isset in
-      let reader : Reader Expression = mark terminal.OpenParenthesis >> made (some_items (λ _. place_below level read) terminal.CloseParenthesis) tree.Isset in
-      nested_answers (is terminal.Isset) (JoinedAt (MarkAt terminal.Isset) (λ _. rest)) Anything level ts (mark terminal.Isset >> reader) refl here
-      (λ x e. (open_token ∷ one_place_text, tree.Isset (variable_place ∷ []), marked terminal.Isset x (rest 2) (open_token ∷ one_place_text) (tree.Isset (variable_place ∷ [])) e (some_isset 2)))
-      (λ some. mark_then ◌≤◌ level_self terminal.Isset (λ _. rest) Anything level (λ _. reader) (λ m above _. (open_token ∷ one_place_text, tree.Isset (variable_place ∷ []), some_isset m)) (λ _. isset_reads some) ts)
+      let reader : Reader Expression = mark terminal.OpenParenthesis >> made
+      (some_items (λ _. place_below level read) terminal.CloseParenthesis) tree.Isset in
+      nested_answers (is terminal.Isset) (JoinedAt (MarkAt terminal.Isset) (λ _. rest)) Anything level ts
+      (mark terminal.Isset >> reader) refl here
+      (λ x e. (
+        open_token
+            ∷ one_place_text,
+        tree.Isset (variable_place ∷ []),
+        marked terminal.Isset x (rest 2) (open_token ∷ one_place_text) (tree.Isset (variable_place ∷ [])) e
+            (some_isset 2),
+      ))
+      (λ some. mark_then ◌≤◌ level_self terminal.Isset (λ _. rest) Anything level (λ _. reader)
+      (λ m above _. (open_token ∷ one_place_text, tree.Isset (variable_place ∷ []), some_isset m))
+      (λ _. isset_reads some) ts)
 
   -- ---- primary expressions, and operands
 
@@ -321,52 +486,106 @@ module _ (level : ℕ) (read : Part → Reader Expression) (reads : Reads level 
   FromStep = EitherAt SteppedFirstAt FromNumber
 
   text_answers : (ts : List Token) → Answers ◌≤◌ TextAt Anything level ts (made (one (by_kind text_in)) tree.Text ts)
-  text_answers ts = made_answers ◌≤◌ level_self (OneAt (by_kind text_in)) tree.Text Anything Anything level ts (λ a s e. refl) (one (by_kind text_in) ts) (one_answers ◌≤◌ level_self (by_kind text_in) Anything level ts)
+  text_answers ts =
+      made_answers ◌≤◌ level_self (OneAt (by_kind text_in)) tree.Text Anything Anything level ts (λ a s e. refl)
+      (one (by_kind text_in) ts) (one_answers ◌≤◌ level_self (by_kind text_in) Anything level ts)
 
   primary_answers : (ts : List Token) → Answers ◌≤◌ PrimaryAt Anything level ts (primary level read ts)
   unfolding primary refuse
   primary_answers ts =
-      choice_answers TextAt FromConstant (is terminal.Text) begins_behind_constant Anything level ts refl text_rule_starts behind_constant_starts _ _ (λ _. text_answers ts)
-      (λ _. choice_answers ConstantAt FromGroup begins_constant begins_behind_group Anything level ts refl (sort_starts constant_in) behind_group_starts _ _ (λ _. one_answers ◌≤◌ level_self (by_terminal constant_in) Anything level ts)
-      (λ _. choice_answers GroupAt FromBracket (is terminal.OpenParenthesis) begins_behind_bracket Anything level ts refl group_starts behind_bracket_starts _ _ (group_answers level read reads ts)
-      (λ _. choice_answers LiteralAt FromArray (is terminal.OpenBracket) begins_behind_array Anything level ts refl literal_starts behind_array_starts _ _ (literal_answers ts)
-      (λ _. choice_answers ArrayCallAt CallAt (is terminal.Array) (is terminal.Name) Anything level ts refl array_call_starts call_starts _ _ (array_call_answers ts)
-      (λ _. guarded_answers ◌≤◌ level_self CallAt (is terminal.Name) Anything level ts call_starts (call level read ts) (call_answers ts))))))
+      choice_answers TextAt FromConstant (is terminal.Text) begins_behind_constant Anything level ts refl
+      text_rule_starts behind_constant_starts _ _ (λ _. text_answers ts)
+      (λ _. choice_answers ConstantAt FromGroup begins_constant begins_behind_group Anything level ts refl
+      (sort_starts constant_in) behind_group_starts _ _ (λ _. one_answers ◌≤◌ level_self
+      (by_terminal constant_in) Anything level ts)
+      (λ _. choice_answers GroupAt FromBracket (is terminal.OpenParenthesis) begins_behind_bracket Anything level ts
+      refl group_starts behind_bracket_starts _ _ (group_answers level read reads ts)
+      (λ _. choice_answers LiteralAt FromArray (is terminal.OpenBracket) begins_behind_array Anything level ts refl
+      literal_starts behind_array_starts _ _ (literal_answers ts)
+      (λ _. choice_answers ArrayCallAt CallAt (is terminal.Array)
+      (is terminal.Name) Anything level ts refl array_call_starts call_starts _ _ (array_call_answers ts)
+      (λ _. guarded_answers ◌≤◌ level_self CallAt (is terminal.Name) Anything level ts call_starts (call level read ts)
+      (call_answers ts))))))
 
-  primary_indexed_answers : (ts : List Token) → Answers ◌≤◌ PrimaryIndexedAt (stop_at 2) level ts ((primary level read >>= (λ base. made (indices level read) (indexed base))) ts)
-  primary_indexed_answers ts = joined_answers ◌≤◌ level_self PrimaryAt (λ base. MadeAt (ManyAt IndexAt) (indexed base)) Anything (stop_at 2) level ts (anything_follows (λ base. MadeAt (ManyAt IndexAt) (indexed base)) (stop_at 2))
-      (primary level read ts) (λ base. made (indices level read) (indexed base)) (λ m above base. ([], indexed base [], give (Many (IndexAt m)) (indexed base) [] [] (many_none IndexAt m))) (primary_answers ts)
-      (λ base us _. made_answers ◌≤◌ level_self (ManyAt IndexAt) (indexed base) (stop_at 2) (stop_at 2) level us (λ a s e. e) (indices level read us) (indices_answers level read reads 2 (excluded (looser 2) (is terminal.OpenBracket) refl) us))
+  primary_indexed_answers : (ts : List Token)
+      → Answers ◌≤◌ PrimaryIndexedAt (stop_at 2) level ts ((primary level read
+      >>= (λ base. made (indices level read) (indexed base))) ts)
+  primary_indexed_answers ts =
+      joined_answers ◌≤◌ level_self PrimaryAt (λ base. MadeAt (ManyAt IndexAt) (indexed base)) Anything
+      (stop_at 2) level ts (anything_follows (λ base. MadeAt (ManyAt IndexAt) (indexed base)) (stop_at 2))
+      (primary level read ts) (λ base. made (indices level read) (indexed base))
+      (λ m above base. ([], indexed base [], give (Many (IndexAt m)) (indexed base) [] [] (many_none IndexAt m)))
+      (primary_answers ts)
+      (λ base us _. made_answers ◌≤◌ level_self (ManyAt IndexAt) (indexed base) (stop_at 2) (stop_at 2) level us
+      (λ a s e. e) (indices level read us) (indices_answers level read reads 2
+      (excluded (looser 2) (is terminal.OpenBracket) refl) us))
 
-  prefixed_answers : (ts : List Token) → begins_prefix (head ts) ≡ true → Answers ◌≤◌ PrefixedAt (stop_at 2) level ts (prefixed level read ts)
+  prefixed_answers : (ts : List Token) → begins_prefix (head ts) ≡ true
+      → Answers ◌≤◌ PrefixedAt (stop_at 2) level ts (prefixed level read ts)
   unfolding prefixed
-  prefixed_answers ts here = nested_answers begins_prefix (JoinedAt (OneAt (by_terminal prefix_in)) (λ by. MadeAt (Under part.Alone) (tree.Unary by))) (stop_at 2) level ts (sort prefix_in >>= (λ by. made (read part.Alone) (tree.Unary by))) refl here
-      (λ x e. let o = one_of_sort prefix_in x e in (zero_text, tree.Unary o.0 zero_tree, behind (One (by_terminal prefix_in)) (λ by. Made (Under part.Alone 2) (tree.Unary by)) (x ∷ []) zero_text o.0 (tree.Unary o.0 zero_tree) o.1 (give (Under part.Alone 2) (tree.Unary o.0) zero_text zero_tree (least_operand 1 (inner 1)))))
-      (λ some. one_then (by_terminal prefix_in) (λ by. MadeAt (Under part.Alone) (tree.Unary by)) (stop_at 2) level ts (λ by. made (read part.Alone) (tree.Unary by))
-      (λ m above by. let w = some_alone_under level some m above in (w.0, tree.Unary by w.1, give (Under part.Alone m) (tree.Unary by) w.0 w.1 w.2))
-      (λ by us. made_answers ◌≤◌ level_self (Under part.Alone) (tree.Unary by) (stop_at 2) (stop_at 2) level us (λ a s e. e) (read part.Alone us) (inner_answers level read reads some part.Alone us refl)))
+  prefixed_answers ts here =
+      nested_answers begins_prefix (JoinedAt (OneAt (by_terminal prefix_in))
+      (λ by. MadeAt (Under part.Alone) (tree.Unary by))) (stop_at 2) level ts
+      (sort prefix_in >>= (λ by. made (read part.Alone) (tree.Unary by))) refl here
+      (λ x e. let o = one_of_sort prefix_in x e in (
+        zero_text,
+        tree.Unary o.0 zero_tree,
+        behind (One (by_terminal prefix_in)) (λ by. Made (Under part.Alone 2) (tree.Unary by)) (x ∷ []) zero_text o.0
+            (tree.Unary o.0 zero_tree) o.1 (give (Under part.Alone 2) (tree.Unary o.0) zero_text zero_tree
+            (least_operand 1 (inner 1))),
+      ))
+      (λ some. one_then (by_terminal prefix_in) (λ by. MadeAt (Under part.Alone) (tree.Unary by)) (stop_at 2) level ts
+      (λ by. made (read part.Alone) (tree.Unary by))
+      (λ m above by. let w = some_alone_under level some m above in
+      (w.0, tree.Unary by w.1, give (Under part.Alone m) (tree.Unary by) w.0 w.1 w.2))
+      (λ by us. made_answers ◌≤◌ level_self (Under part.Alone) (tree.Unary by) (stop_at 2) (stop_at 2) level us
+      (λ a s e. e) (read part.Alone us) (inner_answers level read reads some part.Alone us refl)))
 
-  stepped_first_answers : (ts : List Token) → begins_step (head ts) ≡ true → Answers ◌≤◌ SteppedFirstAt (stop_at 2) level ts (stepped_first level read ts)
+  stepped_first_answers : (ts : List Token) → begins_step (head ts) ≡ true
+      → Answers ◌≤◌ SteppedFirstAt (stop_at 2) level ts (stepped_first level read ts)
   unfolding stepped_first
   stepped_first_answers ts here =
       let f : UnaryOp → Place → Expression = λ by of. tree.Step by StepFirst of in
-      nested_answers begins_step (JoinedAt (OneAt (by_terminal step_in)) (λ by. MadeAt PlaceUnder (f by))) (stop_at 2) level ts (sort step_in >>= (λ by. made (place_below level read) (f by))) refl here
-      (λ x e. let o = one_of_sort step_in x e in (variable_text, f o.0 variable_place, behind (One (by_terminal step_in)) (λ by. Made (PlaceUnder 2) (f by)) (x ∷ []) variable_text o.0 (f o.0 variable_place) o.1 (give (PlaceUnder 2) (f o.0) variable_text variable_place (least_place ((inner 2).index)))))
-      (λ some. one_then (by_terminal step_in) (λ by. MadeAt PlaceUnder (f by)) (stop_at 2) level ts (λ by. made (place_below level read) (f by))
-      (λ m above by. (variable_text, f by variable_place, give (PlaceUnder m) (f by) variable_text variable_place (least_place ((inner m).index))))
-      (λ by us. made_answers ◌≤◌ level_self PlaceUnder (f by) (stop_at 1) (stop_at 2) level us (λ a s e. looser_less 1 2 (omega arith) s e) (place_below level read us) (place_below_answers level read reads some us)))
+      nested_answers begins_step (JoinedAt (OneAt (by_terminal step_in)) (λ by. MadeAt PlaceUnder (f by)))
+      (stop_at 2) level ts (sort step_in >>= (λ by. made (place_below level read) (f by))) refl here
+      (λ x e. let o = one_of_sort step_in x e in (
+        variable_text,
+        f o.0 variable_place,
+        behind (One (by_terminal step_in)) (λ by. Made (PlaceUnder 2) (f by)) (x ∷ []) variable_text o.0
+            (f o.0 variable_place) o.1 (give (PlaceUnder 2) (f o.0) variable_text variable_place
+            (least_place ((inner 2).index))),
+      ))
+      (λ some. one_then (by_terminal step_in) (λ by. MadeAt PlaceUnder (f by)) (stop_at 2) level ts
+      (λ by. made (place_below level read) (f by))
+      (λ m above by. (
+        variable_text,
+        f by variable_place,
+        give (PlaceUnder m) (f by) variable_text variable_place
+            (least_place ((inner m).index)),
+      ))
+      (λ by us. made_answers ◌≤◌ level_self PlaceUnder (f by) (stop_at 1) (stop_at 2) level us
+      (λ a s e. looser_less 1 2 (omega arith) s e) (place_below level read us)
+      (place_below_answers level read reads some us)))
 
-  number_answers : (ts : List Token) → Answers ◌≤◌ NumberAt (stop_at 2) level ts (made (one (by_kind number_in)) tree.Number ts)
-  number_answers ts = made_answers ◌≤◌ level_self (OneAt (by_kind number_in)) tree.Number Anything (stop_at 2) level ts (λ a s e. refl) (one (by_kind number_in) ts) (one_answers ◌≤◌ level_self (by_kind number_in) Anything level ts)
+  number_answers : (ts : List Token)
+      → Answers ◌≤◌ NumberAt (stop_at 2) level ts (made (one (by_kind number_in)) tree.Number ts)
+  number_answers ts =
+      made_answers ◌≤◌ level_self (OneAt (by_kind number_in)) tree.Number Anything (stop_at 2) level ts (λ a s e. refl)
+      (one (by_kind number_in) ts) (one_answers ◌≤◌ level_self (by_kind number_in) Anything level ts)
 
   pub other_answers : (ts : List Token) → Answers ◌≤◌ OtherAt (stop_at 2) level ts (other level read ts)
   unfolding other
   other_answers ts =
-      choice_answers PrefixedAt FromStep begins_prefix begins_behind_step (stop_at 2) level ts refl prefixed_starts behind_step_starts _ _ (prefixed_answers ts)
-      (λ _. choice_answers SteppedFirstAt FromNumber begins_step begins_behind_number (stop_at 2) level ts refl stepped_first_starts behind_number_starts _ _ (stepped_first_answers ts)
-      (λ _. choice_answers NumberAt FromIsset (is terminal.Number) begins_behind_isset (stop_at 2) level ts refl number_rule_starts behind_isset_starts _ _ (λ _. number_answers ts)
-      (λ _. choice_answers IssetAt PrimaryIndexedAt (is terminal.Isset) begins_primary (stop_at 2) level ts refl isset_starts primary_indexed_starts _ _
-      (λ here. stricter_answers ◌≤◌ level_self IssetAt Anything (stop_at 2) level ts (λ a s e. refl) (isset level read ts) (isset_answers ts here))
+      choice_answers PrefixedAt FromStep begins_prefix begins_behind_step
+      (stop_at 2) level ts refl prefixed_starts behind_step_starts _ _ (prefixed_answers ts)
+      (λ _. choice_answers SteppedFirstAt FromNumber begins_step begins_behind_number
+      (stop_at 2) level ts refl stepped_first_starts behind_number_starts _ _ (stepped_first_answers ts)
+      (λ _. choice_answers NumberAt FromIsset (is terminal.Number) begins_behind_isset
+      (stop_at 2) level ts refl number_rule_starts behind_isset_starts _ _ (λ _. number_answers ts)
+      (λ _. choice_answers IssetAt PrimaryIndexedAt (is terminal.Isset) begins_primary
+      (stop_at 2) level ts refl isset_starts primary_indexed_starts _ _
+      (λ here. stricter_answers ◌≤◌ level_self IssetAt Anything (stop_at 2) level ts (λ a s e. refl)
+      (isset level read ts) (isset_answers ts here))
       (λ _. primary_indexed_answers ts))))
 
   -- ---- behind a place
@@ -380,17 +599,25 @@ module _ (level : ℕ) (read : Part → Reader Expression) (reads : Reads level 
   pub step_last_starts : (p : Place) → StartsIn {L = ℕ} (MadeAt (OneAt (by_terminal step_in)) (stepped p)) begins_step
   step_last_starts p = made_starts (OneAt (by_terminal step_in)) (stepped p) begins_step (sort_starts step_in)
 
-  pub step_last_answers : (p : Place) (ts : List Token) → Answers ◌≤◌ (StepLastAt p) operand_stop level ts (step_last level read p ts)
+  pub step_last_answers : (p : Place) (ts : List Token)
+      → Answers ◌≤◌ (StepLastAt p) operand_stop level ts (step_last level read p ts)
   unfolding step_last
-  step_last_answers p ts = either_answers ◌≤◌ level_self (MadeAt (OneAt (by_terminal step_in)) (stepped p)) (GivesAt (opened.Place p)) begins_step operand_stop level ts
-      (step_last_starts p) (gives_apart (opened.Place p) operand_stop begins_step (excluded (looser 2) begins_step refl))
+  step_last_answers p ts =
+      either_answers ◌≤◌ level_self (MadeAt (OneAt (by_terminal step_in)) (stepped p))
+      (GivesAt (opened.Place p)) begins_step operand_stop level ts
+      (step_last_starts p) (gives_apart (opened.Place p) operand_stop begins_step
+      (excluded (looser 2) begins_step refl))
       (made (sort step_in) (stepped p) ts) (Ok (opened.Place p, ts))
-      (λ _. made_answers ◌≤◌ level_self (OneAt (by_terminal step_in)) (stepped p) Anything operand_stop level ts (λ a s e. refl) (sort step_in ts) (one_answers ◌≤◌ level_self (by_terminal step_in) Anything level ts))
+      (λ _. made_answers ◌≤◌ level_self (OneAt (by_terminal step_in)) (stepped p) Anything operand_stop level ts
+      (λ a s e. refl) (sort step_in ts) (one_answers ◌≤◌ level_self (by_terminal step_in) Anything level ts))
       (λ _. gives_answers ◌≤◌ level_self (opened.Place p) operand_stop level ts)
 
   pub step_last_follows : Follows (stop_at 1) StepLastAt operand_stop
-  step_last_follows = either_follows (stop_at 1) (λ p. MadeAt (OneAt (by_terminal step_in)) (stepped p)) (λ p. GivesAt (opened.Place p)) operand_stop
-      (starts_follow (stop_at 1) (λ p. MadeAt (OneAt (by_terminal step_in)) (stepped p)) operand_stop begins_step (λ p s e. implied begins_step (looser 1) refl s e) step_last_starts)
+  step_last_follows =
+      either_follows (stop_at 1) (λ p. MadeAt (OneAt (by_terminal step_in)) (stepped p))
+      (λ p. GivesAt (opened.Place p)) operand_stop
+      (starts_follow (stop_at 1) (λ p. MadeAt (OneAt (by_terminal step_in)) (stepped p)) operand_stop begins_step
+      (λ p s e. implied begins_step (looser 1) refl s e) step_last_starts)
       (gives_follow (λ p. opened.Place p) (stop_at 1) operand_stop (λ p s e. looser_less 1 2 (omega arith) s e))
 
   tree_stop : (v : Operand) (s : Terminal) → looser 2 s ≡ true → operand_stop v s ≡ true
@@ -398,15 +625,25 @@ module _ (level : ℕ) (read : Part → Reader Expression) (reads : Reads level 
   tree_stop (opened.Push p) s e = refl
   tree_stop (opened.Other a) s e = e
 
-  place_step_answers : (ts : List Token) → Answers ◌≤◌ (JoinedAt PlaceAt StepLastAt) operand_stop level ts ((place_rule level read >>= step_last level read) ts)
-  place_step_answers ts = joined_answers ◌≤◌ level_self PlaceAt StepLastAt (stop_at 1) operand_stop level ts step_last_follows (place_rule level read ts) (step_last level read)
-      (λ m above p. ([], opened.Place p, inr (gives_it (opened.Place p)))) (place_answers level read reads ts) (λ p us _. step_last_answers p us)
+  place_step_answers : (ts : List Token)
+      → Answers ◌≤◌ (JoinedAt PlaceAt StepLastAt) operand_stop level ts
+      ((place_rule level read >>= step_last level read) ts)
+  place_step_answers ts =
+      joined_answers ◌≤◌ level_self PlaceAt StepLastAt (stop_at 1) operand_stop level ts step_last_follows
+      (place_rule level read ts) (step_last level read)
+      (λ m above p. ([], opened.Place p, inr (gives_it (opened.Place p)))) (place_answers level read reads ts)
+      (λ p us _. step_last_answers p us)
 
   pub alone_answers : (ts : List Token) → Answers ◌≤◌ OperandAt (stop_at 2) level ts (alone level read ts)
   unfolding alone
-  alone_answers ts = equal_answers ◌≤◌ level_self (EitherAt (MadeAt (JoinedAt PlaceAt StepLastAt) tree_of) OtherAt) OperandAt (stop_at 2) level ts (λ m. to_operand m (inner m)) (λ m. from_operand m (inner m)) (alone level read ts)
-      (choice_answers (MadeAt (JoinedAt PlaceAt StepLastAt) tree_of) OtherAt (is terminal.Variable) begins_other (stop_at 2) level ts refl
-      (made_starts (JoinedAt PlaceAt StepLastAt) tree_of (is terminal.Variable) (joined_starts PlaceAt StepLastAt (is terminal.Variable) place_starts)) other_starts
+  alone_answers ts =
+      equal_answers ◌≤◌ level_self (EitherAt (MadeAt (JoinedAt PlaceAt StepLastAt) tree_of) OtherAt) OperandAt
+      (stop_at 2) level ts (λ m. to_operand m (inner m)) (λ m. from_operand m (inner m)) (alone level read ts)
+      (choice_answers (MadeAt (JoinedAt PlaceAt StepLastAt) tree_of) OtherAt (is terminal.Variable) begins_other
+      (stop_at 2) level ts refl
+      (made_starts (JoinedAt PlaceAt StepLastAt) tree_of (is terminal.Variable)
+      (joined_starts PlaceAt StepLastAt (is terminal.Variable) place_starts)) other_starts
       (made (place_rule level read >>= step_last level read) tree_of ts) (other level read ts)
-      (λ _. made_answers ◌≤◌ level_self (JoinedAt PlaceAt StepLastAt) tree_of operand_stop (stop_at 2) level ts tree_stop ((place_rule level read >>= step_last level read) ts) (place_step_answers ts))
+      (λ _. made_answers ◌≤◌ level_self (JoinedAt PlaceAt StepLastAt) tree_of operand_stop
+      (stop_at 2) level ts tree_stop ((place_rule level read >>= step_last level read) ts) (place_step_answers ts))
       (λ _. other_answers ts))

@@ -197,8 +197,8 @@ pub(crate) fn place_over<R: Inside + Drop>(
     Grammar::new(alloc, level, inner).place_rule(tokens)
 }
 
-/// Reads a part of an expression with at most so many levels of nesting, and leaves what stands behind it. A refusal names
-/// the first token that is wrong or too deep, or is out of memory.
+/// Reads a part of an expression with at most so many levels of nesting, and leaves what stands behind it. A refusal
+/// names the first token that is wrong or too deep, or is out of memory.
 pub fn expression(
     alloc: Global,
     tokens: &mut Tokens<'_>,

@@ -1,5 +1,5 @@
-//! The rules of expressions as one value: how many levels of nesting are left, and what reads a part one level down. Each
-//! rule is a method of it, so that it is proved by itself.
+//! The rules of expressions as one value: how many levels of nesting are left, and what reads a part one level down.
+//! Each rule is a method of it, so that it is proved by itself.
 
 ghost use Rattle.std.specs.Prelude.{◌≡◌, ◌<◌, OnOk};
 ghost use Rattle.dp_rules.specs.inner.Input.{Reads, enter};

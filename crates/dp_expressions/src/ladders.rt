@@ -44,7 +44,8 @@ impl<R: Inside> Grammar<R> {
     #[cycle(ladder)]
     #[tactic(auto, unfolding(crate::specs::inner::Reading::link_of))]
     fn link_of(&self, tokens: &mut Tokens<'_>, more: &[Rank], rank: Rank) -> Result<Link, Refusal>
-        ensures { Reads (spec.link_of (spec.ladder more.now (within spec.alone self.now)) rank tokens.old) result tokens.new }
+        ensures { Reads (spec.link_of (spec.ladder more.now (within spec.alone self.now)) rank tokens.old) result
+            tokens.new }
     {
         let operator = operator(tokens, rank)?;
         let operand = self.ladder(tokens, more)?;
@@ -59,7 +60,8 @@ impl<R: Inside> Grammar<R> {
         rank: Rank,
         all: Items<Link>,
     ) -> Result<ControlFlow<Items<Link>, Items<Link>>, Refusal>
-        ensures { Reads (spec.links_step (spec.ladder more.now (within spec.alone self.now)) rank all tokens.old) result tokens.new }
+        ensures { Reads (spec.links_step (spec.ladder more.now (within spec.alone self.now)) rank all tokens.old)
+            result tokens.new }
     {
         if may_go_on(rank, all.as_slice()) && operator_in(rank, tokens.peek()).is_some() {
             let link = self.link_of(tokens, more, rank)?;
@@ -76,7 +78,8 @@ impl<R: Inside> Grammar<R> {
         more: &[Rank],
         rank: Rank,
     ) -> Result<Items<Link>, Refusal>
-        ensures { Reads (spec.links_of (spec.ladder more.now (within spec.alone self.now)) rank tokens.old) result tokens.new }
+        ensures { Reads (spec.links_of (spec.ladder more.now (within spec.alone self.now)) rank tokens.old) result
+            tokens.new }
     {
         let mut state = none(self.alloc());
         for _turn in 0..tokens.left() + 1 {

@@ -7,8 +7,8 @@ ghost use Rattle.dp_expressions.specs.Grammar.{IsPlace};
 ghost use Rattle.dp_expressions.specs.Longest.{IsReadBy, rule_of, may_read};
 ghost use Rattle.dp_expressions.specs.inner.Reading.{reading, reading_place};
 
-/// What `expression` and `place` answer is the grammar's: the longest text that is spelled, or the first token with which
-/// nothing is.
+/// What `expression` and `place` answer is the grammar's: the longest text that is spelled, or the first token with
+/// which nothing is.
 pub fn reads_the_grammar()
     ensures expressions { (part : Part) (level : ℕ) (tokens : List Token) → may_read part level tokens →
         IsReadBy (rule_of part) level tokens (reading level part tokens) }

@@ -1,5 +1,6 @@
-//! Expressions: their grammar as rules over tokens, and the functions that read them. A part of an expression is read with
-//! as many levels of nesting as it is given; what stands behind it is left to the caller. Statements come a layer above.
+//! Expressions: their grammar as rules over tokens, and the functions that read them. A part of an expression is read
+//! with as many levels of nesting as it is given; what stands behind it is left to the caller. Statements come a layer
+//! above.
 #![tactic(auto)]
 
 mod expressions;

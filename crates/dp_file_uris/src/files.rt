@@ -44,9 +44,9 @@ fn decoded(alloc: Global, path: &[u8]) -> Result<Bytes, Memory>
     Ok(Bytes::of(name))
 }
 
-/// The number of the file that a value of `-f` names, from 0, if the bundle has it. The name is what stands behind `file:///`,
-/// with its percent escapes decoded; a value that does not begin so is a name as it is. It is the file's where the two are equal
-/// without one leading `/` of each. A file's own URI names it, unless its name begins with `//`
+/// The number of the file that a value of `-f` names, from 0, if the bundle has it. The name is what stands behind
+/// `file:///`, with its percent escapes decoded; a value that does not begin so is a name as it is. It is the file's
+/// where the two are equal without one leading `/` of each. A file's own URI names it, unless its name begins with `//`
 /// ([`crate::file_uris_are_read_back`]).
 #[tactic(auto, unfolding(crate::specs::Files::name_in))]
 pub fn requested_file(alloc: Global, bundle: &Bundle, value: &[u8]) -> Result<Option<u32>, Memory>

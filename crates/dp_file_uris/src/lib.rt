@@ -1,4 +1,5 @@
-//! The files of a program by their names: what a value of `-f` names, and that the URIs which packets show are read back.
+//! The files of a program by their names: what a value of `-f` names, and that the URIs which packets show are read
+//! back.
 #![tactic(auto)]
 
 mod files;

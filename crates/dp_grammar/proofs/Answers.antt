@@ -1,8 +1,8 @@
 -- What the outcome of a reader says of the rule that it reads, and how that composes.
 --
--- `Answers` says all at once: what is found is spelled; nothing else is, at any level of nesting; at a refusal the symbols
--- before the bad one begin a spelling, and with it they begin none: of no level, or, where it is too deep, not of this
--- level, but of one above.
+-- `Answers` says all at once: what is found is spelled; nothing else is, at any level of nesting; at a refusal the
+-- symbols before the bad one begin a spelling, and with it they begin none: of no level, or, where it is too deep, not
+-- of this level, but of one above.
 use Rattle.std.specs.declared.ops.ControlFlow.{ControlFlow}
 use Rattle.std.proofs.Common.{◌≡◌, ◌⊎◌, inl, inr, ℕ, zero, suc, ◌<◌, ◌≤◌, Bool, true, false, ◌||◌, List, [], ◌∷◌, ◌++◌, length, Option, Some, None, Ok, Err, sym, refl, ap, ◌∙◌, subst, append_assoc, append-nil, cond, arith}
 use Rattle.dp_grammar.specs.declared.refusal.Refusal.TheVariants.{Unexpected, TooDeep, Memory}
@@ -55,7 +55,8 @@ abbrev pub ManyAt : {T L A : Type 0} → Rules T L A → Rules T L (List A)
 ManyAt rule = λ level. Many (rule level)
 
 -- The symbols begin with a spelling of a that may end there, and r is behind it.
-pub record Begins {T L A : Type 0} (rule : Rules T L A) (stop : Stop T A) (m : L) (ts : List T) (a : A) (r : List T) : Type 0 where
+pub record Begins {T L A : Type 0} (rule : Rules T L A) (stop : Stop T A) (m : L) (ts : List T) (a : A)
+    (r : List T) : Type 0 where
   pub text : List T
   pub split : ts ≡ text ++ r
   pub spelled : rule m text a
@@ -66,24 +67,32 @@ abbrev pub Agrees : {T : Type 0} → List T → List T → List T → Type 0
 Agrees front [] us = us ≡ front
 Agrees {T = T} front (x ∷ rest) us = (more : List T) × (us ≡ front ++ (x ∷ more))
 
-pub record IsRead {T L A : Type 0} (Above : L → L → Type 0) (rule : Rules T L A) (stop : Stop T A) (level : L) (ts : List T) (a : A) (r : List T) : Type 0 where
+pub record IsRead {T L A : Type 0} (Above : L → L → Type 0) (rule : Rules T L A) (stop : Stop T A) (level : L)
+    (ts : List T) (a : A) (r : List T) : Type 0 where
   pub text : List T
   pub split : ts ≡ text ++ r
   pub spelled : (m : L) → Above level m → rule m text a
-  pub only : (m : L) (s : List T) → head s ≡ head r → (b : A) (q : List T) → Begins rule stop m (text ++ s) b q → (b ≡ a) × (q ≡ s)
+  pub only : (m : L) (s : List T) → head s ≡ head r → (b : A) (q : List T) → Begins rule stop m (text ++ s) b q
+      → (b ≡ a) × (q ≡ s)
 
 -- where a level above has a spelling that begins with the first symbol of ts
 abbrev pub Opens : {T L A : Type 0} → (L → L → Type 0) → Rules T L A → L → List T → Type 0
-Opens {T = T} {L = L} {A = A} Above rule level ts = (m : L) × Above level m × (x : T) × (after : List T) × (more : List T) × (a : A) × (ts ≡ x ∷ after) × rule m (x ∷ more) a
+Opens {T = T} {L = L} {A = A} Above rule level ts =
+    (m : L) × Above level m × (x : T) × (after : List T) × (more : List T) × (a : A) × (ts ≡ x ∷ after)
+    × rule m (x ∷ more) a
 
-pub record IsRefused {T L A : Type 0} (Above : L → L → Type 0) (rule : Rules T L A) (stop : Stop T A) (level : L) (ts : List T) (deep : Bool) (left : ℕ) : Type 0 where
+pub record IsRefused {T L A : Type 0} (Above : L → L → Type 0) (rule : Rules T L A) (stop : Stop T A) (level : L)
+    (ts : List T) (deep : Bool) (left : ℕ) : Type 0 where
   pub front : List T
   pub rest : List T
   pub split : ts ≡ front ++ rest
   pub is_left : length rest ≡ left
   pub viable : (front ≡ []) ⊎ ((more : List T) × (a : A) × rule level (front ++ more) a)
-  pub dead : (m : L) → (deep ≡ true → m ≡ level) → (us : List T) → Agrees front rest us → (a : A) (q : List T) → Begins rule stop m us a q → ⊥
-  pub beyond : deep ≡ true → (m : L) × Above level m × (x : T) × (after : List T) × (more : List T) × (a : A) × (rest ≡ x ∷ after) × rule m (front ++ (x ∷ more)) a
+  pub dead : (m : L) → (deep ≡ true → m ≡ level) → (us : List T) → Agrees front rest us → (a : A) (q : List T)
+      → Begins rule stop m us a q → ⊥
+  pub beyond : deep ≡ true
+      → (m : L) × Above level m × (x : T) × (after : List T) × (more : List T) × (a : A) × (rest ≡ x ∷ after)
+      × rule m (front ++ (x ∷ more)) a
 
 abbrev pub Answers : {T L A : Type 0} → (L → L → Type 0) → Rules T L A → Stop T A → L → List T → Outcome T A → Type 0
 Answers Above rule stop level ts (Ok x) = IsRead Above rule stop level ts x.0 x.1
@@ -94,7 +103,8 @@ Answers Above rule stop level ts (Err Memory) = ⊥
 -- What comes behind the first rule does not go on with it.
 abbrev pub Follows : {T L A B : Type 0} → Stop T A → (A → Rules T L B) → Stop T B → Type 0
 Follows {T = T} {L = L} {A = A} {B = B} first_stop second stop =
-    (m : L) (a : A) (ts : List T) (b : B) (r : List T) → second a m ts b → stop b (head r) ≡ true → first_stop a (head (ts ++ r)) ≡ true
+    (m : L) (a : A) (ts : List T) (b : B) (r : List T) → second a m ts b → stop b (head r) ≡ true
+    → first_stop a (head (ts ++ r)) ≡ true
 
 -- the rule spells something at each level above
 abbrev pub Can : {T L A : Type 0} → (L → L → Type 0) → L → Rules T L A → Type 0
@@ -102,15 +112,20 @@ Can {T = T} {L = L} {A = A} Above level rule = (m : L) → Above level m → (ts
 
 -- each value can be gone on from, at each level above
 abbrev pub GoesOn : {T L A B : Type 0} → (L → L → Type 0) → L → (A → Rules T L B) → Type 0
-GoesOn {T = T} {L = L} {A = A} {B = B} Above level second = (m : L) → Above level m → (a : A) → (ts : List T) × (b : B) × second a m ts b
+GoesOn {T = T} {L = L} {A = A} {B = B} Above level second =
+    (m : L) → Above level m → (a : A) → (ts : List T) × (b : B) × second a m ts b
 
 -- each spelling begins with a symbol that passes the test
 abbrev pub StartsIn : {T L A : Type 0} → Rules T L A → (Option T → Bool) → Type 0
-StartsIn {T = T} {L = L} {A = A} rule test = (m : L) (text : List T) (a : A) → rule m text a → (x : T) × (rest : List T) × (text ≡ x ∷ rest) × (test (Some x) ≡ true)
+StartsIn {T = T} {L = L} {A = A} rule test =
+    (m : L) (text : List T) (a : A) → rule m text a
+    → (x : T) × (rest : List T) × (text ≡ x ∷ rest) × (test (Some x) ≡ true)
 
 -- No spelling, with what may be behind it, begins with a symbol that passes the test.
 abbrev pub Apart : {T L A : Type 0} → Rules T L A → Stop T A → (Option T → Bool) → Type 0
-Apart {T = T} {L = L} {A = A} rule stop test = (m : L) (text : List T) (a : A) (r : List T) → rule m text a → stop a (head r) ≡ true → test (head (text ++ r)) ≡ false
+Apart {T = T} {L = L} {A = A} rule stop test =
+    (m : L) (text : List T) (a : A) (r : List T) → rule m text a → stop a (head r) ≡ true
+    → test (head (text ++ r)) ≡ false
 
 -- ---- lists of symbols
 
@@ -125,75 +140,114 @@ agrees_head [] (x ∷ rest) us a = ap head a.1
 agrees_head (t ∷ front) (x ∷ rest) us a = ap head a.1
 
 -- what is behind the front, if the symbols agree
-pub tail_of : {T : Type 0} (front rest us : List T) → Agrees front rest us → (tail : List T) × (us ≡ front ++ tail) × (head tail ≡ head rest)
+pub tail_of : {T : Type 0} (front rest us : List T) → Agrees front rest us
+    → (tail : List T) × (us ≡ front ++ tail) × (head tail ≡ head rest)
 tail_of front [] us agrees = ([], agrees ∙ sym (append-nil front), refl)
 tail_of front (x ∷ rest) us agrees = (x ∷ agrees.0, agrees.1, refl)
 
-agrees_behind : {T : Type 0} (text front rest us : List T) → Agrees (text ++ front) rest us → (tail : List T) × (us ≡ text ++ tail) × Agrees front rest tail
+agrees_behind : {T : Type 0} (text front rest us : List T) → Agrees (text ++ front) rest us
+    → (tail : List T) × (us ≡ text ++ tail) × Agrees front rest tail
 agrees_behind text front [] us agrees = (front, agrees, refl)
-agrees_behind text front (x ∷ rest) us agrees = (front ++ (x ∷ agrees.0), agrees.1 ∙ append_assoc text front (x ∷ agrees.0), (agrees.0, refl))
+agrees_behind text front (x ∷ rest) us agrees =
+    (front ++ (x ∷ agrees.0), agrees.1 ∙ append_assoc text front (x ∷ agrees.0), (agrees.0, refl))
 
 -- ---- spellings
 
 -- a rule's spelling, for a value made of its value
 pub give : {T A B : Type 0} (rule : Rule T A) (f : A → B) (text : List T) (a : A) → rule text a → Made rule f text (f a)
-give rule f text a h = record { front = text; back = []; value = a; split = sym (append-nil text); one = h; other = record { empty = refl; same = refl } }
+give rule f text a h =
+    record {
+      front = text;
+      back = [];
+      value = a;
+      split = sym (append-nil text);
+      one = h;
+      other = record
+          { empty = refl; same = refl };
+    }
 
-pub given : {T A B : Type 0} (rule : Rule T A) (f : A → B) (text : List T) (b : B) → Made rule f text b → (a : A) × rule text a × (b ≡ f a)
-given rule f text b j = (j.value, subst (λ l. rule l j.value) (sym (j.split ∙ ap (λ l. j.front ++ l) j.other.empty ∙ append-nil j.front)) j.one, j.other.same)
+pub given : {T A B : Type 0} (rule : Rule T A) (f : A → B) (text : List T) (b : B) → Made rule f text b
+    → (a : A) × rule text a × (b ≡ f a)
+given rule f text b j = (
+  j.value,
+  subst (λ l. rule l j.value) (sym (j.split ∙ ap (λ l. j.front ++ l) j.other.empty ∙ append-nil j.front))
+      j.one,
+  j.other.same,
+)
 
 -- the one behind the other
-pub behind : {T A B : Type 0} (first : Rule T A) (second : A → Rule T B) (front back : List T) (a : A) (b : B) → first front a → second a back b → Joined first second (front ++ back) b
-behind first second front back a b one other = record { front = front; back = back; value = a; split = refl; one = one; other = other }
+pub behind : {T A B : Type 0} (first : Rule T A) (second : A → Rule T B) (front back : List T) (a : A) (b : B)
+    → first front a → second a back b → Joined first second (front ++ back) b
+behind first second front back a b one other =
+    record { front = front; back = back; value = a; split = refl; one = one; other = other }
 
 -- ---- what a rule starts with
 
 -- what begins with a spelling begins with a symbol of the test
-pub begun : {T L A : Type 0} (rule : Rules T L A) (test : Option T → Bool) → StartsIn rule test → (m : L) (text r : List T) (a : A) → rule m text a → test (head (text ++ r)) ≡ true
+pub begun : {T L A : Type 0} (rule : Rules T L A) (test : Option T → Bool) → StartsIn rule test
+    → (m : L) (text r : List T) (a : A) → rule m text a → test (head (text ++ r)) ≡ true
 begun rule test starts m text r a spelled = let s = starts m text a spelled in ap (λ l. test (head (l ++ r))) s.2 ∙ s.3
 
-pub one_starts : {T L A : Type 0} (worth : T → Option A) (test : Option T → Bool) → ((t : T) (a : A) → worth t ≡ Some a → test (Some t) ≡ true) → StartsIn {T = T} {L = L} (OneAt worth) test
+pub one_starts : {T L A : Type 0} (worth : T → Option A) (test : Option T → Bool)
+    → ((t : T) (a : A) → worth t ≡ Some a → test (Some t) ≡ true) → StartsIn {T = T} {L = L} (OneAt worth) test
 one_starts worth test passes m text a o = (o.symbol, [], o.alone, passes o.symbol a o.is_worth)
 
-pub joined_starts : {T L A B : Type 0} (first : Rules T L A) (second : A → Rules T L B) (test : Option T → Bool) → StartsIn first test → StartsIn (JoinedAt first second) test
-joined_starts first second test starts m text b j = let s = starts m j.front j.value j.one in (s.0, s.1 ++ j.back, j.split ∙ ap (λ l. l ++ j.back) s.2, s.3)
+pub joined_starts : {T L A B : Type 0} (first : Rules T L A) (second : A → Rules T L B) (test : Option T → Bool)
+    → StartsIn first test → StartsIn (JoinedAt first second) test
+joined_starts first second test starts m text b j =
+    let s = starts m j.front j.value j.one in (s.0, s.1 ++ j.back, j.split ∙ ap (λ l. l ++ j.back) s.2, s.3)
 
-pub made_starts : {T L A B : Type 0} (rule : Rules T L A) (f : A → B) (test : Option T → Bool) → StartsIn rule test → StartsIn (MadeAt rule f) test
+pub made_starts : {T L A B : Type 0} (rule : Rules T L A) (f : A → B) (test : Option T → Bool) → StartsIn rule test
+    → StartsIn (MadeAt rule f) test
 made_starts rule f = joined_starts rule (λ a. GivesAt (f a))
 
-pub either_starts : {T L A : Type 0} (first second : Rules T L A) (test : Option T → Bool) → StartsIn first test → StartsIn second test → StartsIn (EitherAt first second) test
+pub either_starts : {T L A : Type 0} (first second : Rules T L A) (test : Option T → Bool) → StartsIn first test
+    → StartsIn second test → StartsIn (EitherAt first second) test
 either_starts first second test one other m text a (inl h) = one m text a h
 either_starts first second test one other m text a (inr h) = other m text a h
 
-pub when_starts : {T L A : Type 0} (condition : Bool) (rule : Rules T L A) (test : Option T → Bool) → StartsIn rule test → StartsIn (WhenAt condition rule) test
+pub when_starts : {T L A : Type 0} (condition : Bool) (rule : Rules T L A) (test : Option T → Bool) → StartsIn rule test
+    → StartsIn (WhenAt condition rule) test
 when_starts condition rule test starts m text a h = starts m text a h.spelled
 
-pub nests_starts : {T L A : Type 0} (depth : L → ℕ) (rule : Rules T L A) (test : Option T → Bool) → StartsIn rule test → StartsIn (NestsAt depth rule) test
+pub nests_starts : {T L A : Type 0} (depth : L → ℕ) (rule : Rules T L A) (test : Option T → Bool) → StartsIn rule test
+    → StartsIn (NestsAt depth rule) test
 nests_starts depth rule test starts m text a h = starts m text a h.spelled
 
-pub starts_in_more : {T L A : Type 0} (rule : Rules T L A) (test wider : Option T → Bool) → ((s : Option T) → test s ≡ true → wider s ≡ true) → StartsIn rule test → StartsIn rule wider
-starts_in_more rule test wider more starts m text a h = let s = starts m text a h in (s.0, s.1, s.2, more (Some s.0) s.3)
+pub starts_in_more : {T L A : Type 0} (rule : Rules T L A) (test wider : Option T → Bool)
+    → ((s : Option T) → test s ≡ true → wider s ≡ true) → StartsIn rule test → StartsIn rule wider
+starts_in_more rule test wider more starts m text a h =
+    let s = starts m text a h in (s.0, s.1, s.2, more (Some s.0) s.3)
 
 -- each with a test of its own
-pub or_starts : {T L A : Type 0} (first second : Rules T L A) (s t : Option T → Bool) → StartsIn first s → StartsIn second t → StartsIn (EitherAt first second) (λ x. s x || t x)
+pub or_starts : {T L A : Type 0} (first second : Rules T L A) (s t : Option T → Bool) → StartsIn first s
+    → StartsIn second t → StartsIn (EitherAt first second) (λ x. s x || t x)
 or_starts first second s t one other = either_starts first second (λ x. s x || t x)
-    (starts_in_more first s (λ x. s x || t x) (λ x. or_left (s x) (t x)) one) (starts_in_more second t (λ x. s x || t x) (λ x. or_right (s x) (t x)) other)
+    (starts_in_more first s (λ x. s x || t x) (λ x. or_left (s x) (t x)) one)
+    (starts_in_more second t (λ x. s x || t x) (λ x. or_right (s x) (t x)) other)
 
 -- what starts with other symbols
-pub starts_apart : {T L A : Type 0} (rule : Rules T L A) (stop : Stop T A) (test other : Option T → Bool) → ((s : Option T) → other s ≡ true → test s ≡ false) → StartsIn rule other → Apart rule stop test
-starts_apart rule stop test other apart starts m text a r h is = let x = starts m text a h in ap (λ l. test (head (l ++ r))) x.2 ∙ apart (Some x.0) x.3
+pub starts_apart : {T L A : Type 0} (rule : Rules T L A) (stop : Stop T A) (test other : Option T → Bool)
+    → ((s : Option T) → other s ≡ true → test s ≡ false) → StartsIn rule other → Apart rule stop test
+starts_apart rule stop test other apart starts m text a r h is =
+    let x = starts m text a h in ap (λ l. test (head (l ++ r))) x.2 ∙ apart (Some x.0) x.3
 
 -- what is empty, before other symbols
-pub gives_apart : {T L A : Type 0} (a : A) (stop : Stop T A) (test : Option T → Bool) → ((s : Option T) → stop a s ≡ true → test s ≡ false) → Apart {T = T} {L = L} (GivesAt a) stop test
-gives_apart a stop test apart m text b r g is = ap (λ l. test (head (l ++ r))) g.empty ∙ apart (head r) (ap (λ x. stop x (head r)) (sym g.same) ∙ is)
+pub gives_apart : {T L A : Type 0} (a : A) (stop : Stop T A) (test : Option T → Bool)
+    → ((s : Option T) → stop a s ≡ true → test s ≡ false) → Apart {T = T} {L = L} (GivesAt a) stop test
+gives_apart a stop test apart m text b r g is =
+    ap (λ l. test (head (l ++ r))) g.empty ∙ apart (head r) (ap (λ x. stop x (head r)) (sym g.same) ∙ is)
 
 -- the same, for a value made of what was read
-pub made_apart : {T L A B : Type 0} (rule : Rules T L A) (f : A → B) (rule_stop : Stop T A) (stop : Stop T B) (test : Option T → Bool) → ((a : A) (s : Option T) → stop (f a) s ≡ true → rule_stop a s ≡ true) → Apart rule rule_stop test → Apart (MadeAt rule f) stop test
+pub made_apart : {T L A B : Type 0} (rule : Rules T L A) (f : A → B) (rule_stop : Stop T A) (stop : Stop T B)
+    (test : Option T → Bool) → ((a : A) (s : Option T) → stop (f a) s ≡ true → rule_stop a s ≡ true)
+    → Apart rule rule_stop test → Apart (MadeAt rule f) stop test
 made_apart rule f rule_stop stop test weaker apart m text b r h is =
     let g = given (rule m) f text b h in
     apart m text g.0 r g.1 (weaker g.0 (head r) (ap (λ x. stop x (head r)) (sym g.2) ∙ is))
 
-pub either_apart : {T L A : Type 0} (first second : Rules T L A) (stop : Stop T A) (test : Option T → Bool) → Apart first stop test → Apart second stop test → Apart (EitherAt first second) stop test
+pub either_apart : {T L A : Type 0} (first second : Rules T L A) (stop : Stop T A) (test : Option T → Bool)
+    → Apart first stop test → Apart second stop test → Apart (EitherAt first second) stop test
 either_apart first second stop test one other m text a r (inl h) is = one m text a r h is
 either_apart first second stop test one other m text a r (inr h) is = other m text a r h is
 
@@ -203,21 +257,30 @@ pub anything_follows : {T L A B : Type 0} (second : A → Rules T L B) (stop : S
 anything_follows second stop m a ts b r h is = refl
 
 -- each value, before what starts with symbols that stop it
-pub starts_follow : {T L A B : Type 0} (first_stop : Stop T A) (second : A → Rules T L B) (stop : Stop T B) (test : Option T → Bool) → ((a : A) (s : Option T) → test s ≡ true → first_stop a s ≡ true) → ((a : A) → StartsIn (second a) test)
+pub starts_follow : {T L A B : Type 0} (first_stop : Stop T A) (second : A → Rules T L B) (stop : Stop T B)
+    (test : Option T → Bool) → ((a : A) (s : Option T) → test s ≡ true → first_stop a s ≡ true)
+    → ((a : A) → StartsIn (second a) test)
     → Follows first_stop second stop
-starts_follow first_stop second stop test stops starts m a ts b r h is = stops a (head (ts ++ r)) (begun (second a) test (starts a) m ts r b h)
+starts_follow first_stop second stop test stops starts m a ts b r h is =
+    stops a (head (ts ++ r)) (begun (second a) test (starts a) m ts r b h)
 
-pub gives_follow : {T L A B : Type 0} (f : A → B) (first_stop : Stop T A) (stop : Stop T B) → ((a : A) (s : Option T) → stop (f a) s ≡ true → first_stop a s ≡ true) → Follows {T = T} {L = L} first_stop (λ a. GivesAt (f a)) stop
-gives_follow f first_stop stop weaker m a text b r g is = ap (λ l. first_stop a (head (l ++ r))) g.empty ∙ weaker a (head r) (ap (λ x. stop x (head r)) (sym g.same) ∙ is)
+pub gives_follow : {T L A B : Type 0} (f : A → B) (first_stop : Stop T A) (stop : Stop T B)
+    → ((a : A) (s : Option T) → stop (f a) s ≡ true → first_stop a s ≡ true)
+    → Follows {T = T} {L = L} first_stop (λ a. GivesAt (f a)) stop
+gives_follow f first_stop stop weaker m a text b r g is =
+    ap (λ l. first_stop a (head (l ++ r))) g.empty ∙ weaker a (head r) (ap (λ x. stop x (head r)) (sym g.same) ∙ is)
 
-pub either_follows : {T L A B : Type 0} (first_stop : Stop T A) (one other : A → Rules T L B) (stop : Stop T B) → Follows first_stop one stop → Follows first_stop other stop → Follows first_stop (λ a. EitherAt (one a) (other a)) stop
+pub either_follows : {T L A B : Type 0} (first_stop : Stop T A) (one other : A → Rules T L B) (stop : Stop T B)
+    → Follows first_stop one stop → Follows first_stop other stop
+    → Follows first_stop (λ a. EitherAt (one a) (other a)) stop
 either_follows first_stop one other stop first second m a ts b r (inl h) is = first m a ts b r h is
 either_follows first_stop one other stop first second m a ts b r (inr h) is = second m a ts b r h is
 
 module _ {T L : Type 0} (Above : L → L → Type 0) (same_level : (l : L) → Above l l) where
   -- a refusal at the first symbol, of a rule that begins with no such symbol
   pub refused_here : {A : Type 0} (rule : Rules T L A) (stop : Stop T A) (level : L) (ts : List T)
-      → ((m : L) (us : List T) → head us ≡ head ts → (a : A) (q : List T) → Begins rule stop m us a q → ⊥) → IsRefused Above rule stop level ts false (length ts)
+      → ((m : L) (us : List T) → head us ≡ head ts → (a : A) (q : List T) → Begins rule stop m us a q → ⊥)
+      → IsRefused Above rule stop level ts false (length ts)
   refused_here rule stop level ts none = record {
     front = [];
     rest = ts;
@@ -243,7 +306,8 @@ module _ {T L : Type 0} (Above : L → L → Type 0) (same_level : (l : L) → A
           (cc, cc);
     }
 
-    one_refused : (t : T) (ts : List T) → worth t ≡ None → IsRefused Above (OneAt worth) stop level (t ∷ ts) false (length (t ∷ ts))
+    one_refused : (t : T) (ts : List T) → worth t ≡ None
+        → IsRefused Above (OneAt worth) stop level (t ∷ ts) false (length (t ∷ ts))
     one_refused t ts none = record {
       front = [];
       rest = t ∷ ts;
@@ -251,7 +315,8 @@ module _ {T L : Type 0} (Above : L → L → Type 0) (same_level : (l : L) → A
       is_left = refl;
       viable = inl refl;
       dead = λ m bound us agrees a q begins.
-          let there : t ∷ agrees.0 ≡ begins.spelled.symbol ∷ q = sym agrees.1 ∙ begins.split ∙ ap (λ l. l ++ q) begins.spelled.alone in
+          let there : t ∷ agrees.0 ≡ begins.spelled.symbol ∷ q = sym agrees.1 ∙ begins.split
+          ∙ ap (λ l. l ++ q) begins.spelled.alone in
           let same : t ≡ begins.spelled.symbol = cc in
           let found : worth t ≡ Some a = ap (λ x. worth x) same ∙ begins.spelled.is_worth in
           cc;
@@ -265,7 +330,9 @@ module _ {T L : Type 0} (Above : L → L → Type 0) (same_level : (l : L) → A
       split = refl;
       is_left = refl;
       viable = inl refl;
-      dead = λ m bound us agrees a q begins. let there : [] ≡ begins.spelled.symbol ∷ q = sym agrees ∙ begins.split ∙ ap (λ l. l ++ q) begins.spelled.alone in cc;
+      dead =
+          λ m bound us agrees a q begins. let there : [] ≡ begins.spelled.symbol ∷ q = sym agrees ∙ begins.split
+          ∙ ap (λ l. l ++ q) begins.spelled.alone in cc;
       beyond = λ deep. absurd (cc);
     }
 
@@ -279,7 +346,8 @@ module _ {T L : Type 0} (Above : L → L → Type 0) (same_level : (l : L) → A
 
   -- ---- no symbol
 
-  pub gives_answers : {A : Type 0} (value : A) (stop : Stop T A) (level : L) (ts : List T) → Answers Above (GivesAt value) stop level ts (Ok (value, ts))
+  pub gives_answers : {A : Type 0} (value : A) (stop : Stop T A) (level : L) (ts : List T)
+      → Answers Above (GivesAt value) stop level ts (Ok (value, ts))
   gives_answers value stop level ts = record {
     text = [];
     split = refl;
@@ -289,7 +357,8 @@ module _ {T L : Type 0} (Above : L → L → Type 0) (same_level : (l : L) → A
 
   -- ---- one after the other
 
-  module _ {A B : Type 0} (first : Rules T L A) (second : A → Rules T L B) (first_stop : Stop T A) (stop : Stop T B) (level : L) (ts : List T) (follows : Follows first_stop second stop) where
+  module _ {A B : Type 0} (first : Rules T L A) (second : A → Rules T L B) (first_stop : Stop T A) (stop : Stop T B)
+      (level : L) (ts : List T) (follows : Follows first_stop second stop) where
     -- what begins with both rules begins with the first
     begins_first : (m : L) (us : List T) (b : B) (q : List T) → (begins : Begins (JoinedAt first second) stop m us b q)
         → Begins first first_stop m us begins.spelled.value (begins.spelled.back ++ q)
@@ -301,23 +370,42 @@ module _ {T L : Type 0} (Above : L → L → Type 0) (same_level : (l : L) → A
     }
 
     -- and, behind what was read by the first, with the second
-    begins_second : {a : A} {r : List T} → (read : IsRead Above first first_stop level ts a r) → (m : L) (tail : List T) → head tail ≡ head r → (b : B) (q : List T)
+    begins_second : {a : A} {r : List T} → (read : IsRead Above first first_stop level ts a r) → (m : L) (tail : List T)
+        → head tail ≡ head r → (b : B) (q : List T)
         → Begins (JoinedAt first second) stop m (read.text ++ tail) b q → Begins (second a) stop m tail b q
     begins_second read m tail e b q begins =
         let j = begins.spelled in
         let same = read.only m tail e j.value (j.back ++ q) (begins_first m (read.text ++ tail) b q begins) in
-        record { text = j.back; split = sym same.1; spelled = subst (λ v. second v m j.back b) same.0 j.other; stops = begins.stops }
+        record {
+          text = j.back;
+          split = sym same.1;
+          spelled = subst
+              (λ v. second v m j.back b) same.0 j.other;
+          stops = begins.stops;
+        }
 
-    joined_read : {a : A} {r : List T} {b : B} {q : List T} → IsRead Above first first_stop level ts a r → IsRead Above (second a) stop level r b q → IsRead Above (JoinedAt first second) stop level ts b q
+    joined_read : {a : A} {r : List T} {b : B} {q : List T} → IsRead Above first first_stop level ts a r
+        → IsRead Above (second a) stop level r b q → IsRead Above (JoinedAt first second) stop level ts b q
     joined_read {a = a} {q = q} read inner = record {
       text = read.text ++ inner.text;
       split = read.split ∙ ap (λ l. read.text ++ l) inner.split ∙ sym (append_assoc read.text inner.text q);
-      spelled = λ m above. record { front = read.text; back = inner.text; value = a; split = refl; one = read.spelled m above; other = inner.spelled m above };
-      only = λ m s e b2 q2 begins. inner.only m s e b2 q2 (begins_second read m (inner.text ++ s) (head_agrees inner.text q s e ∙ ap head (sym inner.split)) b2 q2
+      spelled =
+          λ m above. record {
+            front = read.text;
+            back = inner.text;
+            value = a;
+            split = refl;
+            one = read.spelled m above;
+            other = inner.spelled m above;
+          };
+      only =
+          λ m s e b2 q2 begins. inner.only m s e b2 q2 (begins_second read m (inner.text ++ s)
+          (head_agrees inner.text q s e ∙ ap head (sym inner.split)) b2 q2
           (subst (λ l. Begins (JoinedAt first second) stop m l b2 q2) (append_assoc read.text inner.text s) begins));
     }
 
-    second_refused : {a : A} {r : List T} {deep : Bool} {left : ℕ} → GoesOn Above level second → IsRead Above first first_stop level ts a r → IsRefused Above (second a) stop level r deep left
+    second_refused : {a : A} {r : List T} {deep : Bool} {left : ℕ} → GoesOn Above level second
+        → IsRead Above first first_stop level ts a r → IsRefused Above (second a) stop level r deep left
         → IsRefused Above (JoinedAt first second) stop level ts deep left
     second_refused {a = a} goes_on read inner = record {
       front = read.text ++ inner.front;
@@ -325,18 +413,63 @@ module _ {T L : Type 0} (Above : L → L → Type 0) (same_level : (l : L) → A
       split = read.split ∙ ap (λ l. read.text ++ l) inner.split ∙ sym (append_assoc read.text inner.front inner.rest);
       is_left = inner.is_left;
       viable = inr (elim inner.viable [
-        | inl empty ↦ (let g = goes_on level (same_level level) a in (g.0, g.1, record { front = read.text; back = g.0; value = a; split = append_assoc read.text inner.front g.0 ∙ ap (λ l. read.text ++ (l ++ g.0)) empty; one = read.spelled level (same_level level); other = g.2 }))
-        | inr more ↦ (more.0, more.1, record { front = read.text; back = inner.front ++ more.0; value = a; split = append_assoc read.text inner.front more.0; one = read.spelled level (same_level level); other = more.2 })
+        | inl empty ↦ (let g = goes_on level (same_level level) a in (
+          g.0,
+          g.1,
+          record {
+            front = read.text;
+            back = g.0;
+            value = a;
+            split = append_assoc read.text inner.front g.0
+                ∙ ap (λ l. read.text ++ (l ++ g.0)) empty;
+            one = read.spelled level (same_level level);
+            other = g.2;
+          },
+        ))
+        | inr more ↦ (
+          more.0,
+          more.1,
+          record {
+            front = read.text;
+            back = inner.front
+                ++ more.0;
+            value = a;
+            split = append_assoc read.text inner.front more.0;
+            one = read.spelled level
+                (same_level level);
+            other = more.2;
+          },
+        )
       ]);
       dead = λ m bound us agrees b q begins.
           let behind = agrees_behind read.text inner.front inner.rest us agrees in
-          inner.dead m bound behind.0 behind.2 b q (begins_second read m behind.0 (agrees_head inner.front inner.rest behind.0 behind.2 ∙ ap head (sym inner.split)) b q
+          inner.dead m bound behind.0 behind.2 b q (begins_second read m behind.0
+          (agrees_head inner.front inner.rest behind.0 behind.2 ∙ ap head (sym inner.split)) b q
           (subst (λ l. Begins (JoinedAt first second) stop m l b q) behind.1 begins));
-      beyond = λ deep. let w = inner.beyond deep in
-          (w.0, w.1, w.2, w.3, w.4, w.5, w.6, record { front = read.text; back = inner.front ++ (w.2 ∷ w.4); value = a; split = append_assoc read.text inner.front (w.2 ∷ w.4); one = read.spelled w.0 w.1; other = w.7 });
+      beyond = λ deep. let w = inner.beyond deep in (
+        w.0,
+        w.1,
+        w.2,
+        w.3,
+        w.4,
+        w.5,
+        w.6,
+        record {
+          front = read.text;
+          back = inner.front
+              ++ (w.2 ∷ w.4);
+          value = a;
+          split = append_assoc read.text inner.front
+              (w.2 ∷ w.4);
+          one = read.spelled w.0 w.1;
+          other = w.7;
+        },
+      );
     }
 
-    first_refused : {deep : Bool} {left : ℕ} → GoesOn Above level second → IsRefused Above first first_stop level ts deep left → IsRefused Above (JoinedAt first second) stop level ts deep left
+    first_refused : {deep : Bool} {left : ℕ} → GoesOn Above level second
+        → IsRefused Above first first_stop level ts deep left
+        → IsRefused Above (JoinedAt first second) stop level ts deep left
     first_refused goes_on inner = record {
       front = inner.front;
       rest = inner.rest;
@@ -344,19 +477,55 @@ module _ {T L : Type 0} (Above : L → L → Type 0) (same_level : (l : L) → A
       is_left = inner.is_left;
       viable = elim inner.viable [
         | inl empty ↦ inl empty
-        | inr more ↦ (let g = goes_on level (same_level level) more.1 in inr (more.0 ++ g.0, g.1, record { front = inner.front ++ more.0; back = g.0; value = more.1; split = sym (append_assoc inner.front more.0 g.0); one = more.2; other = g.2 }))
+        | inr more ↦ (let g = goes_on level (same_level level) more.1 in inr (
+          more.0 ++ g.0,
+          g.1,
+          record {
+            front = inner.front
+                ++ more.0;
+            back = g.0;
+            value = more.1;
+            split = sym
+                (append_assoc inner.front more.0 g.0);
+            one = more.2;
+            other = g.2;
+          },
+        ))
       ];
-      dead = λ m bound us agrees b q begins. inner.dead m bound us agrees begins.spelled.value (begins.spelled.back ++ q) (begins_first m us b q begins);
-      beyond = λ deep. let w = inner.beyond deep in let g = goes_on w.0 w.1 w.5 in
-          (w.0, w.1, w.2, w.3, w.4 ++ g.0, g.1, w.6, record { front = inner.front ++ (w.2 ∷ w.4); back = g.0; value = w.5; split = sym (append_assoc inner.front (w.2 ∷ w.4) g.0); one = w.7; other = g.2 });
+      dead =
+          λ m bound us agrees b q begins. inner.dead m bound us agrees begins.spelled.value (begins.spelled.back ++ q)
+          (begins_first m us b q begins);
+      beyond = λ deep. let w = inner.beyond deep in let g = goes_on w.0 w.1 w.5 in (
+        w.0,
+        w.1,
+        w.2,
+        w.3,
+        w.4
+            ++ g.0,
+        g.1,
+        w.6,
+        record {
+          front = inner.front
+              ++ (w.2 ∷ w.4);
+          back = g.0;
+          value = w.5;
+          split = sym
+              (append_assoc inner.front (w.2 ∷ w.4) g.0);
+          one = w.7;
+          other = g.2;
+        },
+      );
     }
 
-    pub joined_answers : (o : Outcome T A) (f : A → Reader T B) → GoesOn Above level second → Answers Above first first_stop level ts o
-        → ((a : A) (r : List T) → IsRead Above first first_stop level ts a r → Answers Above (second a) stop level r (f a r))
+    pub joined_answers : (o : Outcome T A) (f : A → Reader T B) → GoesOn Above level second
+        → Answers Above first first_stop level ts o
+        → ((a : A) (r : List T) → IsRead Above first first_stop level ts a r
+        → Answers Above (second a) stop level r (f a r))
         → Answers Above (JoinedAt first second) stop level ts (and_then o f)
     joined_answers (Ok x) f goes_on read behind = go (f x.0 x.1) (behind x.0 x.1 read)
       where
-        go : (o : Outcome T B) → Answers Above (second x.0) stop level x.1 o → Answers Above (JoinedAt first second) stop level ts o
+        go : (o : Outcome T B) → Answers Above (second x.0) stop level x.1 o
+            → Answers Above (JoinedAt first second) stop level ts o
         go (Ok y) inner = joined_read read inner
         go (Err (Unexpected left)) inner = second_refused goes_on read inner
         go (Err (TooDeep left)) inner = second_refused goes_on read inner
@@ -367,29 +536,51 @@ module _ {T L : Type 0} (Above : L → L → Type 0) (same_level : (l : L) → A
 
   -- ---- a value made of what was read
 
-  pub made_answers : {A B : Type 0} (rule : Rules T L A) (f : A → B) (rule_stop : Stop T A) (stop : Stop T B) (level : L) (ts : List T) → ((a : A) (s : Option T) → stop (f a) s ≡ true → rule_stop a s ≡ true)
-      → (o : Outcome T A) → Answers Above rule rule_stop level ts o → Answers Above (MadeAt rule f) stop level ts (and_then o (λ a. gives (f a)))
+  pub made_answers : {A B : Type 0} (rule : Rules T L A) (f : A → B) (rule_stop : Stop T A) (stop : Stop T B)
+      (level : L) (ts : List T) → ((a : A) (s : Option T) → stop (f a) s ≡ true → rule_stop a s ≡ true)
+      → (o : Outcome T A) → Answers Above rule rule_stop level ts o
+      → Answers Above (MadeAt rule f) stop level ts (and_then o (λ a. gives (f a)))
   made_answers rule f rule_stop stop level ts weaker o reads =
-      joined_answers rule (λ a. GivesAt (f a)) rule_stop stop level ts (gives_follow f rule_stop stop weaker) o (λ a. gives (f a)) (λ m above a. ([], f a, record { empty = refl; same = refl })) reads
+      joined_answers rule (λ a. GivesAt (f a)) rule_stop stop level ts (gives_follow f rule_stop stop weaker) o
+      (λ a. gives (f a)) (λ m above a. ([], f a, record { empty = refl; same = refl })) reads
       (λ a r read. gives_answers (f a) stop level r)
 
   -- ---- the answers of one rule carried to another
 
   pub carried : {A : Type 0} (narrow wide : Rules T L A) (narrow_stop stop : Stop T A) (level : L) (ts : List T)
       → ((m : L) → Above level m → (text : List T) (a : A) → narrow m text a → wide m text a)
-      → ((m : L) (us : List T) → head us ≡ head ts → (a : A) (r : List T) → Begins wide stop m us a r → Begins narrow narrow_stop m us a r)
+      → ((m : L) (us : List T) → head us ≡ head ts → (a : A) (r : List T) → Begins wide stop m us a r
+      → Begins narrow narrow_stop m us a r)
       → (o : Outcome T A) → Answers Above narrow narrow_stop level ts o → Answers Above wide stop level ts o
   carried {A = A} narrow wide narrow_stop stop level ts to fro = by
     where
-      refused : (deep : Bool) (left : ℕ) → IsRefused Above narrow narrow_stop level ts deep left → IsRefused Above wide stop level ts deep left
+      refused : (deep : Bool) (left : ℕ) → IsRefused Above narrow narrow_stop level ts deep left
+          → IsRefused Above wide stop level ts deep left
       refused deep left inner = record {
         front = inner.front;
         rest = inner.rest;
         split = inner.split;
         is_left = inner.is_left;
-        viable = elim inner.viable [ inl empty ↦ inl empty | inr more ↦ inr (more.0, more.1, to level (same_level level) (inner.front ++ more.0) more.1 more.2) ];
-        dead = λ m bound us agrees a q begins. inner.dead m bound us agrees a q (fro m us (agrees_head inner.front inner.rest us agrees ∙ ap head (sym inner.split)) a q begins);
-        beyond = λ deep. let w = inner.beyond deep in (w.0, w.1, w.2, w.3, w.4, w.5, w.6, to w.0 w.1 (inner.front ++ (w.2 ∷ w.4)) w.5 w.7);
+        viable =
+            elim inner.viable [
+              | inl empty ↦ inl empty
+              | inr more ↦ inr
+                  (more.0, more.1, to level (same_level level) (inner.front ++ more.0) more.1 more.2)
+            ];
+        dead =
+            λ m bound us agrees a q begins. inner.dead m bound us agrees a q
+            (fro m us (agrees_head inner.front inner.rest us agrees ∙ ap head (sym inner.split)) a q begins);
+        beyond =
+            λ deep. let w = inner.beyond deep in (
+              w.0,
+              w.1,
+              w.2,
+              w.3,
+              w.4,
+              w.5,
+              w.6,
+              to w.0 w.1 (inner.front ++ (w.2 ∷ w.4)) w.5 w.7,
+            );
       }
 
       by : (o : Outcome T A) → Answers Above narrow narrow_stop level ts o → Answers Above wide stop level ts o
@@ -397,7 +588,9 @@ module _ {T L : Type 0} (Above : L → L → Type 0) (same_level : (l : L) → A
         text = read.text;
         split = read.split;
         spelled = λ m above. to m above read.text x.0 (read.spelled m above);
-        only = λ m s e b q begins. read.only m s e b q (fro m (read.text ++ s) (head_agrees read.text x.1 s e ∙ ap head (sym read.split)) b q begins);
+        only =
+            λ m s e b q begins. read.only m s e b q (fro m (read.text ++ s)
+            (head_agrees read.text x.1 s e ∙ ap head (sym read.split)) b q begins);
       }
       by (Err (Unexpected left)) inner = refused false left inner
       by (Err (TooDeep left)) inner = refused true left inner
@@ -405,45 +598,65 @@ module _ {T L : Type 0} (Above : L → L → Type 0) (same_level : (l : L) → A
 
   -- the same rule in other words
   pub equal_answers : {A : Type 0} (rule other : Rules T L A) (stop : Stop T A) (level : L) (ts : List T)
-      → ((m : L) (text : List T) (a : A) → rule m text a → other m text a) → ((m : L) (text : List T) (a : A) → other m text a → rule m text a)
+      → ((m : L) (text : List T) (a : A) → rule m text a → other m text a)
+      → ((m : L) (text : List T) (a : A) → other m text a → rule m text a)
       → (o : Outcome T A) → Answers Above rule stop level ts o → Answers Above other stop level ts o
   equal_answers rule other stop level ts to fro = carried rule other stop stop level ts (λ m _. to m)
-      (λ m us e a r begins. record { text = begins.text; split = begins.split; spelled = fro m begins.text a begins.spelled; stops = begins.stops })
+      (λ m us e a r begins. record {
+        text = begins.text;
+        split = begins.split;
+        spelled = fro m begins.text a
+            begins.spelled;
+        stops = begins.stops;
+      })
 
   -- the same rule where fewer symbols may be behind it
-  pub stricter_answers : {A : Type 0} (rule : Rules T L A) (stop stricter : Stop T A) (level : L) (ts : List T) → ((a : A) (s : Option T) → stricter a s ≡ true → stop a s ≡ true)
+  pub stricter_answers : {A : Type 0} (rule : Rules T L A) (stop stricter : Stop T A) (level : L) (ts : List T)
+      → ((a : A) (s : Option T) → stricter a s ≡ true → stop a s ≡ true)
       → (o : Outcome T A) → Answers Above rule stop level ts o → Answers Above rule stricter level ts o
   stricter_answers rule stop stricter level ts weaker = carried rule rule stop stricter level ts (λ m _ text a h. h)
-      (λ m us e a r begins. record { text = begins.text; split = begins.split; spelled = begins.spelled; stops = weaker a (head r) begins.stops })
+      (λ m us e a r begins. record {
+        text = begins.text;
+        split = begins.split;
+        spelled = begins.spelled;
+        stops = weaker
+            a (head r) begins.stops;
+      })
 
   -- ---- one rule or the other, by the next symbol
 
-  module _ {A : Type 0} (first second : Rules T L A) (test : Option T → Bool) (stop : Stop T A) (level : L) (ts : List T) (starts : StartsIn first test) (apart : Apart second stop test) where
-    pub by_first : test (head ts) ≡ true → (o : Outcome T A) → Answers Above first stop level ts o → Answers Above (EitherAt first second) stop level ts o
+  module _ {A : Type 0} (first second : Rules T L A) (test : Option T → Bool) (stop : Stop T A) (level : L)
+      (ts : List T) (starts : StartsIn first test) (apart : Apart second stop test) where
+    pub by_first : test (head ts) ≡ true → (o : Outcome T A) → Answers Above first stop level ts o
+        → Answers Above (EitherAt first second) stop level ts o
     by_first here = carried first (EitherAt first second) stop stop level ts (λ m _ text a h. inl h)
         (λ m us e a r begins. record {
           text = begins.text;
           split = begins.split;
           spelled = elim begins.spelled [
             | inl h ↦ h
-            | inr h ↦ (let f = apart m begins.text a r h begins.stops in let t : test (head us) ≡ false = ap (λ l. test (head l)) begins.split ∙ f in let u : test (head us) ≡ true = ap test e ∙ here in cc)
+            | inr h ↦ (let f = apart m begins.text a r h begins.stops in let t : test (head us) ≡ false = ap
+                (λ l. test (head l)) begins.split ∙ f in let u : test (head us) ≡ true = ap test e ∙ here in cc)
           ];
           stops = begins.stops;
         })
 
-    pub by_second : test (head ts) ≡ false → (o : Outcome T A) → Answers Above second stop level ts o → Answers Above (EitherAt first second) stop level ts o
+    pub by_second : test (head ts) ≡ false → (o : Outcome T A) → Answers Above second stop level ts o
+        → Answers Above (EitherAt first second) stop level ts o
     by_second here = carried second (EitherAt first second) stop stop level ts (λ m _ text a h. inr h)
         (λ m us e a r begins. record {
           text = begins.text;
           split = begins.split;
           spelled = elim begins.spelled [
-            | inl h ↦ (let f = begun first test starts m begins.text r a h in let t : test (head us) ≡ true = ap (λ l. test (head l)) begins.split ∙ f in let u : test (head us) ≡ false = ap test e ∙ here in cc)
+            | inl h ↦ (let f = begun first test starts m begins.text r a h in let t : test (head us) ≡ true = ap
+                (λ l. test (head l)) begins.split ∙ f in let u : test (head us) ≡ false = ap test e ∙ here in cc)
             | inr h ↦ h
           ];
           stops = begins.stops;
         })
 
-    pub either_answers : (o p : Outcome T A) → (test (head ts) ≡ true → Answers Above first stop level ts o) → (test (head ts) ≡ false → Answers Above second stop level ts p)
+    pub either_answers : (o p : Outcome T A) → (test (head ts) ≡ true → Answers Above first stop level ts o)
+        → (test (head ts) ≡ false → Answers Above second stop level ts p)
         → Answers Above (EitherAt first second) stop level ts (cond (test (head ts)) o p)
     either_answers o p one other = go (test (head ts)) refl
       where
@@ -452,9 +665,12 @@ module _ {T L : Type 0} (Above : L → L → Type 0) (same_level : (l : L) → A
         go false here = by_second here p (other here)
 
     -- where the grammar names them in the other order
-    pub either_answers_back : (o p : Outcome T A) → (test (head ts) ≡ true → Answers Above first stop level ts o) → (test (head ts) ≡ false → Answers Above second stop level ts p)
+    pub either_answers_back : (o p : Outcome T A) → (test (head ts) ≡ true → Answers Above first stop level ts o)
+        → (test (head ts) ≡ false → Answers Above second stop level ts p)
         → Answers Above (EitherAt second first) stop level ts (cond (test (head ts)) o p)
-    either_answers_back o p one other = equal_answers (EitherAt first second) (EitherAt second first) stop level ts swap back (cond (test (head ts)) o p) (either_answers o p one other)
+    either_answers_back o p one other =
+        equal_answers (EitherAt first second) (EitherAt second first) stop level ts swap back
+        (cond (test (head ts)) o p) (either_answers o p one other)
       where
         swap : (m : L) (text : List T) (a : A) → EitherAt first second m text a → EitherAt second first m text a
         swap m text a (inl h) = inr h
@@ -465,52 +681,71 @@ module _ {T L : Type 0} (Above : L → L → Type 0) (same_level : (l : L) → A
         back m text a (inr h) = inl h
 
   -- the rule where it may begin here, else a refusal
-  pub guarded_answers : {A : Type 0} (rule : Rules T L A) (test : Option T → Bool) (stop : Stop T A) (level : L) (ts : List T) → StartsIn rule test
-      → (o : Outcome T A) → (test (head ts) ≡ true → Answers Above rule stop level ts o) → Answers Above rule stop level ts (cond (test (head ts)) o (Err (Unexpected (length ts))))
+  pub guarded_answers : {A : Type 0} (rule : Rules T L A) (test : Option T → Bool) (stop : Stop T A) (level : L)
+      (ts : List T) → StartsIn rule test
+      → (o : Outcome T A) → (test (head ts) ≡ true → Answers Above rule stop level ts o)
+      → Answers Above rule stop level ts (cond (test (head ts)) o (Err (Unexpected (length ts))))
   guarded_answers {A = A} rule test stop level ts starts o reads = go (test (head ts)) refl
     where
       go : (b : Bool) → test (head ts) ≡ b → Answers Above rule stop level ts (cond b o (Err (Unexpected (length ts))))
       go true here = reads here
       go false here = refused_here rule stop level ts (λ m us e a q begins.
-          let t : test (head us) ≡ true = ap (λ l. test (head l)) begins.split ∙ begun rule test starts m begins.text q a begins.spelled in
+          let t : test (head us) ≡ true = ap (λ l. test (head l)) begins.split
+          ∙ begun rule test starts m begins.text q a begins.spelled in
           let u : test (head us) ≡ false = ap test e ∙ here in
           cc)
 
   -- the rule or nothing
-  pub perhaps_answers : {A : Type 0} (rule : Rules T L A) (test : Option T → Bool) (rule_stop : Stop T A) (stop : Stop T (Option A)) (level : L) (ts : List T) → StartsIn rule test
-      → ((a : A) (s : Option T) → stop (Some a) s ≡ true → rule_stop a s ≡ true) → ((s : Option T) → stop None s ≡ true → test s ≡ false)
+  pub perhaps_answers : {A : Type 0} (rule : Rules T L A) (test : Option T → Bool) (rule_stop : Stop T A)
+      (stop : Stop T (Option A)) (level : L) (ts : List T) → StartsIn rule test
+      → ((a : A) (s : Option T) → stop (Some a) s ≡ true → rule_stop a s ≡ true)
+      → ((s : Option T) → stop None s ≡ true → test s ≡ false)
       → (o : Outcome T A) → (test (head ts) ≡ true → Answers Above rule rule_stop level ts o)
-      → Answers Above (PerhapsAt rule) stop level ts (cond (test (head ts)) (and_then o (λ a. gives (Some a))) (Ok (None, ts)))
+      → Answers Above (PerhapsAt rule) stop level ts (cond (test (head ts)) (and_then o (λ a. gives (Some a)))
+      (Ok (None, ts)))
   perhaps_answers rule test rule_stop stop level ts starts weaker apart o reads =
-      either_answers (MadeAt rule Some) (GivesAt None) test stop level ts (made_starts rule Some test starts) (gives_apart None stop test apart)
-      (and_then o (λ a. gives (Some a))) (Ok (None, ts)) (λ here. made_answers rule Some rule_stop stop level ts weaker o (reads here)) (λ _. gives_answers None stop level ts)
+      either_answers (MadeAt rule Some) (GivesAt None) test stop level ts (made_starts rule Some test starts)
+      (gives_apart None stop test apart)
+      (and_then o (λ a. gives (Some a))) (Ok (None, ts)) (λ here. made_answers rule Some rule_stop stop level ts weaker
+      o (reads here)) (λ _. gives_answers None stop level ts)
 
   -- ---- the rule under a condition
 
-  pub when_holds : {A : Type 0} (condition : Bool) (rule : Rules T L A) (stop : Stop T A) (level : L) (ts : List T) → condition ≡ true → (o : Outcome T A) → Answers Above rule stop level ts o
+  pub when_holds : {A : Type 0} (condition : Bool) (rule : Rules T L A) (stop : Stop T A) (level : L) (ts : List T)
+      → condition ≡ true → (o : Outcome T A) → Answers Above rule stop level ts o
       → Answers Above (WhenAt condition rule) stop level ts o
-  when_holds condition rule stop level ts holds = equal_answers rule (WhenAt condition rule) stop level ts (λ m text a h. record { holds = holds; spelled = h }) (λ m text a h. h.spelled)
+  when_holds condition rule stop level ts holds =
+      equal_answers rule (WhenAt condition rule) stop level ts (λ m text a h. record { holds = holds; spelled = h })
+      (λ m text a h. h.spelled)
 
-  pub when_fails : {A : Type 0} (condition : Bool) (rule : Rules T L A) (stop : Stop T A) (level : L) (ts : List T) → condition ≡ false
+  pub when_fails : {A : Type 0} (condition : Bool) (rule : Rules T L A) (stop : Stop T A) (level : L) (ts : List T)
+      → condition ≡ false
       → Answers Above (WhenAt condition rule) stop level ts (Err (Unexpected (length ts)))
-  when_fails condition rule stop level ts fails = refused_here (WhenAt condition rule) stop level ts (λ m us e a q begins. let h = begins.spelled.holds in cc)
+  when_fails condition rule stop level ts fails =
+      refused_here (WhenAt condition rule) stop level ts (λ m us e a q begins. let h = begins.spelled.holds in cc)
 
-  pub when_answers : {A : Type 0} (condition : Bool) (rule : Rules T L A) (stop : Stop T A) (level : L) (ts : List T) (o : Outcome T A) → (condition ≡ true → Answers Above rule stop level ts o)
+  pub when_answers : {A : Type 0} (condition : Bool) (rule : Rules T L A) (stop : Stop T A) (level : L) (ts : List T)
+      (o : Outcome T A) → (condition ≡ true → Answers Above rule stop level ts o)
       → Answers Above (WhenAt condition rule) stop level ts (cond condition o (Err (Unexpected (length ts))))
   when_answers {A = A} condition rule stop level ts o reads = go condition refl
     where
-      go : (b : Bool) → condition ≡ b → Answers Above (WhenAt condition rule) stop level ts (cond b o (Err (Unexpected (length ts))))
+      go : (b : Bool) → condition ≡ b
+          → Answers Above (WhenAt condition rule) stop level ts (cond b o (Err (Unexpected (length ts))))
       go true holds = when_holds condition rule stop level ts holds o (reads holds)
       go false fails = when_fails condition rule stop level ts fails
 
   -- ---- a value that passes a test, refused behind it
 
   module _ {A : Type 0} (rule : Rules T L A) (test : A → Bool) (stop : Stop T A) (level : L) (ts : List T)
-      (longer : (m : L) (text : List T) (a : A) → rule m text a → (more : List T) × (b : A) × rule m (text ++ more) b × (test b ≡ true)) where
-    untested : (m : L) (us : List T) (b : A) (q : List T) → Begins (λ l. Tested (rule l) test) stop m us b q → Begins rule stop m us b q
-    untested m us b q begins = record { text = begins.text; split = begins.split; spelled = begins.spelled.spelled; stops = begins.stops }
+      (longer : (m : L) (text : List T) (a : A) → rule m text a
+      → (more : List T) × (b : A) × rule m (text ++ more) b × (test b ≡ true)) where
+    untested : (m : L) (us : List T) (b : A) (q : List T) → Begins (λ l. Tested (rule l) test) stop m us b q
+        → Begins rule stop m us b q
+    untested m us b q begins =
+        record { text = begins.text; split = begins.split; spelled = begins.spelled.spelled; stops = begins.stops }
 
-    passed : (a : A) (r : List T) → IsRead Above rule stop level ts a r → test a ≡ true → IsRead Above (λ l. Tested (rule l) test) stop level ts a r
+    passed : (a : A) (r : List T) → IsRead Above rule stop level ts a r → test a ≡ true
+        → IsRead Above (λ l. Tested (rule l) test) stop level ts a r
     passed a r read is = record {
       text = read.text;
       split = read.split;
@@ -518,13 +753,16 @@ module _ {T L : Type 0} (Above : L → L → Type 0) (same_level : (l : L) → A
       only = λ m s e b q begins. read.only m s e b q (untested m (read.text ++ s) b q begins);
     }
 
-    failed : (a : A) (r : List T) → IsRead Above rule stop level ts a r → test a ≡ false → IsRefused Above (λ l. Tested (rule l) test) stop level ts false (length r)
+    failed : (a : A) (r : List T) → IsRead Above rule stop level ts a r → test a ≡ false
+        → IsRefused Above (λ l. Tested (rule l) test) stop level ts false (length r)
     failed a r read is = record {
       front = read.text;
       rest = r;
       split = read.split;
       is_left = refl;
-      viable = let w = longer level read.text a (read.spelled level (same_level level)) in inr (w.0, w.1, record { spelled = w.2; passes = w.3 });
+      viable =
+          let w = longer level read.text a (read.spelled level (same_level level)) in inr
+          (w.0, w.1, record { spelled = w.2; passes = w.3 });
       dead = λ m bound us agrees b q begins.
           let t = tail_of read.text r us agrees in
           let found = read.only m t.0 t.2 b q (subst (λ l. Begins rule stop m l b q) t.1 (untested m us b q begins)) in
@@ -534,7 +772,8 @@ module _ {T L : Type 0} (Above : L → L → Type 0) (same_level : (l : L) → A
       beyond = λ deep. absurd (cc);
     }
 
-    refused_tested : (deep : Bool) (left : ℕ) → IsRefused Above rule stop level ts deep left → IsRefused Above (λ l. Tested (rule l) test) stop level ts deep left
+    refused_tested : (deep : Bool) (left : ℕ) → IsRefused Above rule stop level ts deep left
+        → IsRefused Above (λ l. Tested (rule l) test) stop level ts deep left
     refused_tested deep left inner = record {
       front = inner.front;
       rest = inner.rest;
@@ -542,17 +781,41 @@ module _ {T L : Type 0} (Above : L → L → Type 0) (same_level : (l : L) → A
       is_left = inner.is_left;
       viable = elim inner.viable [
         | inl empty ↦ inl empty
-        | inr more ↦ (let w = longer level (inner.front ++ more.0) more.1 more.2 in inr (more.0 ++ w.0, w.1, record { spelled = subst (λ l. rule level l w.1) (append_assoc inner.front more.0 w.0) w.2; passes = w.3 }))
+        | inr more ↦ (let w = longer level (inner.front ++ more.0) more.1 more.2 in inr (
+          more.0 ++ w.0,
+          w.1,
+          record {
+            spelled = subst (λ l. rule level l w.1)
+                (append_assoc inner.front more.0 w.0) w.2;
+            passes = w.3;
+          },
+        ))
       ];
       dead = λ m bound us agrees b q begins. inner.dead m bound us agrees b q (untested m us b q begins);
-      beyond = λ deep. let v = inner.beyond deep in let w = longer v.0 (inner.front ++ (v.2 ∷ v.4)) v.5 v.7 in
-          (v.0, v.1, v.2, v.3, v.4 ++ w.0, w.1, v.6, record { spelled = subst (λ l. rule v.0 l w.1) (append_assoc inner.front (v.2 ∷ v.4) w.0) w.2; passes = w.3 });
+      beyond = λ deep. let v = inner.beyond deep in let w = longer v.0 (inner.front ++ (v.2 ∷ v.4)) v.5 v.7 in (
+        v.0,
+        v.1,
+        v.2,
+        v.3,
+        v.4
+            ++ w.0,
+        w.1,
+        v.6,
+        record {
+          spelled = subst (λ l. rule v.0 l w.1)
+              (append_assoc inner.front (v.2 ∷ v.4) w.0) w.2;
+          passes = w.3;
+        },
+      );
     }
 
-    pub tested_answers : (o : Outcome T A) → Answers Above rule stop level ts o → Answers Above (λ l. Tested (rule l) test) stop level ts (and_then o (tested test))
+    pub tested_answers : (o : Outcome T A) → Answers Above rule stop level ts o
+        → Answers Above (λ l. Tested (rule l) test) stop level ts (and_then o (tested test))
     tested_answers (Ok x) read = go (test x.0) refl
       where
-        go : (b : Bool) → test x.0 ≡ b → Answers Above (λ l. Tested (rule l) test) stop level ts (cond b (Ok (x.0, x.1)) (Err (Unexpected (length x.1))))
+        go : (b : Bool) → test x.0 ≡ b
+            → Answers Above (λ l. Tested (rule l) test) stop level ts
+            (cond b (Ok (x.0, x.1)) (Err (Unexpected (length x.1))))
         go true is = passed x.0 x.1 read is
         go false is = failed x.0 x.1 read is
     tested_answers (Err (Unexpected left)) inner = refused_tested false left inner
@@ -561,45 +824,72 @@ module _ {T L : Type 0} (Above : L → L → Type 0) (same_level : (l : L) → A
 
   -- ---- the rule by its first symbol
 
-  -- The answers of a rule carried to one that is narrower only by what it asks of its first symbol, which is the one of ts.
+  -- The answers of a rule carried to one that is narrower only by what it asks of its first symbol, which is the one of
+  -- ts.
   module _ {A : Type 0} (rule narrow : Rules T L A) (stop : Stop T A) (level : L) (ts : List T)
       (to : (m : L) (x : T) (us more : List T) (a : A) → ts ≡ x ∷ us → rule m (x ∷ more) a → narrow m (x ∷ more) a)
       (to_empty : (m : L) (a : A) → rule m [] a → narrow m [] a)
-      (fro : (m : L) (us : List T) → head us ≡ head ts → (a : A) (r : List T) → Begins narrow stop m us a r → Begins rule stop m us a r)
-      (fro_empty : (n : L) (a : A) → rule n [] a → (m : L) (us : List T) (b : A) (r : List T) → Begins narrow stop m us b r → Begins rule stop m us b r) where
+      (fro : (m : L) (us : List T) → head us ≡ head ts → (a : A) (r : List T) → Begins narrow stop m us a r
+      → Begins rule stop m us a r)
+      (fro_empty : (n : L) (a : A) → rule n [] a → (m : L) (us : List T) (b : A) (r : List T)
+      → Begins narrow stop m us b r → Begins rule stop m us b r) where
     narrow_at : (m : L) (text r : List T) (a : A) → ts ≡ text ++ r → rule m text a → narrow m text a
     narrow_at m [] r a split h = to_empty m a h
     narrow_at m (x ∷ text) r a split h = to m x (text ++ r) text a split h
 
-    rule_from : (text r s : List T) (a : A) → rule level text a → ts ≡ text ++ r → (m : L) (b : A) (q : List T) → Begins narrow stop m (text ++ s) b q → Begins rule stop m (text ++ s) b q
+    rule_from : (text r s : List T) (a : A) → rule level text a → ts ≡ text ++ r → (m : L) (b : A) (q : List T)
+        → Begins narrow stop m (text ++ s) b q → Begins rule stop m (text ++ s) b q
     rule_from [] r s a h split m b q begins = fro_empty level a h m s b q begins
     rule_from (x ∷ text) r s a h split m b q begins = fro m (x ∷ (text ++ s)) (ap head (sym split)) b q begins
 
-    narrow_viable : (front rest : List T) → ts ≡ front ++ rest → (more : List T) (a : A) → rule level (front ++ more) a → (front ≡ []) ⊎ ((more : List T) × (a : A) × narrow level (front ++ more) a)
+    narrow_viable : (front rest : List T) → ts ≡ front ++ rest → (more : List T) (a : A) → rule level (front ++ more) a
+        → (front ≡ []) ⊎ ((more : List T) × (a : A) × narrow level (front ++ more) a)
     narrow_viable [] rest split more a h = inl refl
     narrow_viable (x ∷ front) rest split more a h = inr (more, a, to level x (front ++ rest) (front ++ more) a split h)
 
-    narrow_beyond : (front rest : List T) → ts ≡ front ++ rest → (m : L) (x : T) (after more : List T) (a : A) → rest ≡ x ∷ after → rule m (front ++ (x ∷ more)) a → narrow m (front ++ (x ∷ more)) a
+    narrow_beyond : (front rest : List T) → ts ≡ front ++ rest → (m : L) (x : T) (after more : List T) (a : A)
+        → rest ≡ x ∷ after → rule m (front ++ (x ∷ more)) a → narrow m (front ++ (x ∷ more)) a
     narrow_beyond [] rest split m x after more a e h = to m x after more a (split ∙ e) h
     narrow_beyond (y ∷ front) rest split m x after more a e h = to m y (front ++ rest) (front ++ (x ∷ more)) a split h
 
-    narrow_refused : (deep : Bool) (left : ℕ) → IsRefused Above rule stop level ts deep left → IsRefused Above narrow stop level ts deep left
+    narrow_refused : (deep : Bool) (left : ℕ) → IsRefused Above rule stop level ts deep left
+        → IsRefused Above narrow stop level ts deep left
     narrow_refused deep left inner = record {
       front = inner.front;
       rest = inner.rest;
       split = inner.split;
       is_left = inner.is_left;
-      viable = elim inner.viable [ inl empty ↦ inl empty | inr more ↦ narrow_viable inner.front inner.rest inner.split more.0 more.1 more.2 ];
-      dead = λ m bound us agrees a q begins. inner.dead m bound us agrees a q (fro m us (agrees_head inner.front inner.rest us agrees ∙ ap head (sym inner.split)) a q begins);
-      beyond = λ deep. let w = inner.beyond deep in (w.0, w.1, w.2, w.3, w.4, w.5, w.6, narrow_beyond inner.front inner.rest inner.split w.0 w.2 w.3 w.4 w.5 w.6 w.7);
+      viable =
+          elim inner.viable [
+            | inl empty ↦ inl empty
+            | inr more ↦ narrow_viable inner.front inner.rest inner.split more.0
+                more.1 more.2
+          ];
+      dead =
+          λ m bound us agrees a q begins. inner.dead m bound us agrees a q
+          (fro m us (agrees_head inner.front inner.rest us agrees ∙ ap head (sym inner.split)) a q begins);
+      beyond =
+          λ deep. let w = inner.beyond deep in (
+            w.0,
+            w.1,
+            w.2,
+            w.3,
+            w.4,
+            w.5,
+            w.6,
+            narrow_beyond inner.front inner.rest inner.split w.0 w.2 w.3 w.4 w.5 w.6 w.7,
+          );
     }
 
-    pub first_symbol_answers : (o : Outcome T A) → Answers Above rule stop level ts o → Answers Above narrow stop level ts o
+    pub first_symbol_answers : (o : Outcome T A) → Answers Above rule stop level ts o
+        → Answers Above narrow stop level ts o
     first_symbol_answers (Ok x) read = record {
       text = read.text;
       split = read.split;
       spelled = λ m above. narrow_at m read.text x.1 x.0 read.split (read.spelled m above);
-      only = λ m s e b q begins. read.only m s e b q (rule_from read.text x.1 s x.0 (read.spelled level (same_level level)) read.split m b q begins);
+      only =
+          λ m s e b q begins. read.only m s e b q (rule_from read.text x.1 s x.0
+          (read.spelled level (same_level level)) read.split m b q begins);
     }
     first_symbol_answers (Err (Unexpected left)) inner = narrow_refused false left inner
     first_symbol_answers (Err (TooDeep left)) inner = narrow_refused true left inner
@@ -608,7 +898,8 @@ module _ {T L : Type 0} (Above : L → L → Type 0) (same_level : (l : L) → A
   -- ---- levels of nesting
 
   -- where no level is left
-  pub too_deep_answers : {A : Type 0} (rule : Rules T L A) (stop : Stop T A) (level : L) (ts : List T) → ((text : List T) (a : A) → rule level text a → ⊥) → Opens Above rule level ts
+  pub too_deep_answers : {A : Type 0} (rule : Rules T L A) (stop : Stop T A) (level : L) (ts : List T)
+      → ((text : List T) (a : A) → rule level text a → ⊥) → Opens Above rule level ts
       → Answers Above rule stop level ts (Err (TooDeep (length ts)))
   too_deep_answers rule stop level ts none opens = record {
     front = [];
@@ -616,24 +907,36 @@ module _ {T L : Type 0} (Above : L → L → Type 0) (same_level : (l : L) → A
     split = refl;
     is_left = refl;
     viable = inl refl;
-    dead = λ m bound us agrees a q begins. none begins.text a (subst (λ k. rule k begins.text a) (bound refl) begins.spelled);
+    dead =
+        λ m bound us agrees a q begins. none begins.text a (subst (λ k. rule k begins.text a)
+        (bound refl) begins.spelled);
     beyond = λ _. opens;
   }
 
-  pub nests_answers : {A : Type 0} (depth : L → ℕ) (rule : Rules T L A) (stop : Stop T A) (level : L) (ts : List T) → ((m : L) → Above level m → depth level ≤ depth m)
-      → (p : Reader T A) → (depth level ≡ 0 → Opens Above (NestsAt depth rule) level ts) → (0 < depth level → Answers Above rule stop level ts (p ts))
+  pub nests_answers : {A : Type 0} (depth : L → ℕ) (rule : Rules T L A) (stop : Stop T A) (level : L) (ts : List T)
+      → ((m : L) → Above level m → depth level ≤ depth m)
+      → (p : Reader T A) → (depth level ≡ 0 → Opens Above (NestsAt depth rule) level ts)
+      → (0 < depth level → Answers Above rule stop level ts (p ts))
       → Answers Above (NestsAt depth rule) stop level ts (and_then (enter (depth level) ts) (λ _. p))
   nests_answers {A = A} depth rule stop level ts deeper p opens reads = go (depth level) refl
     where
       go : (n : ℕ) → depth level ≡ n → Answers Above (NestsAt depth rule) stop level ts (and_then (enter n ts) (λ _. p))
-      go zero e = too_deep_answers (NestsAt depth rule) stop level ts (λ text a h. let some : 0 < depth level = h.some in omega arith) (opens e)
+      go zero e =
+          too_deep_answers (NestsAt depth rule) stop level ts
+          (λ text a h. let some : 0 < depth level = h.some in omega arith) (opens e)
       go (suc n) e = carried rule (NestsAt depth rule) stop stop level ts
           (λ m above text a h. record { some = (let d = deeper m above in omega arith); spelled = h })
-          (λ m us _ a r begins. record { text = begins.text; split = begins.split; spelled = begins.spelled.spelled; stops = begins.stops })
+          (λ m us _ a r begins. record {
+            text = begins.text;
+            split = begins.split;
+            spelled = begins.spelled.spelled;
+            stops = begins.stops;
+          })
           (p ts) (reads (omega arith))
 
 -- What is read a level below is read from here. The rule below is `under` at each level that has one below.
-pub below_answers : {T L A : Type 0} (Above : L → L → Type 0) (rule under : Rules T L A) (stop : Stop T A) (lower level : L) (ts : List T) (raise : L → L)
+pub below_answers : {T L A : Type 0} (Above : L → L → Type 0) (rule under : Rules T L A) (stop : Stop T A)
+    (lower level : L) (ts : List T) (raise : L → L)
     → ((m : L) (text : List T) (a : A) → under m text a → (k : L) × (m ≡ raise k) × rule k text a)
     → ((k : L) (text : List T) (a : A) → rule k text a → under (raise k) text a)
     → ((m : L) → Above level m → (k : L) × (m ≡ raise k) × Above lower k)
@@ -643,25 +946,55 @@ pub below_answers : {T L A : Type 0} (Above : L → L → Type 0) (rule under : 
     → (o : Outcome T A) → Answers Above rule stop lower ts o → Answers Above under stop level ts o
 below_answers {T = T} {L = L} {A = A} Above rule under stop lower level ts raise down up drops lifts here one = by
   where
-    begins_below : (m : L) (us : List T) (a : A) (q : List T) → Begins under stop m us a q → (k : L) × (m ≡ raise k) × Begins rule stop k us a q
-    begins_below m us a q begins = let d = down m begins.text a begins.spelled in (d.0, d.1, record { text = begins.text; split = begins.split; stops = begins.stops; spelled = d.2 })
+    begins_below : (m : L) (us : List T) (a : A) (q : List T) → Begins under stop m us a q
+        → (k : L) × (m ≡ raise k) × Begins rule stop k us a q
+    begins_below m us a q begins =
+        let d = down m begins.text a begins.spelled in (
+          d.0,
+          d.1,
+          record { text = begins.text; split = begins.split; stops = begins.stops; spelled = d.2 },
+        )
 
-    refused : (deep : Bool) (left : ℕ) → IsRefused Above rule stop lower ts deep left → IsRefused Above under stop level ts deep left
+    refused : (deep : Bool) (left : ℕ) → IsRefused Above rule stop lower ts deep left
+        → IsRefused Above under stop level ts deep left
     refused deep left inner = record {
       front = inner.front;
       rest = inner.rest;
       split = inner.split;
       is_left = inner.is_left;
-      viable = elim inner.viable [ inl empty ↦ inl empty | inr more ↦ inr (more.0, more.1, subst (λ l. under l (inner.front ++ more.0) more.1) (sym here) (up lower (inner.front ++ more.0) more.1 more.2)) ];
-      dead = λ m bound us agrees a q begins. let b = begins_below m us a q begins in inner.dead b.0 (λ deep. one b.0 lower (sym b.1 ∙ bound deep ∙ here)) us agrees a q b.2;
-      beyond = λ deep. let w = inner.beyond deep in (raise w.0, lifts w.0 w.1, w.2, w.3, w.4, w.5, w.6, up w.0 (inner.front ++ (w.2 ∷ w.4)) w.5 w.7);
+      viable =
+          elim inner.viable [
+            | inl empty ↦ inl empty
+            | inr more ↦ inr (
+              more.0,
+              more.1,
+              subst (λ l. under l (inner.front ++ more.0) more.1) (sym here)
+                  (up lower (inner.front ++ more.0) more.1 more.2),
+            )
+          ];
+      dead =
+          λ m bound us agrees a q begins. let b = begins_below m us a q begins in inner.dead b.0
+          (λ deep. one b.0 lower (sym b.1 ∙ bound deep ∙ here)) us agrees a q b.2;
+      beyond =
+          λ deep. let w = inner.beyond deep in (
+            raise w.0,
+            lifts w.0 w.1,
+            w.2,
+            w.3,
+            w.4,
+            w.5,
+            w.6,
+            up w.0 (inner.front ++ (w.2 ∷ w.4)) w.5 w.7,
+          );
     }
 
     by : (o : Outcome T A) → Answers Above rule stop lower ts o → Answers Above under stop level ts o
     by (Ok p) read = record {
       text = read.text;
       split = read.split;
-      spelled = λ m above. let d = drops m above in subst (λ l. under l read.text p.0) (sym d.1) (up d.0 read.text p.0 (read.spelled d.0 d.2));
+      spelled =
+          λ m above. let d = drops m above in subst (λ l. under l read.text p.0) (sym d.1)
+          (up d.0 read.text p.0 (read.spelled d.0 d.2));
       only = λ m s e b q begins. let d = begins_below m (read.text ++ s) b q begins in read.only d.0 s e b q d.2;
     }
     by (Err (Unexpected left)) inner = refused false left inner
@@ -673,9 +1006,11 @@ pub under_answers : {T A : Type 0} (rule under : Rules T ℕ A) (stop : Stop T A
     → ((text : List T) (a : A) → under 0 text a → ⊥)
     → ((k : ℕ) (text : List T) (a : A) → under (suc k) text a → rule k text a)
     → ((k : ℕ) (text : List T) (a : A) → rule k text a → under (suc k) text a)
-    → (o : Outcome T A) → Answers (λ l m. l ≤ m) rule stop level ts o → Answers (λ l m. l ≤ m) under stop (suc level) ts o
+    → (o : Outcome T A) → Answers (λ l m. l ≤ m) rule stop level ts o
+    → Answers (λ l m. l ≤ m) under stop (suc level) ts o
 under_answers {T = T} {A = A} rule under stop level ts none down up =
-    below_answers (λ l m. l ≤ m) rule under stop level (suc level) ts suc lower up drops (λ k above. omega arith) refl (λ k m e. omega arith)
+    below_answers (λ l m. l ≤ m) rule under stop level (suc level) ts suc lower up drops (λ k above. omega arith) refl
+    (λ k m e. omega arith)
   where
     lower : (m : ℕ) (text : List T) (a : A) → under m text a → (k : ℕ) × (m ≡ suc k) × rule k text a
     lower zero text a h = absurd (none text a h)
@@ -686,26 +1021,37 @@ under_answers {T = T} {A = A} rule under stop level ts none down up =
     drops (suc k) above = (k, refl, omega arith)
 
 -- a rule of one part of the level
-pub within_answers : {T K L A : Type 0} (AboveK : K → K → Type 0) (Above : L → L → Type 0) (rule : Rules T K A) (stop : Stop T A) (level : L) (ts : List T) (part : L → K)
-    → ((m : L) → Above level m → AboveK (part level) (part m)) → ((k : K) → AboveK (part level) k → (m : L) × Above level m × (part m ≡ k))
-    → (o : Outcome T A) → Answers AboveK rule stop (part level) ts o → Answers Above (λ l. rule (part l)) stop level ts o
+pub within_answers : {T K L A : Type 0} (AboveK : K → K → Type 0) (Above : L → L → Type 0) (rule : Rules T K A)
+    (stop : Stop T A) (level : L) (ts : List T) (part : L → K)
+    → ((m : L) → Above level m → AboveK (part level) (part m))
+    → ((k : K) → AboveK (part level) k → (m : L) × Above level m × (part m ≡ k))
+    → (o : Outcome T A) → Answers AboveK rule stop (part level) ts o
+    → Answers Above (λ l. rule (part l)) stop level ts o
 within_answers {T = T} {K = K} {L = L} {A = A} AboveK Above rule stop level ts part parts wholes = by
   where
-    again : (m : L) (us : List T) (a : A) (q : List T) → Begins (λ l. rule (part l)) stop m us a q → Begins rule stop (part m) us a q
-    again m us a q begins = record { text = begins.text; split = begins.split; spelled = begins.spelled; stops = begins.stops }
+    again : (m : L) (us : List T) (a : A) (q : List T) → Begins (λ l. rule (part l)) stop m us a q
+        → Begins rule stop (part m) us a q
+    again m us a q begins =
+        record { text = begins.text; split = begins.split; spelled = begins.spelled; stops = begins.stops }
 
-    refused : (deep : Bool) (left : ℕ) → IsRefused AboveK rule stop (part level) ts deep left → IsRefused Above (λ l. rule (part l)) stop level ts deep left
+    refused : (deep : Bool) (left : ℕ) → IsRefused AboveK rule stop (part level) ts deep left
+        → IsRefused Above (λ l. rule (part l)) stop level ts deep left
     refused deep left inner = record {
       front = inner.front;
       rest = inner.rest;
       split = inner.split;
       is_left = inner.is_left;
       viable = inner.viable;
-      dead = λ m bound us agrees a q begins. inner.dead (part m) (λ deep. ap part (bound deep)) us agrees a q (again m us a q begins);
-      beyond = λ deep. let w = inner.beyond deep in let v = wholes w.0 w.1 in (v.0, v.1, w.2, w.3, w.4, w.5, w.6, subst (λ k. rule k (inner.front ++ (w.2 ∷ w.4)) w.5) (sym v.2) w.7);
+      dead =
+          λ m bound us agrees a q begins. inner.dead (part m) (λ deep. ap part (bound deep)) us agrees a q
+          (again m us a q begins);
+      beyond =
+          λ deep. let w = inner.beyond deep in let v = wholes w.0 w.1 in
+          (v.0, v.1, w.2, w.3, w.4, w.5, w.6, subst (λ k. rule k (inner.front ++ (w.2 ∷ w.4)) w.5) (sym v.2) w.7);
     }
 
-    by : (o : Outcome T A) → Answers AboveK rule stop (part level) ts o → Answers Above (λ l. rule (part l)) stop level ts o
+    by : (o : Outcome T A) → Answers AboveK rule stop (part level) ts o
+        → Answers Above (λ l. rule (part l)) stop level ts o
     by (Ok p) read = record {
       text = read.text;
       split = read.split;

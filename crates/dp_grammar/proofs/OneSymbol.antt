@@ -9,7 +9,8 @@ module _ {T A : Type 0} (worth : T → Option A) where
   no_head a rest h = let same : [] ≡ h.spelled.symbol ∷ rest = h.split ∙ ap (λ l. l ++ rest) h.spelled.alone in cc
 
   -- the symbol that is spelled is the first
-  first : (t : T) (ts : List T) (a : A) (rest : List T) → IsHead (One worth) (t ∷ ts) a rest → (worth t ≡ Some a) × (rest ≡ ts)
+  first : (t : T) (ts : List T) (a : A) (rest : List T) → IsHead (One worth) (t ∷ ts) a rest
+      → (worth t ≡ Some a) × (rest ≡ ts)
   first t ts a rest h =
       let same : t ∷ ts ≡ h.spelled.symbol ∷ rest = h.split ∙ ap (λ l. l ++ rest) h.spelled.alone in
       let token : t ≡ h.spelled.symbol = cc in

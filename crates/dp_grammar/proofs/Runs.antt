@@ -22,7 +22,8 @@ found_parts {A} o p s t e =
     (ap (λ (v : Option A × List ℕ). v.0) same, ap (λ (v : Option A × List ℕ). v.1) same)
 
 -- the value of a step that did not fail
-pub bind_some : {A B : Type 0} (r : Option A) (f : A → Option B) (y : B) → (r >>= f) ≡ Some y → (x : A) × (r ≡ Some x) × (f x ≡ Some y)
+pub bind_some : {A B : Type 0} (r : Option A) (f : A → Option B) (y : B) → (r >>= f) ≡ Some y
+    → (x : A) × (r ≡ Some x) × (f x ≡ Some y)
 bind_some (Some x) f y e = (x, refl, e)
 bind_some None f y e = absurd cc
 
@@ -47,7 +48,8 @@ pub run_passes : (p : ℕ → Bool) (xs : List ℕ) → Each p (take (prefix_len
 run_passes p [] = tt
 run_passes p (x ∷ xs) = go (run_passes p xs) (p x) refl
   where
-    go : Each p (take (prefix_len p xs) xs) → (b : Bool) → p x ≡ b → Each p (take (cond b (1 + prefix_len p xs) 0) (x ∷ xs))
+    go : Each p (take (prefix_len p xs) xs) → (b : Bool) → p x ≡ b
+        → Each p (take (cond b (1 + prefix_len p xs) 0) (x ∷ xs))
     go ih true e = subst (λ (n : ℕ). Each p (take n (x ∷ xs))) (one_more (prefix_len p xs)) (e, ih)
     go ih false e = tt
 
@@ -58,12 +60,16 @@ run_some p (x ∷ xs) e = subst (λ (b : Bool). 1 ≤ length (take (cond b (1 + 
     (subst (λ (n : ℕ). 1 ≤ length (take n (x ∷ xs))) (one_more (prefix_len p xs)) (omega arith))
 
 -- a run that something stops is as long as this
-pub run_exact : (p : ℕ → Bool) (xs more : List ℕ) → Each p xs → begins p more ≡ false → prefix_len p (xs ++ more) ≡ length xs
+pub run_exact : (p : ℕ → Bool) (xs more : List ℕ) → Each p xs → begins p more ≡ false
+    → prefix_len p (xs ++ more) ≡ length xs
 run_exact p [] [] all stops = refl
 run_exact p [] (b ∷ t) all stops = ap (λ c. cond c (1 + prefix_len p t) 0) stops
-run_exact p (x ∷ xs) more all stops = ap (λ b. cond b (1 + prefix_len p (xs ++ more)) 0) all.0 ∙ ap (λ n. 1 + n) (run_exact p xs more all.1 stops) ∙ sym (one_more (length xs))
+run_exact p (x ∷ xs) more all stops =
+    ap (λ b. cond b (1 + prefix_len p (xs ++ more)) 0) all.0 ∙ ap (λ n. 1 + n) (run_exact p xs more all.1 stops)
+    ∙ sym (one_more (length xs))
 
-pub run_again : (p : ℕ → Bool) (xs more : List ℕ) → Each p xs → begins p more ≡ false → run_at p (xs ++ more) ≡ (xs, more)
+pub run_again : (p : ℕ → Bool) (xs more : List ℕ) → Each p xs → begins p more ≡ false
+    → run_at p (xs ++ more) ≡ (xs, more)
 run_again p xs more all stops =
     let e : prefix_len p (xs ++ more) ≡ length xs = run_exact p xs more all stops in
     let pair : List ℕ → List ℕ → List ℕ × List ℕ = λ a b. (a, b) in
@@ -84,6 +90,8 @@ pub run_all : (p : ℕ → Bool) (xs : List ℕ) → length (run_at p xs).1 ≡ 
 run_all p [] e = tt
 run_all p (x ∷ xs) e = go (run_all p xs) (p x) refl e
   where
-    go : (length (run_at p xs).1 ≡ 0 → Each p xs) → (b : Bool) → p x ≡ b → length (drop (cond b (1 + prefix_len p xs) 0) (x ∷ xs)) ≡ 0 → (p x ≡ true) × Each p xs
-    go ih true is none = (is, ih (subst (λ (n : ℕ). length (drop n (x ∷ xs)) ≡ 0) (sym (one_more (prefix_len p xs))) none))
+    go : (length (run_at p xs).1 ≡ 0 → Each p xs) → (b : Bool) → p x ≡ b
+        → length (drop (cond b (1 + prefix_len p xs) 0) (x ∷ xs)) ≡ 0 → (p x ≡ true) × Each p xs
+    go ih true is none =
+        (is, ih (subst (λ (n : ℕ). length (drop n (x ∷ xs)) ≡ 0) (sym (one_more (prefix_len p xs))) none))
     go ih false is none = absurd (omega arith)

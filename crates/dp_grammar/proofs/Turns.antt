@@ -2,7 +2,8 @@
 use Rattle.std.proofs.Common.{◌≡◌, ℕ, suc, ◌+◌, ◌-◌, ◌<◌, ◌≤◌, ap, ◌∙◌, arith}
 
 -- one turn is taken
-pub one_turn : {X : Type 0} {whole : X} (by : ℕ → X) (end turn : ℕ) → turn < end → whole ≡ by (end - turn) → whole ≡ by (suc (end - (turn + 1)))
+pub one_turn : {X : Type 0} {whole : X} (by : ℕ → X) (end turn : ℕ) → turn < end → whole ≡ by (end - turn)
+    → whole ≡ by (suc (end - (turn + 1)))
 one_turn by end turn below is = let e : end - turn ≡ suc (end - (turn + 1)) = omega arith in is ∙ ap by e
 
 -- no turn is left

@@ -175,7 +175,8 @@ performs_then ones more a b c before between after source sink out source_2 sink
           ((printed ++ first.said) ++ then.said) (printed ++ (first.said ++ then.said))
           (append_assoc read first.piece then.piece) (append_assoc done ones more)
           (append_assoc printed first.said then.said)
-          (then.stands (read ++ first.piece) (printed ++ first.said) (done ++ ones) (first.stands read printed done stood));
+          (then.stands (read ++ first.piece) (printed ++ first.said) (done ++ ones)
+          (first.stands read printed done stood));
     }
 
 -- ---- what it comes to

@@ -6,7 +6,8 @@ ghost use Rattle.dp_ide.specs.inner.Reading.{IsRun};
 
 /// What stands behind the word that begins the bytes.
 pub(crate) fn behind<'a>(bytes: &'a [u8], word: &[u8]) -> Option<&'a [u8]>
-    ensures { MatchOption result ((rest : List ℕ) → bytes.now ≢ word.now ++ rest) (λ rest. bytes.now ≡ word.now ++ rest.now) }
+    ensures { MatchOption result ((rest : List ℕ) → bytes.now ≢ word.now ++ rest)
+        (λ rest. bytes.now ≡ word.now ++ rest.now) }
 {
     bytes.strip_prefix(word)
 }

@@ -8,7 +8,8 @@ ghost use Rattle.dp_wire.specs.Frames.{IsCommand, command_frame};
 ghost use Rattle.dp_ide.specs.Messages as spec;
 ghost use Rattle.dp_ide.specs.Plays.{Ends};
 ghost use Rattle.dp_ide.specs.Playing.{wants};
-ghost use Rattle.dp_ide.specs.inner.Progress.{EndsFrom, OpenFails, PerformFails, ExchangeFails, IsPlayable, Performs, PrintFails, Refuses, SendFails, Stood, TakesAnswer, printed_line};
+ghost use Rattle.dp_ide.specs.inner.Progress.{EndsFrom, OpenFails, PerformFails, ExchangeFails, IsPlayable, Performs};
+ghost use Rattle.dp_ide.specs.inner.Progress.{PrintFails, Refuses, SendFails, Stood, TakesAnswer, printed_line};
 
 use crate::contents::{attribute, code_in, content_in, is_init};
 use crate::errors::IdeError;
@@ -65,7 +66,8 @@ fn compare_content(
     heard: &Heard,
 ) -> Result<(), IdeError>
     ensures ok { OnOk result (spec.content_in name.now heard.now.last.packet ≡ Some wanted.now) }
-    ensures err { IfErr result (λ why. Refuses why line (wants wanted.now (spec.content_in name.now heard.now.last.packet))) }
+    ensures err { IfErr result (λ why. Refuses why line (wants wanted.now
+        (spec.content_in name.now heard.now.last.packet))) }
 {
     match content_in(alloc, name, &heard.last.packet)? {
         Some(found) => compare(alloc, line, wanted, Some(found.as_slice())),
@@ -246,8 +248,8 @@ fn perform_each<S: Source, K: Sink, O: Sink>(
 
 /// Plays a script over the link of an engine: its first packet is awaited, then each instruction is played in order.
 ///
-/// Commands are sent on `sink`, each by one put, and what a `print` writes goes to `out`. Nothing is read behind the last
-/// packet that is awaited but what came with it. It waits in the calls of `source`, `sink` and `out` alone.
+/// Commands are sent on `sink`, each by one put, and what a `print` writes goes to `out`. Nothing is read behind the
+/// last packet that is awaited but what came with it. It waits in the calls of `source`, `sink` and `out` alone.
 pub fn play<R: Wait + Sync, S: Source, K: Sink, O: Sink>(
     _rt: &R,
     alloc: Global,

@@ -4,7 +4,8 @@ ghost use Rattle.std.specs.Io.KnownBytes.{Consumes, IsAtEnd};
 ghost use Rattle.dp_outside.specs.Changes.{change};
 ghost use Rattle.dp_ide.specs.Messages.{IsMessage};
 ghost use Rattle.dp_ide.specs.declared.heard.Message.{Message as Told};
-ghost use Rattle.dp_ide.specs.inner.Progress.{AnswerFails, Hears, HoldsMore, HoldsNext, NextFails, PieceFails, TakesAnswer, TakesNext};
+ghost use Rattle.dp_ide.specs.inner.Progress.{AnswerFails, Hears, HoldsMore, HoldsNext, NextFails, PieceFails};
+ghost use Rattle.dp_ide.specs.inner.Progress.{TakesAnswer, TakesNext};
 
 use crate::contents::{answers, output_in};
 use crate::errors::IdeError;
@@ -141,7 +142,8 @@ pub(crate) fn await_answer<S: Source>(
 ) -> Result<(), IdeError>
     ensures ok { OnOk result (TakesAnswer id.now heard.old heard.new packets.old packets.new
         (change S.left S.faults source.old source.new)) }
-    ensures err { IfErr result (λ why. AnswerFails id.now why packets.old (change S.left S.faults source.old source.new)) }
+    ensures err { IfErr result (λ why. AnswerFails id.now why packets.old
+        (change S.left S.faults source.old source.new)) }
     ensures later { S.faults source.old ≤ S.faults source.new }
 {
     'packets: for _ in 0..u64::MAX {

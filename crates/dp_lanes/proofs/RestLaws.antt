@@ -26,7 +26,8 @@ all_up (b ∷ bytes) h = rw (no_nul-head b bytes h) (ap (λ l. b ∷ l) (all_up 
 
 pub up_before : (front rest : List ℕ) → has_no_nul front ≡ true → up_to_nul (front ++ 0 ∷ rest) ≡ front
 up_before [] rest h = refl
-up_before (b ∷ front) rest h = rw (no_nul-head b front h) (ap (λ l. b ∷ l) (up_before front rest (no_nul-tail b front h)))
+up_before (b ∷ front) rest h =
+    rw (no_nul-head b front h) (ap (λ l. b ∷ l) (up_before front rest (no_nul-tail b front h)))
 
 -- a NUL stands behind the front, or the front is all
 pub record IsUp (bytes front : List ℕ) : Type 0 where
@@ -62,7 +63,8 @@ no_command held none may =
     let fits : length (up_to_nul held) ≤ command_limit = leb-true _ _ may in
     let is : IsCommand (up_to_nul held) = record { no_nul = up.no_nul; fits = fits } in
     elim up.cases [
-      | inl all ↦ none (up_to_nul held) [] (0 ∷ []) is (ap (λ l. l ++ 0 ∷ []) all ∙ sym (append-nil (command_frame (up_to_nul held))))
+      | inl all ↦ none (up_to_nul held) [] (0 ∷ []) is (ap (λ l. l ++ 0 ∷ []) all
+          ∙ sym (append-nil (command_frame (up_to_nul held))))
       | inr cut ↦ none (up_to_nul held) cut.0 [] is (append-nil held ∙ cut.1 ∙ sym (framed (up_to_nul held) cut.0))
     ]
 
@@ -74,7 +76,8 @@ none_of_command held none = false_from_ne_true (may_be_command held) (no_command
 least_text : IsPacketText (0 ∷ [])
 least_text = record { some_byte = omega arith; fits = omega arith }
 
-ends_back : (n : ℕ) (back : List ℕ) → n < length back → ends_in_nul (drop n back) ≡ true → (rest : List ℕ) × (drop n back ≡ 0 ∷ rest)
+ends_back : (n : ℕ) (back : List ℕ) → n < length back → ends_in_nul (drop n back) ≡ true
+    → (rest : List ℕ) × (drop n back ≡ 0 ∷ rest)
 ends_back n back less h = by (drop n back) (length-drop n back) h where
   by : (l : List ℕ) → length l ≡ length back - n → ends_in_nul l ≡ true → (rest : List ℕ) × (l ≡ 0 ∷ rest)
   by [] long h = absurd (omega arith)
@@ -94,7 +97,8 @@ module _ (n : ℕ) (some : 1 ≤ n) (fits : n ≤ packet_limit) where
   digits_part = subst IsPartialPacket (length_digits-some n (omega arith)) (unfinished_partial n fits)
 
   -- behind the digits and the NUL as many bytes have come as they say, and a NUL
-  whole_begins : (back rest : List ℕ) → n < length back → drop n back ≡ 0 ∷ rest → BeginsPacket (decimal n ++ 0 ∷ back) (take n back) rest
+  whole_begins : (back rest : List ℕ) → n < length back → drop n back ≡ 0 ∷ rest
+      → BeginsPacket (decimal n ++ 0 ∷ back) (take n back) rest
   whole_begins back rest less e =
       let long : length (take n back) ≡ n = length-take-le n back (omega arith) in
       record {
@@ -108,7 +112,8 @@ module _ (n : ℕ) (some : 1 ≤ n) (fits : n ≤ packet_limit) where
       let same : length (decimal n) + 1 + n ≡ length (decimal n) + suc n = omega arith in
       ap (λ (k : ℕ). drop k (decimal n ++ 0 ∷ back)) same ∙ drop-append-add (decimal n) (0 ∷ back) (suc n)
 
-  pub may_begin : (back : List ℕ) → ends_in_nul (drop (length (decimal n) + 1 + n) (decimal n ++ 0 ∷ back)) ≡ true → BeginsNoPacket (decimal n ++ 0 ∷ back) → ⊥
+  pub may_begin : (back : List ℕ) → ends_in_nul (drop (length (decimal n) + 1 + n) (decimal n ++ 0 ∷ back)) ≡ true
+      → BeginsNoPacket (decimal n ++ 0 ∷ back) → ⊥
   may_begin back h none = elim (cases_lt n (length back)) [
     | inl less ↦
         let end = ends_back n back less (ap ends_in_nul (sym (behind_digits back)) ∙ h) in
@@ -122,7 +127,8 @@ no_packet (b ∷ bytes) none h =
     let held : List ℕ = b ∷ bytes in
     let digits = up_to_nul held in
     let n = digits_value 10 digits in
-    let parts = and_parts (is_positive digits && nat_le n packet_limit) (ends_in_nul (drop (length digits + 1 + n) held)) h in
+    let parts = and_parts (is_positive digits && nat_le n packet_limit)
+    (ends_in_nul (drop (length digits + 1 + n) held)) h in
     let both = and_parts (is_positive digits) (nat_le n packet_limit) parts.0 in
     let fits : n ≤ packet_limit = leb-true _ _ both.1 in
     let same : digits ≡ decimal n = spelled_again digits both.0 (omega arith) in
@@ -162,26 +168,31 @@ module _ (text : List ℕ) (is : IsPacketText text) where
 
   front_value : (front w : List ℕ) → decimal count ≡ front ++ w → digits_value 10 front ≤ packet_limit
   front_value front w e =
-      let cut : take (length front) (decimal count) ≡ front = ap (take (length front)) e ∙ take_at front w (length front) refl in
+      let cut : take (length front) (decimal count) ≡ front = ap (take (length front)) e
+      ∙ take_at front w (length front) refl in
       let small = digits_value-take-le 10 (decimal count) (length front) (omega arith) in
       let fits = is.fits in
       omega (arith, small, ap (digits_value 10) cut, value_is)
 
-  part_digits : (b : ℕ) (bytes w : List ℕ) → up_to_nul (b ∷ bytes) ≡ b ∷ bytes → decimal count ≡ (b ∷ bytes) ++ w → may_be_packet (b ∷ bytes) ≡ true
+  part_digits : (b : ℕ) (bytes w : List ℕ) → up_to_nul (b ∷ bytes) ≡ b ∷ bytes → decimal count ≡ (b ∷ bytes) ++ w
+      → may_be_packet (b ∷ bytes) ≡ true
   part_digits b bytes w up e =
       let held : List ℕ = b ∷ bytes in
       let some : is_positive held ≡ true = positive_front b bytes w (ap is_positive (sym e) ∙ digits_positive) in
       let fits : nat_le (digits_value 10 held) packet_limit ≡ true = le-leb _ _ (front_value held w e) in
-      let none : drop (length held + 1 + digits_value 10 held) held ≡ [] = drop_all (length held + 1 + digits_value 10 held) held (omega arith) in
+      let none : drop (length held + 1 + digits_value 10 held) held ≡ [] = drop_all
+      (length held + 1 + digits_value 10 held) held (omega arith) in
       rw (up, some, fits, none) refl
 
-  part_behind : (b : ℕ) (bytes back more : List ℕ) → up_to_nul (b ∷ bytes) ≡ decimal count → b ∷ bytes ≡ decimal count ++ 0 ∷ back → length back ≤ count
+  part_behind : (b : ℕ) (bytes back more : List ℕ) → up_to_nul (b ∷ bytes) ≡ decimal count
+      → b ∷ bytes ≡ decimal count ++ 0 ∷ back → length back ≤ count
       → may_be_packet (b ∷ bytes) ≡ true
   part_behind b bytes back more up whole short =
       let fits : nat_le count packet_limit ≡ true = le-leb _ _ is.fits in
       let some = is.some_byte in
       let none : drop (length (decimal count) + 1 + count) (b ∷ bytes) ≡ [] =
-      ap (drop (length (decimal count) + 1 + count)) whole ∙ behind_digits count some is.fits back ∙ drop_all count back short in
+      ap (drop (length (decimal count) + 1 + count)) whole ∙ behind_digits count some is.fits back
+      ∙ drop_all count back short in
       rw (up, digits_positive, value_is, fits, none) refl
 
 some_more : (more : List ℕ) → more ≢ [] → 1 ≤ length more
@@ -193,7 +204,8 @@ part_of_packet [] p = refl
 part_of_packet (b ∷ bytes) p =
     let held : List ℕ = b ∷ bytes in
     let up = up_is held in
-    let frame : held ++ p.more ≡ decimal (length p.text) ++ 0 ∷ (p.text ++ 0 ∷ []) = p.whole ∙ sym (append-nil (packet_frame p.text)) ∙ packed p.text [] in
+    let frame : held ++ p.more ≡ decimal (length p.text) ++ 0 ∷ (p.text ++ 0 ∷ []) = p.whole
+    ∙ sym (append-nil (packet_frame p.text)) ∙ packed p.text [] in
     elim up.cases [
       | inl all ↦
           let clean : has_no_nul held ≡ true = subst (λ l. has_no_nul l ≡ true) (sym all) up.no_nul in
@@ -203,7 +215,8 @@ part_of_packet (b ∷ bytes) p =
           let digits = up_to_nul held in
           let whole : digits ++ 0 ∷ (cut.0 ++ p.more) ≡ decimal (length p.text) ++ 0 ∷ (p.text ++ 0 ∷ []) =
           sym (append_assoc digits (0 ∷ cut.0) p.more) ∙ ap (λ l. l ++ p.more) (sym cut.1) ∙ frame in
-          let same = same_text digits (decimal (length p.text)) (cut.0 ++ p.more) (p.text ++ 0 ∷ []) up.no_nul (no_nul_number p.text p.is_text) whole in
+          let same = same_text digits (decimal (length p.text)) (cut.0 ++ p.more) (p.text ++ 0 ∷ []) up.no_nul
+          (no_nul_number p.text p.is_text) whole in
           let more = some_more p.more p.comes in
           let short : length cut.0 ≤ length p.text =
           omega (arith, ap length same.1, length-append cut.0 p.more, length-append p.text (0 ∷ [])) in

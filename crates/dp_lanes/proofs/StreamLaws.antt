@@ -24,21 +24,25 @@ use Rattle.dp_lanes.proofs.RestLaws.{part_of_command, none_of_command, part_of_p
 
 -- ---- one split
 
-splits : (kind : LaneKind) (bytes : List ℕ) → Splits (IsText kind) (frame kind) bytes (texts_in kind bytes) (rest_in kind bytes)
+splits : (kind : LaneKind) (bytes : List ℕ)
+    → Splits (IsText kind) (frame kind) bytes (texts_in kind bytes) (rest_in kind bytes)
 splits Up bytes = packets_split bytes
 splits Down bytes = commands_split bytes
 
 one_split : (kind : LaneKind) (bytes : List ℕ) (texts others : List (List ℕ)) (rest remains : List ℕ)
-    → Splits (IsText kind) (frame kind) bytes texts rest → Splits (IsText kind) (frame kind) bytes others remains → (texts ≡ others) × (rest ≡ remains)
+    → Splits (IsText kind) (frame kind) bytes texts rest → Splits (IsText kind) (frame kind) bytes others remains
+    → (texts ≡ others) × (rest ≡ remains)
 one_split Up bytes texts others rest remains p q = one_packet_split bytes texts others rest remains p q
 one_split Down bytes texts others rest remains p q = one_split_lem bytes texts others rest remains p q
 
-pub all_both : {X : Type 0} (P : X → Type 0) (a b : List X) → AllByRecursion P a → AllByRecursion P b → AllByRecursion P (a ++ b)
+pub all_both : {X : Type 0} (P : X → Type 0) (a b : List X) → AllByRecursion P a → AllByRecursion P b
+    → AllByRecursion P (a ++ b)
 all_both P [] b p q = q
 all_both P (x ∷ a) b p q = (p.0, all_both P a b p.1 q)
 
 -- no whole frame begins a rest
-no_more : (kind : LaneKind) (held : List ℕ) → IsRest kind held → (text more : List ℕ) → IsText kind text → held ≡ frame kind text ++ more → ⊥
+no_more : (kind : LaneKind) (held : List ℕ) → IsRest kind held → (text more : List ℕ) → IsText kind text
+    → held ≡ frame kind text ++ more → ⊥
 no_more Up held (inl part) text more is e = begins_partial held text more (record { is_text = is; whole = e }) part
 no_more Up held (inr none) text more is e = begins_refused held text more (record { is_text = is; whole = e }) none
 no_more Down held (inl p) text more is e =
@@ -48,7 +52,8 @@ no_more Down held (inr none) text more is e = none text more [] is (append-nil h
 
 -- ---- more bytes
 
-module _ (kind : LaneKind) (a b : List ℕ) (texts : List (List ℕ)) (rest : List ℕ) (more : Splits (IsText kind) (frame kind) (rest_in kind a ++ b) texts rest) where
+module _ (kind : LaneKind) (a b : List ℕ) (texts : List (List ℕ)) (rest : List ℕ)
+    (more : Splits (IsText kind) (frame kind) (rest_in kind a ++ b) texts rest) where
   both : Splits (IsText kind) (frame kind) (a ++ b) (texts_in kind a ++ texts) rest
   both =
       let first = splits kind a in
@@ -62,7 +67,9 @@ module _ (kind : LaneKind) (a b : List ℕ) (texts : List (List ℕ)) (rest : Li
       }
 
   same : (texts_in kind (a ++ b) ≡ texts_in kind a ++ texts) × (rest_in kind (a ++ b) ≡ rest)
-  same = one_split kind (a ++ b) (texts_in kind (a ++ b)) (texts_in kind a ++ texts) (rest_in kind (a ++ b)) rest (splits kind (a ++ b)) both
+  same =
+      one_split kind (a ++ b) (texts_in kind (a ++ b)) (texts_in kind a ++ texts) (rest_in kind (a ++ b)) rest
+      (splits kind (a ++ b)) both
 
   handed_is : handed_of kind a b ≡ flat_map (frame kind) texts
   handed_is =
@@ -71,10 +78,13 @@ module _ (kind : LaneKind) (a b : List ℕ) (texts : List (List ℕ)) (rest : Li
 
   start_is : start_of_rest kind (a ++ b) ≡ min (start_of_rest kind a + length (flat_map (frame kind) texts)) last_place
   start_is =
-      let whole : length (flat_map (frame kind) (texts_in kind (a ++ b))) ≡ length (flat_map (frame kind) (texts_in kind a)) + length (flat_map (frame kind) texts) =
-      ap (λ t. length (flat_map (frame kind) t)) same.0 ∙ ap length (flat_map-append (frame kind) (texts_in kind a) texts)
+      let whole : length (flat_map (frame kind) (texts_in kind (a ++ b))) ≡ length
+      (flat_map (frame kind) (texts_in kind a)) + length (flat_map (frame kind) texts) =
+      ap (λ t. length (flat_map (frame kind) t)) same.0
+      ∙ ap length (flat_map-append (frame kind) (texts_in kind a) texts)
       ∙ length-append (flat_map (frame kind) (texts_in kind a)) (flat_map (frame kind) texts) in
-      sum_min (length (flat_map (frame kind) (texts_in kind (a ++ b)))) (length (flat_map (frame kind) (texts_in kind a))) (length (flat_map (frame kind) texts)) last_place whole
+      sum_min (length (flat_map (frame kind) (texts_in kind (a ++ b))))
+      (length (flat_map (frame kind) (texts_in kind a))) (length (flat_map (frame kind) texts)) last_place whole
     where
       sum_min : (s x y m : ℕ) → s ≡ x + y → min s m ≡ min (min x m + y) m
       sum_min s x y m e = omega arith
@@ -90,25 +100,35 @@ hands_none kind received before = record {
   put = sym (append-nil before);
 }
 
-module _ (kind : LaneKind) (old mid new : Received) (before so after text rest : List ℕ) (hands : Hands kind old mid before so)
+module _ (kind : LaneKind) (old mid new : Received) (before so after text rest : List ℕ)
+    (hands : Hands kind old mid before so)
     (begins : BeginsWith kind mid.held text rest) where
-  pub hands_more : new.held ≡ rest → new.dropped ≡ min (mid.dropped + length (frame kind text)) last_place → after ≡ so ++ frame kind text
+  pub hands_more : new.held ≡ rest → new.dropped ≡ min (mid.dropped + length (frame kind text)) last_place
+      → after ≡ so ++ frame kind text
       → Hands kind old new before after
   hands_more left dropped put =
-      let frames : flat_map (frame kind) (hands.texts ++ text ∷ []) ≡ flat_map (frame kind) hands.texts ++ frame kind text =
-      flat_map-append (frame kind) hands.texts (text ∷ []) ∙ ap (λ l. flat_map (frame kind) hands.texts ++ l) (append-nil (frame kind text)) in
+      let frames : flat_map (frame kind) (hands.texts ++ text ∷ []) ≡ flat_map (frame kind) hands.texts
+      ++ frame kind text =
+      flat_map-append (frame kind) hands.texts (text ∷ [])
+      ∙ ap (λ l. flat_map (frame kind) hands.texts ++ l) (append-nil (frame kind text)) in
       record {
         texts = hands.texts ++ text ∷ [];
         each = all_both (IsText kind) hands.texts (text ∷ []) hands.each (begins.is_text, tt);
-        held = hands.held ∙ ap (λ l. flat_map (frame kind) hands.texts ++ l) (begins.whole ∙ ap (λ l. frame kind text ++ l) (sym left))
-            ∙ sym (append_assoc (flat_map (frame kind) hands.texts) (frame kind text) new.held) ∙ ap (λ l. l ++ new.held) (sym frames);
+        held =
+            hands.held ∙ ap (λ l. flat_map (frame kind) hands.texts ++ l)
+            (begins.whole ∙ ap (λ l. frame kind text ++ l) (sym left))
+            ∙ sym (append_assoc (flat_map (frame kind) hands.texts) (frame kind text) new.held)
+            ∙ ap (λ l. l ++ new.held) (sym frames);
         dropped = λ small.
-            let long : length (flat_map (frame kind) (hands.texts ++ text ∷ [])) ≡ length (flat_map (frame kind) hands.texts) + length (frame kind text) =
+            let long : length (flat_map (frame kind) (hands.texts ++ text ∷ [])) ≡ length
+            (flat_map (frame kind) hands.texts) + length (frame kind text) =
             ap length frames ∙ length-append (flat_map (frame kind) hands.texts) (frame kind text) in
             let so_far = hands.dropped small in
-            sum_min old.dropped mid.dropped new.dropped (length (flat_map (frame kind) hands.texts)) (length (frame kind text))
+            sum_min old.dropped mid.dropped new.dropped (length (flat_map (frame kind) hands.texts))
+            (length (frame kind text))
             (length (flat_map (frame kind) (hands.texts ++ text ∷ []))) last_place long so_far dropped;
-        put = put ∙ ap (λ l. l ++ frame kind text) hands.put ∙ append_assoc before (flat_map (frame kind) hands.texts) (frame kind text)
+        put = put ∙ ap (λ l. l ++ frame kind text) hands.put
+            ∙ append_assoc before (flat_map (frame kind) hands.texts) (frame kind text)
             ∙ ap (λ l. before ++ l) (sym frames);
       }
     where
@@ -119,13 +139,17 @@ frame_some : (kind : LaneKind) (text : List ℕ) → 1 ≤ length (frame kind te
 frame_some Up text = omega (arith, frame_length text)
 frame_some Down text = omega (arith, length-append text (0 ∷ []))
 
-pub rest_shorter : (kind : LaneKind) (held text rest : List ℕ) → BeginsWith kind held text rest → length rest < length held
-rest_shorter kind held text rest b = omega (arith, ap length b.whole, length-append (frame kind text) rest, frame_some kind text)
+pub rest_shorter : (kind : LaneKind) (held text rest : List ℕ) → BeginsWith kind held text rest
+    → length rest < length held
+rest_shorter kind held text rest b =
+    omega (arith, ap length b.whole, length-append (frame kind text) rest, frame_some kind text)
 
 -- ---- a lane that follows its stream
 
-module _ (kind : LaneKind) (old fed new : Lane) (stream bytes out : List ℕ) (follows : Follows kind old stream) (way : kind_of fed ≡ kind_of old)
-    (held : (received_in fed).held ≡ (received_in old).held ++ bytes) (dropped : (received_in fed).dropped ≡ (received_in old).dropped)
+module _ (kind : LaneKind) (old fed new : Lane) (stream bytes out : List ℕ) (follows : Follows kind old stream)
+    (way : kind_of fed ≡ kind_of old)
+    (held : (received_in fed).held ≡ (received_in old).held ++ bytes)
+    (dropped : (received_in fed).dropped ≡ (received_in old).dropped)
     (all : HandsAll fed new [] out) where
   kind_is : kind_of fed ≡ kind
   kind_is = way ∙ follows.way
@@ -145,7 +169,8 @@ module _ (kind : LaneKind) (old fed new : Lane) (stream bytes out : List ℕ) (f
 
   place : (received_in new).dropped ≡ start_of_rest kind (stream ++ bytes)
   place =
-      let start : (received_in fed).dropped ≡ start_of_rest kind stream = dropped ∙ ap (λ (r : Received). r.dropped) follows.rest in
+      let start : (received_in fed).dropped ≡ start_of_rest kind stream = dropped
+      ∙ ap (λ (r : Received). r.dropped) follows.rest in
       let small : (received_in fed).dropped ≤ last_place = omega (arith, start) in
       hands.dropped small ∙ ap (λ (d : ℕ). min (d + length (flat_map (frame kind) hands.texts)) last_place) start
       ∙ sym (start_is kind stream bytes hands.texts (received_in new).held cut)
@@ -154,7 +179,12 @@ module _ (kind : LaneKind) (old fed new : Lane) (stream bytes out : List ℕ) (f
   carried = record {
     follows = record {
       way = all.way ∙ kind_is;
-      rest = λ i. record { held = sym (same kind stream bytes hands.texts (received_in new).held cut).1 i; dropped = place i };
+      rest =
+          λ i. record {
+            held = sym (same kind stream bytes hands.texts (received_in new).held cut).1 i;
+            dropped = place
+                i;
+          };
     };
     put = hands.put ∙ sym (handed_is kind stream bytes hands.texts (received_in new).held cut);
   }
@@ -173,7 +203,9 @@ none_bad Down bytes none = ap not (none_of_command (rest_of bytes) none)
 
 module _ (kind : LaneKind) (lane : Lane) (stream : List ℕ) (follows : Follows kind lane stream) where
   at_rest : (P : LaneKind → List ℕ → Type 0) → P (kind_of lane) (received_in lane).held → P kind (rest_in kind stream)
-  at_rest P h = subst (λ (r : Received). P kind r.held) follows.rest (subst (λ (k : LaneKind). P k (received_in lane).held) follows.way h)
+  at_rest P h =
+      subst (λ (r : Received). P kind r.held) follows.rest (subst
+      (λ (k : LaneKind). P k (received_in lane).held) follows.way h)
 
   pub good_part : IsPart (kind_of lane) (received_in lane).held → is_bad kind stream ≡ false
   good_part p = part_good kind stream (at_rest IsPart p)
@@ -183,13 +215,16 @@ module _ (kind : LaneKind) (lane : Lane) (stream : List ℕ) (follows : Follows 
       let c = at_rest (λ k held. BeginsWith k held text rest) b in
       (splits kind stream).no_more text rest c.is_text c.whole
 
-  pub bad_none : (why : WireError) → BeginsNone (kind_of lane) (received_in lane).held → Causes (kind_of lane) (received_in lane) why
+  pub bad_none : (why : WireError) → BeginsNone (kind_of lane) (received_in lane).held
+      → Causes (kind_of lane) (received_in lane) why
       → IsBadIn kind stream (refused_at why (received_in lane).dropped)
   bad_none why none cause = record {
     bad = none_bad kind stream (at_rest BeginsNone none);
     place = subst (λ (r : Received). IsBadAt kind stream (refused_at why r.dropped)) (sym follows.rest)
-        (by kind (at_rest BeginsNone none) (subst (λ (r : Received). Causes kind r why) follows.rest (subst (λ (k : LaneKind). Causes k (received_in lane) why) follows.way cause)));
+        (by kind (at_rest BeginsNone none) (subst (λ (r : Received). Causes kind r why) follows.rest
+        (subst (λ (k : LaneKind). Causes k (received_in lane) why) follows.way cause)));
   } where
-    by : (k : LaneKind) → BeginsNone k (rest_in k stream) → Causes k (left_of k stream) why → IsBadAt k stream (refused_at why (start_of_rest k stream))
+    by : (k : LaneKind) → BeginsNone k (rest_in k stream) → Causes k (left_of k stream) why
+        → IsBadAt k stream (refused_at why (start_of_rest k stream))
     by Up none cause = record { none = none; why = why; is_why = cause; place = refl }
     by Down none cause = (none, ap (λ (w : WireError). refused_at w (start_of_rest Down stream)) cause)

@@ -1,5 +1,6 @@
 //! A lane of a session, which passes whole frames alone.
-ghost use Rattle.std.specs.Prelude.{◌≡◌, ◌↔◌, ◌+◌, ◌≤◌, [], ◌∷◌, ◌++◌, List, ℕ, Ok, None, min, length, IsErr, IfOk, IfErr, IfSome, OnOk, OnErr};
+ghost use Rattle.std.specs.Prelude.{◌≡◌, ◌↔◌, ◌+◌, ◌≤◌, [], ◌∷◌, ◌++◌, List, ℕ, Ok, None, min, length, IsErr, IfOk};
+ghost use Rattle.std.specs.Prelude.{IfErr, IfSome, OnOk, OnErr};
 ghost use Rattle.dp_wire.specs.Received.{last_place};
 ghost use Rattle.dp_lanes.specs.Lanes.{frame, texts_in};
 ghost use Rattle.dp_lanes.specs.Places.{BeginsWith, IsPart, BeginsNone, Causes, IsFront, kind_of, received_in};

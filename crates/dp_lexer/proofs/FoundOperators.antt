@@ -21,7 +21,9 @@ pub class_of_number : (b : ℕ) → is_digit b ≡ true → class_of b ≡ class
 class_of_number b is = let start = digit_no_start b is in simp (start, is)
 
 pub class_of_space : (b : ℕ) → is_space b ≡ true → class_of b ≡ class.Space
-class_of_space b is = let start : is_start b ≡ false = grind (arith, nat_tests) in let digit : is_digit b ≡ false = grind (arith, nat_tests) in simp (start, digit, is)
+class_of_space b is =
+    let start : is_start b ≡ false = grind (arith, nat_tests) in let digit : is_digit b ≡ false = grind
+    (arith, nat_tests) in simp (start, digit, is)
 
 -- what a class says of a byte
 pub record OtherByte (b : ℕ) : Type 0 where
@@ -79,28 +81,47 @@ neither_quote b false false e f t = (false_test b 39 e, false_test b 34 f)
 pub tells : (b : ℕ) (c : Class) → class_of b ≡ c → Tells c b
 tells b c e = name_or (chosen (is_start b) class.Name (from_digit b) c e)
   where
-    quote_or : is_start b ≡ false → is_digit b ≡ false → is_space b ≡ false → b ≢ 35 → b ≢ 47 → b ≢ 36 → ((b == 39 || b == 34) ≡ true) × (class.Quote ≡ c) ⊎ (((b == 39 || b == 34) ≡ false) × (class.Other ≡ c)) → Tells c b
+    quote_or : is_start b ≡ false → is_digit b ≡ false → is_space b ≡ false → b ≢ 35 → b ≢ 47 → b ≢ 36
+        → ((b == 39 || b == 34) ≡ true) × (class.Quote ≡ c) ⊎ (((b == 39 || b == 34) ≡ false) × (class.Other ≡ c))
+        → Tells c b
     quote_or n1 n2 n3 n4 n5 n6 (inl h) = subst (λ k. Tells k b) h.1 (quote_tells b (b == 39) (b == 34) refl refl h.0)
     quote_or n1 n2 n3 n4 n5 n6 (inr h) = let n = neither_quote b (b == 39) (b == 34) refl refl h.0 in
-        subst (λ k. Tells k b) h.1 (record { start = n1; digit = n2; space = n3; hash = n4; slash = n5; dollar = n6; single = n.0; double = n.1 })
+        subst (λ k. Tells k b) h.1 (record {
+          start = n1;
+          digit = n2;
+          space = n3;
+          hash = n4;
+          slash = n5;
+          dollar = n6;
+          single = n.0;
+          double = n.1;
+        })
 
-    dollar_or : is_start b ≡ false → is_digit b ≡ false → is_space b ≡ false → b ≢ 35 → b ≢ 47 → ((b == 36) ≡ true) × (class.Dollar ≡ c) ⊎ (((b == 36) ≡ false) × (from_quote b ≡ c)) → Tells c b
+    dollar_or : is_start b ≡ false → is_digit b ≡ false → is_space b ≡ false → b ≢ 35 → b ≢ 47
+        → ((b == 36) ≡ true) × (class.Dollar ≡ c) ⊎ (((b == 36) ≡ false) × (from_quote b ≡ c)) → Tells c b
     dollar_or n1 n2 n3 n4 n5 (inl h) = subst (λ k. Tells k b) h.1 (eqb-true b 36 h.0)
-    dollar_or n1 n2 n3 n4 n5 (inr h) = quote_or n1 n2 n3 n4 n5 (false_test b 36 h.0) (chosen (b == 39 || b == 34) class.Quote class.Other c h.1)
+    dollar_or n1 n2 n3 n4 n5 (inr h) =
+        quote_or n1 n2 n3 n4 n5 (false_test b 36 h.0) (chosen (b == 39 || b == 34) class.Quote class.Other c h.1)
 
-    slash_or : is_start b ≡ false → is_digit b ≡ false → is_space b ≡ false → b ≢ 35 → ((b == 47) ≡ true) × (class.Slash ≡ c) ⊎ (((b == 47) ≡ false) × (from_dollar b ≡ c)) → Tells c b
+    slash_or : is_start b ≡ false → is_digit b ≡ false → is_space b ≡ false → b ≢ 35
+        → ((b == 47) ≡ true) × (class.Slash ≡ c) ⊎ (((b == 47) ≡ false) × (from_dollar b ≡ c)) → Tells c b
     slash_or n1 n2 n3 n4 (inl h) = subst (λ k. Tells k b) h.1 (eqb-true b 47 h.0)
-    slash_or n1 n2 n3 n4 (inr h) = dollar_or n1 n2 n3 n4 (false_test b 47 h.0) (chosen (b == 36) class.Dollar (from_quote b) c h.1)
+    slash_or n1 n2 n3 n4 (inr h) =
+        dollar_or n1 n2 n3 n4 (false_test b 47 h.0) (chosen (b == 36) class.Dollar (from_quote b) c h.1)
 
-    hash_or : is_start b ≡ false → is_digit b ≡ false → is_space b ≡ false → ((b == 35) ≡ true) × (class.Hash ≡ c) ⊎ (((b == 35) ≡ false) × (from_slash b ≡ c)) → Tells c b
+    hash_or : is_start b ≡ false → is_digit b ≡ false → is_space b ≡ false
+        → ((b == 35) ≡ true) × (class.Hash ≡ c) ⊎ (((b == 35) ≡ false) × (from_slash b ≡ c)) → Tells c b
     hash_or n1 n2 n3 (inl h) = subst (λ k. Tells k b) h.1 (eqb-true b 35 h.0)
-    hash_or n1 n2 n3 (inr h) = slash_or n1 n2 n3 (false_test b 35 h.0) (chosen (b == 47) class.Slash (from_dollar b) c h.1)
+    hash_or n1 n2 n3 (inr h) =
+        slash_or n1 n2 n3 (false_test b 35 h.0) (chosen (b == 47) class.Slash (from_dollar b) c h.1)
 
-    space_or : is_start b ≡ false → is_digit b ≡ false → ((is_space b) ≡ true) × (class.Space ≡ c) ⊎ (((is_space b) ≡ false) × (from_hash b ≡ c)) → Tells c b
+    space_or : is_start b ≡ false → is_digit b ≡ false
+        → ((is_space b) ≡ true) × (class.Space ≡ c) ⊎ (((is_space b) ≡ false) × (from_hash b ≡ c)) → Tells c b
     space_or n1 n2 (inl h) = subst (λ k. Tells k b) h.1 h.0
     space_or n1 n2 (inr h) = hash_or n1 n2 h.0 (chosen (b == 35) class.Hash (from_slash b) c h.1)
 
-    digit_or : is_start b ≡ false → ((is_digit b) ≡ true) × (class.Number ≡ c) ⊎ (((is_digit b) ≡ false) × (from_space b ≡ c)) → Tells c b
+    digit_or : is_start b ≡ false
+        → ((is_digit b) ≡ true) × (class.Number ≡ c) ⊎ (((is_digit b) ≡ false) × (from_space b ≡ c)) → Tells c b
     digit_or n1 (inl h) = subst (λ k. Tells k b) h.1 h.0
     digit_or n1 (inr h) = space_or n1 h.0 (chosen (is_space b) class.Space (from_hash b) c h.1)
 
@@ -142,28 +163,46 @@ abbrev passes_three : List (ℕ × ℕ × ℕ × TokenKind) → Bool
 passes_three [] = true
 passes_three (row ∷ rows) = is_other (class_of row.0) && passes_three rows
 
-look_up-class : (b : ℕ) (rows : List (ℕ × TokenKind)) (k : TokenKind) → passes rows ≡ true → look_up b rows ≡ Some k → class_of b ≡ class.Other
+look_up-class : (b : ℕ) (rows : List (ℕ × TokenKind)) (k : TokenKind) → passes rows ≡ true → look_up b rows ≡ Some k
+    → class_of b ≡ class.Other
 look_up-class b [] k all e = absurd (cc)
-look_up-class b (row ∷ rows) k all e = let h = and_parts (is_other (class_of row.0)) (passes rows) all in go (look_up-class b rows k h.1) h.0 (b == row.0) refl e
+look_up-class b (row ∷ rows) k all e =
+    let h = and_parts (is_other (class_of row.0)) (passes rows) all in go (look_up-class b rows k h.1) h.0
+    (b == row.0) refl e
   where
-    go : (look_up b rows ≡ Some k → class_of b ≡ class.Other) → is_other (class_of row.0) ≡ true → (t : Bool) → (b == row.0) ≡ t → cond t (Some row.1) (look_up b rows) ≡ Some k → class_of b ≡ class.Other
+    go : (look_up b rows ≡ Some k → class_of b ≡ class.Other) → is_other (class_of row.0) ≡ true → (t : Bool)
+        → (b == row.0) ≡ t → cond t (Some row.1) (look_up b rows) ≡ Some k → class_of b ≡ class.Other
     go ih is true t e = ap class_of (eqb-true b row.0 t) ∙ other_is (class_of row.0) is
     go ih is false t e = ih e
 
-look_up_two-class : (b c : ℕ) (rows : List (ℕ × ℕ × TokenKind)) (k : TokenKind) → passes_two rows ≡ true → look_up_two b c rows ≡ Some k → class_of b ≡ class.Other
+look_up_two-class : (b c : ℕ) (rows : List (ℕ × ℕ × TokenKind)) (k : TokenKind) → passes_two rows ≡ true
+    → look_up_two b c rows ≡ Some k → class_of b ≡ class.Other
 look_up_two-class b c [] k all e = absurd (cc)
-look_up_two-class b c (row ∷ rows) k all e = let h = and_parts (is_other (class_of row.0)) (passes_two rows) all in go (look_up_two-class b c rows k h.1) h.0 (b == row.0 && c == row.1) refl e
+look_up_two-class b c (row ∷ rows) k all e =
+    let h = and_parts (is_other (class_of row.0)) (passes_two rows) all in go (look_up_two-class b c rows k h.1) h.0
+    (b == row.0 && c == row.1) refl e
   where
-    go : (look_up_two b c rows ≡ Some k → class_of b ≡ class.Other) → is_other (class_of row.0) ≡ true → (t : Bool) → (b == row.0 && c == row.1) ≡ t → cond t (Some row.2) (look_up_two b c rows) ≡ Some k → class_of b ≡ class.Other
-    go ih is true t e = let m = and_parts (b == row.0) (c == row.1) t in ap class_of (eqb-true b row.0 m.0) ∙ other_is (class_of row.0) is
+    go : (look_up_two b c rows ≡ Some k → class_of b ≡ class.Other) → is_other (class_of row.0) ≡ true → (t : Bool)
+        → (b == row.0 && c == row.1) ≡ t → cond t (Some row.2) (look_up_two b c rows) ≡ Some k
+        → class_of b ≡ class.Other
+    go ih is true t e =
+        let m = and_parts (b == row.0) (c == row.1) t in ap class_of (eqb-true b row.0 m.0)
+        ∙ other_is (class_of row.0) is
     go ih is false t e = ih e
 
-look_up_three-class : (b c d : ℕ) (rows : List (ℕ × ℕ × ℕ × TokenKind)) (k : TokenKind) → passes_three rows ≡ true → look_up_three b c d rows ≡ Some k → class_of b ≡ class.Other
+look_up_three-class : (b c d : ℕ) (rows : List (ℕ × ℕ × ℕ × TokenKind)) (k : TokenKind) → passes_three rows ≡ true
+    → look_up_three b c d rows ≡ Some k → class_of b ≡ class.Other
 look_up_three-class b c d [] k all e = absurd (cc)
-look_up_three-class b c d (row ∷ rows) k all e = let h = and_parts (is_other (class_of row.0)) (passes_three rows) all in go (look_up_three-class b c d rows k h.1) h.0 (b == row.0 && c == row.1 && d == row.2) refl e
+look_up_three-class b c d (row ∷ rows) k all e =
+    let h = and_parts (is_other (class_of row.0)) (passes_three rows) all in go
+    (look_up_three-class b c d rows k h.1) h.0 (b == row.0 && c == row.1 && d == row.2) refl e
   where
-    go : (look_up_three b c d rows ≡ Some k → class_of b ≡ class.Other) → is_other (class_of row.0) ≡ true → (t : Bool) → (b == row.0 && c == row.1 && d == row.2) ≡ t → cond t (Some row.3) (look_up_three b c d rows) ≡ Some k → class_of b ≡ class.Other
-    go ih is true t e = let m = and_parts (b == row.0 && c == row.1) (d == row.2) t in let m2 = and_parts (b == row.0) (c == row.1) m.0 in ap class_of (eqb-true b row.0 m2.0) ∙ other_is (class_of row.0) is
+    go : (look_up_three b c d rows ≡ Some k → class_of b ≡ class.Other) → is_other (class_of row.0) ≡ true → (t : Bool)
+        → (b == row.0 && c == row.1 && d == row.2) ≡ t → cond t (Some row.3) (look_up_three b c d rows) ≡ Some k
+        → class_of b ≡ class.Other
+    go ih is true t e =
+        let m = and_parts (b == row.0 && c == row.1) (d == row.2) t in let m2 = and_parts (b == row.0)
+        (c == row.1) m.0 in ap class_of (eqb-true b row.0 m2.0) ∙ other_is (class_of row.0) is
     go ih is false t e = ih e
 
 pub one_byte-class : (b : ℕ) (k : TokenKind) → one_byte b ≡ Some k → class_of b ≡ class.Other
@@ -176,7 +215,8 @@ pub three_bytes-class : (b c d : ℕ) (k : TokenKind) → three_bytes b c d ≡ 
 three_bytes-class b c d k e = look_up_three-class b c d three_byte_operators k refl e
 
 -- no operator begins with a byte of another class
-pub operator_first : (u : List ℕ) (k : TokenKind) → operator_of u ≡ Some k → (b : ℕ) × (t : List ℕ) × (u ≡ b ∷ t) × (class_of b ≡ class.Other)
+pub operator_first : (u : List ℕ) (k : TokenKind) → operator_of u ≡ Some k
+    → (b : ℕ) × (t : List ℕ) × (u ≡ b ∷ t) × (class_of b ≡ class.Other)
 operator_first [] k e = absurd (cc)
 operator_first (b ∷ []) k e = (b, [], refl, one_byte-class b k e)
 operator_first (b ∷ c ∷ []) k e = (b, c ∷ [], refl, two_bytes-class b c k e)

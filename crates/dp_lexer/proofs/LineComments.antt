@@ -13,9 +13,11 @@ use Rattle.dp_lexer.proofs.Runs.{and_parts, and_false_behind, not_false, one_mor
 pub tag_there : (z : List ℕ) → begins_tag z ≡ true → (t : List ℕ) × (z ≡ 63 ∷ 62 ∷ t)
 tag_there [] e = absurd (cc)
 tag_there (b ∷ []) e = absurd (cc)
-tag_there (b ∷ c ∷ t) e = let p = and_parts (b == 63) (c == 62) e in (t, λ i. eqb-true b 63 p.0 i ∷ eqb-true c 62 p.1 i ∷ t)
+tag_there (b ∷ c ∷ t) e =
+    let p = and_parts (b == 63) (c == 62) e in (t, λ i. eqb-true b 63 p.0 i ∷ eqb-true c 62 p.1 i ∷ t)
 
-tag_over : (b : ℕ) (t more : List ℕ) → begins_tag (b ∷ t) ≡ false → begins (λ c. c == 62) more ≡ false → begins_tag (b ∷ (t ++ more)) ≡ false
+tag_over : (b : ℕ) (t more : List ℕ) → begins_tag (b ∷ t) ≡ false → begins (λ c. c == 62) more ≡ false
+    → begins_tag (b ∷ (t ++ more)) ≡ false
 tag_over b [] [] e apart = refl
 tag_over b [] (x ∷ more) e apart = and_false_behind (b == 63) (x == 62) apart
 tag_over b (x ∷ t) more e apart = e
@@ -33,7 +35,8 @@ tag_in_line z tag ends = let t = tag_there z tag in not_false (begins is_in_line
 abbrev Length : Bool → List ℕ → ℕ
 Length k t = cond k (1 + line_len t) 0
 
-line_len-step : (b : ℕ) (t : List ℕ) → is_in_line b ≡ true → begins_tag (b ∷ t) ≡ false → line_len (b ∷ t) ≡ suc (line_len t)
+line_len-step : (b : ℕ) (t : List ℕ) → is_in_line b ≡ true → begins_tag (b ∷ t) ≡ false
+    → line_len (b ∷ t) ≡ suc (line_len t)
 line_len-step b t is tag = (λ i. Length (is i && not (tag i)) t) ∙ one_more (line_len t)
 
 not_true : (k : Bool) → not k ≡ true → k ≡ false
@@ -53,40 +56,53 @@ no_angle (b ∷ t) e = go (b == 10) refl e
     go true f e = ap (λ x. x == 62) (eqb-true b 10 f)
     go false f e = absurd (cc)
 
-pub line_len-exact : (c more : List ℕ) → StaysInLine c → line_len more ≡ 0 → begins (λ b. b == 62) more ≡ false → line_len (c ++ more) ≡ length c
+pub line_len-exact : (c more : List ℕ) → StaysInLine c → line_len more ≡ 0 → begins (λ b. b == 62) more ≡ false
+    → line_len (c ++ more) ≡ length c
 line_len-exact [] more h none apart = none
-line_len-exact (b ∷ t) more h none apart = line_len-step b (t ++ more) h.0 (tag_over b t more h.1 apart) ∙ ap (λ n. suc n) (line_len-exact t more h.2 none apart)
+line_len-exact (b ∷ t) more h none apart =
+    line_len-step b (t ++ more) h.0 (tag_over b t more h.1 apart)
+    ∙ ap (λ n. suc n) (line_len-exact t more h.2 none apart)
 
-pub line_len-least : (c more : List ℕ) → StaysInLine c → begins_tag (drop (line_len (c ++ more)) (c ++ more)) ≡ false → length c ≤ line_len (c ++ more)
+pub line_len-least : (c more : List ℕ) → StaysInLine c → begins_tag (drop (line_len (c ++ more)) (c ++ more)) ≡ false
+    → length c ≤ line_len (c ++ more)
 line_len-least [] more h e = omega arith
 line_len-least (b ∷ t) more h e = go (λ f. line_len-least t more h.2 f) (begins_tag (b ∷ (t ++ more))) refl
   where
     here : (n : ℕ) → line_len (b ∷ (t ++ more)) ≡ n → begins_tag (drop n (b ∷ (t ++ more))) ≡ false
     here n same = sym (ap (λ k. begins_tag (drop k (b ∷ (t ++ more)))) same) ∙ e
 
-    go : (begins_tag (drop (line_len (t ++ more)) (t ++ more)) ≡ false → length t ≤ line_len (t ++ more)) → (k : Bool) → begins_tag (b ∷ (t ++ more)) ≡ k → suc (length t) ≤ line_len (b ∷ (t ++ more))
-    go ih true tag = absurd (not_false _ tag (here 0 (ap (λ k. Length k (t ++ more)) (and_false_behind (is_in_line b) _ (ap not tag)))))
-    go ih false tag = let step = line_len-step b (t ++ more) h.0 tag in omega (arith, step, ih (here (suc (line_len (t ++ more))) step))
+    go : (begins_tag (drop (line_len (t ++ more)) (t ++ more)) ≡ false → length t ≤ line_len (t ++ more)) → (k : Bool)
+        → begins_tag (b ∷ (t ++ more)) ≡ k → suc (length t) ≤ line_len (b ∷ (t ++ more))
+    go ih true tag =
+        absurd (not_false _ tag (here 0 (ap (λ k. Length k (t ++ more))
+        (and_false_behind (is_in_line b) _ (ap not tag)))))
+    go ih false tag =
+        let step = line_len-step b (t ++ more) h.0 tag in omega
+        (arith, step, ih (here (suc (line_len (t ++ more))) step))
 
 pub line_len-front : (z : List ℕ) → StaysInLine (take (line_len z) z)
 line_len-front [] = tt
 line_len-front (b ∷ t) = go (line_len-front t) (is_in_line b && not (begins_tag (b ∷ t))) refl
   where
-    go : StaysInLine (take (line_len t) t) → (k : Bool) → (is_in_line b && not (begins_tag (b ∷ t))) ≡ k → StaysInLine (take (Length k t) (b ∷ t))
+    go : StaysInLine (take (line_len t) t) → (k : Bool) → (is_in_line b && not (begins_tag (b ∷ t))) ≡ k
+        → StaysInLine (take (Length k t) (b ∷ t))
     go ih true e =
         let both = and_parts (is_in_line b) (not (begins_tag (b ∷ t))) e in
-        subst (λ n. StaysInLine (take n (b ∷ t))) (sym (one_more (line_len t))) (both.0, tag_front b (line_len t) t (not_true (begins_tag (b ∷ t)) both.1), ih)
+        subst (λ n. StaysInLine (take n (b ∷ t))) (sym (one_more (line_len t)))
+        (both.0, tag_front b (line_len t) t (not_true (begins_tag (b ∷ t)) both.1), ih)
     go ih false e = tt
 
 abbrev Stops : List ℕ → Type 0
 Stops z = begins_tag z ≡ false → begins is_in_line z ≡ false
 
 -- behind it stands a closing tag, or a line feed or nothing
-pub line_len-stops : (z : List ℕ) → begins_tag (drop (line_len z) z) ≡ false → begins is_in_line (drop (line_len z) z) ≡ false
+pub line_len-stops : (z : List ℕ) → begins_tag (drop (line_len z) z) ≡ false
+    → begins is_in_line (drop (line_len z) z) ≡ false
 line_len-stops [] e = refl
 line_len-stops (b ∷ t) e = go (λ f. line_len-stops t f) (is_in_line b) refl (begins_tag (b ∷ t)) refl e
   where
-    go : Stops (drop (line_len t) t) → (k : Bool) → is_in_line b ≡ k → (l : Bool) → begins_tag (b ∷ t) ≡ l → Stops (drop (Length (k && not l) t) (b ∷ t))
+    go : Stops (drop (line_len t) t) → (k : Bool) → is_in_line b ≡ k → (l : Bool) → begins_tag (b ∷ t) ≡ l
+        → Stops (drop (Length (k && not l) t) (b ∷ t))
     go ih true is true tag = λ f. absurd (not_false _ tag f)
     go ih true is false tag = subst (λ n. Stops (drop n (b ∷ t))) (sym (one_more (line_len t))) ih
     go ih false is l tag = λ f. is
@@ -103,10 +119,12 @@ line_len-within (b ∷ t) = go (line_len-within t) (is_in_line b && not (begins_
 abbrev line_by : ℕ → ℕ → List ℕ → Found
 line_by mark len rest = cond (begins_tag rest) (wrong fault.BadByte (mark + len)) (found line_comment (mark + len))
 
-pub line_tagged : (mark : ℕ) (c more : List ℕ) → StaysInLine c → line_of mark (c ++ 63 ∷ 62 ∷ more) ≡ wrong fault.BadByte (mark + length c)
+pub line_tagged : (mark : ℕ) (c more : List ℕ) → StaysInLine c
+    → line_of mark (c ++ 63 ∷ 62 ∷ more) ≡ wrong fault.BadByte (mark + length c)
 line_tagged mark c more h =
     let size : line_len (c ++ 63 ∷ 62 ∷ more) ≡ length c = line_len-exact c (63 ∷ 62 ∷ more) h refl refl in
-    (λ i. line_by mark (size i) (drop (size i) (c ++ 63 ∷ 62 ∷ more))) ∙ ap (line_by mark (length c)) (drop-append_seam c (63 ∷ 62 ∷ more))
+    (λ i. line_by mark (size i) (drop (size i) (c ++ 63 ∷ 62 ∷ more)))
+    ∙ ap (line_by mark (length c)) (drop-append_seam c (63 ∷ 62 ∷ more))
 
 -- ---- where a comment opens
 

@@ -33,19 +33,24 @@ len_in : Found → ℕ
 len_in (Ok x) = x.1
 len_in (Err x) = 0
 
-same_found : (z : List ℕ) (p : Piece) (n : ℕ) (x : Piece × ℕ) → found p n ≡ Ok x → PieceThere z p n → PieceThere z x.0 x.1
+same_found : (z : List ℕ) (p : Piece) (n : ℕ) (x : Piece × ℕ) → found p n ≡ Ok x → PieceThere z p n
+    → PieceThere z x.0 x.1
 unfolding piece_in len_in
-same_found z p n x e h = subst (λ k. PieceThere z k x.1) (ap (λ o. piece_in o p) e) (subst (λ m. PieceThere z p m) (ap len_in e) h)
+same_found z p n x e h =
+    subst (λ k. PieceThere z k x.1) (ap (λ o. piece_in o p) e) (subst (λ m. PieceThere z p m) (ap len_in e) h)
 
 not_wrong : (f : Fault) (n : ℕ) (x : Piece × ℕ) → wrong f n ≡ Ok x → ⊥
 not_wrong f n x e = cc
 
 -- ---- each class
 
-there_name : (b : ℕ) (r : List ℕ) (x : Piece × ℕ) → is_start b ≡ true → name_at (b ∷ r) ≡ Ok x → PieceThere (b ∷ r) x.0 x.1
+there_name : (b : ℕ) (r : List ℕ) (x : Piece × ℕ) → is_start b ≡ true → name_at (b ∷ r) ≡ Ok x
+    → PieceThere (b ∷ r) x.0 x.1
 there_name b r x is e = go (nat_lt longest_name (name_len (b ∷ r))) refl e
   where
-    go : (k : Bool) → nat_lt longest_name (name_len (b ∷ r)) ≡ k → cond k (wrong fault.BadByte 255) (found (name (take (name_len (b ∷ r)) (b ∷ r))) (name_len (b ∷ r))) ≡ Ok x → PieceThere (b ∷ r) x.0 x.1
+    go : (k : Bool) → nat_lt longest_name (name_len (b ∷ r)) ≡ k
+        → cond k (wrong fault.BadByte 255) (found (name (take (name_len (b ∷ r)) (b ∷ r))) (name_len (b ∷ r))) ≡ Ok x
+        → PieceThere (b ∷ r) x.0 x.1
     go true t e = absurd (not_wrong fault.BadByte 255 x e)
     go false t e =
         let within = run_within is_part (b ∷ r) in
@@ -57,23 +62,37 @@ there_name b r x is e = go (nat_lt longest_name (name_len (b ∷ r))) refl e
           within = within;
         })
 
-there_ended : (z : List ℕ) (n len : ℕ) (x : Piece × ℕ) → IsNumber n (take len z) → 1 ≤ len → len ≤ length z → ended n len (drop len z) ≡ Ok x → PieceThere z x.0 x.1
+there_ended : (z : List ℕ) (n len : ℕ) (x : Piece × ℕ) → IsNumber n (take len z) → 1 ≤ len → len ≤ length z
+    → ended n len (drop len z) ≡ Ok x → PieceThere z x.0 x.1
 there_ended z n len x spelled some within e = go (nat_lt widest n) refl (begins runs_on (drop len z)) refl e
   where
-    go : (k : Bool) → nat_lt widest n ≡ k → (l : Bool) → begins runs_on (drop len z) ≡ l → cond k (wrong fault.WideNumber 0) (cond l (wrong fault.BadByte len) (found (number n) len)) ≡ Ok x → PieceThere z x.0 x.1
+    go : (k : Bool) → nat_lt widest n ≡ k → (l : Bool) → begins runs_on (drop len z) ≡ l
+        → cond k (wrong fault.WideNumber 0) (cond l (wrong fault.BadByte len) (found (number n) len)) ≡ Ok x
+        → PieceThere z x.0 x.1
     go true t l s e = absurd (not_wrong fault.WideNumber 0 x e)
     go false t true s e = absurd (not_wrong fault.BadByte len x e)
-    go false t false s e = same_found z (number n) len x e (record { spelled = spelled; allowed = (ltb-false _ _ t, s); some = some; within = within })
+    go false t false s e =
+        same_found z (number n) len x e (record {
+          spelled = spelled;
+          allowed =
+              (ltb-false _ _ t, s);
+          some = some;
+          within = within;
+        })
 
-there_number : (b : ℕ) (r : List ℕ) (x : Piece × ℕ) → is_digit b ≡ true → number_at (b ∷ r) ≡ Ok x → PieceThere (b ∷ r) x.0 x.1
+there_number : (b : ℕ) (r : List ℕ) (x : Piece × ℕ) → is_digit b ≡ true → number_at (b ∷ r) ≡ Ok x
+    → PieceThere (b ∷ r) x.0 x.1
 there_number b r x is e =
     let h = number_there b r is in
-    there_ended (b ∷ r) (number_value (b ∷ r)) (number_len (b ∷ r)) x h.spelled h.some h.within (sym (number_ended b r) ∙ e)
+    there_ended (b ∷ r) (number_value (b ∷ r)) (number_len (b ∷ r)) x h.spelled h.some h.within
+    (sym (number_ended b r) ∙ e)
 
 there_line : (mark : ℕ) (z q : List ℕ) (x : Piece × ℕ) → OpensAt mark z q → line_of mark q ≡ Ok x → PieceThere z x.0 x.1
 there_line mark z q x h e = go (begins_tag (drop (line_len q) q)) refl e
   where
-    go : (k : Bool) → begins_tag (drop (line_len q) q) ≡ k → cond k (wrong fault.BadByte (mark + line_len q)) (found line_comment (mark + line_len q)) ≡ Ok x → PieceThere z x.0 x.1
+    go : (k : Bool) → begins_tag (drop (line_len q) q) ≡ k
+        → cond k (wrong fault.BadByte (mark + line_len q)) (found line_comment (mark + line_len q)) ≡ Ok x
+        → PieceThere z x.0 x.1
     go true t e = absurd (not_wrong fault.BadByte (mark + line_len q) x e)
     go false t e = same_found z line_comment (mark + line_len q) x e (record {
       spelled = (take (line_len q) q, h.opens (line_len q), line_len-front q);
@@ -102,7 +121,8 @@ there_slash b (c ∷ q) x is e = go (c == 47) refl (c == 42) refl e
       within = omega (arith, h.0);
     })
 
-    go : (k : Bool) → (c == 47) ≡ k → (l : Bool) → (c == 42) ≡ l → cond k (line_of 2 q) (cond l (comment_of (close_len q)) bad) ≡ Ok x → PieceThere (b ∷ c ∷ q) x.0 x.1
+    go : (k : Bool) → (c == 47) ≡ k → (l : Bool) → (c == 42) ≡ l
+        → cond k (line_of 2 q) (cond l (comment_of (close_len q)) bad) ≡ Ok x → PieceThere (b ∷ c ∷ q) x.0 x.1
     go true t l s e = there_line 2 (b ∷ c ∷ q) q x (slashes_open b c q is (eqb-true c 47 t)) e
     go false t true s e = closed (eqb-true c 42 s) (close_len q) refl e
     go false t false s e = absurd (not_wrong fault.BadByte 0 x e)
@@ -112,43 +132,58 @@ first_start [] e = absurd (cc)
 first_start (b ∷ t) e = (b, t, refl, e)
 
 pub name_of_run : (r : List ℕ) → begins is_start r ≡ true → IsName (take (name_len r) r)
-name_of_run r e = let d = first_start r e in subst (λ l. IsName (take (name_len l) l)) (sym d.2) (name_whole d.0 d.1 d.3)
+name_of_run r e =
+    let d = first_start r e in subst (λ l. IsName (take (name_len l) l)) (sym d.2) (name_whole d.0 d.1 d.3)
 
 there_dollar : (b : ℕ) (r : List ℕ) (x : Piece × ℕ) → b ≡ 36 → dollar_at r ≡ Ok x → PieceThere (b ∷ r) x.0 x.1
 there_dollar b r x is e = go (begins is_start r) refl (nat_lt longest_name (name_len r)) refl e
   where
-    go : (k : Bool) → begins is_start r ≡ k → (l : Bool) → nat_lt longest_name (name_len r) ≡ l → cond k (cond l (wrong fault.BadByte 256) (found (variable (take (name_len r) r)) (1 + name_len r))) bad ≡ Ok x → PieceThere (b ∷ r) x.0 x.1
+    go : (k : Bool) → begins is_start r ≡ k → (l : Bool) → nat_lt longest_name (name_len r) ≡ l
+        → cond k (cond l (wrong fault.BadByte 256) (found (variable (take (name_len r) r)) (1 + name_len r))) bad ≡ Ok x
+        → PieceThere (b ∷ r) x.0 x.1
     go false t l s e = absurd (not_wrong fault.BadByte 0 x e)
     go true t true s e = absurd (not_wrong fault.BadByte 256 x e)
     go true t false s e =
         let within = run_within is_part r in
         same_found (b ∷ r) (variable (take (name_len r) r)) (1 + name_len r) x e (record {
-          spelled = (ap (λ k. take k (b ∷ r)) (one_more (name_len r)) ∙ ap (λ y. y ∷ take (name_len r) r) is, name_of_run r t);
+          spelled = (
+            ap (λ k. take k (b ∷ r)) (one_more (name_len r))
+                ∙ ap (λ y. y ∷ take (name_len r) r) is,
+            name_of_run r t,
+          );
           allowed = omega (arith, length-take-le (name_len r) r within, ltb-false _ _ s);
           some = omega arith;
           within = omega (arith, within);
         })
 
 -- a text up to its closing quote
-take_closed : (q n : ℕ) (r : List ℕ) → n < length r → r ≡ take n r ++ q ∷ drop (suc n) r → take (suc n) r ≡ take n r ++ q ∷ []
+take_closed : (q n : ℕ) (r : List ℕ) → n < length r → r ≡ take n r ++ q ∷ drop (suc n) r
+    → take (suc n) r ≡ take n r ++ q ∷ []
 take_closed q n r lt e =
-    let whole : r ≡ (take n r ++ q ∷ []) ++ drop (suc n) r = e ∙ sym (append_assoc (take n r) (q ∷ []) (drop (suc n) r)) in
-    let size : suc n ≡ length (take n r ++ q ∷ []) = omega (arith, length-append (take n r) (q ∷ []), length-take-le n r (omega arith)) in
-    ap (λ k. take k r) size ∙ ap (take (length (take n r ++ q ∷ []))) whole ∙ take-append_seam (take n r ++ q ∷ []) (drop (suc n) r)
+    let whole : r ≡ (take n r ++ q ∷ []) ++ drop (suc n) r = e
+    ∙ sym (append_assoc (take n r) (q ∷ []) (drop (suc n) r)) in
+    let size : suc n ≡ length (take n r ++ q
+    ∷ []) = omega (arith, length-append (take n r) (q ∷ []), length-take-le n r (omega arith)) in
+    ap (λ k. take k r) size ∙ ap (take (length (take n r ++ q ∷ []))) whole
+    ∙ take-append_seam (take n r ++ q ∷ []) (drop (suc n) r)
 
-text_taken : (b q n : ℕ) (r : List ℕ) → b ≡ q → n < length r → r ≡ take n r ++ q ∷ drop (suc n) r → take (2 + n) (b ∷ r) ≡ enclosed q (take n r)
+text_taken : (b q n : ℕ) (r : List ℕ) → b ≡ q → n < length r → r ≡ take n r ++ q ∷ drop (suc n) r
+    → take (2 + n) (b ∷ r) ≡ enclosed q (take n r)
 text_taken b q n r is lt e = ap (λ k. take k (b ∷ r)) (two_more n) ∙ (λ i. is i ∷ take_closed q n r lt e i)
 
-there_single : (b : ℕ) (r : List ℕ) (x : Piece × ℕ) → b ≡ 39 → (o : Option ℕ) → body_len 39 r ≡ o → single_of o r ≡ Ok x → PieceThere (b ∷ r) x.0 x.1
+there_single : (b : ℕ) (r : List ℕ) (x : Piece × ℕ) → b ≡ 39 → (o : Option ℕ) → body_len 39 r ≡ o → single_of o r ≡ Ok x
+    → PieceThere (b ∷ r) x.0 x.1
 there_single b r x is None f e = absurd (not_wrong fault.OpenString 0 x e)
-there_single b r x is (Some n) f e = let h = body_there 39 r n f in same_found (b ∷ r) (text (single_value (take n r))) (2 + n) x e (record {
-  spelled = inl (take n r, text_taken b 39 n r is h.within h.closed, h.body, refl);
-  allowed = tt;
-  some = omega arith;
-  within = omega (arith, h.within);
-})
+there_single b r x is (Some n) f e =
+    let h = body_there 39 r n f in same_found (b ∷ r) (text (single_value (take n r))) (2 + n) x e (record {
+      spelled = inl (take n r, text_taken b 39 n r is h.within h.closed, h.body, refl);
+      allowed = tt;
+      some = omega arith;
+      within = omega (arith, h.within);
+    })
 
-there_double : (b : ℕ) (r : List ℕ) (x : Piece × ℕ) → b ≡ 34 → (o : Option ℕ) → body_len 34 r ≡ o → double_of o r ≡ Ok x → PieceThere (b ∷ r) x.0 x.1
+there_double : (b : ℕ) (r : List ℕ) (x : Piece × ℕ) → b ≡ 34 → (o : Option ℕ) → body_len 34 r ≡ o → double_of o r ≡ Ok x
+    → PieceThere (b ∷ r) x.0 x.1
 there_double b r x is None f e = absurd (not_wrong fault.OpenString 0 x e)
 there_double b r x is (Some n) f e = go (doubled 0 (take n r)) (doubled_there (take n r)) e
   where
@@ -161,11 +196,17 @@ there_double b r x is (Some n) f e = go (doubled 0 (take n r)) (doubled_there (t
       within = omega (arith, h.within);
     })
 
-there_quote : (b : ℕ) (r : List ℕ) (x : Piece × ℕ) → (b ≡ 39) ⊎ (b ≡ 34) → quote_at b r ≡ Ok x → PieceThere (b ∷ r) x.0 x.1
-there_quote b r x (inl is) e = there_single b r x is (body_len 39 r) refl (sym (ap (λ k. cond k (single_of (body_len 39 r) r) (double_of (body_len 34 r) r)) (equal_test b 39 is)) ∙ e)
-there_quote b r x (inr is) e = there_double b r x is (body_len 34 r) refl (sym (ap (λ k. cond k (single_of (body_len 39 r) r) (double_of (body_len 34 r) r)) (other_test b 39 (not_both b 34 39 is refl))) ∙ e)
+there_quote : (b : ℕ) (r : List ℕ) (x : Piece × ℕ) → (b ≡ 39) ⊎ (b ≡ 34) → quote_at b r ≡ Ok x
+    → PieceThere (b ∷ r) x.0 x.1
+there_quote b r x (inl is) e =
+    there_single b r x is (body_len 39 r) refl (sym (ap (λ k. cond k (single_of (body_len 39 r) r)
+    (double_of (body_len 34 r) r)) (equal_test b 39 is)) ∙ e)
+there_quote b r x (inr is) e =
+    there_double b r x is (body_len 34 r) refl (sym (ap (λ k. cond k (single_of (body_len 39 r) r)
+    (double_of (body_len 34 r) r)) (other_test b 39 (not_both b 34 39 is refl))) ∙ e)
 
-there_single_operator : (b : ℕ) (r : List ℕ) (x : Piece × ℕ) (o : Option TokenKind) → one_byte b ≡ o → single_operator o b r ≡ Ok x → PieceThere (b ∷ r) x.0 x.1
+there_single_operator : (b : ℕ) (r : List ℕ) (x : Piece × ℕ) (o : Option TokenKind) → one_byte b ≡ o
+    → single_operator o b r ≡ Ok x → PieceThere (b ∷ r) x.0 x.1
 there_single_operator b r x None t e = absurd (not_wrong fault.BadByte 0 x e)
 there_single_operator b r x (Some k) t e = go (is_split b r) refl e
   where
@@ -186,23 +227,48 @@ there_single_operator b r x (Some k) t e = go (is_split b r) refl e
 longer_text : (b c x : ℕ) (t : List ℕ) → b ∷ c ∷ t ≡ x ∷ [] → ⊥
 longer_text b c x t e = cc
 
-there_double_operator : (b c : ℕ) (t : List ℕ) (x : Piece × ℕ) (o : Option TokenKind) → two_bytes b c ≡ o → double_operator o b (c ∷ t) ≡ Ok x → PieceThere (b ∷ c ∷ t) x.0 x.1
+there_double_operator : (b c : ℕ) (t : List ℕ) (x : Piece × ℕ) (o : Option TokenKind) → two_bytes b c ≡ o
+    → double_operator o b (c ∷ t) ≡ Ok x → PieceThere (b ∷ c ∷ t) x.0 x.1
 there_double_operator b c t x None f e = there_single_operator b (c ∷ t) x (one_byte b) refl e
-there_double_operator b c t x (Some k) f e = same_found (b ∷ c ∷ t) (operator k) 2 x e (record { spelled = f; allowed = (λ is. absurd (longer_text b c 46 _ is), λ is. absurd (longer_text b c 63 _ is)); some = omega arith; within = omega arith })
+there_double_operator b c t x (Some k) f e =
+    same_found (b ∷ c
+    ∷ t) (operator k) 2 x e (record {
+      spelled = f;
+      allowed = (
+        λ is. absurd (longer_text b c 46 _ is),
+        λ is. absurd (longer_text b c 63 _ is),
+      );
+      some = omega arith;
+      within = omega arith;
+    })
 
-there_triple_operator : (b c d : ℕ) (t : List ℕ) (x : Piece × ℕ) (o : Option TokenKind) → three_bytes b c d ≡ o → triple_operator o b c (d ∷ t) ≡ Ok x → PieceThere (b ∷ c ∷ d ∷ t) x.0 x.1
+there_triple_operator : (b c d : ℕ) (t : List ℕ) (x : Piece × ℕ) (o : Option TokenKind) → three_bytes b c d ≡ o
+    → triple_operator o b c (d ∷ t) ≡ Ok x → PieceThere (b ∷ c ∷ d ∷ t) x.0 x.1
 there_triple_operator b c d t x None f e = there_double_operator b c (d ∷ t) x (two_bytes b c) refl e
-there_triple_operator b c d t x (Some k) f e = same_found (b ∷ c ∷ d ∷ t) (operator k) 3 x e (record { spelled = f; allowed = (λ is. absurd (longer_text b c 46 _ is), λ is. absurd (longer_text b c 63 _ is)); some = omega arith; within = omega arith })
+there_triple_operator b c d t x (Some k) f e =
+    same_found (b ∷ c ∷ d
+    ∷ t) (operator k) 3 x e (record {
+      spelled = f;
+      allowed = (
+        λ is. absurd (longer_text b c 46 _ is),
+        λ is. absurd (longer_text b c 63 _ is),
+      );
+      some = omega arith;
+      within = omega arith;
+    })
 
 there_operator : (b : ℕ) (r : List ℕ) (x : Piece × ℕ) → operator_at b r ≡ Ok x → PieceThere (b ∷ r) x.0 x.1
 there_operator b [] x e = there_single_operator b [] x (one_byte b) refl e
 there_operator b (c ∷ []) x e = there_double_operator b c [] x (two_bytes b c) refl e
 there_operator b (c ∷ d ∷ t) x e = there_triple_operator b c d t x (three_bytes b c d) refl e
 
-there_by : (b : ℕ) (r : List ℕ) (x : Piece × ℕ) → (c : Class) → Tells c b → piece_by c b r ≡ Ok x → PieceThere (b ∷ r) x.0 x.1
+there_by : (b : ℕ) (r : List ℕ) (x : Piece × ℕ) → (c : Class) → Tells c b → piece_by c b r ≡ Ok x
+    → PieceThere (b ∷ r) x.0 x.1
 there_by b r x class.Name h e = there_name b r x h e
 there_by b r x class.Number h e = there_number b r x h e
-there_by b r x class.Space h e = same_found (b ∷ r) space 1 x e (record { spelled = (b, refl, h); allowed = tt; some = omega arith; within = omega arith })
+there_by b r x class.Space h e =
+    same_found (b
+    ∷ r) space 1 x e (record { spelled = (b, refl, h); allowed = tt; some = omega arith; within = omega arith })
 there_by b r x class.Hash h e = there_hash b r x h e
 there_by b r x class.Slash h e = there_slash b r x h e
 there_by b r x class.Dollar h e = there_dollar b r x h e
@@ -216,7 +282,8 @@ piece_there (b ∷ r) x e = there_by b r x (class_of b) (tells b (class_of b) re
 
 -- ---- what is found comes next, and what comes next is found
 
-at_found : (q : Piece) (u more : List ℕ) (x : Piece × ℕ) → IsPiece q u → piece_at (u ++ more) ≡ Ok x → (length u ≤ x.1) × (length u ≡ x.1 → x.0 ≡ q)
+at_found : (q : Piece) (u more : List ℕ) (x : Piece × ℕ) → IsPiece q u → piece_at (u ++ more) ≡ Ok x
+    → (length u ≤ x.1) × (length u ≡ x.1 → x.0 ≡ q)
 at_found q u more x h e = subst (AtPiece q u more) e (at_piece q u more h)
 
 pub found_next : (z : List ℕ) (x : Piece × ℕ) → piece_at z ≡ Ok x → IsNext x.0 (take x.1 z) (drop x.1 z)
@@ -231,11 +298,13 @@ found_next z x e =
       allowed = there.allowed;
     }
 
-next_by : (p : Piece) (t r : List ℕ) → IsNext p t r → (o : Found) → piece_at (t ++ r) ≡ o → AtPiece p t r o → o ≡ found p (length t)
+next_by : (p : Piece) (t r : List ℕ) → IsNext p t r → (o : Found) → piece_at (t ++ r) ≡ o → AtPiece p t r o
+    → o ≡ found p (length t)
 next_by p t r next (Err e) is at = absurd (at next)
 next_by p t r next (Ok x) is at =
     let there = piece_there (t ++ r) x is in
-    let no_longer = next.longest x.0 (take x.1 (t ++ r)) (drop x.1 (t ++ r)) there.spelled (take-append-drop x.1 (t ++ r)) in
+    let no_longer = next.longest x.0 (take x.1 (t ++ r)) (drop x.1 (t ++ r)) there.spelled
+    (take-append-drop x.1 (t ++ r)) in
     let size : x.1 ≡ length t = omega (arith, no_longer, at.0, length-take-le x.1 (t ++ r) there.within) in
     (λ i. found (at.1 (sym size) i) (size i))
 

@@ -73,7 +73,9 @@ two_more n = omega arith
 
 pub run_at_least : (p : ℕ → Bool) (xs more : List ℕ) → Each p xs → length xs ≤ prefix_len p (xs ++ more)
 run_at_least p [] more all = omega arith
-run_at_least p (x ∷ xs) more all = let e : prefix_len p ((x ∷ xs) ++ more) ≡ 1 + prefix_len p (xs ++ more) = ap (λ b. cond b (1 + prefix_len p (xs ++ more)) 0) all.0 in omega (arith, e, run_at_least p xs more all.1)
+run_at_least p (x ∷ xs) more all =
+    let e : prefix_len p ((x ∷ xs) ++ more) ≡ 1 + prefix_len p (xs ++ more) = ap
+    (λ b. cond b (1 + prefix_len p (xs ++ more)) 0) all.0 in omega (arith, e, run_at_least p xs more all.1)
 
 pub run_within : (p : ℕ → Bool) (xs : List ℕ) → prefix_len p xs ≤ length xs
 run_within p [] = omega arith
@@ -90,7 +92,8 @@ run_front p [] (suc k) le = absurd (omega arith)
 run_front p (x ∷ xs) zero le = tt
 run_front p (x ∷ xs) (suc k) le = go (λ h. run_front p xs k h) (p x) refl le
   where
-    go : (k ≤ prefix_len p xs → Each p (take k xs)) → (b : Bool) → p x ≡ b → suc k ≤ cond b (1 + prefix_len p xs) 0 → Each p (x ∷ take k xs)
+    go : (k ≤ prefix_len p xs → Each p (take k xs)) → (b : Bool) → p x ≡ b → suc k ≤ cond b (1 + prefix_len p xs) 0
+        → Each p (x ∷ take k xs)
     go ih true e le = (e, ih (omega arith))
     go ih false e le = absurd (omega arith)
 
@@ -102,15 +105,19 @@ pub run_stops : (p : ℕ → Bool) (xs : List ℕ) → begins p (drop (prefix_le
 run_stops p [] = refl
 run_stops p (x ∷ xs) = go (run_stops p xs) (p x) refl
   where
-    go : begins p (drop (prefix_len p xs) xs) ≡ false → (c : Bool) → p x ≡ c → begins p (drop (cond c (1 + prefix_len p xs) 0) (x ∷ xs)) ≡ false
+    go : begins p (drop (prefix_len p xs) xs) ≡ false → (c : Bool) → p x ≡ c
+        → begins p (drop (cond c (1 + prefix_len p xs) 0) (x ∷ xs)) ≡ false
     go ih true e = ap (λ n. begins p (drop n (x ∷ xs))) (one_more (prefix_len p xs)) ∙ ih
     go ih false e = e
 
 -- a run that something stops is as long as this
-pub run_exact : (p : ℕ → Bool) (xs more : List ℕ) → Each p xs → begins p more ≡ false → prefix_len p (xs ++ more) ≡ length xs
+pub run_exact : (p : ℕ → Bool) (xs more : List ℕ) → Each p xs → begins p more ≡ false
+    → prefix_len p (xs ++ more) ≡ length xs
 run_exact p [] [] all stops = refl
 run_exact p [] (b ∷ t) all stops = ap (λ c. cond c (1 + prefix_len p t) 0) stops
-run_exact p (x ∷ xs) more all stops = ap (λ b. cond b (1 + prefix_len p (xs ++ more)) 0) all.0 ∙ ap (λ n. 1 + n) (run_exact p xs more all.1 stops) ∙ one_more (length xs)
+run_exact p (x ∷ xs) more all stops =
+    ap (λ b. cond b (1 + prefix_len p (xs ++ more)) 0) all.0 ∙ ap (λ n. 1 + n) (run_exact p xs more all.1 stops)
+    ∙ one_more (length xs)
 
 -- a run begins where its first byte passes
 pub run_some : (p : ℕ → Bool) (b : ℕ) (t : List ℕ) → p b ≡ true → prefix_len p (b ∷ t) ≡ suc (prefix_len p t)
@@ -150,23 +157,29 @@ up_to_stops p zero xs lt = absurd (omega arith)
 up_to_stops p (suc n) [] lt = refl
 up_to_stops p (suc n) (x ∷ xs) lt = go (λ h. up_to_stops p n xs h) (p x) refl lt
   where
-    go : (up_to p n xs < n → begins p (drop (up_to p n xs) xs) ≡ false) → (b : Bool) → p x ≡ b → cond b (1 + up_to p n xs) 0 < suc n → begins p (drop (cond b (1 + up_to p n xs) 0) (x ∷ xs)) ≡ false
+    go : (up_to p n xs < n → begins p (drop (up_to p n xs) xs) ≡ false) → (b : Bool) → p x ≡ b
+        → cond b (1 + up_to p n xs) 0 < suc n → begins p (drop (cond b (1 + up_to p n xs) 0) (x ∷ xs)) ≡ false
     go ih true e lt = ap (λ k. begins p (drop k (x ∷ xs))) (one_more (up_to p n xs)) ∙ ih (omega arith)
     go ih false e lt = e
 
-pub up_to_exact : (p : ℕ → Bool) (n : ℕ) (xs more : List ℕ) → Each p xs → length xs ≤ n → (length xs < n → begins p more ≡ false) → up_to p n (xs ++ more) ≡ length xs
+pub up_to_exact : (p : ℕ → Bool) (n : ℕ) (xs more : List ℕ) → Each p xs → length xs ≤ n
+    → (length xs < n → begins p more ≡ false) → up_to p n (xs ++ more) ≡ length xs
 up_to_exact p zero [] more all le stops = refl
 up_to_exact p zero (x ∷ xs) more all le stops = absurd (omega arith)
 up_to_exact p (suc n) [] [] all le stops = refl
 up_to_exact p (suc n) [] (b ∷ t) all le stops = ap (λ c. cond c (1 + up_to p n t) 0) (stops (omega arith))
-up_to_exact p (suc n) (x ∷ xs) more all le stops = ap (λ b. cond b (1 + up_to p n (xs ++ more)) 0) all.0 ∙ ap (λ k. 1 + k) (up_to_exact p n xs more all.1 (omega arith) (λ h. stops (omega arith))) ∙ one_more (length xs)
+up_to_exact p (suc n) (x ∷ xs) more all le stops =
+    ap (λ b. cond b (1 + up_to p n (xs ++ more)) 0) all.0
+    ∙ ap (λ k. 1 + k) (up_to_exact p n xs more all.1 (omega arith) (λ h. stops (omega arith))) ∙ one_more (length xs)
 
 -- ---- fronts of lists
 
 pub take_over : (u more : List ℕ) (k : ℕ) → length u ≤ k → take k (u ++ more) ≡ u ++ take (k - length u) more
 take_over [] more k le = let e : k ≡ k - 0 = omega arith in ap (λ n. take n more) e
 take_over (x ∷ u) more zero le = absurd (omega arith)
-take_over (x ∷ u) more (suc k) le = let e : k - length u ≡ suc k - suc (length u) = omega arith in ap (λ l. x ∷ l) (take_over u more k (omega arith)) ∙ ap (λ n. x ∷ (u ++ take n more)) e
+take_over (x ∷ u) more (suc k) le =
+    let e : k - length u ≡ suc k - suc (length u) = omega arith in ap (λ l. x ∷ l) (take_over u more k (omega arith))
+    ∙ ap (λ n. x ∷ (u ++ take n more)) e
 
 pub all_parts : (p q : ℕ → Bool) → ((b : ℕ) → p b ≡ true → q b ≡ true) → (xs : List ℕ) → Each p xs → Each q xs
 all_parts p q wider [] all = tt

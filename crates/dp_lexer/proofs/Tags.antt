@@ -21,7 +21,8 @@ tag_shape bytes rest h =
     record {
       long = omega (arith, size, ap length h.whole, length-append h.tag rest);
       rest_is = sym (drop-append_seam h.tag rest) ∙ (λ i. drop (size i) (h.whole i));
-      spelled = ap str_to_ascii_lowercase (sym (λ i. take (size i) (h.whole i)) ∙ take-append_seam h.tag rest) ∙ h.spelled;
+      spelled =
+          ap str_to_ascii_lowercase (sym (λ i. take (size i) (h.whole i)) ∙ take-append_seam h.tag rest) ∙ h.spelled;
     }
 
 -- what stands behind the tag, where something does

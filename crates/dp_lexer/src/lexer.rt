@@ -1,9 +1,11 @@
 //! The tokens of a text.
 
-ghost use Rattle.std.specs.Prelude.{◌≡◌, ◌⊎◌, ◌<◌, ◌≤◌, ◌+◌, ◌^◌, ◌++◌, length, drop, ℕ, List, IfOk, IsTrue, ◌↔◌, OnOk, MatchResult};
+ghost use Rattle.std.specs.Prelude.{◌≡◌, ◌⊎◌, ◌<◌, ◌≤◌, ◌+◌, ◌^◌, ◌++◌, length, drop, ℕ, List, IfOk, IsTrue, ◌↔◌, OnOk};
+ghost use Rattle.std.specs.Prelude.{MatchResult};
 ghost use Rattle.dp_lexer.specs.declared.fault.Fault.{Fault};
 ghost use Rattle.dp_lexer.specs.declared.token.Token.{Token};
-ghost use Rattle.dp_lexer.specs.Tokens.{feeds, token_at, error_of, AreTokensFrom, IsRefusedFrom, HasTag, AreFileTokens, AreTokens, IsFileRefused, IsRefused};
+ghost use Rattle.dp_lexer.specs.Tokens.{feeds, token_at, error_of, AreTokensFrom, IsRefusedFrom, HasTag, AreFileTokens};
+ghost use Rattle.dp_lexer.specs.Tokens.{AreTokens, IsFileRefused, IsRefused};
 ghost use Rattle.dp_lexer.specs.inner.Lexed.{IsPlacedWithin, placed_at};
 
 use crate::class::is_space;

@@ -1,4 +1,5 @@
-//! The tokens of a program text: names, variables, numbers, texts, keywords and operators, each with its place and line.
+//! The tokens of a program text: names, variables, numbers, texts, keywords and operators, each with its place and
+//! line.
 #![tactic(auto)]
 
 mod class;

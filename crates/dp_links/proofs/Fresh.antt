@@ -8,6 +8,7 @@ pub begins_all : {A : Type 0} (P : A → Type 0) (xs ys : List A) (x : A) → xs
 begins_all P xs ys x same all = (All-head P x ys (All-same P (x ∷ ys) xs (sym same) all), All-rest P x ys xs same all)
 
 -- the same of the next of a list, if there is one
-pub next_all : {A : Type 0} (P : A → Type 0) (xs ys : List A) (next : Option A) → xs ≡ option_to_list next ++ ys → All P xs → IfSome next P × All P ys
+pub next_all : {A : Type 0} (P : A → Type 0) (xs ys : List A) (next : Option A) → xs ≡ option_to_list next ++ ys
+    → All P xs → IfSome next P × All P ys
 next_all P xs ys None same all = (tt, All-same P ys xs (sym same) all)
 next_all P xs ys (Some x) same all = begins_all P xs ys x same all

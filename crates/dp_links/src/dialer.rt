@@ -1,5 +1,6 @@
 //! A dialer in memory, which gives the links that it was made with.
-ghost use Rattle.std.specs.Prelude.{◌≡◌, ◌↔◌, ◌⊎◌, ◌+◌, ◌≤◌, ◌∷◌, ◌++◌, [], ℕ, length, All, if◌then◌else◌, IfOk, OnErr, IsErr, IsTrue, Some, is_err, map};
+ghost use Rattle.std.specs.Prelude.{◌≡◌, ◌↔◌, ◌⊎◌, ◌+◌, ◌≤◌, ◌∷◌, ◌++◌, [], ℕ, length, All, if◌then◌else◌, IfOk, OnErr};
+ghost use Rattle.std.specs.Prelude.{IsErr, IsTrue, Some, is_err, map};
 ghost use Rattle.dp_outside.specs.Causes.{HasCause, Rose};
 ghost use Rattle.dp_outside.specs.Fakes.{after_call, is_due, one_more};
 ghost use Rattle.dp_outside.specs.Links.{CountsReturned, made};
@@ -114,7 +115,10 @@ impl ListDialer {
     pub(crate) fn fault(&mut self)
         ensures rose { Rose self.old.plan.faults self.new.plan.faults }
         ensures later { self.old.plan.faults ≤ self.new.plan.faults }
-        ensures after { self.new ≡ record self.old { plan = record self.old.plan { faults = one_more self.old.plan.faults } } }
+        ensures after { self.new ≡ record self.old {
+          plan = record self.old.plan
+              { faults = one_more self.old.plan.faults };
+        } }
     {
         self.plan.fault();
     }

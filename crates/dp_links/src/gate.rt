@@ -1,5 +1,6 @@
 //! A gate in memory, which gives the links that it was made with.
-ghost use Rattle.std.specs.Prelude.{◌≡◌, ◌↔◌, ◌⊎◌, ◌+◌, ◌<◌, ◌≤◌, ◌∷◌, ◌++◌, [], ℕ, length, All, if◌then◌else◌, IfOk, OnErr, IsErr, IsTrue, Some, is_err, map};
+ghost use Rattle.std.specs.Prelude.{◌≡◌, ◌↔◌, ◌⊎◌, ◌+◌, ◌<◌, ◌≤◌, ◌∷◌, ◌++◌, [], ℕ, length, All, if◌then◌else◌, IfOk};
+ghost use Rattle.std.specs.Prelude.{OnErr, IsErr, IsTrue, Some, is_err, map};
 ghost use Rattle.std.specs.Option.{option_to_list};
 ghost use Rattle.dp_outside.specs.Causes.{HasCause, Rose};
 ghost use Rattle.dp_outside.specs.Fakes.{after_call, is_due, one_more};
@@ -79,7 +80,8 @@ impl Model for ListGate {
 }
 
 impl ListGate {
-    /// A gate of this port that works by the first part; each twin gets the next. The sources and sinks in them are fresh.
+    /// A gate of this port that works by the first part; each twin gets the next. The sources and sinks in them are
+    /// fresh.
     pub fn new(alloc: Global, port: u16, parts: Vec<GatePart>) -> Result<Self, Memory>
         requires { AreFreshCalls parts.items }
         ensures { IfOk result (λ gate. gate ≡ first_gate port parts.items) }

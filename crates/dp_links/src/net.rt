@@ -1,5 +1,6 @@
 //! A net in memory, which gives the links and gates that it was made with.
-ghost use Rattle.std.specs.Prelude.{◌≡◌, ◌↔◌, ◌⊎◌, ◌+◌, ◌≤◌, ◌∷◌, ◌++◌, [], All, if◌then◌else◌, IfOk, OnErr, IsErr, IsTrue, Some, is_err, IfSome, IsNone};
+ghost use Rattle.std.specs.Prelude.{◌≡◌, ◌↔◌, ◌⊎◌, ◌+◌, ◌≤◌, ◌∷◌, ◌++◌, [], All, if◌then◌else◌, IfOk, OnErr, IsErr};
+ghost use Rattle.std.specs.Prelude.{IsTrue, Some, is_err, IfSome, IsNone};
 ghost use Rattle.std.specs.Vec.Iter.{into_iter_items};
 ghost use Rattle.dp_outside.specs.Causes.{HasCause};
 ghost use Rattle.dp_outside.specs.Fakes.{after_call, is_due};
@@ -226,7 +227,8 @@ impl Net for ListNet {
         ensures cause { HasCause self.old.dialer.plan.faults self.new.dialer.plan.faults result }
         ensures shut { self.new.shut_doors ≡ self.old.shut_doors }
 
-        // It fails exactly where its plan says so or no gate is left, and gives the next, at the port that was asked for.
+        // It fails exactly where its plan says so or no gate is left, and gives the next, at the port that was asked
+        // for.
         ensures due { IsErr result ↔ (IsTrue (is_due self.old.dialer.plan) ⊎ (self.old.gates ≡ [])) }
         ensures after { self.new.dialer ≡ record self.old.dialer {
           plan = after_call self.old.dialer.plan (is_err result);

@@ -41,7 +41,8 @@ record IsNibble (c n : ℕ) : Type 0 where
 
 nibble_is : (c n : ℕ) → nibble c ≡ Some n → IsNibble c n
 nibble_is c n e = by (nat_le 48 c && nat_le c 57) (nat_le 97 c && nat_le c 102) refl refl e where
-  by : (t u : Bool) → (nat_le 48 c && nat_le c 57) ≡ t → (nat_le 97 c && nat_le c 102) ≡ u → nibble c ≡ Some n → IsNibble c n
+  by : (t u : Bool) → (nat_le 48 c && nat_le c 57) ≡ t → (nat_le 97 c && nat_le c 102) ≡ u → nibble c ≡ Some n
+      → IsNibble c n
   by true u p q e =
       let is : c - 48 ≡ n = same_Some (c - 48) n (rw p at e) in
       let within : (48 ≤ c) × (c ≤ 57) = grind (arith, nat_tests) in
@@ -80,23 +81,27 @@ pub record AreSpelled (part bytes : List ℕ) : Type 0 where
   pub spelled : part ≡ flat_map two bytes
   pub small : AllByRecursion (λ b. b < 256) bytes
 
-one_more : (high low byte : ℕ) (part bytes : List ℕ) → IsByte high low byte → AreSpelled part bytes → AreSpelled (high ∷ low ∷ part) (byte ∷ bytes)
+one_more : (high low byte : ℕ) (part bytes : List ℕ) → IsByte high low byte → AreSpelled part bytes
+    → AreSpelled (high ∷ low ∷ part) (byte ∷ bytes)
 one_more high low byte part bytes one rest = record {
   spelled = λ i. one.first i ∷ one.second i ∷ rest.spelled i;
   small = (one.small, rest.small);
 }
 
 pairs_are : (part bytes : List ℕ) → pairs part ≡ Some bytes → AreSpelled part bytes
-pairs_are [] bytes e = let none : [] ≡ bytes = same_Some [] bytes e in rw (← none) (record { spelled = refl; small = tt })
+pairs_are [] bytes e =
+    let none : [] ≡ bytes = same_Some [] bytes e in rw (← none) (record { spelled = refl; small = tt })
 pairs_are (high ∷ []) bytes e = absurd cc
-pairs_are (high ∷ low ∷ part) bytes e = by (λ more q. pairs_are part more q) (byte_in high low) (pairs part) refl refl e where
-  by : ((more : List ℕ) → pairs part ≡ Some more → AreSpelled part more) → (one : Option ℕ) (rest : Option (List ℕ)) → byte_in high low ≡ one → pairs part ≡ rest
-      → pairs (high ∷ low ∷ part) ≡ Some bytes → AreSpelled (high ∷ low ∷ part) bytes
-  by left None rest p q e = let no : None ≡ Some bytes = rw p at e in absurd cc
-  by left (Some byte) None p q e = let no : None ≡ Some bytes = rw (p, q) at e in absurd cc
-  by left (Some byte) (Some more) p q e =
-      let whole : byte ∷ more ≡ bytes = same_Some (byte ∷ more) bytes (rw (p, q) at e) in
-      rw (← whole) (one_more high low byte part more (byte_is high low byte p) (left more q))
+pairs_are (high ∷ low ∷ part) bytes e =
+    by (λ more q. pairs_are part more q) (byte_in high low) (pairs part) refl refl e where
+      by : ((more : List ℕ) → pairs part ≡ Some more → AreSpelled part more) → (one : Option ℕ) (rest : Option (List ℕ))
+          → byte_in high low ≡ one → pairs part ≡ rest
+          → pairs (high ∷ low ∷ part) ≡ Some bytes → AreSpelled (high ∷ low ∷ part) bytes
+      by left None rest p q e = let no : None ≡ Some bytes = rw p at e in absurd cc
+      by left (Some byte) None p q e = let no : None ≡ Some bytes = rw (p, q) at e in absurd cc
+      by left (Some byte) (Some more) p q e =
+          let whole : byte ∷ more ≡ bytes = same_Some (byte ∷ more) bytes (rw (p, q) at e) in
+          rw (← whole) (one_more high low byte part more (byte_is high low byte p) (left more q))
 
 pub record IsHex (part bytes : List ℕ) : Type 0 where
   pub spelled : part ≡ hex bytes
@@ -123,13 +128,16 @@ hex_is part bytes e = by (bytes_eq part (codes "-")) refl e where
 module _ (part bytes rest : List ℕ) (so_far : pairs part ≡ option_map (λ bs. bytes ++ bs) (pairs rest)) where
   pub pairs_more : (high low byte : ℕ) (more : List ℕ) → rest ≡ high ∷ low ∷ more → byte_in high low ≡ Some byte
       → pairs part ≡ option_map (λ bs. (bytes ++ byte ∷ []) ++ bs) (pairs more)
-  pairs_more high low byte more e b = so_far ∙ ap (λ r. option_map (λ bs. bytes ++ bs) (pairs r)) e ∙ by (pairs more) refl where
-    by : (o : Option (List ℕ)) → pairs more ≡ o
-        → option_map (λ bs. bytes ++ bs) (pairs (high ∷ low ∷ more)) ≡ option_map (λ bs. (bytes ++ byte ∷ []) ++ bs) (pairs more)
-    by None p = rw (b, p) refl
-    by (Some left) p = rw (b, p) (ap Some (sym (append_assoc bytes (byte ∷ []) left)))
+  pairs_more high low byte more e b =
+      so_far ∙ ap (λ r. option_map (λ bs. bytes ++ bs) (pairs r)) e ∙ by (pairs more) refl where
+        by : (o : Option (List ℕ)) → pairs more ≡ o
+            → option_map (λ bs. bytes ++ bs) (pairs (high ∷ low ∷ more)) ≡ option_map (λ bs. (bytes ++ byte ∷ []) ++ bs)
+            (pairs more)
+        by None p = rw (b, p) refl
+        by (Some left) p = rw (b, p) (ap Some (sym (append_assoc bytes (byte ∷ []) left)))
 
-  pub pairs_bad : (high low : ℕ) (more : List ℕ) → rest ≡ high ∷ low ∷ more → byte_in high low ≡ None → None ≡ pairs part
+  pub pairs_bad : (high low : ℕ) (more : List ℕ) → rest ≡ high ∷ low ∷ more → byte_in high low ≡ None
+      → None ≡ pairs part
   pairs_bad high low more e b = sym (so_far ∙ ap (λ r. option_map (λ bs. bytes ++ bs) (pairs r)) e ∙ rw b refl)
 
   pub pairs_done : rest ≡ [] → Some bytes ≡ pairs part

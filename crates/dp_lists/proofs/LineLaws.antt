@@ -21,14 +21,16 @@ module _ (bytes : List ℕ) (at : ℕ) where
 
   pub first_line_is : FirstOf 10 bytes (Some at) → lines_of bytes ≡ take at bytes ∷ lines_of behind
   first_line_is f =
-      ap lines_of f.1 ∙ slice_split_at (λ b. b == 10) (take at bytes) 10 (drop (at + 1) bytes) (none_is 10 (take at bytes) f.0) refl
+      ap lines_of f.1 ∙ slice_split_at (λ b. b == 10) (take at bytes) 10 (drop (at + 1) bytes)
+      (none_is 10 (take at bytes) f.0) refl
       ∙ ap (λ l. take at bytes ∷ lines_of l) (sym (take_rest bytes (at + 1)))
 
   pub first_word_is : FirstOf 32 bytes (Some at) → take at bytes ≡ word_of bytes
   first_word_is f = sym (ap word_of f.1 ∙ word_before (take at bytes) (drop (at + 1) bytes) f.0)
 
   pub first_part_is : FirstOf 32 bytes (Some at) → Some behind ≡ part_of bytes
-  first_part_is f = ap Some (take_rest bytes (at + 1)) ∙ sym (ap part_of f.1 ∙ part_behind (take at bytes) (drop (at + 1) bytes) f.0)
+  first_part_is f =
+      ap Some (take_rest bytes (at + 1)) ∙ sym (ap part_of f.1 ∙ part_behind (take at bytes) (drop (at + 1) bytes) f.0)
 
 pub only_line : (bytes : List ℕ) → FirstOf 10 bytes None → lines_of bytes ≡ bytes ∷ []
 only_line bytes f = slice_split_none (λ b. b == 10) bytes (none_is 10 bytes f)

@@ -20,7 +20,8 @@ use Rattle.dp_lists.proofs.SpellingLaws.{spelled_again, spelled_is}
 
 idle_word : (word rest : List ℕ) → event_in (35 ∷ word) rest ≡ None
 idle_word word rest = by (link_in (word_of rest)) (part_of rest) refl refl where
-  by : (o : Option ℕ) (p : Option (List ℕ)) → link_in (word_of rest) ≡ o → part_of rest ≡ p → event_in (35 ∷ word) rest ≡ None
+  by : (o : Option ℕ) (p : Option (List ℕ)) → link_in (word_of rest) ≡ o → part_of rest ≡ p
+      → event_in (35 ∷ word) rest ≡ None
   by None p e f = rw e refl
   by (Some link) None e f = rw (e, f) refl
   by (Some link) (Some part) e f = rw (e, f) refl
@@ -40,7 +41,8 @@ idle_none (b ∷ line) h = let same : b ≡ 35 = eqb-true b 35 h in rw same (idl
 abbrev pub adds : List ℕ → List Event
 adds line = option_to_list (spelled line)
 
-pub fit_spelled : (before : List Event) (line : List ℕ) (e : Event) → Spells line e.link e.act → Fits before e → spelled line ≡ Some e
+pub fit_spelled : (before : List Event) (line : List ℕ) (e : Event) → Spells line e.link e.act → Fits before e
+    → spelled line ≡ Some e
 fit_spelled before line e s f = spelled_again line e.link e.act s f.some f.known f.formed
 
 pub adds_is : (before : List Event) (line : List ℕ) (added : List Event) → Adds before line added → added ≡ adds line
@@ -49,13 +51,15 @@ adds_is before line added (inr one) = rw (fit_spelled before line one.0 one.1 on
 
 -- ---- what lines come to
 
-pub come_is : (before : List Event) (lines : List (List ℕ)) (events : List Event) → Come before lines events → events ≡ before ++ flat_map adds lines
+pub come_is : (before : List Event) (lines : List (List ℕ)) (events : List Event) → Come before lines events
+    → events ≡ before ++ flat_map adds lines
 come_is before [] events h = h ∙ sym (append-nil before)
 come_is before (line ∷ lines) events h =
     come_is (before ++ h.0) lines events h.2 ∙ append_assoc before h.0 (flat_map adds lines)
     ∙ ap (λ a. before ++ (a ++ flat_map adds lines)) (adds_is before line h.0 h.1)
 
-pub come_push : (before : List Event) (lines : List (List ℕ)) (mid : List Event) (line : List ℕ) (added : List Event) → Come before lines mid → Adds mid line added
+pub come_push : (before : List Event) (lines : List (List ℕ)) (mid : List Event) (line : List ℕ) (added : List Event)
+    → Come before lines mid → Adds mid line added
     → Come before (lines ++ line ∷ []) (mid ++ added)
 come_push before [] mid line added h a = (added, subst (λ b. Adds b line added) h a, ap (λ b. b ++ added) h)
 come_push before (first ∷ lines) mid line added h a = (h.0, h.1, come_push (before ++ h.0) lines mid line added h.2 a)
@@ -79,17 +83,21 @@ one_list bytes a b p q = come_is [] (lines_of bytes) a p ∙ sym (come_is [] (li
 -- ---- the first bad line
 
 -- no lines that go on behind these with its bad line come to events
-not_behind : (bytes : List ℕ) (number : ℕ) (bad : IsFirstBad bytes number) (lines back : List (List ℕ)) (events : List Event)
+not_behind : (bytes : List ℕ) (number : ℕ) (bad : IsFirstBad bytes number) (lines back : List (List ℕ))
+    (events : List Event)
     → lines ≡ bad.front ++ bad.line ∷ back → Come [] lines events → ⊥
 not_behind bytes number bad lines back events e h =
     let s = come_split [] bad.front bad.line back events (subst (λ l. Come [] l events) e h) in
-    let same : s.mid ≡ bad.events = come_is [] bad.front s.mid s.come ∙ sym (come_is [] bad.front bad.events bad.before) in
+    let same : s.mid ≡ bad.events = come_is [] bad.front s.mid s.come
+    ∙ sym (come_is [] bad.front bad.events bad.before) in
     bad.bad s.added (subst (λ m. Adds m bad.line s.added) same s.adds)
 
-pub bad_excludes : (bytes : List ℕ) (number : ℕ) (events : List Event) → IsFirstBad bytes number → IsList bytes events → ⊥
+pub bad_excludes : (bytes : List ℕ) (number : ℕ) (events : List Event) → IsFirstBad bytes number → IsList bytes events
+    → ⊥
 bad_excludes bytes number events bad h = not_behind bytes number bad (lines_of bytes) bad.back events bad.split h
 
-before_other : {X : Type 0} (xs : List X) (y : X) (ys zs : List X) (w : X) (ws : List X) → xs ++ y ∷ ys ≡ zs ++ w ∷ ws → length xs < length zs
+before_other : {X : Type 0} (xs : List X) (y : X) (ys zs : List X) (w : X) (ws : List X) → xs ++ y ∷ ys ≡ zs ++ w ∷ ws
+    → length xs < length zs
     → (tail : List X) × (zs ≡ xs ++ y ∷ tail)
 before_other xs y ys [] w ws e less = absurd (omega arith)
 before_other [] y ys (z ∷ zs) w ws e less = let same : z ≡ y = cc in (zs, ap (λ x. x ∷ zs) same)
@@ -99,7 +107,8 @@ before_other (x ∷ xs) y ys (z ∷ zs) w ws e less =
     let more = before_other xs y ys zs w ws rest (omega arith) in
     (more.0, λ i. same i ∷ more.1 i)
 
-not_earlier : (bytes : List ℕ) (m n : ℕ) (a : IsFirstBad bytes m) (b : IsFirstBad bytes n) → length a.front < length b.front → ⊥
+not_earlier : (bytes : List ℕ) (m n : ℕ) (a : IsFirstBad bytes m) (b : IsFirstBad bytes n)
+    → length a.front < length b.front → ⊥
 not_earlier bytes m n a b less =
     let more = before_other a.front a.line a.back b.front b.line b.back (sym a.split ∙ b.split) less in
     not_behind bytes m a b.front more.0 b.events more.1 b.before
@@ -113,16 +122,23 @@ one_bad bytes m n a b = elim (cases_order (length a.front) (length b.front)) [
 
 -- ---- fitting
 
-pub fit_push : (before events : List Event) (e : Event) → AllFit before events → Fits (before ++ events) e → AllFit before (events ++ e ∷ [])
+pub fit_push : (before events : List Event) (e : Event) → AllFit before events → Fits (before ++ events) e
+    → AllFit before (events ++ e ∷ [])
 fit_push before [] e h f = (subst (λ b. Fits b e) (append-nil before) f, tt)
-fit_push before (first ∷ events) e h f =
-    (h.0, fit_push (before ++ first ∷ []) events e h.1 (subst (λ b. Fits b e) (sym (append_assoc before (first ∷ []) events)) f))
+fit_push before (first ∷ events) e h f = (
+  h.0,
+  fit_push (before ++ first
+      ∷ []) events e h.1 (subst (λ b. Fits b e) (sym (append_assoc before (first ∷ []) events)) f),
+)
 
 -- ---- the table of links
 
 module _ (table : List (ℕ × Bool)) (events : List Event) (is : IsTable table events) (e : Event) where
-  was_push : (sort : Act → Bool) (link : ℕ) → was sort link (events ++ e ∷ []) ≡ (was sort link events || ((e.link == link) && sort e.act))
-  was_push sort link = list_any-append (λ f. (f.link == link) && sort f.act) events (e ∷ []) ∙ ap (λ b. was sort link events || b) (or_false ((e.link == link) && sort e.act))
+  was_push : (sort : Act → Bool) (link : ℕ)
+      → was sort link (events ++ e ∷ []) ≡ (was sort link events || ((e.link == link) && sort e.act))
+  was_push sort link =
+      list_any-append (λ f. (f.link == link) && sort f.act) events (e ∷ [])
+      ∙ ap (λ b. was sort link events || b) (or_false ((e.link == link) && sort e.act))
     where
       or_false : (b : Bool) → (b || false) ≡ b
       or_false true = refl
@@ -132,7 +148,8 @@ module _ (table : List (ℕ × Bool)) (events : List Event) (is : IsTable table 
   or_none true b h = refl
   or_none false b h = h
 
-  same_was : (sort : Act → Bool) (link : ℕ) → ((e.link == link) && sort e.act) ≡ false → was sort link (events ++ e ∷ []) ≡ was sort link events
+  same_was : (sort : Act → Bool) (link : ℕ) → ((e.link == link) && sort e.act) ≡ false
+      → was sort link (events ++ e ∷ []) ≡ was sort link events
   same_was sort link isnt = was_push sort link ∙ or_none (was sort link events) _ isnt
 
   and_no : (a b : Bool) → b ≡ false → (a && b) ≡ false
@@ -145,8 +162,10 @@ module _ (table : List (ℕ × Bool)) (events : List Event) (is : IsTable table 
     (is link).1 ∙ sym (same_was is_engine link (and_no (e.link == link) (is_engine e.act) isnt)),
   )
 
-  pub table_made : (after : List (ℕ × Bool)) (flag : Bool) → makes e.act ≡ true → is_engine e.act ≡ flag → was makes e.link events ≡ false
-      → ((link : ℕ) → lookup (nat_eq link) after ≡ (if e.link == link then Some flag else lookup (nat_eq link) table)) → IsTable after (events ++ e ∷ [])
+  pub table_made : (after : List (ℕ × Bool)) (flag : Bool) → makes e.act ≡ true → is_engine e.act ≡ flag
+      → was makes e.link events ≡ false
+      → ((link : ℕ) → lookup (nat_eq link) after ≡ (if e.link == link then Some flag else lookup (nat_eq link) table))
+      → IsTable after (events ++ e ∷ [])
   table_made after flag made engine new at = λ link. by link (e.link == link) refl where
     by : (link : ℕ) (t : Bool) → (e.link == link) ≡ t
         → (is_some (lookup (nat_eq link) after) ≡ was makes link (events ++ e ∷ []))
@@ -154,8 +173,10 @@ module _ (table : List (ℕ × Bool)) (events : List Event) (is : IsTable table 
     by link true p =
         let here : lookup (nat_eq link) after ≡ Some flag = rw p at (at link) in
         let same : e.link ≡ link = eqb-true e.link link p in
-        let none : is_some (lookup (nat_eq link) table) ≡ false = (is link).0 ∙ subst (λ (l : ℕ). was makes l events ≡ false) same new in
-        let not_engine : was is_engine link events ≡ false = sym (is link).1 ∙ no_flag (lookup (nat_eq link) table) none in (
+        let none : is_some (lookup (nat_eq link) table) ≡ false = (is link).0
+        ∙ subst (λ (l : ℕ). was makes l events ≡ false) same new in
+        let not_engine : was is_engine link events ≡ false = sym (is link).1
+        ∙ no_flag (lookup (nat_eq link) table) none in (
           rw here (sym (was_push makes link ∙ or_right (was makes link events) _ (rw (p, made) refl))),
           rw here (sym (was_push is_engine link ∙ rw (not_engine, p, engine) refl)),
         )
@@ -170,7 +191,8 @@ module _ (table : List (ℕ × Bool)) (events : List Event) (is : IsTable table 
         )
 
 -- a table with what an event adds to it
-pub table_marked : (table after : List (ℕ × Bool)) (events : List Event) (e : Event) → IsTable table events → MayFollow events e.link e.act → Marks table e.link e.act after
+pub table_marked : (table after : List (ℕ × Bool)) (events : List Event) (e : Event) → IsTable table events
+    → MayFollow events e.link e.act → Marks table e.link e.act after
     → IsTable after (events ++ e ∷ [])
 table_marked table after events e is follows marks = by (makes e.act) refl where
   others : makes e.act ≡ false → IsTable after events
@@ -193,10 +215,13 @@ table_marked table after events e is follows marks = by (makes e.act) refl where
   new Close sure f = absurd cc
 
   by : (t : Bool) → makes e.act ≡ t → IsTable after (events ++ e ∷ [])
-  by true sure = table_made table events is e after (is_engine e.act) sure refl (new e.act sure follows) (λ link. rw sure at (marks link))
+  by true sure =
+      table_made table events is e after (is_engine e.act) sure refl (new e.act sure follows)
+      (λ link. rw sure at (marks link))
   by false isnt = table_same after events (others isnt) e isnt (no_engine e.act isnt)
 
-pub noted : (old : Reading) (new : Reading) (e : Event) → IsReading old old.events.items → Fits old.events.items e → Marks old.made.entries e.link e.act new.made.entries
+pub noted : (old : Reading) (new : Reading) (e : Event) → IsReading old old.events.items → Fits old.events.items e
+    → Marks old.made.entries e.link e.act new.made.entries
     → new.events.items ≡ old.events.items ++ e ∷ [] → IsReading new (old.events.items ++ e ∷ [])
 noted old new e is fits marks put = record {
   are = put;
@@ -209,14 +234,18 @@ noted old new e is fits marks put = record {
 pub read_none : (bytes : List ℕ) → IsRead bytes (Some bytes) 0 []
 read_none bytes = record { front = []; split = refl; count = refl; come = refl; less = omega arith }
 
-module _ (bytes left line : List ℕ) (more : Option (List ℕ)) (number : ℕ) (before : List Event) (read : IsRead bytes (Some left) number before)
+module _ (bytes left line : List ℕ) (more : Option (List ℕ)) (number : ℕ) (before : List Event)
+    (read : IsRead bytes (Some left) number before)
     (lines : lines_of left ≡ line ∷ lines_in more) where
-  pub read_on : size_of more ≤ length left → (after : List Event) → Takes before line true after → IsRead bytes more (number + 1) after
+  pub read_on : size_of more ≤ length left → (after : List Event) → Takes before line true after
+      → IsRead bytes more (number + 1) after
   read_on less after takes = record {
     front = read.front ++ line ∷ [];
     split = read.split ∙ ap (λ l. read.front ++ l) lines ∙ sym (append_assoc read.front (line ∷ []) (lines_in more));
     count = let n = read.count in omega (arith, length-append read.front (line ∷ []));
-    come = subst (Come [] (read.front ++ line ∷ [])) (sym takes.2) (come_push [] read.front before line takes.0 read.come takes.1);
+    come =
+        subst (Come [] (read.front ++ line ∷ [])) (sym takes.2)
+        (come_push [] read.front before line takes.0 read.come takes.1);
     less = let l = read.less in omega arith;
   }
 
@@ -232,7 +261,8 @@ module _ (bytes left line : List ℕ) (more : Option (List ℕ)) (number : ℕ) 
     bad = takes;
   }
 
-pub read_all : (bytes : List ℕ) (number : ℕ) (events : List Event) → IsRead bytes None number events → IsList bytes events
+pub read_all : (bytes : List ℕ) (number : ℕ) (events : List Event) → IsRead bytes None number events
+    → IsList bytes events
 read_all bytes number events read = subst (λ l. Come [] l events) (sym (read.split ∙ append-nil read.front)) read.come
 
 -- ---- one line
@@ -246,7 +276,8 @@ module _ (before : List Event) (line : List ℕ) where
       cc
 
   module _ (e : Event) (read : spelled line ≡ Some e) where
-    pub may_not : is_idle line ≡ false → (MayFollow before e.link e.act → ⊥) → (added : List Event) → Adds before line added → ⊥
+    pub may_not : is_idle line ≡ false → (MayFollow before e.link e.act → ⊥) → (added : List Event)
+        → Adds before line added → ⊥
     may_not other bad added (inl idle) = false≢true (sym other ∙ idle.0)
     may_not other bad added (inr one) =
         let is = fit_spelled before line one.0 one.1 one.2 in
@@ -254,7 +285,14 @@ module _ (before : List Event) (line : List ℕ) where
         bad (subst (λ (f : Event). MayFollow before f.link f.act) same one.2.follows)
 
     pub fits_then : MayFollow before e.link e.act → Fits before e
-    fits_then follows = let is = spelled_is line e read in record { some = is.some; known = is.known; formed = is.is.formed; follows = follows }
+    fits_then follows =
+        let is = spelled_is line e read in record {
+          some = is.some;
+          known = is.known;
+          formed = is.is.formed;
+          follows =
+              follows;
+        }
 
     pub adds_one : MayFollow before e.link e.act → Adds before line (e ∷ [])
     adds_one follows = inr (e, (spelled_is line e read).is.spells, fits_then follows, refl)

@@ -34,7 +34,8 @@ graphic_again : (bytes : List ℕ) → All IsGraphic bytes → list_all (λ b. n
 graphic_again [] h = refl
 graphic_again (b ∷ bytes) h =
     let first = All-head IsGraphic b bytes h in
-    and_from (nat_le 0x21 b && nat_le b 0x7e) _ (and_from (nat_le 0x21 b) (nat_le b 0x7e) (le-leb _ _ first.0) (le-leb _ _ first.1))
+    and_from (nat_le 0x21 b
+    && nat_le b 0x7e) _ (and_from (nat_le 0x21 b) (nat_le b 0x7e) (le-leb _ _ first.0) (le-leb _ _ first.1))
     (graphic_again bytes (All-tail IsGraphic b bytes h))
 
 pub name_is : (most : ℕ) (bytes : List ℕ) → is_name most bytes ≡ true → IsName most bytes
@@ -46,17 +47,20 @@ name_is most bytes h =
 pub name_again : (most : ℕ) (bytes : List ℕ) → IsName most bytes → is_name most bytes ≡ true
 name_again most bytes n =
     and_from (nat_le 1 (length bytes) && nat_le (length bytes) most) _
-    (and_from (nat_le 1 (length bytes)) (nat_le (length bytes) most) (le-leb _ _ n.some) (le-leb _ _ n.short)) (graphic_again bytes n.graphic)
+    (and_from (nat_le 1 (length bytes)) (nat_le (length bytes) most) (le-leb _ _ n.some) (le-leb _ _ n.short))
+    (graphic_again bytes n.graphic)
 
 -- ---- a line that is spelled is read
 
-with_named : (word : List ℕ) (link : ℕ) (part : List ℕ) → named_with word link part ≡ word ++ 32 ∷ (decimal link ++ 32 ∷ part)
+with_named : (word : List ℕ) (link : ℕ) (part : List ℕ)
+    → named_with word link part ≡ word ++ 32 ∷ (decimal link ++ 32 ∷ part)
 with_named word link part = simp append_assoc
 
 alone_named : (word : List ℕ) (link : ℕ) → named word link ≡ word ++ 32 ∷ decimal link
 alone_named word link = simp append_assoc
 
-module _ (word : List ℕ) (link : ℕ) (blank : has_no_blank word ≡ true) (some : 1 ≤ link) (within : link ≤ 4294967294) where
+module _ (word : List ℕ) (link : ℕ) (blank : has_no_blank word ≡ true) (some : 1 ≤ link)
+    (within : link ≤ 4294967294) where
   free : has_no_blank (decimal link) ≡ true
   free = number_blank link (omega arith)
 
@@ -85,14 +89,16 @@ module _ (word : List ℕ) (link : ℕ) (blank : has_no_blank word ≡ true) (so
         link_again link some within,
       ) refl
 
-pub spelled_again : (line : List ℕ) (link : ℕ) (act : Act) → Spells line link act → 1 ≤ link → link ≤ 4294967294 → IsFormed act
+pub spelled_again : (line : List ℕ) (link : ℕ) (act : Act) → Spells line link act → 1 ≤ link → link ≤ 4294967294
+    → IsFormed act
     → spelled line ≡ Some (record { link = link; act = act })
 spelled_again line link (Ide host) s some within formed =
     rw (s, again_with (codes "ide") link refl some within host) (rw (name_again 64 host formed) refl)
 spelled_again line link (Engine key) s some within formed =
     rw (s, again_with (codes "engine") link refl some within key) (rw (name_again 128 key formed) refl)
 spelled_again line link (Move count) s some within formed =
-    rw (s, again_with (codes "move") link refl some within (decimal count)) (rw (number_again 4294967295 count (omega arith) (omega arith)) refl)
+    rw (s, again_with (codes "move") link refl some within (decimal count))
+    (rw (number_again 4294967295 count (omega arith) (omega arith)) refl)
 spelled_again line link Close s some within formed = rw (s, again_alone (codes "close") link refl some within) refl
 spelled_again line link (Give bytes) (inl g) some within formed =
     rw (g.spelled, again_with (codes "give") link refl some within (hex bytes)) (rw (hex_again bytes g.are_bytes) refl)
@@ -114,11 +120,13 @@ module _ (line word : List ℕ) (link : ℕ) where
   name_spelled : (most : ℕ) (act : List ℕ → Act) (part : List ℕ) (a : Act) → name_in most act part ≡ Some a
       → (is_name most part ≡ true) × (act part ≡ a)
   name_spelled most act part a e = by (is_name most part) refl e where
-    by : (t : Bool) → is_name most part ≡ t → name_in most act part ≡ Some a → (is_name most part ≡ true) × (act part ≡ a)
+    by : (t : Bool) → is_name most part ≡ t → name_in most act part ≡ Some a
+        → (is_name most part ≡ true) × (act part ≡ a)
     by true p e = (p, same_Some (act part) a (rw p at e))
     by false p e = let no : None ≡ Some a = rw p at e in absurd cc
 
-  give_spelled : (part : List ℕ) (a : Act) → line ≡ named_with (codes "give") link part → option_map Give (bytes_in part) ≡ Some a → IsSpelled line link a
+  give_spelled : (part : List ℕ) (a : Act) → line ≡ named_with (codes "give") link part
+      → option_map Give (bytes_in part) ≡ Some a → IsSpelled line link a
   give_spelled part a s e = by (bytes_in part) refl e where
     by : (o : Option (List ℕ)) → bytes_in part ≡ o → option_map Give (bytes_in part) ≡ Some a → IsSpelled line link a
     by None p e = let no : None ≡ Some a = rw p at e in absurd cc
@@ -130,9 +138,11 @@ module _ (line word : List ℕ) (link : ℕ) where
           formed = tt;
         })
 
-  move_spelled : (part : List ℕ) (a : Act) → line ≡ named_with (codes "move") link part → option_map Move (decimal_in 4294967295 part) ≡ Some a → IsSpelled line link a
+  move_spelled : (part : List ℕ) (a : Act) → line ≡ named_with (codes "move") link part
+      → option_map Move (decimal_in 4294967295 part) ≡ Some a → IsSpelled line link a
   move_spelled part a s e = by (decimal_in 4294967295 part) refl e where
-    by : (o : Option ℕ) → decimal_in 4294967295 part ≡ o → option_map Move (decimal_in 4294967295 part) ≡ Some a → IsSpelled line link a
+    by : (o : Option ℕ) → decimal_in 4294967295 part ≡ o → option_map Move (decimal_in 4294967295 part) ≡ Some a
+        → IsSpelled line link a
     by None p e = let no : None ≡ Some a = rw p at e in absurd cc
     by (Some count) p e =
         let is = number_is 4294967295 count part (omega arith) p in
@@ -140,16 +150,22 @@ module _ (line word : List ℕ) (link : ℕ) where
         let same : Move count ≡ a = same_Some (Move count) a (rw p at e) in
         rw (← same) (record { spells = s ∙ ap (named_with (codes "move") link) is.spelled; formed = omega arith })
 
-  named_as : (other part : List ℕ) → line ≡ named_with word link part → bytes_eq word other ≡ true → line ≡ named_with other link part
-  named_as other part s t = let same : word ≡ other = (bytes_eq-Decides word other).0 t in s ∙ ap (λ w. named_with w link part) same
+  named_as : (other part : List ℕ) → line ≡ named_with word link part → bytes_eq word other ≡ true
+      → line ≡ named_with other link part
+  named_as other part s t =
+      let same : word ≡ other = (bytes_eq-Decides word other).0 t in s ∙ ap (λ w. named_with w link part) same
 
-  with_spelled : (part : List ℕ) (a : Act) → line ≡ named_with word link part → act_with word part ≡ Some a → IsSpelled line link a
+  with_spelled : (part : List ℕ) (a : Act) → line ≡ named_with word link part → act_with word part ≡ Some a
+      → IsSpelled line link a
   with_spelled part a s e =
-      by (bytes_eq word (codes "ide")) (bytes_eq word (codes "engine")) (bytes_eq word (codes "give")) (bytes_eq word (codes "say")) (bytes_eq word (codes "move"))
+      by (bytes_eq word (codes "ide")) (bytes_eq word (codes "engine")) (bytes_eq word (codes "give"))
+      (bytes_eq word (codes "say")) (bytes_eq word (codes "move"))
       refl refl refl refl refl e
     where
-      by : (t u v w x : Bool) → bytes_eq word (codes "ide") ≡ t → bytes_eq word (codes "engine") ≡ u → bytes_eq word (codes "give") ≡ v
-          → bytes_eq word (codes "say") ≡ w → bytes_eq word (codes "move") ≡ x → act_with word part ≡ Some a → IsSpelled line link a
+      by : (t u v w x : Bool) → bytes_eq word (codes "ide") ≡ t → bytes_eq word (codes "engine") ≡ u
+          → bytes_eq word (codes "give") ≡ v
+          → bytes_eq word (codes "say") ≡ w → bytes_eq word (codes "move") ≡ x → act_with word part ≡ Some a
+          → IsSpelled line link a
       by true u v w x p q r y z e =
           let n = name_spelled 64 Ide part a (rw p at e) in
           rw (← n.1) (record { spells = named_as (codes "ide") part s p; formed = name_is 64 part n.0 })
@@ -163,7 +179,8 @@ module _ (line word : List ℕ) (link : ℕ) where
             spells = inr (record { said = part; whole = refl; spelled = inl (named_as (codes "say") part s y) });
             formed = tt;
           })
-      by false false false false true p q r y z e = move_spelled part a (named_as (codes "move") part s z) (rw (p, q, r, y, z) at e)
+      by false false false false true p q r y z e =
+          move_spelled part a (named_as (codes "move") part s z) (rw (p, q, r, y, z) at e)
       by false false false false false p q r y z e = let no : None ≡ Some a = rw (p, q, r, y, z) at e in absurd cc
 
   alone_as : (other : List ℕ) → line ≡ named word link → bytes_eq word other ≡ true → line ≡ named other link
@@ -171,7 +188,8 @@ module _ (line word : List ℕ) (link : ℕ) where
 
   alone_spelled : (a : Act) → line ≡ named word link → act_alone word ≡ Some a → IsSpelled line link a
   alone_spelled a s e = by (bytes_eq word (codes "close")) (bytes_eq word (codes "say")) refl refl e where
-    by : (t u : Bool) → bytes_eq word (codes "close") ≡ t → bytes_eq word (codes "say") ≡ u → act_alone word ≡ Some a → IsSpelled line link a
+    by : (t u : Bool) → bytes_eq word (codes "close") ≡ t → bytes_eq word (codes "say") ≡ u → act_alone word ≡ Some a
+        → IsSpelled line link a
     by true u p q e =
         let same : Close ≡ a = same_Some Close a (rw p at e) in
         rw (← same) (record { spells = alone_as (codes "close") s p; formed = tt })
@@ -183,21 +201,25 @@ module _ (line word : List ℕ) (link : ℕ) where
         })
     by false false p q e = let no : None ≡ Some a = rw (p, q) at e in absurd cc
 
-  act_spelled : (part : Option (List ℕ)) (rest : List ℕ) (a : Act) → part_of rest ≡ part → word_of rest ≡ decimal link → line ≡ word ++ 32 ∷ rest
+  act_spelled : (part : Option (List ℕ)) (rest : List ℕ) (a : Act) → part_of rest ≡ part → word_of rest ≡ decimal link
+      → line ≡ word ++ 32 ∷ rest
       → act_in word part ≡ Some a → IsSpelled line link a
   act_spelled None rest a p w s e =
       alone_spelled a (s ∙ ap (λ r. word ++ 32 ∷ r) (without_part rest p ∙ w) ∙ sym (alone_named word link)) e
   act_spelled (Some part) rest a p w s e =
-      with_spelled part a (s ∙ ap (λ r. word ++ 32 ∷ r) (with_part rest part p ∙ ap (λ d. d ++ 32 ∷ part) w) ∙ sym (with_named word link part)) e
+      with_spelled part a (s ∙ ap (λ r. word ++ 32 ∷ r) (with_part rest part p ∙ ap (λ d. d ++ 32 ∷ part) w)
+      ∙ sym (with_named word link part)) e
 
 pub record IsLine (line : List ℕ) (e : Event) : Type 0 where
   pub is : IsSpelled line e.link e.act
   pub some : 1 ≤ e.link
   pub known : e.link ≤ 4294967294
 
-event_spelled : (line rest : List ℕ) (e : Event) → line ≡ word_of line ++ 32 ∷ rest → event_in (word_of line) rest ≡ Some e → IsLine line e
+event_spelled : (line rest : List ℕ) (e : Event) → line ≡ word_of line ++ 32 ∷ rest
+    → event_in (word_of line) rest ≡ Some e → IsLine line e
 event_spelled line rest e s h = by (link_in (word_of rest)) (act_in (word_of line) (part_of rest)) refl refl h where
-  by : (o : Option ℕ) (a : Option Act) → link_in (word_of rest) ≡ o → act_in (word_of line) (part_of rest) ≡ a → event_in (word_of line) rest ≡ Some e → IsLine line e
+  by : (o : Option ℕ) (a : Option Act) → link_in (word_of rest) ≡ o → act_in (word_of line) (part_of rest) ≡ a
+      → event_in (word_of line) rest ≡ Some e → IsLine line e
   by None a p q h = let no : None ≡ Some e = rw p at h in absurd cc
   by (Some link) None p q h = let no : None ≡ Some e = rw (p, q) at h in absurd cc
   by (Some link) (Some act) p q h =

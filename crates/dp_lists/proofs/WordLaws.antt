@@ -45,7 +45,8 @@ no_part (b ∷ word) h = rw (head b word h) (no_part word (tail b word h))
 pub with_part : (line rest : List ℕ) → part_of line ≡ Some rest → line ≡ word_of line ++ 32 ∷ rest
 with_part [] rest e = absurd cc
 with_part (b ∷ line) rest e = by (λ q. with_part line rest q) (b == 32) refl e where
-  by : (part_of line ≡ Some rest → line ≡ word_of line ++ 32 ∷ rest) → (t : Bool) → (b == 32) ≡ t → part_of (b ∷ line) ≡ Some rest
+  by : (part_of line ≡ Some rest → line ≡ word_of line ++ 32 ∷ rest) → (t : Bool) → (b == 32) ≡ t
+      → part_of (b ∷ line) ≡ Some rest
       → b ∷ line ≡ word_of (b ∷ line) ++ 32 ∷ rest
   by left true p e =
       let same : line ≡ rest = same_Some line rest (rw p at e) in
@@ -55,7 +56,8 @@ with_part (b ∷ line) rest e = by (λ q. with_part line rest q) (b == 32) refl 
 pub without_part : (line : List ℕ) → part_of line ≡ None → line ≡ word_of line
 without_part [] e = refl
 without_part (b ∷ line) e = by (λ q. without_part line q) (b == 32) refl e where
-  by : (part_of line ≡ None → line ≡ word_of line) → (t : Bool) → (b == 32) ≡ t → part_of (b ∷ line) ≡ None → b ∷ line ≡ word_of (b ∷ line)
+  by : (part_of line ≡ None → line ≡ word_of line) → (t : Bool) → (b == 32) ≡ t → part_of (b ∷ line) ≡ None
+      → b ∷ line ≡ word_of (b ∷ line)
   by left true p e = let no : Some line ≡ None = rw p at e in absurd cc
   by left false p e = rw p (ap (λ l. b ∷ l) (left (rw p at e)))
 
@@ -79,7 +81,9 @@ zero_text = decimal_digit 0 (omega arith)
 
 decimal_decimal : (n : ℕ) → n < 2 ^ 64 → is_decimal (decimal n) ≡ true
 decimal_decimal zero small = rw zero_text refl
-decimal_decimal (suc n) small = or_right (bytes_eq (decimal (suc n)) (codes "0")) (is_positive (decimal (suc n))) (positive (suc n) (omega arith) small)
+decimal_decimal (suc n) small =
+    or_right (bytes_eq (decimal (suc n)) (codes "0")) (is_positive (decimal (suc n)))
+    (positive (suc n) (omega arith) small)
 
 pub number_again : (most n : ℕ) → n ≤ most → most < 2 ^ 64 → decimal_in most (decimal n) ≡ Some n
 unfolding decimal_in
@@ -93,14 +97,16 @@ pub record IsNumber (most : ℕ) (text : List ℕ) (n : ℕ) : Type 0 where
   pub spelled : text ≡ decimal n
   pub within : n ≤ most
 
-positive_digits : (text : List ℕ) → is_positive text ≡ true → Digits text × (0 < length text) × (get_or text 0 0 ≡ 48 → length text ≡ 1)
+positive_digits : (text : List ℕ) → is_positive text ≡ true
+    → Digits text × (0 < length text) × (get_or text 0 0 ≡ 48 → length text ≡ 1)
 positive_digits [] h = absurd cc
 positive_digits (c ∷ cs) h =
     let parts = and_parts (not (c == 48)) (list_all is_ascii_digit (c ∷ cs)) h in
     let other : (c == 48) ≡ false = not-true _ parts.0 in
     (parts.1, omega arith, λ e. let yes : (c == 48) ≡ true = grind (arith, nat_tests) in absurd (cc))
 
-spelled_again : (text : List ℕ) → is_decimal text ≡ true → digits_value 10 text < 2 ^ 64 → text ≡ decimal (digits_value 10 text)
+spelled_again : (text : List ℕ) → is_decimal text ≡ true → digits_value 10 text < 2 ^ 64
+    → text ≡ decimal (digits_value 10 text)
 spelled_again text h small = elim (or_cases (bytes_eq text (codes "0")) (is_positive text) h) [
   | inl none ↦ let same : text ≡ codes "0" = (bytes_eq-Decides text (codes "0")).0 none in rw same (sym zero_text)
   | inr some ↦ let d = positive_digits text some in sym (decimal-digits_value own text d.0 d.1 d.2 small)

@@ -42,7 +42,8 @@ fn first_line(bytes: &[u8]) -> (&[u8], Option<&[u8]>)
 
 impl Events {
     ghost use Rattle.std.specs.Prelude.{◌≡◌, ◌⊎◌, [], ℕ, List, Err, IfOk, MatchResult};
-    ghost use Rattle.dp_lists.specs.declared.errors.ListError.TheVariants.{BadLine as IsBadLine, Memory as WantOfMemory};
+    ghost use Rattle.dp_lists.specs.declared.errors.ListError.TheVariants.{BadLine as IsBadLine};
+    ghost use Rattle.dp_lists.specs.declared.errors.ListError.TheVariants.{Memory as WantOfMemory};
     ghost use Rattle.dp_lists.specs.declared.event.Event.{Event as OneEvent};
     ghost use Rattle.dp_lists.specs.Lists.{AllFit, IsList, IsFirstBad};
 

@@ -19,20 +19,24 @@ same_way (b ∷ bs) (c ∷ cs) = ap (λ x. x && bytes_eq bs cs) (eqb-sym b c) �
 abbrev lacks : {V : Type 0} → List (Text × V) → Text → Bool
 lacks found name = not (list_any (λ a. same_text a.0 name) found)
 
-pub not_found : {V : Type 0} (found : List (Text × V)) (name : Text) → is_none (lookup (bytes_eq name) found) ≡ lacks found name
+pub not_found : {V : Type 0} (found : List (Text × V)) (name : Text)
+    → is_none (lookup (bytes_eq name) found) ≡ lacks found name
 not_found [] name = refl
 not_found (a ∷ found) name = go (bytes_eq name a.0) (same_way name a.0) (not_found found name)
   where
     go : (t : Bool) → t ≡ same_text a.0 name → is_none (lookup (bytes_eq name) found) ≡ lacks found name
-        → is_none (cond t (Some a.1) (lookup (bytes_eq name) found)) ≡ not (same_text a.0 name || list_any (λ x. same_text x.0 name) found)
+        → is_none (cond t (Some a.1) (lookup (bytes_eq name) found)) ≡ not
+        (same_text a.0 name || list_any (λ x. same_text x.0 name) found)
     go true e more = ap (λ b. not (b || list_any (λ x. same_text x.0 name) found)) e
     go false e more = more ∙ ap (λ b. not (b || list_any (λ x. same_text x.0 name) found)) e
 
-pub behind : {V : Type 0} (found : List (Text × V)) (name : Text) (value : V) → lacks found name ≡ true → insert_entry bytes_eq found name value ≡ found ++ (name, value) ∷ []
+pub behind : {V : Type 0} (found : List (Text × V)) (name : Text) (value : V) → lacks found name ≡ true
+    → insert_entry bytes_eq found name value ≡ found ++ (name, value) ∷ []
 behind [] name value new = refl
 behind (a ∷ found) name value new = go (bytes_eq name a.0) (same_way name a.0) (behind found name value)
   where
-    go : (t : Bool) → t ≡ same_text a.0 name → (lacks found name ≡ true → insert_entry bytes_eq found name value ≡ found ++ (name, value) ∷ [])
+    go : (t : Bool) → t ≡ same_text a.0 name
+        → (lacks found name ≡ true → insert_entry bytes_eq found name value ≡ found ++ (name, value) ∷ [])
         → cond t ((a.0, value) ∷ found) (a ∷ insert_entry bytes_eq found name value) ≡ a ∷ (found ++ (name, value) ∷ [])
     go true e more = cc (ap (λ b. not (b || list_any (λ x. same_text x.0 name) found)) e, new)
     go false e more = ap (λ l. a ∷ l) (more (ap (λ b. not (b || list_any (λ x. same_text x.0 name) found)) e ∙ new))

@@ -58,12 +58,14 @@ cancel (x ∷ xs) r s e = let t : xs ++ r ≡ xs ++ s = cc in cancel xs r s t
 not_at_first : (m : Text) (b : ℕ) (bytes r s : Text) → IsFree m (b ∷ bytes) → (b ∷ bytes) ++ (m ++ r) ≡ m ++ s → ⊥
 not_at_first m b bytes r s free e =
     let whole : ((b ∷ bytes) ++ m) ++ r ≡ m ++ s = append_assoc (b ∷ bytes) m r ∙ e in
-    let here : stands m ((b ∷ bytes) ++ m) ≡ true = sym (stands_more m ((b ∷ bytes) ++ m) r (cons_long m b bytes)) ∙ ap (stands m) whole ∙ stands_here m s in
+    let here : stands m ((b ∷ bytes) ++ m) ≡ true = sym (stands_more m ((b ∷ bytes) ++ m) r (cons_long m b bytes))
+    ∙ ap (stands m) whole ∙ stands_here m s in
     let none : stands m ((b ∷ bytes) ++ m) ≡ false = free.0 in
     cc
 
 -- the first place is one place
-one_place : (m bytes others r s : Text) → IsFree m bytes → IsFree m others → bytes ++ (m ++ r) ≡ others ++ (m ++ s) → (others ≡ bytes) × (s ≡ r)
+one_place : (m bytes others r s : Text) → IsFree m bytes → IsFree m others → bytes ++ (m ++ r) ≡ others ++ (m ++ s)
+    → (others ≡ bytes) × (s ≡ r)
 one_place m [] [] r s f g e = (refl, sym (cancel m r s e))
 one_place m [] (b ∷ others) r s f g e = absurd (not_at_first m b others s r g (sym e))
 one_place m (b ∷ bytes) [] r s f g e = absurd (not_at_first m b bytes r s f e)
@@ -94,7 +96,8 @@ Searched m ts None = IsMissing m ts
 Searched m ts (Some at) = IsFound m ts at
 
 found_here : (m ts : Text) → stands m ts ≡ true → IsFound m ts 0
-found_here m ts is = let w = stands_is m ts is in record { bytes = []; rest = w.0; split = w.1; free = tt; is_at = refl }
+found_here m ts is =
+    let w = stands_is m ts is in record { bytes = []; rest = w.0; split = w.1; free = tt; is_at = refl }
 
 missing_at_end : (m : Text) → stands m [] ≡ false → IsMissing m []
 missing_at_end m fails = record { none = none; more = m; bytes = []; split = refl; free = tt }
@@ -109,7 +112,11 @@ module _ (m : Text) (b : ℕ) (ts : Text) (fails : stands m (b ∷ ts) ≡ false
     bytes = b ∷ f.bytes;
     rest = f.rest;
     split = ap (λ l. b ∷ l) f.split;
-    free = (sym (stands_more m ((b ∷ f.bytes) ++ m) f.rest (cons_long m b f.bytes)) ∙ ap (stands m) (append_assoc (b ∷ f.bytes) m f.rest ∙ sym (ap (λ l. b ∷ l) f.split)) ∙ fails, f.free);
+    free = (
+      sym (stands_more m ((b ∷ f.bytes) ++ m) f.rest (cons_long m b f.bytes))
+          ∙ ap (stands m) (append_assoc (b ∷ f.bytes) m f.rest ∙ sym (ap (λ l. b ∷ l) f.split)) ∙ fails,
+      f.free,
+    );
     is_at = ap suc f.is_at;
   }
 
@@ -121,7 +128,15 @@ module _ (m : Text) (b : ℕ) (ts : Text) (fails : stands m (b ∷ ts) ≡ false
       none (c ∷ bytes) r e = f.none bytes r (cc)
 
       go : (v : Bool) → stands m ((b ∷ f.bytes) ++ m) ≡ v → IsMissing m (b ∷ ts)
-      go false is = record { none = none; more = f.more; bytes = b ∷ f.bytes; split = ap (λ l. b ∷ l) f.split; free = (is, f.free) }
+      go false is =
+          record {
+            none = none;
+            more = f.more;
+            bytes = b
+                ∷ f.bytes;
+            split = ap (λ l. b ∷ l) f.split;
+            free = (is, f.free);
+          }
       go true is =
           let w = stands_is m ((b ∷ f.bytes) ++ m) is in
           let t = stands_short m (b ∷ ts) f.more w.0 fails (ap (λ l. b ∷ l) f.split ∙ w.1) in
@@ -141,7 +156,8 @@ searched m [] = go (stands m []) refl
     go false is = missing_at_end m is
 searched m (b ∷ ts) = go (searched m ts) (stands m (b ∷ ts)) refl
   where
-    go : Searched m ts (mark_place m ts) → (v : Bool) → stands m (b ∷ ts) ≡ v → Searched m (b ∷ ts) (cond v (Some 0) (option_map suc (mark_place m ts)))
+    go : Searched m ts (mark_place m ts) → (v : Bool) → stands m (b ∷ ts) ≡ v
+        → Searched m (b ∷ ts) (cond v (Some 0) (option_map suc (mark_place m ts)))
     go on true is = found_here m (b ∷ ts) is
     go on false is = searched_on m b ts is (mark_place m ts) on
 
@@ -153,13 +169,15 @@ drop_front : (xs ys : Text) → drop (length xs) (xs ++ ys) ≡ ys
 drop_front [] ys = refl
 drop_front (x ∷ xs) ys = drop_front xs ys
 
-up_to_read : (m : Text) (level : ℕ) (ts : Text) (at : ℕ) → IsFound m ts at → IsRead (λ _. UpTo m) Anything level ts (take at ts) (drop (at + length m) ts)
+up_to_read : (m : Text) (level : ℕ) (ts : Text) (at : ℕ) → IsFound m ts at
+    → IsRead (λ _. UpTo m) Anything level ts (take at ts) (drop (at + length m) ts)
 up_to_read m level ts at f = record {
   text = f.bytes ++ m;
   split = ts_is ∙ sym (ap (λ l. (f.bytes ++ m) ++ l) behind);
   spelled = λ _ _. record { split = ap (λ l. l ++ m) (sym value); first = subst (IsFree m) (sym value) f.free };
   only = λ _ s e b q begins.
-      let there : f.bytes ++ (m ++ s) ≡ b ++ (m ++ q) = sym (append_assoc f.bytes m s) ∙ begins.split ∙ ap (λ l. l ++ q) begins.spelled.split ∙ append_assoc b m q in
+      let there : f.bytes ++ (m ++ s) ≡ b ++ (m ++ q) = sym (append_assoc f.bytes m s) ∙ begins.split
+      ∙ ap (λ l. l ++ q) begins.spelled.split ∙ append_assoc b m q in
       let w = one_place m f.bytes b s q f.free begins.spelled.first there in
       (w.0 ∙ sym value, w.1);
 }
@@ -183,7 +201,9 @@ up_to_refused m level ts f = record {
   split = sym (append-nil ts);
   is_left = refl;
   viable = inr (f.more, f.bytes, record { split = f.split; first = f.free });
-  dead = λ k bound us agrees b q begins. f.none b q (sym agrees ∙ begins.split ∙ ap (λ l. l ++ q) begins.spelled.split ∙ append_assoc b m q);
+  dead =
+      λ k bound us agrees b q begins. f.none b q (sym agrees ∙ begins.split ∙ ap (λ l. l ++ q) begins.spelled.split
+      ∙ append_assoc b m q);
   beyond = λ deep. absurd (cc);
 }
 
@@ -205,8 +225,16 @@ free_behind m [] b ys f = f.0
 free_behind m (x ∷ xs) b ys f = free_behind m xs b ys f.1
 
 found_occurs : (m ts : Text) (at : ℕ) → IsFound m ts at → OccursAt ts m at
-found_occurs m ts at f = OccursAt-from_part ts m at (omega (arith, f.is_at, ap length f.split, length-append f.bytes (m ++ f.rest), length-append m f.rest))
-    (ap (take (length m)) ((λ i. drop (f.is_at i) (f.split i)) ∙ drop_front f.bytes (m ++ f.rest)) ∙ take_front m f.rest)
+found_occurs m ts at f =
+    OccursAt-from_part ts m at (omega (
+      arith,
+      f.is_at,
+      ap length f.split,
+      length-append f.bytes (m ++ f.rest),
+      length-append m f.rest,
+    ))
+    (ap (take (length m)) ((λ i. drop (f.is_at i) (f.split i)) ∙ drop_front f.bytes (m ++ f.rest))
+    ∙ take_front m f.rest)
 
 -- an earlier place than the first
 not_earlier : (m ts : Text) (at k : ℕ) → IsFound m ts at → OccursAt ts m k → k < at → ⊥
@@ -218,11 +246,16 @@ not_earlier m ts at k f o less = go (drop k f.bytes) refl
     go : (tail : Text) → drop k f.bytes ≡ tail → ⊥
     go [] is = omega (arith, ap length is, length-drop k f.bytes, f.is_at)
     go (b ∷ ys) is =
-        let whole : f.bytes ≡ take k f.bytes ++ (b ∷ ys) = sym (take-append-drop k f.bytes) ∙ ap (λ l. take k f.bytes ++ l) is in
-        let none : stands m ((b ∷ ys) ++ m) ≡ false = free_behind m (take k f.bytes) b ys (subst (IsFree m) whole f.free) in
-        let here : stands m (drop k ts) ≡ true = ap (stands m) (OccursAt-split ts m k o) ∙ stands_here m (drop (k + length m) ts) in
-        let same : drop k ts ≡ ((b ∷ ys) ++ m) ++ f.rest = there ∙ ap (λ l. l ++ (m ++ f.rest)) is ∙ sym (append_assoc (b ∷ ys) m f.rest) in
-        let more : stands m ((b ∷ ys) ++ m) ≡ true = sym (stands_more m ((b ∷ ys) ++ m) f.rest (cons_long m b ys)) ∙ ap (stands m) (sym same) ∙ here in
+        let whole : f.bytes ≡ take k f.bytes ++ (b ∷ ys) = sym (take-append-drop k f.bytes)
+        ∙ ap (λ l. take k f.bytes ++ l) is in
+        let none : stands m ((b ∷ ys) ++ m) ≡ false = free_behind m (take k f.bytes) b ys
+        (subst (IsFree m) whole f.free) in
+        let here : stands m (drop k ts) ≡ true = ap (stands m) (OccursAt-split ts m k o)
+        ∙ stands_here m (drop (k + length m) ts) in
+        let same : drop k ts ≡ ((b ∷ ys) ++ m) ++ f.rest = there ∙ ap (λ l. l ++ (m ++ f.rest)) is
+        ∙ sym (append_assoc (b ∷ ys) m f.rest) in
+        let more : stands m ((b ∷ ys) ++ m) ≡ true = sym (stands_more m ((b ∷ ys) ++ m) f.rest (cons_long m b ys))
+        ∙ ap (stands m) (sym same) ∙ here in
         cc
 
 pub place_is : (m ts : Text) (o : Option ℕ) → FindsNeedle ts m 0 o → o ≡ mark_place m ts
@@ -231,8 +264,11 @@ place_is m ts o finds = go o (mark_place m ts) (searched m ts) finds
   where
     go : (o p : Option ℕ) → Searched m ts p → FindsNeedle ts m 0 o → o ≡ p
     go None None s h = refl
-    go None (Some at) f h = let o = found_occurs m ts at f in absurd (h at (omega arith) (let fits = o.fits in omega arith) o)
-    go (Some k) None s h = absurd (s.none (take k ts) (drop (k + length m) ts) (sym (take-append-drop k ts) ∙ ap (λ l. take k ts ++ l) (OccursAt-split ts m k h.1)))
+    go None (Some at) f h =
+        let o = found_occurs m ts at f in absurd (h at (omega arith) (let fits = o.fits in omega arith) o)
+    go (Some k) None s h =
+        absurd (s.none (take k ts) (drop (k + length m) ts) (sym (take-append-drop k ts)
+        ∙ ap (λ l. take k ts ++ l) (OccursAt-split ts m k h.1)))
     go (Some k) (Some at) f h = same (k - at) (at - k) refl refl
       where
         same : (x y : ℕ) → k - at ≡ x → at - k ≡ y → Some k ≡ Some at

@@ -22,13 +22,17 @@ none a = tt
 
 -- ---- values
 
-pass_step_as : (quote : ℕ) (v : Text) (ts : List ℕ) → pass_step quote tt ts ≡ made (value_step quote v) (seen_as none none) ts
+pass_step_as : (quote : ℕ) (v : Text) (ts : List ℕ)
+    → pass_step quote tt ts ≡ made (value_step quote v) (seen_as none none) ts
 unfolding pass_step value_step
 pass_step_as quote v ts = go (next (same quote) (head ts)) (mark quote ts) (value_byte quote ts)
   where
     go : (b : Bool) (o p : Outcome ℕ) →
-        cond b (and_then (and_then o (λ _. gives tt)) (λ u. gives (Break u))) (and_then (and_then p (λ _. gives tt)) (λ u. gives (Continue u)))
-        ≡ and_then (cond b (and_then (and_then o (λ _. gives v)) (λ w. gives (Break w))) (and_then (and_then p (λ c. gives (v ++ c ∷ []))) (λ w. gives (Continue w)))) (λ (w : ControlFlow Text Text). gives (seen_as none none w))
+        cond b (and_then (and_then o (λ _. gives tt)) (λ u. gives (Break u)))
+        (and_then (and_then p (λ _. gives tt)) (λ u. gives (Continue u)))
+        ≡ and_then (cond b (and_then (and_then o (λ _. gives v)) (λ w. gives (Break w)))
+        (and_then (and_then p (λ c. gives (v ++ c ∷ []))) (λ w. gives (Continue w))))
+        (λ (w : ControlFlow Text Text). gives (seen_as none none w))
     go true (Ok x) p = refl
     go true (Err e) p = refl
     go false o (Ok x) = refl
@@ -46,14 +50,20 @@ pass_value_as ts = go (one (passing is_quote) ts)
     go (Ok x) = pass_quoted_as x.0 x.1
     go (Err e) = refl
 
-spaced_pass_step_as : (u : Unit {0}) (ts : List ℕ) → spaced_pass_step u ts ≡ made (spaced_value_step u) (seen_as (λ w. w) none) ts
+spaced_pass_step_as : (u : Unit {0}) (ts : List ℕ)
+    → spaced_pass_step u ts ≡ made (spaced_value_step u) (seen_as (λ w. w) none) ts
 unfolding spaced_pass_step spaced_value_step
-spaced_pass_step_as u ts = ap (λ o. cond (next is_quote (head ts)) (and_then o (λ w. gives (Break w))) (and_then (and_then (one (passing is_white) ts) (λ _. gives tt)) (λ w. gives (Continue w)))) (pass_value_as ts)
+spaced_pass_step_as u ts =
+    ap (λ o. cond (next is_quote (head ts)) (and_then o (λ w. gives (Break w)))
+    (and_then (and_then (one (passing is_white) ts) (λ _. gives tt)) (λ w. gives (Continue w)))) (pass_value_as ts)
     ∙ go (next is_quote (head ts)) (value ts) (one (passing is_white) ts)
   where
     go : (b : Bool) (o : Outcome Text) (p : Outcome ℕ) →
-        cond b (and_then (and_then o (λ v. gives tt)) (λ w. gives (Break w))) (and_then (and_then p (λ _. gives tt)) (λ w. gives (Continue w)))
-        ≡ and_then (cond b (and_then o (λ v. gives (Break v))) (and_then (and_then p (λ _. gives tt)) (λ w. gives (Continue w)))) (λ (w : ControlFlow Text (Unit {0})). gives (seen_as (λ x. x) none w))
+        cond b (and_then (and_then o (λ v. gives tt)) (λ w. gives (Break w)))
+        (and_then (and_then p (λ _. gives tt)) (λ w. gives (Continue w)))
+        ≡ and_then (cond b (and_then o (λ v. gives (Break v)))
+        (and_then (and_then p (λ _. gives tt)) (λ w. gives (Continue w))))
+        (λ (w : ControlFlow Text (Unit {0})). gives (seen_as (λ x. x) none w))
     go true (Ok x) p = refl
     go true (Err e) p = refl
     go false o (Ok x) = refl
@@ -70,9 +80,12 @@ wanted_of b v = cond b (Some v) None
 sought_value_as : (b : Bool) (ts : List ℕ) → sought_value b ts ≡ made spaced_value (wanted_of b) ts
 unfolding sought_value
 sought_value_as true ts = refl
-sought_value_as false ts = ap (λ o. and_then o (λ _. gives {A = Option Text} None)) (spaced_pass_as ts) ∙ go (spaced_value ts)
+sought_value_as false ts =
+    ap (λ o. and_then o (λ _. gives {A = Option Text} None)) (spaced_pass_as ts) ∙ go (spaced_value ts)
   where
-    go : (o : Outcome Text) → and_then (and_then o (λ v. gives (none v))) (λ _. gives {A = Option Text} None) ≡ and_then o (λ v. gives {A = Option Text} None)
+    go : (o : Outcome Text)
+        → and_then (and_then o (λ v. gives (none v))) (λ _. gives {A = Option Text} None) ≡ and_then o
+        (λ v. gives {A = Option Text} None)
     go (Ok x) = refl
     go (Err e) = refl
 
@@ -86,7 +99,8 @@ names_behind : (found : Attributes) (n v : Text) → names_of found ++ (n, tt) �
 names_behind [] n v = refl
 names_behind (a ∷ found) n v = ap (λ l. (a.0, tt) ∷ l) (names_behind found n v)
 
-any_name : (found : Attributes) (n : Text) → list_any (λ x. same_text x.0 n) (names_of found) ≡ list_any (λ a. same_text a.0 n) found
+any_name : (found : Attributes) (n : Text)
+    → list_any (λ x. same_text x.0 n) (names_of found) ≡ list_any (λ a. same_text a.0 n) found
 any_name [] n = refl
 any_name (a ∷ found) n = ap (λ b. same_text a.0 n || b) (any_name found n)
 
@@ -96,11 +110,13 @@ text_is [] (c ∷ cs) e = absurd (cc)
 text_is (b ∷ bs) [] e = absurd (cc)
 text_is (b ∷ bs) (c ∷ cs) e = go (b == c) refl (text_is bs cs) e
   where
-    go : (t : Bool) → (b == c) ≡ t → (same_text bs cs ≡ true → bs ≡ cs) → (t && same_text bs cs) ≡ true → b ∷ bs ≡ c ∷ cs
+    go : (t : Bool) → (b == c) ≡ t → (same_text bs cs ≡ true → bs ≡ cs) → (t && same_text bs cs) ≡ true
+        → b ∷ bs ≡ c ∷ cs
     go true is rest more = (λ i. eqb-true b c is i ∷ rest more i)
     go false is rest more = absurd (cc)
 
-value_behind : (found : Attributes) (n v wanted : Text) → is_new found n ≡ true → kept (value_of found wanted) (wanted_of (same_text n wanted) v) ≡ value_of (found ++ (n, v) ∷ []) wanted
+value_behind : (found : Attributes) (n v wanted : Text) → is_new found n ≡ true
+    → kept (value_of found wanted) (wanted_of (same_text n wanted) v) ≡ value_of (found ++ (n, v) ∷ []) wanted
 value_behind [] n v wanted new = go (same_text n wanted)
   where
     go : (b : Bool) → kept None (wanted_of b v) ≡ cond b (Some v) None
@@ -108,20 +124,26 @@ value_behind [] n v wanted new = go (same_text n wanted)
     go false = refl
 value_behind (a ∷ found) n v wanted new = apart (value_behind found n v wanted) (same_text a.0 n) refl new
   where
-    other : (b : Bool) → same_text n wanted ≡ b → same_text a.0 wanted ≡ true → same_text a.0 n ≡ false → kept (Some a.1) (wanted_of b v) ≡ Some a.1
+    other : (b : Bool) → same_text n wanted ≡ b → same_text a.0 wanted ≡ true → same_text a.0 n ≡ false
+        → kept (Some a.1) (wanted_of b v) ≡ Some a.1
     other true is here away =
         let f : same_text a.0 n ≡ true = ap (λ t. same_text a.0 t) (text_is n wanted is) ∙ here in absurd (cc)
     other false is here away = refl
 
-    here : (is_new found n ≡ true → kept (value_of found wanted) (wanted_of (same_text n wanted) v) ≡ value_of (found ++ (n, v) ∷ []) wanted)
+    here : (is_new found n ≡ true
+        → kept (value_of found wanted) (wanted_of (same_text n wanted) v) ≡ value_of (found ++ (n, v) ∷ []) wanted)
         → (b : Bool) → same_text a.0 wanted ≡ b → same_text a.0 n ≡ false → is_new found n ≡ true
-        → kept (cond b (Some a.1) (value_of found wanted)) (wanted_of (same_text n wanted) v) ≡ cond b (Some a.1) (value_of (found ++ (n, v) ∷ []) wanted)
+        → kept (cond b (Some a.1) (value_of found wanted)) (wanted_of (same_text n wanted) v) ≡ cond b (Some a.1)
+        (value_of (found ++ (n, v) ∷ []) wanted)
     here again true is away new = other (same_text n wanted) refl is away
     here again false is away new = again new
 
-    apart : (is_new found n ≡ true → kept (value_of found wanted) (wanted_of (same_text n wanted) v) ≡ value_of (found ++ (n, v) ∷ []) wanted)
+    apart : (is_new found n ≡ true
+        → kept (value_of found wanted) (wanted_of (same_text n wanted) v) ≡ value_of (found ++ (n, v) ∷ []) wanted)
         → (b : Bool) → same_text a.0 n ≡ b → not (b || list_any (λ x. same_text x.0 n) found) ≡ true
-        → kept (cond (same_text a.0 wanted) (Some a.1) (value_of found wanted)) (wanted_of (same_text n wanted) v) ≡ cond (same_text a.0 wanted) (Some a.1) (value_of (found ++ (n, v) ∷ []) wanted)
+        → kept (cond (same_text a.0 wanted) (Some a.1) (value_of found wanted))
+        (wanted_of (same_text n wanted) v) ≡ cond (same_text a.0 wanted) (Some a.1)
+        (value_of (found ++ (n, v) ∷ []) wanted)
     apart again true is new = absurd (cc)
     apart again false is new = here again (same_text a.0 wanted) refl is new
 
@@ -135,8 +157,10 @@ module _ (root wanted : Text) where
   abbrev found_in : StartTag → Option Text
   found_in tag = root_value tag root wanted
 
-  noted_as : (t : Tag) (n v : Text) → is_new t.found n ≡ true → noted (seen t) n (wanted_of (same_text n wanted) v) ≡ seen (attribute_in_tag (t.found ++ (n, v) ∷ []))
-  noted_as t n v new = λ i. record { names = names_behind t.found n v i; value = value_behind t.found n v wanted new i; apart = false }
+  noted_as : (t : Tag) (n v : Text) → is_new t.found n ≡ true
+      → noted (seen t) n (wanted_of (same_text n wanted) v) ≡ seen (attribute_in_tag (t.found ++ (n, v) ∷ []))
+  noted_as t n v new =
+      λ i. record { names = names_behind t.found n v i; value = value_behind t.found n v wanted new i; apart = false }
 
   -- ---- one attribute
 
@@ -146,27 +170,41 @@ module _ (root wanted : Text) where
   abbrev whole_of : Attributes → Text → Reader Attributes
   whole_of found n = spaced_mark 61 >> made spaced_value (λ v. found ++ (n, v) ∷ [])
 
-  attribute_as : (t : Tag) (ts : List ℕ) → sought_attribute wanted (seen t) ts ≡ made (made (attribute t.found) attribute_in_tag) seen ts
+  attribute_as : (t : Tag) (ts : List ℕ)
+      → sought_attribute wanted (seen t) ts ≡ made (made (attribute t.found) attribute_in_tag) seen ts
   unfolding sought_attribute attribute
   attribute_as t ts = named (name ts)
     where
       valued : (n : Text) → is_new t.found n ≡ true → (o : Outcome Text)
-          → and_then (and_then o (λ v. gives (wanted_of (same_text n wanted) v))) (λ w. gives (noted (seen t) n w)) ≡ and_then (and_then (and_then o (λ v. gives (t.found ++ (n, v) ∷ []))) (λ f. gives (attribute_in_tag f))) (λ x. gives (seen x))
+          → and_then (and_then o (λ v. gives (wanted_of (same_text n wanted) v)))
+          (λ w. gives (noted (seen t) n w)) ≡ and_then (and_then (and_then o (λ v. gives (t.found ++ (n, v) ∷ [])))
+          (λ f. gives (attribute_in_tag f))) (λ x. gives (seen x))
       valued n new (Ok x) = ap (λ s. Ok (s, x.1)) (noted_as t n x.0 new)
       valued n new (Err e) = refl
 
       spaced : (n : Text) → is_new t.found n ≡ true → (o : Outcome ℕ)
-          → and_then o (λ _. made (sought_value (same_text n wanted)) (noted (seen t) n)) ≡ and_then (and_then (and_then o (λ _. made spaced_value (λ v. t.found ++ (n, v) ∷ []))) (λ f. gives (attribute_in_tag f))) (λ x. gives (seen x))
-      spaced n new (Ok x) = ap (λ o. and_then o (λ w. gives (noted (seen t) n w))) (sought_value_as (same_text n wanted) x.1) ∙ valued n new (spaced_value x.1)
+          → and_then o (λ _. made (sought_value (same_text n wanted)) (noted (seen t) n)) ≡ and_then
+          (and_then (and_then o (λ _. made spaced_value (λ v. t.found ++ (n, v) ∷ [])))
+          (λ f. gives (attribute_in_tag f))) (λ x. gives (seen x))
+      spaced n new (Ok x) =
+          ap (λ o. and_then o (λ w. gives (noted (seen t) n w))) (sought_value_as (same_text n wanted) x.1)
+          ∙ valued n new (spaced_value x.1)
       spaced n new (Err e) = refl
 
       new_one : (n : Text) (us : List ℕ) (b : Bool) → is_new t.found n ≡ b
-          → and_then (cond b (Ok (n, us)) (Err (Unexpected (length us)))) (rest_of t) ≡ and_then (and_then (and_then (cond b (Ok (n, us)) (Err (Unexpected (length us)))) (whole_of t.found)) (λ f. gives (attribute_in_tag f))) (λ x. gives (seen x))
+          → and_then (cond b (Ok (n, us)) (Err (Unexpected (length us)))) (rest_of t) ≡ and_then
+          (and_then (and_then (cond b (Ok (n, us)) (Err (Unexpected (length us)))) (whole_of t.found))
+          (λ f. gives (attribute_in_tag f))) (λ x. gives (seen x))
       new_one n us true new = spaced n new (spaced_mark 61 us)
       new_one n us false new = refl
 
-      named : (o : Outcome Text) → and_then (and_then o (tested (is_unseen (names_of t.found)))) (rest_of t) ≡ and_then (and_then (and_then (and_then o (tested (is_new t.found))) (whole_of t.found)) (λ f. gives (attribute_in_tag f))) (λ x. gives (seen x))
-      named (Ok x) = ap (λ b. and_then (cond (not b) (Ok (x.0, x.1)) (Err (Unexpected (length x.1)))) (rest_of t)) (any_name t.found x.0) ∙ new_one x.0 x.1 (is_new t.found x.0) refl
+      named : (o : Outcome Text)
+          → and_then (and_then o (tested (is_unseen (names_of t.found)))) (rest_of t) ≡ and_then
+          (and_then (and_then (and_then o (tested (is_new t.found))) (whole_of t.found))
+          (λ f. gives (attribute_in_tag f))) (λ x. gives (seen x))
+      named (Ok x) =
+          ap (λ b. and_then (cond (not b) (Ok (x.0, x.1)) (Err (Unexpected (length x.1)))) (rest_of t))
+          (any_name t.found x.0) ∙ new_one x.0 x.1 (is_new t.found x.0) refl
       named (Err e) = refl
 
   -- ---- start tags
@@ -174,38 +212,48 @@ module _ (root wanted : Text) where
   piece_as : (t : Tag) (ts : List ℕ) → sought_piece wanted (seen t) ts ≡ made (tag_piece t) seen ts
   unfolding sought_piece tag_piece refuse
   piece_as t ts =
-      ap (λ o. cond (next is_white (head ts)) (and_then (one (passing is_white) ts) (λ _. gives (white_in_sought (seen t)))) (cond t.apart o (Err (Unexpected (length ts))))) (attribute_as t ts)
+      ap (λ o. cond (next is_white (head ts)) (and_then (one (passing is_white) ts)
+      (λ _. gives (white_in_sought (seen t)))) (cond t.apart o (Err (Unexpected (length ts))))) (attribute_as t ts)
       ∙ go (next is_white (head ts)) t.apart (one (passing is_white) ts) (made (attribute t.found) attribute_in_tag ts)
     where
       go : (b c : Bool) (o : Outcome ℕ) (p : Outcome Tag)
-          → cond b (and_then o (λ _. gives (white_in_sought (seen t)))) (cond c (and_then p (λ x. gives (seen x))) (Err (Unexpected (length ts))))
-          ≡ and_then (cond b (and_then o (λ _. gives (white_in_tag t))) (cond c p (Err (Unexpected (length ts))))) (λ x. gives (seen x))
+          → cond b (and_then o (λ _. gives (white_in_sought (seen t))))
+          (cond c (and_then p (λ x. gives (seen x))) (Err (Unexpected (length ts))))
+          ≡ and_then (cond b (and_then o (λ _. gives (white_in_tag t))) (cond c p (Err (Unexpected (length ts)))))
+          (λ x. gives (seen x))
       go true c (Ok x) p = refl
       go true c (Err e) p = refl
       go false true o p = refl
       go false false o p = refl
 
-  end_as : (n : Text) (t : Tag) (ts : List ℕ) → sought_end (same_text n root) (seen t) ts ≡ made (tag_end n t) found_in ts
+  end_as : (n : Text) (t : Tag) (ts : List ℕ)
+      → sought_end (same_text n root) (seen t) ts ≡ made (tag_end n t) found_in ts
   unfolding sought_end tag_end
   end_as n t ts = go (next (same 62) (head ts)) (mark 62 ts) (word (codes "/>") ts)
     where
       go : (b : Bool) (o : Outcome ℕ) (p : Outcome (Unit {0}))
-          → cond b (and_then o (λ _. gives (sought_of (same_text n root) (seen t)))) (and_then p (λ _. gives (sought_of (same_text n root) (seen t))))
-          ≡ and_then (cond b (and_then o (λ _. gives (start_tag n false t))) (and_then p (λ _. gives (start_tag n true t)))) (λ x. gives (found_in x))
+          → cond b (and_then o (λ _. gives (sought_of (same_text n root) (seen t))))
+          (and_then p (λ _. gives (sought_of (same_text n root) (seen t))))
+          ≡ and_then (cond b (and_then o (λ _. gives (start_tag n false t)))
+          (and_then p (λ _. gives (start_tag n true t)))) (λ x. gives (found_in x))
       go true (Ok x) p = refl
       go true (Err e) p = refl
       go false o (Ok x) = refl
       go false o (Err e) = refl
 
-  step_as : (n : Text) (t : Tag) (ts : List ℕ) → sought_step (same_text n root) wanted (seen t) ts ≡ made (tag_step n t) (seen_as seen found_in) ts
+  step_as : (n : Text) (t : Tag) (ts : List ℕ)
+      → sought_step (same_text n root) wanted (seen t) ts ≡ made (tag_step n t) (seen_as seen found_in) ts
   unfolding sought_step tag_step
   step_as n t ts =
-      (λ i. cond (next (λ b. b == 62 || b == 47) (head ts)) (and_then (end_as n t ts i) (λ v. gives (Break v))) (and_then (piece_as t ts i) (λ s. gives (Continue s))))
+      (λ i. cond (next (λ b. b == 62 || b == 47) (head ts)) (and_then (end_as n t ts i) (λ v. gives (Break v)))
+      (and_then (piece_as t ts i) (λ s. gives (Continue s))))
       ∙ go (next (λ b. b == 62 || b == 47) (head ts)) (tag_end n t ts) (tag_piece t ts)
     where
       go : (b : Bool) (o : Outcome StartTag) (p : Outcome Tag)
-          → cond b (and_then (and_then o (λ x. gives (found_in x))) (λ v. gives (Break v))) (and_then (and_then p (λ x. gives (seen x))) (λ s. gives (Continue s)))
-          ≡ and_then (cond b (and_then o (λ x. gives (Break x))) (and_then p (λ x. gives (Continue x)))) (λ w. gives (seen_as seen found_in w))
+          → cond b (and_then (and_then o (λ x. gives (found_in x))) (λ v. gives (Break v)))
+          (and_then (and_then p (λ x. gives (seen x))) (λ s. gives (Continue s)))
+          ≡ and_then (cond b (and_then o (λ x. gives (Break x))) (and_then p (λ x. gives (Continue x))))
+          (λ w. gives (seen_as seen found_in w))
       go true (Ok x) p = refl
       go true (Err e) p = refl
       go false o (Ok x) = refl
@@ -216,19 +264,34 @@ module _ (root wanted : Text) where
   unfolding sought_head head_of start
   head_as ts = behind (prolog ts)
     where
-      named : (o : Outcome Text) → and_then o (λ n. closed (sought_step (same_text n root) wanted) nothing_sought) ≡ and_then (and_then o (λ n. closed (tag_step n) no_attribute)) (λ x. gives (found_in x))
-      named (Ok x) = closed_as seen found_in (tag_step x.0) (sought_step (same_text x.0 root) wanted) (step_as x.0) no_attribute x.1
+      named : (o : Outcome Text)
+          → and_then o (λ n. closed (sought_step (same_text n root) wanted) nothing_sought) ≡ and_then
+          (and_then o (λ n. closed (tag_step n) no_attribute)) (λ x. gives (found_in x))
+      named (Ok x) =
+          closed_as seen found_in (tag_step x.0) (sought_step (same_text x.0 root) wanted)
+          (step_as x.0) no_attribute x.1
       named (Err e) = refl
 
-      behind : (o : Outcome ℕ) → and_then o (λ _. name >>= (λ n. closed (sought_step (same_text n root) wanted) nothing_sought)) ≡ and_then (and_then o (λ _. name >>= (λ n. closed (tag_step n) no_attribute))) (λ x. gives (found_in x))
+      behind : (o : Outcome ℕ)
+          → and_then o (λ _. name >>= (λ n. closed (sought_step (same_text n root) wanted) nothing_sought)) ≡ and_then
+          (and_then o (λ _. name >>= (λ n. closed (tag_step n) no_attribute))) (λ x. gives (found_in x))
       behind (Ok x) = named (name x.1)
       behind (Err e) = refl
 
-  pub sought_found : (ts : List ℕ) (v : Option Text) (new : List ℕ) → sought_head root wanted ts ≡ Ok (v, new) → (tag : StartTag) × (head_of ts ≡ Ok (tag, new)) × (v ≡ root_value tag root wanted)
+  pub sought_found : (ts : List ℕ) (v : Option Text) (new : List ℕ) → sought_head root wanted ts ≡ Ok (v, new)
+      → (tag : StartTag) × (head_of ts ≡ Ok (tag, new)) × (v ≡ root_value tag root wanted)
   sought_found ts v new is = go (head_of ts) refl (sym (head_as ts) ∙ is)
     where
-      go : (o : Outcome StartTag) → head_of ts ≡ o → and_then o (λ x. gives (found_in x)) ≡ Ok (v, new) → (tag : StartTag) × (head_of ts ≡ Ok (tag, new)) × (v ≡ root_value tag root wanted)
-      go (Ok x) so e = let y : Option Text × List ℕ = (found_in x.0, x.1) in let z : Option Text × List ℕ = (v, new) in let p : y ≡ z = cc in (x.0, so ∙ (λ i. Ok (x.0, (ap (λ q. q.1) p) i)), sym (ap (λ q. q.0) p))
+      go : (o : Outcome StartTag) → head_of ts ≡ o → and_then o (λ x. gives (found_in x)) ≡ Ok (v, new)
+          → (tag : StartTag) × (head_of ts ≡ Ok (tag, new)) × (v ≡ root_value tag root wanted)
+      go (Ok x) so e =
+          let y : Option Text × List ℕ = (found_in x.0, x.1) in let z : Option Text
+          × List ℕ = (v, new) in let p : y ≡ z = cc in (
+            x.0,
+            so
+                ∙ (λ i. Ok (x.0, (ap (λ q. q.1) p) i)),
+            sym (ap (λ q. q.0) p),
+          )
       go (Err r) so e = absurd (cc)
 
   pub sought_refused : (ts : List ℕ) (r : Refusal) → sought_head root wanted ts ≡ Err r → head_of ts ≡ Err r

@@ -11,7 +11,9 @@ joined_texts [] = refl
 joined_texts (n ∷ nodes) = ap (λ l. node_text n ++ l) (joined_texts nodes)
 
 pub written_is : (e : Element) → written e ≡ element_text e.name e.attributes (nodes_text e.children)
-written_is e = fold_out-Element Text Text node_layer element_layer e ∙ ap (λ content. element_text e.name e.attributes content) (joined_texts e.children)
+written_is e =
+    fold_out-Element Text Text node_layer element_layer e
+    ∙ ap (λ content. element_text e.name e.attributes content) (joined_texts e.children)
 
 -- the parts of an element's text, in the order in which they are written
 pub in_order : (out first name attributes close content end last whole : List ℕ)

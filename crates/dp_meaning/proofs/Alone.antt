@@ -22,16 +22,21 @@ given (Gives a s) = Some (a, s)
 given (Ends o s) = None
 given (Stops m s) = None
 
-pub alone-drive : {A : Type 0} (rules : Rules) (r : Run A) → rules.halts ≡ nowhere → rules.writes.list ≡ [] → alone rules.bound r ≡ given (drive rules r)
+pub alone-drive : {A : Type 0} (rules : Rules) (r : Run A) → rules.halts ≡ nowhere → rules.writes.list ≡ []
+    → alone rules.bound r ≡ given (drive rules r)
 alone-drive rules (Done a s) h e = refl
 alone-drive rules (Over o s) h e = refl
-alone-drive {A} rules (At kind line s go) h e = cases (nat_lt s.moments rules.bound) (alone-drive rules (go (arrived line s)) h e)
+alone-drive {A} rules (At kind line s go) h e =
+    cases (nat_lt s.moments rules.bound) (alone-drive rules (go (arrived line s)) h e)
   where
     none : written rules.writes (s.moments + 1) (arrived line s) ≡ arrived line s
     none = rw e refl
 
-    other : rules.halts (moment_of kind (arrived line s)) (written rules.writes (s.moments + 1) (arrived line s)) ≡ false
-    other = ap (λ (halts : Moment → State → Bool). halts (moment_of kind (arrived line s)) (written rules.writes (s.moments + 1) (arrived line s))) h
+    other : rules.halts (moment_of kind (arrived line s)) (written rules.writes (s.moments + 1) (arrived line s)) ≡
+        false
+    other =
+        ap (λ (halts : Moment → State → Bool). halts (moment_of kind (arrived line s))
+        (written rules.writes (s.moments + 1) (arrived line s))) h
 
     cases : (b : Bool) → alone rules.bound (go (arrived line s)) ≡ given (drive rules (go (arrived line s)))
         → (if b then alone rules.bound (go (arrived line s)) else None)
@@ -45,13 +50,15 @@ alone-drive {A} rules (At kind line s go) h e = cases (nat_lt s.moments rules.bo
 
 -- ---- evaluations
 -- what a run came to, where its answer is held
-pub comes-to : (r : Reached Value) (x : Result Value Halt) (answer : Option Value) (t : State) → Meets x t r → IsHeld x answer → ComesTo r answer t
+pub comes-to : (r : Reached Value) (x : Result Value Halt) (answer : Option Value) (t : State) → Meets x t r
+    → IsHeld x answer → ComesTo r answer t
 comes-to r (Ok v) answer t m h = rw m (h, refl)
 comes-to r (Err Memory) answer t m h = absurd h
 comes-to r (Err (Finished o)) answer t m h = rw m (h, refl)
 comes-to r (Err (Stopped moment)) answer t m h = rw m (h, refl)
 
-module _ (quiet : Rules) (bound : quiet.bound ≡ evaluation_limit) (unstopped : quiet.halts ≡ nowhere) (unwritten : quiet.writes.list ≡ [])
+module _ (quiet : Rules) (bound : quiet.bound ≡ evaluation_limit) (unstopped : quiet.halts ≡ nowhere)
+    (unwritten : quiet.writes.list ≡ [])
     (setting : Setting) (e : Expression) (s copy : State) (same : copy ≡ s) where
   reached : (r : Reached Value) → drive quiet (evaluation e setting (record copy { moments = 0 })) ≡ r
       → evaluated setting e s ≡ recounted s.moments (given r)
@@ -60,7 +67,8 @@ module _ (quiet : Rules) (bound : quiet.bound ≡ evaluation_limit) (unstopped :
       ∙ alone-drive quiet (evaluation e setting (record s { moments = 0 })) unstopped unwritten
       ∙ ap given (subst (λ (k : State). drive quiet (evaluation e setting (record k { moments = 0 })) ≡ r) same m))
 
-  came : (r : Reached Value) (answer : Option Value) (t : State) → drive quiet (evaluation e setting (record copy { moments = 0 })) ≡ r
+  came : (r : Reached Value) (answer : Option Value) (t : State)
+      → drive quiet (evaluation e setting (record copy { moments = 0 })) ≡ r
       → ComesTo r answer t → evaluated setting e s ≡ option_map (λ v. (v, record t { moments = s.moments })) answer
   came (Gives v u) answer t m k = rw (k.0, k.1) (reached (Gives v u) m)
   came (Ends o u) answer t m k = rw k.0 (reached (Ends o u) m)
@@ -74,7 +82,8 @@ module _ (quiet : Rules) (bound : quiet.bound ≡ evaluation_limit) (unstopped :
 
 -- ---- programs
 -- where a program has stopped is where its run came
-pub stops-as : (r : Reached Signal) (x : Result Signal Halt) (s : State) (end : Stop) → Meets x s r → IsStopAt (halt_after x) s end → end ≡ stopped r
+pub stops-as : (r : Reached Signal) (x : Result Signal Halt) (s : State) (end : Stop) → Meets x s r
+    → IsStopAt (halt_after x) s end → end ≡ stopped r
 stops-as r (Ok signal) s end m is = is ∙ sym (ap stopped m)
 stops-as r (Err Memory) s end m is = absurd is
 stops-as r (Err (Finished o)) s end m is = is ∙ sym (ap stopped m)

@@ -33,7 +33,8 @@ within-found (y ∷ ys) (suc k) x e = let h : k < length ys = within-found ys k 
 pub within-position : {X : Type 0} (test : X → Bool) (xs : List X) (k : ℕ) → position test xs ≡ Some k → k < length xs
 within-position test xs k e = go (nat_lt (position_or_len test xs) (length xs)) refl e
   where
-    go : (b : Bool) → nat_lt (position_or_len test xs) (length xs) ≡ b → cond b (Some (position_or_len test xs)) None ≡ Some k → k < length xs
+    go : (b : Bool) → nat_lt (position_or_len test xs) (length xs) ≡ b
+        → cond b (Some (position_or_len test xs)) None ≡ Some k → k < length xs
     go true h f = let same : position_or_len test xs ≡ k = cc in subst (λ i. i < length xs) same (ltb-true _ _ h)
     go false h f = absurd (cc)
 
@@ -73,10 +74,12 @@ within-callee bundle name s = go (builtin_named name) (declared_function bundle 
 module _ {D : Type 0} (P : D → ℕ → State → Type 0) (bundle : Bundle) where
   Keeps-callee : (c : Callee) (values : List Value) (setting : Setting) → IsKeptBy P bundle setting → IsWithin bundle c
       → Keeps P (callee_run c values setting)
-  Keeps-callee (BuiltIn b) values setting good within d n s p = Keeps-builtin P (builtin_of b (map data_of values)) d n s p
+  Keeps-callee (BuiltIn b) values setting good within d n s p =
+      Keeps-builtin P (builtin_of b (map data_of values)) d n s p
   Keeps-callee (Declared file f) values setting good within d n s p = good.call file f values within d n s p
 
-  Keeps-call : (o : Option Callee) (arguments : Part (List Value)) → KeepsPart P bundle arguments → (setting : Setting) → IsKeptBy P bundle setting
+  Keeps-call : (o : Option Callee) (arguments : Part (List Value)) → KeepsPart P bundle arguments → (setting : Setting)
+      → IsKeptBy P bundle setting
       → AreWithin bundle o → Keeps P (call_run o arguments setting)
   Keeps-call None arguments keep setting good within d n s p = (d, p, tt)
   Keeps-call (Some c) arguments keep setting good within d n s p =
@@ -85,7 +88,8 @@ module _ {D : Type 0} (P : D → ℕ → State → Type 0) (bundle : Bundle) whe
   pub Keeps-named : (name : List ℕ) (arguments : Part (List Value)) → KeepsPart P bundle arguments
       → KeepsPart P bundle (λ setting s. call_run (callee setting.bundle name s) arguments setting s)
   Keeps-named name arguments keep setting good d n s p =
-      Keeps-call (callee setting.bundle name s) arguments keep setting good (subst (λ b. AreWithin b (callee setting.bundle name s)) good.same
+      Keeps-call (callee setting.bundle name s) arguments keep setting good
+      (subst (λ b. AreWithin b (callee setting.bundle name s)) good.same
       (within-callee setting.bundle name s)) d n s p
 
   Keeps-inclusion : (how : Inclusion) (o : Option ℕ) (setting : Setting) → IsKeptBy P bundle setting

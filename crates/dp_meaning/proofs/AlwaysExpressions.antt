@@ -53,7 +53,8 @@ module _ {D : Type 0} (P : D → ℕ → State → Type 0) (bundle : Bundle) (ke
   Keeps-indices entry [] each v setting good d n s p = p
   Keeps-indices entry (e ∷ es) each v setting good d n s p =
       Keeps-and_then P d n _ _ (each.0.0 setting good d n s p) (λ i d n t p.
-      Keeps-and_then P d n _ _ (Keeps-value P (entry (data_of v) (data_of i)) d n t p) (λ w. Keeps-indices entry es each.1 w setting good))
+      Keeps-and_then P d n _ _ (Keeps-value P (entry (data_of v) (data_of i)) d n t p)
+      (λ w. Keeps-indices entry es each.1 w setting good))
 
   pub Keeps-links : (links : List LinkRun) → Each KeepsFrom links → KeepsFrom (links_run links)
   Keeps-links [] each v setting good d n s p = p
@@ -67,7 +68,8 @@ module _ {D : Type 0} (P : D → ℕ → State → Type 0) (bundle : Bundle) (ke
 
   -- ---- operators
 
-  pub Keeps-operator : (op : Operator) (right : ExpressionRun) → KeepsExpression right → KeepsFrom (operator_run op right)
+  pub Keeps-operator : (op : Operator) (right : ExpressionRun) → KeepsExpression right
+      → KeepsFrom (operator_run op right)
   Keeps-operator Or right keep v setting good d n s p =
       Always-if P (holds v) d n _ _ p (Keeps-and_then P d n _ _ (keep.0 setting good d n s p) (λ w d n t p. p))
   Keeps-operator And right keep v setting good d n s p =
@@ -77,12 +79,15 @@ module _ {D : Type 0} (P : D → ℕ → State → Type 0) (bundle : Bundle) (ke
 
   pub Keeps-item : (item : ExpressionRun) → KeepsExpression item → KeepsFrom (item_run None item)
   Keeps-item item keep array setting good d n s p =
-      Keeps-and_then P d n _ _ (keep.0 setting good d n s p) (λ v. Keeps-write P (write_result [] true (data_of v) (data_of array)))
+      Keeps-and_then P d n _ _ (keep.0 setting good d n s p) (λ v. Keeps-write P
+      (write_result [] true (data_of v) (data_of array)))
 
-  pub Keeps-keyed : (key item : ExpressionRun) → KeepsExpression key → KeepsExpression item → KeepsFrom (item_run (Some key) item)
+  pub Keeps-keyed : (key item : ExpressionRun) → KeepsExpression key → KeepsExpression item
+      → KeepsFrom (item_run (Some key) item)
   Keeps-keyed key item first keep array setting good d n s p =
       Keeps-and_then P d n _ _ (first.0 setting good d n s p) (λ k d n t p.
-      Keeps-and_then P d n _ _ (keep.0 setting good d n t p) (λ v. Keeps-write P (write_result (keys_of_indices (k ∷ [])) false (data_of v)
+      Keeps-and_then P d n _ _ (keep.0 setting good d n t p) (λ v. Keeps-write P
+      (write_result (keys_of_indices (k ∷ [])) false (data_of v)
       (data_of array))))
 
   -- ---- whole trees
@@ -123,23 +128,30 @@ module _ {D : Type 0} (P : D → ℕ → State → Type 0) (bundle : Bundle) (ke
       Expression Item Link Place (λ e. e.0) (λ e. e.0) (λ e. e.0) (λ e. e.0) y
 
   abbrev runs : Whole → Expression-F ExpressionRun ItemRun LinkRun PlaceRun
-  runs x = map-Expression Expression Item Link Place ExpressionRun ItemRun LinkRun PlaceRun expression_run item_run_of link_run place_run x
+  runs x =
+      map-Expression Expression Item Link Place ExpressionRun ItemRun LinkRun PlaceRun expression_run item_run_of
+      link_run place_run x
 
-  keeps-choice : (o : Option ExpressionRun) (v : Value) → ((e : ExpressionRun) → o ≡ Some e → KeepsExpression e) → KeepsPart P bundle (choice o v)
+  keeps-choice : (o : Option ExpressionRun) (v : Value) → ((e : ExpressionRun) → o ≡ Some e → KeepsExpression e)
+      → KeepsPart P bundle (choice o v)
   keeps-choice None v keep setting good d n s p = p
   keeps-choice (Some e) v keep setting good d n s p = (keep e refl).0 setting good d n s p
 
-  keeps-conditional : (test otherwise : ExpressionRun) (o : Option ExpressionRun) → KeepsExpression test → KeepsExpression otherwise
+  keeps-conditional : (test otherwise : ExpressionRun) (o : Option ExpressionRun) → KeepsExpression test
+      → KeepsExpression otherwise
       → ((e : ExpressionRun) → o ≡ Some e → KeepsExpression e)
-      → KeepsPart P bundle (λ setting s. and_then (test.value setting s) (λ v t. if holds v then choice o v setting t else otherwise.value setting t))
+      → KeepsPart P bundle (λ setting s. and_then (test.value setting s)
+      (λ v t. if holds v then choice o v setting t else otherwise.value setting t))
   keeps-conditional test otherwise o h k keep setting good d n s p =
       Keeps-and_then P d n _ _ (h.0 setting good d n s p) (λ v d n t p.
       Always-if P (holds v) d n _ _ (keeps-choice o v keep setting good d n t p) (k.0 setting good d n t p))
 
   keeps-coalesce : (left right : ExpressionRun) → KeepsExpression left → KeepsExpression right
-      → KeepsPart P bundle (λ setting s. and_then (left.found setting s) (λ v t. if is_missing v then right.value setting t else Done v t))
+      → KeepsPart P bundle (λ setting s. and_then (left.found setting s)
+      (λ v t. if is_missing v then right.value setting t else Done v t))
   keeps-coalesce left right h k setting good d n s p =
-      Keeps-and_then P d n _ _ (h.1 setting good d n s p) (λ v d n t p. Always-if P (is_missing v) d n _ _ (k.0 setting good d n t p) p)
+      Keeps-and_then P d n _ _ (h.1 setting good d n s p) (λ v d n t p. Always-if P (is_missing v) d n _ _
+      (k.0 setting good d n t p) p)
 
   keeps-layer : (y : WithGood) → KeepsExpression (expression_layer (runs (parts y)))
   keeps-layer Expression-F.Null = (λ setting good d n s p. p, λ setting good d n s p. p)
@@ -150,48 +162,66 @@ module _ {D : Type 0} (P : D → ℕ → State → Type 0) (bundle : Bundle) (ke
   keeps-layer (Expression-F.Array items) =
       let k = Keeps-items _ (each-images item_run_of KeepsFrom items) (value.Array empty) in (k, k)
   keeps-layer (Expression-F.Call name arguments) =
-      let k = Keeps-named P bundle name _ (Keeps-values _ (each-images expression_run KeepsExpression arguments)) in (k, k)
+      let k = Keeps-named P bundle name _ (Keeps-values _ (each-images expression_run KeepsExpression arguments)) in
+      (k, k)
   keeps-layer (Expression-F.Isset places) =
       let k = Keeps-isset P bundle kept _ (each-images place_run (KeepsPlace P bundle kept) places) in (k, k)
   keeps-layer (Expression-F.Index base indices) =
       let each = each-images expression_run KeepsExpression indices in (
-        λ setting good d n s p. Keeps-and_then P d n _ _ (base.1.0 setting good d n s p) (λ v. Keeps-indices indexed _ each v setting good),
+        λ setting good d n s p. Keeps-and_then P d n _ _ (base.1.0 setting good d n s p)
+            (λ v. Keeps-indices indexed _ each v setting good),
         λ setting good d n s p. Keeps-and_then P d n _ _ (base.1.1 setting good d n s p)
             (λ v. Keeps-indices looked_up _ each v setting good),
       )
   keeps-layer (Expression-F.Unary op e) =
-      let k : KeepsPart P bundle (λ setting s. and_then ((expression_run e.0).value setting s) (λ v t. value_run (unary_of op (data_of v)) t)) =
-      λ setting good d n s p. Keeps-and_then P d n _ _ (e.1.0 setting good d n s p) (λ v. Keeps-value P (unary_of op (data_of v))) in (k, k)
-  keeps-layer (Expression-F.Step op order place) = let k = Keeps-step P bundle kept (place_run place.0) place.1 op order in (k, k)
+      let k : KeepsPart P bundle (λ setting s. and_then ((expression_run e.0).value setting s)
+      (λ v t. value_run (unary_of op (data_of v)) t)) =
+      λ setting good d n s p. Keeps-and_then P d n _ _ (e.1.0 setting good d n s p)
+      (λ v. Keeps-value P (unary_of op (data_of v))) in (k, k)
+  keeps-layer (Expression-F.Step op order place) =
+      let k = Keeps-step P bundle kept (place_run place.0) place.1 op order in (k, k)
   keeps-layer (Expression-F.Chain first links) =
-      let k : KeepsPart P bundle (λ setting s. and_then ((expression_run first.0).value setting s) (λ v t. links_run (map link_run (map
+      let k : KeepsPart P bundle (λ setting s. and_then ((expression_run first.0).value setting s)
+      (λ v t. links_run (map link_run (map
       (λ e. e.0) links)) v setting t)) =
       λ setting good d n s p. Keeps-and_then P d n _ _ (first.1.0 setting good d n s p)
       (λ v. Keeps-links _ (each-images link_run KeepsFrom links) v setting good) in (k, k)
-  keeps-layer (Expression-F.Coalesce left right) = let k = keeps-coalesce (expression_run left.0) (expression_run right.0) left.1 right.1 in (k, k)
+  keeps-layer (Expression-F.Coalesce left right) =
+      let k = keeps-coalesce (expression_run left.0) (expression_run right.0) left.1 right.1 in (k, k)
   keeps-layer (Expression-F.Conditional test None otherwise) =
-      let k = keeps-conditional (expression_run test.0) (expression_run otherwise.0) None test.1 otherwise.1 (λ e h. absurd (cc)) in (k, k)
+      let k = keeps-conditional (expression_run test.0) (expression_run otherwise.0) None test.1 otherwise.1
+      (λ e h. absurd (cc)) in (k, k)
   keeps-layer (Expression-F.Conditional test (Some middle) otherwise) =
-      let k = keeps-conditional (expression_run test.0) (expression_run otherwise.0) (Some (expression_run middle.0)) test.1 otherwise.1
+      let k = keeps-conditional (expression_run test.0) (expression_run otherwise.0)
+      (Some (expression_run middle.0)) test.1 otherwise.1
       (λ e h. let same : expression_run middle.0 ≡ e = cc in subst KeepsExpression same middle.1) in (k, k)
   keeps-layer (Expression-F.Include how e) =
-      let k : KeepsPart P bundle (λ setting s. and_then ((expression_run e.0).value setting s) (λ v t. include_run how v setting t)) =
-      λ setting good d n s p. Keeps-and_then P d n _ _ (e.1.0 setting good d n s p) (λ v. Keeps-include P bundle how v setting good) in (k, k)
+      let k : KeepsPart P bundle (λ setting s. and_then ((expression_run e.0).value setting s)
+      (λ v t. include_run how v setting t)) =
+      λ setting good d n s p. Keeps-and_then P d n _ _ (e.1.0 setting good d n s p)
+      (λ v. Keeps-include P bundle how v setting good) in (k, k)
   keeps-layer (Expression-F.Assign place right) =
-      let k = Keeps-assignment P bundle kept (place_run place.0) place.1 (expression_run right.0).value right.1.0 false in (k, k)
+      let k = Keeps-assignment P bundle kept (place_run place.0) place.1
+      (expression_run right.0).value right.1.0 false in (k, k)
   keeps-layer (Expression-F.Compound op place right) =
-      let k = Keeps-compound P bundle kept (place_run place.0) place.1 (expression_run right.0).value right.1.0 op in (k, k)
+      let k = Keeps-compound P bundle kept (place_run place.0) place.1 (expression_run right.0).value right.1.0 op in
+      (k, k)
   keeps-layer (Expression-F.CoalesceAssign place right) =
-      let k = Keeps-coalescing P bundle kept (place_run place.0) place.1 (expression_run right.0).value right.1.0 in (k, k)
+      let k = Keeps-coalescing P bundle kept (place_run place.0) place.1 (expression_run right.0).value right.1.0 in
+      (k, k)
   keeps-layer (Expression-F.Push place right) =
-      let k = Keeps-assignment P bundle kept (place_run place.0) place.1 (expression_run right.0).value right.1.0 true in (k, k)
+      let k = Keeps-assignment P bundle kept (place_run place.0) place.1
+      (expression_run right.0).value right.1.0 true in (k, k)
 
   abbrev parts-item : Item-F WithExpression WithItem WithLink WithPlace → Item-F Expression Item Link Place
-  parts-item y = map-Item WithExpression WithItem WithLink WithPlace Expression Item Link Place (λ e. e.0) (λ e. e.0) (λ e. e.0) (λ e. e.0) y
+  parts-item y =
+      map-Item WithExpression WithItem WithLink WithPlace Expression Item Link Place (λ e. e.0) (λ e. e.0) (λ e. e.0)
+      (λ e. e.0) y
 
   keeps-item : (key : Option WithExpression) (item : WithExpression)
       → (let y : Item-F WithExpression WithItem WithLink WithPlace = record { key = key; value = item } in
-      KeepsFrom (item_layer (map-Item Expression Item Link Place ExpressionRun ItemRun LinkRun PlaceRun expression_run item_run_of link_run
+      KeepsFrom (item_layer (map-Item Expression Item Link Place ExpressionRun ItemRun LinkRun PlaceRun expression_run
+      item_run_of link_run
       place_run (parts-item y))))
   keeps-item None item = Keeps-item (expression_run item.0) item.1
   keeps-item (Some key) item = Keeps-keyed (expression_run key.0) (expression_run item.0) key.1 item.1
@@ -200,26 +230,32 @@ module _ {D : Type 0} (P : D → ℕ → State → Type 0) (bundle : Bundle) (ke
   step-expression : (x : Whole) (y : WithGood) → parts y ≡ x → Good (roll-Expression x)
   unfolding expression_run item_run_of link_run place_run
   step-expression x y is = subst (λ z. Good (roll-Expression z)) is
-      (subst KeepsExpression (sym (fold-roll-Expression ExpressionRun ItemRun LinkRun PlaceRun expression_layer item_layer link_layer place_layer
+      (subst KeepsExpression (sym (fold-roll-Expression ExpressionRun ItemRun LinkRun PlaceRun expression_layer
+      item_layer link_layer place_layer
       (parts y))) (keeps-layer y))
 
-  step-item : (x : Item-F Expression Item Link Place) (y : Item-F WithExpression WithItem WithLink WithPlace) → parts-item y ≡ x
+  step-item : (x : Item-F Expression Item Link Place) (y : Item-F WithExpression WithItem WithLink WithPlace)
+      → parts-item y ≡ x
       → GoodItem (roll-Item x)
   unfolding expression_run item_run_of link_run place_run
   step-item x y is = subst (λ z. GoodItem (roll-Item z)) is
-      (subst KeepsFrom (sym (fold-roll-Item ExpressionRun ItemRun LinkRun PlaceRun expression_layer item_layer link_layer place_layer _))
+      (subst KeepsFrom (sym (fold-roll-Item ExpressionRun ItemRun LinkRun PlaceRun expression_layer item_layer
+      link_layer place_layer _))
       (keeps-item y.key y.value))
 
   step-link : (x : Link-F Expression Item Link Place) (y : Link-F WithExpression WithItem WithLink WithPlace)
-      → map-Link WithExpression WithItem WithLink WithPlace Expression Item Link Place (λ e. e.0) (λ e. e.0) (λ e. e.0) (λ e. e.0) y ≡ x
+      → map-Link WithExpression WithItem WithLink WithPlace Expression Item Link Place (λ e. e.0) (λ e. e.0) (λ e. e.0)
+      (λ e. e.0) y ≡ x
       → GoodLink (roll-Link x)
   unfolding expression_run item_run_of link_run place_run
   step-link x y is = subst (λ z. GoodLink (roll-Link z)) is
-      (subst KeepsFrom (sym (fold-roll-Link ExpressionRun ItemRun LinkRun PlaceRun expression_layer item_layer link_layer place_layer _))
+      (subst KeepsFrom (sym (fold-roll-Link ExpressionRun ItemRun LinkRun PlaceRun expression_layer item_layer
+      link_layer place_layer _))
       (Keeps-operator y.operator (expression_run y.operand.0) y.operand.1))
 
   step-place : (x : Place-F Expression Item Link Place) (y : Place-F WithExpression WithItem WithLink WithPlace)
-      → map-Place WithExpression WithItem WithLink WithPlace Expression Item Link Place (λ e. e.0) (λ e. e.0) (λ e. e.0) (λ e. e.0) y ≡ x
+      → map-Place WithExpression WithItem WithLink WithPlace Expression Item Link Place (λ e. e.0) (λ e. e.0) (λ e. e.0)
+      (λ e. e.0) y ≡ x
       → GoodPlace (roll-Place x)
   unfolding expression_run item_run_of link_run place_run
   step-place x y is = subst (λ z. GoodPlace (roll-Place z)) is

@@ -18,8 +18,10 @@ use Rattle.dp_meaning.proofs.Always.{IsKept, Keeps, Keeps-and_then, Always-if, A
 module _ {D : Type 0} (P : D → ℕ → State → Type 0) where
   pub Keeps-turn_over : (next : State → Run Signal) → Keeps P next → (g : Signal) → Keeps P (turn_over g next)
   Keeps-turn_over next keep Next d n s p = keep d n s p
-  Keeps-turn_over next keep (Break loops) d n s p = Always-if P (nat_le loops 1) d n (Done Next s) (Done (Break (loops - 1)) s) p p
-  Keeps-turn_over next keep (Continue loop) d n s p = Always-if P (nat_le loop 1) d n (next s) (Done (Continue (loop - 1)) s) (keep d n s p) p
+  Keeps-turn_over next keep (Break loops) d n s p =
+      Always-if P (nat_le loops 1) d n (Done Next s) (Done (Break (loops - 1)) s) p p
+  Keeps-turn_over next keep (Continue loop) d n s p =
+      Always-if P (nat_le loop 1) d n (next s) (Done (Continue (loop - 1)) s) (keep d n s p) p
   Keeps-turn_over next keep (Return v) d n s p = p
 
   pub Keeps-turns : (k line : ℕ) (test next : State → Run (List Value)) (body : State → Run Signal)
@@ -45,7 +47,8 @@ module _ {D : Type 0} (P : D → ℕ → State → Type 0) where
         p,
         λ v p.
             Keeps-and_then P d (n + 1) _ _ (tests d (n + 1) v p) (λ tested d n w p.
-            Always-if P (holds tested) d n (do_turns k line test body w) (Done Next w) (Keeps-do_turns k line test body tests bodies d n w p) p),
+            Always-if P (holds tested) d n (do_turns k line test body w) (Done Next w)
+            (Keeps-do_turns k line test body tests bodies d n w p) p),
       )))
 
   module _ (bundle : Bundle) (kept : IsKept P bundle) where
@@ -58,7 +61,8 @@ module _ {D : Type 0} (P : D → ℕ → State → Type 0) where
 
     Keeps-bind : (binding : Binding) (entry : Key × Data) → Keeps P (bind binding entry)
     Keeps-bind binding entry d n s p =
-        Keeps-and_then P d n _ _ (Keeps-bind_name binding.value (value_of entry.1) d n s p) (λ _. Keeps-bind_key binding.key entry.0)
+        Keeps-and_then P d n _ _ (Keeps-bind_name binding.value (value_of entry.1) d n s p)
+        (λ _. Keeps-bind_key binding.key entry.0)
 
     pub Keeps-each : (line : ℕ) (binding : Binding) (all : List (Key × Data)) (body : State → Run Signal) → Keeps P body
         → Keeps P (each_run line binding all body)

@@ -19,9 +19,11 @@ use Rattle.dp_actions.specs.Values.{is_missing}
 use Rattle.dp_meaning.proofs.Always.{Each, IsKept, Keeps, KeepsPart, Keeps-and_then, Keeps-value, Always-if, Always-taken}
 
 module _ {D : Type 0} (P : D → ℕ → State → Type 0) (bundle : Bundle) (kept : IsKept P bundle) where
-  pub Keeps-assign : (name : List ℕ) (indices : List Value) (push : Bool) (v : Value) → Keeps P (assign_run name indices push v)
+  pub Keeps-assign : (name : List ℕ) (indices : List Value) (push : Bool) (v : Value)
+      → Keeps P (assign_run name indices push v)
   Keeps-assign name indices push v d n s p =
-      Keeps-and_then P d n _ _ (Always-taken P _ d d n s p (λ t e. kept.assigns d n 0 name (keys_of_indices indices) push v s t e p)) (λ _ d n t p. p)
+      Keeps-and_then P d n _ _ (Always-taken P _ d d n s p (λ t e. kept.assigns d n 0 name
+      (keys_of_indices indices) push v s t e p)) (λ _ d n t p. p)
 
   pub Keeps-read : (name : List ℕ) (indices : List Value) → Keeps P (read_run name indices)
   Keeps-read name indices d n s p = Keeps-value P (indexed_by (map data_of indices) (data_of (variable name s))) d n s p
@@ -33,7 +35,8 @@ module _ {D : Type 0} (P : D → ℕ → State → Type 0) (bundle : Bundle) (ke
   abbrev pub KeepsPlace : PlaceRun → Type 0
   KeepsPlace place = KeepsPart P bundle place.indices
 
-  module _ (place : PlaceRun) (indices_keep : KeepsPlace place) (right : Part Value) (right_keeps : KeepsPart P bundle right) where
+  module _ (place : PlaceRun) (indices_keep : KeepsPlace place) (right : Part Value)
+      (right_keeps : KeepsPart P bundle right) where
     pub Keeps-assignment : (push : Bool) → KeepsPart P bundle (assignment push place right)
     Keeps-assignment push setting good d n s p =
         Keeps-and_then P d n _ _ (indices_keep setting good d n s p) (λ indices d n t p.
@@ -67,11 +70,13 @@ module _ {D : Type 0} (P : D → ℕ → State → Type 0) (bundle : Bundle) (ke
   Keeps-isset (place ∷ places) each setting good d n s p =
       Keeps-and_then P d n _ _ (each.0 setting good d n s p) (λ indices d n t p.
       Keeps-and_then P d n _ _ (Keeps-found place.name indices d n t p) (λ v d n u p.
-      Always-if P (is_missing v) d n (Done (Truth false) u) (isset_run places setting u) p (Keeps-isset places each.1 setting good d n u p)))
+      Always-if P (is_missing v) d n (Done (Truth false) u) (isset_run places setting u) p
+      (Keeps-isset places each.1 setting good d n u p)))
 
   pub Keeps-unset : (places : List PlaceRun) → Each KeepsPlace places → KeepsPart P bundle (unset_run places)
   Keeps-unset [] each setting good d n s p = p
   Keeps-unset (place ∷ places) each setting good d n s p =
       Keeps-and_then P d n _ _ (each.0 setting good d n s p) (λ indices d n t p.
-      Keeps-and_then P d n _ _ (Always-taken P _ d d n t p (λ u e. kept.unsets d n place.name (keys_of_indices indices) t u e p))
+      Keeps-and_then P d n _ _ (Always-taken P _ d d n t p (λ u e. kept.unsets d n place.name
+      (keys_of_indices indices) t u e p))
       (λ _. Keeps-unset places each.1 setting good))

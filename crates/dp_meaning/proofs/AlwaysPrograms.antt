@@ -17,7 +17,8 @@ module _ {D : Type 0} (P : D → ℕ → State → Type 0) (bundle : Bundle) (ke
       → (setting : Setting) → IsKeptBy P bundle setting → Keeps P (function_run file f values setting)
   Keeps-function file f values within setting good d n s p =
       let down = kept.down d in
-      Always-and_then P down d n _ _ (Always-taken P (called file f values s) down d n s p (λ t is. kept.calls d n file f values s t within is p))
+      Always-and_then P down d n _ _ (Always-taken P (called file f values s) down d n s p
+      (λ t is. kept.calls d n file f values s t within is p))
       (λ _ n t q. (
         down,
         q,
@@ -26,12 +27,14 @@ module _ {D : Type 0} (P : D → ℕ → State → Type 0) (bundle : Bundle) (ke
             (λ g m v q. (down, q, λ w q. kept.leaves d (m + 1) w q)),
       ))
 
-  pub Keeps-file : (file : ℕ) → file < length bundle.files → (setting : Setting) → IsKeptBy P bundle setting → Keeps P (file_run file setting)
+  pub Keeps-file : (file : ℕ) → file < length bundle.files → (setting : Setting) → IsKeptBy P bundle setting
+      → Keeps P (file_run file setting)
   Keeps-file file within setting good d n s p =
       let down = kept.down d in
       Always-and_then P down d n _ _ (Always-taken P (included setting.bundle file s) down d n s p
       (λ t is. kept.includes d n file s t within (subst (λ b. included b file s ≡ Ok t) good.same is) p))
-      (λ _ n t q. Always-and_then P down d n _ _ (Keeps-body P bundle kept (statements_of setting.bundle file) setting good down n t q)
+      (λ _ n t q. Always-and_then P down d n _ _ (Keeps-body P bundle kept
+      (statements_of setting.bundle file) setting good down n t q)
       (λ g m u q. kept.leaves d m u q))
 
   pub Keeps-setting : (bound depth : ℕ) → IsKeptBy P bundle (setting_of bundle bound depth)
@@ -43,11 +46,14 @@ module _ {D : Type 0} (P : D → ℕ → State → Type 0) (bundle : Bundle) (ke
   }
   Keeps-setting bound (suc depth) = record {
     same = refl;
-    call = λ file f values within. Keeps-function file f values within (setting_of bundle bound depth) (Keeps-setting bound depth);
+    call =
+        λ file f values within. Keeps-function file f values within (setting_of bundle bound depth)
+        (Keeps-setting bound depth);
     include = λ file within. Keeps-file file within (setting_of bundle bound depth) (Keeps-setting bound depth);
   }
 
   pub Always-program : (bound : ℕ) (d : D) → P d 0 (opening bundle) → Always P d 0 (program_run bundle bound)
   unfolding program_run
   Always-program bound d p =
-      Keeps-body P bundle kept (statements_of bundle 0) (setting_of bundle bound frame_limit) (Keeps-setting bound frame_limit) d 0 (opening bundle) p
+      Keeps-body P bundle kept (statements_of bundle 0) (setting_of bundle bound frame_limit)
+      (Keeps-setting bound frame_limit) d 0 (opening bundle) p

@@ -59,14 +59,16 @@ module _ {D : Type 0} (P : D → ℕ → State → Type 0) (bundle : Bundle) (ke
       Keeps-and_then P d n _ _ (Always-taken P _ d d n t p (λ u is. kept.prints d n (text_of (data_of v)) t u is p))
       (λ _. Keeps-echoes es setting good))
 
-  Keeps-otherwise : (o : Option (Part Signal)) → ((part : Part Signal) → o ≡ Some part → KeepsPart P bundle part) → KeepsPart P bundle (arms_run [] o)
+  Keeps-otherwise : (o : Option (Part Signal)) → ((part : Part Signal) → o ≡ Some part → KeepsPart P bundle part)
+      → KeepsPart P bundle (arms_run [] o)
   Keeps-otherwise None keep setting good d n s p = p
   Keeps-otherwise (Some part) keep setting good d n s p = keep part refl setting good d n s p
 
   Keeps-arms : (arms : List ArmRun) (o : Option (Part Signal)) → Each KeepsArm arms
       → ((part : Part Signal) → o ≡ Some part → KeepsPart P bundle part) → KeepsPart P bundle (arms_run arms o)
   Keeps-arms [] o each keep setting good d n s p = Keeps-otherwise o keep setting good d n s p
-  Keeps-arms (arm ∷ arms) o each keep setting good d n s p = each.0 (arms_run arms o) (Keeps-arms arms o each.1 keep) setting good d n s p
+  Keeps-arms (arm ∷ arms) o each keep setting good d n s p =
+      each.0 (arms_run arms o) (Keeps-arms arms o each.1 keep) setting good d n s p
 
   Keeps-globals : (names : List (List ℕ)) (d : D) (n : ℕ) (s : State) → P d n s → P d n (with_globals names s)
   Keeps-globals [] d n s p = p
@@ -85,7 +87,8 @@ module _ {D : Type 0} (P : D → ℕ → State → Type 0) (bundle : Bundle) (ke
   Keeps-exit (value.Bool b) d n s p = (d, p, tt)
   Keeps-exit (value.Int m) d n s p = keeps-status m d n s p
   Keeps-exit (value.Text bytes) d n s p =
-      Keeps-and_then P d n _ _ (Always-taken P (printed bytes s) d d n s p (λ t is. kept.prints d n bytes s t is p)) (λ _ d n t p.
+      Keeps-and_then P d n _ _ (Always-taken P (printed bytes s) d d n s p (λ t is. kept.prints d n bytes s t is p))
+      (λ _ d n t p.
       (d, p, omega arith))
   Keeps-exit (value.Array t) d n s p = (d, p, tt)
 
@@ -116,7 +119,8 @@ module _ {D : Type 0} (P : D → ℕ → State → Type 0) (bundle : Bundle) (ke
   Whole = StatementKind-F StatementKind Arm Statement
 
   abbrev parts : WithGood → Whole
-  parts y = map-StatementKind WithKind WithArm WithStatement StatementKind Arm Statement (λ e. e.0) (λ e. e.0) (λ e. e.0) y
+  parts y =
+      map-StatementKind WithKind WithArm WithStatement StatementKind Arm Statement (λ e. e.0) (λ e. e.0) (λ e. e.0) y
 
   abbrev runs : Whole → StatementKind-F KindRun ArmRun (Part Signal)
   runs x = map-StatementKind StatementKind Arm Statement KindRun ArmRun (Part Signal) kind_run arm_run statement_run x
@@ -136,7 +140,8 @@ module _ {D : Type 0} (P : D → ℕ → State → Type 0) (bundle : Bundle) (ke
   keeps-end None setting good d n s p = (d, p, omega arith)
   keeps-end (Some e) setting good d n s p = Keeps-and_then P d n _ _ (keeps e setting good d n s p) Keeps-exit
 
-  keeps-if : (arms : List WithArm) (o : Option (Part Signal)) → ((part : Part Signal) → o ≡ Some part → KeepsPart P bundle part)
+  keeps-if : (arms : List WithArm) (o : Option (Part Signal))
+      → ((part : Part Signal) → o ≡ Some part → KeepsPart P bundle part)
       → KeepsPart P bundle (arms_run (map arm_run (map (λ e. e.0) arms)) o)
   keeps-if arms o keep = Keeps-arms (map arm_run (map (λ e. e.0) arms)) o (each-images arm_run KeepsArm arms) keep
 
@@ -147,16 +152,20 @@ module _ {D : Type 0} (P : D → ℕ → State → Type 0) (bundle : Bundle) (ke
     λ t p.
         Keeps-and_then P d (n + 1) _ _ (keeps e setting good d (n + 1) t p) (λ _ d n u p. p),
   )
-  keeps-layer (StatementKind-F.Echo operands) line = λ setting good d n s p. (d, p, λ t p. Keeps-echoes operands setting good d (n + 1) t p)
+  keeps-layer (StatementKind-F.Echo operands) line =
+      λ setting good d n s p. (d, p, λ t p. Keeps-echoes operands setting good d (n + 1) t p)
   keeps-layer (StatementKind-F.Block statements) line =
-      Keeps-sequence (map statement_run (map (λ e. e.0) statements)) (each-images statement_run (KeepsPart P bundle) statements)
+      Keeps-sequence (map statement_run (map (λ e. e.0) statements))
+      (each-images statement_run (KeepsPart P bundle) statements)
   keeps-layer StatementKind-F.Empty line = λ setting good d n s p. p
   keeps-layer (StatementKind-F.If arms None) line = keeps-if arms None (λ part is. absurd (cc))
   keeps-layer (StatementKind-F.If arms (Some otherwise)) line = keeps-if arms (Some (statement_run otherwise.0))
       (λ part is. let same : statement_run otherwise.0 ≡ part = cc in subst (KeepsPart P bundle) same otherwise.1)
-  keeps-layer (StatementKind-F.While test body) line = λ setting good. Keeps-turns P setting.bound line _ _ _ (Keeps-evaluations P bundle kept
+  keeps-layer (StatementKind-F.While test body) line =
+      λ setting good. Keeps-turns P setting.bound line _ _ _ (Keeps-evaluations P bundle kept
       (test ∷ []) setting good) (Keeps-evaluations P bundle kept [] setting good) (body.1 setting good)
-  keeps-layer (StatementKind-F.DoWhile body end test) line = λ setting good. Keeps-do_turns P setting.bound end _ _ (keeps test setting good)
+  keeps-layer (StatementKind-F.DoWhile body end test) line =
+      λ setting good. Keeps-do_turns P setting.bound end _ _ (keeps test setting good)
       (body.1 setting good)
   keeps-layer (StatementKind-F.For before tests after body) line = λ setting good d n s p. (
     d,
@@ -170,29 +179,36 @@ module _ {D : Type 0} (P : D → ℕ → State → Type 0) (bundle : Bundle) (ke
     d,
     p,
     λ t p.
-        Keeps-and_then P d (n + 1) _ _ (keeps subject setting good d (n + 1) t p) (λ v. Keeps-each P bundle kept line binding (entries v) _
+        Keeps-and_then P d (n + 1) _ _ (keeps subject setting good d (n + 1) t p)
+        (λ v. Keeps-each P bundle kept line binding (entries v) _
         (body.1 setting good)),
   )
   keeps-layer (StatementKind-F.Break loops) line = λ setting good d n s p. (d, p, λ t p. p)
   keeps-layer (StatementKind-F.Continue loop) line = λ setting good d n s p. (d, p, λ t p. p)
-  keeps-layer (StatementKind-F.Return value) line = λ setting good d n s p. (d, p, λ t p. keeps-return value setting good d (n + 1) t p)
-  keeps-layer (StatementKind-F.Global names) line = λ setting good d n s p. (d, p, λ t p. Keeps-globals names d (n + 1) t p)
+  keeps-layer (StatementKind-F.Return value) line =
+      λ setting good d n s p. (d, p, λ t p. keeps-return value setting good d (n + 1) t p)
+  keeps-layer (StatementKind-F.Global names) line =
+      λ setting good d n s p. (d, p, λ t p. Keeps-globals names d (n + 1) t p)
   keeps-layer (StatementKind-F.Unset places) line = λ setting good d n s p. (
     d,
     p,
     λ t p.
-        Keeps-and_then P d (n + 1) _ _ (Keeps-unset P bundle kept (map place_run places) (all-places places) setting good d (n + 1) t p)
+        Keeps-and_then P d (n + 1) _ _ (Keeps-unset P bundle kept (map place_run places)
+        (all-places places) setting good d (n + 1) t p)
         (λ _ d n u p. p),
   )
-  keeps-layer (StatementKind-F.Exit value) line = λ setting good d n s p. (d, p, λ t p. keeps-end value setting good d (n + 1) t p)
+  keeps-layer (StatementKind-F.Exit value) line =
+      λ setting good d n s p. (d, p, λ t p. keeps-end value setting good d (n + 1) t p)
 
   step-kind : (x : Whole) (y : WithGood) → parts y ≡ x → GoodKind (roll-StatementKind x)
   unfolding kind_run arm_run statement_run
   step-kind x y is = subst (λ z. GoodKind (roll-StatementKind z)) is
-      (subst KeepsKind (sym (fold-roll-StatementKind KindRun ArmRun (Part Signal) kind_layer arm_layer statement_layer (parts y))) (keeps-layer y))
+      (subst KeepsKind (sym (fold-roll-StatementKind KindRun ArmRun (Part Signal) kind_layer arm_layer statement_layer
+      (parts y))) (keeps-layer y))
 
   step-arm : (x : Arm-F StatementKind Arm Statement) (y : Arm-F WithKind WithArm WithStatement)
-      → map-Arm WithKind WithArm WithStatement StatementKind Arm Statement (λ e. e.0) (λ e. e.0) (λ e. e.0) y ≡ x → GoodArm (roll-Arm x)
+      → map-Arm WithKind WithArm WithStatement StatementKind Arm Statement (λ e. e.0) (λ e. e.0) (λ e. e.0) y ≡ x
+      → GoodArm (roll-Arm x)
   unfolding kind_run arm_run statement_run
   step-arm x y is = subst (λ z. GoodArm (roll-Arm z)) is
       (subst KeepsArm (sym (fold-roll-Arm KindRun ArmRun (Part Signal) kind_layer arm_layer statement_layer _))
@@ -205,10 +221,12 @@ module _ {D : Type 0} (P : D → ℕ → State → Type 0) (bundle : Bundle) (ke
       )))
 
   step-statement : (x : Statement-F StatementKind Arm Statement) (y : Statement-F WithKind WithArm WithStatement)
-      → map-Statement WithKind WithArm WithStatement StatementKind Arm Statement (λ e. e.0) (λ e. e.0) (λ e. e.0) y ≡ x → Good (roll-Statement x)
+      → map-Statement WithKind WithArm WithStatement StatementKind Arm Statement (λ e. e.0) (λ e. e.0) (λ e. e.0) y ≡ x
+      → Good (roll-Statement x)
   unfolding kind_run arm_run statement_run
   step-statement x y is = subst (λ z. Good (roll-Statement z)) is
-      (subst (KeepsPart P bundle) (sym (fold-roll-Statement KindRun ArmRun (Part Signal) kind_layer arm_layer statement_layer _)) (y.kind.1 y.line))
+      (subst (KeepsPart P bundle) (sym (fold-roll-Statement KindRun ArmRun
+      (Part Signal) kind_layer arm_layer statement_layer _)) (y.kind.1 y.line))
 
   -- ---- whole trees
 

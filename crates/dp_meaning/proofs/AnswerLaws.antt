@@ -7,6 +7,7 @@ use Rattle.dp_state.specs.Places.{then_state}
 use Rattle.dp_meaning.specs.inner.Answering.{write_answer}
 use Rattle.dp_meaning.specs.Writes.{place_answer, place_or_fault}
 
-pub write-answers : (r : Result Data WriteError) (f : Data → State) → write_answer r ≡ place_answer (place_or_fault (then_state r f))
+pub write-answers : (r : Result Data WriteError) (f : Data → State)
+    → write_answer r ≡ place_answer (place_or_fault (then_state r f))
 write-answers (Ok d) f = refl
 write-answers (Err e) f = refl

@@ -63,7 +63,8 @@ meets-at_once rules run (Err Memory) s l = tt
 meets-at_once rules run (Err (Finished o)) s l = ap (drive rules) l
 meets-at_once rules run (Err (Stopped moment)) s l = absurd l
 
-pub at_once : {A : Type 0} {rules : Rules} {run : Run A} {result : Result A Halt} {s : State} → AtOnce run result s → Evaluates rules run result s
+pub at_once : {A : Type 0} {rules : Rules} {run : Run A} {result : Result A Halt} {s : State} → AtOnce run result s
+    → Evaluates rules run result s
 at_once {A} {rules} {run} {result} {s} e = record { meets = meets-at_once rules run result s e.leaves }
 
 -- the first part breaks off
@@ -87,11 +88,13 @@ module _ {A B : Type 0} {rules : Rules} where
 
 -- the first part, and what is done at once with what it gives
 module _ {A B : Type 0} (rules : Rules) (r : Run A) (next : A → State → Run B) (s t : State) (x : Result B Halt) where
-  then-by : (operand : Result A Halt) → Evaluates rules r operand s → DoneThen operand next s x t → Evaluates rules (and_then r next) x t
+  then-by : (operand : Result A Halt) → Evaluates rules r operand s → DoneThen operand next s x t
+      → Evaluates rules (and_then r next) x t
   then-by (Ok a) e h = goes_on next e (at_once h)
   then-by (Err why) e h = rw (h.0, h.1) (breaks_off next e)
 
-pub then_on : {A B : Type 0} {rules : Rules} {r : Run A} {next : A → State → Run B} {s t : State} {x : Result B Halt} {operand : Result A Halt}
+pub then_on : {A B : Type 0} {rules : Rules} {r : Run A} {next : A → State → Run B} {s t : State} {x : Result B Halt}
+    {operand : Result A Halt}
     → Evaluates rules r operand s → Then operand next s x t → Evaluates rules (and_then r next) x t
 then_on {A} {B} {rules} {r} {next} {s} {t} {x} {operand} e h = then-by rules r next s t x operand e h.done
 
@@ -101,9 +104,12 @@ module _ {A B C : Type 0} {rules : Rules} where
       → Evaluates rules (and_then r f) (Err h) s → Evaluates rules (and_then r (λ a u. and_then (f a u) next)) (Err h) s
   joined_off {h} {s} r f next e = subst (λ z. Evaluates rules z (Err h) s) (and_then-assoc r f next) (breaks_off next e)
 
-  pub joined_on : {b : B} {s t : State} (r : Run A) (f : A → State → Run B) (next : B → State → Run C) {x : Result C Halt}
-      → Evaluates rules (and_then r f) (Ok b) s → Evaluates rules (next b s) x t → Evaluates rules (and_then r (λ a u. and_then (f a u) next)) x t
-  joined_on {b} {s} {t} r f next {x} e k = subst (λ z. Evaluates rules z x t) (and_then-assoc r f next) (goes_on next e k)
+  pub joined_on : {b : B} {s t : State} (r : Run A) (f : A → State → Run B) (next : B → State → Run C)
+      {x : Result C Halt}
+      → Evaluates rules (and_then r f) (Ok b) s → Evaluates rules (next b s) x t
+      → Evaluates rules (and_then r (λ a u. and_then (f a u) next)) x t
+  joined_on {b} {s} {t} r f next {x} e k =
+      subst (λ z. Evaluates rules z x t) (and_then-assoc r f next) (goes_on next e k)
 
 -- a part whose value is only tested, and what follows
 module _ {C : Type 0} {rules : Rules} (r : Run Value) (next : Bool → State → Run C) where
@@ -112,7 +118,8 @@ module _ {C : Type 0} {rules : Rules} (r : Run Value) (next : Bool → State →
   unfolding and_then
   tested_off e = joined_off r (λ v u. Done (holds v) u) next e
 
-  pub tested_on : {b : Bool} {s t : State} {x : Result C Halt} → Evaluates rules (and_then r (λ v u. Done (holds v) u)) (Ok b) s
+  pub tested_on : {b : Bool} {s t : State} {x : Result C Halt}
+      → Evaluates rules (and_then r (λ v u. Done (holds v) u)) (Ok b) s
       → Evaluates rules (next b s) x t → Evaluates rules (and_then r (λ v u. next (holds v) u)) x t
   unfolding and_then
   tested_on e k = joined_on r (λ v u. Done (holds v) u) next e k
@@ -125,15 +132,19 @@ module _ {B : Type 0} {rules : Rules} where
   stops_at {h} {kind} {line} {s} {t} {go} e = breaks_off (λ _ u. go u) e
 
   pub passes : {kind : MomentKind} {line : ℕ} {s t u : State} {go : State → Run B} {x : Result B Halt}
-      → Evaluates rules (moment_run kind line s) (Ok tt) t → Evaluates rules (go t) x u → Evaluates rules (At kind line s go) x u
+      → Evaluates rules (moment_run kind line s) (Ok tt) t → Evaluates rules (go t) x u
+      → Evaluates rules (At kind line s go) x u
   unfolding and_then
   passes {kind} {line} {s} {t} {u} {go} {x} e f = goes_on (λ _ w. go w) e f
 
 -- a moment, and what is done at once behind it
-pub then_at : {B : Type 0} {rules : Rules} {kind : MomentKind} {line : ℕ} {go : State → Run B} {s t u : State} {x : Result B Halt} {done : Result Unit Halt}
-    → Evaluates rules (moment_run kind line s) done t → Then done (λ _ v. go v) t x u → Evaluates rules (At kind line s go) x u
+pub then_at : {B : Type 0} {rules : Rules} {kind : MomentKind} {line : ℕ} {go : State → Run B} {s t u : State}
+    {x : Result B Halt} {done : Result Unit Halt}
+    → Evaluates rules (moment_run kind line s) done t → Then done (λ _ v. go v) t x u
+    → Evaluates rules (At kind line s go) x u
 unfolding and_then
-then_at {B} {rules} {kind} {line} {go} {s} {t} {u} {x} {done} e h = then-by rules (moment_run kind line s) (λ _ v. go v) t u x done e h.done
+then_at {B} {rules} {kind} {line} {go} {s} {t} {u} {x} {done} e h =
+    then-by rules (moment_run kind line s) (λ _ v. go v) t u x done e h.done
 
 -- what the exit of a `?` returns
 pub exits : {B : Type 0} {rules : Rules} {run : Run B} {s : State} (h : Halt) (x : Result B Halt)
@@ -142,15 +153,19 @@ exits {B} {rules} {run} {s} h x i e = let p = err_from_is_err_and x i in rw (p.1
 
 -- a moment by itself, by the tests that are made at it
 module _ (rules : Rules) (kind : MomentKind) (line : ℕ) (s u : State) where
-  pub moment_passes_bound : rules.bound ≤ s.moments → u ≡ s → Evaluates rules (moment_run kind line s) (Err (Finished Bound)) u
+  pub moment_passes_bound : rules.bound ≤ s.moments → u ≡ s
+      → Evaluates rules (moment_run kind line s) (Err (Finished Bound)) u
   moment_passes_bound h k = record { meets = rw (le-ltb _ _ h, k) refl }
 
   module _ (h : s.moments < rules.bound) (k : u ≡ written rules.writes (s.moments + 1) (arrived line s)) where
     pub moment_stops : rules.halts (moment_of kind (arrived line s)) u ≡ true
         → Evaluates rules (moment_run kind line s) (Err (Stopped (moment_of kind (arrived line s)))) u
-    moment_stops e = record { meets = rw (lt-ltb _ _ h, ap (rules.halts (moment_of kind (arrived line s))) (sym k) ∙ e, k) refl }
+    moment_stops e =
+        record { meets = rw (lt-ltb _ _ h, ap (rules.halts (moment_of kind (arrived line s))) (sym k) ∙ e, k) refl }
 
-    pub moment_passes : rules.halts (moment_of kind (arrived line s)) u ≡ false → Evaluates rules (moment_run kind line s) (Ok tt) u
-    moment_passes e = record { meets = rw (lt-ltb _ _ h, ap (rules.halts (moment_of kind (arrived line s))) (sym k) ∙ e, k) refl }
+    pub moment_passes : rules.halts (moment_of kind (arrived line s)) u ≡ false
+        → Evaluates rules (moment_run kind line s) (Ok tt) u
+    moment_passes e =
+        record { meets = rw (lt-ltb _ _ h, ap (rules.halts (moment_of kind (arrived line s))) (sym k) ∙ e, k) refl }
 
 pub ruleset evaluating = (gives, ends, wants_memory, breaks_off, goes_on, stops_at, passes)

@@ -34,7 +34,8 @@ module _ (bound : ℕ) (writes : Writes) where
   ends n (Over o s) h = h.2
   ends {A = A} n (At kind line s go) h =
       let next : State = written writes (s.moments + 1) (arrived line s) in
-      by_bound (nat_lt s.moments bound) (with_moment (moment_of kind (arrived line s)) (arrived line s) (trace bound writes (go next)))
+      by_bound (nat_lt s.moments bound) (with_moment (moment_of kind (arrived line s)) (arrived line s)
+      (trace bound writes (go next)))
       (ends (n + 1) (go next) (h.2 next tt))
     where
       by_bound : (b : Bool) (more : Trace A) → CanEnd (outcome_of more.end)
@@ -45,10 +46,12 @@ module _ (bound : ℕ) (writes : Writes) where
 -- how a program can end
 pub can_end : (bundle : Bundle) (bound : ℕ) (writes : List NumberedWrite) → CanEnd (outcome bundle bound writes)
 unfolding program_trace
-can_end bundle bound writes = ends bound (writes_of bundle writes) 0 (program_run bundle bound) (Always-program Nothing bundle
+can_end bundle bound writes =
+    ends bound (writes_of bundle writes) 0 (program_run bundle bound) (Always-program Nothing bundle
     (kept bundle) bound tt tt)
 
 -- an exit has one of 200 statuses
-pub exit_small : (bundle : Bundle) (bound : ℕ) (writes : List NumberedWrite) (status : ℕ) → outcome bundle bound writes ≡ way.Exit status
+pub exit_small : (bundle : Bundle) (bound : ℕ) (writes : List NumberedWrite) (status : ℕ)
+    → outcome bundle bound writes ≡ way.Exit status
     → status ≤ 199
 exit_small bundle bound writes status is = subst CanEnd is (can_end bundle bound writes)

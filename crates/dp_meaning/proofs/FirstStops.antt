@@ -13,16 +13,19 @@ use Rattle.dp_meaning.specs.Stopping.{above, first_at, first_stop, stop_of}
 use Rattle.dp_meaning.specs.Trace.{Ended, Trace, moment_of, program_trace, trace, with_moment}
 use Rattle.dp_meaning.specs.Writes.{arrived, written, writes_of}
 
-stop_of-with_moment : {A : Type 0} (o : Option (Moment × State)) (m : Moment) (s : State) (t : Trace A) → stop_of (with_moment m s t) o ≡ stop_of t o
+stop_of-with_moment : {A : Type 0} (o : Option (Moment × State)) (m : Moment) (s : State) (t : Trace A)
+    → stop_of (with_moment m s t) o ≡ stop_of t o
 stop_of-with_moment None m s t = refl
 stop_of-with_moment (Some p) m s t = refl
 
 module _ {A : Type 0} (rules : Rules) where
   drive-first : (r : Run A) → stopped (drive rules r)
-      ≡ stop_of (trace rules.bound rules.writes r) (first_at rules.halts rules.writes (trace rules.bound rules.writes r).moments)
+      ≡ stop_of (trace rules.bound rules.writes r) (first_at rules.halts rules.writes
+      (trace rules.bound rules.writes r).moments)
   drive-first (Done a s) = refl
   drive-first (Over o s) = refl
-  drive-first (At kind line s go) = cases (nat_lt s.moments rules.bound) (inner (drive-first (go t)) (rules.halts moment t))
+  drive-first (At kind line s go) =
+      cases (nat_lt s.moments rules.bound) (inner (drive-first (go t)) (rules.halts moment t))
     where
       t : State
       t = written rules.writes (s.moments + 1) (arrived line s)
@@ -36,24 +39,29 @@ module _ {A : Type 0} (rules : Rules) where
       later : Option (Moment × State)
       later = first_at rules.halts rules.writes rest.moments
 
-      inner : stopped (drive rules (go t)) ≡ stop_of rest later → (b : Bool) → stopped (if b then Stops moment t else drive rules (go t))
+      inner : stopped (drive rules (go t)) ≡ stop_of rest later → (b : Bool)
+          → stopped (if b then Stops moment t else drive rules (go t))
           ≡ stop_of (with_moment moment (arrived line s) rest) (if b then Some (moment, t) else later)
       inner ih true = refl
       inner ih false = ih ∙ sym (stop_of-with_moment later moment (arrived line s) rest)
 
       cases : (b : Bool)
           → stopped (if rules.halts moment t then Stops moment t else drive rules (go t))
-          ≡ stop_of (with_moment moment (arrived line s) rest) (if rules.halts moment t then Some (moment, t) else later)
+          ≡ stop_of (with_moment moment (arrived line s) rest)
+          (if rules.halts moment t then Some (moment, t) else later)
           → stopped (if b then (if rules.halts moment t then Stops moment t else drive rules (go t)) else Ends Bound s)
-          ≡ (let whole : Trace A = if b then with_moment moment (arrived line s) rest else (record { moments = []; end = Ended Bound; state = s }) in
+          ≡ (let whole : Trace A = if b then with_moment moment (arrived line s) rest
+          else (record { moments = []; end = Ended Bound; state = s }) in
           stop_of whole (first_at rules.halts rules.writes whole.moments))
       cases true i = i
       cases false i = refl
 
 -- ---- programs
 pub program_first : (bundle : Bundle) (ws : List NumberedWrite) (bound number : ℕ) (test : Moment → State → Bool)
-    → stopped (drive (record { bound = bound; halts = above number test; writes = writes_of bundle ws }) (program_run bundle bound))
+    → stopped (drive (record { bound = bound; halts = above number test; writes = writes_of bundle ws })
+    (program_run bundle bound))
     ≡ first_stop (program_trace bundle bound ws) (writes_of bundle ws) number test
 unfolding program_trace
 program_first bundle ws bound number test =
-    drive-first (record { bound = bound; halts = above number test; writes = writes_of bundle ws }) (program_run bundle bound)
+    drive-first (record { bound = bound; halts = above number test; writes = writes_of bundle ws })
+    (program_run bundle bound)

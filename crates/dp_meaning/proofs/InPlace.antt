@@ -30,21 +30,27 @@ base-plain Found run = refl
 
 module _ (rules : Rules) (setting : Setting) where
   -- an index that changes nothing leaves the state as it is
-  pub stays : (e : Expression) → is_pure e ≡ true → (s t : State) (at : Value) → Evaluates rules (evaluation e setting s) (Ok at) t → t ≡ s
+  pub stays : (e : Expression) → is_pure e ≡ true → (s t : State) (at : Value)
+      → Evaluates rules (evaluation e setting s) (Ok at) t → t ≡ s
   stays e pure s t at ev = go (plain-pure e pure setting s)
     where
       go : IsPlain s (evaluation e setting s) → t ≡ s
       go (Given a is) = let f : Gives a s ≡ Gives at t = sym (ap (drive rules) is) ∙ ev.meets in cc
-      go (Faulty kind is) = let f : Ends (Fatal kind (file_of s) (line_of s)) s ≡ Gives at t = sym (ap (drive rules) is) ∙ ev.meets in absurd (cc)
+      go (Faulty kind is) =
+          let f : Ends (Fatal kind (file_of s) (line_of s)) s ≡ Gives at t = sym (ap (drive rules) is)
+          ∙ ev.meets in absurd (cc)
 
   -- so what is read of a variable after it is read as if before it
-  pub reads-in-place : (entry : Data → Data → Result Data ValueError) (name : List ℕ) (e : Expression) → is_pure e ≡ true
+  pub reads-in-place : (entry : Data → Data → Result Data ValueError) (name : List ℕ) (e : Expression)
+      → is_pure e ≡ true
       → (s t : State) (at : Value) (x : Result Value Halt) → Evaluates rules (evaluation e setting s) (Ok at) t
       → Evaluates rules (value_run (entry (data_of (variable name t)) (data_of at)) t) x t
       → Evaluates rules (entry_run entry (expression_run e) (variable name s) setting s) x t
   reads-in-place entry name e pure s t at x ev f =
-      goes_on _ ev (subst (λ (u : State). Evaluates rules (value_run (entry (data_of (variable name u)) (data_of at)) t) x t) (stays e pure s t at ev) f)
+      goes_on _ ev (subst (λ (u : State). Evaluates rules (value_run (entry (data_of (variable name u)) (data_of at)) t)
+      x t) (stays e pure s t at ev) f)
 
   -- the value of a variable alone
-  pub one-variable : (name : List ℕ) (s : State) → Evaluates rules (evaluations (tree.Variable name ∷ []) setting s) (Ok (variable name s ∷ [])) s
+  pub one-variable : (name : List ℕ) (s : State)
+      → Evaluates rules (evaluations (tree.Variable name ∷ []) setting s) (Ok (variable name s ∷ [])) s
   one-variable name s = rw run-Variable (goes_on _ gives (goes_on _ gives gives))

@@ -12,11 +12,13 @@ use Rattle.dp_meaning.proofs.Drives.{gives, breaks_off, goes_on}
 use Rattle.dp_actions.proofs.Runs.{and_then-assoc, and_then-Done}
 
 -- the elements from one on
-pub front : {X : Type 0} (xs : List X) (i : ℕ) (x : X) → i < length xs → x ≡ get_or xs i x → drop i xs ≡ x ∷ drop (i + 1) xs
+pub front : {X : Type 0} (xs : List X) (i : ℕ) (x : X) → i < length xs → x ≡ get_or xs i x
+    → drop i xs ≡ x ∷ drop (i + 1) xs
 front xs i x within is = rw (add-one, drop-cons xs i x) (ap (λ y. y ∷ drop (suc i) xs) (sym is))
 
 -- the element at a position, and the elements from there on
-pub front-at : {X : Type 0} (xs : List X) (i : ℕ) → i < length xs → (x : X) × (slice_get xs i ≡ Some x) × (drop i xs ≡ x ∷ drop (suc i) xs)
+pub front-at : {X : Type 0} (xs : List X) (i : ℕ) → i < length xs
+    → (x : X) × (slice_get xs i ≡ Some x) × (drop i xs ≡ x ∷ drop (suc i) xs)
 front-at [] i h = absurd (omega arith)
 front-at (y ∷ ys) zero h = (y, refl, refl)
 front-at (y ∷ ys) (suc i) h = let r = front-at ys i (omega arith) in (r.0, r.1, r.2)
@@ -40,15 +42,21 @@ module _ (rules : Rules) (setting : Setting) where
         → Evaluates rules (more_values (e ∷ es) done setting s) (Err h) t
     values-break h ev = breaks_off _ (breaks_off _ ev)
 
-    joined : (v : Value) (u : State) → and_then (and_then (evaluations es setting u) (λ values w. Done (v ∷ values) w)) (λ values w. Done
+    joined : (v : Value) (u : State)
+        → and_then (and_then (evaluations es setting u) (λ values w. Done (v ∷ values) w)) (λ values w. Done
         (done ++ values) w)
         ≡ more_values es (done ++ v ∷ []) setting u
     unfolding and_then
-    joined v u = and_then-assoc (evaluations es setting u) (λ values w. Done (v ∷ values) w) (λ values w. Done (done ++ values) w)
+    joined v u =
+        and_then-assoc (evaluations es setting u) (λ values w. Done (v ∷ values) w)
+        (λ values w. Done (done ++ values) w)
         ∙ (λ i. and_then (evaluations es setting u) (λ values w. Done (sym (append_assoc done (v ∷ []) values) i) w))
 
-    pub values-more : (v : Value) (x : Result (List Value) Halt) (u : State) → Evaluates rules (evaluation e setting s) (Ok v) t
-        → Evaluates rules (more_values es (done ++ v ∷ []) setting t) x u → Evaluates rules (more_values (e ∷ es) done setting s) x u
+    pub values-more : (v : Value) (x : Result (List Value) Halt) (u : State)
+        → Evaluates rules (evaluation e setting s) (Ok v) t
+        → Evaluates rules (more_values es (done ++ v ∷ []) setting t) x u
+        → Evaluates rules (more_values (e ∷ es) done setting s) x u
     values-more v x u ev more =
-        subst (λ r. Evaluates rules r x u) (sym (and_then-assoc (evaluation e setting s) _ (λ values w. Done (done ++ values) w)))
+        subst (λ r. Evaluates rules r x u) (sym (and_then-assoc (evaluation e setting s) _
+        (λ values w. Done (done ++ values) w)))
         (goes_on _ ev (subst (λ r. Evaluates rules r x u) (sym (joined v t)) more))

@@ -38,7 +38,8 @@ never-on : (b : Bool) (g h : Signal) → (if b then turn.Out g else turn.Out h) 
 never-on true g h e = cc
 never-on false g h e = cc
 
-pub turn-out : (g : Signal) (next : State → Run Signal) (s : State) (out : Signal) → turn_of g ≡ turn.Out out → turn_over g next s ≡ Done out s
+pub turn-out : (g : Signal) (next : State → Run Signal) (s : State) (out : Signal) → turn_of g ≡ turn.Out out
+    → turn_over g next s ≡ Done out s
 turn-out Next next s out e = absurd (cc)
 turn-out (Break loops) next s out e = either-out (nat_le loops 1) Next (Break (loops - 1)) s next out e
 turn-out (Continue loop) next s out e = either-on (nat_le loop 1) (Continue (loop - 1)) s next out e
@@ -52,7 +53,8 @@ turn-on (Return v) next s e = absurd (cc)
 
 -- ---- `while` and `for`
 
-module _ (rules : Rules) (n line : ℕ) (test next : State → Run (List Value)) (body : State → Run Signal) (more : 0 < n) where
+module _ (rules : Rules) (n line : ℕ) (test next : State → Run (List Value)) (body : State → Run Signal)
+    (more : 0 < n) where
   turns-is : (s : State) → turns n line test next body s
       ≡ At Place line s (λ t. and_then (test t) (λ values u.
       if last_holds values then and_then (body u) (λ g v. turn_over g (λ w. and_then (next w) (λ _ x. turns
@@ -71,7 +73,8 @@ module _ (rules : Rules) (n line : ℕ) (test next : State → Run (List Value))
   turn-stops s t h e = rw turns-is (stops_at e)
 
   module _ (s t : State) (at : Evaluates rules (moment_run Place line s) (Ok tt) t) where
-    pub test-breaks : (u : State) (h : Halt) → Evaluates rules (test t) (Err h) u → Evaluates rules (turns n line test next body s) (Err h) u
+    pub test-breaks : (u : State) (h : Halt) → Evaluates rules (test t) (Err h) u
+        → Evaluates rules (turns n line test next body s) (Err h) u
     test-breaks u h e = rw turns-is (passes at (breaks_off _ e))
 
     module _ (values : List Value) (u : State) (tested : Evaluates rules (test t) (Ok values) u) where
@@ -80,44 +83,54 @@ module _ (rules : Rules) (n line : ℕ) (test next : State → Run (List Value))
 
       module _ (true-test : last_holds values ≡ true) where
         with-body : (x : Result Signal Halt) (v : State)
-            → Evaluates rules (and_then (body u) (λ g v. turn_over g (λ w. and_then (next w) (λ _ x. turns (n - 1) line test next body x)) v)) x v
+            → Evaluates rules (and_then (body u) (λ g v. turn_over g
+            (λ w. and_then (next w) (λ _ x. turns (n - 1) line test next body x)) v)) x v
             → Evaluates rules (turns n line test next body s) x v
         with-body x v e = rw turns-is (passes at (goes_on _ tested (rw true-test e)))
 
-        pub body-breaks : (v : State) (h : Halt) → Evaluates rules (body u) (Err h) v → Evaluates rules (turns n line test next body s) (Err h) v
+        pub body-breaks : (v : State) (h : Halt) → Evaluates rules (body u) (Err h) v
+            → Evaluates rules (turns n line test next body s) (Err h) v
         body-breaks v h e = with-body (Err h) v (breaks_off _ e)
 
         module _ (g : Signal) (v : State) (ran : Evaluates rules (body u) (Ok g) v) where
-          pub body-out : (out : Signal) → turn_of g ≡ turn.Out out → Evaluates rules (turns n line test next body s) (Ok out) v
+          pub body-out : (out : Signal) → turn_of g ≡ turn.Out out
+              → Evaluates rules (turns n line test next body s) (Ok out) v
           body-out out e = with-body (Ok out) v (goes_on _ ran (rw (turn-out g _ v out e) gives))
 
           module _ (on : turn_of g ≡ turn.On) where
-            pub next-breaks : (w : State) (h : Halt) → Evaluates rules (next v) (Err h) w → Evaluates rules (turns n line test next body s) (Err h) w
+            pub next-breaks : (w : State) (h : Halt) → Evaluates rules (next v) (Err h) w
+                → Evaluates rules (turns n line test next body s) (Err h) w
             next-breaks w h e = with-body (Err h) w (goes_on _ ran (rw (turn-on g _ v on) (breaks_off _ e)))
 
-            pub turn-goes-on : (after : List Value) (w : State) (x : Result Signal Halt) (y : State) → Evaluates rules (next v) (Ok after) w
-                → Evaluates rules (turns (n - 1) line test next body w) x y → Evaluates rules (turns n line test next body s) x y
+            pub turn-goes-on : (after : List Value) (w : State) (x : Result Signal Halt) (y : State)
+                → Evaluates rules (next v) (Ok after) w
+                → Evaluates rules (turns (n - 1) line test next body w) x y
+                → Evaluates rules (turns n line test next body s) x y
             turn-goes-on after w x y e f = with-body x y (goes_on _ ran (rw (turn-on g _ v on) (goes_on _ e f)))
 
 -- ---- `do`
 
 module _ (rules : Rules) (n line : ℕ) (test : State → Run Value) (body : State → Run Signal) (more : 0 < n) where
   do-is : (s : State) → do_turns n line test body s
-      ≡ and_then (body s) (λ g t. turn_over g (λ u. At Place line u (λ v. and_then (test v) (λ tested w. if holds tested then do_turns
+      ≡ and_then (body s) (λ g t. turn_over g (λ u. At Place line u
+      (λ v. and_then (test v) (λ tested w. if holds tested then do_turns
       (n - 1) line test body w else Done Next w))) t)
   do-is s = go n more
     where
       go : (n : ℕ) → 0 < n → do_turns n line test body s
-          ≡ and_then (body s) (λ g t. turn_over g (λ u. At Place line u (λ v. and_then (test v) (λ tested w. if holds tested then do_turns
+          ≡ and_then (body s) (λ g t. turn_over g (λ u. At Place line u
+          (λ v. and_then (test v) (λ tested w. if holds tested then do_turns
           (n - 1) line test body w else Done Next w))) t)
       go zero h = absurd (omega arith)
       go (suc m) h = let e : suc m - 1 ≡ m = omega arith in rw e refl
 
-  pub do-body-breaks : (s t : State) (h : Halt) → Evaluates rules (body s) (Err h) t → Evaluates rules (do_turns n line test body s) (Err h) t
+  pub do-body-breaks : (s t : State) (h : Halt) → Evaluates rules (body s) (Err h) t
+      → Evaluates rules (do_turns n line test body s) (Err h) t
   do-body-breaks s t h e = rw do-is (breaks_off _ e)
 
   module _ (s : State) (g : Signal) (t : State) (ran : Evaluates rules (body s) (Ok g) t) where
-    pub do-body-out : (out : Signal) → turn_of g ≡ turn.Out out → Evaluates rules (do_turns n line test body s) (Ok out) t
+    pub do-body-out : (out : Signal) → turn_of g ≡ turn.Out out
+        → Evaluates rules (do_turns n line test body s) (Ok out) t
     do-body-out out e = rw do-is (goes_on _ ran (rw (turn-out g _ t out e) gives))
 
     module _ (on : turn_of g ≡ turn.On) where
@@ -129,21 +142,29 @@ module _ (rules : Rules) (n line : ℕ) (test : State → Run Value) (body : Sta
         abbrev more-turns : Bool → State → Run Signal
         more-turns b w = if b then do_turns (n - 1) line test body w else Done Next w
 
-        pub do-test-breaks : (v : State) (h : Halt) → Evaluates rules (and_then (test u) (λ tested w. Done (holds tested) w)) (Err h) v
+        pub do-test-breaks : (v : State) (h : Halt)
+            → Evaluates rules (and_then (test u) (λ tested w. Done (holds tested) w)) (Err h) v
             → Evaluates rules (do_turns n line test body s) (Err h) v
-        do-test-breaks v h e = rw do-is (goes_on _ ran (rw (turn-on g _ t on) (passes at (tested_off (test u) more-turns e))))
+        do-test-breaks v h e =
+            rw do-is (goes_on _ ran (rw (turn-on g _ t on) (passes at (tested_off (test u) more-turns e))))
 
-        module _ (tested : Bool) (v : State) (ev : Evaluates rules (and_then (test u) (λ tested w. Done (holds tested) w)) (Ok tested) v) where
+        module _ (tested : Bool) (v : State) (ev : Evaluates rules
+            (and_then (test u) (λ tested w. Done (holds tested) w)) (Ok tested) v) where
           pub do-end : tested ≡ false → Evaluates rules (do_turns n line test body s) (Ok Next) v
-          do-end z = rw do-is (goes_on _ ran (rw (turn-on g _ t on) (passes at (tested_on (test u) more-turns ev (rw z gives)))))
+          do-end z =
+              rw do-is (goes_on _ ran (rw (turn-on g _ t on) (passes at
+              (tested_on (test u) more-turns ev (rw z gives)))))
 
-          pub do-goes-on : tested ≡ true → (x : Result Signal Halt) (w : State) → Evaluates rules (do_turns (n - 1) line test body v) x w
+          pub do-goes-on : tested ≡ true → (x : Result Signal Halt) (w : State)
+              → Evaluates rules (do_turns (n - 1) line test body v) x w
               → Evaluates rules (do_turns n line test body s) x w
-          do-goes-on z x w e = rw do-is (goes_on _ ran (rw (turn-on g _ t on) (passes at (tested_on (test u) more-turns ev (rw z e)))))
+          do-goes-on z x w e =
+              rw do-is (goes_on _ ran (rw (turn-on g _ t on) (passes at (tested_on (test u) more-turns ev (rw z e)))))
 
 -- ---- `foreach`
 
-module _ (rules : Rules) (line : ℕ) (binding : Binding) (entry : Key × Data) (rest : List (Key × Data)) (body : State → Run Signal) where
+module _ (rules : Rules) (line : ℕ) (binding : Binding) (entry : Key × Data) (rest : List (Key × Data))
+    (body : State → Run Signal) where
   pub each-stops : (s t : State) (h : Halt) → Evaluates rules (moment_run Place line s) (Err h) t
       → Evaluates rules (each_run line binding (entry ∷ rest) body s) (Err h) t
   each-stops s t h e = stops_at e
@@ -159,9 +180,11 @@ module _ (rules : Rules) (line : ℕ) (binding : Binding) (entry : Key × Data) 
       each-body-breaks v h e = passes at (goes_on _ bound (breaks_off _ e))
 
       module _ (g : Signal) (v : State) (ran : Evaluates rules (body u) (Ok g) v) where
-        pub each-out : (out : Signal) → turn_of g ≡ turn.Out out → Evaluates rules (each_run line binding (entry ∷ rest) body s) (Ok out) v
+        pub each-out : (out : Signal) → turn_of g ≡ turn.Out out
+            → Evaluates rules (each_run line binding (entry ∷ rest) body s) (Ok out) v
         each-out out e = passes at (goes_on _ bound (goes_on _ ran (rw (turn-out g _ v out e) gives)))
 
-        pub each-goes-on : turn_of g ≡ turn.On → (x : Result Signal Halt) (w : State) → Evaluates rules (each_run line binding rest body v) x w
+        pub each-goes-on : turn_of g ≡ turn.On → (x : Result Signal Halt) (w : State)
+            → Evaluates rules (each_run line binding rest body v) x w
             → Evaluates rules (each_run line binding (entry ∷ rest) body s) x w
         each-goes-on on x w e = passes at (goes_on _ bound (goes_on _ ran (rw (turn-on g _ v on) e)))

@@ -66,26 +66,31 @@ length-with_line line (f ∷ g ∷ fs) = ap suc (length-with_line line (g ∷ fs
 
 depth-own : (at : ℕ) (variables : Variables) (s : State) → SameDepth s (with_own at variables s)
 depth-own at variables s =
-    depth-either (at == 0) s (record s { globals = variables }) (record s { frames = with_vars at variables s.frames }) refl
+    depth-either (at == 0) s (record s { globals = variables })
+    (record s { frames = with_vars at variables s.frames }) refl
     (length-with_vars at variables s.frames)
 
 depth-value : (level : ℕ) (name : List ℕ) (v : Value) (s : State) → SameDepth s (with_value level name v s)
 depth-value level name v s = depth-either _ s _ _ refl (depth-own (owner_at s level) _ s)
 
-depth-then : (r : Result Data WriteError) (f : Data → State) (s t : State) → ((d : Data) → SameDepth s (f d)) → then_state r f ≡ Ok t → SameDepth s t
+depth-then : (r : Result Data WriteError) (f : Data → State) (s t : State) → ((d : Data) → SameDepth s (f d))
+    → then_state r f ≡ Ok t → SameDepth s t
 depth-then (Ok d) f s t h e = let same : f d ≡ t = cc in subst (SameDepth s) same (h d)
 depth-then (Err w) f s t h e = absurd (cc)
 
 depth-assigned : (level : ℕ) (name : List ℕ) (keys : List (Option Key)) (push : Bool) (v : Value) (s t : State)
     → assigned level name keys push v s ≡ Ok t → SameDepth s t
 depth-assigned level name keys push v s t e =
-    depth-then (write_result keys push (data_of v) (data_of (unwrap_or (read_at s level name) Null))) _ s t (λ d. depth-value level name
+    depth-then (write_result keys push (data_of v) (data_of (unwrap_or (read_at s level name) Null))) _ s t
+    (λ d. depth-value level name
     (value_of d) s) e
 
 depth-without : (o : Option Value) (name : List ℕ) (keys : List (Option Key)) (s t : State)
-    → option_map_or (λ value. then_state (removed keys (data_of value)) (λ d. with_value 0 name (value_of d) s)) o (Ok s) ≡ Ok t → SameDepth s t
+    → option_map_or (λ value. then_state (removed keys (data_of value)) (λ d. with_value 0 name (value_of d) s)) o
+    (Ok s) ≡ Ok t → SameDepth s t
 depth-without None name keys s t e = let same : s ≡ t = cc in subst (SameDepth s) same refl
-depth-without (Some v) name keys s t e = depth-then (removed keys (data_of v)) _ s t (λ d. depth-value 0 name (value_of d) s) e
+depth-without (Some v) name keys s t e =
+    depth-then (removed keys (data_of v)) _ s t (λ d. depth-value 0 name (value_of d) s) e
 
 depth-unset : (name : List ℕ) (keys : List (Option Key)) (s t : State) → unset name keys s ≡ Ok t → SameDepth s t
 depth-unset name [] s t e =
@@ -110,20 +115,25 @@ depth-entered : (frame : Frame) (s t : State) → entered frame s ≡ Ok t → l
 depth-entered frame s t e = subst (λ (u : State). length u.frames
     ≡ suc (length s.frames)) (either-ok _ _ _ _ e) (omega (arith, length_push s.frames frame))
 
-depth-called : (file : ℕ) (f : Function) (values : List Value) (s t : State) → called file f values s ≡ Ok t → length t.frames ≡ suc (length s.frames)
+depth-called : (file : ℕ) (f : Function) (values : List Value) (s t : State) → called file f values s ≡ Ok t
+    → length t.frames ≡ suc (length s.frames)
 depth-called file f values s t e = go (nat_le (length f.parameters) (length values)) e
   where
-    go : (b : Bool) → (if b then entered (called_frame file f values) s else Err Arguments) ≡ Ok t → length t.frames ≡ suc (length s.frames)
+    go : (b : Bool) → (if b then entered (called_frame file f values) s else Err Arguments) ≡ Ok t
+        → length t.frames ≡ suc (length s.frames)
     go true e = depth-entered (called_frame file f values) s t e
     go false e = absurd (cc)
 
-depth-included : (bundle : Bundle) (file : ℕ) (s t : State) → included bundle file s ≡ Ok t → length t.frames ≡ suc (length s.frames)
-depth-included bundle file s t e = go (nat_le (length s.frames + 1) frame_limit) (any_declared bundle s.declared (functions_of bundle file)) e
+depth-included : (bundle : Bundle) (file : ℕ) (s t : State) → included bundle file s ≡ Ok t
+    → length t.frames ≡ suc (length s.frames)
+depth-included bundle file s t e =
+    go (nat_le (length s.frames + 1) frame_limit) (any_declared bundle s.declared (functions_of bundle file)) e
   where
     more : State
     more = record s { declared = s.declared ++ functions_of bundle file }
 
-    go : (b c : Bool) → (if b then (if c then Err Redeclared else entered (included_frame file) more) else Err TooDeep) ≡ Ok t
+    go : (b c : Bool) → (if b then (if c then Err Redeclared else entered (included_frame file) more) else Err TooDeep)
+        ≡ Ok t
         → length t.frames ≡ suc (length s.frames)
     go true true e = absurd (cc)
     go true false e = depth-entered (included_frame file) more t e
@@ -151,20 +161,32 @@ module _ (bundle : Bundle) where
     unsets = λ d n name keys s t e p. (of-unset bundle name keys s t e p.0, depth-unset name keys s t e ∙ p.1);
     binds = λ d n name s p. (of-with_global bundle name s p.0, depth-global name s ∙ p.1);
     prints = λ d n piece s t e p. (of-printed bundle piece s t e p.0, depth-printed piece s t e ∙ p.1);
-    calls = λ d n file f values s t within e p. (of-called bundle file f values s t e within p.0, depth-called file f values s t e ∙ ap suc p.1);
-    includes = λ d n file s t within e p. (of-included bundle file s t e within p.0, depth-included bundle file s t e ∙ ap suc p.1);
+    calls =
+        λ d n file f values s t within e p. (
+          of-called bundle file f values s t e within p.0,
+          depth-called file f values s t e ∙ ap suc p.1,
+        );
+    includes =
+        λ d n file s t within e p. (
+          of-included bundle file s t e within p.0,
+          depth-included bundle file s t e
+              ∙ ap suc p.1,
+        );
     leaves = λ d n s p. (of-left bundle s (omega (arith, p.1)) p.0, length-left s.frames (suc d) p.1);
   }
 
   deep-arrived : (d n line : ℕ) (s : State) → IsDeep d n s → IsDeep d (n + 1) (arrived line s)
-  deep-arrived d n line s p = (of-counted bundle (on_line line s) (of-on_line bundle line s p.0), length-with_line line s.frames ∙ p.1)
+  deep-arrived d n line s p =
+      (of-counted bundle (on_line line s) (of-on_line bundle line s p.0), length-with_line line s.frames ∙ p.1)
 
   -- ---- what an evaluation leaves
-  alone-deep : {A : Type 0} (bound d n : ℕ) (r : Run A) (a : A) (t : State) → Always IsDeep d n r → alone bound r ≡ Some (a, t) → IsDeep d n t
+  alone-deep : {A : Type 0} (bound d n : ℕ) (r : Run A) (a : A) (t : State) → Always IsDeep d n r
+      → alone bound r ≡ Some (a, t) → IsDeep d n t
   alone-deep {A} bound d n (Done b s) a t h e =
       let both : (b, s) ≡ (a, t) = cc in subst (IsDeep d n) (ap (λ (p : A × State). p.1) both) h
   alone-deep bound d n (Over o s) a t h e = absurd (cc)
-  alone-deep {A} bound d n (At kind line s go) a t h e = cases (nat_lt s.moments bound) (alone-deep bound d (n + 1) (go (arrived line s)) a t
+  alone-deep {A} bound d n (At kind line s go) a t h e =
+      cases (nat_lt s.moments bound) (alone-deep bound d (n + 1) (go (arrived line s)) a t
       (h.2 _ (deep-arrived h.0 n line s h.1))) e
     where
       cases : (b : Bool) → (alone bound (go (arrived line s)) ≡ Some (a, t) → IsDeep d (n + 1) t)
@@ -172,7 +194,8 @@ module _ (bundle : Bundle) where
       cases true more e = more e
       cases false more e = absurd (cc)
 
-  evaluation-deep : (d n : ℕ) (e : Expression) (s : State) → IsDeep d n s → IsDeep d n (left_by s (evaluated (evaluation_setting bundle) e s))
+  evaluation-deep : (d n : ℕ) (e : Expression) (s : State) → IsDeep d n s
+      → IsDeep d n (left_by s (evaluated (evaluation_setting bundle) e s))
   evaluation-deep d n e s p = go (alone evaluation_limit (evaluation e (evaluation_setting bundle) u)) refl
     where
       u : State
@@ -201,7 +224,8 @@ module _ (bundle : Bundle) where
           → IsDeep d n (left_by s (recounted s.moments o))
       go None h = p
       go (Some end) h =
-          let q : IsDeep d n end.1 = alone-deep evaluation_limit d n (evaluation e (evaluation_setting bundle) u) end.0 end.1 runs h in (
+          let q : IsDeep d n end.1 = alone-deep evaluation_limit d n
+          (evaluation e (evaluation_setting bundle) u) end.0 end.1 runs h in (
             record {
               main = q.0.main;
               above = q.0.above;
@@ -217,7 +241,8 @@ module _ (bundle : Bundle) where
           )
 
   -- ---- what writes leave
-  place-deep : (d n : ℕ) (s : State) → IsDeep d n s → (r : Result State FatalKind) → ((t : State) → r ≡ Ok t → IsDeep d n t)
+  place-deep : (d n : ℕ) (s : State) → IsDeep d n s → (r : Result State FatalKind)
+      → ((t : State) → r ≡ Ok t → IsDeep d n t)
       → IsDeep d n (or_unchanged s (place_or_fault r))
   place-deep d n s p (Ok t) h = h t refl
   place-deep d n s p (Err kind) h = p
@@ -232,7 +257,8 @@ module _ (bundle : Bundle) where
   context-deep d n (suc zero) level path v s p = place-deep d n s p _ (assign-deep d n (length s.frames - 1) path v s p)
   context-deep d n (suc (suc context)) level path v s p = p
 
-  framed-deep : (b : Bool) (d n : ℕ) (s : State) (r : Result State WriteFault) → IsDeep d n s → IsDeep d n (or_unchanged s r)
+  framed-deep : (b : Bool) (d n : ℕ) (s : State) (r : Result State WriteFault) → IsDeep d n s
+      → IsDeep d n (or_unchanged s r)
       → IsDeep d n (or_unchanged s (if b then r else Err NoFrame))
   framed-deep true d n s r p q = q
   framed-deep false d n s r p q = p
@@ -242,7 +268,8 @@ module _ (bundle : Bundle) where
       (context-deep d n context level path value s p)
   one-deep d n (Evaluate e) s p = evaluation-deep d n e s p
 
-  written-deep : (ws : List NumberedWrite) (d n k : ℕ) (s : State) → IsDeep d n s → IsDeep d n (written_by (evaluation_setting bundle) ws k s)
+  written-deep : (ws : List NumberedWrite) (d n k : ℕ) (s : State) → IsDeep d n s
+      → IsDeep d n (written_by (evaluation_setting bundle) ws k s)
   written-deep [] d n k s p = p
   written-deep (w ∷ ws) d n k s p = written-deep ws d n k _ (one (nat_eq w.moment k))
     where
@@ -261,7 +288,8 @@ module _ (bundle : Bundle) where
       → AreOf (trace bound (writes_of bundle ws) r)
   trace-of bound ws d n (Done a s) h = record { moments = tt; state = h.0 }
   trace-of bound ws d n (Over o s) h = record { moments = tt; state = h.1.0 }
-  trace-of {A} bound ws d n (At kind line s go) h = cases (nat_lt s.moments bound) (trace-of bound ws d (n + 1) (go t) (h.2 t there))
+  trace-of {A} bound ws d n (At kind line s go) h =
+      cases (nat_lt s.moments bound) (trace-of bound ws d (n + 1) (go t) (h.2 t there))
     where
       here : IsDeep h.0 (n + 1) (arrived line s)
       here = deep-arrived h.0 n line s h.1
@@ -273,23 +301,28 @@ module _ (bundle : Bundle) where
       there = written-deep ws h.0 (n + 1) (s.moments + 1) (arrived line s) here
 
       cases : (b : Bool) → AreOf (trace bound (writes_of bundle ws) (go t))
-          → AreOf (if b then with_moment (moment_of kind (arrived line s)) (arrived line s) (trace bound (writes_of bundle ws) (go t)) else
+          → AreOf (if b
+          then with_moment (moment_of kind (arrived line s)) (arrived line s)
+          (trace bound (writes_of bundle ws) (go t)) else
           (record { moments = []; end = Ended way.Bound; state = s }))
       cases true more = record { moments = (here.0, more.moments); state = more.state }
       cases false more = record { moments = tt; state = h.1.0 }
 
-  pub program-of : (bound : ℕ) (ws : List NumberedWrite) → 0 < length bundle.files → AreOf (program_trace bundle bound ws)
+  pub program-of : (bound : ℕ) (ws : List NumberedWrite) → 0 < length bundle.files
+      → AreOf (program_trace bundle bound ws)
   unfolding program_trace
   program-of bound ws some = trace-of bound ws 0 0 (program_run bundle bound) (Always-program IsDeep bundle kept bound 0
       (of-opening bundle some, refl))
 
-  pub each-of : (ps : List (Moment × State)) (k : ℕ) (p : Moment × State) → Each (λ p. IsOf bundle p.1) ps → slice_get ps k ≡ Some p → IsOf bundle p.1
+  pub each-of : (ps : List (Moment × State)) (k : ℕ) (p : Moment × State) → Each (λ p. IsOf bundle p.1) ps
+      → slice_get ps k ≡ Some p → IsOf bundle p.1
   each-of [] k p all e = absurd (cc)
   each-of (q ∷ ps) zero p all e = let same : q ≡ p = cc in subst (λ (p : Moment × State). IsOf bundle p.1) same all.0
   each-of (q ∷ ps) (suc k) p all e = each-of ps k p all.1 e
 
   -- so is a state of it after its writes
-  pub written-of : (ws : List NumberedWrite) (k : ℕ) (s : State) → IsOf bundle s → IsOf bundle (written (writes_of bundle ws) k s)
+  pub written-of : (ws : List NumberedWrite) (k : ℕ) (s : State) → IsOf bundle s
+      → IsOf bundle (written (writes_of bundle ws) k s)
   written-of ws k s is = (written-deep ws (length s.frames - 1) 0 k s (is, deep)).0
     where
       deep : length s.frames ≡ suc (length s.frames - 1)
@@ -298,14 +331,17 @@ module _ (bundle : Bundle) where
   -- ---- stops
 
   -- where a run stops at the moment of a number
-  pub stop-of : (bound : ℕ) (ws : List NumberedWrite) (number : ℕ) (stop : Stop) → IsStop (program_trace bundle bound ws) (writes_of bundle ws) number stop
+  pub stop-of : (bound : ℕ) (ws : List NumberedWrite) (number : ℕ) (stop : Stop)
+      → IsStop (program_trace bundle bound ws) (writes_of bundle ws) number stop
       → 0 < length bundle.files → IsOf bundle (state_of stop)
   stop-of bound ws zero (stop.At m s) is some = absurd (cc)
   stop-of bound ws (suc k) (stop.At m s) is some =
-      subst (IsOf bundle) (sym is.2) (written-of ws (suc k) is.0 (each-of _ k (m, is.0) (program-of bound ws some).moments is.1))
+      subst (IsOf bundle) (sym is.2) (written-of ws (suc k) is.0
+      (each-of _ k (m, is.0) (program-of bound ws some).moments is.1))
   stop-of bound ws number (stop.Ended o s) is some = subst (IsOf bundle) (sym is.2) (program-of bound ws some).state
 
-  first-of : {A : Type 0} (test : Moment → State → Bool) (ws : List NumberedWrite) (t : Trace A) → IsOf bundle t.state → (ps : List (Moment × State))
+  first-of : {A : Type 0} (test : Moment → State → Bool) (ws : List NumberedWrite) (t : Trace A) → IsOf bundle t.state
+      → (ps : List (Moment × State))
       → Each (λ p. IsOf bundle p.1) ps → IsOf bundle (state_of (stop_of t (first_at test (writes_of bundle ws) ps)))
   first-of test ws t end [] all = end
   first-of test ws t end (p ∷ ps) all = by (test p.0 after) (first-of test ws t end ps all.1)
@@ -319,7 +355,9 @@ module _ (bundle : Bundle) where
       by false more = more
 
   -- where it stops at the first moment at which a test holds
-  pub first_stop-of : (bound : ℕ) (ws : List NumberedWrite) (number : ℕ) (test : Moment → State → Bool) → 0 < length bundle.files
+  pub first_stop-of : (bound : ℕ) (ws : List NumberedWrite) (number : ℕ) (test : Moment → State → Bool)
+      → 0 < length bundle.files
       → IsOf bundle (state_of (first_stop (program_trace bundle bound ws) (writes_of bundle ws) number test))
   first_stop-of bound ws number test some =
-      let all = program-of bound ws some in first-of (above number test) ws (program_trace bundle bound ws) all.state _ all.moments
+      let all = program-of bound ws some in first-of (above number test) ws
+      (program_trace bundle bound ws) all.state _ all.moments

@@ -1,4 +1,5 @@
--- An expression without calls, assignments, steps and includes gives a value or is fatal, and leaves the state as it is.
+-- An expression without calls, assignments, steps and includes gives a value or is fatal, and leaves the state as it
+-- is.
 use Rattle.std.proofs.Common.{◌≡◌, Bool, true, false, ◌&&◌, if◌then◌else◌, List, [], ◌∷◌, map, Option, Some, None, Result, Ok, Err, refl, sym, ap, ◌∙◌, subst}
 use Rattle.dp_value.specs.declared.errors.ValueError.{ValueError}
 use Rattle.dp_value.specs.declared.errors.WriteError.{WriteError}
@@ -41,13 +42,15 @@ pub data IsPlain {A : Type 0} (s : State) (r : Run A) : Type 0 where
 abbrev pub PlainPart : {A : Type 0} → Part A → Type 0
 PlainPart part = (setting : Setting) (s : State) → IsPlain s (part setting s)
 
-plain-then : {A B : Type 0} (s : State) (r : Run A) (next : A → State → Run B) → IsPlain s r → ((a : A) → IsPlain s (next a s))
+plain-then : {A B : Type 0} (s : State) (r : Run A) (next : A → State → Run B) → IsPlain s r
+    → ((a : A) → IsPlain s (next a s))
     → IsPlain s (and_then r next)
 unfolding and_then
 plain-then s r next (Given a e) k = subst (λ r. IsPlain s (and_then r next)) (sym e) (k a)
 plain-then s r next (Faulty kind e) k = Faulty kind (ap (λ r. and_then r next) e)
 
-plain-if : {A : Type 0} (b : Bool) (s : State) (x y : Run A) → IsPlain s x → IsPlain s y → IsPlain s (if b then x else y)
+plain-if : {A : Type 0} (b : Bool) (s : State) (x y : Run A) → IsPlain s x → IsPlain s y
+    → IsPlain s (if b then x else y)
 plain-if true s x y h k = h
 plain-if false s x y h k = k
 
@@ -73,9 +76,11 @@ PlainPlace place = PlainPart place.indices
 plain-values : (es : List ExpressionRun) → Each PlainExpression es → PlainPart (values_run es)
 plain-values [] each setting s = Given [] refl
 plain-values (e ∷ es) each setting s =
-    plain-then s _ _ (each.0.0 setting s) (λ v. plain-then s _ _ (plain-values es each.1 setting s) (λ values. Given (v ∷ values) refl))
+    plain-then s _ _ (each.0.0 setting s) (λ v. plain-then s _ _ (plain-values es each.1 setting s)
+    (λ values. Given (v ∷ values) refl))
 
-plain-indices : (entry : Data → Data → Result Data ValueError) (es : List ExpressionRun) → Each PlainExpression es → PlainFrom (indices_run entry es)
+plain-indices : (entry : Data → Data → Result Data ValueError) (es : List ExpressionRun) → Each PlainExpression es
+    → PlainFrom (indices_run entry es)
 plain-indices entry [] each v setting s = Given v refl
 plain-indices entry (e ∷ es) each v setting s =
     plain-then s _ _ (each.0.0 setting s) (λ i. plain-then s _ _ (plain-value (entry (data_of v) (data_of i)) s)
@@ -83,11 +88,13 @@ plain-indices entry (e ∷ es) each v setting s =
 
 plain-links : (links : List LinkRun) → Each PlainFrom links → PlainFrom (links_run links)
 plain-links [] each v setting s = Given v refl
-plain-links (link ∷ links) each v setting s = plain-then s _ _ (each.0 v setting s) (λ w. plain-links links each.1 w setting s)
+plain-links (link ∷ links) each v setting s =
+    plain-then s _ _ (each.0 v setting s) (λ w. plain-links links each.1 w setting s)
 
 plain-items : (items : List ItemRun) → Each PlainFrom items → PlainFrom (items_run items)
 plain-items [] each v setting s = Given v refl
-plain-items (item ∷ items) each v setting s = plain-then s _ _ (each.0 v setting s) (λ w. plain-items items each.1 w setting s)
+plain-items (item ∷ items) each v setting s =
+    plain-then s _ _ (each.0 v setting s) (λ w. plain-items items each.1 w setting s)
 
 plain-isset : (places : List PlaceRun) → Each PlainPlace places → PlainPart (isset_run places)
 plain-isset [] each setting s = Given (value.Bool true) refl
@@ -99,15 +106,20 @@ plain-isset (place ∷ places) each setting s =
 
 plain-operator : (op : Operator) (right : ExpressionRun) → PlainExpression right → PlainFrom (operator_run op right)
 plain-operator Or right keep v setting s =
-    plain-if (holds v) s _ _ (Given (value.Bool true) refl) (plain-then s _ _ (keep.0 setting s) (λ w. Given (value.Bool (holds w)) refl))
+    plain-if (holds v) s _ _ (Given (value.Bool true) refl) (plain-then s _ _ (keep.0 setting s)
+    (λ w. Given (value.Bool (holds w)) refl))
 plain-operator And right keep v setting s =
-    plain-if (holds v) s _ _ (plain-then s _ _ (keep.0 setting s) (λ w. Given (value.Bool (holds w)) refl)) (Given (value.Bool false) refl)
-plain-operator (Of op) right keep v setting s = plain-then s _ _ (keep.0 setting s) (λ w. plain-value (binary_of op (data_of v) (data_of w)) s)
+    plain-if (holds v) s _ _ (plain-then s _ _ (keep.0 setting s) (λ w. Given (value.Bool (holds w)) refl))
+    (Given (value.Bool false) refl)
+plain-operator (Of op) right keep v setting s =
+    plain-then s _ _ (keep.0 setting s) (λ w. plain-value (binary_of op (data_of v) (data_of w)) s)
 
 plain-item : (item : ExpressionRun) → PlainExpression item → PlainFrom (item_run None item)
-plain-item item keep array setting s = plain-then s _ _ (keep.0 setting s) (λ v. plain-write (write_result [] true (data_of v) (data_of array)) s)
+plain-item item keep array setting s =
+    plain-then s _ _ (keep.0 setting s) (λ v. plain-write (write_result [] true (data_of v) (data_of array)) s)
 
-plain-keyed : (key item : ExpressionRun) → PlainExpression key → PlainExpression item → PlainFrom (item_run (Some key) item)
+plain-keyed : (key item : ExpressionRun) → PlainExpression key → PlainExpression item
+    → PlainFrom (item_run (Some key) item)
 plain-keyed key item first keep array setting s =
     plain-then s _ _ (first.0 setting s) (λ k. plain-then s _ _ (keep.0 setting s) (λ v.
     plain-write (write_result (keys_of_indices (k ∷ [])) false (data_of v) (data_of array)) s))
@@ -120,7 +132,8 @@ both-true true false e = absurd (cc)
 both-true false b e = absurd (cc)
 
 -- parts that are pure are plain
-each-pure : {X Y : Type 0} (pure : X → Bool) (run : X → Y) (Q : Y → Type 0) (xs : List ((x : X) × (pure x ≡ true → Q (run x))))
+each-pure : {X Y : Type 0} (pure : X → Bool) (run : X → Y) (Q : Y → Type 0)
+    (xs : List ((x : X) × (pure x ≡ true → Q (run x))))
     → purity.all_pure (map pure (map (λ e. e.0) xs)) ≡ true → Each Q (map run (map (λ e. e.0) xs))
 each-pure pure run Q [] all = tt
 each-pure pure run Q (x ∷ xs) all = let h = both-true (pure x.0) (purity.all_pure (map pure (map (λ e. e.0) xs))) all in
@@ -157,27 +170,38 @@ abbrev Whole : Type 0
 Whole = Expression-F Expression Item Link Place
 
 abbrev parts : WithGood → Whole
-parts y = map-Expression WithExpression WithItem WithLink WithPlace Expression Item Link Place (λ e. e.0) (λ e. e.0) (λ e. e.0) (λ e. e.0) y
+parts y =
+    map-Expression WithExpression WithItem WithLink WithPlace Expression Item Link Place (λ e. e.0) (λ e. e.0)
+    (λ e. e.0) (λ e. e.0) y
 
 abbrev runs : Whole → Expression-F ExpressionRun ItemRun LinkRun PlaceRun
-runs x = map-Expression Expression Item Link Place ExpressionRun ItemRun LinkRun PlaceRun expression_run item_run_of link_run place_run x
+runs x =
+    map-Expression Expression Item Link Place ExpressionRun ItemRun LinkRun PlaceRun expression_run item_run_of link_run
+    place_run x
 
 abbrev tests : Whole → Expression-F Bool Bool Bool Bool
-tests x = map-Expression Expression Item Link Place Bool Bool Bool Bool purity.is_pure inside.item_is_pure inside.link_is_pure inside.place_is_pure x
+tests x =
+    map-Expression Expression Item Link Place Bool Bool Bool Bool purity.is_pure inside.item_is_pure inside.link_is_pure
+    inside.place_is_pure x
 
-plain-choice : (o : Option ExpressionRun) (v : Value) → ((e : ExpressionRun) → o ≡ Some e → PlainExpression e) → PlainPart (choice o v)
+plain-choice : (o : Option ExpressionRun) (v : Value) → ((e : ExpressionRun) → o ≡ Some e → PlainExpression e)
+    → PlainPart (choice o v)
 plain-choice None v keep setting s = Given v refl
 plain-choice (Some e) v keep setting s = (keep e refl).0 setting s
 
-plain-conditional : (test otherwise : ExpressionRun) (o : Option ExpressionRun) → PlainExpression test → PlainExpression otherwise
+plain-conditional : (test otherwise : ExpressionRun) (o : Option ExpressionRun) → PlainExpression test
+    → PlainExpression otherwise
     → ((e : ExpressionRun) → o ≡ Some e → PlainExpression e) → PlainPart (conditional test o otherwise)
 plain-conditional test otherwise o h k keep setting s =
     plain-then s _ _ (h.0 setting s) (λ v. plain-if (holds v) s _ _ (plain-choice o v keep setting s) (k.0 setting s))
 
-plain-coalesced : (left right : ExpressionRun) → PlainExpression left → PlainExpression right → PlainPart (coalesced left right)
-plain-coalesced left right h k setting s = plain-then s _ _ (h.1 setting s) (λ v. plain-if (is_missing v) s _ _ (k.0 setting s) (Given v refl))
+plain-coalesced : (left right : ExpressionRun) → PlainExpression left → PlainExpression right
+    → PlainPart (coalesced left right)
+plain-coalesced left right h k setting s =
+    plain-then s _ _ (h.1 setting s) (λ v. plain-if (is_missing v) s _ _ (k.0 setting s) (Given v refl))
 
-plain-layer : (y : WithGood) → purity.expression_layer (tests (parts y)) ≡ true → PlainExpression (expression_layer (runs (parts y)))
+plain-layer : (y : WithGood) → purity.expression_layer (tests (parts y)) ≡ true
+    → PlainExpression (expression_layer (runs (parts y)))
 plain-layer Expression-F.Null pure = (λ setting s. Given _ refl, λ setting s. Given _ refl)
 plain-layer (Expression-F.Bool b) pure = (λ setting s. Given _ refl, λ setting s. Given _ refl)
 plain-layer (Expression-F.Number m) pure = (λ setting s. Given _ refl, λ setting s. Given _ refl)
@@ -186,7 +210,8 @@ plain-layer (Expression-F.Variable name) pure = (λ setting s. Given _ refl, λ 
 plain-layer (Expression-F.Array items) pure =
     let k = plain-items _ (each-pure inside.item_is_pure item_run_of PlainFrom items pure) (value.Array empty) in (k, k)
 plain-layer (Expression-F.Call name arguments) pure = absurd (cc)
-plain-layer (Expression-F.Isset places) pure = let k = plain-isset _ (each-pure inside.place_is_pure place_run PlainPlace places pure) in (k, k)
+plain-layer (Expression-F.Isset places) pure =
+    let k = plain-isset _ (each-pure inside.place_is_pure place_run PlainPlace places pure) in (k, k)
 plain-layer (Expression-F.Index base indices) pure =
     let h = both-true (purity.is_pure base.0) _ pure in
     let each = each-pure purity.is_pure expression_run PlainExpression indices h.1 in
@@ -195,12 +220,14 @@ plain-layer (Expression-F.Index base indices) pure =
       λ setting s. plain-then s _ _ (b.1 setting s) (λ v. plain-indices looked_up _ each v setting s),
     )
 plain-layer (Expression-F.Unary op e) pure =
-    let k : PlainPart (λ setting s. and_then ((expression_run e.0).value setting s) (λ v t. value_run (unary_of op (data_of v)) t)) =
+    let k : PlainPart (λ setting s. and_then ((expression_run e.0).value setting s)
+    (λ v t. value_run (unary_of op (data_of v)) t)) =
     λ setting s. plain-then s _ _ ((e.1 pure).0 setting s) (λ v. plain-value (unary_of op (data_of v)) s) in (k, k)
 plain-layer (Expression-F.Step op order place) pure = absurd (cc)
 plain-layer (Expression-F.Chain first links) pure =
     let h = both-true (purity.is_pure first.0) _ pure in
-    let k : PlainPart (λ setting s. and_then ((expression_run first.0).value setting s) (λ v t. links_run (map link_run (map
+    let k : PlainPart (λ setting s. and_then ((expression_run first.0).value setting s)
+    (λ v t. links_run (map link_run (map
     (λ e. e.0) links)) v setting t)) =
     λ setting s. plain-then s _ _ ((first.1 h.0).0 setting s) (λ v. plain-links _
     (each-pure inside.link_is_pure link_run PlainFrom links h.1) v setting s) in (k, k)
@@ -210,11 +237,13 @@ plain-layer (Expression-F.Coalesce left right) pure =
 plain-layer (Expression-F.Conditional test None otherwise) pure =
     let h = both-true (purity.is_pure test.0) _ pure in
     let i = both-true true (purity.is_pure otherwise.0) h.1 in
-    let k = plain-conditional (expression_run test.0) (expression_run otherwise.0) None (test.1 h.0) (otherwise.1 i.1) (λ e is. absurd (cc)) in (k, k)
+    let k = plain-conditional (expression_run test.0) (expression_run otherwise.0) None (test.1 h.0) (otherwise.1 i.1)
+    (λ e is. absurd (cc)) in (k, k)
 plain-layer (Expression-F.Conditional test (Some middle) otherwise) pure =
     let h = both-true (purity.is_pure test.0) _ pure in
     let i = both-true (purity.is_pure middle.0) (purity.is_pure otherwise.0) h.1 in
-    let k = plain-conditional (expression_run test.0) (expression_run otherwise.0) (Some (expression_run middle.0)) (test.1 h.0) (otherwise.1 i.1)
+    let k = plain-conditional (expression_run test.0) (expression_run otherwise.0) (Some (expression_run middle.0))
+    (test.1 h.0) (otherwise.1 i.1)
     (λ e is. let same : expression_run middle.0 ≡ e = cc in subst PlainExpression same (middle.1 i.0)) in (k, k)
 plain-layer (Expression-F.Include how e) pure = absurd (cc)
 plain-layer (Expression-F.Assign place right) pure = absurd (cc)
@@ -223,52 +252,70 @@ plain-layer (Expression-F.CoalesceAssign place right) pure = absurd (cc)
 plain-layer (Expression-F.Push place right) pure = absurd (cc)
 
 abbrev parts-item : Item-F WithExpression WithItem WithLink WithPlace → Item-F Expression Item Link Place
-parts-item y = map-Item WithExpression WithItem WithLink WithPlace Expression Item Link Place (λ e. e.0) (λ e. e.0) (λ e. e.0) (λ e. e.0) y
+parts-item y =
+    map-Item WithExpression WithItem WithLink WithPlace Expression Item Link Place (λ e. e.0) (λ e. e.0) (λ e. e.0)
+    (λ e. e.0) y
 
 plain-item-layer : (key : Option WithExpression) (item : WithExpression)
     → (let y : Item-F WithExpression WithItem WithLink WithPlace = record { key = key; value = item } in
-    purity.item_layer (map-Item Expression Item Link Place Bool Bool Bool Bool purity.is_pure inside.item_is_pure inside.link_is_pure
+    purity.item_layer (map-Item Expression Item Link Place Bool Bool Bool Bool purity.is_pure inside.item_is_pure
+    inside.link_is_pure
     inside.place_is_pure (parts-item y)) ≡ true
-    → PlainFrom (item_layer (map-Item Expression Item Link Place ExpressionRun ItemRun LinkRun PlaceRun expression_run item_run_of link_run
+    → PlainFrom (item_layer (map-Item Expression Item Link Place ExpressionRun ItemRun LinkRun PlaceRun expression_run
+    item_run_of link_run
     place_run (parts-item y))))
-plain-item-layer None item pure = plain-item (expression_run item.0) (item.1 (both-true true (purity.is_pure item.0) pure).1)
+plain-item-layer None item pure =
+    plain-item (expression_run item.0) (item.1 (both-true true (purity.is_pure item.0) pure).1)
 plain-item-layer (Some key) item pure =
-    let h = both-true (purity.is_pure key.0) (purity.is_pure item.0) pure in plain-keyed (expression_run key.0) (expression_run item.0)
+    let h = both-true (purity.is_pure key.0) (purity.is_pure item.0) pure in plain-keyed (expression_run key.0)
+    (expression_run item.0)
     (key.1 h.0) (item.1 h.1)
 
 step-expression : (x : Whole) (y : WithGood) → parts y ≡ x → Good (roll-Expression x)
 unfolding expression_run item_run_of link_run place_run
 step-expression x y is = subst (λ z. Good (roll-Expression z)) is (λ pure.
-    subst PlainExpression (sym (fold-roll-Expression ExpressionRun ItemRun LinkRun PlaceRun expression_layer item_layer link_layer place_layer
+    subst PlainExpression (sym (fold-roll-Expression ExpressionRun ItemRun LinkRun PlaceRun expression_layer item_layer
+    link_layer place_layer
     (parts y)))
-    (plain-layer y (sym (fold-roll-Expression Bool Bool Bool Bool purity.expression_layer purity.item_layer purity.link_layer purity.place_layer
+    (plain-layer y (sym (fold-roll-Expression Bool Bool Bool Bool purity.expression_layer purity.item_layer
+    purity.link_layer purity.place_layer
     (parts y)) ∙ pure)))
 
-step-item : (x : Item-F Expression Item Link Place) (y : Item-F WithExpression WithItem WithLink WithPlace) → parts-item y ≡ x
+step-item : (x : Item-F Expression Item Link Place) (y : Item-F WithExpression WithItem WithLink WithPlace)
+    → parts-item y ≡ x
     → GoodItem (roll-Item x)
 unfolding expression_run item_run_of link_run place_run
 step-item x y is = subst (λ z. GoodItem (roll-Item z)) is (λ pure.
-    subst PlainFrom (sym (fold-roll-Item ExpressionRun ItemRun LinkRun PlaceRun expression_layer item_layer link_layer place_layer _))
+    subst PlainFrom (sym (fold-roll-Item ExpressionRun ItemRun LinkRun PlaceRun expression_layer item_layer link_layer
+    place_layer _))
     (plain-item-layer y.key y.value (sym
-    (fold-roll-Item Bool Bool Bool Bool purity.expression_layer purity.item_layer purity.link_layer purity.place_layer _) ∙ pure)))
+    (fold-roll-Item Bool Bool Bool Bool purity.expression_layer purity.item_layer purity.link_layer purity.place_layer
+    _) ∙ pure)))
 
 step-link : (x : Link-F Expression Item Link Place) (y : Link-F WithExpression WithItem WithLink WithPlace)
-    → map-Link WithExpression WithItem WithLink WithPlace Expression Item Link Place (λ e. e.0) (λ e. e.0) (λ e. e.0) (λ e. e.0) y ≡ x
+    → map-Link WithExpression WithItem WithLink WithPlace Expression Item Link Place (λ e. e.0) (λ e. e.0) (λ e. e.0)
+    (λ e. e.0) y ≡ x
     → GoodLink (roll-Link x)
 unfolding expression_run item_run_of link_run place_run
 step-link x y is = subst (λ z. GoodLink (roll-Link z)) is (λ pure.
-    subst PlainFrom (sym (fold-roll-Link ExpressionRun ItemRun LinkRun PlaceRun expression_layer item_layer link_layer place_layer _))
+    subst PlainFrom (sym (fold-roll-Link ExpressionRun ItemRun LinkRun PlaceRun expression_layer item_layer link_layer
+    place_layer _))
     (plain-operator y.operator (expression_run y.operand.0)
-    (y.operand.1 (sym (fold-roll-Link Bool Bool Bool Bool purity.expression_layer purity.item_layer purity.link_layer purity.place_layer _) ∙ pure))))
+    (y.operand.1 (sym (fold-roll-Link Bool Bool Bool Bool purity.expression_layer purity.item_layer purity.link_layer
+    purity.place_layer _) ∙ pure))))
 
 step-place : (x : Place-F Expression Item Link Place) (y : Place-F WithExpression WithItem WithLink WithPlace)
-    → map-Place WithExpression WithItem WithLink WithPlace Expression Item Link Place (λ e. e.0) (λ e. e.0) (λ e. e.0) (λ e. e.0) y ≡ x
+    → map-Place WithExpression WithItem WithLink WithPlace Expression Item Link Place (λ e. e.0) (λ e. e.0) (λ e. e.0)
+    (λ e. e.0) y ≡ x
     → GoodPlace (roll-Place x)
 unfolding expression_run item_run_of link_run place_run
 step-place x y is = subst (λ z. GoodPlace (roll-Place z)) is (λ pure.
-    subst PlainPlace (sym (fold-roll-Place ExpressionRun ItemRun LinkRun PlaceRun expression_layer item_layer link_layer place_layer _))
+    subst PlainPlace (sym (fold-roll-Place ExpressionRun ItemRun LinkRun PlaceRun expression_layer item_layer link_layer
+    place_layer _))
     (plain-values _ (each-pure purity.is_pure expression_run PlainExpression y.indices
-    (sym (fold-roll-Place Bool Bool Bool Bool purity.expression_layer purity.item_layer purity.link_layer purity.place_layer _) ∙ pure))))
+    (sym (fold-roll-Place Bool Bool Bool Bool purity.expression_layer purity.item_layer purity.link_layer
+    purity.place_layer _) ∙ pure))))
 
 pub plain-pure : (e : Expression) → purity.is_pure e ≡ true → PlainPart (evaluation e)
-plain-pure e pure = (ind-Expression Good GoodItem GoodLink GoodPlace step-expression step-item step-link step-place e pure).0
+plain-pure e pure =
+    (ind-Expression Good GoodItem GoodLink GoodPlace step-expression step-item step-link step-place e pure).0

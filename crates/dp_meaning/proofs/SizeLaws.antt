@@ -30,7 +30,8 @@ unfolding kind_size arm_size statement_size
 size-Expression e = ap kind_size (sym (kind.rolls-Expression e))
     ∙ fold-roll-StatementKind ℕ ℕ ℕ kind_layer arm_layer statement_layer (StatementKind-F.Expression e)
 
-pub size-Echo : (operands : List Expression) → kind_size (kind.Echo operands) ≡ kind_layer (StatementKind-F.Echo operands)
+pub size-Echo : (operands : List Expression)
+    → kind_size (kind.Echo operands) ≡ kind_layer (StatementKind-F.Echo operands)
 unfolding kind_size arm_size statement_size
 size-Echo operands = ap kind_size (sym (kind.rolls-Echo operands))
     ∙ fold-roll-StatementKind ℕ ℕ ℕ kind_layer arm_layer statement_layer (StatementKind-F.Echo operands)
@@ -54,18 +55,21 @@ size-DoWhile body end test = ap kind_size (sym (kind.rolls-DoWhile body end test
     ∙ fold-roll-StatementKind ℕ ℕ ℕ kind_layer arm_layer statement_layer (StatementKind-F.DoWhile body end test)
 
 pub size-For : (before tests after : List Expression) (body : Statement)
-    → kind_size (kind.For before tests after body) ≡ kind_layer (StatementKind-F.For before tests after (statement_size body))
+    → kind_size (kind.For before tests after body) ≡ kind_layer
+    (StatementKind-F.For before tests after (statement_size body))
 unfolding kind_size arm_size statement_size
 size-For before tests after body = ap kind_size (sym (kind.rolls-For before tests after body))
     ∙ fold-roll-StatementKind ℕ ℕ ℕ kind_layer arm_layer statement_layer (StatementKind-F.For before tests after body)
 
 pub size-Foreach : (subject : Expression) (binding : Binding) (body : Statement)
-    → kind_size (kind.Foreach subject binding body) ≡ kind_layer (StatementKind-F.Foreach subject binding (statement_size body))
+    → kind_size (kind.Foreach subject binding body) ≡ kind_layer
+    (StatementKind-F.Foreach subject binding (statement_size body))
 unfolding kind_size arm_size statement_size
 size-Foreach subject binding body = ap kind_size (sym (kind.rolls-Foreach subject binding body))
     ∙ fold-roll-StatementKind ℕ ℕ ℕ kind_layer arm_layer statement_layer (StatementKind-F.Foreach subject binding body)
 
-pub size-Return : (value : Option Expression) → kind_size (kind.Return value) ≡ kind_layer (StatementKind-F.Return value)
+pub size-Return : (value : Option Expression)
+    → kind_size (kind.Return value) ≡ kind_layer (StatementKind-F.Return value)
 unfolding kind_size arm_size statement_size
 size-Return value = ap kind_size (sym (kind.rolls-Return value))
     ∙ fold-roll-StatementKind ℕ ℕ ℕ kind_layer arm_layer statement_layer (StatementKind-F.Return value)
@@ -80,7 +84,8 @@ unfolding kind_size arm_size statement_size
 size-Exit value = ap kind_size (sym (kind.rolls-Exit value))
     ∙ fold-roll-StatementKind ℕ ℕ ℕ kind_layer arm_layer statement_layer (StatementKind-F.Exit value)
 
-pub size-If-None : (arms : List Arm) → kind_size (kind.If arms None) ≡ kind_layer (StatementKind-F.If (map arm_size arms) None)
+pub size-If-None : (arms : List Arm)
+    → kind_size (kind.If arms None) ≡ kind_layer (StatementKind-F.If (map arm_size arms) None)
 unfolding kind_size arm_size statement_size
 size-If-None arms = ap kind_size (sym (kind.rolls-If arms None))
     ∙ fold-roll-StatementKind ℕ ℕ ℕ kind_layer arm_layer statement_layer (StatementKind-F.If arms None)
@@ -106,21 +111,25 @@ size-arm arm = fold_out-Arm ℕ ℕ ℕ kind_layer arm_layer statement_layer arm
 
 -- ---- lists
 
-pub size-in : {X : Type 0} (size : X → ℕ) (xs : List X) (i : ℕ) (x : X) → i < length xs → x ≡ get_or xs i x → size x < sizes_sum (map size xs)
+pub size-in : {X : Type 0} (size : X → ℕ) (xs : List X) (i : ℕ) (x : X) → i < length xs → x ≡ get_or xs i x
+    → size x < sizes_sum (map size xs)
 size-in size [] i x h e = absurd (omega arith)
 size-in size (y ∷ xs) zero x h e = let f : size x ≡ size y = ap size e in omega arith
-size-in size (y ∷ xs) (suc i) x h e = let f : size x < sizes_sum (map size xs) = size-in size xs i x (omega arith) e in omega arith
+size-in size (y ∷ xs) (suc i) x h e =
+    let f : size x < sizes_sum (map size xs) = size-in size xs i x (omega arith) e in omega arith
 
 pub size-some : {X : Type 0} (size : X → ℕ) (o : Option X) (x : X) → o ≡ Some x → option_map_or size o 0 ≡ size x
 size-some size o x e = ap (λ o. option_map_or size o 0) e
 
 -- ---- bundles
 
-functions-hold : (fs : List Function) (i : ℕ) (f : Function) → slice_get fs i ≡ Some f → body_size f.body ≤ functions_size fs
+functions-hold : (fs : List Function) (i : ℕ) (f : Function) → slice_get fs i ≡ Some f
+    → body_size f.body ≤ functions_size fs
 functions-hold [] i f e = absurd (cc)
 functions-hold (g ∷ fs) zero f e = let same : g ≡ f = cc in let h : body_size f.body
     ≡ body_size g.body = ap (λ (f : Function). body_size f.body) (sym same) in omega arith
-functions-hold (g ∷ fs) (suc i) f e = let h : body_size f.body ≤ functions_size fs = functions-hold fs i f e in omega arith
+functions-hold (g ∷ fs) (suc i) f e =
+    let h : body_size f.body ≤ functions_size fs = functions-hold fs i f e in omega arith
 
 files-least : (files : List BundleFile) → 3 ≤ files_size files
 files-least [] = omega arith
@@ -131,12 +140,14 @@ files-hold : (files : List BundleFile) (i : ℕ) (file : BundleFile) → slice_g
 files-hold [] i file e = absurd (cc)
 files-hold (g ∷ files) zero file e =
     let same : g ≡ file = cc in
-    let h : body_size file.tree.body + functions_size file.tree.functions ≡ body_size g.tree.body + functions_size g.tree.functions =
+    let h : body_size file.tree.body + functions_size file.tree.functions ≡ body_size g.tree.body + functions_size
+    g.tree.functions =
     ap (λ (f : BundleFile). body_size f.tree.body + functions_size f.tree.functions) (sym same) in
     let k : 3 ≤ files_size files = files-least files in
     omega arith
 files-hold (g ∷ files) (suc i) file e =
-    let h : body_size file.tree.body + functions_size file.tree.functions + 2 ≤ files_size files = files-hold files i file e in omega arith
+    let h : body_size file.tree.body + functions_size file.tree.functions + 2 ≤ files_size files = files-hold files i
+    file e in omega arith
 
 pub frame-function : (bundle : Bundle) (reference : FunctionRef) (f : Function) → function_at bundle reference ≡ Some f
     → body_size f.body + 1 < frame_size bundle
@@ -144,43 +155,54 @@ unfolding frame_size
 frame-function bundle reference f e = go (slice_get bundle.files reference.file) refl e
   where
     go : (o : Option BundleFile) → slice_get bundle.files reference.file ≡ o
-        → option_map_or (λ file. slice_get file.tree.functions reference.function) o None ≡ Some f → body_size f.body + 1 < files_size bundle.files
+        → option_map_or (λ file. slice_get file.tree.functions reference.function) o None ≡ Some f
+        → body_size f.body + 1 < files_size bundle.files
     go None h e = absurd (cc)
     go (Some file) h e =
-        let k : body_size file.tree.body + functions_size file.tree.functions + 2 ≤ files_size bundle.files = files-hold bundle.files
+        let k : body_size file.tree.body + functions_size file.tree.functions + 2 ≤ files_size bundle.files = files-hold
+        bundle.files
         reference.file file h in
-        let l : body_size f.body ≤ functions_size file.tree.functions = functions-hold file.tree.functions reference.function f e in
+        let l : body_size f.body ≤ functions_size file.tree.functions = functions-hold file.tree.functions
+        reference.function f e in
         omega arith
 
 pub frame-file : (bundle : Bundle) (file : ℕ) → body_size (statements_of bundle file) + 1 < frame_size bundle
 unfolding frame_size
 frame-file bundle file = go (slice_get bundle.files file) refl
   where
-    go : (o : Option BundleFile) → slice_get bundle.files file ≡ o → body_size (option_map_or (λ f. f.tree.body) o []) + 1 < files_size bundle.files
+    go : (o : Option BundleFile) → slice_get bundle.files file ≡ o
+        → body_size (option_map_or (λ f. f.tree.body) o []) + 1 < files_size bundle.files
     go None h = let k : 3 ≤ files_size bundle.files = files-least bundle.files in omega arith
-    go (Some f) h = let k : body_size f.tree.body + functions_size f.tree.functions + 2 ≤ files_size bundle.files = files-hold bundle.files file f
+    go (Some f) h =
+        let k : body_size f.tree.body + functions_size f.tree.functions + 2 ≤ files_size bundle.files = files-hold
+        bundle.files file f
         h in omega arith
 
 -- the body of a declared callee fits into a frame
-pub frame-callee : (bundle : Bundle) (name : List ℕ) (s : State) (file : ℕ) (f : Function) → callee bundle name s ≡ Some (Declared file f)
+pub frame-callee : (bundle : Bundle) (name : List ℕ) (s : State) (file : ℕ) (f : Function)
+    → callee bundle name s ≡ Some (Declared file f)
     → body_size f.body + 1 < frame_size bundle
 frame-callee bundle name s file f e = go (builtin_named name) (declared_function bundle name s.declared) e
   where
     found : (reference : FunctionRef) (o : Option Function) → function_at bundle reference ≡ o
-        → option_map_or (λ g. Some (Declared reference.file g)) o None ≡ Some (Declared file f) → body_size f.body + 1 < frame_size bundle
+        → option_map_or (λ g. Some (Declared reference.file g)) o None ≡ Some (Declared file f)
+        → body_size f.body + 1 < frame_size bundle
     found reference None h e = absurd (cc)
-    found reference (Some g) h e = let same : g ≡ f = cc in subst (λ (f : Function). body_size f.body + 1 < frame_size bundle) same
+    found reference (Some g) h e =
+        let same : g ≡ f = cc in subst (λ (f : Function). body_size f.body + 1 < frame_size bundle) same
         (frame-function bundle reference g h)
 
     go : (o : Option Builtin) (r : Option FunctionRef)
-        → option_map_or (λ b. Some (BuiltIn b)) o (option_map_or (declared_callee bundle) r None) ≡ Some (Declared file f)
+        → option_map_or (λ b. Some (BuiltIn b)) o (option_map_or (declared_callee bundle) r None) ≡ Some
+        (Declared file f)
         → body_size f.body + 1 < frame_size bundle
     go None None e = absurd (cc)
     go None (Some reference) e = found reference (function_at bundle reference) refl e
     go (Some b) r e = absurd (cc)
 
 -- a frame less makes room for a body
-pub frame_less : (depth frame body : ℕ) → (depth ≡ 0 → ⊥) → body + 1 < frame → (depth - 1) * frame + (body + 1) < depth * frame
+pub frame_less : (depth frame body : ℕ) → (depth ≡ 0 → ⊥) → body + 1 < frame
+    → (depth - 1) * frame + (body + 1) < depth * frame
 frame_less zero frame body h k = absurd (h refl)
 frame_less (suc depth) frame body h k =
     let e : suc depth - 1 ≡ depth = omega arith in

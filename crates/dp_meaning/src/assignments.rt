@@ -17,7 +17,8 @@ impl<O: Outside> Evaluator<'_, O> {
     ghost use Rattle.dp_meaning.specs.inner.Drive.{Evaluates};
     ghost use Rattle.dp_meaning.specs.inner.Evaluation.{goes_by};
     ghost use Rattle.dp_actions.specs.Expressions.{evaluation, place_run};
-    ghost use Rattle.dp_actions.specs.Places.{assignment, coalescing, coalescing_under, compound, compound_under, found_at, isset_run, step};
+    ghost use Rattle.dp_actions.specs.Places.{assignment, coalescing, coalescing_under, compound, compound_under};
+    ghost use Rattle.dp_actions.specs.Places.{found_at, isset_run, step};
 
     /// `place = right`, or `place[] = right`
     #[cycle(evaluate)]
@@ -28,7 +29,8 @@ impl<O: Outside> Evaluator<'_, O> {
         push: bool,
         state: &mut State,
     ) -> Result<Value, Halt>
-        ensures { Evaluates (O.rules self.now.outside.now) (assignment push (place_run place.now) (evaluation right.now) (goes_by self.now) state.old) result state.new }
+        ensures { Evaluates (O.rules self.now.outside.now) (assignment push (place_run place.now)
+            (evaluation right.now) (goes_by self.now) state.old) result state.new }
     {
         let indices = self.values(place.indices.as_slice(), state)?;
         then_assign(
@@ -50,7 +52,8 @@ impl<O: Outside> Evaluator<'_, O> {
         right: &Expression,
         state: &mut State,
     ) -> Result<Value, Halt>
-        ensures { Evaluates (O.rules self.now.outside.now) (compound op (place_run place.now) (evaluation right.now) (goes_by self.now) state.old) result state.new }
+        ensures { Evaluates (O.rules self.now.outside.now) (compound op (place_run place.now) (evaluation right.now)
+            (goes_by self.now) state.old) result state.new }
     {
         let indices = self.values(place.indices.as_slice(), state)?;
         self.compound_under(op, &place.name, indices.as_slice(), right, state)
@@ -66,7 +69,8 @@ impl<O: Outside> Evaluator<'_, O> {
         right: &Expression,
         state: &mut State,
     ) -> Result<Value, Halt>
-        ensures { Evaluates (O.rules self.now.outside.now) (compound_under op name.now (evaluation right.now) indices.now (goes_by self.now) state.old) result state.new }
+        ensures { Evaluates (O.rules self.now.outside.now) (compound_under op name.now
+            (evaluation right.now) indices.now (goes_by self.now) state.old) result state.new }
     {
         let old = read_place(self.alloc, name, indices, state)?;
         let value = self.expression(right, state);
@@ -83,7 +87,8 @@ impl<O: Outside> Evaluator<'_, O> {
         right: &Expression,
         state: &mut State,
     ) -> Result<Value, Halt>
-        ensures { Evaluates (O.rules self.now.outside.now) (coalescing (place_run place.now) (evaluation right.now) (goes_by self.now) state.old) result state.new }
+        ensures { Evaluates (O.rules self.now.outside.now) (coalescing (place_run place.now) (evaluation right.now)
+            (goes_by self.now) state.old) result state.new }
     {
         let indices = self.values(place.indices.as_slice(), state)?;
         self.coalesce_under(&place.name, indices.as_slice(), right, state)
@@ -98,7 +103,8 @@ impl<O: Outside> Evaluator<'_, O> {
         right: &Expression,
         state: &mut State,
     ) -> Result<Value, Halt>
-        ensures { Evaluates (O.rules self.now.outside.now) (coalescing_under name.now (evaluation right.now) indices.now (goes_by self.now) state.old) result state.new }
+        ensures { Evaluates (O.rules self.now.outside.now) (coalescing_under name.now
+            (evaluation right.now) indices.now (goes_by self.now) state.old) result state.new }
     {
         let old = found_place(self.alloc, name, indices, state)?;
         match present(old) {
@@ -123,7 +129,8 @@ impl<O: Outside> Evaluator<'_, O> {
         place: &Place,
         state: &mut State,
     ) -> Result<Value, Halt>
-        ensures { Evaluates (O.rules self.now.outside.now) (step op order (place_run place.now) (goes_by self.now) state.old) result state.new }
+        ensures { Evaluates (O.rules self.now.outside.now) (step op order (place_run place.now)
+            (goes_by self.now) state.old) result state.new }
     {
         then_step(
             self.alloc,
@@ -138,7 +145,8 @@ impl<O: Outside> Evaluator<'_, O> {
     /// `isset`
     #[cycle(evaluate)]
     pub(crate) fn isset(&self, places: &[Place], state: &mut State) -> Result<Value, Halt>
-        ensures { Evaluates (O.rules self.now.outside.now) (isset_run (map place_run places.now) (goes_by self.now) state.old) result state.new }
+        ensures { Evaluates (O.rules self.now.outside.now) (isset_run (map place_run places.now)
+            (goes_by self.now) state.old) result state.new }
     {
         for place in places {
             let found = self.found_at(place, state)?;
@@ -154,7 +162,8 @@ impl<O: Outside> Evaluator<'_, O> {
     // The value of a place as isset finds it.
     #[cycle(evaluate)]
     fn found_at(&self, place: &Place, state: &mut State) -> Result<Value, Halt>
-        ensures { Evaluates (O.rules self.now.outside.now) (found_at (place_run place.now) (goes_by self.now) state.old) result state.new }
+        ensures { Evaluates (O.rules self.now.outside.now) (found_at (place_run place.now)
+            (goes_by self.now) state.old) result state.new }
     {
         then_found(
             self.alloc,

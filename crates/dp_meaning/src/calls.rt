@@ -30,7 +30,9 @@ impl<O: Outside> Evaluator<'_, O> {
         arguments: &[Expression],
         state: &mut State,
     ) -> Result<Value, Halt>
-        ensures { Evaluates (O.rules self.now.outside.now) (call_run (callee_named self.now.bundle.now name.now state.old) (evaluations arguments.now) (goes_by self.now) state.old) result state.new }
+        ensures { Evaluates (O.rules self.now.outside.now) (call_run
+            (callee_named self.now.bundle.now name.now state.old) (evaluations arguments.now)
+            (goes_by self.now) state.old) result state.new }
     {
         match look_up(self.bundle, name, state) {
             None => Err(fatal(FatalKind::NoFunction, state)),
@@ -50,7 +52,8 @@ impl<O: Outside> Evaluator<'_, O> {
         arguments: &[Expression],
         state: &mut State,
     ) -> Result<Value, Halt>
-        ensures { Evaluates (O.rules self.now.outside.now) (call_run (Some (BuiltIn function)) (evaluations arguments.now) (goes_by self.now) state.old) result state.new }
+        ensures { Evaluates (O.rules self.now.outside.now) (call_run (Some (BuiltIn function))
+            (evaluations arguments.now) (goes_by self.now) state.old) result state.new }
     {
         match only_variable(arguments) {
             Some(name) => builtin_in_place(self.alloc, function, name, state),
@@ -71,7 +74,8 @@ impl<O: Outside> Evaluator<'_, O> {
         state: &mut State,
     ) -> Result<Value, Halt>
         requires { body_size function.now.body + 1 < frame_size self.now.bundle.now }
-        ensures { Evaluates (O.rules self.now.outside.now) ((goes_by self.now).call file function.now values state.old) result state.new }
+        ensures { Evaluates (O.rules self.now.outside.now) ((goes_by self.now).call file function.now values
+            state.old) result state.new }
     {
         if self.depth == 0 {
             return Err(fatal(FatalKind::TooDeep, state));
@@ -95,7 +99,8 @@ impl<O: Outside> Evaluator<'_, O> {
         values: Items<Value>,
         state: &mut State,
     ) -> Result<Value, Halt>
-        ensures { Evaluates (O.rules self.now.outside.now) (function_run file function.now values (goes_by self.now) state.old) result state.new }
+        ensures { Evaluates (O.rules self.now.outside.now) (function_run file function.now values
+            (goes_by self.now) state.old) result state.new }
     {
         enter_call(file, function, values, state)?;
         self.outside
@@ -129,7 +134,8 @@ impl<O: Outside> Evaluator<'_, O> {
         name: &Value,
         state: &mut State,
     ) -> Result<Value, Halt>
-        ensures { Evaluates (O.rules self.now.outside.now) (include_run how name.now (goes_by self.now) state.old) result state.new }
+        ensures { Evaluates (O.rules self.now.outside.now) (include_run how name.now (goes_by self.now) state.old)
+            result state.new }
     {
         match file_named_by(self.alloc, self.bundle, name)? {
             None => not_included(how, state),
@@ -140,7 +146,8 @@ impl<O: Outside> Evaluator<'_, O> {
     // The run of the file of this number.
     #[cycle(evaluate)]
     fn file(&self, file: u32, state: &mut State) -> Result<Value, Halt>
-        ensures { Evaluates (O.rules self.now.outside.now) ((goes_by self.now).include file state.old) result state.new }
+        ensures { Evaluates (O.rules self.now.outside.now) ((goes_by self.now).include file state.old) result
+            state.new }
     {
         if self.depth == 0 {
             return Err(fatal(FatalKind::TooDeep, state));
@@ -158,7 +165,8 @@ impl<O: Outside> Evaluator<'_, O> {
     // The run of the file of this number, where one frame more can be on the stack.
     #[cycle(evaluate)]
     fn included(&self, file: u32, state: &mut State) -> Result<Value, Halt>
-        ensures { Evaluates (O.rules self.now.outside.now) (file_run file (goes_by self.now) state.old) result state.new }
+        ensures { Evaluates (O.rules self.now.outside.now) (file_run file (goes_by self.now) state.old) result
+            state.new }
     {
         enter_file(self.bundle, file, state)?;
         let signal = self.body(statements_of(self.bundle, file), state)?;

@@ -17,7 +17,8 @@ impl<O: Outside> Evaluator<'_, O> {
     /// The value of an expression.
     #[cycle(evaluate)]
     pub(crate) fn expression(&self, e: &Expression, state: &mut State) -> Result<Value, Halt>
-        ensures { Evaluates (O.rules self.now.outside.now) ((expression_run e.now).value (goes_by self.now) state.old) result state.new }
+        ensures { Evaluates (O.rules self.now.outside.now) ((expression_run e.now).value (goes_by self.now) state.old)
+            result state.new }
     {
         match e {
             Expression::Null => Ok(Value::Null),
@@ -60,7 +61,8 @@ impl<O: Outside> Evaluator<'_, O> {
     /// The value of an expression to the left of `??`.
     #[cycle(evaluate)]
     pub(crate) fn found(&self, e: &Expression, state: &mut State) -> Result<Value, Halt>
-        ensures { Evaluates (O.rules self.now.outside.now) ((expression_run e.now).found (goes_by self.now) state.old) result state.new }
+        ensures { Evaluates (O.rules self.now.outside.now) ((expression_run e.now).found (goes_by self.now) state.old)
+            result state.new }
     {
         match e {
             Expression::Index(base, indices) => self.index(
@@ -76,7 +78,8 @@ impl<O: Outside> Evaluator<'_, O> {
     /// The values of expressions, one after another.
     #[cycle(evaluate)]
     pub(crate) fn values(&self, all: &[Expression], state: &mut State) -> Result<Items<Value>, Halt>
-        ensures { Evaluates (O.rules self.now.outside.now) (evaluations all.now (goes_by self.now) state.old) result state.new }
+        ensures { Evaluates (O.rules self.now.outside.now) (evaluations all.now (goes_by self.now) state.old) result
+            state.new }
     {
         let mut values = Vec::new(self.alloc);
         for e in all {
@@ -88,7 +91,8 @@ impl<O: Outside> Evaluator<'_, O> {
     // The value of an `include` or a `require`.
     #[cycle(evaluate)]
     fn inclusion(&self, how: Inclusion, file: &Expression, state: &mut State) -> Result<Value, Halt>
-        ensures { Evaluates (O.rules self.now.outside.now) (included how (expression_run file.now) (goes_by self.now) state.old) result state.new }
+        ensures { Evaluates (O.rules self.now.outside.now) (included how (expression_run file.now)
+            (goes_by self.now) state.old) result state.new }
     {
         let value = self.expression(file, state)?;
         let answer = self.include(how, &value, state);

@@ -27,7 +27,8 @@ impl<O: Outside> Evaluator<'_, O> {
         indices: &[Expression],
         state: &mut State,
     ) -> Result<Value, Halt>
-        ensures { Evaluates (O.rules self.now.outside.now) (entry_under reading (expression_run base.now) (map expression_run indices.now) (goes_by self.now) state.old) result state.new }
+        ensures { Evaluates (O.rules self.now.outside.now) (entry_under reading (expression_run base.now)
+            (map expression_run indices.now) (goes_by self.now) state.old) result state.new }
     {
         match entry_of(base, indices) {
             Some(entry) => {
@@ -44,7 +45,8 @@ impl<O: Outside> Evaluator<'_, O> {
     // The value of what indices stand behind.
     #[cycle(evaluate)]
     fn base(&self, reading: Reading, e: &Expression, state: &mut State) -> Result<Value, Halt>
-        ensures { Evaluates (O.rules self.now.outside.now) (base_run reading (expression_run e.now) (goes_by self.now) state.old) result state.new }
+        ensures { Evaluates (O.rules self.now.outside.now) (base_run reading (expression_run e.now)
+            (goes_by self.now) state.old) result state.new }
     {
         match reading {
             Reading::Plain => self.expression(e, state),
@@ -61,7 +63,8 @@ impl<O: Outside> Evaluator<'_, O> {
         indices: &[Expression],
         state: &mut State,
     ) -> Result<Value, Halt>
-        ensures { Evaluates (O.rules self.now.outside.now) (indices_run (entries_by reading) (map expression_run indices.now) base (goes_by self.now) state.old) result state.new }
+        ensures { Evaluates (O.rules self.now.outside.now) (indices_run (entries_by reading)
+            (map expression_run indices.now) base (goes_by self.now) state.old) result state.new }
     {
         let mut value = base;
         for e in indices {
@@ -82,7 +85,8 @@ impl<O: Outside> Evaluator<'_, O> {
         state: &mut State,
     ) -> Result<Value, Halt>
         requires { is_pure e.now ≡ true }
-        ensures { Evaluates (O.rules self.now.outside.now) (entry_run (entries_by reading) (expression_run e.now) (variable name.now state.old) (goes_by self.now) state.old) result state.new }
+        ensures { Evaluates (O.rules self.now.outside.now) (entry_run (entries_by reading) (expression_run e.now)
+            (variable name.now state.old) (goes_by self.now) state.old) result state.new }
     {
         let at = self.expression(e, state)?;
         let answer = entry_in_place(self.alloc, reading, name, &at, state);

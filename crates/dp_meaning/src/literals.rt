@@ -21,7 +21,8 @@ impl<O: Outside> Evaluator<'_, O> {
     /// The value of a literal.
     #[cycle(evaluate)]
     pub(crate) fn array(&self, items: &[Item], state: &mut State) -> Result<Value, Halt>
-        ensures { Evaluates (O.rules self.now.outside.now) (items_run (map item_run_of items.now) (variant.Array empty) (goes_by self.now) state.old) result state.new }
+        ensures { Evaluates (O.rules self.now.outside.now) (items_run (map item_run_of items.now)
+            (variant.Array empty) (goes_by self.now) state.old) result state.new }
     {
         let mut array = Value::Array(PhpArray::new(self.alloc));
         for item in items {
@@ -33,7 +34,8 @@ impl<O: Outside> Evaluator<'_, O> {
     // A literal with one item more.
     #[cycle(evaluate)]
     fn item(&self, item: &Item, array: Value, state: &mut State) -> Result<Value, Halt>
-        ensures { Evaluates (O.rules self.now.outside.now) (item_run_of item.now array (goes_by self.now) state.old) result state.new }
+        ensures { Evaluates (O.rules self.now.outside.now) (item_run_of item.now array (goes_by self.now) state.old)
+            result state.new }
     {
         match &item.key {
             None => then_pushed(
@@ -55,7 +57,8 @@ impl<O: Outside> Evaluator<'_, O> {
         array: Value,
         state: &mut State,
     ) -> Result<Value, Halt>
-        ensures { Evaluates (O.rules self.now.outside.now) (item_run (Some (expression_run key.now)) (expression_run item.now) array (goes_by self.now) state.old) result state.new }
+        ensures { Evaluates (O.rules self.now.outside.now) (item_run (Some (expression_run key.now))
+            (expression_run item.now) array (goes_by self.now) state.old) result state.new }
     {
         match self.expression(key, state) {
             Ok(at) => {

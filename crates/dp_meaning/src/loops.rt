@@ -28,7 +28,9 @@ impl<O: Outside> Evaluator<'_, O> {
         body: &Statement,
         state: &mut State,
     ) -> Result<Signal, Halt>
-        ensures { Evaluates (O.rules self.now.outside.now) (turns left line (evaluations tests.now (goes_by self.now)) (evaluations after.now (goes_by self.now)) (statement_run body.now (goes_by self.now)) state.old) result state.new }
+        ensures { Evaluates (O.rules self.now.outside.now) (turns left line (evaluations tests.now (goes_by self.now))
+            (evaluations after.now (goes_by self.now)) (statement_run body.now (goes_by self.now)) state.old) result
+            state.new }
     {
         for _turn in 0..left {
             self.place(line, state)?;
@@ -59,7 +61,8 @@ impl<O: Outside> Evaluator<'_, O> {
         body: &Statement,
         state: &mut State,
     ) -> Result<Signal, Halt>
-        ensures { Evaluates (O.rules self.now.outside.now) (for_part line before.now tests.now after.now (statement_run body.now) (goes_by self.now) state.old) result state.new }
+        ensures { Evaluates (O.rules self.now.outside.now) (for_part line before.now tests.now after.now
+            (statement_run body.now) (goes_by self.now) state.old) result state.new }
     {
         let done = self.values(before, state)?;
         drop(done);
@@ -76,7 +79,9 @@ impl<O: Outside> Evaluator<'_, O> {
         body: &Statement,
         state: &mut State,
     ) -> Result<Signal, Halt>
-        ensures { Evaluates (O.rules self.now.outside.now) (do_turns left line (evaluation test.now (goes_by self.now)) (statement_run body.now (goes_by self.now)) state.old) result state.new }
+        ensures { Evaluates (O.rules self.now.outside.now) (do_turns left line
+            (evaluation test.now (goes_by self.now)) (statement_run body.now (goes_by self.now)) state.old) result
+            state.new }
     {
         for _turn in 0..left {
             match turn_over(self.statement(body, state)?) {
@@ -102,7 +107,8 @@ impl<O: Outside> Evaluator<'_, O> {
         body: &Statement,
         state: &mut State,
     ) -> Result<Signal, Halt>
-        ensures { Evaluates (O.rules self.now.outside.now) (foreach_part line binding.now (expression_run subject.now) (statement_run body.now) (goes_by self.now) state.old) result state.new }
+        ensures { Evaluates (O.rules self.now.outside.now) (foreach_part line binding.now (expression_run subject.now)
+            (statement_run body.now) (goes_by self.now) state.old) result state.new }
     {
         let subject = self.expression(subject, state)?;
         let answer = self.each(0, line, binding, &subject, body, state);
@@ -121,7 +127,8 @@ impl<O: Outside> Evaluator<'_, O> {
         body: &Statement,
         state: &mut State,
     ) -> Result<Signal, Halt>
-        ensures { Evaluates (O.rules self.now.outside.now) (each_run line binding.now (drop from (entries subject.now)) (statement_run body.now (goes_by self.now)) state.old) result state.new }
+        ensures { Evaluates (O.rules self.now.outside.now) (each_run line binding.now
+            (drop from (entries subject.now)) (statement_run body.now (goes_by self.now)) state.old) result state.new }
     {
         let Value::Array(array) = subject else {
             return Ok(Signal::Next);

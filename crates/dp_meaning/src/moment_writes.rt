@@ -5,7 +5,8 @@ ghost use Rattle.dp_actions.specs.declared.halt.Halt.TheVariants as halt;
 ghost use Rattle.dp_state.specs.Places.{assigned, given_keys as all_given};
 ghost use Rattle.dp_meaning.specs.inner.Drive.{ComesTo, IsHeld, drive, quiet};
 ghost use Rattle.dp_actions.specs.Expressions.{evaluation as expression_value};
-ghost use Rattle.dp_meaning.specs.Writes.{evaluated, evaluation_limit, evaluation_setting, left_by, one_write, or_unchanged, place_or_fault, with_place, written_by};
+ghost use Rattle.dp_meaning.specs.Writes.{evaluated, evaluation_limit, evaluation_setting, left_by, one_write};
+ghost use Rattle.dp_meaning.specs.Writes.{or_unchanged, place_or_fault, with_place, written_by};
 
 use crate::evaluator::Evaluator;
 use crate::pure::Quiet;
@@ -20,8 +21,8 @@ use std::mem;
 /// How many moments an evaluation may have.
 pub(crate) const EVALUATION_LIMIT: u64 = 10_000;
 
-/// Makes those of the writes that have a number, in their order, in a state. It fails for lack of memory alone, and then
-/// nothing is said of the state.
+/// Makes those of the writes that have a number, in their order, in a state. It fails for lack of memory alone, and
+/// then nothing is said of the state.
 pub fn write_all(
     alloc: Global,
     bundle: &Bundle,
@@ -91,7 +92,8 @@ fn write_variable(
     value: &Value,
     state: &mut State,
 ) -> Result<(), Memory>
-    ensures { OnOk result (state.new ≡ or_unchanged state.old (place_or_fault (assigned level path.now.name (all_given path.now.keys) false value.now state.old))) }
+    ensures { OnOk result (state.new ≡ or_unchanged state.old
+        (place_or_fault (assigned level path.now.name (all_given path.now.keys) false value.now state.old))) }
 {
     let keys = given_keys(alloc, path.keys.as_slice())?;
     write_keyed(level, &path.name, keys.as_slice(), value, state)
@@ -105,7 +107,8 @@ fn write_keyed(
     value: &Value,
     state: &mut State,
 ) -> Result<(), Memory>
-    ensures { OnOk result (state.new ≡ or_unchanged state.old (place_or_fault (assigned level name.now keys.now false value.now state.old))) }
+    ensures { OnOk result (state.new ≡ or_unchanged state.old
+        (place_or_fault (assigned level name.now keys.now false value.now state.old))) }
 {
     match state.assign(level, name, keys, false, value.try_clone()?) {
         Ok(()) => Ok(()),
@@ -116,7 +119,8 @@ fn write_keyed(
 
 // Evaluates an expression in the top frame.
 fn evaluate(alloc: Global, bundle: &Bundle, e: &Expression, state: &mut State) -> Result<(), Halt>
-    ensures ok { OnOk result (state.new ≡ left_by state.old (evaluated (evaluation_setting bundle.now) e.now state.old)) }
+    ensures ok { OnOk result (state.new ≡ left_by state.old (evaluated
+        (evaluation_setting bundle.now) e.now state.old)) }
     ensures err { OnErr result (result ≡ Err halt.Memory) }
 {
     let (value, after) = evaluation(alloc, bundle, e, state)?;
@@ -137,16 +141,17 @@ fn keep(holds: bool, after: State, state: &mut State)
     }
 }
 
-/// The value of an expression in the top frame of a state, where it holds, and the state that its evaluation leaves; the
-/// state itself stays as it is. It does not hold where it is fatal, ends the program or has more than 10,000 moments.
-/// Copies the state.
+/// The value of an expression in the top frame of a state, where it holds, and the state that its evaluation leaves;
+/// the state itself stays as it is. It does not hold where it is fatal, ends the program or has more than 10,000
+/// moments. Copies the state.
 pub fn evaluation(
     alloc: Global,
     bundle: &Bundle,
     e: &Expression,
     state: &State,
 ) -> Result<(Option<Value>, State), Memory>
-    ensures { IfOk result (λ end. evaluated (evaluation_setting bundle.now) e.now state.now ≡ option_map (λ v. (v, end.1)) end.0) }
+    ensures { IfOk result (λ end. evaluated (evaluation_setting bundle.now) e.now state.now ≡ option_map
+        (λ v. (v, end.1)) end.0) }
 {
     let mut copy = state.try_clone()?;
     copy.moments = 0;
@@ -169,7 +174,8 @@ pub(crate) fn quietly(
     e: &Expression,
     state: &mut State,
 ) -> Result<Option<Value>, Memory>
-    ensures { IfOk result (λ answer. ComesTo (drive (quiet evaluation_limit) (expression_value e.now (evaluation_setting bundle.now) state.old)) answer state.new) }
+    ensures { IfOk result (λ answer. ComesTo (drive (quiet evaluation_limit)
+        (expression_value e.now (evaluation_setting bundle.now) state.old)) answer state.new) }
 {
     let quiet = Quiet {
         bound: EVALUATION_LIMIT,

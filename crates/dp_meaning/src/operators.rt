@@ -24,7 +24,8 @@ impl<O: Outside> Evaluator<'_, O> {
         links: &[Link],
         state: &mut State,
     ) -> Result<Value, Halt>
-        ensures { Evaluates (O.rules self.now.outside.now) (chained (expression_run first.now) (map link_run links.now) (goes_by self.now) state.old) result state.new }
+        ensures { Evaluates (O.rules self.now.outside.now) (chained (expression_run first.now)
+            (map link_run links.now) (goes_by self.now) state.old) result state.new }
     {
         let value = self.expression(first, state)?;
         self.links(value, links, state)
@@ -33,7 +34,8 @@ impl<O: Outside> Evaluator<'_, O> {
     // The value of operands that are joined to a first one.
     #[cycle(evaluate)]
     fn links(&self, first: Value, links: &[Link], state: &mut State) -> Result<Value, Halt>
-        ensures { Evaluates (O.rules self.now.outside.now) (links_run (map link_run links.now) first (goes_by self.now) state.old) result state.new }
+        ensures { Evaluates (O.rules self.now.outside.now) (links_run (map link_run links.now) first
+            (goes_by self.now) state.old) result state.new }
     {
         let mut value = first;
         for link in links {
@@ -46,7 +48,8 @@ impl<O: Outside> Evaluator<'_, O> {
     // The value of two operands that are joined.
     #[cycle(evaluate)]
     fn link(&self, left: &Value, link: &Link, state: &mut State) -> Result<Value, Halt>
-        ensures { Evaluates (O.rules self.now.outside.now) (link_run link.now left.now (goes_by self.now) state.old) result state.new }
+        ensures { Evaluates (O.rules self.now.outside.now) (link_run link.now left.now (goes_by self.now) state.old)
+            result state.new }
     {
         match link.operator {
             Operator::Or => {
@@ -79,7 +82,8 @@ impl<O: Outside> Evaluator<'_, O> {
         right: &Expression,
         state: &mut State,
     ) -> Result<Value, Halt>
-        ensures { Evaluates (O.rules self.now.outside.now) (coalesced (expression_run left.now) (expression_run right.now) (goes_by self.now) state.old) result state.new }
+        ensures { Evaluates (O.rules self.now.outside.now) (coalesced (expression_run left.now)
+            (expression_run right.now) (goes_by self.now) state.old) result state.new }
     {
         let value = self.found(left, state)?;
         match present(value) {
@@ -97,7 +101,9 @@ impl<O: Outside> Evaluator<'_, O> {
         otherwise: &Expression,
         state: &mut State,
     ) -> Result<Value, Halt>
-        ensures { Evaluates (O.rules self.now.outside.now) (conditional (expression_run test.now) (option_map expression_run middle.now) (expression_run otherwise.now) (goes_by self.now) state.old) result state.new }
+        ensures { Evaluates (O.rules self.now.outside.now) (conditional (expression_run test.now)
+            (option_map expression_run middle.now) (expression_run otherwise.now) (goes_by self.now) state.old) result
+            state.new }
     {
         let value = self.expression(test, state)?;
         match kept(value) {
@@ -114,7 +120,8 @@ impl<O: Outside> Evaluator<'_, O> {
         test: Value,
         state: &mut State,
     ) -> Result<Value, Halt>
-        ensures { Evaluates (O.rules self.now.outside.now) (choice (option_map expression_run middle.now) test (goes_by self.now) state.old) result state.new }
+        ensures { Evaluates (O.rules self.now.outside.now) (choice (option_map expression_run middle.now) test
+            (goes_by self.now) state.old) result state.new }
     {
         match middle {
             None => Ok(test),

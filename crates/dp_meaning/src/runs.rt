@@ -30,7 +30,8 @@ pub fn run_to(
     number: u64,
     bound: u64,
 ) -> Result<Stop, Memory>
-    ensures stop { IfOk result (λ stop. IsStop (program_trace bundle.now bound writes.now) (writes_of bundle.now writes.now) number stop) }
+    ensures stop { IfOk result (λ stop. IsStop (program_trace bundle.now bound writes.now)
+        (writes_of bundle.now writes.now) number stop) }
     ensures of { 0 < length bundle.now.files → IfOk result (λ stop. IsOf bundle.now (state_of stop)) }
 {
     let outside = Written {
@@ -53,7 +54,8 @@ pub fn run_until<S: Stops>(
     stops: &S,
     bound: u64,
 ) -> Result<Stop, Memory>
-    ensures first { IfOk result (λ stop. stop ≡ first_stop (program_trace bundle.now bound writes.now) (writes_of bundle.now writes.now) after (S.test stops.now)) }
+    ensures first { IfOk result (λ stop. stop ≡ first_stop (program_trace bundle.now bound writes.now)
+        (writes_of bundle.now writes.now) after (S.test stops.now)) }
     ensures of { 0 < length bundle.now.files → IfOk result (λ stop. IsOf bundle.now (state_of stop)) }
 {
     let outside = Watched {

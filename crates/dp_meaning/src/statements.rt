@@ -25,7 +25,8 @@ impl<O: Outside> Evaluator<'_, O> {
     /// Statements, one after another.
     #[cycle(evaluate)]
     pub(crate) fn body(&self, statements: &[Statement], state: &mut State) -> Result<Signal, Halt>
-        ensures { Evaluates (O.rules self.now.outside.now) (body_run statements.now (goes_by self.now) state.old) result state.new }
+        ensures { Evaluates (O.rules self.now.outside.now) (body_run statements.now (goes_by self.now) state.old)
+            result state.new }
     {
         for statement in statements {
             match self.statement(statement, state)? {
@@ -41,7 +42,8 @@ impl<O: Outside> Evaluator<'_, O> {
     /// One statement.
     #[cycle(evaluate)]
     pub(crate) fn statement(&self, statement: &Statement, state: &mut State) -> Result<Signal, Halt>
-        ensures { Evaluates (O.rules self.now.outside.now) (statement_run statement.now (goes_by self.now) state.old) result state.new }
+        ensures { Evaluates (O.rules self.now.outside.now) (statement_run statement.now (goes_by self.now) state.old)
+            result state.new }
     {
         let line = statement.line;
         match &statement.kind {
@@ -125,7 +127,8 @@ impl<O: Outside> Evaluator<'_, O> {
     // `echo`
     #[cycle(evaluate)]
     fn echo(&self, operands: &[Expression], state: &mut State) -> Result<Signal, Halt>
-        ensures { Evaluates (O.rules self.now.outside.now) (echoes (map expression_run operands.now) (goes_by self.now) state.old) result state.new }
+        ensures { Evaluates (O.rules self.now.outside.now) (echoes (map expression_run operands.now)
+            (goes_by self.now) state.old) result state.new }
     {
         for operand in operands {
             then_print(self.alloc, self.expression(operand, state), state)?;
@@ -141,7 +144,8 @@ impl<O: Outside> Evaluator<'_, O> {
         otherwise: &Option<Boxed<Statement>>,
         state: &mut State,
     ) -> Result<Signal, Halt>
-        ensures { Evaluates (O.rules self.now.outside.now) (arms_run (map arm_run arms.now) (option_map statement_run otherwise.now) (goes_by self.now) state.old) result state.new }
+        ensures { Evaluates (O.rules self.now.outside.now) (arms_run (map arm_run arms.now)
+            (option_map statement_run otherwise.now) (goes_by self.now) state.old) result state.new }
     {
         for arm in arms {
             self.place(arm.line, state)?;
@@ -159,7 +163,8 @@ impl<O: Outside> Evaluator<'_, O> {
     // `return`
     #[cycle(evaluate)]
     fn return_value(&self, value: &Option<Expression>, state: &mut State) -> Result<Signal, Halt>
-        ensures { Evaluates (O.rules self.now.outside.now) (return_run value.now (goes_by self.now) state.old) result state.new }
+        ensures { Evaluates (O.rules self.now.outside.now) (return_run value.now (goes_by self.now) state.old) result
+            state.new }
     {
         match value {
             None => Ok(Signal::Return(Value::Null)),
@@ -170,7 +175,8 @@ impl<O: Outside> Evaluator<'_, O> {
     // `unset`
     #[cycle(evaluate)]
     fn unset(&self, places: &[Place], state: &mut State) -> Result<(), Halt>
-        ensures { Evaluates (O.rules self.now.outside.now) (unset_run (map place_run places.now) (goes_by self.now) state.old) result state.new }
+        ensures { Evaluates (O.rules self.now.outside.now) (unset_run (map place_run places.now)
+            (goes_by self.now) state.old) result state.new }
     {
         for place in places {
             let indices = self.values(place.indices.as_slice(), state)?;
@@ -182,7 +188,8 @@ impl<O: Outside> Evaluator<'_, O> {
     // `exit`
     #[cycle(evaluate)]
     fn exit(&self, value: &Option<Expression>, state: &mut State) -> Result<Signal, Halt>
-        ensures { Evaluates (O.rules self.now.outside.now) (end_run value.now (goes_by self.now) state.old) result state.new }
+        ensures { Evaluates (O.rules self.now.outside.now) (end_run value.now (goes_by self.now) state.old) result
+            state.new }
     {
         match value {
             None => Err(Halt::Finished(Outcome::Exit(0))),

@@ -11,8 +11,8 @@ pub trait Stops {
 
     ghost test: { Self → AnyMoment → AnyState → Bool };
 
-    /// Whether the test holds at this moment, in this state, which is lent so that expressions can be evaluated in it, and
-    /// left as it was.
+    /// Whether the test holds at this moment, in this state, which is lent so that expressions can be evaluated in it,
+    /// and left as it was.
     fn holds(&self, moment: &Moment, state: &mut State) -> Result<bool, Memory>
         ensures answer { IfOk result (λ answer. answer ≡ test self.now moment.now state.old) }
         ensures same { OnOk result (state.new ≡ state.old) };

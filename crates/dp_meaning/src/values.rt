@@ -10,8 +10,8 @@ use dp_tree::{Bundle, Expression};
 use dp_value::{Memory, Value};
 use std::alloc::Global;
 
-/// The value of an expression without calls, assignments, `++`, `--` and includes in the top frame of a state, and `None`
-/// exactly where its evaluation is fatal. Copies the state: see [`value_in_place`].
+/// The value of an expression without calls, assignments, `++`, `--` and includes in the top frame of a state, and
+/// `None` exactly where its evaluation is fatal. Copies the state: see [`value_in_place`].
 pub fn value_in(
     alloc: Global,
     state: &State,

@@ -25,7 +25,12 @@ impl<S: Stops> Outside for Watched<'_, S> {
     ghost use Rattle.dp_meaning.specs.Stopping.{above};
     ghost use Rattle.dp_meaning.specs.Writes.{writes_of};
 
-    ghost rules = { λ w. record { bound = w.bound; halts = above w.after (S.test w.stops.now); writes = writes_of w.bundle.now w.writes.now } };
+    ghost rules = { λ w. record {
+      bound = w.bound;
+      halts = above w.after
+          (S.test w.stops.now);
+      writes = writes_of w.bundle.now w.writes.now;
+    } };
 
     fn at_moment(&self, kind: MomentKind, line: u32, state: &mut State) -> Result<(), Halt> {
         if state.moments >= self.bound {

@@ -7,7 +7,8 @@ ghost use Rattle.dp_value.specs.Value.{data_of};
 ghost use Rattle.dp_state.specs.Places.{assigned, given_keys as all_given};
 ghost use Rattle.dp_state.specs.States.{read_at};
 ghost use Rattle.dp_meaning.specs.inner.Answering.{answer_by, write_answer};
-ghost use Rattle.dp_meaning.specs.Writes.{answer_in, evaluated, evaluation_setting, place_answer, place_or_fault, value_answer, with_place};
+ghost use Rattle.dp_meaning.specs.Writes.{answer_in, evaluated, evaluation_setting, place_answer, place_or_fault};
+ghost use Rattle.dp_meaning.specs.Writes.{value_answer, with_place};
 
 use crate::moment_writes::evaluation;
 use crate::writes::{Write, WriteAnswer};
@@ -45,7 +46,8 @@ fn evaluate_in(
     e: &Expression,
     state: &State,
 ) -> Result<WriteAnswer, Memory>
-    ensures { IfOk result (λ answer. answer ≡ value_answer (evaluated (evaluation_setting bundle.now) e.now state.now)) }
+    ensures { IfOk result (λ answer. answer ≡ value_answer (evaluated
+        (evaluation_setting bundle.now) e.now state.now)) }
 {
     let (value, after) = evaluation(alloc, bundle, e, state)?;
     drop(after);
@@ -94,7 +96,8 @@ fn variable_in(
     value: &Value,
     state: &State,
 ) -> Result<WriteAnswer, Memory>
-    ensures { IfOk result (λ answer. answer ≡ place_answer (place_or_fault (assigned level path.now.name (all_given path.now.keys) false value.now state.now))) }
+    ensures { IfOk result (λ answer. answer ≡ place_answer (place_or_fault
+        (assigned level path.now.name (all_given path.now.keys) false value.now state.now))) }
 {
     let keys = given_keys(alloc, path.keys.as_slice())?;
     keyed_in(alloc, level, &path.name, keys.as_slice(), value, state)
@@ -109,7 +112,8 @@ fn keyed_in(
     value: &Value,
     state: &State,
 ) -> Result<WriteAnswer, Memory>
-    ensures { IfOk result (λ answer. answer ≡ place_answer (place_or_fault (assigned level name.now keys.now false value.now state.now))) }
+    ensures { IfOk result (λ answer. answer ≡ place_answer (place_or_fault
+        (assigned level name.now keys.now false value.now state.now))) }
 {
     let mut copy = variable_at(level, name, state)?;
     let answer = try_write(alloc, &mut copy, keys, value);
@@ -124,7 +128,8 @@ fn try_write(
     keys: &[Option<Key>],
     value: &Value,
 ) -> Result<WriteAnswer, Memory>
-    ensures { IfOk result (λ answer. answer ≡ write_answer (write_result keys.now false (data_of value.now) (data_of variable.old))) }
+    ensures { IfOk result (λ answer. answer ≡ write_answer (write_result keys.now false (data_of value.now)
+        (data_of variable.old))) }
 {
     match write_at(alloc, variable, keys, false, value.try_clone()?) {
         Ok(()) => Ok(WriteAnswer::Set),

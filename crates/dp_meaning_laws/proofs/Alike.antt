@@ -1,5 +1,5 @@
--- Two runs that go alike: what is kept by each step of a program is true at each of their moments and at their ends, and they differ at most in where
--- they are over by the bound.
+-- Two runs that go alike: what is kept by each step of a program is true at each of their moments and at their ends,
+-- and they differ at most in where they are over by the bound.
 use Rattle.std.proofs.Common.{◌≡◌, ℕ, zero, suc, ◌+◌, ◌<◌, ◌≤◌, Bool, true, false, List, [], ◌∷◌, ◌++◌, length, map, Option, Some, None, Result, Ok, Err, refl, sym, ap, subst, arith}
 use Rattle.std.specs.Prelude.{if◌then◌else◌, slice_get}
 use Rattle.dp_tree.specs.CodeLines.{file_lines}
@@ -59,8 +59,8 @@ module _ {D : Type 0} (F : Facts D) where
   Stands d Enter line = Unit {0}
   Stands d Leave line = Unit {0}
 
-  -- It is true along both, whatever is done to the states at the moments that leaves it true. Where one is over by the bound, the other may be at a
-  -- moment: no more moments come there.
+  -- It is true along both, whatever is done to the states at the moments that leaves it true. Where one is over by the
+  -- bound, the other may be at a moment: no more moments come there.
   abbrev pub Alike : {A : Type 0} → D → ℕ → Run A → Run A → Type 0
   Alike d n (Done a s) (Done b t) = F.state d n s × (a ≡ b) × (s ≡ t)
   Alike d n (Done a s) (Over o t) = ⊥
@@ -71,33 +71,40 @@ module _ {D : Type 0} (F : Facts D) where
   Alike d n (At kind line s go) (Done b t) = ⊥
   Alike d n (At kind line s go) (Over p t) = (e : D) × F.state e n s × (F.bound ≤ n) × (p ≡ way.Bound) × (s ≡ t)
   Alike d n (At kind line s go) (At other there t on) =
-      (e : D) × F.state e n s × ((u : State) → F.state e (n + 1) u → Alike d (n + 1) (go u) (on u)) × Stands e kind line × (kind ≡ other) × (line ≡ there)
+      (e : D) × F.state e n s × ((u : State) → F.state e (n + 1) u → Alike d (n + 1) (go u) (on u)) × Stands e kind line
+      × (kind ≡ other) × (line ≡ there)
       × (s ≡ t)
 
   -- each step of a program keeps it, in files of this bundle
   pub record IsKept (bundle : Bundle) : Type 0 where
-    pub assigns : (d : D) (n : ℕ) (level : ℕ) (name : List ℕ) (keys : List (Option Key)) (push : Bool) (v : Value) (s t : State)
+    pub assigns : (d : D) (n : ℕ) (level : ℕ) (name : List ℕ) (keys : List (Option Key)) (push : Bool) (v : Value)
+        (s t : State)
         → assigned level name keys push v s ≡ Ok t → F.state d n s → F.state d n t
-    pub unsets : (d : D) (n : ℕ) (name : List ℕ) (keys : List (Option Key)) (s t : State) → unset name keys s ≡ Ok t → F.state d n s → F.state d n t
+    pub unsets : (d : D) (n : ℕ) (name : List ℕ) (keys : List (Option Key)) (s t : State) → unset name keys s ≡ Ok t
+        → F.state d n s → F.state d n t
     pub binds : (d : D) (n : ℕ) (name : List ℕ) (s : State) → F.state d n s → F.state d n (with_global name s)
     pub prints : (d : D) (n : ℕ) (piece : List ℕ) (s t : State) → printed piece s ≡ Ok t → F.state d n s → F.state d n t
     pub calls : (d : D) (n file : ℕ) (f : Function) (values : List Value) (s t : State)
         → file < length bundle.files → called file f values s ≡ Ok t → F.state d n s → F.state (F.down file d) n t
-    pub includes : (d : D) (n file : ℕ) (s t : State) → file < length bundle.files → included bundle file s ≡ Ok t → F.state d n s
+    pub includes : (d : D) (n file : ℕ) (s t : State) → file < length bundle.files → included bundle file s ≡ Ok t
+        → F.state d n s
         → F.state (F.down file d) n t
     pub leaves : (d : D) (n file : ℕ) (s : State) → F.state (F.down file d) n s → F.state d n (left s)
     -- the lines of a file have it where it is on top
-    pub lines : (d : D) (file : ℕ) (f : BundleFile) → slice_get bundle.files file ≡ Some f → Each (F.line (F.down file d)) (file_lines f.tree)
+    pub lines : (d : D) (file : ℕ) (f : BundleFile) → slice_get bundle.files file ≡ Some f
+        → Each (F.line (F.down file d)) (file_lines f.tree)
 
   -- steps of two runs from each state
   abbrev pub Keeps : {A : Type 0} → D → (State → Run A) → (State → Run A) → Type 0
   Keeps d f g = (n : ℕ) (s : State) → F.state d n s → Alike d n (f s) (g s)
 
   pub Alike-and_then : {A B : Type 0} (d e : D) (n : ℕ) (r q : Run A) (f g : A → State → Run B)
-      → Alike d n r q → ((a : A) (m : ℕ) (s : State) → n ≤ m → F.state d m s → Alike e m (f a s) (g a s)) → Alike e n (and_then r f) (and_then q g)
+      → Alike d n r q → ((a : A) (m : ℕ) (s : State) → n ≤ m → F.state d m s → Alike e m (f a s) (g a s))
+      → Alike e n (and_then r f) (and_then q g)
   unfolding and_then
   Alike-and_then d e n (Done a s) (Done b t) f g h k =
-      subst (λ t. Alike e n (f a s) (g b t)) h.2 (subst (λ b. Alike e n (f a s) (g b s)) h.1 (k a n s (omega arith) h.0))
+      subst (λ t. Alike e n (f a s) (g b t)) h.2 (subst (λ b. Alike e n (f a s) (g b s)) h.1
+      (k a n s (omega arith) h.0))
   Alike-and_then d e n (Done a s) (Over o t) f g h k = absurd h
   Alike-and_then d e n (Done a s) (At kind line t go) f g h k = absurd h
   Alike-and_then d e n (Over o s) (Done b t) f g h k = absurd h
@@ -116,7 +123,8 @@ module _ {D : Type 0} (F : Facts D) where
   )
 
   -- one after the other, with as many frames as before
-  pub Keeps-and_then : {A B : Type 0} (d : D) (n : ℕ) (r q : Run A) (f g : A → State → Run B) → Alike d n r q → ((a : A) → Keeps d (f a) (g a))
+  pub Keeps-and_then : {A B : Type 0} (d : D) (n : ℕ) (r q : Run A) (f g : A → State → Run B) → Alike d n r q
+      → ((a : A) → Keeps d (f a) (g a))
       → Alike d n (and_then r f) (and_then q g)
   Keeps-and_then d n r q f g h k = Alike-and_then d d n r q f g h (λ a m s le p. k a m s p)
 
@@ -125,7 +133,8 @@ module _ {D : Type 0} (F : Facts D) where
   Alike-if true d n w x y z h k = h
   Alike-if false d n w x y z h k = k
 
-  pub Alike-taken : (r : Result State FatalKind) (d e : D) (n : ℕ) (s : State) → F.state e n s → ((t : State) → r ≡ Ok t → F.state d n t)
+  pub Alike-taken : (r : Result State FatalKind) (d e : D) (n : ℕ) (s : State) → F.state e n s
+      → ((t : State) → r ≡ Ok t → F.state d n t)
       → Alike d n (taken r s) (taken r s)
   Alike-taken (Ok t) d e n s p k = (k t refl, refl, refl)
   Alike-taken (Err kind) d e n s p k = (e, p, tt, refl, refl)
@@ -148,7 +157,8 @@ module _ {D : Type 0} (F : Facts D) where
     pub right : y.bundle ≡ bundle
     pub turns_left : F.bound ≤ x.bound
     pub turns_right : F.bound ≤ y.bound
-    pub call : (file : ℕ) (f : Function) (values : List Value) → IsFunction bundle file f → Keeps d (x.call file f values) (y.call file f values)
+    pub call : (file : ℕ) (f : Function) (values : List Value) → IsFunction bundle file f
+        → Keeps d (x.call file f values) (y.call file f values)
     pub include : (file : ℕ) → file < length bundle.files → Keeps d (x.include file) (y.include file)
 
   -- a part of a program does, as two settings have it

@@ -34,7 +34,8 @@ within-found (y ∷ ys) (suc k) x e = let h : k < length ys = within-found ys k 
 pub within-position : {X : Type 0} (test : X → Bool) (xs : List X) (k : ℕ) → position test xs ≡ Some k → k < length xs
 within-position test xs k e = go (nat_lt (position_or_len test xs) (length xs)) refl e
   where
-    go : (b : Bool) → nat_lt (position_or_len test xs) (length xs) ≡ b → cond b (Some (position_or_len test xs)) None ≡ Some k → k < length xs
+    go : (b : Bool) → nat_lt (position_or_len test xs) (length xs) ≡ b
+        → cond b (Some (position_or_len test xs)) None ≡ Some k → k < length xs
     go true h f = let same : position_or_len test xs ≡ k = cc in subst (λ i. i < length xs) same (ltb-true _ _ h)
     go false h f = absurd (cc)
 
@@ -52,7 +53,8 @@ within-declared : (bundle : Bundle) (reference : FunctionRef) → AreWithin bund
 within-declared bundle reference = go (slice_get bundle.files reference.file) refl
   where
     found : (g : BundleFile) → slice_get bundle.files reference.file ≡ Some g → (o : Option Function)
-        → slice_get g.tree.functions reference.function ≡ o → AreWithin bundle (option_map_or (λ f. Some (Declared reference.file f)) o None)
+        → slice_get g.tree.functions reference.function ≡ o
+        → AreWithin bundle (option_map_or (λ f. Some (Declared reference.file f)) o None)
     found g e None h = tt
     found g e (Some f) h = (g, e, reference.function, h)
 
@@ -76,20 +78,25 @@ module _ {D : Type 0} (F : Facts D) (bundle : Bundle) (d : D) (x y : Setting) (g
   Keeps-callee (BuiltIn b) values within n s p = Keeps-builtin F (builtin_of b (map data_of values)) d n s p
   Keeps-callee (Declared file f) values within n s p = good.call file f values within n s p
 
-  Keeps-call : (o : Option Callee) (arguments : Part (List Value)) → KeepsPart F d x y arguments → AreWithin bundle o → KeepsPart F d x y (call_run o arguments)
+  Keeps-call : (o : Option Callee) (arguments : Part (List Value)) → KeepsPart F d x y arguments → AreWithin bundle o
+      → KeepsPart F d x y (call_run o arguments)
   Keeps-call None arguments keep within n s p = (d, p, tt, refl, refl)
-  Keeps-call (Some c) arguments keep within n s p = Keeps-and_then F d n _ _ _ _ (keep n s p) (λ values. Keeps-callee c values within)
+  Keeps-call (Some c) arguments keep within n s p =
+      Keeps-and_then F d n _ _ _ _ (keep n s p) (λ values. Keeps-callee c values within)
 
-  Keeps-inclusion : (how : Inclusion) (o : Option ℕ) → ((file : ℕ) → o ≡ Some file → file < length bundle.files) → KeepsPart F d x y (inclusion_run how o)
+  Keeps-inclusion : (how : Inclusion) (o : Option ℕ) → ((file : ℕ) → o ≡ Some file → file < length bundle.files)
+      → KeepsPart F d x y (inclusion_run how o)
   Keeps-inclusion Include None within n s p = (p, refl, refl)
   Keeps-inclusion Require None within n s p = (d, p, tt, refl, refl)
   Keeps-inclusion Include (Some file) within n s p = good.include file (within file refl) n s p
   Keeps-inclusion Require (Some file) within n s p = good.include file (within file refl) n s p
 
   -- both settings are of the bundle
-  in-bundle : {A : Type 0} (n : ℕ) (f g : Bundle → Run A) → Alike F d n (f bundle) (g bundle) → Alike F d n (f x.bundle) (g y.bundle)
+  in-bundle : {A : Type 0} (n : ℕ) (f g : Bundle → Run A) → Alike F d n (f bundle) (g bundle)
+      → Alike F d n (f x.bundle) (g y.bundle)
   in-bundle n f g h =
-      subst (λ b. Alike F d n (f x.bundle) (g b)) (sym good.right) (subst (λ b. Alike F d n (f b) (g bundle)) (sym good.left) h)
+      subst (λ b. Alike F d n (f x.bundle) (g b)) (sym good.right)
+      (subst (λ b. Alike F d n (f b) (g bundle)) (sym good.left) h)
 
   pub Keeps-named : (name : List ℕ) (arguments : Part (List Value)) → KeepsPart F d x y arguments
       → KeepsPart F d x y (λ setting s. call_run (callee setting.bundle name s) arguments setting s)

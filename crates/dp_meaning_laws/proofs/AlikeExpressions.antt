@@ -33,7 +33,8 @@ use Rattle.dp_meaning_laws.proofs.Each.{Each, each-images}
 use Rattle.dp_meaning_laws.proofs.AlikeCalls.{Keeps-named, Keeps-include}
 use Rattle.dp_meaning_laws.proofs.AlikePlaces.{KeepsPlace, Keeps-assignment, Keeps-coalescing, Keeps-compound, Keeps-isset, Keeps-step}
 
-module _ {D : Type 0} (F : Facts D) (bundle : Bundle) (kept : IsKept F bundle) (d : D) (x y : Setting) (good : AreAlike F bundle d x y) where
+module _ {D : Type 0} (F : Facts D) (bundle : Bundle) (kept : IsKept F bundle) (d : D) (x y : Setting)
+    (good : AreAlike F bundle d x y) where
   abbrev pub KeepsExpression : ExpressionRun → Type 0
   KeepsExpression e = KeepsPart F d x y e.value × KeepsPart F d x y e.found
 
@@ -54,7 +55,8 @@ module _ {D : Type 0} (F : Facts D) (bundle : Bundle) (kept : IsKept F bundle) (
   Keeps-indices entry [] each v n s p = (p, refl, refl)
   Keeps-indices entry (e ∷ es) each v n s p =
       Keeps-and_then F d n _ _ _ _ (each.0.0 n s p) (λ i n t p.
-      Keeps-and_then F d n _ _ _ _ (Keeps-value F (entry (data_of v) (data_of i)) d n t p) (λ w. Keeps-indices entry es each.1 w))
+      Keeps-and_then F d n _ _ _ _ (Keeps-value F (entry (data_of v) (data_of i)) d n t p)
+      (λ w. Keeps-indices entry es each.1 w))
 
   pub Keeps-links : (links : List LinkRun) → Each KeepsFrom links → KeepsFrom (links_run links)
   Keeps-links [] each v n s p = (p, refl, refl)
@@ -68,22 +70,28 @@ module _ {D : Type 0} (F : Facts D) (bundle : Bundle) (kept : IsKept F bundle) (
 
   -- ---- operators
 
-  pub Keeps-operator : (op : Operator) (right : ExpressionRun) → KeepsExpression right → KeepsFrom (operator_run op right)
+  pub Keeps-operator : (op : Operator) (right : ExpressionRun) → KeepsExpression right
+      → KeepsFrom (operator_run op right)
   Keeps-operator Or right keep v n s p =
-      Alike-if F (holds v) d n _ _ _ _ (p, refl, refl) (Keeps-and_then F d n _ _ _ _ (keep.0 n s p) (λ w n t p. (p, refl, refl)))
+      Alike-if F (holds v) d n _ _ _ _ (p, refl, refl) (Keeps-and_then F d n _ _ _ _ (keep.0 n s p)
+      (λ w n t p. (p, refl, refl)))
   Keeps-operator And right keep v n s p =
-      Alike-if F (holds v) d n _ _ _ _ (Keeps-and_then F d n _ _ _ _ (keep.0 n s p) (λ w n t p. (p, refl, refl))) (p, refl, refl)
+      Alike-if F (holds v) d n _ _ _ _ (Keeps-and_then F d n _ _ _ _ (keep.0 n s p) (λ w n t p. (p, refl, refl)))
+      (p, refl, refl)
   Keeps-operator (Of op) right keep v n s p =
       Keeps-and_then F d n _ _ _ _ (keep.0 n s p) (λ w. Keeps-value F (binary_of op (data_of v) (data_of w)) d)
 
   pub Keeps-item : (item : ExpressionRun) → KeepsExpression item → KeepsFrom (item_run None item)
   Keeps-item item keep array n s p =
-      Keeps-and_then F d n _ _ _ _ (keep.0 n s p) (λ v. Keeps-write F (write_result [] true (data_of v) (data_of array)) d)
+      Keeps-and_then F d n _ _ _ _ (keep.0 n s p) (λ v. Keeps-write F
+      (write_result [] true (data_of v) (data_of array)) d)
 
-  pub Keeps-keyed : (key item : ExpressionRun) → KeepsExpression key → KeepsExpression item → KeepsFrom (item_run (Some key) item)
+  pub Keeps-keyed : (key item : ExpressionRun) → KeepsExpression key → KeepsExpression item
+      → KeepsFrom (item_run (Some key) item)
   Keeps-keyed key item first keep array n s p =
       Keeps-and_then F d n _ _ _ _ (first.0 n s p) (λ k n t p.
-      Keeps-and_then F d n _ _ _ _ (keep.0 n t p) (λ v. Keeps-write F (write_result (keys_of_indices (k ∷ [])) false (data_of v)
+      Keeps-and_then F d n _ _ _ _ (keep.0 n t p) (λ v. Keeps-write F
+      (write_result (keys_of_indices (k ∷ [])) false (data_of v)
       (data_of array)) d))
 
   -- ---- whole trees
@@ -124,21 +132,27 @@ module _ {D : Type 0} (F : Facts D) (bundle : Bundle) (kept : IsKept F bundle) (
       Expression Item Link Place (λ e. e.0) (λ e. e.0) (λ e. e.0) (λ e. e.0) y
 
   abbrev runs : Whole → Expression-F ExpressionRun ItemRun LinkRun PlaceRun
-  runs x = map-Expression Expression Item Link Place ExpressionRun ItemRun LinkRun PlaceRun expression_run item_run_of link_run place_run x
+  runs x =
+      map-Expression Expression Item Link Place ExpressionRun ItemRun LinkRun PlaceRun expression_run item_run_of
+      link_run place_run x
 
-  keeps-choice : (o : Option ExpressionRun) (v : Value) → ((e : ExpressionRun) → o ≡ Some e → KeepsExpression e) → KeepsPart F d x y (choice o v)
+  keeps-choice : (o : Option ExpressionRun) (v : Value) → ((e : ExpressionRun) → o ≡ Some e → KeepsExpression e)
+      → KeepsPart F d x y (choice o v)
   keeps-choice None v keep n s p = (p, refl, refl)
   keeps-choice (Some e) v keep n s p = (keep e refl).0 n s p
 
-  keeps-conditional : (test otherwise : ExpressionRun) (o : Option ExpressionRun) → KeepsExpression test → KeepsExpression otherwise
+  keeps-conditional : (test otherwise : ExpressionRun) (o : Option ExpressionRun) → KeepsExpression test
+      → KeepsExpression otherwise
       → ((e : ExpressionRun) → o ≡ Some e → KeepsExpression e) → KeepsPart F d x y (conditional test o otherwise)
   keeps-conditional test otherwise o h k keep n s p =
       Keeps-and_then F d n _ _ _ _ (h.0 n s p) (λ v n t p.
       Alike-if F (holds v) d n _ _ _ _ (keeps-choice o v keep n t p) (k.0 n t p))
 
-  keeps-coalesce : (left right : ExpressionRun) → KeepsExpression left → KeepsExpression right → KeepsPart F d x y (coalesced left right)
+  keeps-coalesce : (left right : ExpressionRun) → KeepsExpression left → KeepsExpression right
+      → KeepsPart F d x y (coalesced left right)
   keeps-coalesce left right h k n s p =
-      Keeps-and_then F d n _ _ _ _ (h.1 n s p) (λ v n t p. Alike-if F (is_missing v) d n _ _ _ _ (k.0 n t p) (p, refl, refl))
+      Keeps-and_then F d n _ _ _ _ (h.1 n s p) (λ v n t p. Alike-if F (is_missing v) d n _ _ _ _ (k.0 n t p)
+      (p, refl, refl))
 
   -- one that is a value at once
   leaf : (f : State → Value) → KeepsExpression (plain (λ setting s. Done (f s) s))
@@ -153,9 +167,11 @@ module _ {D : Type 0} (F : Facts D) (bundle : Bundle) (kept : IsKept F bundle) (
   keeps-layer (Expression-F.Array items) =
       let k = Keeps-items _ (each-images item_run_of KeepsFrom items) (value.Array empty) in (k, k)
   keeps-layer (Expression-F.Call name arguments) =
-      let k = Keeps-named F bundle d x y good name _ (Keeps-values _ (each-images expression_run KeepsExpression arguments)) in (k, k)
+      let k = Keeps-named F bundle d x y good name _ (Keeps-values _
+      (each-images expression_run KeepsExpression arguments)) in (k, k)
   keeps-layer (Expression-F.Isset places) =
-      let k = Keeps-isset F bundle kept d x y _ (each-images place_run (KeepsPlace F bundle kept d x y) places) in (k, k)
+      let k = Keeps-isset F bundle kept d x y _ (each-images place_run (KeepsPlace F bundle kept d x y) places) in
+      (k, k)
   keeps-layer (Expression-F.Index base indices) =
       let each = each-images expression_run KeepsExpression indices in (
         λ n s p. Keeps-and_then F d n _ _ _ _ (base.1.0 n s p) (λ v. Keeps-indices indexed _ each v),
@@ -165,34 +181,46 @@ module _ {D : Type 0} (F : Facts D) (bundle : Bundle) (kept : IsKept F bundle) (
   keeps-layer (Expression-F.Unary op e) =
       let k : KeepsPart F d x y (operated op (expression_run e.0)) =
       λ n s p. Keeps-and_then F d n _ _ _ _ (e.1.0 n s p) (λ v. Keeps-value F (unary_of op (data_of v)) d) in (k, k)
-  keeps-layer (Expression-F.Step op order place) = let k = Keeps-step F bundle kept d x y (place_run place.0) place.1 op order in (k, k)
+  keeps-layer (Expression-F.Step op order place) =
+      let k = Keeps-step F bundle kept d x y (place_run place.0) place.1 op order in (k, k)
   keeps-layer (Expression-F.Chain first links) =
       let k : KeepsPart F d x y (chained (expression_run first.0) (map link_run (map (λ e. e.0) links))) =
-      λ n s p. Keeps-and_then F d n _ _ _ _ (first.1.0 n s p) (λ v. Keeps-links _ (each-images link_run KeepsFrom links) v) in (k, k)
-  keeps-layer (Expression-F.Coalesce left right) = let k = keeps-coalesce (expression_run left.0) (expression_run right.0) left.1 right.1 in (k, k)
+      λ n s p. Keeps-and_then F d n _ _ _ _ (first.1.0 n s p)
+      (λ v. Keeps-links _ (each-images link_run KeepsFrom links) v) in (k, k)
+  keeps-layer (Expression-F.Coalesce left right) =
+      let k = keeps-coalesce (expression_run left.0) (expression_run right.0) left.1 right.1 in (k, k)
   keeps-layer (Expression-F.Conditional test None otherwise) =
-      let k = keeps-conditional (expression_run test.0) (expression_run otherwise.0) None test.1 otherwise.1 (λ e h. absurd (cc)) in (k, k)
+      let k = keeps-conditional (expression_run test.0) (expression_run otherwise.0) None test.1 otherwise.1
+      (λ e h. absurd (cc)) in (k, k)
   keeps-layer (Expression-F.Conditional test (Some middle) otherwise) =
-      let k = keeps-conditional (expression_run test.0) (expression_run otherwise.0) (Some (expression_run middle.0)) test.1 otherwise.1
+      let k = keeps-conditional (expression_run test.0) (expression_run otherwise.0)
+      (Some (expression_run middle.0)) test.1 otherwise.1
       (λ e h. let same : expression_run middle.0 ≡ e = cc in subst KeepsExpression same middle.1) in (k, k)
   keeps-layer (Expression-F.Include how e) =
       let k : KeepsPart F d x y (included how (expression_run e.0)) =
       λ n s p. Keeps-and_then F d n _ _ _ _ (e.1.0 n s p) (λ v. Keeps-include F bundle d x y good how v) in (k, k)
   keeps-layer (Expression-F.Assign place right) =
-      let k = Keeps-assignment F bundle kept d x y (place_run place.0) place.1 (expression_run right.0).value right.1.0 false in (k, k)
+      let k = Keeps-assignment F bundle kept d x y (place_run place.0) place.1
+      (expression_run right.0).value right.1.0 false in (k, k)
   keeps-layer (Expression-F.Compound op place right) =
-      let k = Keeps-compound F bundle kept d x y (place_run place.0) place.1 (expression_run right.0).value right.1.0 op in (k, k)
+      let k = Keeps-compound F bundle kept d x y (place_run place.0) place.1
+      (expression_run right.0).value right.1.0 op in (k, k)
   keeps-layer (Expression-F.CoalesceAssign place right) =
-      let k = Keeps-coalescing F bundle kept d x y (place_run place.0) place.1 (expression_run right.0).value right.1.0 in (k, k)
+      let k = Keeps-coalescing F bundle kept d x y (place_run place.0) place.1
+      (expression_run right.0).value right.1.0 in (k, k)
   keeps-layer (Expression-F.Push place right) =
-      let k = Keeps-assignment F bundle kept d x y (place_run place.0) place.1 (expression_run right.0).value right.1.0 true in (k, k)
+      let k = Keeps-assignment F bundle kept d x y (place_run place.0) place.1
+      (expression_run right.0).value right.1.0 true in (k, k)
 
   abbrev parts-item : Item-F WithExpression WithItem WithLink WithPlace → Item-F Expression Item Link Place
-  parts-item y = map-Item WithExpression WithItem WithLink WithPlace Expression Item Link Place (λ e. e.0) (λ e. e.0) (λ e. e.0) (λ e. e.0) y
+  parts-item y =
+      map-Item WithExpression WithItem WithLink WithPlace Expression Item Link Place (λ e. e.0) (λ e. e.0) (λ e. e.0)
+      (λ e. e.0) y
 
   keeps-item : (key : Option WithExpression) (item : WithExpression)
       → (let y : Item-F WithExpression WithItem WithLink WithPlace = record { key = key; value = item } in
-      KeepsFrom (item_layer (map-Item Expression Item Link Place ExpressionRun ItemRun LinkRun PlaceRun expression_run item_run_of link_run
+      KeepsFrom (item_layer (map-Item Expression Item Link Place ExpressionRun ItemRun LinkRun PlaceRun expression_run
+      item_run_of link_run
       place_run (parts-item y))))
   keeps-item None item = Keeps-item (expression_run item.0) item.1
   keeps-item (Some key) item = Keeps-keyed (expression_run key.0) (expression_run item.0) key.1 item.1
@@ -201,26 +229,32 @@ module _ {D : Type 0} (F : Facts D) (bundle : Bundle) (kept : IsKept F bundle) (
   step-expression : (w : Whole) (z : WithGood) → parts z ≡ w → Good (roll-Expression w)
   unfolding expression_run item_run_of link_run place_run
   step-expression w z is = subst (λ z. Good (roll-Expression z)) is
-      (subst KeepsExpression (sym (fold-roll-Expression ExpressionRun ItemRun LinkRun PlaceRun expression_layer item_layer link_layer place_layer
+      (subst KeepsExpression (sym (fold-roll-Expression ExpressionRun ItemRun LinkRun PlaceRun expression_layer
+      item_layer link_layer place_layer
       (parts z))) (keeps-layer z))
 
-  step-item : (w : Item-F Expression Item Link Place) (z : Item-F WithExpression WithItem WithLink WithPlace) → parts-item z ≡ w
+  step-item : (w : Item-F Expression Item Link Place) (z : Item-F WithExpression WithItem WithLink WithPlace)
+      → parts-item z ≡ w
       → GoodItem (roll-Item w)
   unfolding expression_run item_run_of link_run place_run
   step-item w z is = subst (λ z. GoodItem (roll-Item z)) is
-      (subst KeepsFrom (sym (fold-roll-Item ExpressionRun ItemRun LinkRun PlaceRun expression_layer item_layer link_layer place_layer _))
+      (subst KeepsFrom (sym (fold-roll-Item ExpressionRun ItemRun LinkRun PlaceRun expression_layer item_layer
+      link_layer place_layer _))
       (keeps-item z.key z.value))
 
   step-link : (w : Link-F Expression Item Link Place) (z : Link-F WithExpression WithItem WithLink WithPlace)
-      → map-Link WithExpression WithItem WithLink WithPlace Expression Item Link Place (λ e. e.0) (λ e. e.0) (λ e. e.0) (λ e. e.0) z ≡ w
+      → map-Link WithExpression WithItem WithLink WithPlace Expression Item Link Place (λ e. e.0) (λ e. e.0) (λ e. e.0)
+      (λ e. e.0) z ≡ w
       → GoodLink (roll-Link w)
   unfolding expression_run item_run_of link_run place_run
   step-link w z is = subst (λ z. GoodLink (roll-Link z)) is
-      (subst KeepsFrom (sym (fold-roll-Link ExpressionRun ItemRun LinkRun PlaceRun expression_layer item_layer link_layer place_layer _))
+      (subst KeepsFrom (sym (fold-roll-Link ExpressionRun ItemRun LinkRun PlaceRun expression_layer item_layer
+      link_layer place_layer _))
       (Keeps-operator z.operator (expression_run z.operand.0) z.operand.1))
 
   step-place : (w : Place-F Expression Item Link Place) (z : Place-F WithExpression WithItem WithLink WithPlace)
-      → map-Place WithExpression WithItem WithLink WithPlace Expression Item Link Place (λ e. e.0) (λ e. e.0) (λ e. e.0) (λ e. e.0) z ≡ w
+      → map-Place WithExpression WithItem WithLink WithPlace Expression Item Link Place (λ e. e.0) (λ e. e.0) (λ e. e.0)
+      (λ e. e.0) z ≡ w
       → GoodPlace (roll-Place w)
   unfolding expression_run item_run_of link_run place_run
   step-place w z is = subst (λ z. GoodPlace (roll-Place z)) is

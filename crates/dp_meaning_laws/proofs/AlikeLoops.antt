@@ -33,7 +33,8 @@ module _ {D : Type 0} (F : Facts D) (d : D) where
 
   -- ---- `while` and `for`
 
-  module _ (line : ℕ) (stands : F.line d line) (test next test' next' : State → Run (List Value)) (body body' : State → Run Signal)
+  module _ (line : ℕ) (stands : F.line d line) (test next test' next' : State → Run (List Value))
+      (body body' : State → Run Signal)
       (tests : Keeps F d test test') (nexts : Keeps F d next next') (bodies : Keeps F d body body') where
     pub Alike-turns : (k l n : ℕ) (s : State) → F.bound ≤ n + k → F.bound ≤ n + l → F.state d n s
         → Alike F d n (turns k line test next body s) (turns l line test' next' body' s)
@@ -48,7 +49,8 @@ module _ {D : Type 0} (F : Facts D) (d : D) where
           Alike-if F (last_holds values) d i _ _ _ _
           (Alike-and_then F d d i _ _ _ _ (bodies i u p) (λ g j v le' p. Alike-over g _ _ j v p
           (Alike-and_then F d d j _ _ _ _ (nexts j v p) (λ _ m w le'' p.
-          Alike-turns k l m w (omega (arith, few, le, le', le'')) (omega (arith, less, le, le', le'')) p)))) (p, refl, refl)),
+          Alike-turns k l m w (omega (arith, few, le, le', le'')) (omega (arith, less, le, le', le'')) p))))
+          (p, refl, refl)),
       stands,
       refl,
       refl,
@@ -61,22 +63,26 @@ module _ {D : Type 0} (F : Facts D) (d : D) where
       (tests : Keeps F d test test') (bodies : Keeps F d body body')
       (still : (s : State) → IsStill s (body s)) (still' : (s : State) → IsStill s (body' s)) where
     -- where no more moments come, a body comes to one, or else the test does
-    over-left : (r : Run Signal) (go : State → State → Run Signal) (n : ℕ) (s : State) → F.bound ≤ n → F.state d n s → IsStill s r
+    over-left : (r : Run Signal) (go : State → State → Run Signal) (n : ℕ) (s : State) → F.bound ≤ n → F.state d n s
+        → IsStill s r
         → Alike F d n (Over way.Bound s) (and_then r (λ g t. turn_over g (λ u. At Place line u (go u)) t))
     unfolding and_then
     over-left (Done g t) go n s last p h =
-        subst (λ g. Alike F d n (Over way.Bound s) (turn_over g (λ u. At Place line u (go u)) t)) (sym h.0) (d, p, last, refl, h.1)
+        subst (λ g. Alike F d n (Over way.Bound s) (turn_over g (λ u. At Place line u (go u)) t)) (sym h.0)
+        (d, p, last, refl, h.1)
     over-left (Over o t) go n s last p h = (d, p, last, sym h.0, h.1)
     over-left (At kind line t on) go n s last p h = (d, p, last, refl, h)
 
-    over-right : (r : Run Signal) (go : State → State → Run Signal) (n : ℕ) (s : State) → F.bound ≤ n → F.state d n s → IsStill s r
+    over-right : (r : Run Signal) (go : State → State → Run Signal) (n : ℕ) (s : State) → F.bound ≤ n → F.state d n s
+        → IsStill s r
         → Alike F d n (and_then r (λ g t. turn_over g (λ u. At Place line u (go u)) t)) (Over way.Bound s)
     unfolding and_then
     over-right (Done g t) go n s last p h =
         subst (λ g. Alike F d n (turn_over g (λ u. At Place line u (go u)) t) (Over way.Bound s)) (sym h.0)
         (d, subst (F.state d n) h.1 p, last, refl, sym h.1)
     over-right (Over o t) go n s last p h =
-        subst (λ o. Alike F {A = Signal} d n (Over o t) (Over way.Bound s)) (sym h.0) (d, subst (F.state d n) h.1 p, last, refl, sym h.1)
+        subst (λ o. Alike F {A = Signal} d n (Over o t) (Over way.Bound s)) (sym h.0)
+        (d, subst (F.state d n) h.1 p, last, refl, sym h.1)
     over-right (At kind line t on) go n s last p h = (d, subst (F.state d n) h p, last, refl, sym h)
 
     pub Alike-do : (k l n : ℕ) (s : State) → F.bound ≤ n + k → F.bound ≤ n + l → F.state d n s
@@ -90,7 +96,8 @@ module _ {D : Type 0} (F : Facts D) (d : D) where
           p,
           λ u p.
               Alike-and_then F d d (i + 1) _ _ _ _ (tests (i + 1) u p) (λ tested m w le' p.
-              Alike-if F (holds tested) d m _ _ _ _ (Alike-do k l m w (omega (arith, few, le, le')) (omega (arith, less, le, le')) p) (p, refl, refl)),
+              Alike-if F (holds tested) d m _ _ _ _ (Alike-do k l m w (omega (arith, few, le, le'))
+              (omega (arith, less, le, le')) p) (p, refl, refl)),
           stands,
           refl,
           refl,
@@ -109,9 +116,11 @@ module _ {D : Type 0} (F : Facts D) (d : D) where
 
     Keeps-bind : (binding : Binding) (entry : Key × Data) → Keeps F d (bind binding entry) (bind binding entry)
     Keeps-bind binding entry n s p =
-        Keeps-and_then F d n _ _ _ _ (Keeps-bind_name binding.value (value_of entry.1) n s p) (λ _. Keeps-bind_key binding.key entry.0)
+        Keeps-and_then F d n _ _ _ _ (Keeps-bind_name binding.value (value_of entry.1) n s p)
+        (λ _. Keeps-bind_key binding.key entry.0)
 
-    pub Keeps-each : (line : ℕ) → F.line d line → (binding : Binding) (all : List (Key × Data)) (body body' : State → Run Signal)
+    pub Keeps-each : (line : ℕ) → F.line d line
+        → (binding : Binding) (all : List (Key × Data)) (body body' : State → Run Signal)
         → Keeps F d body body' → Keeps F d (each_run line binding all body) (each_run line binding all body')
     Keeps-each line stands binding [] body body' bodies n s p = (p, refl, refl)
     Keeps-each line stands binding (entry ∷ more) body body' bodies n s p = (

@@ -26,7 +26,8 @@ module _ {D : Type 0} (F : Facts D) (bundle : Bundle) (kept : IsKept F bundle) (
   Keeps-assign : (name : List ℕ) (indices : List Value) (push : Bool) (v : Value)
       → Keeps F d (assign_run name indices push v) (assign_run name indices push v)
   Keeps-assign name indices push v n s p =
-      Keeps-and_then F d n _ _ _ _ (Alike-taken F _ d d n s p (λ t e. kept.assigns d n 0 name (keys_of_indices indices) push v s t e p))
+      Keeps-and_then F d n _ _ _ _ (Alike-taken F _ d d n s p
+      (λ t e. kept.assigns d n 0 name (keys_of_indices indices) push v s t e p))
       (λ _ n t p. (p, refl, refl))
 
   Keeps-read : (name : List ℕ) (indices : List Value) → Keeps F d (read_run name indices) (read_run name indices)
@@ -39,7 +40,8 @@ module _ {D : Type 0} (F : Facts D) (bundle : Bundle) (kept : IsKept F bundle) (
   abbrev pub KeepsPlace : PlaceRun → Type 0
   KeepsPlace place = KeepsPart F d x y place.indices
 
-  module _ (place : PlaceRun) (indices_keep : KeepsPlace place) (right : Part Value) (right_keeps : KeepsPart F d x y right) where
+  module _ (place : PlaceRun) (indices_keep : KeepsPlace place) (right : Part Value)
+      (right_keeps : KeepsPart F d x y right) where
     pub Keeps-assignment : (push : Bool) → KeepsPart F d x y (assignment push place right)
     Keeps-assignment push n s p =
         Keeps-and_then F d n _ _ _ _ (indices_keep n s p) (λ indices n t p.
@@ -58,7 +60,8 @@ module _ {D : Type 0} (F : Facts D) (bundle : Bundle) (kept : IsKept F bundle) (
         Keeps-and_then F d n _ _ _ _ (indices_keep n s p) (λ indices n t p.
         Keeps-and_then F d n _ _ _ _ (Keeps-found place.name indices n t p) (λ old n u p.
         Alike-if F (is_missing old) d n _ _ _ _
-        (Keeps-and_then F d n _ _ _ _ (right_keeps n u p) (λ v. Keeps-assign place.name indices false v)) (p, refl, refl)))
+        (Keeps-and_then F d n _ _ _ _ (right_keeps n u p) (λ v. Keeps-assign place.name indices false v))
+        (p, refl, refl)))
 
   module _ (place : PlaceRun) (indices_keep : KeepsPlace place) where
     pub Keeps-step : (op : UnaryOp) (order : Order) → KeepsPart F d x y (step op order place)
@@ -79,5 +82,6 @@ module _ {D : Type 0} (F : Facts D) (bundle : Bundle) (kept : IsKept F bundle) (
   Keeps-unset [] each n s p = (p, refl, refl)
   Keeps-unset (place ∷ places) each n s p =
       Keeps-and_then F d n _ _ _ _ (each.0 n s p) (λ indices n t p.
-      Keeps-and_then F d n _ _ _ _ (Alike-taken F _ d d n t p (λ u e. kept.unsets d n place.name (keys_of_indices indices) t u e p))
+      Keeps-and_then F d n _ _ _ _ (Alike-taken F _ d d n t p
+      (λ u e. kept.unsets d n place.name (keys_of_indices indices) t u e p))
       (λ _. Keeps-unset places each.1))

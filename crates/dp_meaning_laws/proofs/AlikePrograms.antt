@@ -41,7 +41,8 @@ module _ {D : Type 0} (F : Facts D) (bundle : Bundle) (kept : IsKept F bundle) w
         let stand : Each (F.line down) (body_lines f.body) =
         each-at (F.line down) (λ (f : Function). body_lines f.body) found.0.tree.functions found.2 f found.3
         (each-right (F.line down) (body_lines found.0.tree.body) _ (kept.lines d file found.0 found.1)) in
-        Alike-and_then F down d n _ _ _ _ (Alike-taken F (called file f values s) down d n s p (λ t is. kept.calls d n file f values s t within is p))
+        Alike-and_then F down d n _ _ _ _ (Alike-taken F (called file f values s) down d n s p
+        (λ t is. kept.calls d n file f values s t within is p))
         (λ _ n t _ q. (
           down,
           q,
@@ -65,12 +66,15 @@ module _ {D : Type 0} (F : Facts D) (bundle : Bundle) (kept : IsKept F bundle) w
         let down : D = F.down file d in
         subst (λ b. Alike F d n (file-of x s x.bundle) (file-of y s b)) (sym good.right)
         (subst (λ b. Alike F d n (file-of x s b) (file-of y s bundle)) (sym good.left)
-        (Alike-and_then F down d n _ _ _ _ (Alike-taken F (included bundle file s) down d n s p (λ t is. kept.includes d n file s t within is p))
-        (λ _ n t _ q. Alike-and_then F down d n _ _ _ _ (Keeps-body F bundle kept down x y good (statements_of bundle file) (lines-stand d file) n t q)
+        (Alike-and_then F down d n _ _ _ _ (Alike-taken F (included bundle file s) down d n s p
+        (λ t is. kept.includes d n file s t within is p))
+        (λ _ n t _ q. Alike-and_then F down d n _ _ _ _ (Keeps-body F bundle kept down x y good
+        (statements_of bundle file) (lines-stand d file) n t q)
         (λ g m u _ q. (kept.leaves d m file u q, refl, refl)))))
 
   -- so many turns and so many frames more
-  pub Keeps-setting : (bound depth : ℕ) → F.bound ≤ bound → (d : D) → AreAlike F bundle d (setting_of bundle bound depth)
+  pub Keeps-setting : (bound depth : ℕ) → F.bound ≤ bound → (d : D)
+      → AreAlike F bundle d (setting_of bundle bound depth)
       (setting_of bundle bound depth)
   unfolding setting_of
   Keeps-setting bound zero enough d = record {
@@ -93,9 +97,11 @@ module _ {D : Type 0} (F : Facts D) (bundle : Bundle) (kept : IsKept F bundle) w
   }
 
   -- a program in whose main file the lines have it
-  pub Alike-program : (bound : ℕ) → F.bound ≤ bound → (d : D) → Each (F.line d) (body_lines (statements_of bundle 0)) → F.state d 0 (opening bundle)
+  pub Alike-program : (bound : ℕ) → F.bound ≤ bound → (d : D) → Each (F.line d) (body_lines (statements_of bundle 0))
+      → F.state d 0 (opening bundle)
       → Alike F d 0 (program_run bundle bound) (program_run bundle bound)
   unfolding program_run
   Alike-program bound enough d stand p =
       let x : Setting = setting_of bundle bound frame_limit in
-      Keeps-body F bundle kept d x x (Keeps-setting bound frame_limit enough d) (statements_of bundle 0) stand 0 (opening bundle) p
+      Keeps-body F bundle kept d x x (Keeps-setting bound frame_limit enough d) (statements_of bundle 0) stand 0
+      (opening bundle) p

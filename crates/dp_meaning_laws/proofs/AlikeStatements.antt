@@ -41,7 +41,8 @@ use Rattle.dp_meaning_laws.proofs.AlikeExpressions.{Keeps-expression, Keeps-eval
 use Rattle.dp_meaning_laws.proofs.AlikeLoops.{Alike-do, Alike-turns, IsStill, Keeps-each}
 use Rattle.dp_meaning_laws.proofs.AlikePlaces.{KeepsPlace, Keeps-unset}
 
-module _ {D : Type 0} (F : Facts D) (bundle : Bundle) (kept : IsKept F bundle) (d : D) (x y : Setting) (good : AreAlike F bundle d x y) where
+module _ {D : Type 0} (F : Facts D) (bundle : Bundle) (kept : IsKept F bundle) (d : D) (x y : Setting)
+    (good : AreAlike F bundle d x y) where
   Keeps-go_on : (f h : State → Run Signal) → Keeps F d f h → (g : Signal) → Keeps F d (go_on g f) (go_on g h)
   Keeps-go_on f h keep Next n s p = keep n s p
   Keeps-go_on f h keep (Break loops) n s p = (p, refl, refl)
@@ -50,7 +51,8 @@ module _ {D : Type 0} (F : Facts D) (bundle : Bundle) (kept : IsKept F bundle) (
 
   Keeps-sequence : (all : List (Part Signal)) → Each (KeepsPart F d x y) all → KeepsPart F d x y (sequence all)
   Keeps-sequence [] each n s p = (p, refl, refl)
-  Keeps-sequence (first ∷ rest) each n s p = Keeps-and_then F d n _ _ _ _ (each.0 n s p) (Keeps-go_on _ _ (Keeps-sequence rest each.1))
+  Keeps-sequence (first ∷ rest) each n s p =
+      Keeps-and_then F d n _ _ _ _ (each.0 n s p) (Keeps-go_on _ _ (Keeps-sequence rest each.1))
 
   Keeps-prints : (piece : List ℕ) → Keeps F d (λ s. taken (printed piece s) s) (λ s. taken (printed piece s) s)
   Keeps-prints piece n s p = Alike-taken F _ d d n s p (λ t is. kept.prints d n piece s t is p)
@@ -71,7 +73,8 @@ module _ {D : Type 0} (F : Facts D) (bundle : Bundle) (kept : IsKept F bundle) (
   keeps-status : (m : ℤ) → Keeps F d (exit_with (status_of m)) (exit_with (status_of m))
   keeps-status (pos m) n s p = go (nat_le m 199) refl
     where
-      go : (b : Bool) → nat_le m 199 ≡ b → Alike F d n (exit_with (if b then Some m else None) s) (exit_with (if b then Some m else None) s)
+      go : (b : Bool) → nat_le m 199 ≡ b
+          → Alike F d n (exit_with (if b then Some m else None) s) (exit_with (if b then Some m else None) s)
       go true is = let few : m ≤ 199 = grind (arith, nat_tests) in (d, p, few, refl, refl)
       go false is = (d, p, tt, refl, refl)
   keeps-status (negsuc m) n s p = (d, p, tt, refl, refl)
@@ -105,7 +108,8 @@ module _ {D : Type 0} (F : Facts D) (bundle : Bundle) (kept : IsKept F bundle) (
 
   -- with what is done where its test does not hold
   record GoodArm (lines : Lines) (arm : ArmRun) : Type 0 where
-    keeps : (otherwise : Part Signal) → KeepsPart F d x y otherwise → Each (F.line d) lines → KeepsPart F d x y (arm otherwise)
+    keeps : (otherwise : Part Signal) → KeepsPart F d x y otherwise → Each (F.line d) lines
+        → KeepsPart F d x y (arm otherwise)
     still : (otherwise : Part Signal) (setting : Setting) (s : State) → IsStill s (arm otherwise setting s)
 
   abbrev Good : Statement → Type 0
@@ -130,7 +134,8 @@ module _ {D : Type 0} (F : Facts D) (bundle : Bundle) (kept : IsKept F bundle) (
   Whole = StatementKind-F StatementKind Arm Statement
 
   abbrev parts : WithGood → Whole
-  parts y = map-StatementKind WithKind WithArm WithStatement StatementKind Arm Statement (λ e. e.0) (λ e. e.0) (λ e. e.0) y
+  parts y =
+      map-StatementKind WithKind WithArm WithStatement StatementKind Arm Statement (λ e. e.0) (λ e. e.0) (λ e. e.0) y
 
   abbrev runs : Whole → StatementKind-F KindRun ArmRun (Part Signal)
   runs z = map-StatementKind StatementKind Arm Statement KindRun ArmRun (Part Signal) kind_run arm_run statement_run z
@@ -148,15 +153,18 @@ module _ {D : Type 0} (F : Facts D) (bundle : Bundle) (kept : IsKept F bundle) (
 
   -- ---- blocks
 
-  all-keep : (all : List WithStatement) → Each (F.line d) (flat_map (λ lines. lines) (map lines_of (map (λ e. e.0) all)))
+  all-keep : (all : List WithStatement)
+      → Each (F.line d) (flat_map (λ lines. lines) (map lines_of (map (λ e. e.0) all)))
       → Each (KeepsPart F d x y) (map statement_run (map (λ e. e.0) all))
   all-keep [] stand = tt
-  all-keep (e ∷ all) stand = (e.1.keeps (each-left _ (lines_of e.0) _ stand), all-keep all (each-right _ (lines_of e.0) _ stand))
+  all-keep (e ∷ all) stand =
+      (e.1.keeps (each-left _ (lines_of e.0) _ stand), all-keep all (each-right _ (lines_of e.0) _ stand))
 
   still-next : (r : Run Signal) (next : State → Run Signal) (s : State) → IsStill s r → IsStill s (next s)
       → IsStill s (and_then r (λ g t. go_on g next t))
   unfolding and_then
-  still-next (Done g t) next s h k = subst (λ t. IsStill s (go_on g next t)) h.1 (subst (λ g. IsStill s (go_on g next s)) (sym h.0) k)
+  still-next (Done g t) next s h k =
+      subst (λ t. IsStill s (go_on g next t)) h.1 (subst (λ g. IsStill s (go_on g next s)) (sym h.0) k)
   still-next (Over o t) next s h k = h
   still-next (At kind line t go) next s h k = h
 
@@ -172,10 +180,12 @@ module _ {D : Type 0} (F : Facts D) (bundle : Bundle) (kept : IsKept F bundle) (
       → KeepsPart F d x y (arms_run (map arm_run (map (λ e. e.0) arms)) o)
   arms-keep [] o keep stand = keep
   arms-keep (e ∷ arms) o keep stand =
-      e.1.keeps (arms_run (map arm_run (map (λ e. e.0) arms)) o) (arms-keep arms o keep (each-right _ (arm_lines e.0) _ stand))
+      e.1.keeps (arms_run (map arm_run (map (λ e. e.0) arms)) o)
+      (arms-keep arms o keep (each-right _ (arm_lines e.0) _ stand))
       (each-left _ (arm_lines e.0) _ stand)
 
-  arms-still : (arms : List WithArm) (o : Option (Part Signal)) → ((setting : Setting) (s : State) → IsStill s (arms_run [] o setting s))
+  arms-still : (arms : List WithArm) (o : Option (Part Signal))
+      → ((setting : Setting) (s : State) → IsStill s (arms_run [] o setting s))
       → (setting : Setting) (s : State) → IsStill s (arms_run (map arm_run (map (λ e. e.0) arms)) o setting s)
   arms-still [] o still setting s = still setting s
   arms-still (e ∷ arms) o still setting s = e.1.still (arms_run (map arm_run (map (λ e. e.0) arms)) o) setting s
@@ -202,35 +212,43 @@ module _ {D : Type 0} (F : Facts D) (bundle : Bundle) (kept : IsKept F bundle) (
   keeps-all : (es : List Expression) → KeepsPart F d x y (evaluations es)
   keeps-all es = Keeps-evaluations F bundle kept d x y good es
 
-  keeps-turns : (line : ℕ) (test next : List Expression) (body : WithStatement) → F.line d line → Each (F.line d) (lines_of body.0)
-      → KeepsPart F d x y (λ setting s. turns setting.bound line (evaluations test setting) (evaluations next setting) (statement_run body.0 setting) s)
+  keeps-turns : (line : ℕ) (test next : List Expression) (body : WithStatement) → F.line d line
+      → Each (F.line d) (lines_of body.0)
+      → KeepsPart F d x y (λ setting s. turns setting.bound line (evaluations test setting) (evaluations next setting)
+      (statement_run body.0 setting) s)
   keeps-turns line test next body stands stand n s p =
       Alike-turns F d line stands _ _ _ _ _ _ (keeps-all test) (keeps-all next) (body.1.keeps stand) x.bound y.bound n s
       (omega (arith, good.turns_left)) (omega (arith, good.turns_right)) p
 
   keeps-do : (end : ℕ) (test : Expression) (body : WithStatement) → F.line d end → Each (F.line d) (lines_of body.0)
-      → KeepsPart F d x y (λ setting s. do_turns setting.bound end (evaluation test setting) (statement_run body.0 setting) s)
+      → KeepsPart F d x y (λ setting s. do_turns setting.bound end (evaluation test setting)
+      (statement_run body.0 setting) s)
   keeps-do end test body stands stand n s p =
-      Alike-do F d end stands _ _ _ _ (keeps test) (body.1.keeps stand) (body.1.still x) (body.1.still y) x.bound y.bound n s
+      Alike-do F d end stands _ _ _ _ (keeps test) (body.1.keeps stand) (body.1.still x)
+      (body.1.still y) x.bound y.bound n s
       (omega (arith, good.turns_left)) (omega (arith, good.turns_right)) p
 
   -- ---- all kinds
 
   keeps-layer : (z : WithGood) → OfKind (lines.kind_layer (linings (parts z))) (kind_layer (runs (parts z)))
-  keeps-layer (StatementKind-F.Expression e) line = placed-on [] line _ (λ _ n s p. Keeps-and_then F d n _ _ _ _ (keeps e n s p)
+  keeps-layer (StatementKind-F.Expression e) line =
+      placed-on [] line _ (λ _ n s p. Keeps-and_then F d n _ _ _ _ (keeps e n s p)
       (λ _ n u p. (p, refl, refl)))
   keeps-layer (StatementKind-F.Echo operands) line = placed-on [] line _ (λ _. Keeps-echoes operands)
   keeps-layer (StatementKind-F.Block all) line = record {
     keeps = λ stand. Keeps-sequence _ (all-keep all stand);
     still = all-still all;
   }
-  keeps-layer StatementKind-F.Empty line = record { keeps = λ stand n s p. (p, refl, refl); still = λ setting s. (refl, refl) }
+  keeps-layer StatementKind-F.Empty line =
+      record { keeps = λ stand n s p. (p, refl, refl); still = λ setting s. (refl, refl) }
   keeps-layer (StatementKind-F.If arms None) line = record {
     keeps = λ stand. arms-keep arms None (λ n s p. (p, refl, refl)) (each-left _ _ [] stand);
     still = arms-still arms None (λ setting s. (refl, refl));
   }
   keeps-layer (StatementKind-F.If arms (Some otherwise)) line = record {
-    keeps = λ stand. arms-keep arms (Some (statement_run otherwise.0)) (otherwise.1.keeps (each-right _ _ (lines_of otherwise.0) stand))
+    keeps =
+        λ stand. arms-keep arms (Some (statement_run otherwise.0))
+        (otherwise.1.keeps (each-right _ _ (lines_of otherwise.0) stand))
         (each-left _ _ (lines_of otherwise.0) stand);
     still = arms-still arms (Some (statement_run otherwise.0)) otherwise.1.still;
   }
@@ -239,14 +257,17 @@ module _ {D : Type 0} (F : Facts D) (bundle : Bundle) (kept : IsKept F bundle) (
     still = λ setting s. still-turns setting.bound line _ _ _ s;
   }
   keeps-layer (StatementKind-F.DoWhile body end test) line = record {
-    keeps = λ stand. keeps-do end test body (each-right _ (lines_of body.0) (end ∷ []) stand).0 (each-left _ (lines_of body.0) (end ∷ []) stand);
+    keeps =
+        λ stand. keeps-do end test body (each-right _ (lines_of body.0) (end ∷ []) stand).0
+        (each-left _ (lines_of body.0) (end ∷ []) stand);
     still = λ setting s. still-do setting.bound end _ _ s (body.1.still setting s);
   }
   keeps-layer (StatementKind-F.For before tests after body) line = record {
     keeps = λ stand n s p. (
       d,
       p,
-      λ t p. Keeps-and_then F d (n + 1) _ _ _ _ (keeps-all before (n + 1) t p) (λ _. keeps-turns line tests after body stand.0 stand.1),
+      λ t p. Keeps-and_then F d (n + 1) _ _ _ _ (keeps-all before (n + 1) t p)
+          (λ _. keeps-turns line tests after body stand.0 stand.1),
       stand.0,
       refl,
       refl,
@@ -258,7 +279,8 @@ module _ {D : Type 0} (F : Facts D) (bundle : Bundle) (kept : IsKept F bundle) (
     keeps = λ stand n s p. (
       d,
       p,
-      λ t p. Keeps-and_then F d (n + 1) _ _ _ _ (keeps subject (n + 1) t p) (λ v. Keeps-each F d bundle kept line stand.0 binding
+      λ t p. Keeps-and_then F d (n + 1) _ _ _ _ (keeps subject (n + 1) t p)
+          (λ v. Keeps-each F d bundle kept line stand.0 binding
           (entries v) _ _ (body.1.keeps stand.1)),
       stand.0,
       refl,
@@ -270,24 +292,29 @@ module _ {D : Type 0} (F : Facts D) (bundle : Bundle) (kept : IsKept F bundle) (
   keeps-layer (StatementKind-F.Break loops) line = placed-on [] line _ (λ _ n s p. (p, refl, refl))
   keeps-layer (StatementKind-F.Continue loop) line = placed-on [] line _ (λ _ n s p. (p, refl, refl))
   keeps-layer (StatementKind-F.Return value) line = placed-on [] line _ (λ _. keeps-return value)
-  keeps-layer (StatementKind-F.Global names) line = placed-on [] line _ (λ _ n s p. (Keeps-globals names n s p, refl, refl))
+  keeps-layer (StatementKind-F.Global names) line =
+      placed-on [] line _ (λ _ n s p. (Keeps-globals names n s p, refl, refl))
   keeps-layer (StatementKind-F.Unset places) line = placed-on [] line _ (λ _ n s p.
-      Keeps-and_then F d n _ _ _ _ (Keeps-unset F bundle kept d x y (map place_run places) (all-places places) n s p) (λ _ n u p. (p, refl, refl)))
+      Keeps-and_then F d n _ _ _ _ (Keeps-unset F bundle kept d x y (map place_run places) (all-places places) n s p)
+      (λ _ n u p. (p, refl, refl)))
   keeps-layer (StatementKind-F.Exit value) line = placed-on [] line _ (λ _. keeps-end value)
 
-  step-kind : (x : Whole) (z : WithGood) → parts z ≡ x → OfKind (kind_lines (roll-StatementKind x)) (kind_run (roll-StatementKind x))
+  step-kind : (x : Whole) (z : WithGood) → parts z ≡ x
+      → OfKind (kind_lines (roll-StatementKind x)) (kind_run (roll-StatementKind x))
   unfolding kind_run arm_run statement_run
   step-kind x z is = subst (λ w. OfKind (kind_lines (roll-StatementKind w)) (kind_run (roll-StatementKind w))) is
       (subst (λ lines. OfKind lines (kind_run (roll-StatementKind (parts z)))) (sym
       (fold-roll-StatementKind LinesFrom Lines Lines lines.kind_layer lines.arm_layer lines.statement_layer (parts z)))
       (subst (λ run. OfKind (lines.kind_layer (linings (parts z))) run) (sym
-      (fold-roll-StatementKind KindRun ArmRun (Part Signal) kind_layer arm_layer statement_layer (parts z))) (keeps-layer z)))
+      (fold-roll-StatementKind KindRun ArmRun (Part Signal) kind_layer arm_layer statement_layer (parts z)))
+      (keeps-layer z)))
 
   abbrev parts-arm : Arm-F WithKind WithArm WithStatement → Arm-F StatementKind Arm Statement
   parts-arm z = map-Arm WithKind WithArm WithStatement StatementKind Arm Statement (λ e. e.0) (λ e. e.0) (λ e. e.0) z
 
   keeps-arm : (z : Arm-F WithKind WithArm WithStatement)
-      → GoodArm (z.line ∷ lines_of z.body.0) (arm_layer (record { line = z.line; test = z.test; body = statement_run z.body.0 }))
+      → GoodArm (z.line
+      ∷ lines_of z.body.0) (arm_layer (record { line = z.line; test = z.test; body = statement_run z.body.0 }))
   keeps-arm z = record {
     keeps = λ otherwise keep stand n s p. (
       d,
@@ -313,33 +340,43 @@ module _ {D : Type 0} (F : Facts D) (bundle : Bundle) (kept : IsKept F bundle) (
       (fold-roll-Arm KindRun ArmRun (Part Signal) kind_layer arm_layer statement_layer (parts-arm z))) (keeps-arm z)))
 
   abbrev parts-statement : Statement-F WithKind WithArm WithStatement → Statement-F StatementKind Arm Statement
-  parts-statement z = map-Statement WithKind WithArm WithStatement StatementKind Arm Statement (λ e. e.0) (λ e. e.0) (λ e. e.0) z
+  parts-statement z =
+      map-Statement WithKind WithArm WithStatement StatementKind Arm Statement (λ e. e.0) (λ e. e.0) (λ e. e.0) z
 
-  step-statement : (x : Statement-F StatementKind Arm Statement) (z : Statement-F WithKind WithArm WithStatement) → parts-statement z ≡ x
+  step-statement : (x : Statement-F StatementKind Arm Statement) (z : Statement-F WithKind WithArm WithStatement)
+      → parts-statement z ≡ x
       → Good (roll-Statement x)
   unfolding kind_run arm_run statement_run
   step-statement x z is = subst (λ w. Good (roll-Statement w)) is
       (subst (λ lines. GoodOn lines (statement_run (roll-Statement (parts-statement z)))) (sym
-      (fold-roll-Statement LinesFrom Lines Lines lines.kind_layer lines.arm_layer lines.statement_layer (parts-statement z)))
+      (fold-roll-Statement LinesFrom Lines Lines lines.kind_layer lines.arm_layer lines.statement_layer
+      (parts-statement z)))
       (subst (λ run. GoodOn (kind_lines z.kind.0 z.line) run) (sym
-      (fold-roll-Statement KindRun ArmRun (Part Signal) kind_layer arm_layer statement_layer (parts-statement z))) (z.kind.1 z.line)))
+      (fold-roll-Statement KindRun ArmRun (Part Signal) kind_layer arm_layer statement_layer (parts-statement z)))
+      (z.kind.1 z.line)))
 
   -- ---- whole trees
 
   good-statement : (statement : Statement) → Good statement
   good-statement statement =
-      ind-Statement (λ e. OfKind (kind_lines e) (kind_run e)) (λ e. GoodArm (arm_lines e) (arm_run e)) Good step-kind step-arm step-statement
+      ind-Statement (λ e. OfKind (kind_lines e) (kind_run e))
+      (λ e. GoodArm (arm_lines e) (arm_run e)) Good step-kind step-arm step-statement
       statement
 
-  pub Keeps-statement : (statement : Statement) → Each (F.line d) (lines_of statement) → KeepsPart F d x y (statement_run statement)
+  pub Keeps-statement : (statement : Statement) → Each (F.line d) (lines_of statement)
+      → KeepsPart F d x y (statement_run statement)
   Keeps-statement statement stand = (good-statement statement).keeps stand
 
-  pub Still-statement : (statement : Statement) (setting : Setting) (s : State) → IsStill s (statement_run statement setting s)
+  pub Still-statement : (statement : Statement) (setting : Setting) (s : State)
+      → IsStill s (statement_run statement setting s)
   Still-statement statement setting s = (good-statement statement).still setting s
 
-  pub Keeps-body : (statements : List Statement) → Each (F.line d) (body_lines statements) → KeepsPart F d x y (body_run statements)
+  pub Keeps-body : (statements : List Statement) → Each (F.line d) (body_lines statements)
+      → KeepsPart F d x y (body_run statements)
   Keeps-body statements stand = Keeps-sequence (map statement_run statements) (all statements stand)
     where
-      all : (statements : List Statement) → Each (F.line d) (body_lines statements) → Each (KeepsPart F d x y) (map statement_run statements)
+      all : (statements : List Statement) → Each (F.line d) (body_lines statements)
+          → Each (KeepsPart F d x y) (map statement_run statements)
       all [] stand = tt
-      all (e ∷ es) stand = (Keeps-statement e (each-left _ (lines_of e) _ stand), all es (each-right _ (lines_of e) _ stand))
+      all (e ∷ es) stand =
+          (Keeps-statement e (each-left _ (lines_of e) _ stand), all es (each-right _ (lines_of e) _ stand))

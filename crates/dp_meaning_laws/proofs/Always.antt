@@ -1,4 +1,5 @@
--- What is kept by each step of a program is true at each moment of its run and at its end, and an exit has one of 200 statuses.
+-- What is kept by each step of a program is true at each moment of its run and at its end, and an exit has one of 200
+-- statuses.
 use Rattle.std.proofs.Common.{◌≡◌, ℕ, ◌+◌, ◌<◌, ◌≤◌, Bool, List, length, Option, Result, Ok}
 use Rattle.dp_tree.specs.declared.bundle.Bundle.{Bundle}
 use Rattle.dp_tree.specs.declared.tree.Function.{Function}
@@ -19,7 +20,8 @@ CanEnd (way.Exit status) = status ≤ 199
 CanEnd (way.Fatal kind file line) = Unit {0}
 CanEnd way.Bound = Unit {0}
 
--- A fact P of a state says how deep it is and how many moments it has had. It is true, whatever is done to the states at the moments that leaves it true.
+-- A fact P of a state says how deep it is and how many moments it has had. It is true, whatever is done to the states
+-- at the moments that leaves it true.
 module _ {D : Type 0} (P : D → ℕ → State → Type 0) where
   abbrev pub Always : {A : Type 0} → D → ℕ → Run A → Type 0
   Always d n (Done a s) = P d n s
@@ -30,12 +32,15 @@ module _ {D : Type 0} (P : D → ℕ → State → Type 0) where
   pub record IsKept (bundle : Bundle) : Type 0 where
     -- one frame deeper
     pub down : D → D
-    pub assigns : (d : D) (n : ℕ) (level : ℕ) (name : List ℕ) (keys : List (Option Key)) (push : Bool) (v : Value) (s t : State)
+    pub assigns : (d : D) (n : ℕ) (level : ℕ) (name : List ℕ) (keys : List (Option Key)) (push : Bool) (v : Value)
+        (s t : State)
         → assigned level name keys push v s ≡ Ok t → P d n s → P d n t
-    pub unsets : (d : D) (n : ℕ) (name : List ℕ) (keys : List (Option Key)) (s t : State) → unset name keys s ≡ Ok t → P d n s → P d n t
+    pub unsets : (d : D) (n : ℕ) (name : List ℕ) (keys : List (Option Key)) (s t : State) → unset name keys s ≡ Ok t
+        → P d n s → P d n t
     pub binds : (d : D) (n : ℕ) (name : List ℕ) (s : State) → P d n s → P d n (with_global name s)
     pub prints : (d : D) (n : ℕ) (piece : List ℕ) (s t : State) → printed piece s ≡ Ok t → P d n s → P d n t
     pub calls : (d : D) (n file : ℕ) (f : Function) (values : List Value) (s t : State)
         → file < length bundle.files → called file f values s ≡ Ok t → P d n s → P (down d) n t
-    pub includes : (d : D) (n file : ℕ) (s t : State) → file < length bundle.files → included bundle file s ≡ Ok t → P d n s → P (down d) n t
+    pub includes : (d : D) (n file : ℕ) (s t : State) → file < length bundle.files → included bundle file s ≡ Ok t
+        → P d n s → P (down d) n t
     pub leaves : (d : D) (n : ℕ) (s : State) → P (down d) n s → P d n (left s)

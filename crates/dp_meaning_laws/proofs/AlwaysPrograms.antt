@@ -46,4 +46,5 @@ module _ {D : Type 0} (P : D → ℕ → State → Type 0) (bundle : Bundle) (ke
   pub Always-program : (bound : ℕ) (d : D) → P d 0 (opening bundle) → Always P d 0 (program_run bundle bound)
   Always-program bound d p =
       always d 0 (program_run bundle bound)
-      (Alike-program facts bundle kept-facts bound (omega arith) d (each-all _ (λ line. tt) (body_lines (statements_of bundle 0))) p)
+      (Alike-program facts bundle kept-facts bound (omega arith) d
+      (each-all _ (λ line. tt) (body_lines (statements_of bundle 0))) p)

@@ -1,4 +1,5 @@
--- Loops with as many turns as moments may come, and calls with as many frames as may be on the stack, go as with more of them.
+-- Loops with as many turns as moments may come, and calls with as many frames as may be on the stack, go as with more
+-- of them.
 use Rattle.std.proofs.Common.{◌≡◌, ℕ, zero, suc, ◌+◌, ◌<◌, ◌≤◌, Bool, true, false, if◌then◌else◌, List, [], ◌∷◌, ◌++◌, length, Option, Some, None, refl, sym, ap, ◌∙◌, subst, arith}
 use Rattle.std.proofs.lemmas.Bool.{le-ltb}
 use Rattle.std.proofs.lemmas.List.{length-map, length_push}
@@ -64,7 +65,8 @@ module _ (bundle : Bundle) where
     anywhere d lines = each-all (Anywhere bundle d) (λ line. tt) lines
 
     -- no call comes where there can be no frame more
-    no-calls : (d : Stack) (x y : Setting) → x.bundle ≡ bundle → y.bundle ≡ bundle → bound ≤ x.bound → bound ≤ y.bound → frame_limit ≤ length d.above
+    no-calls : (d : Stack) (x y : Setting) → x.bundle ≡ bundle → y.bundle ≡ bundle → bound ≤ x.bound → bound ≤ y.bound
+        → frame_limit ≤ length d.above
         → AreAlike counting bundle d x y
     no-calls d x y left right few less full = record {
       left = left;
@@ -76,7 +78,8 @@ module _ (bundle : Bundle) where
     }
 
     -- settings with enough turns and frames do the same
-    pub ample : (m k : ℕ) → bound ≤ m → bound ≤ k → (a b : ℕ) (d : Stack) → frame_limit ≤ length d.above + a → frame_limit ≤ length d.above + b
+    pub ample : (m k : ℕ) → bound ≤ m → bound ≤ k → (a b : ℕ) (d : Stack) → frame_limit ≤ length d.above + a
+        → frame_limit ≤ length d.above + b
         → AreAlike counting bundle d (setting_of bundle m a) (setting_of bundle k b)
     unfolding setting_of
     ample m k few less zero zero d deep low = no-calls d _ _ refl refl few less (omega (arith, deep))
@@ -87,9 +90,12 @@ module _ (bundle : Bundle) where
       right = refl;
       turns_left = few;
       turns_right = less;
-      call = λ file f values found. Keeps-function counting bundle kept-counting d file (setting_of bundle m a) (setting_of bundle k b)
+      call =
+          λ file f values found. Keeps-function counting bundle kept-counting d file (setting_of bundle m a)
+          (setting_of bundle k b)
           (ample m k few less a b (with_file file d) (more file a deep) (more file b low)) f values found;
-      include = λ file within. Keeps-file counting bundle kept-counting d file (setting_of bundle m a) (setting_of bundle k b)
+      include =
+          λ file within. Keeps-file counting bundle kept-counting d file (setting_of bundle m a) (setting_of bundle k b)
           (ample m k few less a b (with_file file d) (more file a deep) (more file b low)) within;
     }
       where
@@ -112,34 +118,41 @@ module _ (bundle : Bundle) where
     same-alone (At kind line s go) (Over o t) d n h = rw (past n s s refl h.1.moments h.2) refl
     same-alone {A} (At kind line s go) (At other there t on) d n h =
         ap (λ (o : Option (A × State)). if nat_lt s.moments bound then o else None)
-        (same-alone (go (arrived line s)) (on (arrived line s)) d (n + 1) (h.2 _ (there-arrived bundle h.0 n line s h.1)))
+        (same-alone (go (arrived line s)) (on (arrived line s)) d (n + 1)
+        (h.2 _ (there-arrived bundle h.0 n line s h.1)))
         ∙ (λ i. alone bound (At (h.4 i) (h.5 i) (h.6 i) on))
 
     module _ (v : Writes) (ws : List NumberedWrite)
-        (same : (d : Stack) (n k : ℕ) (s : State) → IsThere bundle d n s → written v k s ≡ written (writes_of bundle ws) k s) where
+        (same : (d : Stack) (n k : ℕ) (s : State) → IsThere bundle d n s
+        → written v k s ≡ written (writes_of bundle ws) k s) where
       abbrev w : Writes
       w = writes_of bundle ws
 
-      pub same-traces : {A B : Type 0} (r q : Run A) (next : A → State → Run B) → ((a : A) (s : State) → trace bound v (next a s) ≡ trace bound w (next a s))
-          → (d : Stack) (n : ℕ) → Alike counting d n r q → trace bound v (and_then r next) ≡ trace bound w (and_then q next)
+      pub same-traces : {A B : Type 0} (r q : Run A) (next : A → State → Run B)
+          → ((a : A) (s : State) → trace bound v (next a s) ≡ trace bound w (next a s))
+          → (d : Stack) (n : ℕ) → Alike counting d n r q
+          → trace bound v (and_then r next) ≡ trace bound w (and_then q next)
       unfolding and_then
       same-traces (Done a s) (Done b t) next tail d n h = tail a s ∙ (λ i. trace bound w (next (h.1 i) (h.2 i)))
       same-traces (Done a s) (Over o t) next tail d n h = absurd h
       same-traces (Done a s) (At kind line t go) next tail d n h = absurd h
       same-traces (Over o s) (Done b t) next tail d n h = absurd h
-      same-traces (Over o s) (Over p t) next tail d n h = λ i. record { moments = []; end = Ended (h.3 i); state = h.4 i }
+      same-traces (Over o s) (Over p t) next tail d n h =
+          λ i. record { moments = []; end = Ended (h.3 i); state = h.4 i }
       same-traces (Over o s) (At kind line t go) next tail d n h =
           rw (past n s t h.4 h.1.moments h.2) (λ i. record { moments = []; end = Ended (h.3 i); state = h.4 i })
       same-traces (At kind line s go) (Done b t) next tail d n h = absurd h
       same-traces (At kind line s go) (Over o t) next tail d n h =
           rw (past n s s refl h.1.moments h.2) (λ i. record { moments = []; end = Ended (sym h.3 i); state = h.4 i })
       same-traces {A} {B} (At kind line s go) (At other here t on) next tail d n h =
-          ap (λ (x : Trace B). let y : Trace B = if nat_lt s.moments bound then with_moment (moment_of kind (arrived line s)) (arrived line s) x else (record {
+          ap (λ (x : Trace B). let y : Trace B = if nat_lt s.moments bound
+          then with_moment (moment_of kind (arrived line s)) (arrived line s) x else (record {
             moments = [];
             end = Ended way.Bound;
             state = s;
           }) in y)
-          (same-traces (go u) (on u) next tail d (n + 1) (h.2 u there) ∙ ap (λ x. trace bound w (and_then (on x) next)) equal)
+          (same-traces (go u) (on u) next tail d (n + 1) (h.2 u there)
+          ∙ ap (λ x. trace bound w (and_then (on x) next)) equal)
           ∙ (λ i. trace bound w (and_then (At (h.4 i) (h.5 i) (h.6 i) on) next))
         where
           before : IsThere bundle h.0 (n + 1) (arrived line s)
@@ -152,32 +165,40 @@ module _ (bundle : Bundle) where
           equal = same h.0 (n + 1) (s.moments + 1) (arrived line s) before
 
           there : IsThere bundle h.0 (n + 1) u
-          there = subst (IsThere bundle h.0 (n + 1)) (sym equal) (written-there bundle ws h.0 (n + 1) (s.moments + 1) (arrived line s) before)
+          there =
+              subst (IsThere bundle h.0 (n + 1)) (sym equal) (written-there bundle ws h.0 (n + 1) (s.moments + 1)
+              (arrived line s) before)
 
   -- ---- evaluations and writes
 
   module _ (m a : ℕ) (few : evaluation_limit ≤ m) where
-    ample-evaluated : (e : Expression) (d : Stack) (n : ℕ) (s : State) → IsThere bundle d n s → frame_limit ≤ length d.above + a
+    ample-evaluated : (e : Expression) (d : Stack) (n : ℕ) (s : State) → IsThere bundle d n s
+        → frame_limit ≤ length d.above + a
         → evaluated (setting_of bundle m a) e s ≡ evaluated (evaluation_setting bundle) e s
     ample-evaluated e d n s p deep =
         ap (recounted s.moments) (same-alone evaluation_limit _ _ d 0
-        ((Keeps-expression (counting evaluation_limit) bundle (kept-counting evaluation_limit) d (setting_of bundle m a) (evaluation_setting bundle)
-        (ample evaluation_limit m evaluation_limit few (omega arith) a frame_limit d deep (omega arith)) e).0 0 _ (recounted-there bundle d n 0 s p)))
+        ((Keeps-expression (counting evaluation_limit) bundle (kept-counting evaluation_limit) d (setting_of bundle m a)
+        (evaluation_setting bundle)
+        (ample evaluation_limit m evaluation_limit few (omega arith) a frame_limit d deep (omega arith)) e).0 0 _
+        (recounted-there bundle d n 0 s p)))
 
     ample-one : frame_limit ≤ a → (w : Write) (d : Stack) (n : ℕ) (s : State) → IsThere bundle d n s
         → one_write (setting_of bundle m a) w s ≡ one_write (evaluation_setting bundle) w s
     ample-one deep (Place level context path value) d n s p = refl
     ample-one deep (Evaluate e) d n s p = ap (left_by s) (ample-evaluated e d n s p (omega (arith, deep)))
 
-    pub ample-written : frame_limit ≤ a → (ws : List NumberedWrite) (d : Stack) (n k : ℕ) (s : State) → IsThere bundle d n s
+    pub ample-written : frame_limit ≤ a → (ws : List NumberedWrite) (d : Stack) (n k : ℕ) (s : State)
+        → IsThere bundle d n s
         → written_by (setting_of bundle m a) ws k s ≡ written_by (evaluation_setting bundle) ws k s
     ample-written deep [] d n k s p = refl
     ample-written deep (w ∷ ws) d n k s p = go (nat_eq w.moment k) (ample-written deep ws d n k)
       where
         go : (b : Bool)
-            → ((s : State) → IsThere bundle d n s → written_by (setting_of bundle m a) ws k s ≡ written_by (evaluation_setting bundle) ws k s)
+            → ((s : State) → IsThere bundle d n s
+            → written_by (setting_of bundle m a) ws k s ≡ written_by (evaluation_setting bundle) ws k s)
             → written_by (setting_of bundle m a) ws k (if b then one_write (setting_of bundle m a) w.write s else s)
-            ≡ written_by (evaluation_setting bundle) ws k (if b then one_write (evaluation_setting bundle) w.write s else s)
+            ≡ written_by (evaluation_setting bundle) ws k (if b then one_write (evaluation_setting bundle) w.write s
+            else s)
         go true more =
             ap (λ u. written_by (setting_of bundle m a) ws k u) (ample-one deep w.write d n s p)
             ∙ more (one_write (evaluation_setting bundle) w.write s) (one-there bundle d n w.write s p)

@@ -32,7 +32,8 @@ use Rattle.dp_actions.proofs.Runs.{and_then-Done}
 
 -- ---- in the midst of a run
 
-module _ (bundle : Bundle) (bound m a k b : ℕ) (s : State) (can : CanStand bundle s) (few : IsAmple bound s m a) (less : IsAmple bound s k b) where
+module _ (bundle : Bundle) (bound m a k b : ℕ) (s : State) (can : CanStand bundle s) (few : IsAmple bound s m a)
+    (less : IsAmple bound s k b) where
   abbrev x : Setting
   x = setting_of bundle m a
 
@@ -58,14 +59,17 @@ module _ (bundle : Bundle) (bound m a k b : ℕ) (s : State) (can : CanStand bun
 
   pub same-evaluation : (e : Expression) → SameTraces bundle bound (evaluation e x s) (evaluation e y s)
   same-evaluation e =
-      same _ _ ((Keeps-expression (counting bundle bound) bundle (kept-counting bundle bound) d x y good e).0 s.moments s there)
+      same _ _ ((Keeps-expression (counting bundle bound) bundle (kept-counting bundle bound) d x y good e).0 s.moments
+      s there)
 
-  pub same-statement : (statement : Statement) → SameTraces bundle bound (statement_run statement x s) (statement_run statement y s)
+  pub same-statement : (statement : Statement)
+      → SameTraces bundle bound (statement_run statement x s) (statement_run statement y s)
   same-statement statement =
       same _ _ (Keeps-statement (counting bundle bound) bundle (kept-counting bundle bound) d x y good statement
       (anywhere bundle bound d (lines_of statement)) s.moments s there)
 
-  pub same-body : (statements : List Statement) → SameTraces bundle bound (body_run statements x s) (body_run statements y s)
+  pub same-body : (statements : List Statement)
+      → SameTraces bundle bound (body_run statements x s) (body_run statements y s)
   same-body statements =
       same _ _ (Keeps-body (counting bundle bound) bundle (kept-counting bundle bound) d x y good statements
       (anywhere bundle bound d (body_lines statements)) s.moments s there)
@@ -78,7 +82,8 @@ module _ (bundle : Bundle) (bound m a k b : ℕ) (s : State) (can : CanStand bun
         same _ _ (Alike-turns (counting bundle bound) d line tt _ _ _ _ _ _
         (Keeps-evaluations (counting bundle bound) bundle (kept-counting bundle bound) d x y good tests)
         (Keeps-evaluations (counting bundle bound) bundle (kept-counting bundle bound) d x y good after)
-        (Keeps-statement (counting bundle bound) bundle (kept-counting bundle bound) d x y good body (anywhere bundle bound d (lines_of body)))
+        (Keeps-statement (counting bundle bound) bundle (kept-counting bundle bound) d x y good body
+        (anywhere bundle bound d (lines_of body)))
         n l s.moments s more most there)
 
     pub same-do : (test : Expression)
@@ -87,13 +92,16 @@ module _ (bundle : Bundle) (bound m a k b : ℕ) (s : State) (can : CanStand bun
     same-do test =
         same _ _ (Alike-do (counting bundle bound) d line tt _ _ _ _
         (Keeps-expression (counting bundle bound) bundle (kept-counting bundle bound) d x y good test).0
-        (Keeps-statement (counting bundle bound) bundle (kept-counting bundle bound) d x y good body (anywhere bundle bound d (lines_of body)))
+        (Keeps-statement (counting bundle bound) bundle (kept-counting bundle bound) d x y good body
+        (anywhere bundle bound d (lines_of body)))
         (Still-statement (counting bundle bound) bundle (kept-counting bundle bound) d x y good body x)
-        (Still-statement (counting bundle bound) bundle (kept-counting bundle bound) d x y good body y) n l s.moments s more most there)
+        (Still-statement (counting bundle bound) bundle (kept-counting bundle bound) d x y good body y) n l s.moments s
+        more most there)
 
 -- ---- whole programs
 
-module _ (bundle : Bundle) (bound : ℕ) (ws : List NumberedWrite) (m a k b : ℕ) (few : bound ≤ m) (deep : frame_limit ≤ a)
+module _ (bundle : Bundle) (bound : ℕ) (ws : List NumberedWrite) (m a k b : ℕ) (few : bound ≤ m)
+    (deep : frame_limit ≤ a)
     (more : evaluation_limit ≤ k) (low : frame_limit ≤ b) where
   abbrev v : Writes
   v = record { setting = setting_of bundle k b; list = ws }
@@ -104,24 +112,32 @@ module _ (bundle : Bundle) (bound : ℕ) (ws : List NumberedWrite) (m a k b : �
   abbrev narrow : Setting
   narrow = setting_of bundle bound frame_limit
 
-  with-files : 0 < length bundle.files → trace_by bundle bound wide v ≡ trace_by bundle bound narrow (writes_of bundle ws)
+  with-files : 0 < length bundle.files
+      → trace_by bundle bound wide v ≡ trace_by bundle bound narrow (writes_of bundle ws)
   with-files some =
       ap (trace bound v) (sym (and_then-Done (body_run (statements_of bundle 0) wide (opening bundle))))
       ∙ same-traces bundle bound v ws (λ d n i s p. ample-written bundle k b more low ws d n i s p)
-      (body_run (statements_of bundle 0) wide (opening bundle)) (body_run (statements_of bundle 0) narrow (opening bundle)) (λ g s. Done g s) (λ g s. refl)
+      (body_run (statements_of bundle 0) wide (opening bundle))
+      (body_run (statements_of bundle 0) narrow (opening bundle)) (λ g s. Done g s) (λ g s. refl)
       main_file 0
       (Keeps-body (counting bundle bound) bundle (kept-counting bundle bound) main_file wide narrow
-      (ample bundle bound m bound few (omega arith) a frame_limit main_file (omega (arith, deep)) (omega arith)) (statements_of bundle 0)
-      (anywhere bundle bound main_file (body_lines (statements_of bundle 0))) 0 (opening bundle) (there-opening bundle some))
-      ∙ ap (trace bound (writes_of bundle ws)) (and_then-Done (body_run (statements_of bundle 0) narrow (opening bundle)))
+      (ample bundle bound m bound few (omega arith) a frame_limit main_file (omega (arith, deep)) (omega arith))
+      (statements_of bundle 0)
+      (anywhere bundle bound main_file (body_lines (statements_of bundle 0))) 0 (opening bundle)
+      (there-opening bundle some))
+      ∙ ap (trace bound (writes_of bundle ws)) (and_then-Done
+      (body_run (statements_of bundle 0) narrow (opening bundle)))
 
   pub same-program : trace_by bundle bound wide v ≡ program_trace bundle bound ws
   unfolding program_trace program_run
   same-program = go (slice_get bundle.files 0) refl
     where
-      go : (o : Option BundleFile) → slice_get bundle.files 0 ≡ o → trace_by bundle bound wide v ≡ trace_by bundle bound narrow (writes_of bundle ws)
+      go : (o : Option BundleFile) → slice_get bundle.files 0 ≡ o
+          → trace_by bundle bound wide v ≡ trace_by bundle bound narrow (writes_of bundle ws)
       go None e =
-          ap (λ (o : Option BundleFile). trace bound v (body_run (option_map_or (λ f. f.tree.body) o []) wide (opening bundle))) e
-          ∙ ap (λ (o : Option BundleFile). trace bound (writes_of bundle ws) (body_run (option_map_or (λ f. f.tree.body) o []) narrow
+          ap (λ (o : Option BundleFile). trace bound v (body_run (option_map_or (λ f. f.tree.body) o []) wide
+          (opening bundle))) e
+          ∙ ap (λ (o : Option BundleFile). trace bound (writes_of bundle ws)
+          (body_run (option_map_or (λ f. f.tree.body) o []) narrow
           (opening bundle))) (sym e)
       go (Some f) e = with-files (within-found bundle.files 0 f e)

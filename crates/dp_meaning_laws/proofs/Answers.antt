@@ -26,9 +26,14 @@ unplaced (Err fault) s never = refl
 
 -- ---- evaluations
 
-given : (o : Option (Value × State)) (v : Value) (s : State) → (value_answer o ≡ answer.Value v) ↔ (o ≡ Some (v, left_by s o))
+given : (o : Option (Value × State)) (v : Value) (s : State)
+    → (value_answer o ≡ answer.Value v) ↔ (o ≡ Some (v, left_by s o))
 given None v s = (λ h. absurd (cc), λ h. absurd (cc))
-given (Some end) v s = (λ h. let same : end.0 ≡ v = cc in rw (sym same) refl, λ h. let same : end ≡ (v, end.1) = cc in ap (λ (p : Value × State). answer.Value p.0) same)
+given (Some end) v s = (
+  λ h. let same : end.0 ≡ v = cc in rw (sym same) refl,
+  λ h. let same : end ≡ (v, end.1) = cc in ap
+      (λ (p : Value × State). answer.Value p.0) same,
+)
 
 ungiven : (o : Option (Value × State)) (s : State) → ((v : Value) → value_answer o ≢ answer.Value v) → left_by s o ≡ s
 ungiven None s never = refl
@@ -42,10 +47,12 @@ pub place-told : (setting : Setting) (level context : ℕ) (path : Path) (value 
 place-told setting level context path value s = placed (with_place level context path value s) s
 
 pub value-told : (setting : Setting) (e : Expression) (v : Value) (s : State)
-    → (answer_in setting (Evaluate e) s ≡ answer.Value v) ↔ (evaluated setting e s ≡ Some (v, one_write setting (Evaluate e) s))
+    → (answer_in setting (Evaluate e) s ≡ answer.Value v) ↔ (evaluated setting e s ≡ Some
+    (v, one_write setting (Evaluate e) s))
 value-told setting e v s = given (evaluated setting e s) v s
 
 pub other-told : (setting : Setting) (w : Write) (s : State) → answer_in setting w s ≢ answer.Set
     → ((v : Value) → answer_in setting w s ≢ answer.Value v) → one_write setting w s ≡ s
-other-told setting (Place level context path value) s unset unvalued = unplaced (with_place level context path value s) s unset
+other-told setting (Place level context path value) s unset unvalued =
+    unplaced (with_place level context path value s) s unset
 other-told setting (Evaluate e) s unset unvalued = ungiven (evaluated setting e s) s unvalued

@@ -34,9 +34,11 @@ last-push : (x : ℕ) (ys : List ℕ) (z : ℕ) → last x (ys ++ z ∷ []) ≡ 
 last-push x [] z = refl
 last-push x (y ∷ ys) z = last-push y ys z
 
-top-next : (f : Frame) (fs : List Frame) → 0 < length fs → slice_get (f ∷ fs) (length (f ∷ fs) - 1) ≡ slice_get fs (length fs - 1)
+top-next : (f : Frame) (fs : List Frame) → 0 < length fs
+    → slice_get (f ∷ fs) (length (f ∷ fs) - 1) ≡ slice_get fs (length fs - 1)
 top-next f [] some = absurd (omega arith)
-top-next f (g ∷ fs) some = let e : suc (suc (length fs)) - 1 ≡ suc (suc (length fs) - 1) = omega arith in ap (slice_get (f ∷ g ∷ fs)) e
+top-next f (g ∷ fs) some =
+    let e : suc (suc (length fs)) - 1 ≡ suc (suc (length fs) - 1) = omega arith in ap (slice_get (f ∷ g ∷ fs)) e
 
 top-file : (f : Frame) (fs : List Frame)
     → option_map_or (λ f. f.file) (slice_get (f ∷ fs) (length (f ∷ fs) - 1)) 0 ≡ last f.file (files_in fs)
@@ -51,7 +53,8 @@ file-is (f ∷ fs) x ys e =
     let rest : files_in fs ≡ ys = cc in top-file f fs ∙ (λ i. last (first i) (rest i))
 
 line-is : (line : ℕ) (f : Frame) (fs : List Frame)
-    → option_map_or (λ (f : Frame). f.line) (slice_get (with_line line (f ∷ fs)) (length (with_line line (f ∷ fs)) - 1)) 0 ≡ line
+    → option_map_or (λ (f : Frame). f.line) (slice_get (with_line line (f ∷ fs)) (length (with_line line (f ∷ fs)) - 1))
+    0 ≡ line
 line-is line f [] = refl
 line-is line f (g ∷ fs) =
     ap (λ o. option_map_or (λ (f : Frame). f.line) o 0) (top-next f (with_line line (g ∷ fs)) some) ∙ line-is line g fs
@@ -61,7 +64,11 @@ line-is line f (g ∷ fs) =
 
     some : 0 < length (with_line line (g ∷ fs))
     some =
-        omega (arith, length-map (with_line line (g ∷ fs)) (λ (f : Frame). f.file), ap length (files-with_line line (g ∷ fs)))
+        omega (
+          arith,
+          length-map (with_line line (g ∷ fs)) (λ (f : Frame). f.file),
+          ap length (files-with_line line (g ∷ fs)),
+        )
 
 -- ---- lines of files
 
@@ -71,8 +78,11 @@ either-true false b e = e
 
 each-own : (Q : ℕ → Type 0) (lines : List ℕ) → ((line : ℕ) → has_line lines line ≡ true → Q line) → Each Q lines
 each-own Q [] all = tt
-each-own Q (line ∷ lines) all =
-    (all line (rw (eq-eqb line line refl) refl), each-own Q lines (λ other e. all other (either-true (nat_eq line other) (has_line lines other) e)))
+each-own Q (line ∷ lines) all = (
+  all line (rw (eq-eqb line line refl) refl),
+  each-own Q lines
+      (λ other e. all other (either-true (nat_eq line other) (has_line lines other) e)),
+)
 
 module _ (bundle : Bundle) where
   abbrev top : Stack → ℕ
@@ -82,8 +92,10 @@ module _ (bundle : Bundle) where
   abbrev IsCoded : Stack → ℕ → Type 0
   IsCoded d line = HasCode bundle (top d) line
 
-  coded-lines : (d : Stack) (file : ℕ) (f : BundleFile) → slice_get bundle.files file ≡ Some f → top d ≡ file → Each (IsCoded d) (file_lines f.tree)
-  coded-lines d file f e at = each-own (IsCoded d) (file_lines f.tree) (λ line has. (f, ap (slice_get bundle.files) at ∙ e, has))
+  coded-lines : (d : Stack) (file : ℕ) (f : BundleFile) → slice_get bundle.files file ≡ Some f → top d ≡ file
+      → Each (IsCoded d) (file_lines f.tree)
+  coded-lines d file f e at =
+      each-own (IsCoded d) (file_lines f.tree) (λ line has. (f, ap (slice_get bundle.files) at ∙ e, has))
 
   coded : HaveLines bundle IsCoded
   coded d file f e = coded-lines (with_file file d) file f e (last-push d.lowest d.above file)
@@ -91,16 +103,19 @@ module _ (bundle : Bundle) where
   coded-main : Each (IsCoded main_file) (body_lines (statements_of bundle 0))
   coded-main = go (slice_get bundle.files 0) refl
     where
-      go : (o : Option BundleFile) → slice_get bundle.files 0 ≡ o → Each (IsCoded main_file) (body_lines (option_map_or (λ f. f.tree.body) o []))
+      go : (o : Option BundleFile) → slice_get bundle.files 0 ≡ o
+          → Each (IsCoded main_file) (body_lines (option_map_or (λ f. f.tree.body) o []))
       go None e = tt
       go (Some f) e = each-left _ (body_lines f.tree.body) _ (coded-lines main_file 0 f e refl)
 
-  stands-on : (bound : ℕ) (d : Stack) (kind : MomentKind) (line : ℕ) → kind ≡ Place → Stands (facts bundle IsCoded bound) d kind line → IsCoded d line
+  stands-on : (bound : ℕ) (d : Stack) (kind : MomentKind) (line : ℕ) → kind ≡ Place
+      → Stands (facts bundle IsCoded bound) d kind line → IsCoded d line
   stands-on bound d Place line is h = h
   stands-on bound d Enter line is h = absurd (cc)
   stands-on bound d Leave line is h = absurd (cc)
 
-  comes-on : (bound n : ℕ) (p : Moment × State) → Comes bundle IsCoded bound n p → p.0.kind ≡ Place → HasCode bundle p.0.file p.0.line
+  comes-on : (bound n : ℕ) (p : Moment × State) → Comes bundle IsCoded bound n p → p.0.kind ≡ Place
+      → HasCode bundle p.0.file p.0.line
   comes-on bound n p c is =
       subst (λ (p : Moment × State). HasCode bundle p.0.file p.0.line) (sym c.is)
       (subst (λ file. HasCode bundle file (moment_of c.kind (arrived c.on c.before)).line) (sym file)
@@ -108,14 +123,18 @@ module _ (bundle : Bundle) where
       (stands-on bound c.stack c.kind c.on (ap (λ (p : Moment × State). p.0.kind) (sym c.is) ∙ is) c.stands)))
     where
       file : (moment_of c.kind (arrived c.on c.before)).file ≡ top c.stack
-      file = file-is (with_line c.on c.before.frames) c.stack.lowest c.stack.above (files-with_line c.on c.before.frames ∙ c.there.files)
+      file =
+          file-is (with_line c.on c.before.frames) c.stack.lowest c.stack.above
+          (files-with_line c.on c.before.frames ∙ c.there.files)
 
       line : (fs : List Frame) → files_in fs ≡ c.stack.lowest ∷ c.stack.above
-          → option_map_or (λ (f : Frame). f.line) (slice_get (with_line c.on fs) (length (with_line c.on fs) - 1)) 0 ≡ c.on
+          → option_map_or (λ (f : Frame). f.line) (slice_get (with_line c.on fs) (length (with_line c.on fs) - 1)) 0 ≡
+          c.on
       line [] e = absurd (cc)
       line (f ∷ fs) e = line-is c.on f fs
 
-  pub places-coded : (bound n : ℕ) (ws : List NumberedWrite) (p : Moment × State) → moment_at (program_trace bundle bound ws) n ≡ Some p
+  pub places-coded : (bound n : ℕ) (ws : List NumberedWrite) (p : Moment × State)
+      → moment_at (program_trace bundle bound ws) n ≡ Some p
       → p.0.kind ≡ Place → 0 < length bundle.files → HasCode bundle p.0.file p.0.line
   places-coded bound zero ws p e is some = absurd (cc)
   places-coded bound (suc k) ws p e is some =

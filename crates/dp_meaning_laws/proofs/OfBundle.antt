@@ -1,4 +1,5 @@
--- States of a bundle, by the files of their frames and the number of their moments: each step of a program leaves one, and each write.
+-- States of a bundle, by the files of their frames and the number of their moments: each step of a program leaves one,
+-- and each write.
 use Rattle.std.proofs.Common.{◌≡◌, ℕ, zero, suc, ◌+◌, ◌-◌, ◌<◌, ◌≤◌, Bool, true, false, if◌then◌else◌, List, [], ◌∷◌, ◌++◌, length, Option, Some, None, Result, Ok, Err, refl, sym, ap, ◌∙◌, subst, arith}
 use Rattle.std.proofs.lemmas.List.{length-map, length_push}
 use Rattle.std.specs.Prelude.{nat_eq, nat_lt, slice_get}
@@ -64,18 +65,22 @@ module _ (bundle : Bundle) where
   abbrev pub facts : (Stack → ℕ → Type 0) → ℕ → Facts Stack
   facts line bound = record { state = IsThere; line = line; down = with_file; bound = bound }
 
-  above-there : (d : Stack) (n file : ℕ) (s t : State) → IsAbove file s t → t.moments ≡ s.moments → IsOf bundle t → IsThere d n s
+  above-there : (d : Stack) (n file : ℕ) (s t : State) → IsAbove file s t → t.moments ≡ s.moments → IsOf bundle t
+      → IsThere d n s
       → IsThere (with_file file d) n t
   above-there d n file s t more same is p =
-      let files : files_in t.frames ≡ d.lowest ∷ (d.above ++ file ∷ []) = more.0 ∙ ap (λ l. l ++ file ∷ []) p.files in record {
+      let files : files_in t.frames ≡ d.lowest ∷ (d.above ++ file ∷ []) = more.0
+      ∙ ap (λ l. l ++ file ∷ []) p.files in record {
         of = is;
         files = files;
         moments = same ∙ p.moments;
         few = omega (arith, more.1, length-map t.frames (λ (f : Frame). f.file), ap length files);
       }
 
-  same-there : (d : Stack) (n : ℕ) (s t : State) → SameFiles s t → t.moments ≡ s.moments → IsOf bundle t → IsThere d n s → IsThere d n t
-  same-there d n s t files same is p = record { of = is; files = files ∙ p.files; moments = same ∙ p.moments; few = p.few }
+  same-there : (d : Stack) (n : ℕ) (s t : State) → SameFiles s t → t.moments ≡ s.moments → IsOf bundle t → IsThere d n s
+      → IsThere d n t
+  same-there d n s t files same is p =
+      record { of = is; files = files ∙ p.files; moments = same ∙ p.moments; few = p.few }
 
   left-there : (d : Stack) (n file : ℕ) (s : State) → IsThere (with_file file d) n s → IsThere d n (left s)
   left-there d n file s p =
@@ -90,7 +95,9 @@ module _ (bundle : Bundle) where
 
   -- the lines of a file have it where the file is on top
   abbrev pub HaveLines : (Stack → ℕ → Type 0) → Type 0
-  HaveLines line = (d : Stack) (file : ℕ) (f : BundleFile) → slice_get bundle.files file ≡ Some f → Each (line (with_file file d)) (file_lines f.tree)
+  HaveLines line =
+      (d : Stack) (file : ℕ) (f : BundleFile) → slice_get bundle.files file ≡ Some f
+      → Each (line (with_file file d)) (file_lines f.tree)
 
   pub kept : (line : Stack → ℕ → Type 0) (bound : ℕ) → HaveLines line → IsKept (facts line bound) bundle
   kept line bound lines = record {
@@ -98,10 +105,14 @@ module _ (bundle : Bundle) where
         same-there d n s t (files-assigned level name keys push v s t e) (moments-assigned level name keys push v s t e)
         (of-assigned bundle level name keys push v s t e p.of) p;
     unsets = λ d n name keys s t e p.
-        same-there d n s t (files-unset name keys s t e) (moments-unset name keys s t e) (of-unset bundle name keys s t e p.of) p;
-    binds = λ d n name s p. same-there d n s _ (files-global name s) (moments-global name s) (of-with_global bundle name s p.of) p;
+        same-there d n s t (files-unset name keys s t e) (moments-unset name keys s t e)
+        (of-unset bundle name keys s t e p.of) p;
+    binds =
+        λ d n name s p. same-there d n s _ (files-global name s) (moments-global name s)
+        (of-with_global bundle name s p.of) p;
     prints = λ d n piece s t e p.
-        same-there d n s t (files-printed piece s t e) (moments-printed piece s t e) (of-printed bundle piece s t e p.of) p;
+        same-there d n s t (files-printed piece s t e) (moments-printed piece s t e)
+        (of-printed bundle piece s t e p.of) p;
     calls = λ d n file f values s t within e p.
         above-there d n file s t (above-called file f values s t e) (moments-called file f values s t e)
         (of-called bundle file f values s t e within p.of) p;
@@ -152,13 +163,15 @@ module _ (bundle : Bundle) where
   }
 
   -- ---- what an evaluation leaves
-  there-alone : {A : Type 0} (bound : ℕ) (d : Stack) (n : ℕ) (r : Run A) (a : A) (t : State) → Alike plain d n r r → alone bound r ≡ Some (a, t)
+  there-alone : {A : Type 0} (bound : ℕ) (d : Stack) (n : ℕ) (r : Run A) (a : A) (t : State) → Alike plain d n r r
+      → alone bound r ≡ Some (a, t)
       → (m : ℕ) × IsThere d m t
   there-alone {A} bound d n (Done b s) a t h e =
       let both : (b, s) ≡ (a, t) = cc in (n, subst (IsThere d n) (ap (λ (p : A × State). p.1) both) h.0)
   there-alone bound d n (Over o s) a t h e = absurd (cc)
   there-alone {A} bound d n (At kind line s go) a t h e =
-      cases (nat_lt s.moments bound) (there-alone bound d (n + 1) (go (arrived line s)) a t (h.2 _ (there-arrived h.0 n line s h.1))) e
+      cases (nat_lt s.moments bound) (there-alone bound d (n + 1) (go (arrived line s)) a t
+      (h.2 _ (there-arrived h.0 n line s h.1))) e
     where
       cases : (b : Bool) → (alone bound (go (arrived line s)) ≡ Some (a, t) → (m : ℕ) × IsThere d m t)
           → (if b then alone bound (go (arrived line s)) else None) ≡ Some (a, t) → (m : ℕ) × IsThere d m t
@@ -174,17 +187,20 @@ module _ (bundle : Bundle) where
 
       runs : (let r : Run Value = evaluation e (evaluation_setting bundle) u in Alike plain d 0 r r)
       runs = (Keeps-expression plain bundle kept-plain d (evaluation_setting bundle) (evaluation_setting bundle)
-          (Keeps-setting plain bundle kept-plain evaluation_limit frame_limit (omega arith) d) e).0 0 u (recounted-there d n 0 s p)
+          (Keeps-setting plain bundle kept-plain evaluation_limit frame_limit (omega arith) d) e).0 0 u
+          (recounted-there d n 0 s p)
 
       go : (o : Option (Value × State)) → alone evaluation_limit (evaluation e (evaluation_setting bundle) u) ≡ o
           → IsThere d n (left_by s (recounted s.moments o))
       go None h = p
       go (Some end) h =
           let q = there-alone evaluation_limit d 0 (evaluation e (evaluation_setting bundle) u) end.0 end.1 runs h in
-          subst (λ m. IsThere d m (record end.1 { moments = s.moments })) p.moments (recounted-there d q.0 s.moments end.1 q.1)
+          subst (λ m. IsThere d m (record end.1 { moments = s.moments })) p.moments
+          (recounted-there d q.0 s.moments end.1 q.1)
 
   -- ---- what writes leave
-  place-there : (d : Stack) (n : ℕ) (s : State) → IsThere d n s → (r : Result State FatalKind) → ((t : State) → r ≡ Ok t → IsThere d n t)
+  place-there : (d : Stack) (n : ℕ) (s : State) → IsThere d n s → (r : Result State FatalKind)
+      → ((t : State) → r ≡ Ok t → IsThere d n t)
       → IsThere d n (or_unchanged s (place_or_fault r))
   place-there d n s p (Ok t) h = h t refl
   place-there d n s p (Err kind) h = p
@@ -196,20 +212,24 @@ module _ (bundle : Bundle) where
   context-there : (d : Stack) (n context level : ℕ) (path : Path) (v : Value) (s : State) → IsThere d n s
       → IsThere d n (or_unchanged s (in_context context level path v s))
   context-there d n zero level path v s p = place-there d n s p _ (assign-there d n level path v s p)
-  context-there d n (suc zero) level path v s p = place-there d n s p _ (assign-there d n (length s.frames - 1) path v s p)
+  context-there d n (suc zero) level path v s p =
+      place-there d n s p _ (assign-there d n (length s.frames - 1) path v s p)
   context-there d n (suc (suc context)) level path v s p = p
 
-  framed-there : (b : Bool) (d : Stack) (n : ℕ) (s : State) (r : Result State WriteFault) → IsThere d n s → IsThere d n (or_unchanged s r)
+  framed-there : (b : Bool) (d : Stack) (n : ℕ) (s : State) (r : Result State WriteFault) → IsThere d n s
+      → IsThere d n (or_unchanged s r)
       → IsThere d n (or_unchanged s (if b then r else Err NoFrame))
   framed-there true d n s r p q = q
   framed-there false d n s r p q = p
 
-  pub one-there : (d : Stack) (n : ℕ) (w : Write) (s : State) → IsThere d n s → IsThere d n (one_write (evaluation_setting bundle) w s)
+  pub one-there : (d : Stack) (n : ℕ) (w : Write) (s : State) → IsThere d n s
+      → IsThere d n (one_write (evaluation_setting bundle) w s)
   one-there d n (Place level context path value) s p = framed-there (nat_lt level (length s.frames)) d n s _ p
       (context-there d n context level path value s p)
   one-there d n (Evaluate e) s p = there-evaluation d n e s p
 
-  pub written-there : (ws : List NumberedWrite) (d : Stack) (n k : ℕ) (s : State) → IsThere d n s → IsThere d n (written_by (evaluation_setting bundle) ws k s)
+  pub written-there : (ws : List NumberedWrite) (d : Stack) (n k : ℕ) (s : State) → IsThere d n s
+      → IsThere d n (written_by (evaluation_setting bundle) ws k s)
   written-there [] d n k s p = p
   written-there (w ∷ ws) d n k s p = written-there ws d n k _ (one (nat_eq w.moment k))
     where

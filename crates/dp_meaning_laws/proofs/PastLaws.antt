@@ -21,13 +21,15 @@ made : Setting → List NumberedWrite → State → State
 made setting [] s = s
 made setting (w ∷ ws) s = made setting ws (one_write setting w.write s)
 
-written-made : (setting : Setting) (ws : List NumberedWrite) (n : ℕ) (s : State) → written_by setting ws n s ≡ made setting (of_number n ws) s
+written-made : (setting : Setting) (ws : List NumberedWrite) (n : ℕ) (s : State)
+    → written_by setting ws n s ≡ made setting (of_number n ws) s
 unfolding made
 written-made setting [] n s = refl
 written-made setting (w ∷ ws) n s = go (nat_eq w.moment n) (written-made setting ws n)
   where
     go : (b : Bool) → ((t : State) → written_by setting ws n t ≡ made setting (of_number n ws) t)
-        → written_by setting ws n (if b then one_write setting w.write s else s) ≡ made setting (if b then w ∷ of_number n ws else of_number n ws) s
+        → written_by setting ws n (if b then one_write setting w.write s else s) ≡ made setting
+        (if b then w ∷ of_number n ws else of_number n ws) s
     go true more = more (one_write setting w.write s)
     go false more = more s
 
@@ -61,18 +63,22 @@ module _ (bound n : ℕ) (setting : Setting) (ws vs : List NumberedWrite) (agree
       there = moments-written (by ws) number (arrived line s) ∙ ap (λ n. n + 1) h.1
 
       rest : (m : ℕ) → k + suc m ≤ n
-          → ((j : ℕ) → k + 1 + suc j ≤ n → take (suc j) (trace bound (by ws) (go t)).moments ≡ take (suc j) (trace bound (by vs) (go t)).moments)
+          → ((j : ℕ) → k + 1 + suc j ≤ n
+          → take (suc j) (trace bound (by ws) (go t)).moments ≡ take (suc j) (trace bound (by vs) (go t)).moments)
           → take m (trace bound (by ws) (go t)).moments ≡ take m (trace bound (by vs) (go u)).moments
       rest zero le more = refl
       rest (suc m) le more =
           more m (omega arith)
-          ∙ ap (λ x. take (suc m) (trace bound (by vs) (go x)).moments) (agree-written setting n number ws vs agree (omega (arith, h.1))
+          ∙ ap (λ x. take (suc m) (trace bound (by vs) (go x)).moments)
+          (agree-written setting n number ws vs agree (omega (arith, h.1))
           (arrived line s))
 
       cases : (b : Bool) → take m (trace bound (by ws) (go t)).moments ≡ take m (trace bound (by vs) (go u)).moments
-          → take (suc m) (let w : Trace A = if b then with_moment (moment_of kind (arrived line s)) (arrived line s) (trace bound (by ws)
+          → take (suc m) (let w : Trace A = if b
+          then with_moment (moment_of kind (arrived line s)) (arrived line s) (trace bound (by ws)
           (go t)) else (record { moments = []; end = Ended Bound; state = s }) in w.moments)
-          ≡ take (suc m) (let w : Trace A = if b then with_moment (moment_of kind (arrived line s)) (arrived line s) (trace bound (by vs)
+          ≡ take (suc m) (let w : Trace A = if b
+          then with_moment (moment_of kind (arrived line s)) (arrived line s) (trace bound (by vs)
           (go u)) else (record { moments = []; end = Ended Bound; state = s }) in w.moments)
       cases true more = ap (λ l. (moment_of kind (arrived line s), arrived line s) ∷ l) more
       cases false more = refl
@@ -98,18 +104,25 @@ module _ (bound n : ℕ) (setting : Setting) (ws vs : List NumberedWrite) (agree
       there = moments-written (by ws) number (arrived line s) ∙ ap (λ n. n + 1) h.1
 
       cases : (b : Bool)
-          → ((j : ℕ) → k + 1 + j ≤ n → length (trace bound (by ws) (go t)).moments < j → trace bound (by ws) (go t) ≡ trace bound (by vs) (go t))
-          → length (let w : Trace A = if b then with_moment (moment_of kind (arrived line s)) (arrived line s) (trace bound (by ws) (go t)) else (record {
+          → ((j : ℕ) → k + 1 + j ≤ n → length (trace bound (by ws) (go t)).moments < j
+          → trace bound (by ws) (go t) ≡ trace bound (by vs) (go t))
+          → length (let w : Trace A = if b
+          then with_moment (moment_of kind (arrived line s)) (arrived line s) (trace bound (by ws) (go t))
+          else (record {
             moments = [];
             end = Ended Bound;
             state = s;
           }) in w.moments) < m
-          → (let w : Trace A = if b then with_moment (moment_of kind (arrived line s)) (arrived line s) (trace bound (by ws) (go t)) else (record {
+          → (let w : Trace A = if b
+          then with_moment (moment_of kind (arrived line s)) (arrived line s) (trace bound (by ws) (go t))
+          else (record {
             moments = [];
             end = Ended Bound;
             state = s;
           }) in w)
-          ≡ (let w : Trace A = if b then with_moment (moment_of kind (arrived line s)) (arrived line s) (trace bound (by vs) (go u)) else (record {
+          ≡ (let w : Trace A = if b
+          then with_moment (moment_of kind (arrived line s)) (arrived line s) (trace bound (by vs) (go u))
+          else (record {
             moments = [];
             end = Ended Bound;
             state = s;
@@ -117,15 +130,20 @@ module _ (bound n : ℕ) (setting : Setting) (ws vs : List NumberedWrite) (agree
       cases true more short =
           ap (λ (x : Trace A). with_moment (moment_of kind (arrived line s)) (arrived line s) x)
           (more (n - (k + 1)) (omega arith) (omega arith)
-          ∙ ap (λ x. trace bound (by vs) (go x)) (agree-written setting n number ws vs agree (omega (arith, h.1)) (arrived line s)))
+          ∙ ap (λ x. trace bound (by vs) (go x)) (agree-written setting n number ws vs agree (omega (arith, h.1))
+          (arrived line s)))
       cases false more short = refl
 
 module _ (bundle : Bundle) (bound n : ℕ) (ws vs : List NumberedWrite) (agree : AgreeBelow n ws vs) where
   pub past_stands : SameUpTo bundle bound n ws vs
   unfolding program_trace
-  past_stands = same-up_to bound n (evaluation_setting bundle) ws vs agree (program_run bundle bound) 0 n (steady-program bundle bound) (omega arith)
+  past_stands =
+      same-up_to bound n (evaluation_setting bundle) ws vs agree (program_run bundle bound) 0 n
+      (steady-program bundle bound) (omega arith)
 
-  pub past_ends : length (program_trace bundle bound ws).moments < n → program_trace bundle bound ws ≡ program_trace bundle bound vs
+  pub past_ends : length (program_trace bundle bound ws).moments < n
+      → program_trace bundle bound ws ≡ program_trace bundle bound vs
   unfolding program_trace
   past_ends short =
-      same-over bound n (evaluation_setting bundle) ws vs agree (program_run bundle bound) 0 n (steady-program bundle bound) (omega arith) short
+      same-over bound n (evaluation_setting bundle) ws vs agree (program_run bundle bound) 0 n
+      (steady-program bundle bound) (omega arith) short

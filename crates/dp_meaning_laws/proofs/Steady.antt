@@ -43,7 +43,8 @@ moments-own at variables s = as-either _ _ _ s.moments refl refl
 moments-value : (level : ℕ) (name : List ℕ) (v : Value) (s : State) → (with_value level name v s).moments ≡ s.moments
 moments-value level name v s = as-either _ _ _ s.moments refl (moments-own (owner_at s level) _ s)
 
-moments-then : (r : Result Data WriteError) (f : Data → State) (n : ℕ) (t : State) → ((d : Data) → (f d).moments ≡ n) → then_state r f ≡ Ok t
+moments-then : (r : Result Data WriteError) (f : Data → State) (n : ℕ) (t : State) → ((d : Data) → (f d).moments ≡ n)
+    → then_state r f ≡ Ok t
     → t.moments ≡ n
 moments-then (Ok d) f n t h e = let same : f d ≡ t = cc in ap (λ (u : State). u.moments) (sym same) ∙ h d
 moments-then (Err w) f n t h e = absurd (cc)
@@ -55,15 +56,19 @@ moments-assigned level name keys push v s t e =
     (λ d. moments-value level name (value_of d) s) e
 
 moments-without : (o : Option Value) (name : List ℕ) (keys : List (Option Key)) (s t : State)
-    → option_map_or (λ value. then_state (removed keys (data_of value)) (λ d. with_value 0 name (value_of d) s)) o (Ok s) ≡ Ok t
+    → option_map_or (λ value. then_state (removed keys (data_of value)) (λ d. with_value 0 name (value_of d) s)) o
+    (Ok s) ≡ Ok t
     → t.moments ≡ s.moments
 moments-without None name keys s t e = let same : s ≡ t = cc in ap (λ (u : State). u.moments) (sym same)
-moments-without (Some v) name keys s t e = moments-then (removed keys (data_of v)) _ s.moments t (λ d. moments-value 0 name (value_of d) s) e
+moments-without (Some v) name keys s t e =
+    moments-then (removed keys (data_of v)) _ s.moments t (λ d. moments-value 0 name (value_of d) s) e
 
-pub moments-unset : (name : List ℕ) (keys : List (Option Key)) (s t : State) → unset name keys s ≡ Ok t → t.moments ≡ s.moments
+pub moments-unset : (name : List ℕ) (keys : List (Option Key)) (s t : State) → unset name keys s ≡ Ok t
+    → t.moments ≡ s.moments
 moments-unset name [] s t e =
     let less : Variables = without (variables_at s 0) name in
-    let same : with_variables 0 less s ≡ t = cc in ap (λ (u : State). u.moments) (sym same) ∙ moments-own (owner_at s 0) less s
+    let same : with_variables 0 less s ≡ t = cc in ap (λ (u : State). u.moments) (sym same)
+    ∙ moments-own (owner_at s 0) less s
 moments-unset name (key ∷ keys) s t e = moments-without (read_at s 0 name) name (key ∷ keys) s t e
 
 pub moments-global : (name : List ℕ) (s : State) → (with_global name s).moments ≡ s.moments
@@ -78,20 +83,25 @@ moments-printed piece s t e = ap (λ (u : State). u.moments) (sym (either-ok _ _
 moments-entered : (frame : Frame) (s t : State) → entered frame s ≡ Ok t → t.moments ≡ s.moments
 moments-entered frame s t e = ap (λ (u : State). u.moments) (sym (either-ok _ _ _ _ e))
 
-pub moments-called : (file : ℕ) (f : Function) (values : List Value) (s t : State) → called file f values s ≡ Ok t → t.moments ≡ s.moments
+pub moments-called : (file : ℕ) (f : Function) (values : List Value) (s t : State) → called file f values s ≡ Ok t
+    → t.moments ≡ s.moments
 moments-called file f values s t e = go (nat_le (length f.parameters) (length values)) e
   where
-    go : (b : Bool) → (if b then entered (called_frame file f values) s else Err Arguments) ≡ Ok t → t.moments ≡ s.moments
+    go : (b : Bool) → (if b then entered (called_frame file f values) s else Err Arguments) ≡ Ok t
+        → t.moments ≡ s.moments
     go true e = moments-entered (called_frame file f values) s t e
     go false e = absurd (cc)
 
-pub moments-included : (bundle : Bundle) (file : ℕ) (s t : State) → included bundle file s ≡ Ok t → t.moments ≡ s.moments
-moments-included bundle file s t e = go (nat_le (length s.frames + 1) frame_limit) (any_declared bundle s.declared (functions_of bundle file)) e
+pub moments-included : (bundle : Bundle) (file : ℕ) (s t : State) → included bundle file s ≡ Ok t
+    → t.moments ≡ s.moments
+moments-included bundle file s t e =
+    go (nat_le (length s.frames + 1) frame_limit) (any_declared bundle s.declared (functions_of bundle file)) e
   where
     more : State
     more = record s { declared = s.declared ++ functions_of bundle file }
 
-    go : (b c : Bool) → (if b then (if c then Err Redeclared else entered (included_frame file) more) else Err TooDeep) ≡ Ok t → t.moments ≡ s.moments
+    go : (b c : Bool) → (if b then (if c then Err Redeclared else entered (included_frame file) more) else Err TooDeep)
+        ≡ Ok t → t.moments ≡ s.moments
     go true true e = absurd (cc)
     go true false e = moments-entered (included_frame file) more t e
     go false c e = absurd (cc)

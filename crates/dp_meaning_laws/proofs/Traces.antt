@@ -1,4 +1,5 @@
--- What is true along the trace of a program: its moments are numbered from one on, each state is of the bundle, and it ends as a program can.
+-- What is true along the trace of a program: its moments are numbered from one on, each state is of the bundle, and it
+-- ends as a program can.
 use Rattle.std.proofs.Common.{◌≡◌, ℕ, zero, suc, ◌+◌, ◌<◌, ◌≤◌, Bool, true, false, if◌then◌else◌, List, [], ◌∷◌, length, Option, Some, None, refl, sym, ap, ◌∙◌, subst, arith}
 use Rattle.std.proofs.lemmas.Bool.{ltb-false, ltb-true}
 use Rattle.std.specs.Prelude.{nat_lt, slice_get}
@@ -46,14 +47,16 @@ module _ (bundle : Bundle) (line : Stack → ℕ → Type 0) (bound : ℕ) where
   -- before its writes
   pub arrived-there : (n : ℕ) (p : Moment × State) (c : Comes n p) → IsThere bundle c.stack (n + 1) p.1
   arrived-there n p c =
-      subst (λ (p : Moment × State). IsThere bundle c.stack (n + 1) p.1) (sym c.is) (there-arrived bundle c.stack n c.on c.before c.there)
+      subst (λ (p : Moment × State). IsThere bundle c.stack (n + 1) p.1) (sym c.is)
+      (there-arrived bundle c.stack n c.on c.before c.there)
 
   -- and after writes
   pub after-writes : (ws : List NumberedWrite) (n k : ℕ) (p : Moment × State) (c : Comes n p)
       → IsThere bundle c.stack (n + 1) (written (writes_of bundle ws) k p.1)
   after-writes ws n k p c = written-there bundle ws c.stack (n + 1) k p.1 (arrived-there n p c)
 
-  over : {A : Type 0} (n : ℕ) (d : Stack) (t : Trace A) → t.moments ≡ [] → IsThere bundle d n t.state → CanEnd bound n (outcome_of t.end) → Along n t
+  over : {A : Type 0} (n : ℕ) (d : Stack) (t : Trace A) → t.moments ≡ [] → IsThere bundle d n t.state
+      → CanEnd bound n (outcome_of t.end) → Along n t
   over n d t none there ends =
       let same : n ≡ n + length t.moments = omega (arith, ap length none) in record {
         moments = λ k p e. absurd (no k p (ap (λ ps. slice_get ps k) (sym none) ∙ e));
@@ -66,7 +69,8 @@ module _ (bundle : Bundle) (line : Stack → ℕ → Type 0) (bound : ℕ) where
       no k p e = cc
 
   module _ (ws : List NumberedWrite) where
-    along : {A : Type 0} (r : Run A) (d : Stack) (n : ℕ) → Alike (facts bundle line bound) d n r r → Along n (trace bound (writes_of bundle ws) r)
+    along : {A : Type 0} (r : Run A) (d : Stack) (n : ℕ) → Alike (facts bundle line bound) d n r r
+        → Along n (trace bound (writes_of bundle ws) r)
     along (Done a s) d n h = over n d _ refl h.0 tt
     along (Over o s) d n h = over n h.0 _ refl h.1 h.2
     along {A} (At kind on s go) d n h = cases (nat_lt s.moments bound) refl (along (go t) d (n + 1) (h.2 t there))
@@ -98,7 +102,8 @@ module _ (bundle : Bundle) (line : Stack → ℕ → Type 0) (bound : ℕ) where
           within = omega (arith, ltb-true s.moments bound below, h.1.moments);
         }
 
-        all : nat_lt s.moments bound ≡ true → Along (n + 1) rest → (k : ℕ) (p : Moment × State) → slice_get (first ∷ rest.moments) k ≡ Some p
+        all : nat_lt s.moments bound ≡ true → Along (n + 1) rest → (k : ℕ) (p : Moment × State)
+            → slice_get (first ∷ rest.moments) k ≡ Some p
             → Comes (n + k) p
         all below more zero p e =
             let same : first ≡ p = cc in
@@ -107,7 +112,8 @@ module _ (bundle : Bundle) (line : Stack → ℕ → Type 0) (bound : ℕ) where
             let at : n + 1 + k ≡ n + suc k = omega arith in subst (λ m. Comes m p) at (more.moments k p e)
 
         cases : (b : Bool) → nat_lt s.moments bound ≡ b → Along (n + 1) rest
-            → Along n (if b then with_moment first.0 first.1 rest else (record { moments = []; end = Ended way.Bound; state = s }))
+            → Along n (if b then with_moment first.0 first.1 rest
+            else (record { moments = []; end = Ended way.Bound; state = s }))
         cases true below more =
             let at : n + 1 + length rest.moments ≡ n + length (first ∷ rest.moments) = omega arith in record {
               moments = all below more;
@@ -118,12 +124,14 @@ module _ (bundle : Bundle) (line : Stack → ℕ → Type 0) (bound : ℕ) where
         cases false past more = over n h.0 _ refl h.1 (omega (arith, ltb-false s.moments bound past, h.1.moments))
 
     -- of a program whose lines have it
-    pub along-program : HaveLines bundle line → Each (line main_file) (body_lines (statements_of bundle 0)) → 0 < length bundle.files
+    pub along-program : HaveLines bundle line → Each (line main_file) (body_lines (statements_of bundle 0))
+        → 0 < length bundle.files
         → Along 0 (program_trace bundle bound ws)
     unfolding program_trace
     along-program lines main some =
         along (program_run bundle bound) main_file 0
-        (Alike-program (facts bundle line bound) bundle (kept bundle line bound lines) bound (omega arith) main_file main
+        (Alike-program (facts bundle line bound) bundle (kept bundle line bound lines) bound
+        (omega arith) main_file main
         (there-opening bundle some))
 
 -- ---- states of programs
@@ -135,10 +143,12 @@ module _ (bundle : Bundle) (bound : ℕ) (ws : List NumberedWrite) (some : 0 < l
       (each-all (Anywhere bundle main_file) (λ line. tt) (body_lines (statements_of bundle 0))) some
 
   -- where a run stops at the moment of a number
-  pub stop-of : (number : ℕ) (stop : Stop) → IsStop (program_trace bundle bound ws) (writes_of bundle ws) number stop → IsOf bundle (state_of stop)
+  pub stop-of : (number : ℕ) (stop : Stop) → IsStop (program_trace bundle bound ws) (writes_of bundle ws) number stop
+      → IsOf bundle (state_of stop)
   stop-of zero (stop.At m s) is = absurd (cc)
   stop-of (suc k) (stop.At m s) is =
-      subst (IsOf bundle) (sym is.2) (after-writes bundle (Anywhere bundle) bound ws (0 + k) (suc k) (m, is.0) (program-along.moments k (m, is.0) is.1)).of
+      subst (IsOf bundle) (sym is.2) (after-writes bundle (Anywhere bundle) bound ws (0 + k) (suc k) (m, is.0)
+      (program-along.moments k (m, is.0) is.1)).of
   stop-of number (stop.Ended o s) is = subst (IsOf bundle) (sym is.2) program-along.there.of
 
   -- where it stops at the first moment at which a test holds
@@ -146,19 +156,25 @@ module _ (bundle : Bundle) (bound : ℕ) (ws : List NumberedWrite) (some : 0 < l
       → IsOf bundle (state_of (first_stop (program_trace bundle bound ws) (writes_of bundle ws) number test))
   first_stop-of number test = first (program_trace bundle bound ws).moments 0 program-along.moments
     where
-      first : (ps : List (Moment × State)) (n : ℕ) → ((k : ℕ) (p : Moment × State) → slice_get ps k ≡ Some p → Comes bundle (Anywhere bundle) bound (n + k) p)
-          → IsOf bundle (state_of (stop_of (program_trace bundle bound ws) (first_at (above number test) (writes_of bundle ws) ps)))
+      first : (ps : List (Moment × State)) (n : ℕ)
+          → ((k : ℕ) (p : Moment × State) → slice_get ps k ≡ Some p → Comes bundle (Anywhere bundle) bound (n + k) p)
+          → IsOf bundle (state_of (stop_of (program_trace bundle bound ws)
+          (first_at (above number test) (writes_of bundle ws) ps)))
       first [] n all = program-along.there.of
       first (p ∷ ps) n all = by (above number test p.0 after) (first ps (n + 1) (λ k q e. later k q (all (suc k) q e)))
         where
           after : State
           after = written (writes_of bundle ws) p.0.number p.1
 
-          later : (k : ℕ) (q : Moment × State) → Comes bundle (Anywhere bundle) bound (n + suc k) q → Comes bundle (Anywhere bundle) bound (n + 1 + k) q
-          later k q c = let at : n + suc k ≡ n + 1 + k = omega arith in subst (λ m. Comes bundle (Anywhere bundle) bound m q) at c
+          later : (k : ℕ) (q : Moment × State) → Comes bundle (Anywhere bundle) bound (n + suc k) q
+              → Comes bundle (Anywhere bundle) bound (n + 1 + k) q
+          later k q c =
+              let at : n + suc k ≡ n + 1 + k = omega arith in subst (λ m. Comes bundle (Anywhere bundle) bound m q) at c
 
-          by : (b : Bool) → IsOf bundle (state_of (stop_of (program_trace bundle bound ws) (first_at (above number test) (writes_of bundle ws) ps)))
-              → IsOf bundle (state_of (stop_of (program_trace bundle bound ws) (if b then Some (p.0, after) else first_at (above number test)
+          by : (b : Bool) → IsOf bundle (state_of (stop_of (program_trace bundle bound ws)
+              (first_at (above number test) (writes_of bundle ws) ps)))
+              → IsOf bundle (state_of (stop_of (program_trace bundle bound ws)
+              (if b then Some (p.0, after) else first_at (above number test)
               (writes_of bundle ws) ps)))
           by true more = (after-writes bundle (Anywhere bundle) bound ws (n + 0) p.0.number p (all 0 p refl)).of
           by false more = more

@@ -1,4 +1,5 @@
--- What is true of the trace of any program, also of one without files: its moments are numbered, and it is over by its bound where that is reached.
+-- What is true of the trace of any program, also of one without files: its moments are numbered, and it is over by its
+-- bound where that is reached.
 use Rattle.std.proofs.Common.{◌≡◌, ℕ, zero, suc, ◌+◌, ◌<◌, ◌≤◌, List, [], ◌∷◌, length, Option, Some, None, refl, sym, ap, ◌∙◌, subst, arith}
 use Rattle.std.proofs.lemmas.List.{length-map}
 use Rattle.std.specs.Option.{option_map_or}
@@ -42,10 +43,12 @@ module _ (bundle : Bundle) (bound : ℕ) (ws : List NumberedWrite) where
     where
       go : (o : Option BundleFile) → slice_get bundle.files 0 ≡ o → 0 < length bundle.files
       go None none =
-          let no : slice_get [] k ≡ Some p = ap (λ (t : Trace Signal). slice_get t.moments k) (sym (nothing none)) ∙ e in absurd (cc)
+          let no : slice_get [] k ≡ Some p = ap (λ (t : Trace Signal). slice_get t.moments k) (sym (nothing none))
+          ∙ e in absurd (cc)
       go (Some f) is = within-found bundle.files 0 f is
 
-  comes : (k : ℕ) (p : Moment × State) → moment_at whole (suc k) ≡ Some p → Comes bundle (Anywhere bundle) bound (0 + k) p
+  comes : (k : ℕ) (p : Moment × State) → moment_at whole (suc k) ≡ Some p
+      → Comes bundle (Anywhere bundle) bound (0 + k) p
   comes k p e = (program-along bundle bound ws (has-files (suc k) p e)).moments k p e
 
   -- ---- numbers
@@ -79,7 +82,8 @@ module _ (bundle : Bundle) (bound : ℕ) (ws : List NumberedWrite) where
   unfolding IsCounted
   counted-at-end = counted.0
 
-  past_last : (ps : List (Moment × State)) (k : ℕ) → length ps ≡ suc k → (p : Moment × State) × (slice_get ps k ≡ Some p)
+  past_last : (ps : List (Moment × State)) (k : ℕ) → length ps ≡ suc k
+      → (p : Moment × State) × (slice_get ps k ≡ Some p)
   past_last [] k e = absurd (omega arith)
   past_last (p ∷ ps) zero e = (p, refl)
   past_last (p ∷ ps) (suc k) e = past_last ps k (omega arith)
@@ -94,7 +98,8 @@ module _ (bundle : Bundle) (bound : ℕ) (ws : List NumberedWrite) where
   pub bound-reached : outcome bundle bound ws ≡ way.Bound → length whole.moments ≡ bound
   unfolding IsCounted
   bound-reached is =
-      let reached : CanEnd bound (length whole.moments) way.Bound = subst (CanEnd bound (length whole.moments)) is counted.1 in
+      let reached : CanEnd bound (length whole.moments) way.Bound = subst
+      (CanEnd bound (length whole.moments)) is counted.1 in
       omega (arith, few, reached)
 
   -- ---- states
@@ -107,15 +112,19 @@ module _ (bundle : Bundle) (bound : ℕ) (ws : List NumberedWrite) where
   arrived-can (suc k) p e = can _ _ p.1 (arrived-there bundle (Anywhere bundle) bound (0 + k) p (comes k p e))
 
   pub now-can : 0 < length bundle.files → (n : ℕ) (s : State) → now bundle bound ws n ≡ Some s → CanStand bundle s
-  now-can some zero s e = let same : opening bundle ≡ s = cc in subst (CanStand bundle) same (can main_file 0 (opening bundle) (there-opening bundle some))
+  now-can some zero s e =
+      let same : opening bundle ≡ s = cc in subst (CanStand bundle) same
+      (can main_file 0 (opening bundle) (there-opening bundle some))
   now-can some (suc k) s e = go (moment_at whole (suc k)) refl e
     where
       go : (o : Option (Moment × State)) → moment_at whole (suc k) ≡ o
-          → option_map (λ (p : Moment × State). written (writes_of bundle ws) (suc k) p.1) o ≡ Some s → CanStand bundle s
+          → option_map (λ (p : Moment × State). written (writes_of bundle ws) (suc k) p.1) o ≡ Some s
+          → CanStand bundle s
       go None is e = absurd (cc)
       go (Some p) is e =
           let same : written (writes_of bundle ws) (suc k) p.1 ≡ s = cc in
-          subst (CanStand bundle) same (can _ _ _ (after-writes bundle (Anywhere bundle) bound ws (0 + k) (suc k) p (comes k p is)))
+          subst (CanStand bundle) same (can _ _ _ (after-writes bundle (Anywhere bundle) bound ws (0 + k) (suc k) p
+          (comes k p is)))
 
   pub end-can : 0 < length bundle.files → CanStand bundle whole.state
   end-can some = let all = program-along bundle bound ws some in can all.stack _ whole.state all.there

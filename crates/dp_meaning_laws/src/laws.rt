@@ -93,7 +93,8 @@ pub fn more_turns_and_frames_change_no_part()
 
 /// A loop that goes on with as many turns as moments may come still goes as with any more of them.
 pub fn more_turns_change_no_loop()
-    ensures turns { (bundle : Bundle) (bound limit frames n m line : ℕ) (tests after : List Expression) (body : Statement)
+    ensures turns { (bundle : Bundle) (bound limit frames n m line : ℕ) (tests after : List Expression)
+        (body : Statement)
         (s : State) → CanStand bundle s → IsAmple bound s limit frames
         → bound ≤ s.moments + n → bound ≤ s.moments + m
         → SameTraces bundle bound

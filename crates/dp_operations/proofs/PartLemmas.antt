@@ -12,7 +12,8 @@ repeated-nothing zero = refl
 repeated-nothing (suc n) = rw (repeated-nothing n)
 
 -- a text whose front is too heavy is too heavy
-pub heavy_front : (front rest whole : List ℕ) → whole ≡ front ++ rest → weight_limit < length front → joining_of whole ≡ Err TooHeavy
+pub heavy_front : (front rest whole : List ℕ) → whole ≡ front ++ rest → weight_limit < length front
+    → joining_of whole ≡ Err TooHeavy
 heavy_front front rest whole e h =
     let long : length whole ≡ length front + length rest = ap length e ∙ length-append front rest in
     let test : nat_le (length whole) weight_limit ≡ false = grind (arith, nat_tests) in

@@ -89,7 +89,9 @@ fn list_of_values(alloc: Global, values: &[Value]) -> Result<Value, CallError>
 // Adds a value at the end of a list.
 fn append(list: &mut PhpArray, value: Value) -> Result<(), CallError>
     ensures ok { OnOk result (list.new ≡ table_push list.old (data_of value)) }
-    ensures only { IfErr result (λ e. (e ≡ CallError.Memory) ⊎ ((e ≡ CallError.NextIndex) × (list.old.largest ≡ Some largest_int)) ⊎ ((e ≡ CallError.TooHeavy) × (weight_limit < pairs_weight (table_push list.old (data_of value)).pairs))) }
+    ensures only { IfErr result (λ e. (e ≡ CallError.Memory)
+        ⊎ ((e ≡ CallError.NextIndex) × (list.old.largest ≡ Some largest_int))
+        ⊎ ((e ≡ CallError.TooHeavy) × (weight_limit < pairs_weight (table_push list.old (data_of value)).pairs))) }
     ensures light { OnOk result (pairs_weight list.new.pairs ≤ weight_limit) }
 {
     match list.push(value) {

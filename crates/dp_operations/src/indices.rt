@@ -4,17 +4,18 @@ ghost use Rattle.std.specs.Prelude.{◌≡◌, ◌⊎◌, [], ◌∷◌, map, op
 ghost use Rattle.dp_value.specs.Data.{text};
 ghost use Rattle.dp_value.specs.Value.{data_of};
 ghost use Rattle.dp_operations.specs.Answers.{Answers};
-ghost use Rattle.dp_operations.specs.Indexing.{byte_at as byte_of, found_by, indexed, indexed_by, letter_at as letter_of, looked_up, read_by as read_under, reading};
+ghost use Rattle.dp_operations.specs.Indexing.{byte_at as byte_of, found_by, indexed, indexed_by};
+ghost use Rattle.dp_operations.specs.Indexing.{letter_at as letter_of, looked_up, read_by as read_under, reading};
 ghost use Rattle.dp_operations.specs.inner.Found.{data_of_found};
 
 use dp_value::{Bytes, Memory, Value, ValueError, key_of};
 use std::alloc::Global;
 
-/// The value read under an index: of an array the one under its key, and null where there is none; of a text one byte; of
-/// another value null.
+/// The value read under an index: of an array the one under its key, and null where there is none; of a text one byte;
+/// of another value null.
 ///
-/// `BadKey` comes exactly where an array is read by an array, and `Unsupported` exactly where a text has no byte under the
-/// index. Takes time and memory for the value that is read. Source: the PHP manual, "Arrays" and "Strings".
+/// `BadKey` comes exactly where an array is read by an array, and `Unsupported` exactly where a text has no byte under
+/// the index. Takes time and memory for the value that is read. Source: the PHP manual, "Arrays" and "Strings".
 pub fn index(alloc: Global, holder: &Value, index: &Value) -> Result<Value, ValueError>
     ensures { Answers result (indexed (data_of holder.now) (data_of index.now)) }
 {
@@ -89,7 +90,8 @@ fn under<'a>(
     index: &Value,
     plain: bool,
 ) -> Result<Found<'a>, ValueError>
-    ensures { MatchResult result (λ found. reading plain (data_of holder.now) (data_of index.now) ≡ Ok (data_of_found found))
+    ensures { MatchResult result (λ found. reading plain (data_of holder.now) (data_of index.now) ≡ Ok
+        (data_of_found found))
         (λ e. (e ≡ ValueError.Memory) ⊎ (reading plain (data_of holder.now) (data_of index.now) ≡ Err e)) }
 {
     match holder {

@@ -1,4 +1,5 @@
-//! The operations of the language on values, as tables of cases: the text of a value, the operators and the built-in functions.
+//! The operations of the language on values, as tables of cases: the text of a value, the operators and the built-in
+//! functions.
 #![tactic(auto)]
 
 mod arguments;

@@ -5,7 +5,8 @@ ghost use Rattle.dp_value.specs.Data.{text};
 ghost use Rattle.dp_value.specs.Table.{weight_limit};
 ghost use Rattle.dp_value.specs.Value.{data_of};
 ghost use Rattle.dp_operations.specs.Builtins as table;
-ghost use Rattle.dp_operations.specs.Builtins.{double as two_of, joining_of, on_two, on_three, repetition_of, triple as three_of, CallAnswers};
+ghost use Rattle.dp_operations.specs.Builtins.{double as two_of, joining_of, on_two, on_three, repetition_of};
+ghost use Rattle.dp_operations.specs.Builtins.{triple as three_of, CallAnswers};
 ghost use Rattle.dp_operations.specs.Parts.{end_of, join_by, part_of, start_of, repeated as repeated_of};
 ghost use Rattle.dp_operations.specs.Text.{text_of};
 
@@ -149,8 +150,10 @@ fn joined(alloc: Global, glue: &[u8], values: &[Value]) -> Result<Value, CallErr
 
 // Adds bytes at the end of a text, where it does not become too heavy.
 fn append(bytes: &mut Vec<u8>, more: &[u8]) -> Result<(), CallError>
-    ensures ok { OnOk result ((bytes.new.items ≡ bytes.old.items ++ more.now) × (length bytes.new.items ≤ weight_limit)) }
-    ensures only { IfErr result (λ e. (e ≡ CallError.Memory) ⊎ ((e ≡ CallError.TooHeavy) × (weight_limit < length bytes.old.items + length more.now))) }
+    ensures ok { OnOk result ((bytes.new.items ≡ bytes.old.items ++ more.now)
+        × (length bytes.new.items ≤ weight_limit)) }
+    ensures only { IfErr result (λ e. (e ≡ CallError.Memory)
+        ⊎ ((e ≡ CallError.TooHeavy) × (weight_limit < length bytes.old.items + length more.now))) }
 {
     if bytes.len() as u64 + more.len() as u64 > WEIGHT_LIMIT {
         return Err(CallError::TooHeavy);

@@ -3,7 +3,8 @@
 ghost use Rattle.std.specs.Prelude.{◌≡◌, map};
 ghost use Rattle.dp_value.specs.Value.{data_of};
 ghost use Rattle.dp_operations.specs.Builtins as table;
-ghost use Rattle.dp_operations.specs.Builtins.{byte_of, double as two_of, first_byte_of, length_of, on_one, on_two, quotient_of, single as one_of, CallAnswers, CallGives};
+ghost use Rattle.dp_operations.specs.Builtins.{byte_of, double as two_of, first_byte_of, length_of, on_one, on_two};
+ghost use Rattle.dp_operations.specs.Builtins.{quotient_of, single as one_of, CallAnswers, CallGives};
 
 use crate::arguments::{double, single};
 use dp_value::{Bytes, CallError, Value};

@@ -28,8 +28,8 @@ pub record Dial : Type 0 where
   pub port : ℕ
   pub made : Option Link
 
--- a gate that was shut: its port, the links that it had given as they reported when they were given,
--- and those that had come back as they reported then
+-- a gate that was shut: its port, the links that it had given as they reported when they were
+-- given, and those that had come back as they reported then
 pub record Door : Type 0 where
   pub port : ℕ
   pub accepted : Option (List Link)

@@ -43,7 +43,8 @@ pub trait Dialer: Sized + Send + Drop {
     /// Takes back a link. It cannot fail.
     fn retire(&mut self, source: Self::In, sink: Self::Out)
         ensures faults { faults self.new ≡ faults self.old }
-        ensures returned { CountsReturned (Self.In.faults source + Self.Out.faults sink) (returned self.old) (returned self.new) }
+        ensures returned { CountsReturned (Self.In.faults source + Self.Out.faults sink) (returned self.old)
+            (returned self.new) }
         ensures later { returned self.old ≤ returned self.new }
         ensures dials { dials self.new ≡ dials self.old }
         ensures retired { retired self.new
@@ -98,7 +99,8 @@ pub trait Gate: Sized + Send + Drop {
     /// Takes back a link. It cannot fail.
     fn retire(&mut self, source: Self::In, sink: Self::Out)
         ensures faults { faults self.new ≡ faults self.old }
-        ensures returned { CountsReturned (Self.In.faults source + Self.Out.faults sink) (returned self.old) (returned self.new) }
+        ensures returned { CountsReturned (Self.In.faults source + Self.Out.faults sink) (returned self.old)
+            (returned self.new) }
         ensures later { returned self.old ≤ returned self.new }
         ensures port { port self.new ≡ port self.old }
         ensures accepted { accepted self.new ≡ accepted self.old }

@@ -1,5 +1,6 @@
 //! A shelf in memory.
-ghost use Rattle.std.specs.Prelude.{◌≡◌, ◌+◌, ◌≤◌, [], ◌∷◌, ◌++◌, length, Err, IfOk, IsErrOf, Some, is_err, IsTrue, ◌↔◌};
+ghost use Rattle.std.specs.Prelude.{◌≡◌, ◌+◌, ◌≤◌, [], ◌∷◌, ◌++◌, length, Err, IfOk, IsErrOf, Some, is_err, IsTrue};
+ghost use Rattle.std.specs.Prelude.{◌↔◌};
 ghost use Rattle.dp_outside.specs.Causes.{Rose};
 ghost use Rattle.dp_outside.specs.Fakes.{after_call, first_plan, is_due};
 ghost use Rattle.dp_outside.specs.Files.{Fetches, Lacks, has_failed, told};

@@ -16,12 +16,22 @@ use Rattle.dp_packet.specs.inner.Sizes.{attribute_size, attributes_size}
 
 pub attribute_length : (name value : Text) → length (attribute_text (name, value)) ≡ attribute_size (name, value)
 attribute_length name value =
-    omega (arith, length-append (name ++ codes "=\"" ++ escaped_all value) (codes "\""), length-append (name ++ codes "=\"") (escaped_all value), length-append name (codes "=\""))
+    omega (
+      arith,
+      length-append (name ++ codes "=\"" ++ escaped_all value) (codes "\""),
+      length-append (name ++ codes "=\"") (escaped_all value),
+      length-append name (codes "=\""),
+    )
 
 attributes_length : (attributes : Attributes) → length (flat_map attribute_text attributes) ≡ attributes_size attributes
 attributes_length [] = refl
 attributes_length (a ∷ more) =
-    omega (arith, length-append (attribute_text a) (flat_map attribute_text more), attribute_length a.0 a.1, attributes_length more)
+    omega (
+      arith,
+      length-append (attribute_text a) (flat_map attribute_text more),
+      attribute_length a.0 a.1,
+      attributes_length more,
+    )
 
 pub attributes_append : (a b : Attributes) → attributes_size (a ++ b) ≡ attributes_size a + attributes_size b
 attributes_append [] b = omega arith
@@ -32,14 +42,26 @@ element_length : (name content : Text) (attributes : Attributes)
 element_length name content attributes =
     let middle : List ℕ = flat_map attribute_text attributes in
     let front : List ℕ = name ++ middle ++ codes ">" ++ content in
-    omega (arith, length-append (front ++ codes "</" ++ name) (codes ">"), length-append (front ++ codes "</") name, length-append front (codes "</"), length-append (name ++ middle ++ codes ">") content, length-append (name ++ middle) (codes ">"), length-append name middle, attributes_length attributes)
+    omega (
+      arith,
+      length-append (front ++ codes "</" ++ name) (codes ">"),
+      length-append (front ++ codes "</") name,
+      length-append front (codes "</"),
+      length-append (name ++ middle ++ codes ">") content,
+      length-append (name ++ middle) (codes ">"),
+      length-append name middle,
+      attributes_length attributes,
+    )
 
-pub written_length : (e : Element) → length (written e) ≡ 5 + 2 * length e.name + attributes_size e.attributes + length (nodes_text e.children)
+pub written_length : (e : Element)
+    → length (written e) ≡ 5 + 2 * length e.name + attributes_size e.attributes + length (nodes_text e.children)
 written_length e = ap length (written_is e) ∙ element_length e.name (nodes_text e.children) e.attributes
 
 pub child_length : (name : Text) (attributes : Attributes) (children : List Node)
-    → length (node_text (child name attributes children)) ≡ 5 + 2 * length name + attributes_size attributes + length (nodes_text children)
-child_length name attributes children = ap length (child_node (element name attributes children)) ∙ written_length (element name attributes children)
+    → length (node_text (child name attributes children)) ≡ 5 + 2 * length name + attributes_size attributes + length
+    (nodes_text children)
+child_length name attributes children =
+    ap length (child_node (element name attributes children)) ∙ written_length (element name attributes children)
 
 -- one node alone
 pub alone_length : (n : Node) → length (nodes_text (n ∷ [])) ≡ length (node_text n)

@@ -24,7 +24,9 @@ unfolding should_percent_encode percent_encode_byte
 all_alike = refl
 
 same_byte : (b : ℕ) → b < 256 → encode_byte ESCAPED b ≡ encoded b
-same_byte = (Decides-below_and alike (λ b. encode_byte ESCAPED b ≡ encoded b) alike_below (λ b. bytes_eq-Decides _ _) refl (λ _. refl) 256).0 all_alike
+same_byte =
+    (Decides-below_and alike (λ b. encode_byte ESCAPED b ≡ encoded b) alike_below (λ b. bytes_eq-Decides _ _) refl
+    (λ _. refl) 256).0 all_alike
 
 abbrev pub IsByte : ℕ → Type 0
 IsByte b = b < 256
@@ -32,7 +34,8 @@ IsByte b = b < 256
 pub same_bytes : (bytes : List ℕ) → All IsByte bytes → percent_encode ESCAPED bytes ≡ flat_map encoded bytes
 unfolding percent_encode
 same_bytes [] small = refl
-same_bytes (b ∷ bytes) small = (λ i. same_byte b (All-head IsByte b bytes small) i ++ same_bytes bytes (All-tail IsByte b bytes small) i)
+same_bytes (b ∷ bytes) small =
+    (λ i. same_byte b (All-head IsByte b bytes small) i ++ same_bytes bytes (All-tail IsByte b bytes small) i)
 
 pub small_rest : (name : List ℕ) → All IsByte name → All IsByte (without_slash name)
 small_rest [] small = small

@@ -20,8 +20,10 @@ use Rattle.dp_parse.proofs.FileVerdicts.{text_reads}
 spelled_of : (ts : List Token) (e : Expression) → tree_in (Some ts) ≡ Some e → SpellsExpression limits.expressions ts e
 spelled_of ts e = go (expression_text limits.expressions ts) refl
   where
-    go : (o : Outcome Expression) → expression_text limits.expressions ts ≡ o → value_in o ≡ Some e → SpellsExpression limits.expressions ts e
-    go (Ok x) is same = let one : x.0 ≡ e = cc in found (text_reads limits.expressions) ts e x.1 (is ∙ ap (λ v. Ok (v, x.1)) one)
+    go : (o : Outcome Expression) → expression_text limits.expressions ts ≡ o → value_in o ≡ Some e
+        → SpellsExpression limits.expressions ts e
+    go (Ok x) is same =
+        let one : x.0 ≡ e = cc in found (text_reads limits.expressions) ts e x.1 (is ∙ ap (λ v. Ok (v, x.1)) one)
     go (Err f) is same = absurd (cc)
 
 told_spelled : (bytes : List ℕ) (e : Expression) → expression_in bytes ≡ Some e → IsExpressionText bytes e
@@ -29,17 +31,20 @@ told_spelled bytes e = go (expression_tokens bytes) refl
   where
     go : (o : Option (List Token)) → expression_tokens bytes ≡ o → tree_in o ≡ Some e → IsExpressionText bytes e
     go None is same = absurd (cc)
-    go (Some ts) is same = record { tokens = ts; are_tokens = (tokens_told bytes ts).0 is; spelled = spelled_of ts e same }
+    go (Some ts) is same =
+        record { tokens = ts; are_tokens = (tokens_told bytes ts).0 is; spelled = spelled_of ts e same }
 
 spelled_told : (bytes : List ℕ) (e : Expression) → IsExpressionText bytes e → expression_in bytes ≡ Some e
 spelled_told bytes e h =
-    ap tree_in ((tokens_told bytes h.tokens).1 h.are_tokens) ∙ ap value_in (all_found (text_reads limits.expressions) h.tokens e h.spelled)
+    ap tree_in ((tokens_told bytes h.tokens).1 h.are_tokens)
+    ∙ ap value_in (all_found (text_reads limits.expressions) h.tokens e h.spelled)
 
 pub expression_told : Tells expression_in
 expression_told bytes e = (told_spelled bytes e, spelled_told bytes e)
 
 -- where each tree that is spelled comes to want of memory, and it is none of that, no tree is told
-pub none_told : (bytes : List ℕ) (why : ParseError) → ((e : Expression) → IsExpressionText bytes e → why ≡ error.Memory) → why ≢ error.Memory → expression_in bytes ≡ None
+pub none_told : (bytes : List ℕ) (why : ParseError) → ((e : Expression) → IsExpressionText bytes e → why ≡ error.Memory)
+    → why ≢ error.Memory → expression_in bytes ≡ None
 none_told bytes why only some = go (expression_in bytes) refl
   where
     go : (o : Option Expression) → expression_in bytes ≡ o → o ≡ None
@@ -47,7 +52,9 @@ none_told bytes why only some = go (expression_in bytes) refl
     go (Some e) is = absurd (some (only e (told_spelled bytes e is)))
 
 -- what a call answers that finds what these tokens of the bytes spell, and nothing else but want of memory
-pub told_by : (bytes : List ℕ) (ts : List Token) → AreTokens bytes ts → (r : Result Expression ParseError) → IfOk r (λ e. SpellsExpression limits.expressions ts e)
-    → ((e : Expression) → IsExpressionText bytes e → MatchResult r (λ other. other ≡ e) (λ why. why ≡ error.Memory)) → Told (expression_in bytes) r
+pub told_by : (bytes : List ℕ) (ts : List Token) → AreTokens bytes ts → (r : Result Expression ParseError)
+    → IfOk r (λ e. SpellsExpression limits.expressions ts e)
+    → ((e : Expression) → IsExpressionText bytes e → MatchResult r (λ other. other ≡ e) (λ why. why ≡ error.Memory))
+    → Told (expression_in bytes) r
 told_by bytes ts are (Ok e) h only = spelled_told bytes e (record { tokens = ts; are_tokens = are; spelled = h })
 told_by bytes ts are (Err why) h only = none_told bytes why only

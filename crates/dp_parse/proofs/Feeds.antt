@@ -20,7 +20,9 @@ tag_feeds (x ∷ a) e = (five, go (x == 10) refl)
     first (y ∷ ys) = y
 
     no_feed : x ≡ 10 → ⊥
-    no_feed is = let f : to_ascii_lowercase x ≡ 60 = ap first e in let g : to_ascii_lowercase 10 ≡ 60 = ap to_ascii_lowercase (sym is) ∙ f in cc
+    no_feed is =
+        let f : to_ascii_lowercase x ≡ 60 = ap first e in let g : to_ascii_lowercase 10 ≡ 60 = ap to_ascii_lowercase
+        (sym is) ∙ f in cc
 
     go : (k : Bool) → (x == 10) ≡ k → (if k then 1 else 0) + feeds a ≤ 4
     go true is = absurd (no_feed (eqb-true x 10 is))

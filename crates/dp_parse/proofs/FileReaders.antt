@@ -38,14 +38,17 @@ use Rattle.dp_rules.specs.TokenValues.{Text, unless, variable_in, name_in, by_ki
 
 -- ---- parameters
 
-parameter_starts : {L : Type 0} (found : List Text) → StartsIn {L = L} (OneAt (by_kind (parameter_in found))) (is terminal.Variable)
+parameter_starts : {L : Type 0} (found : List Text)
+    → StartsIn {L = L} (OneAt (by_kind (parameter_in found))) (is terminal.Variable)
 parameter_starts found = one_starts (by_kind (parameter_in found)) (is terminal.Variable) (λ t a e. of t.kind a e)
   where
-    named : (name : Text) (b : Bool) (a : Text) → unless b name ≡ Some a → is terminal.Variable (cond b terminal.Superglobal terminal.Variable) ≡ true
+    named : (name : Text) (b : Bool) (a : Text) → unless b name ≡ Some a
+        → is terminal.Variable (cond b terminal.Superglobal terminal.Variable) ≡ true
     named name true a e = absurd (cc)
     named name false a e = refl
 
-    new : (name : Text) (b : Bool) (a : Text) → cond b None (variable_in (kind.Variable name)) ≡ Some a → is terminal.Variable (terminal_of (kind.Variable name)) ≡ true
+    new : (name : Text) (b : Bool) (a : Text) → cond b None (variable_in (kind.Variable name)) ≡ Some a
+        → is terminal.Variable (terminal_of (kind.Variable name)) ≡ true
     new name true a e = absurd (cc)
     new name false a e = named name (is_superglobal name) a e
 
@@ -59,7 +62,9 @@ ParametersAt = AnyItemsAt (λ found. OneAt (by_kind (parameter_in found))) termi
 abbrev parameters : Reader (List Text)
 parameters = any_items (λ found. kind (parameter_in found)) terminal.CloseParenthesis
 
-are_parameters : (level : Depth) → AreItems Deeper (λ found. OneAt (by_kind (parameter_in found))) terminal.CloseParenthesis Anything (is terminal.Variable) level (λ found. kind (parameter_in found))
+are_parameters : (level : Depth)
+    → AreItems Deeper (λ found. OneAt (by_kind (parameter_in found))) terminal.CloseParenthesis Anything
+    (is terminal.Variable) level (λ found. kind (parameter_in found))
 are_parameters level = record {
   starts = parameter_starts;
   not_comma = refl;
@@ -69,14 +74,30 @@ are_parameters level = record {
   stops_close = λ a. refl;
   closing = placed kind.CloseParenthesis;
   closes = refl;
-  some_item = λ m above. (placed (kind.Variable (97 ∷ [])) ∷ [], 97 ∷ [], record { symbol = placed (kind.Variable (97 ∷ [])); alone = refl; is_worth = refl });
+  some_item =
+      λ m above. (
+        placed (kind.Variable (97 ∷ [])) ∷ [],
+        97
+            ∷ [],
+        record { symbol = placed (kind.Variable (97 ∷ [])); alone = refl; is_worth = refl },
+      );
   reads = λ found ts. one_answers Deeper same_depth (by_kind (parameter_in found)) Anything level ts;
 }
 
 parameters_reader : (level : Depth) → IsPartReader 1 ParametersAt Anything level parameters
 parameters_reader level = record {
-  answers = λ some. any_items_answers Deeper same_depth (λ found. OneAt (by_kind (parameter_in found))) terminal.CloseParenthesis Anything (is terminal.Variable) level (λ found. kind (parameter_in found)) (are_parameters level);
-  least = λ m some. (placed kind.CloseParenthesis ∷ [], [], inl (give (Mark terminal.CloseParenthesis) (λ _. []) (placed kind.CloseParenthesis ∷ []) 1 (mark_alone terminal.CloseParenthesis kind.CloseParenthesis refl)));
+  answers =
+      λ some. any_items_answers Deeper same_depth (λ found. OneAt (by_kind (parameter_in found)))
+      terminal.CloseParenthesis Anything (is terminal.Variable) level (λ found. kind (parameter_in found))
+      (are_parameters level);
+  least =
+      λ m some. (
+        placed kind.CloseParenthesis
+            ∷ [],
+        [],
+        inl (give (Mark terminal.CloseParenthesis) (λ _. []) (placed kind.CloseParenthesis ∷ []) 1
+            (mark_alone terminal.CloseParenthesis kind.CloseParenthesis refl)),
+      );
 }
 
 -- where a file may end
@@ -87,7 +108,8 @@ end_stop a s = is terminal.End s
 token_no_end : (t : Token) → is terminal.End (terminal_of t.kind) ≡ false
 token_no_end t = go t.kind
   where
-    of : (b : Bool) (s r : Terminal) → is terminal.End s ≡ false → is terminal.End r ≡ false → is terminal.End (cond b s r) ≡ false
+    of : (b : Bool) (s r : Terminal) → is terminal.End s ≡ false → is terminal.End r ≡ false
+        → is terminal.End (cond b s r) ≡ false
     of true s r one other = one
     of false s r one other = other
 
@@ -105,39 +127,66 @@ module _ (ends place_ends : Terminal → Bool) (known : AreRead ends place_ends)
   -- ---- functions
 
   abbrev FunctionRestAt : ℕ → Rules Depth Function
-  FunctionRestAt line = JoinedAt (OneAt (by_kind name_in)) (λ name. JoinedAt (MarkAt terminal.OpenParenthesis) (λ _. JoinedAt ParametersAt (λ found. JoinedAt (MarkAt terminal.OpenBrace) (λ _. JoinedAt (BodiesAt 0) (λ all. GivesAt (function_of line name found all))))))
+  FunctionRestAt line =
+      JoinedAt (OneAt (by_kind name_in)) (λ name. JoinedAt (MarkAt terminal.OpenParenthesis)
+      (λ _. JoinedAt ParametersAt (λ found. JoinedAt (MarkAt terminal.OpenBrace)
+      (λ _. JoinedAt (BodiesAt 0) (λ all. GivesAt (function_of line name found all))))))
 
   module _ (depth : Depth) where
     abbrev body : ℕ → Reader Body
     body = body_below depth.expressions depth.bodies
 
     abbrev after_parameters : ℕ → Text → List Text → Reader Function
-    after_parameters line name found = mark terminal.OpenBrace >> (bodies (body 0) >>= (λ all. gives (function_of line name found all)))
+    after_parameters line name found =
+        mark terminal.OpenBrace >> (bodies (body 0) >>= (λ all. gives (function_of line name found all)))
 
     after_parameters_reader : (line : ℕ) (name : Text) (found : List Text)
-        → IsPartReader 1 (JoinedAt (MarkAt terminal.OpenBrace) (λ _. JoinedAt (BodiesAt 0) (λ all. GivesAt (function_of line name found all)))) Anything depth (after_parameters line name found)
-    after_parameters_reader line name found = mark_then 1 depth terminal.OpenBrace kind.OpenBrace refl (λ _. JoinedAt (BodiesAt 0) (λ all. GivesAt (function_of line name found all))) Anything (λ _. bodies (body 0) >>= (λ all. gives (function_of line name found all)))
-        (λ _. then_reader 1 depth (BodiesAt 0) (λ all. GivesAt (function_of line name found all)) Anything (bodies (body 0)) (λ all. gives (function_of line name found all))
-        (bodies_reader ends place_ends known depth 0 body (body_reader ends place_ends known depth.expressions depth.bodies)) (λ all. gives_reader 1 depth (function_of line name found all) Anything))
+        → IsPartReader 1 (JoinedAt (MarkAt terminal.OpenBrace)
+        (λ _. JoinedAt (BodiesAt 0) (λ all. GivesAt (function_of line name found all)))) Anything depth
+        (after_parameters line name found)
+    after_parameters_reader line name found =
+        mark_then 1 depth terminal.OpenBrace kind.OpenBrace refl
+        (λ _. JoinedAt (BodiesAt 0) (λ all. GivesAt (function_of line name found all))) Anything
+        (λ _. bodies (body 0) >>= (λ all. gives (function_of line name found all)))
+        (λ _. then_reader 1 depth (BodiesAt 0) (λ all. GivesAt (function_of line name found all)) Anything
+        (bodies (body 0)) (λ all. gives (function_of line name found all))
+        (bodies_reader ends place_ends known depth 0 body (body_reader ends place_ends known depth.expressions
+        depth.bodies)) (λ all. gives_reader 1 depth (function_of line name found all) Anything))
 
     abbrev after_name : ℕ → Text → Reader Function
     after_name line name = mark terminal.OpenParenthesis >> (parameters >>= after_parameters line name)
 
     after_name_reader : (line : ℕ) (name : Text)
-        → IsPartReader 1 (JoinedAt (MarkAt terminal.OpenParenthesis) (λ _. JoinedAt ParametersAt (λ found. JoinedAt (MarkAt terminal.OpenBrace) (λ _. JoinedAt (BodiesAt 0) (λ all. GivesAt (function_of line name found all)))))) Anything depth (after_name line name)
+        → IsPartReader 1 (JoinedAt (MarkAt terminal.OpenParenthesis)
+        (λ _. JoinedAt ParametersAt (λ found. JoinedAt (MarkAt terminal.OpenBrace)
+        (λ _. JoinedAt (BodiesAt 0) (λ all. GivesAt (function_of line name found all)))))) Anything depth
+        (after_name line name)
     after_name_reader line name =
-        let rest : List Text → Rules Depth Function = λ found. JoinedAt (MarkAt terminal.OpenBrace) (λ _. JoinedAt (BodiesAt 0) (λ all. GivesAt (function_of line name found all))) in
-        mark_then 1 depth terminal.OpenParenthesis kind.OpenParenthesis refl (λ _. JoinedAt ParametersAt rest) Anything (λ _. parameters >>= after_parameters line name)
-        (λ _. then_reader 1 depth ParametersAt rest Anything parameters (after_parameters line name) (parameters_reader depth) (after_parameters_reader line name))
+        let rest : List Text
+        → Rules Depth Function = λ found. JoinedAt (MarkAt terminal.OpenBrace)
+        (λ _. JoinedAt (BodiesAt 0) (λ all. GivesAt (function_of line name found all))) in
+        mark_then 1 depth terminal.OpenParenthesis kind.OpenParenthesis refl (λ _. JoinedAt ParametersAt rest) Anything
+        (λ _. parameters >>= after_parameters line name)
+        (λ _. then_reader 1 depth ParametersAt rest Anything parameters (after_parameters line name)
+        (parameters_reader depth) (after_parameters_reader line name))
 
-    pub function_answers : (ts : List Token) → is terminal.Function (head ts) ≡ true → Answers Deeper FunctionRule Anything depth ts (function_rule depth ts)
+    pub function_answers : (ts : List Token) → is terminal.Function (head ts) ≡ true
+        → Answers Deeper FunctionRule Anything depth ts (function_rule depth ts)
     unfolding function_rule
-    function_answers ts here = keyword_nests terminal.Function kind.Function refl FunctionRestAt Anything depth (λ line. kind name_in >>= after_name line) ts refl here
-        (λ line. then_reader 1 depth (OneAt (by_kind name_in)) (λ name. JoinedAt (MarkAt terminal.OpenParenthesis) (λ _. JoinedAt ParametersAt (λ found. JoinedAt (MarkAt terminal.OpenBrace) (λ _. JoinedAt (BodiesAt 0) (λ all. GivesAt (function_of line name found all)))))) Anything (kind name_in) (after_name line)
+    function_answers ts here =
+        keyword_nests terminal.Function kind.Function refl FunctionRestAt Anything depth
+        (λ line. kind name_in >>= after_name line) ts refl here
+        (λ line. then_reader 1 depth (OneAt (by_kind name_in))
+        (λ name. JoinedAt (MarkAt terminal.OpenParenthesis)
+        (λ _. JoinedAt ParametersAt (λ found. JoinedAt (MarkAt terminal.OpenBrace)
+        (λ _. JoinedAt (BodiesAt 0) (λ all. GivesAt (function_of line name found all)))))) Anything (kind name_in)
+        (after_name line)
         (kind_reader 1 depth name_in (kind.Name (97 ∷ [])) (97 ∷ []) refl) (after_name_reader line))
 
   function_starts : StartsIn FunctionRule (is terminal.Function)
-  function_starts = nests_starts (λ m. m.bodies) _ (is terminal.Function) (joined_starts (MarkAt terminal.Function) _ (is terminal.Function) (mark_starts terminal.Function))
+  function_starts =
+      nests_starts (λ m. m.bodies) _ (is terminal.Function) (joined_starts (MarkAt terminal.Function) _
+      (is terminal.Function) (mark_starts terminal.Function))
 
   -- ---- files
 
@@ -160,20 +209,27 @@ module _ (ends place_ends : Terminal → Bool) (known : AreRead ends place_ends)
   function_of_starts parts = made_starts FunctionRule (with_function parts) (is terminal.Function) function_starts
 
   statement_of_starts : (parts : Parts) → StartsIn (StatementOf parts) begins_statement
-  statement_of_starts parts = made_starts (LineAt 0) (with_statement parts) begins_statement (line_starts ends place_ends known 0)
+  statement_of_starts parts =
+      made_starts (LineAt 0) (with_statement parts) begins_statement (line_starts ends place_ends known 0)
 
   part_starts : (parts : Parts) → StartsIn (PartAt parts) (between_parts parts)
   part_starts parts = either_starts (FunctionOf parts) (StatementOf parts) (between_parts parts)
-      (starts_in_more (FunctionOf parts) (is terminal.Function) (between_parts parts) (mark_passes (between_parts parts) terminal.Function refl) (function_of_starts parts))
-      (starts_in_more (StatementOf parts) begins_statement (between_parts parts) (λ s e. ap not (statement_no_else s e)) (statement_of_starts parts))
+      (starts_in_more (FunctionOf parts) (is terminal.Function) (between_parts parts)
+      (mark_passes (between_parts parts) terminal.Function refl) (function_of_starts parts))
+      (starts_in_more (StatementOf parts) begins_statement (between_parts parts) (λ s e. ap not (statement_no_else s e))
+      (statement_of_starts parts))
 
   part_no_end : (parts : Parts) → StartsIn (PartAt parts) (λ s. not (is terminal.End s))
   part_no_end parts = either_starts (FunctionOf parts) (StatementOf parts) (λ s. not (is terminal.End s))
-      (starts_in_more (FunctionOf parts) (is terminal.Function) (λ s. not (is terminal.End s)) (mark_passes (λ s. not (is terminal.End s)) terminal.Function refl) (function_of_starts parts))
-      (starts_in_more (StatementOf parts) begins_statement (λ s. not (is terminal.End s)) (λ s e. ap not (mark_apart begins_statement terminal.End refl s e)) (statement_of_starts parts))
+      (starts_in_more (FunctionOf parts) (is terminal.Function) (λ s. not (is terminal.End s))
+      (mark_passes (λ s. not (is terminal.End s)) terminal.Function refl) (function_of_starts parts))
+      (starts_in_more (StatementOf parts) begins_statement (λ s. not (is terminal.End s))
+      (λ s e. ap not (mark_apart begins_statement terminal.End refl s e)) (statement_of_starts parts))
 
   end_follows : Follows between_parts EndAt end_stop
-  end_follows = gives_follow (λ parts. parts) between_parts end_stop (λ parts s e. mark_passes (between_parts parts) terminal.End refl s e)
+  end_follows =
+      gives_follow (λ parts. parts) between_parts end_stop (λ parts s e. mark_passes
+      (between_parts parts) terminal.End refl s e)
 
   -- one choice by a test turned round
   turned : {A : Type 0} (b : Bool) (x y : A) → cond (not b) x y ≡ cond b y x
@@ -187,15 +243,28 @@ module _ (ends place_ends : Terminal → Bool) (known : AreRead ends place_ends)
     abbrev read_statement : Parts → Reader Parts
     read_statement parts = made (statement depth.expressions depth.bodies 0) (with_statement parts)
 
-    function_part : (parts : Parts) (ts : List Token) → is terminal.Function (head ts) ≡ true → Answers Deeper (PartAt parts) between_parts depth ts (read_function parts ts)
-    function_part parts ts here = by_first Deeper same_depth (FunctionOf parts) (StatementOf parts) (is terminal.Function) between_parts depth ts (function_of_starts parts)
-        (starts_apart (StatementOf parts) between_parts (is terminal.Function) begins_statement (mark_apart begins_statement terminal.Function refl) (statement_of_starts parts)) here (read_function parts ts)
-        (made_answers Deeper same_depth FunctionRule (with_function parts) Anything between_parts depth ts (λ f s e. refl) (function_rule depth ts) (function_answers depth ts here))
+    function_part : (parts : Parts) (ts : List Token) → is terminal.Function (head ts) ≡ true
+        → Answers Deeper (PartAt parts) between_parts depth ts (read_function parts ts)
+    function_part parts ts here =
+        by_first Deeper same_depth (FunctionOf parts) (StatementOf parts) (is terminal.Function) between_parts depth ts
+        (function_of_starts parts)
+        (starts_apart (StatementOf parts) between_parts (is terminal.Function) begins_statement
+        (mark_apart begins_statement terminal.Function refl) (statement_of_starts parts)) here
+        (read_function parts ts)
+        (made_answers Deeper same_depth FunctionRule (with_function parts) Anything between_parts depth ts
+        (λ f s e. refl) (function_rule depth ts) (function_answers depth ts here))
 
-    statement_part : (parts : Parts) (ts : List Token) → is terminal.Function (head ts) ≡ false → Answers Deeper (PartAt parts) between_parts depth ts (read_statement parts ts)
-    statement_part parts ts none = by_second Deeper same_depth (FunctionOf parts) (StatementOf parts) (is terminal.Function) between_parts depth ts (function_of_starts parts)
-        (starts_apart (StatementOf parts) between_parts (is terminal.Function) begins_statement (mark_apart begins_statement terminal.Function refl) (statement_of_starts parts)) none (read_statement parts ts)
-        (made_answers Deeper same_depth (LineAt 0) (with_statement parts) body_stop between_parts depth ts (λ b s e. open_ends_other b.is_open s (not_true (takes_else s) e)) (statement depth.expressions depth.bodies 0 ts)
+    statement_part : (parts : Parts) (ts : List Token) → is terminal.Function (head ts) ≡ false
+        → Answers Deeper (PartAt parts) between_parts depth ts (read_statement parts ts)
+    statement_part parts ts none =
+        by_second Deeper same_depth (FunctionOf parts) (StatementOf parts) (is terminal.Function) between_parts depth ts
+        (function_of_starts parts)
+        (starts_apart (StatementOf parts) between_parts (is terminal.Function) begins_statement
+        (mark_apart begins_statement terminal.Function refl) (statement_of_starts parts)) none
+        (read_statement parts ts)
+        (made_answers Deeper same_depth (LineAt 0) (with_statement parts) body_stop between_parts depth ts
+        (λ b s e. open_ends_other b.is_open s (not_true (takes_else s) e))
+        (statement depth.expressions depth.bodies 0 ts)
         (statement_answers ends place_ends known depth 0 ts))
 
     abbrev function_step : Parts → Reader (ControlFlow Parts Parts)
@@ -207,55 +276,92 @@ module _ (ends place_ends : Terminal → Bool) (known : AreRead ends place_ends)
     abbrev next_part : Parts → Reader (ControlFlow Parts Parts)
     next_part parts ts = cond (is terminal.Function (head ts)) (function_step parts ts) (statement_step parts ts)
 
-    next_part_answers : (parts : Parts) (ts : List Token) → Answers Deeper (MadeAt (PartAt parts) Continue) (step_stop between_parts end_stop) depth ts (next_part parts ts)
+    next_part_answers : (parts : Parts) (ts : List Token)
+        → Answers Deeper (MadeAt (PartAt parts) Continue) (step_stop between_parts end_stop) depth ts
+        (next_part parts ts)
     next_part_answers parts ts = go (is terminal.Function (head ts)) refl
       where
-        go : (b : Bool) → is terminal.Function (head ts) ≡ b → Answers Deeper (MadeAt (PartAt parts) Continue) (step_stop between_parts end_stop) depth ts (cond b (function_step parts ts) (statement_step parts ts))
-        go true here = made_answers Deeper same_depth (PartAt parts) Continue between_parts (step_stop between_parts end_stop) depth ts (λ x s e. e) (read_function parts ts) (function_part parts ts here)
-        go false none = made_answers Deeper same_depth (PartAt parts) Continue between_parts (step_stop between_parts end_stop) depth ts (λ x s e. e) (read_statement parts ts) (statement_part parts ts none)
+        go : (b : Bool) → is terminal.Function (head ts) ≡ b
+            → Answers Deeper (MadeAt (PartAt parts) Continue) (step_stop between_parts end_stop) depth ts
+            (cond b (function_step parts ts) (statement_step parts ts))
+        go true here =
+            made_answers Deeper same_depth (PartAt parts) Continue between_parts
+            (step_stop between_parts end_stop) depth ts (λ x s e. e) (read_function parts ts)
+            (function_part parts ts here)
+        go false none =
+            made_answers Deeper same_depth (PartAt parts) Continue between_parts
+            (step_stop between_parts end_stop) depth ts (λ x s e. e) (read_statement parts ts)
+            (statement_part parts ts none)
 
-    file_steps : (parts : Parts) (ts : List Token) → Answers Deeper (StepAt PartAt EndAt parts) (step_stop between_parts end_stop) depth ts (file_step depth parts ts)
-    file_steps parts ts = subst (λ o. Answers Deeper (StepAt PartAt EndAt parts) (step_stop between_parts end_stop) depth ts o) (turned (is terminal.End (head ts)) (next_part parts ts) (Ok (Break parts, ts)))
-        (either_answers_back Deeper same_depth (MadeAt (PartAt parts) Continue) (MadeAt (EndAt parts) Break) (λ s. not (is terminal.End s)) (step_stop between_parts end_stop) depth ts
+    file_steps : (parts : Parts) (ts : List Token)
+        → Answers Deeper (StepAt PartAt EndAt parts) (step_stop between_parts end_stop) depth ts
+        (file_step depth parts ts)
+    file_steps parts ts =
+        subst (λ o. Answers Deeper (StepAt PartAt EndAt parts) (step_stop between_parts end_stop) depth ts o)
+        (turned (is terminal.End (head ts)) (next_part parts ts) (Ok (Break parts, ts)))
+        (either_answers_back Deeper same_depth (MadeAt (PartAt parts) Continue) (MadeAt (EndAt parts) Break)
+        (λ s. not (is terminal.End s)) (step_stop between_parts end_stop) depth ts
         (made_starts (PartAt parts) Continue (λ s. not (is terminal.End s)) (part_no_end parts)) end_apart
         (next_part parts ts) (Ok (Break parts, ts)) (λ _. next_part_answers parts ts)
-        (λ _. made_answers Deeper same_depth (EndAt parts) Break end_stop (step_stop between_parts end_stop) depth ts (λ x s e. e) (Ok (parts, ts)) (gives_answers Deeper same_depth parts end_stop depth ts)))
+        (λ _. made_answers Deeper same_depth (EndAt parts) Break end_stop (step_stop between_parts end_stop) depth ts
+        (λ x s e. e) (Ok (parts, ts)) (gives_answers Deeper same_depth parts end_stop depth ts)))
       where
         end_apart : Apart (MadeAt (EndAt parts) Break) (step_stop between_parts end_stop) (λ s. not (is terminal.End s))
-        end_apart = made_apart (EndAt parts) Break end_stop (step_stop between_parts end_stop) (λ s. not (is terminal.End s)) (λ x s e. e) (gives_apart parts end_stop (λ s. not (is terminal.End s)) (λ s e. ap not e))
+        end_apart =
+            made_apart (EndAt parts) Break end_stop (step_stop between_parts end_stop) (λ s. not (is terminal.End s))
+            (λ x s e. e) (gives_apart parts end_stop (λ s. not (is terminal.End s)) (λ s e. ap not e))
 
     pub file_answers : (ts : List Token) → Answers Deeper Spells end_stop depth ts (file depth ts)
     unfolding file
-    file_answers = closed_answers Deeper same_depth PartAt EndAt between_parts end_stop depth part_starts end_follows (λ m above parts. ([], parts, record { empty = refl; same = refl })) (file_step depth) file_steps no_parts
+    file_answers =
+        closed_answers Deeper same_depth PartAt EndAt between_parts end_stop depth part_starts end_follows
+        (λ m above parts. ([], parts, record { empty = refl; same = refl })) (file_step depth) file_steps no_parts
 
 -- no tokens are a file
 pub no_file : (depth : Depth) → Spells depth [] no_parts
 no_file depth = record { count = 0; chain = record { empty = refl; same = refl } }
 
 -- what was read of a file is all of it
-file_ends : (depth : Depth) (count : ℕ) (parts : Parts) (ts : List Token) (x : Parts × List Token) → until (file_step depth) count parts ts ≡ Ok x → x.1 ≡ []
+file_ends : (depth : Depth) (count : ℕ) (parts : Parts) (ts : List Token) (x : Parts × List Token)
+    → until (file_step depth) count parts ts ≡ Ok x → x.1 ≡ []
 unfolding until
 file_ends depth zero parts ts x found = absurd (cc)
-file_ends depth (suc count) parts ts x found = step (λ next us. file_ends depth count next us x) (is terminal.End (head ts)) refl found
+file_ends depth (suc count) parts ts x found =
+    step (λ next us. file_ends depth count next us x) (is terminal.End (head ts)) refl found
   where
-    function : ((next : Parts) (us : List Token) → until (file_step depth) count next us ≡ Ok x → x.1 ≡ []) → (o : Outcome Function) → and_then (and_then (and_then o (λ f. gives (with_function parts f))) (λ p. gives (Continue p))) (next_of (until (file_step depth) count)) ≡ Ok x → x.1 ≡ []
+    function : ((next : Parts) (us : List Token) → until (file_step depth) count next us ≡ Ok x → x.1 ≡ [])
+        → (o : Outcome Function)
+        → and_then (and_then (and_then o (λ f. gives (with_function parts f))) (λ p. gives (Continue p)))
+        (next_of (until (file_step depth) count)) ≡ Ok x → x.1 ≡ []
     function again (Ok p) found = again (with_function parts p.0) p.1 found
     function again (Err r) found = absurd (cc)
 
-    statements : ((next : Parts) (us : List Token) → until (file_step depth) count next us ≡ Ok x → x.1 ≡ []) → (o : Outcome Body) → and_then (and_then (and_then o (λ b. gives (with_statement parts b))) (λ p. gives (Continue p))) (next_of (until (file_step depth) count)) ≡ Ok x → x.1 ≡ []
+    statements : ((next : Parts) (us : List Token) → until (file_step depth) count next us ≡ Ok x → x.1 ≡ [])
+        → (o : Outcome Body)
+        → and_then (and_then (and_then o (λ b. gives (with_statement parts b))) (λ p. gives (Continue p)))
+        (next_of (until (file_step depth) count)) ≡ Ok x → x.1 ≡ []
     statements again (Ok p) found = again (with_statement parts p.0) p.1 found
     statements again (Err r) found = absurd (cc)
 
-    step : ((next : Parts) (us : List Token) → until (file_step depth) count next us ≡ Ok x → x.1 ≡ []) → (b : Bool) → is terminal.End (head ts) ≡ b
-        → and_then (cond b (Ok (Break parts, ts)) (cond (is terminal.Function (head ts)) (made (made (function_rule depth) (with_function parts)) Continue ts) (made (made (statement depth.expressions depth.bodies 0) (with_statement parts)) Continue ts))) (next_of (until (file_step depth) count)) ≡ Ok x → x.1 ≡ []
-    step again true end found = let v : Parts × List Token = (parts, ts) in let same : v ≡ x = cc in ap (λ p. p.1) (sym same) ∙ ends_empty ts end
+    step : ((next : Parts) (us : List Token) → until (file_step depth) count next us ≡ Ok x → x.1 ≡ []) → (b : Bool)
+        → is terminal.End (head ts) ≡ b
+        → and_then (cond b (Ok (Break parts, ts)) (cond (is terminal.Function (head ts))
+        (made (made (function_rule depth) (with_function parts)) Continue ts)
+        (made (made (statement depth.expressions depth.bodies 0) (with_statement parts)) Continue ts)))
+        (next_of (until (file_step depth) count)) ≡ Ok x → x.1 ≡ []
+    step again true end found =
+        let v : Parts × List Token = (parts, ts) in let same : v ≡ x = cc in ap (λ p. p.1) (sym same)
+        ∙ ends_empty ts end
     step again false end found = go (is terminal.Function (head ts)) found
       where
-        go : (b : Bool) → and_then (cond b (made (made (function_rule depth) (with_function parts)) Continue ts) (made (made (statement depth.expressions depth.bodies 0) (with_statement parts)) Continue ts)) (next_of (until (file_step depth) count)) ≡ Ok x → x.1 ≡ []
+        go : (b : Bool) → and_then (cond b (made (made (function_rule depth) (with_function parts)) Continue ts)
+            (made (made (statement depth.expressions depth.bodies 0) (with_statement parts)) Continue ts))
+            (next_of (until (file_step depth) count)) ≡ Ok x → x.1 ≡ []
         go true found = function again (function_rule depth ts) found
         go false found = statements again (statement depth.expressions depth.bodies 0 ts) found
 
-pub file_leaves_none : (depth : Depth) (ts : List Token) (parts : Parts) (r : List Token) → file depth ts ≡ Ok (parts, r) → r ≡ []
+pub file_leaves_none : (depth : Depth) (ts : List Token) (parts : Parts) (r : List Token)
+    → file depth ts ≡ Ok (parts, r) → r ≡ []
 unfolding file
 file_leaves_none depth ts parts r found = file_ends depth (suc (length ts)) no_parts ts (parts, r) found
 
@@ -268,14 +374,17 @@ abbrev AfterText : Expression → Rules ℕ Expression
 AfterText e = λ _. Made (Perhaps (Mark terminal.Semicolon)) (λ _. e)
 
 -- nothing but the end
-at_end_answers : (level : ℕ) (e : Expression) (ts : List Token) → Answers ◌≤◌ (GivesAt e) end_stop level ts (at_end e ts)
+at_end_answers : (level : ℕ) (e : Expression) (ts : List Token)
+    → Answers ◌≤◌ (GivesAt e) end_stop level ts (at_end e ts)
 unfolding at_end refuse
 at_end_answers level e ts = go (is terminal.End (head ts)) refl
   where
-    go : (b : Bool) → is terminal.End (head ts) ≡ b → Answers ◌≤◌ (GivesAt e) end_stop level ts (cond b (Ok (e, ts)) (Err (Unexpected (length ts))))
+    go : (b : Bool) → is terminal.End (head ts) ≡ b
+        → Answers ◌≤◌ (GivesAt e) end_stop level ts (cond b (Ok (e, ts)) (Err (Unexpected (length ts))))
     go true here = gives_answers ◌≤◌ level_self e end_stop level ts
     go false none = refused_here ◌≤◌ level_self (GivesAt e) end_stop level ts (λ m us same a q begins.
-        let end : is terminal.End (head us) ≡ true = ap (λ l. is terminal.End (head l)) (begins.split ∙ ap (λ l. l ++ q) begins.spelled.empty) ∙ begins.stops in
+        let end : is terminal.End (head us) ≡ true = ap (λ l. is terminal.End (head l))
+        (begins.split ∙ ap (λ l. l ++ q) begins.spelled.empty) ∙ begins.stops in
         let other : is terminal.End (head us) ≡ false = ap (is terminal.End) same ∙ none in
         absurd (cc))
 
@@ -291,28 +400,49 @@ to_text e m text a (inl j) =
     let same : text ≡ j.front = j.split ∙ ap (λ l. j.front ++ l) j.other.empty ∙ append-nil j.front in
     let value : e ≡ a = sym (j.other.same ∙ g.2) in
     let word : Mark terminal.Semicolon text g.0 = subst (λ l. Mark terminal.Semicolon l g.0) (sym same) g.1 in
-    subst (λ x. AfterText e m text x) value (give (Perhaps (Mark terminal.Semicolon)) (λ _. e) text (Some g.0) (inl (give (Mark terminal.Semicolon) Some text g.0 word)))
-to_text e m text a (inr g) = subst (λ x. AfterText e m text x) (sym g.same) (give (Perhaps (Mark terminal.Semicolon)) (λ _. e) text None (inr (record { empty = g.empty; same = refl })))
+    subst (λ x. AfterText e m text x) value (give (Perhaps (Mark terminal.Semicolon)) (λ _. e) text (Some g.0)
+    (inl (give (Mark terminal.Semicolon) Some text g.0 word)))
+to_text e m text a (inr g) =
+    subst (λ x. AfterText e m text x) (sym g.same) (give (Perhaps (Mark terminal.Semicolon)) (λ _. e) text None
+    (inr (record { empty = g.empty; same = refl })))
 
-from_text : (e : Expression) (m : ℕ) (text : List Token) (a : Expression) → AfterText e m text a → FactoredText e m text a
-from_text e m text a h = let g = given (Perhaps (Mark terminal.Semicolon)) (λ _. e) text a h in subst (λ x. FactoredText e m text x) (sym g.2) (go g.0 g.1)
+from_text : (e : Expression) (m : ℕ) (text : List Token) (a : Expression) → AfterText e m text a
+    → FactoredText e m text a
+from_text e m text a h =
+    let g = given (Perhaps (Mark terminal.Semicolon)) (λ _. e) text a h in subst (λ x. FactoredText e m text x)
+    (sym g.2) (go g.0 g.1)
   where
     go : (o : Option ℕ) → Perhaps (Mark terminal.Semicolon) text o → FactoredText e m text e
     go o (inl h) =
         let k = given (Mark terminal.Semicolon) Some text o h in
-        inl (record { front = text; back = []; value = e; split = sym (append-nil text); one = give (Mark terminal.Semicolon) (λ _. e) text k.0 k.1; other = record { empty = refl; same = refl } })
+        inl (record {
+          front = text;
+          back = [];
+          value = e;
+          split = sym (append-nil text);
+          one = give
+              (Mark terminal.Semicolon) (λ _. e) text k.0 k.1;
+          other = record { empty = refl; same = refl };
+        })
     go o (inr g) = inr (record { empty = g.empty; same = refl })
 
-semicolon_answers : (level : ℕ) (e : Expression) (ts : List Token) → Answers ◌≤◌ (AfterText e) end_stop level ts (semicolon e ts)
+semicolon_answers : (level : ℕ) (e : Expression) (ts : List Token)
+    → Answers ◌≤◌ (AfterText e) end_stop level ts (semicolon e ts)
 unfolding semicolon
-semicolon_answers level e ts = equal_answers ◌≤◌ level_self (FactoredText e) (AfterText e) end_stop level ts (to_text e) (from_text e) (cond (is terminal.Semicolon (head ts)) ((made (mark terminal.Semicolon) (λ _. e) >>= at_end) ts) (at_end e ts))
+semicolon_answers level e ts =
+    equal_answers ◌≤◌ level_self (FactoredText e) (AfterText e) end_stop level ts (to_text e) (from_text e)
+    (cond (is terminal.Semicolon (head ts)) ((made (mark terminal.Semicolon) (λ _. e) >>= at_end) ts) (at_end e ts))
     (either_answers ◌≤◌ level_self (MarkedText e) (GivesAt e) (is terminal.Semicolon) end_stop level ts
-    (joined_starts (MadeAt (MarkAt terminal.Semicolon) (λ _. e)) (λ a. GivesAt a) (is terminal.Semicolon) (made_starts (MarkAt terminal.Semicolon) (λ _. e) (is terminal.Semicolon) (mark_starts terminal.Semicolon)))
+    (joined_starts (MadeAt (MarkAt terminal.Semicolon) (λ _. e)) (λ a. GivesAt a) (is terminal.Semicolon)
+    (made_starts (MarkAt terminal.Semicolon) (λ _. e) (is terminal.Semicolon) (mark_starts terminal.Semicolon)))
     (gives_apart e end_stop (is terminal.Semicolon) (mark_fails (is terminal.Semicolon) terminal.End refl))
     ((made (mark terminal.Semicolon) (λ _. e) >>= at_end) ts) (at_end e ts)
-    (λ _. joined_answers ◌≤◌ level_self (MadeAt (MarkAt terminal.Semicolon) (λ _. e)) (λ a. GivesAt a) Anything end_stop level ts (λ m a us b r h stops. refl) (made (mark terminal.Semicolon) (λ _. e) ts) at_end
+    (λ _. joined_answers ◌≤◌ level_self (MadeAt (MarkAt terminal.Semicolon) (λ _. e))
+    (λ a. GivesAt a) Anything end_stop level ts (λ m a us b r h stops. refl)
+    (made (mark terminal.Semicolon) (λ _. e) ts) at_end
     (λ m above a. ([], a, record { empty = refl; same = refl }))
-    (made_answers ◌≤◌ level_self (MarkAt terminal.Semicolon) (λ _. e) Anything Anything level ts (λ a s h. refl) (mark terminal.Semicolon ts) (mark_answers ◌≤◌ level_self terminal.Semicolon Anything level ts))
+    (made_answers ◌≤◌ level_self (MarkAt terminal.Semicolon) (λ _. e) Anything Anything level ts (λ a s h. refl)
+    (mark terminal.Semicolon ts) (mark_answers ◌≤◌ level_self terminal.Semicolon Anything level ts))
     (λ a r _. at_end_answers level a r))
     (λ _. at_end_answers level e ts))
 
@@ -322,12 +452,19 @@ module _ (ends place_ends : Terminal → Bool) (known : AreRead ends place_ends)
     where
       go : FactoredText e m text a → ends (head (text ++ r)) ≡ true
       go (inl j) = mark_passes ends terminal.Semicolon (known.stops terminal.Semicolon refl) (head (text ++ r))
-          (begun (MarkedText e) (is terminal.Semicolon) (joined_starts (MadeAt (MarkAt terminal.Semicolon) (λ _. e)) (λ a. GivesAt a) (is terminal.Semicolon) (made_starts (MarkAt terminal.Semicolon) (λ _. e) (is terminal.Semicolon) (mark_starts terminal.Semicolon))) m text r a j)
-      go (inr g) = ap (λ l. ends (head (l ++ r))) g.empty ∙ mark_passes ends terminal.End (known.stops terminal.End refl) (head r) here
+          (begun (MarkedText e) (is terminal.Semicolon) (joined_starts (MadeAt (MarkAt terminal.Semicolon) (λ _. e))
+          (λ a. GivesAt a) (is terminal.Semicolon) (made_starts (MarkAt terminal.Semicolon) (λ _. e)
+          (is terminal.Semicolon) (mark_starts terminal.Semicolon))) m text r a j)
+      go (inr g) =
+          ap (λ l. ends (head (l ++ r))) g.empty
+          ∙ mark_passes ends terminal.End (known.stops terminal.End refl) (head r) here
 
-  pub expression_text_answers : (level : ℕ) (ts : List Token) → Answers ◌≤◌ TextAt end_stop level ts (expression_text level ts)
+  pub expression_text_answers : (level : ℕ) (ts : List Token)
+      → Answers ◌≤◌ TextAt end_stop level ts (expression_text level ts)
   unfolding expression_text
-  expression_text_answers level ts = joined_answers ◌≤◌ level_self IsExpression AfterText (λ (a : Expression) (s : Terminal). ends s) end_stop level ts after_follows (reading level part.Whole ts) semicolon
+  expression_text_answers level ts =
+      joined_answers ◌≤◌ level_self IsExpression AfterText (λ (a : Expression) (s : Terminal). ends s) end_stop level ts
+      after_follows (reading level part.Whole ts) semicolon
       (λ m above e. ([], e, from_none e m)) (known.reads level ts) (λ e r _. semicolon_answers level e r)
     where
       from_none : (e : Expression) (m : ℕ) → AfterText e m [] e
@@ -335,23 +472,39 @@ module _ (ends place_ends : Terminal → Bool) (known : AreRead ends place_ends)
 
   pub some_text : (level : ℕ) → (ts : List Token) × (e : Expression) × TextAt level ts e
   some_text level =
-      let g = known.least level in
-      (g.0, g.1, record { front = g.0; back = []; value = g.1; split = sym (append-nil g.0); one = g.2; other = to_text g.1 level [] g.1 (inr (record { empty = refl; same = refl })) })
+      let g = known.least level in (
+        g.0,
+        g.1,
+        record {
+          front = g.0;
+          back = [];
+          value = g.1;
+          split = sym
+              (append-nil g.0);
+          one = g.2;
+          other = to_text g.1 level [] g.1 (inr (record { empty = refl; same = refl }));
+        },
+      )
 
 -- what was read is all there is
-pub text_leaves_none : (level : ℕ) (ts : List Token) (e : Expression) (r : List Token) → expression_text level ts ≡ Ok (e, r) → r ≡ []
+pub text_leaves_none : (level : ℕ) (ts : List Token) (e : Expression) (r : List Token)
+    → expression_text level ts ≡ Ok (e, r) → r ≡ []
 unfolding expression_text semicolon at_end refuse
 text_leaves_none level ts e r found = whole (reading level part.Whole ts) found
   where
-    ended : (b : Bool) (a : Expression) (us : List Token) → is terminal.End (head us) ≡ b → cond {A = Outcome Expression} b (Ok (a, us)) (Err (Unexpected (length us))) ≡ Ok (e, r) → r ≡ []
-    ended true a us end found = let v : Expression × List Token = (a, us) in let w : Expression × List Token = (e, r) in let same : v ≡ w = cc in ap (λ p. p.1) (sym same) ∙ ends_empty us end
+    ended : (b : Bool) (a : Expression) (us : List Token) → is terminal.End (head us) ≡ b
+        → cond {A = Outcome Expression} b (Ok (a, us)) (Err (Unexpected (length us))) ≡ Ok (e, r) → r ≡ []
+    ended true a us end found =
+        let v : Expression × List Token = (a, us) in let w : Expression
+        × List Token = (e, r) in let same : v ≡ w = cc in ap (λ p. p.1) (sym same) ∙ ends_empty us end
     ended false a us end found = absurd (cc)
 
     marked : (a : Expression) (o : Outcome ℕ) → and_then (and_then o (λ _. gives a)) at_end ≡ Ok (e, r) → r ≡ []
     marked a (Ok p) found = ended (is terminal.End (head p.1)) a p.1 refl found
     marked a (Err x) found = absurd (cc)
 
-    behind : (b : Bool) (a : Expression) (us : List Token) → cond b ((made (mark terminal.Semicolon) (λ _. a) >>= at_end) us) (at_end a us) ≡ Ok (e, r) → r ≡ []
+    behind : (b : Bool) (a : Expression) (us : List Token)
+        → cond b ((made (mark terminal.Semicolon) (λ _. a) >>= at_end) us) (at_end a us) ≡ Ok (e, r) → r ≡ []
     behind true a us found = marked a (mark terminal.Semicolon us) found
     behind false a us found = ended (is terminal.End (head us)) a us refl found
 

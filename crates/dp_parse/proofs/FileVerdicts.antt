@@ -55,5 +55,6 @@ pub one_file : (l m : Depth) (ts : List Token) (a b : Parts) → Spells l ts a �
 one_file l = one_tree (file_reads l)
 
 -- Tokens are at most one expression, however deep they nest.
-pub one_expression : (l m : ℕ) (ts : List Token) (a b : Expression) → SpellsExpression l ts a → SpellsExpression m ts b → a ≡ b
+pub one_expression : (l m : ℕ) (ts : List Token) (a b : Expression) → SpellsExpression l ts a → SpellsExpression m ts b
+    → a ≡ b
 one_expression l = one_tree (text_reads l)

@@ -11,11 +11,16 @@ use Rattle.dp_rules.proofs.Answers.{Rules, Stop}
 use Rattle.dp_rules.proofs.Verdicts.{ReadsAll, found, only, unexpected, too_deep, unexpected_spelled, too_deep_spelled, one_unexpected, one_too_deep, not_both}
 
 -- Tokens are wrong for one reason at most.
-pub one_reason : {L A : Type 0} (rule : Rules L A) (limits : L) (ts : List Token) (e why : ParseError) → e ≢ error.Memory → why ≢ error.Memory → AreWrong rule limits ts e → AreWrong rule limits ts why → e ≡ why
-one_reason rule limits ts (error.Unexpected at) (error.Unexpected other) some differs h g = ap (λ n. error.Unexpected n) (one_unexpected rule limits at other ts h g)
-one_reason rule limits ts (error.Unexpected at) (error.TooDeep other) some differs h g = absurd (not_both rule limits at other ts h g)
-one_reason rule limits ts (error.TooDeep at) (error.Unexpected other) some differs h g = absurd (not_both rule limits other at ts g h)
-one_reason rule limits ts (error.TooDeep at) (error.TooDeep other) some differs h g = ap (λ n. error.TooDeep n) (one_too_deep rule limits at other ts h g)
+pub one_reason : {L A : Type 0} (rule : Rules L A) (limits : L) (ts : List Token) (e why : ParseError)
+    → e ≢ error.Memory → why ≢ error.Memory → AreWrong rule limits ts e → AreWrong rule limits ts why → e ≡ why
+one_reason rule limits ts (error.Unexpected at) (error.Unexpected other) some differs h g =
+    ap (λ n. error.Unexpected n) (one_unexpected rule limits at other ts h g)
+one_reason rule limits ts (error.Unexpected at) (error.TooDeep other) some differs h g =
+    absurd (not_both rule limits at other ts h g)
+one_reason rule limits ts (error.TooDeep at) (error.Unexpected other) some differs h g =
+    absurd (not_both rule limits other at ts g h)
+one_reason rule limits ts (error.TooDeep at) (error.TooDeep other) some differs h g =
+    ap (λ n. error.TooDeep n) (one_too_deep rule limits at other ts h g)
 one_reason rule limits ts (error.Lex w) why some differs h g = absurd h
 one_reason rule limits ts (error.DoubleFunction name) why some differs h g = absurd h
 one_reason rule limits ts error.Memory why some differs h g = absurd (some refl)
@@ -24,14 +29,16 @@ one_reason rule limits ts e (error.DoubleFunction name) some differs h g = absur
 one_reason rule limits ts e error.Memory some differs h g = absurd (differs refl)
 
 -- What is wrong spells nothing.
-pub wrong_spelled : {L A : Type 0} (rule : Rules L A) (limits : L) (ts : List Token) (e : ParseError) → e ≢ error.Memory → AreWrong rule limits ts e → (a : A) → rule limits ts a → ⊥
+pub wrong_spelled : {L A : Type 0} (rule : Rules L A) (limits : L) (ts : List Token) (e : ParseError) → e ≢ error.Memory
+    → AreWrong rule limits ts e → (a : A) → rule limits ts a → ⊥
 wrong_spelled rule limits ts (error.Unexpected at) some h a g = unexpected_spelled rule limits limits at ts a h g
 wrong_spelled rule limits ts (error.TooDeep at) some h a g = too_deep_spelled rule limits at ts a h g
 wrong_spelled rule limits ts (error.Lex w) some h a g = h
 wrong_spelled rule limits ts (error.DoubleFunction name) some h a g = h
 wrong_spelled rule limits ts error.Memory some h a g = some refl
 
-module _ {L A : Type 0} {Above : L → L → Type 0} {rule : Rules L A} {stop : Stop A} {limits : L} {p : Reader A} (reader : ReadsAll Above rule stop limits p) (ts : List Token) where
+module _ {L A : Type 0} {Above : L → L → Type 0} {rule : Rules L A} {stop : Stop A} {limits : L} {p : Reader A}
+    (reader : ReadsAll Above rule stop limits p) (ts : List Token) where
   -- ---- where a value is read
 
   module _ (a : A) (r : List Token) (is : p ts ≡ Ok (a, r)) where
@@ -59,12 +66,24 @@ module _ {L A : Type 0} {Above : L → L → Type 0} {rule : Rules L A} {stop : 
   memory_or_not (error.TooDeep token) = inr (λ h. cc)
   memory_or_not (error.DoubleFunction name) = inr (λ h. cc)
 
-  module _ (e : Refusal) (is : e ≢ refusal.Memory → p ts ≡ Err e) (reason : ParseError) (tells : reason ≡ told (length ts) e) where
+  module _ (e : Refusal) (is : e ≢ refusal.Memory → p ts ≡ Err e) (reason : ParseError)
+      (tells : reason ≡ told (length ts) e) where
     pub refused_cause : AreWrong rule limits ts reason
     refused_cause = subst (λ x. AreWrong rule limits ts x) (sym tells) (cause_of e is)
 
     pub refused_only : (other : A) → rule limits ts other → reason ≡ error.Memory
-    refused_only other h = elim (memory_or_not reason) [ inl memory ↦ memory | inr some ↦ absurd (wrong_spelled rule limits ts reason some refused_cause other h) ]
+    refused_only other h =
+        elim (memory_or_not reason) [
+          | inl memory ↦ memory
+          | inr some ↦ absurd
+              (wrong_spelled rule limits ts reason some refused_cause other h)
+        ]
 
-    pub refused_refuses : (why : ParseError) → why ≢ error.Memory → AreWrong rule limits ts why → (reason ≡ why) ⊎ (reason ≡ error.Memory)
-    refused_refuses why differs h = elim (memory_or_not reason) [ inl memory ↦ inr memory | inr some ↦ inl (one_reason rule limits ts reason why some differs refused_cause h) ]
+    pub refused_refuses : (why : ParseError) → why ≢ error.Memory → AreWrong rule limits ts why
+        → (reason ≡ why) ⊎ (reason ≡ error.Memory)
+    refused_refuses why differs h =
+        elim (memory_or_not reason) [
+          | inl memory ↦ inr memory
+          | inr some ↦ inl
+              (one_reason rule limits ts reason why some differs refused_cause h)
+        ]

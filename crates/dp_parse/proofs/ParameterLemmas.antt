@@ -13,13 +13,16 @@ use Rattle.dp_parse.specs.Statements.{parameter_in}
 
 module _ (found : List Text) (t : Token) (ts : List Token) where
   by_name : (name : Text) (before reserved : Bool) → stands found name ≡ before
-      → met (if before then None else unless reserved name) t ts ≡ and_then (met (unless reserved name) t ts) (λ n more. chosen (not (stands found n)) (length (t ∷ ts)) n more)
+      → met (if before then None else unless reserved name) t ts ≡ and_then (met (unless reserved name) t ts)
+      (λ n more. chosen (not (stands found n)) (length (t ∷ ts)) n more)
   by_name name true true e = refl
   by_name name false true e = refl
   by_name name true false e = ap (λ b. chosen (not b) (length (t ∷ ts)) name ts) (sym e)
   by_name name false false e = ap (λ b. chosen (not b) (length (t ∷ ts)) name ts) (sym e)
 
-  by_kinds : (k : TokenKind) → met (parameter_in found k) t ts ≡ and_then (met (variable_in k) t ts) (λ n more. chosen (not (stands found n)) (length (t ∷ ts)) n more)
+  by_kinds : (k : TokenKind)
+      → met (parameter_in found k) t ts ≡ and_then (met (variable_in k) t ts)
+      (λ n more. chosen (not (stands found n)) (length (t ∷ ts)) n more)
   by_kinds (kind.Variable name) = by_name name (stands found name) (is_superglobal name) refl
   by_kinds (kind.Name _) = refl
   by_kinds (kind.Number _) = refl
@@ -93,4 +96,5 @@ parameter_is found [] = refl
 parameter_is found (t ∷ ts) = by_kinds found t ts t.kind
 
 pub parameters_are : (close : Terminal) (ts : List Token) → any_items parameter close ts ≡ any_items checked close ts
-parameters_are close ts = ap (λ (item : List Text → Reader Text). any_items item close ts) (λ i found us. parameter_is found us i)
+parameters_are close ts =
+    ap (λ (item : List Text → Reader Text). any_items item close ts) (λ i found us. parameter_is found us i)

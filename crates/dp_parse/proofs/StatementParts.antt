@@ -31,9 +31,13 @@ use Rattle.dp_rules.specs.TokenValues.{Text, Variable, variable_in, by_kind, num
 
 -- ---- lists with commas
 
-module _ (base : ℕ) (level : Depth) {A : Type 0} (rule : Rules Depth A) (item_stop : Stop A) (test : Terminal → Bool) (read : Reader A) (reader : IsPartReader base rule item_stop level read)
-    (starts : StartsIn rule test) (not_comma : test terminal.Comma ≡ false) (stops_comma : (a : A) → item_stop a terminal.Comma ≡ true)
-    (close : Terminal) (k : TokenKind) (closes : same_terminal (terminal_of k) close ≡ true) (not_close : test close ≡ false) (close_apart : same_terminal close terminal.Comma ≡ false) (stops_close : (a : A) → item_stop a close ≡ true) where
+module _ (base : ℕ) (level : Depth) {A : Type 0} (rule : Rules Depth A) (item_stop : Stop A) (test : Terminal → Bool)
+    (read : Reader A) (reader : IsPartReader base rule item_stop level read)
+    (starts : StartsIn rule test) (not_comma : test terminal.Comma ≡ false)
+    (stops_comma : (a : A) → item_stop a terminal.Comma ≡ true)
+    (close : Terminal) (k : TokenKind) (closes : same_terminal (terminal_of k) close ≡ true)
+    (not_close : test close ≡ false) (close_apart : same_terminal close terminal.Comma ≡ false)
+    (stops_close : (a : A) → item_stop a close ≡ true) where
   items : base ≤ level.bodies → AreItems Deeper (λ _. rule) close item_stop test level (λ _. read)
   items some = record {
     starts = λ all. starts;
@@ -48,42 +52,68 @@ module _ (base : ℕ) (level : Depth) {A : Type 0} (rule : Rules Depth A) (item_
     reads = λ all ts. reader.answers some ts;
   }
 
-  least_items : (end : Rule ℕ) → end (placed k ∷ []) 1 → (m : Depth) → base ≤ m.bodies → (ts : List Token) × (all : List A) × Joined (rule m) (λ first. Closed (λ all. NextItem (λ _. rule m) all) (λ all. Made end (λ _. all)) (first ∷ [])) ts all
+  least_items : (end : Rule ℕ) → end (placed k ∷ []) 1 → (m : Depth) → base ≤ m.bodies
+      → (ts : List Token) × (all : List A)
+      × Joined (rule m) (λ first. Closed (λ all. NextItem (λ _. rule m) all) (λ all. Made end (λ _. all)) (first ∷ []))
+      ts all
   least_items end ends m some =
       let i = reader.least m some in
       let text : List Token = placed k ∷ [] in (
         i.0 ++ text,
         i.1 ∷ [],
-        behind (rule m) (λ first. Closed (λ all. NextItem (λ _. rule m) all) (λ all. Made end (λ _. all)) (first ∷ [])) i.0 text i.1 (i.1 ∷ []) i.2 (record { count = 0; chain = give end (λ _. i.1 ∷ []) text 1 ends }),
+        behind (rule m) (λ first. Closed (λ all. NextItem (λ _. rule m) all) (λ all. Made end (λ _. all)) (first ∷ []))
+            i.0 text i.1 (i.1 ∷ []) i.2 (record { count = 0; chain = give end (λ _. i.1 ∷ []) text 1 ends }),
       )
 
   pub plain_reader : IsPartReader base (PlainItemsAt (λ _. rule) close) Anything level (plain_items (λ _. read) close)
   plain_reader = record {
-    answers = λ some. plain_items_answers Deeper same_depth (λ _. rule) close item_stop test level (λ _. read) (items some) (λ m above all. reader.least m (let d = above.bodies in omega arith));
+    answers =
+        λ some. plain_items_answers Deeper same_depth (λ _. rule) close item_stop test level (λ _. read) (items some)
+        (λ m above all. reader.least m (let d = above.bodies in omega arith));
     least = least_items (Mark close) (mark_alone close k closes);
   }
 
   pub some_reader : IsPartReader base (SomeItemsAt (λ _. rule) close) Anything level (some_items (λ _. read) close)
   some_reader = record {
-    answers = λ some. some_items_answers Deeper same_depth (λ _. rule) close item_stop test level (λ _. read) (items some);
-    least = least_items (Joined (Perhaps (Mark terminal.Comma)) (λ _. Mark close)) (record { front = []; back = placed k ∷ []; value = None; split = refl; one = inr (record { empty = refl; same = refl }); other = mark_alone close k closes });
+    answers =
+        λ some. some_items_answers Deeper same_depth (λ _. rule) close item_stop test level (λ _. read) (items some);
+    least =
+        least_items (Joined (Perhaps (Mark terminal.Comma)) (λ _. Mark close))
+        (record {
+          front = [];
+          back = placed k
+              ∷ [];
+          value = None;
+          split = refl;
+          one = inr (record { empty = refl; same = refl });
+          other = mark_alone close k
+              closes;
+        });
   }
 
-  pub any_plain_reader : IsPartReader base (AnyPlainItemsAt (λ _. rule) close) Anything level (any_plain_items (λ _. read) close)
+  pub any_plain_reader : IsPartReader base (AnyPlainItemsAt (λ _. rule) close) Anything level
+      (any_plain_items (λ _. read) close)
   any_plain_reader = record {
-    answers = λ some. any_plain_items_answers Deeper same_depth (λ _. rule) close item_stop test level (λ _. read) (items some) (λ m above all. reader.least m (let d = above.bodies in omega arith));
-    least = λ m some. (placed k ∷ [], [], inl (give (Mark close) (λ _. []) (placed k ∷ []) 1 (mark_alone close k closes)));
+    answers =
+        λ some. any_plain_items_answers Deeper same_depth (λ _. rule) close item_stop test level (λ _. read)
+        (items some) (λ m above all. reader.least m (let d = above.bodies in omega arith));
+    least =
+        λ m some. (placed k ∷ [], [], inl (give (Mark close) (λ _. []) (placed k ∷ []) 1 (mark_alone close k closes)));
   }
 
 -- ---- expressions and places, as they are read
 
 -- the tokens that may stand behind an expression in a statement
 abbrev pub closing : Terminal → Bool
-closing s = is terminal.Semicolon s || is terminal.CloseParenthesis s || is terminal.Comma s || is terminal.As s || is terminal.End s
+closing s =
+    is terminal.Semicolon s || is terminal.CloseParenthesis s || is terminal.Comma s || is terminal.As s
+    || is terminal.End s
 
 pub record AreRead (ends place_ends : Terminal → Bool) : Type 0 where
-  pub reads : (level : ℕ) (ts : List Token) → Answers ◌≤◌ IsExpression (λ _ s. ends s) level ts (reading level part.Whole ts)
-  pub reads_place : (level : ℕ) (ts : List Token) → Answers ◌≤◌ IsPlace (λ _ s. place_ends s) level ts (reading_place level ts)
+  pub reads : (level : ℕ) (ts : List Token)
+      → Answers ◌≤◌ IsExpression (λ _ s. ends s) level ts (reading level part.Whole ts)
+  pub reads_place : (level : ℕ) (ts : List Token)
+      → Answers ◌≤◌ IsPlace (λ _ s. place_ends s) level ts (reading_place level ts)
   pub starts : StartsIn IsExpression begins_expression
   pub place_starts : StartsIn IsPlace (is terminal.Variable)
   pub least : (level : ℕ) → (ts : List Token) × (a : Expression) × IsExpression level ts a
@@ -98,12 +128,16 @@ abbrev pub PlaceAt : Rules Depth Place
 PlaceAt m = IsPlace m.expressions
 
 -- a rule of statements in so many loops, at each depth
-abbrev pub StatementAt : {A : Type 0} → (ℕ → ℕ → Rule Expression → Rule Place → (ℕ → Rule Body) → Rule A) → ℕ → Rules Depth A
-StatementAt rule loops = λ m. rule m.bodies loops (IsExpression m.expressions) (IsPlace m.expressions) (body_at m.expressions m.bodies)
+abbrev pub StatementAt : {A : Type 0} → (ℕ → ℕ → Rule Expression → Rule Place → (ℕ → Rule Body) → Rule A) → ℕ
+    → Rules Depth A
+StatementAt rule loops =
+    λ m. rule m.bodies loops (IsExpression m.expressions) (IsPlace m.expressions) (body_at m.expressions m.bodies)
 
 -- and what reads it
-abbrev pub reader_at : {R : Type 0} → (ℕ → ℕ → Reader Expression → Reader Place → (ℕ → Reader Body) → R) → ℕ → Depth → (ℕ → Reader Body) → R
-reader_at read loops level body = read level.bodies loops (reading level.expressions part.Whole) (reading_place level.expressions) body
+abbrev pub reader_at : {R : Type 0} → (ℕ → ℕ → Reader Expression → Reader Place → (ℕ → Reader Body) → R) → ℕ → Depth
+    → (ℕ → Reader Body) → R
+reader_at read loops level body =
+    read level.bodies loops (reading level.expressions part.Whole) (reading_place level.expressions) body
 
 -- ---- what a statement may be followed by
 
@@ -123,7 +157,8 @@ body_stop b s = open_ends b.is_open s
 module _ (base : ℕ) (level : Depth) where
   -- ---- rules of one token
 
-  pub kind_reader : {A : Type 0} (worth : TokenKind → Option A) (k : TokenKind) (a : A) → worth k ≡ Some a → IsPartReader base (OneAt (by_kind worth)) Anything level (kind worth)
+  pub kind_reader : {A : Type 0} (worth : TokenKind → Option A) (k : TokenKind) (a : A) → worth k ≡ Some a
+      → IsPartReader base (OneAt (by_kind worth)) Anything level (kind worth)
   kind_reader worth k a is_worth = record {
     answers = λ some ts. one_answers Deeper same_depth (by_kind worth) Anything level ts;
     least = λ m some. (placed k ∷ [], a, record { symbol = placed k; alone = refl; is_worth = is_worth });
@@ -135,7 +170,9 @@ module _ (base : ℕ) (level : Depth) where
 
   pub empty_reader : IsPartReader base (λ _. Empty) ended_stop level empty
   unfolding empty
-  empty_reader = made_reader base level (MarkAt terminal.Semicolon) (λ _. whole tree.Empty) Anything ended_stop (mark terminal.Semicolon) (λ a s e. refl) (mark_reader base level terminal.Semicolon kind.Semicolon refl)
+  empty_reader =
+      made_reader base level (MarkAt terminal.Semicolon) (λ _. whole tree.Empty) Anything ended_stop
+      (mark terminal.Semicolon) (λ a s e. refl) (mark_reader base level terminal.Semicolon kind.Semicolon refl)
 
   -- ---- the variables of a `foreach`
 
@@ -143,36 +180,58 @@ module _ (base : ℕ) (level : Depth) where
   bound_stop b s = not (is terminal.Arrow s)
 
   abbrev BoundRestAt : Text → Rules Depth Binding
-  BoundRestAt first = EitherAt (MadeAt (JoinedAt (MarkAt terminal.Arrow) (λ _ _. Variable)) (λ value. binding (Some first) value)) (GivesAt (binding None first))
+  BoundRestAt first =
+      EitherAt (MadeAt (JoinedAt (MarkAt terminal.Arrow) (λ _ _. Variable)) (λ value. binding (Some first) value))
+      (GivesAt (binding None first))
 
-  arrow_starts : (first : Text) → StartsIn {L = Depth} (MadeAt (JoinedAt (MarkAt terminal.Arrow) (λ _ _. Variable)) (λ value. binding (Some first) value)) (is terminal.Arrow)
-  arrow_starts first = made_starts (JoinedAt (MarkAt terminal.Arrow) (λ _ _. Variable)) (λ value. binding (Some first) value) (is terminal.Arrow) (joined_starts (MarkAt terminal.Arrow) (λ _ _. Variable) (is terminal.Arrow) (mark_starts terminal.Arrow))
+  arrow_starts : (first : Text)
+      → StartsIn {L = Depth} (MadeAt (JoinedAt (MarkAt terminal.Arrow) (λ _ _. Variable))
+      (λ value. binding (Some first) value)) (is terminal.Arrow)
+  arrow_starts first =
+      made_starts (JoinedAt (MarkAt terminal.Arrow) (λ _ _. Variable)) (λ value. binding (Some first) value)
+      (is terminal.Arrow) (joined_starts (MarkAt terminal.Arrow) (λ _ _. Variable) (is terminal.Arrow)
+      (mark_starts terminal.Arrow))
 
   bound_rest_reader : (first : Text) → IsPartReader base (BoundRestAt first) bound_stop level (bound_rest first)
   unfolding bound_rest
-  bound_rest_reader first = either_reader base level (MadeAt (JoinedAt (MarkAt terminal.Arrow) (λ _ _. Variable)) (λ value. binding (Some first) value)) (GivesAt (binding None first)) (is terminal.Arrow) bound_stop
-      (made (mark terminal.Arrow >> variable) (λ value. binding (Some first) value)) (gives (binding None first)) (arrow_starts first)
+  bound_rest_reader first =
+      either_reader base level (MadeAt (JoinedAt (MarkAt terminal.Arrow) (λ _ _. Variable))
+      (λ value. binding (Some first) value)) (GivesAt (binding None first)) (is terminal.Arrow) bound_stop
+      (made (mark terminal.Arrow >> variable) (λ value. binding (Some first) value)) (gives (binding None first))
+      (arrow_starts first)
       (gives_apart (binding None first) bound_stop (is terminal.Arrow) (λ s e. not_true (is terminal.Arrow s) e))
-      (made_reader base level (JoinedAt (MarkAt terminal.Arrow) (λ _ _. Variable)) (λ value. binding (Some first) value) Anything bound_stop (mark terminal.Arrow >> variable) (λ a s e. refl)
-      (mark_then base level terminal.Arrow kind.Arrow refl (λ _ _. Variable) Anything (λ _. variable) (λ _. variable_reader)))
+      (made_reader base level (JoinedAt (MarkAt terminal.Arrow) (λ _ _. Variable))
+      (λ value. binding (Some first) value) Anything bound_stop (mark terminal.Arrow >> variable) (λ a s e. refl)
+      (mark_then base level terminal.Arrow kind.Arrow refl (λ _ _. Variable) Anything (λ _. variable)
+      (λ _. variable_reader)))
       (gives_reader base level (binding None first) bound_stop)
 
   pub bound_reader : IsPartReader base (λ _. Bound) bound_stop level bound
   unfolding bound
-  bound_reader = then_reader base level (λ _. Variable) BoundRestAt bound_stop variable bound_rest variable_reader bound_rest_reader
+  bound_reader =
+      then_reader base level (λ _. Variable) BoundRestAt bound_stop variable bound_rest variable_reader
+      bound_rest_reader
 
   -- ---- statements without expressions
 
   pub global_reader : IsPartReader base (λ _. GlobalRule) ended_stop level global_rule
   unfolding global_rule
-  global_reader = made_reader base level (JoinedAt (MarkAt terminal.Global) (λ _. PlainItemsAt (λ _ _. Variable) terminal.Semicolon)) (λ names. whole (tree.Global names)) Anything ended_stop (mark terminal.Global >> plain_items (λ _. variable) terminal.Semicolon) (λ a s e. refl)
-      (mark_then base level terminal.Global kind.Global refl (λ _. PlainItemsAt (λ _ _. Variable) terminal.Semicolon) Anything (λ _. plain_items (λ _. variable) terminal.Semicolon)
-      (λ _. plain_reader base level (λ _. Variable) Anything (is terminal.Variable) variable variable_reader variable_starts refl (λ a. refl) terminal.Semicolon kind.Semicolon refl refl refl (λ a. refl)))
+  global_reader =
+      made_reader base level (JoinedAt (MarkAt terminal.Global)
+      (λ _. PlainItemsAt (λ _ _. Variable) terminal.Semicolon)) (λ names. whole (tree.Global names)) Anything ended_stop
+      (mark terminal.Global >> plain_items (λ _. variable) terminal.Semicolon) (λ a s e. refl)
+      (mark_then base level terminal.Global kind.Global refl (λ _. PlainItemsAt (λ _ _. Variable) terminal.Semicolon)
+      Anything (λ _. plain_items (λ _. variable) terminal.Semicolon)
+      (λ _. plain_reader base level (λ _. Variable) Anything (is terminal.Variable) variable variable_reader
+      variable_starts refl (λ a. refl) terminal.Semicolon kind.Semicolon refl refl refl (λ a. refl)))
 
   exit_word_reader : IsPartReader base (EitherAt (MarkAt terminal.Exit) (MarkAt terminal.Die)) Anything level exit_word
   unfolding exit_word
-  exit_word_reader = either_reader base level (MarkAt terminal.Exit) (MarkAt terminal.Die) (is terminal.Exit) Anything (mark terminal.Exit) (mark terminal.Die) (mark_starts terminal.Exit)
-      (starts_apart (MarkAt terminal.Die) Anything (is terminal.Exit) (is terminal.Die) (mark_fails (is terminal.Exit) terminal.Die refl) (mark_starts terminal.Die))
+  exit_word_reader =
+      either_reader base level (MarkAt terminal.Exit) (MarkAt terminal.Die) (is terminal.Exit) Anything
+      (mark terminal.Exit) (mark terminal.Die) (mark_starts terminal.Exit)
+      (starts_apart (MarkAt terminal.Die) Anything (is terminal.Exit) (is terminal.Die)
+      (mark_fails (is terminal.Exit) terminal.Die refl) (mark_starts terminal.Die))
       (mark_reader base level terminal.Exit kind.Exit refl) (mark_reader base level terminal.Die kind.Die refl)
 
   module _ (loops : ℕ) (body : ℕ → Reader Body) where
@@ -194,31 +253,52 @@ module _ (base : ℕ) (level : Depth) where
     levels_reader : IsPartReader base LevelsAt levels_stop level (reader_at levels loops level body)
     unfolding levels
     levels_reader = record {
-      answers = λ some ts. either_answers Deeper same_depth (OneAt (by_kind (number_up_to loops))) (GivesAt 1) (is terminal.Number) levels_stop level ts levels_starts
+      answers =
+          λ some ts. either_answers Deeper same_depth (OneAt (by_kind (number_up_to loops))) (GivesAt 1)
+          (is terminal.Number) levels_stop level ts levels_starts
           (gives_apart 1 levels_stop (is terminal.Number) (mark_fails (is terminal.Number) terminal.Semicolon refl))
-          (kind (number_up_to loops) ts) (Ok (1, ts)) (λ _. one_answers Deeper same_depth (by_kind (number_up_to loops)) levels_stop level ts) (λ _. gives_answers Deeper same_depth 1 levels_stop level ts);
+          (kind (number_up_to loops) ts) (Ok (1, ts)) (λ _. one_answers Deeper same_depth
+          (by_kind (number_up_to loops)) levels_stop level ts)
+          (λ _. gives_answers Deeper same_depth 1 levels_stop level ts);
       least = λ m some. ([], 1, inr (record { empty = refl; same = refl }));
     }
 
     loops_reader : IsPartReader base (StatementAt Loops loops) Anything level (reader_at loops_rule loops level body)
     unfolding loops_rule
-    loops_reader = before_mark base level LevelsAt levels_stop terminal.Semicolon kind.Semicolon refl (λ a. refl) (λ n _. GivesAt n) Anything (reader_at levels loops level body) (λ n _. gives n) levels_reader (λ n _. gives_reader base level n Anything)
+    loops_reader =
+        before_mark base level LevelsAt levels_stop terminal.Semicolon kind.Semicolon refl (λ a. refl)
+        (λ n _. GivesAt n) Anything (reader_at levels loops level body) (λ n _. gives n) levels_reader
+        (λ n _. gives_reader base level n Anything)
 
     -- a word and how many loops, in a loop
     in_loop_reader : (s : Terminal) (k : TokenKind) → same_terminal (terminal_of k) s ≡ true → (f : ℕ → Ended)
-        → IsPartReader base (MadeAt (JoinedAt (MarkAt s) (λ _. StatementAt Loops loops)) f) ended_stop level (made (mark s >> reader_at loops_rule loops level body) f)
-    in_loop_reader s k is_sort f = made_reader base level (JoinedAt (MarkAt s) (λ _. StatementAt Loops loops)) f Anything ended_stop (mark s >> reader_at loops_rule loops level body) (λ n x e. refl)
-        (mark_then base level s k is_sort (λ _. StatementAt Loops loops) Anything (λ _. reader_at loops_rule loops level body) (λ _. loops_reader))
+        → IsPartReader base (MadeAt (JoinedAt (MarkAt s) (λ _. StatementAt Loops loops)) f) ended_stop level
+        (made (mark s >> reader_at loops_rule loops level body) f)
+    in_loop_reader s k is_sort f =
+        made_reader base level (JoinedAt (MarkAt s) (λ _. StatementAt Loops loops)) f Anything ended_stop
+        (mark s >> reader_at loops_rule loops level body) (λ n x e. refl)
+        (mark_then base level s k is_sort (λ _. StatementAt Loops loops) Anything
+        (λ _. reader_at loops_rule loops level body) (λ _. loops_reader))
 
-    pub break_answers : base ≤ level.bodies → (ts : List Token) → Answers Deeper (StatementAt grammar_of.Break loops) ended_stop level ts (reader_at break_rule loops level body ts)
+    pub break_answers : base ≤ level.bodies → (ts : List Token)
+        → Answers Deeper (StatementAt grammar_of.Break loops) ended_stop level ts
+        (reader_at break_rule loops level body ts)
     unfolding break_rule refuse
-    break_answers some ts = when_answers Deeper same_depth (nat_lt 0 loops) (MadeAt (JoinedAt (MarkAt terminal.Break) (λ _. StatementAt Loops loops)) (λ n. whole (tree.Break n))) ended_stop level ts
+    break_answers some ts =
+        when_answers Deeper same_depth (nat_lt 0 loops) (MadeAt
+        (JoinedAt (MarkAt terminal.Break) (λ _. StatementAt Loops loops)) (λ n. whole (tree.Break n))) ended_stop level
+        ts
         (made (mark terminal.Break >> reader_at loops_rule loops level body) (λ n. whole (tree.Break n)) ts)
         (λ _. (in_loop_reader terminal.Break kind.Break refl (λ n. whole (tree.Break n))).answers some ts)
 
-    pub continue_answers : base ≤ level.bodies → (ts : List Token) → Answers Deeper (StatementAt grammar_of.Continue loops) ended_stop level ts (reader_at continue_rule loops level body ts)
+    pub continue_answers : base ≤ level.bodies → (ts : List Token)
+        → Answers Deeper (StatementAt grammar_of.Continue loops) ended_stop level ts
+        (reader_at continue_rule loops level body ts)
     unfolding continue_rule refuse
-    continue_answers some ts = when_answers Deeper same_depth (nat_lt 0 loops) (MadeAt (JoinedAt (MarkAt terminal.Continue) (λ _. StatementAt Loops loops)) (λ n. whole (tree.Continue n))) ended_stop level ts
+    continue_answers some ts =
+        when_answers Deeper same_depth (nat_lt 0 loops) (MadeAt
+        (JoinedAt (MarkAt terminal.Continue) (λ _. StatementAt Loops loops)) (λ n. whole (tree.Continue n))) ended_stop
+        level ts
         (made (mark terminal.Continue >> reader_at loops_rule loops level body) (λ n. whole (tree.Continue n)) ts)
         (λ _. (in_loop_reader terminal.Continue kind.Continue refl (λ n. whole (tree.Continue n))).answers some ts)
 
@@ -239,15 +319,29 @@ module _ (base : ℕ) (level : Depth) where
 
       pub expression_reader : IsPartReader base ExpressionAt expression_stop level expression
       expression_reader = record {
-        answers = λ some ts. within_answers ◌≤◌ Deeper IsExpression expression_stop level ts (λ m. m.expressions) (λ m above. above.expressions)
-            (λ k bound. (record { expressions = k; bodies = level.bodies }, record { expressions = bound; bodies = omega arith }, refl)) (expression ts) (known.reads level.expressions ts);
+        answers =
+            λ some ts. within_answers ◌≤◌ Deeper IsExpression expression_stop level ts (λ m. m.expressions)
+            (λ m above. above.expressions)
+            (λ k bound. (
+              record { expressions = k; bodies = level.bodies },
+              record { expressions = bound; bodies = omega arith },
+              refl,
+            )) (expression ts)
+            (known.reads level.expressions ts);
         least = λ m some. known.least m.expressions;
       }
 
       pub place_reader : IsPartReader base PlaceAt place_stop level place
       place_reader = record {
-        answers = λ some ts. within_answers ◌≤◌ Deeper IsPlace place_stop level ts (λ m. m.expressions) (λ m above. above.expressions)
-            (λ k bound. (record { expressions = k; bodies = level.bodies }, record { expressions = bound; bodies = omega arith }, refl)) (place ts) (known.reads_place level.expressions ts);
+        answers =
+            λ some ts. within_answers ◌≤◌ Deeper IsPlace place_stop level ts (λ m. m.expressions)
+            (λ m above. above.expressions)
+            (λ k bound. (
+              record { expressions = k; bodies = level.bodies },
+              record { expressions = bound; bodies = omega arith },
+              refl,
+            )) (place ts)
+            (known.reads_place level.expressions ts);
         least = λ m some. known.least_place m.expressions;
       }
 
@@ -258,35 +352,63 @@ module _ (base : ℕ) (level : Depth) where
       place_starts m text a h = known.place_starts m.expressions text a h
 
       -- an expression, a token that may stand behind it, and the rest
-      pub expression_then : {A : Type 0} (s : Terminal) (k : TokenKind) → same_terminal (terminal_of k) s ≡ true → closing s ≡ true → (rest : Expression → ℕ → Rules Depth A) (stop : Stop A) (f : Expression → ℕ → Reader A)
+      pub expression_then : {A : Type 0} (s : Terminal) (k : TokenKind) → same_terminal (terminal_of k) s ≡ true
+          → closing s ≡ true → (rest : Expression → ℕ → Rules Depth A) (stop : Stop A) (f : Expression → ℕ → Reader A)
           → ((a : Expression) (line : ℕ) → IsPartReader base (rest a line) stop level (f a line))
-          → IsPartReader base (JoinedAt ExpressionAt (λ a. JoinedAt (MarkAt s) (rest a))) stop level (expression >>= (λ a. mark s >>= f a))
-      expression_then s k is_sort closes rest stop f other = before_mark base level ExpressionAt expression_stop s k is_sort (λ a. known.stops s closes) rest stop expression f expression_reader other
+          → IsPartReader base (JoinedAt ExpressionAt (λ a. JoinedAt (MarkAt s) (rest a))) stop level
+          (expression >>= (λ a. mark s >>= f a))
+      expression_then s k is_sort closes rest stop f other =
+          before_mark base level ExpressionAt expression_stop s k is_sort
+          (λ a. known.stops s closes) rest stop expression f expression_reader other
 
-      pub perform_reader : IsPartReader base (StatementAt Perform loops) ended_stop level (reader_at perform loops level body)
+      pub perform_reader : IsPartReader base (StatementAt Perform loops) ended_stop level
+          (reader_at perform loops level body)
       unfolding perform
-      perform_reader = expression_then terminal.Semicolon kind.Semicolon refl refl (λ value _. GivesAt (whole (tree.Expression value))) ended_stop (λ value _. gives (whole (tree.Expression value))) (λ value _. gives_reader base level (whole (tree.Expression value)) ended_stop)
+      perform_reader =
+          expression_then terminal.Semicolon kind.Semicolon refl refl
+          (λ value _. GivesAt (whole (tree.Expression value))) ended_stop
+          (λ value _. gives (whole (tree.Expression value))) (λ value _. gives_reader base level
+          (whole (tree.Expression value)) ended_stop)
 
-      plain_expressions : IsPartReader base (PlainItemsAt (λ _. ExpressionAt) terminal.Semicolon) Anything level (plain_items (λ _. expression) terminal.Semicolon)
-      plain_expressions = plain_reader base level ExpressionAt expression_stop begins_expression expression expression_reader expression_starts refl (λ a. known.stops terminal.Comma refl) terminal.Semicolon kind.Semicolon refl refl refl (λ a. known.stops terminal.Semicolon refl)
+      plain_expressions : IsPartReader base (PlainItemsAt (λ _. ExpressionAt) terminal.Semicolon) Anything level
+          (plain_items (λ _. expression) terminal.Semicolon)
+      plain_expressions =
+          plain_reader base level ExpressionAt expression_stop begins_expression expression expression_reader
+          expression_starts refl (λ a. known.stops terminal.Comma refl) terminal.Semicolon kind.Semicolon refl refl refl
+          (λ a. known.stops terminal.Semicolon refl)
 
       -- the expressions of a `for`, up to the token that ends them
-      pub any_expressions : (close : Terminal) (k : TokenKind) → same_terminal (terminal_of k) close ≡ true → begins_expression close ≡ false → same_terminal close terminal.Comma ≡ false → closing close ≡ true
-          → IsPartReader base (AnyPlainItemsAt (λ _. ExpressionAt) close) Anything level (any_plain_items (λ _. expression) close)
-      any_expressions close k is_sort not_first not_comma closes = any_plain_reader base level ExpressionAt expression_stop begins_expression expression expression_reader expression_starts refl (λ a. known.stops terminal.Comma refl) close k is_sort not_first not_comma (λ a. known.stops close closes)
+      pub any_expressions : (close : Terminal) (k : TokenKind) → same_terminal (terminal_of k) close ≡ true
+          → begins_expression close ≡ false → same_terminal close terminal.Comma ≡ false → closing close ≡ true
+          → IsPartReader base (AnyPlainItemsAt (λ _. ExpressionAt) close) Anything level
+          (any_plain_items (λ _. expression) close)
+      any_expressions close k is_sort not_first not_comma closes =
+          any_plain_reader base level ExpressionAt expression_stop begins_expression expression expression_reader
+          expression_starts refl (λ a. known.stops terminal.Comma refl) close k is_sort not_first not_comma
+          (λ a. known.stops close closes)
 
       pub echo_reader : IsPartReader base (StatementAt Echo loops) ended_stop level (reader_at echo loops level body)
       unfolding echo
-      echo_reader = mark_then base level terminal.Echo kind.Echo refl (λ _. JoinedAt (PlainItemsAt (λ _. ExpressionAt) terminal.Semicolon) (λ values. GivesAt (whole (tree.Echo values)))) ended_stop
+      echo_reader =
+          mark_then base level terminal.Echo kind.Echo refl (λ _. JoinedAt
+          (PlainItemsAt (λ _. ExpressionAt) terminal.Semicolon) (λ values. GivesAt (whole (tree.Echo values))))
+          ended_stop
           (λ _. plain_items (λ _. expression) terminal.Semicolon >>= (λ values. gives (whole (tree.Echo values))))
-          (λ _. then_reader base level (PlainItemsAt (λ _. ExpressionAt) terminal.Semicolon) (λ values. GivesAt (whole (tree.Echo values))) ended_stop (plain_items (λ _. expression) terminal.Semicolon) (λ values. gives (whole (tree.Echo values)))
+          (λ _. then_reader base level (PlainItemsAt (λ _. ExpressionAt) terminal.Semicolon)
+          (λ values. GivesAt (whole (tree.Echo values))) ended_stop
+          (plain_items (λ _. expression) terminal.Semicolon) (λ values. gives (whole (tree.Echo values)))
           plain_expressions (λ values. gives_reader base level (whole (tree.Echo values)) ended_stop))
 
       pub test_reader : IsPartReader base (StatementAt Test loops) Anything level (reader_at head_test loops level body)
       unfolding head_test
-      test_reader = mark_then base level terminal.OpenParenthesis kind.OpenParenthesis refl (λ _. JoinedAt ExpressionAt (λ found. JoinedAt (MarkAt terminal.CloseParenthesis) (λ _. GivesAt found))) Anything
+      test_reader =
+          mark_then base level terminal.OpenParenthesis kind.OpenParenthesis refl
+          (λ _. JoinedAt ExpressionAt (λ found. JoinedAt (MarkAt terminal.CloseParenthesis) (λ _. GivesAt found)))
+          Anything
           (λ _. expression >>= (λ found. mark terminal.CloseParenthesis >> gives found))
-          (λ _. expression_then terminal.CloseParenthesis kind.CloseParenthesis refl refl (λ found _. GivesAt found) Anything (λ found _. gives found) (λ found _. gives_reader base level found Anything))
+          (λ _. expression_then terminal.CloseParenthesis kind.CloseParenthesis refl refl
+          (λ found _. GivesAt found) Anything (λ found _. gives found)
+          (λ found _. gives_reader base level found Anything))
 
       -- ---- an expression that may be missing
 
@@ -296,56 +418,100 @@ module _ (base : ℕ) (level : Depth) where
       abbrev SomeAt : Terminal → Rules Depth (Option Expression)
       SomeAt close = JoinedAt ExpressionAt (λ value. MadeAt (MarkAt close) (λ _. Some value))
 
-      maybe_reader : (close : Terminal) (k : TokenKind) → same_terminal (terminal_of k) close ≡ true → begins_expression close ≡ false → closing close ≡ true
-          → IsPartReader base (EitherAt (NoneAt close) (SomeAt close)) Anything level (reader_at maybe_up_to loops level body close)
+      maybe_reader : (close : Terminal) (k : TokenKind) → same_terminal (terminal_of k) close ≡ true
+          → begins_expression close ≡ false → closing close ≡ true
+          → IsPartReader base (EitherAt (NoneAt close) (SomeAt close)) Anything level
+          (reader_at maybe_up_to loops level body close)
       unfolding maybe_up_to
-      maybe_reader close k is_sort not_first closes = either_reader base level (NoneAt close) (SomeAt close) (is close) Anything (made (mark close) (λ _. None)) (expression >>= (λ value. made (mark close) (λ _. Some value)))
+      maybe_reader close k is_sort not_first closes =
+          either_reader base level (NoneAt close) (SomeAt close) (is close) Anything (made (mark close) (λ _. None))
+          (expression >>= (λ value. made (mark close) (λ _. Some value)))
           (made_starts (MarkAt close) (λ _. None) (is close) (mark_starts close))
-          (starts_apart (SomeAt close) Anything (is close) begins_expression (mark_apart begins_expression close not_first) (joined_starts ExpressionAt (λ value. MadeAt (MarkAt close) (λ _. Some value)) begins_expression expression_starts))
-          (made_reader base level (MarkAt close) (λ _. None) Anything Anything (mark close) (λ a s e. refl) (mark_reader base level close k is_sort))
-          (expression_then close k is_sort closes (λ value _. GivesAt (Some value)) Anything (λ value _. gives (Some value)) (λ value _. gives_reader base level (Some value) Anything))
+          (starts_apart (SomeAt close) Anything (is close) begins_expression
+          (mark_apart begins_expression close not_first) (joined_starts ExpressionAt
+          (λ value. MadeAt (MarkAt close) (λ _. Some value)) begins_expression expression_starts))
+          (made_reader base level (MarkAt close) (λ _. None) Anything Anything (mark close) (λ a s e. refl)
+          (mark_reader base level close k is_sort))
+          (expression_then close k is_sort closes (λ value _. GivesAt (Some value)) Anything
+          (λ value _. gives (Some value)) (λ value _. gives_reader base level (Some value) Anything))
 
-      pub return_reader : IsPartReader base (StatementAt Return loops) ended_stop level (reader_at return_rule loops level body)
+      pub return_reader : IsPartReader base (StatementAt Return loops) ended_stop level
+          (reader_at return_rule loops level body)
       unfolding return_rule
-      return_reader = made_reader base level (JoinedAt (MarkAt terminal.Return) (λ _. EitherAt (NoneAt terminal.Semicolon) (SomeAt terminal.Semicolon))) (λ value. whole (tree.Return value)) Anything ended_stop (mark terminal.Return >> reader_at maybe_up_to loops level body terminal.Semicolon) (λ a s e. refl)
-          (mark_then base level terminal.Return kind.Return refl (λ _. EitherAt (NoneAt terminal.Semicolon) (SomeAt terminal.Semicolon)) Anything (λ _. reader_at maybe_up_to loops level body terminal.Semicolon) (λ _. maybe_reader terminal.Semicolon kind.Semicolon refl refl refl))
+      return_reader =
+          made_reader base level (JoinedAt (MarkAt terminal.Return)
+          (λ _. EitherAt (NoneAt terminal.Semicolon) (SomeAt terminal.Semicolon)))
+          (λ value. whole (tree.Return value)) Anything ended_stop
+          (mark terminal.Return >> reader_at maybe_up_to loops level body terminal.Semicolon) (λ a s e. refl)
+          (mark_then base level terminal.Return kind.Return refl
+          (λ _. EitherAt (NoneAt terminal.Semicolon) (SomeAt terminal.Semicolon)) Anything
+          (λ _. reader_at maybe_up_to loops level body terminal.Semicolon)
+          (λ _. maybe_reader terminal.Semicolon kind.Semicolon refl refl refl))
 
       -- ---- unset and exit
 
-      some_places : IsPartReader base (SomeItemsAt (λ _. PlaceAt) terminal.CloseParenthesis) Anything level (some_items (λ _. place) terminal.CloseParenthesis)
-      some_places = some_reader base level PlaceAt place_stop (is terminal.Variable) place place_reader place_starts refl (λ a. known.stops_place terminal.Comma refl) terminal.CloseParenthesis kind.CloseParenthesis refl refl refl (λ a. known.stops_place terminal.CloseParenthesis refl)
+      some_places : IsPartReader base (SomeItemsAt (λ _. PlaceAt) terminal.CloseParenthesis) Anything level
+          (some_items (λ _. place) terminal.CloseParenthesis)
+      some_places =
+          some_reader base level PlaceAt place_stop (is terminal.Variable) place place_reader place_starts refl
+          (λ a. known.stops_place terminal.Comma refl) terminal.CloseParenthesis kind.CloseParenthesis refl refl refl
+          (λ a. known.stops_place terminal.CloseParenthesis refl)
 
       pub unset_reader : IsPartReader base (StatementAt Unset loops) ended_stop level (reader_at unset loops level body)
       unfolding unset
       unset_reader =
           let last : List Place → ℕ → Rules Depth Ended = λ places _. GivesAt (whole (tree.Unset places)) in
-          let rest : Rules Depth Ended = JoinedAt (SomeItemsAt (λ _. PlaceAt) terminal.CloseParenthesis) (λ places. JoinedAt (MarkAt terminal.Semicolon) (last places)) in
-          let read : Reader Ended = some_items (λ _. place) terminal.CloseParenthesis >>= (λ places. mark terminal.Semicolon >> gives (whole (tree.Unset places))) in
-          mark_then base level terminal.Unset kind.Unset refl (λ _. JoinedAt (MarkAt terminal.OpenParenthesis) (λ _. rest)) ended_stop (λ _. mark terminal.OpenParenthesis >> read)
-          (λ _. mark_then base level terminal.OpenParenthesis kind.OpenParenthesis refl (λ _. rest) ended_stop (λ _. read)
-          (λ _. before_mark base level (SomeItemsAt (λ _. PlaceAt) terminal.CloseParenthesis) Anything terminal.Semicolon kind.Semicolon refl (λ a. refl) last ended_stop (some_items (λ _. place) terminal.CloseParenthesis) (λ places _. gives (whole (tree.Unset places)))
+          let rest : Rules Depth Ended = JoinedAt (SomeItemsAt (λ _. PlaceAt) terminal.CloseParenthesis)
+          (λ places. JoinedAt (MarkAt terminal.Semicolon) (last places)) in
+          let read : Reader Ended = some_items (λ _. place) terminal.CloseParenthesis
+          >>= (λ places. mark terminal.Semicolon >> gives (whole (tree.Unset places))) in
+          mark_then base level terminal.Unset kind.Unset refl
+          (λ _. JoinedAt (MarkAt terminal.OpenParenthesis) (λ _. rest)) ended_stop
+          (λ _. mark terminal.OpenParenthesis >> read)
+          (λ _. mark_then base level terminal.OpenParenthesis kind.OpenParenthesis refl (λ _. rest) ended_stop
+          (λ _. read)
+          (λ _. before_mark base level (SomeItemsAt (λ _. PlaceAt) terminal.CloseParenthesis) Anything
+          terminal.Semicolon kind.Semicolon refl (λ a. refl) last ended_stop
+          (some_items (λ _. place) terminal.CloseParenthesis) (λ places _. gives (whole (tree.Unset places)))
           some_places (λ places _. gives_reader base level (whole (tree.Unset places)) ended_stop)))
 
       abbrev value_stop : Option Expression → Terminal → Bool
       value_stop a s = is terminal.Semicolon s
 
       abbrev ValueAt : Rules Depth (Option Expression)
-      ValueAt = JoinedAt (MarkAt terminal.OpenParenthesis) (λ _. EitherAt (NoneAt terminal.CloseParenthesis) (SomeAt terminal.CloseParenthesis))
+      ValueAt =
+          JoinedAt (MarkAt terminal.OpenParenthesis) (λ _. EitherAt (NoneAt terminal.CloseParenthesis)
+          (SomeAt terminal.CloseParenthesis))
 
-      exit_value_reader : IsPartReader base (EitherAt ValueAt (GivesAt None)) value_stop level (reader_at exit_value loops level body)
+      exit_value_reader : IsPartReader base (EitherAt ValueAt (GivesAt None)) value_stop level
+          (reader_at exit_value loops level body)
       unfolding exit_value
-      exit_value_reader = either_reader base level ValueAt (GivesAt None) (is terminal.OpenParenthesis) value_stop (mark terminal.OpenParenthesis >> reader_at maybe_up_to loops level body terminal.CloseParenthesis) (gives None)
-          (joined_starts (MarkAt terminal.OpenParenthesis) (λ _. EitherAt (NoneAt terminal.CloseParenthesis) (SomeAt terminal.CloseParenthesis)) (is terminal.OpenParenthesis) (mark_starts terminal.OpenParenthesis))
-          (gives_apart None value_stop (is terminal.OpenParenthesis) (mark_fails (is terminal.OpenParenthesis) terminal.Semicolon refl))
-          (stricter base level ValueAt Anything value_stop (mark terminal.OpenParenthesis >> reader_at maybe_up_to loops level body terminal.CloseParenthesis) (λ a s e. refl)
-          (mark_then base level terminal.OpenParenthesis kind.OpenParenthesis refl (λ _. EitherAt (NoneAt terminal.CloseParenthesis) (SomeAt terminal.CloseParenthesis)) Anything (λ _. reader_at maybe_up_to loops level body terminal.CloseParenthesis) (λ _. maybe_reader terminal.CloseParenthesis kind.CloseParenthesis refl refl refl)))
+      exit_value_reader =
+          either_reader base level ValueAt (GivesAt None) (is terminal.OpenParenthesis) value_stop
+          (mark terminal.OpenParenthesis >> reader_at maybe_up_to loops level body terminal.CloseParenthesis)
+          (gives None)
+          (joined_starts (MarkAt terminal.OpenParenthesis) (λ _. EitherAt (NoneAt terminal.CloseParenthesis)
+          (SomeAt terminal.CloseParenthesis)) (is terminal.OpenParenthesis) (mark_starts terminal.OpenParenthesis))
+          (gives_apart None value_stop (is terminal.OpenParenthesis)
+          (mark_fails (is terminal.OpenParenthesis) terminal.Semicolon refl))
+          (stricter base level ValueAt Anything value_stop (mark terminal.OpenParenthesis >> reader_at maybe_up_to loops
+          level body terminal.CloseParenthesis) (λ a s e. refl)
+          (mark_then base level terminal.OpenParenthesis kind.OpenParenthesis refl
+          (λ _. EitherAt (NoneAt terminal.CloseParenthesis) (SomeAt terminal.CloseParenthesis)) Anything
+          (λ _. reader_at maybe_up_to loops level body terminal.CloseParenthesis)
+          (λ _. maybe_reader terminal.CloseParenthesis kind.CloseParenthesis refl refl refl)))
           (gives_reader base level None value_stop)
 
       pub exit_reader : IsPartReader base (StatementAt Exit loops) ended_stop level (reader_at exit loops level body)
       unfolding exit
       exit_reader =
           let last : Option Expression → ℕ → Rules Depth Ended = λ value _. GivesAt (whole (tree.Exit value)) in
-          then_reader base level (EitherAt (MarkAt terminal.Exit) (MarkAt terminal.Die)) (λ _. JoinedAt (EitherAt ValueAt (GivesAt None)) (λ value. JoinedAt (MarkAt terminal.Semicolon) (last value))) ended_stop exit_word
-          (λ _. reader_at exit_value loops level body >>= (λ value. mark terminal.Semicolon >> gives (whole (tree.Exit value)))) exit_word_reader
-          (λ _. before_mark base level (EitherAt ValueAt (GivesAt None)) value_stop terminal.Semicolon kind.Semicolon refl (λ a. refl) last ended_stop (reader_at exit_value loops level body) (λ value _. gives (whole (tree.Exit value)))
+          then_reader base level (EitherAt (MarkAt terminal.Exit) (MarkAt terminal.Die))
+          (λ _. JoinedAt (EitherAt ValueAt (GivesAt None))
+          (λ value. JoinedAt (MarkAt terminal.Semicolon) (last value))) ended_stop exit_word
+          (λ _. reader_at exit_value loops level body
+          >>= (λ value. mark terminal.Semicolon >> gives (whole (tree.Exit value)))) exit_word_reader
+          (λ _. before_mark base level (EitherAt ValueAt (GivesAt None)) value_stop terminal.Semicolon kind.Semicolon
+          refl (λ a. refl) last ended_stop (reader_at exit_value loops level body)
+          (λ value _. gives (whole (tree.Exit value)))
           exit_value_reader (λ value _. gives_reader base level (whole (tree.Exit value)) ended_stop))

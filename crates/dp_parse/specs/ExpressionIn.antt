@@ -1,6 +1,6 @@
 -- The tree of an expression as a function of its bytes: their tokens, read to the end. That this is
--- the tree that the bytes spell, and none is reported where they spell none, is a law (`Tells`, proved
--- by `expressions_are_told`).
+-- the tree that the bytes spell, and none is reported where they spell none, is a law (`Tells`,
+-- proved by `expressions_are_told`).
 use Rattle.std.specs.Prelude.{◌≡◌, ◌≢◌, ◌↔◌, ℕ, List, Option, Some, None, Result, Ok, Err}
 use Rattle.dp_lexer.specs.declared.token.Token.{Token}
 use Rattle.dp_lexer.specs.ExpressionTokens.{expression_tokens}

@@ -1,5 +1,5 @@
-//! The rules of statements as one value: how many levels of bodies are left, in how many loops the statements stand, and
-//! what reads a body one level down. Each rule is a method of it, so that it is proved by itself.
+//! The rules of statements as one value: how many levels of bodies are left, in how many loops the statements stand,
+//! and what reads a body one level down. Each rule is a method of it, so that it is proved by itself.
 
 ghost use Rattle.std.specs.Prelude.{◌≡◌, suc, ◌+◌, ◌<◌, ◌≤◌, ◌^◌, OnOk};
 ghost use Rattle.dp_rules.specs.inner.Input.{Reads, enter};

@@ -56,7 +56,8 @@ fn comma_step(
 }
 
 fn comma_turns(alloc: Global, tokens: &mut Tokens<'_>, first: Names) -> Result<Names, Refusal>
-    ensures { Reads (closed (lists.comma_step spec.checked Terminal.CloseParenthesis) first tokens.old) result tokens.new }
+    ensures { Reads (closed (lists.comma_step spec.checked Terminal.CloseParenthesis) first tokens.old) result
+        tokens.new }
 {
     let mut state = first;
     for _turn in 0..tokens.left() + 1 {

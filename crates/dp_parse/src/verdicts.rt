@@ -52,7 +52,8 @@ pub(crate) fn expression_of(alloc: Global, tokens: &[Token]) -> Result<Expressio
     ensures only { (e : Expression) → SpellsExpression limits.expressions tokens.now e →
         MatchResult result (λ found. found ≡ e) (λ e. e ≡ ParseError.Memory) }
     ensures cause { IfErr result (λ e. AreWrong SpellsExpression limits.expressions tokens.now e) }
-    ensures refuses { (why : ParseError) → why ≢ ParseError.Memory → AreWrong SpellsExpression limits.expressions tokens.now why →
+    ensures refuses { (why : ParseError) → why ≢ ParseError.Memory
+        → AreWrong SpellsExpression limits.expressions tokens.now why →
         MatchResult result (λ _. ⊥) (λ e. (e ≡ why) ⊎ (e ≡ ParseError.Memory)) }
 {
     match expression_text(alloc, &mut Tokens::new(tokens)) {

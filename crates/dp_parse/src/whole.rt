@@ -30,8 +30,8 @@ fn no_tokens(why: LexError) -> ParseError
 
 /// The tree of a file: the bytes begin with the tag `<?php` and spell a program.
 ///
-/// Takes time linear in the bytes. An error names the first token that is wrong; what is wrong with the bytes of a token
-/// comes before what is wrong with tokens, and that before a function that is declared twice.
+/// Takes time linear in the bytes. An error names the first token that is wrong; what is wrong with the bytes of a
+/// token comes before what is wrong with tokens, and that before a function that is declared twice.
 pub fn parse_file(alloc: Global, bytes: &[u8]) -> Result<File, ParseError>
     requires { length bytes.now < 2 ^ 32 }
     // What is found is the file that the bytes spell.

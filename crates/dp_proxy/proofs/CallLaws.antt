@@ -23,7 +23,8 @@ IsSmall (Register port key multiple) = IsKey key × (port ≤ 65535)
 IsSmall (Stop key) = IsKey key × Unit {0}
 
 key_small : (options : Options) (key : List ℕ) → key_in options ≡ Some key → IsKey key
-key_small options key e = option_and_then_some (λ key. if is_key key then Some key else None) (given k options) key e (λ text q f.
+key_small options key e =
+    option_and_then_some (λ key. if is_key key then Some key else None) (given k options) key e (λ text q f.
     let parts = cond_some (is_key text) text key f in
     subst IsKey parts.1 (key_is text parts.0))
 
@@ -31,7 +32,8 @@ number_small : (most n : ℕ) (text : List ℕ) → decimal_in most text ≡ Som
 unfolding decimal_in
 number_small most n text e =
     let parts = cond_some (is_decimal text && nat_le (digits_value 10 text) most) (digits_value 10 text) n e in
-    let within : digits_value 10 text ≤ most = leb-true _ _ (and_parts (is_decimal text) (nat_le (digits_value 10 text) most) parts.0).1 in
+    let within : digits_value 10 text ≤ most = leb-true _ _ (and_parts (is_decimal text)
+    (nat_le (digits_value 10 text) most) parts.0).1 in
     let same = parts.1 in
     omega arith
 
@@ -40,7 +42,8 @@ same_not_zero zero n e = absurd cc
 same_not_zero (suc m) n e = same_Some (suc m) n e
 
 port_small : (options : Options) (port : ℕ) → port_in options ≡ Some port → port ≤ 65535
-port_small options port e = option_and_then_some not_zero (option_and_then (decimal_in 65535) (given p options)) port e (λ n q f.
+port_small options port e =
+    option_and_then_some not_zero (option_and_then (decimal_in 65535) (given p options)) port e (λ n q f.
     option_and_then_some (decimal_in 65535) (given p options) n q (λ text r g.
     let within = number_small 65535 n text g in
     let same = same_not_zero n port f in
@@ -48,11 +51,14 @@ port_small options port e = option_and_then_some not_zero (option_and_then (deci
 
 register_small : (options : Options) (call : Call) → register_in options ≡ Some call → IsSmall call
 register_small options call e = option_and_then_some
-    (λ port. option_and_then (λ key. option_map (λ multiple. Register port key multiple) (multiple_in options)) (key_in options)) (port_in options) call e (λ port q f.
-    option_and_then_some (λ key. option_map (λ multiple. Register port key multiple) (multiple_in options)) (key_in options) call f (λ key r g.
+    (λ port. option_and_then (λ key. option_map (λ multiple. Register port key multiple) (multiple_in options))
+    (key_in options)) (port_in options) call e (λ port q f.
+    option_and_then_some (λ key. option_map (λ multiple. Register port key multiple) (multiple_in options))
+    (key_in options) call f (λ key r g.
     by port key (key_small options key r) (port_small options port q) (multiple_in options) g))
   where
-    by : (port : ℕ) (key : List ℕ) → IsKey key → port ≤ 65535 → (o : Option Bool) → option_map (λ multiple. Register port key multiple) o ≡ Some call → IsSmall call
+    by : (port : ℕ) (key : List ℕ) → IsKey key → port ≤ 65535 → (o : Option Bool)
+        → option_map (λ multiple. Register port key multiple) o ≡ Some call → IsSmall call
     by port key is small None g = absurd cc
     by port key is small (Some multiple) g = subst IsSmall (same_Some (Register port key multiple) call g) (is, small)
 
@@ -71,10 +77,11 @@ line_small line call e = by (registers line) (stops line) refl refl e where
 
 pub call_small : (command : List ℕ) (call : Call) → call_of command ≡ Some call → IsSmall call
 unfolding call_of
-call_small command call e = option_and_then_some call_on (line_of command) call e (λ line q f. by line line.payload refl f) where
-  by : (line : Line) (o : Option (List ℕ)) → line.payload ≡ o → call_on line ≡ Some call → IsSmall call
-  by line None q f = line_small line call (rw q at f)
-  by line (Some payload) q f = let clash : None ≡ Some call = rw q at f in absurd cc
+call_small command call e =
+    option_and_then_some call_on (line_of command) call e (λ line q f. by line line.payload refl f) where
+      by : (line : Line) (o : Option (List ℕ)) → line.payload ≡ o → call_on line ≡ Some call → IsSmall call
+      by line None q f = line_small line call (rw q at f)
+      by line (Some payload) q f = let clash : None ≡ Some call = rw q at f in absurd cc
 
 small_keyed : (call : Call) → IsSmall call → IsKeyed call
 small_keyed (Register port key multiple) h = h.0
@@ -98,10 +105,13 @@ module _ (command : List ℕ) where
   keyed None e = tt
   keyed (Some call) e = call_keyed command call (sym e)
 
-  pub stopping : (line : Line) → line_of command ≡ Some line → bytes_eq line.name (codes "proxystop") ≡ is_stopping command
+  pub stopping : (line : Line) → line_of command ≡ Some line
+      → bytes_eq line.name (codes "proxystop") ≡ is_stopping command
   unfolding is_stopping
-  stopping line e = sym (ap (λ (o : Option Line). option_map_or (λ (l : Line). bytes_eq l.name (codes "proxystop")) o false) e)
+  stopping line e =
+      sym (ap (λ (o : Option Line). option_map_or (λ (l : Line). bytes_eq l.name (codes "proxystop")) o false) e)
 
   pub not_stopping : line_of command ≡ None → false ≡ is_stopping command
   unfolding is_stopping
-  not_stopping e = sym (ap (λ (o : Option Line). option_map_or (λ (l : Line). bytes_eq l.name (codes "proxystop")) o false) e)
+  not_stopping e =
+      sym (ap (λ (o : Option Line). option_map_or (λ (l : Line). bytes_eq l.name (codes "proxystop")) o false) e)

@@ -23,12 +23,16 @@ module _ (heard bytes now : List ℕ) (clean : has_no_nul heard ≡ true) where
         λ host. ap (Asking host) (sym put),
       )
 
-  pub command_heard : (place : ℕ) → FirstNul bytes (Some place) → now ≡ heard ++ take place bytes → Hears heard (Given bytes) Asked now
+  pub command_heard : (place : ℕ) → FirstNul bytes (Some place) → now ≡ heard ++ take place bytes
+      → Hears heard (Given bytes) Asked now
   command_heard place first put =
       let rest = drop (place + 1) bytes in
       let front : List ℕ = heard ++ take place bytes in
-      let whole : heard ++ bytes ≡ front ++ 0 ∷ rest = ap (λ l. heard ++ l) first.1 ∙ sym (append_assoc heard (take place bytes) (0 ∷ rest)) in
+      let whole : heard ++ bytes ≡ front ++ 0 ∷ rest = ap (λ l. heard ++ l) first.1
+      ∙ sym (append_assoc heard (take place bytes) (0 ∷ rest)) in
       let some : has_no_nul (heard ++ bytes) ≡ false =
-      false_from_ne_true (has_no_nul (heard ++ bytes)) (λ h. no_nul-at front rest (subst (λ l. has_no_nul l ≡ true) whole h)) in
-      let up : up_to_nul (heard ++ bytes) ≡ front = ap up_to_nul whole ∙ up_before front rest (both_clean heard (take place bytes) clean first.0) in
+      false_from_ne_true (has_no_nul (heard ++ bytes)) (λ h. no_nul-at front rest
+      (subst (λ l. has_no_nul l ≡ true) whole h)) in
+      let up : up_to_nul (heard ++ bytes) ≡ front = ap up_to_nul whole
+      ∙ up_before front rest (both_clean heard (take place bytes) clean first.0) in
       ap (λ t. if t then None else Some (up_to_nul (heard ++ bytes))) some ∙ ap Some (up ∙ sym put)

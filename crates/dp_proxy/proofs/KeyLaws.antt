@@ -25,7 +25,8 @@ graphic_again : (bytes : List ℕ) → All IsGraphic bytes → list_all (λ b. n
 graphic_again [] h = refl
 graphic_again (b ∷ bytes) h =
     let first = All-head IsGraphic b bytes h in
-    and_from (nat_le 0x21 b && nat_le b 0x7e) _ (and_from (nat_le 0x21 b) (nat_le b 0x7e) (le-leb _ _ first.0) (le-leb _ _ first.1))
+    and_from (nat_le 0x21 b
+    && nat_le b 0x7e) _ (and_from (nat_le 0x21 b) (nat_le b 0x7e) (le-leb _ _ first.0) (le-leb _ _ first.1))
     (graphic_again bytes (All-tail IsGraphic b bytes h))
 
 pub key_is : (bytes : List ℕ) → is_key bytes ≡ true → IsKey bytes
@@ -37,12 +38,15 @@ key_is bytes h =
 pub key_again : (bytes : List ℕ) → IsKey bytes → is_key bytes ≡ true
 key_again bytes n =
     and_from (nat_le 1 (length bytes) && nat_le (length bytes) 128) _
-    (and_from (nat_le 1 (length bytes)) (nat_le (length bytes) 128) (le-leb _ _ n.some) (le-leb _ _ n.short)) (graphic_again bytes n.graphic)
+    (and_from (nat_le 1 (length bytes)) (nat_le (length bytes) 128) (le-leb _ _ n.some) (le-leb _ _ n.short))
+    (graphic_again bytes n.graphic)
 
 -- ---- the key of a first packet
 
-module _ (text : List ℕ) (value : Option (List ℕ)) (r : Result (List ℕ) InitError) (found : IfOk r (λ key. (value ≡ Some key) × IsKey key)) where
-  pub gives : ((tag : StartTag) × BeginsWithHead text tag × (value ≡ root_value tag (codes "init") (codes "idekey"))) → IfOk r (GivesKey text)
+module _ (text : List ℕ) (value : Option (List ℕ)) (r : Result (List ℕ) InitError)
+    (found : IfOk r (λ key. (value ≡ Some key) × IsKey key)) where
+  pub gives : ((tag : StartTag) × BeginsWithHead text tag × (value ≡ root_value tag (codes "init") (codes "idekey")))
+      → IfOk r (GivesKey text)
   gives h = IfOk-weaker r (λ key. (value ≡ Some key) × IsKey key) (GivesKey text)
       (λ key k. record { tag = h.0; begins = h.1; value = sym h.2 ∙ k.0; is_key = k.1 }) found
 
@@ -53,7 +57,8 @@ module _ (text : List ℕ) (value : Option (List ℕ)) (r : Result (List ℕ) In
     is : value ≡ Some key
     is = same g.tag g.begins ∙ g.value
 
-    by : (q : Result (List ℕ) InitError) → IfOk q (λ k. (value ≡ Some k) × IsKey k) → IfErr q (λ e. (k : List ℕ) → value ≡ Some k → IsKey k → ⊥)
+    by : (q : Result (List ℕ) InitError) → IfOk q (λ k. (value ≡ Some k) × IsKey k)
+        → IfErr q (λ e. (k : List ℕ) → value ≡ Some k → IsKey k → ⊥)
         → MatchResult q (λ k. k ≡ key) (λ e. e ≡ Memory)
     by (Ok k) f b = same_Some k key (sym f.0 ∙ is)
     by (Err e) f b = absurd (b key is g.is_key)

@@ -21,21 +21,30 @@ use Rattle.dp_proxy.specs.inner.Turning.{Passes}
 
 -- ---- streams
 
-pub stream_push : (kind : LaneKind) (acts : List Act) (act : Act) → stream kind (acts ++ act ∷ []) ≡ stream kind acts ++ brought kind act
-stream_push kind acts act = flat_map-append (brought kind) acts (act ∷ []) ∙ ap (λ l. stream kind acts ++ l) (append-nil (brought kind act))
+pub stream_push : (kind : LaneKind) (acts : List Act) (act : Act)
+    → stream kind (acts ++ act ∷ []) ≡ stream kind acts ++ brought kind act
+stream_push kind acts act =
+    flat_map-append (brought kind) acts (act ∷ []) ∙ ap (λ l. stream kind acts ++ l) (append-nil (brought kind act))
 
-stream_same : (kind : LaneKind) (acts : List Act) (act : Act) → brought kind act ≡ [] → stream kind acts ≡ stream kind (acts ++ act ∷ [])
+stream_same : (kind : LaneKind) (acts : List Act) (act : Act) → brought kind act ≡ []
+    → stream kind acts ≡ stream kind (acts ++ act ∷ [])
 stream_same kind acts act none =
     sym (stream_push kind acts act ∙ ap (λ l. stream kind acts ++ l) none ∙ append-nil (stream kind acts))
 
-follow_same : (kind : LaneKind) (lane : Lane) (acts : List Act) (act : Act) → brought kind act ≡ [] → Follows kind lane (stream kind acts)
+follow_same : (kind : LaneKind) (lane : Lane) (acts : List Act) (act : Act) → brought kind act ≡ []
+    → Follows kind lane (stream kind acts)
     → Follows kind lane (stream kind (acts ++ act ∷ []))
 follow_same kind lane acts act none f = subst (Follows kind lane) (stream_same kind acts act none) f
 
-pub follow_idle : (acts : List Act) (act : Act) (up down : Lane) → brought Up act ≡ [] → brought Down act ≡ [] → FollowBoth acts up down
+pub follow_idle : (acts : List Act) (act : Act) (up down : Lane) → brought Up act ≡ [] → brought Down act ≡ []
+    → FollowBoth acts up down
     → FollowBoth (acts ++ act ∷ []) up down
 follow_idle acts act up down no_up no_down f =
-    record { packets = follow_same Up up acts act no_up f.packets; commands = follow_same Down down acts act no_down f.commands }
+    record {
+      packets = follow_same Up up acts act no_up f.packets;
+      commands = follow_same Down down acts act no_down
+          f.commands;
+    }
 
 -- ---- where a link is broken
 
@@ -45,7 +54,8 @@ broken_down acts offset bad = record {
   place = inl bad.place;
 }
 
-pub broken_up : (acts : List Act) (place : Option ℕ) → is_bad Down (stream Down acts) ≡ false → IsBadPlace Up (stream Up acts) place → BrokenPlace acts place
+pub broken_up : (acts : List Act) (place : Option ℕ) → is_bad Down (stream Down acts) ≡ false
+    → IsBadPlace Up (stream Up acts) place → BrokenPlace acts place
 broken_up acts None good bad = or_from (is_bad Down (stream Down acts)) (is_bad Up (stream Up acts)) good bad
 broken_up acts (Some offset) good bad = record {
   broken = or_right (is_bad Down (stream Down acts)) (is_bad Up (stream Up acts)) bad.bad;
@@ -54,26 +64,32 @@ broken_up acts (Some offset) good bad = record {
 
 -- ---- what an act is told
 
-told_some : (out : List ℕ → Effect) (bytes : List ℕ) (broken : Bool) → 0 < length bytes → told out bytes broken ≡ Some (out bytes)
+told_some : (out : List ℕ → Effect) (bytes : List ℕ) (broken : Bool) → 0 < length bytes
+    → told out bytes broken ≡ Some (out bytes)
 told_some out [] broken some = absurd (omega arith)
 told_some out (b ∷ bytes) broken some = refl
 
 module _ (acts : List Act) (act : Act) (kind : LaneKind) (to : List ℕ → Effect) (out : List ℕ)
-    (is : passed acts act ≡ told to (handed kind acts act) (is_broken (acts ++ act ∷ []))) (end : ends acts act ≡ is_none (passed acts act))
+    (is : passed acts act ≡ told to (handed kind acts act) (is_broken (acts ++ act ∷ [])))
+    (end : ends acts act ≡ is_none (passed acts act))
     (put : handed kind acts act ≡ out) where
   told_frames : 0 < length out → Passes acts act (passing.Told (to out))
   told_frames some =
-      let now : passed acts act ≡ Some (to out) = is ∙ ap (λ h. told to h (is_broken (acts ++ act ∷ []))) put ∙ told_some to out (is_broken (acts ++ act ∷ [])) some in
+      let now : passed acts act ≡ Some (to out) = is ∙ ap (λ h. told to h (is_broken (acts ++ act ∷ []))) put
+      ∙ told_some to out (is_broken (acts ++ act ∷ [])) some in
       (now, end ∙ ap is_none now)
 
-  nothing : out ≡ [] → (broken : Bool) → is_broken (acts ++ act ∷ []) ≡ broken → passed acts act ≡ (if broken then None else Some Nothing)
+  nothing : out ≡ [] → (broken : Bool) → is_broken (acts ++ act ∷ []) ≡ broken
+      → passed acts act ≡ (if broken then None else Some Nothing)
   nothing none broken e = is ∙ ap (λ h. told to h (is_broken (acts ++ act ∷ []))) (put ∙ none) ∙ ap (told to []) e
 
   told_nothing : out ≡ [] → is_broken (acts ++ act ∷ []) ≡ false → Passes acts act (passing.Told Nothing)
-  told_nothing none whole = let now : passed acts act ≡ Some Nothing = nothing none false whole in (now, end ∙ ap is_none now)
+  told_nothing none whole =
+      let now : passed acts act ≡ Some Nothing = nothing none false whole in (now, end ∙ ap is_none now)
 
   told_broken : out ≡ [] → (offset : ℕ) → IsBrokenAt (acts ++ act ∷ []) offset → Passes acts act (passing.Broken offset)
-  told_broken none offset at = let now : passed acts act ≡ None = nothing none true at.broken in (now, end ∙ ap is_none now, at.place)
+  told_broken none offset at =
+      let now : passed acts act ≡ None = nothing none true at.broken in (now, end ∙ ap is_none now, at.place)
 
 -- ---- bytes that the IDE gives
 
@@ -86,15 +102,19 @@ module _ (acts : List Act) (bytes : List ℕ) (up down after : Lane) (out : List
   }
 
   given_put : handed Down acts (Given bytes) ≡ out
-  given_put = ap (λ s. flat_map (frame Down) (drop (length (texts_in Down (stream Down acts))) (texts_in Down s))) (stream_push Down acts (Given bytes)) ∙ sym carries.put
+  given_put =
+      ap (λ s. flat_map (frame Down) (drop (length (texts_in Down (stream Down acts))) (texts_in Down s)))
+      (stream_push Down acts (Given bytes)) ∙ sym carries.put
 
   pub given_frames : 0 < length out → Passes acts (Given bytes) (passing.Told (ToEngine out))
   given_frames some = told_frames acts (Given bytes) Down ToEngine out refl refl given_put some
 
-  pub given_nothing : out ≡ [] → is_broken (acts ++ Given bytes ∷ []) ≡ false → Passes acts (Given bytes) (passing.Told Nothing)
+  pub given_nothing : out ≡ [] → is_broken (acts ++ Given bytes ∷ []) ≡ false
+      → Passes acts (Given bytes) (passing.Told Nothing)
   given_nothing none whole = told_nothing acts (Given bytes) Down ToEngine out refl refl given_put none whole
 
-  pub given_broken : out ≡ [] → (offset : ℕ) → IsBrokenAt (acts ++ Given bytes ∷ []) offset → Passes acts (Given bytes) (passing.Broken offset)
+  pub given_broken : out ≡ [] → (offset : ℕ) → IsBrokenAt (acts ++ Given bytes ∷ []) offset
+      → Passes acts (Given bytes) (passing.Broken offset)
   given_broken none offset at = told_broken acts (Given bytes) Down ToEngine out refl refl given_put none offset at
 
 -- ---- bytes that were read of the engine
@@ -108,15 +128,19 @@ module _ (acts : List Act) (bytes : List ℕ) (up down after : Lane) (out : List
   }
 
   moved_put : handed Up acts (Moved bytes) ≡ out
-  moved_put = ap (λ s. flat_map (frame Up) (drop (length (texts_in Up (stream Up acts))) (texts_in Up s))) (stream_push Up acts (Moved bytes)) ∙ sym carries.put
+  moved_put =
+      ap (λ s. flat_map (frame Up) (drop (length (texts_in Up (stream Up acts))) (texts_in Up s)))
+      (stream_push Up acts (Moved bytes)) ∙ sym carries.put
 
   pub moved_frames : 0 < length out → Passes acts (Moved bytes) (passing.Told (ToIde out))
   moved_frames some = told_frames acts (Moved bytes) Up ToIde out refl refl moved_put some
 
-  pub moved_nothing : out ≡ [] → is_broken (acts ++ Moved bytes ∷ []) ≡ false → Passes acts (Moved bytes) (passing.Told Nothing)
+  pub moved_nothing : out ≡ [] → is_broken (acts ++ Moved bytes ∷ []) ≡ false
+      → Passes acts (Moved bytes) (passing.Told Nothing)
   moved_nothing none whole = told_nothing acts (Moved bytes) Up ToIde out refl refl moved_put none whole
 
-  pub moved_broken : out ≡ [] → (offset : ℕ) → IsBrokenAt (acts ++ Moved bytes ∷ []) offset → Passes acts (Moved bytes) (passing.Broken offset)
+  pub moved_broken : out ≡ [] → (offset : ℕ) → IsBrokenAt (acts ++ Moved bytes ∷ []) offset
+      → Passes acts (Moved bytes) (passing.Broken offset)
   moved_broken none offset at = told_broken acts (Moved bytes) Up ToIde out refl refl moved_put none offset at
 
 -- ---- the closing
@@ -131,7 +155,12 @@ closed_broken acts offset at = (ap (told ToIde []) at.broken, refl, moved at.pla
 
   moved : BreaksAt acts offset → BreaksAt (acts ++ Closed ∷ []) offset
   moved (inl bad) = inl (subst (λ s. IsBadAt Down s offset) down bad)
-  moved (inr bad) = inr (subst (λ s. is_bad Down s ≡ false) down bad.0, subst (λ s. IsBadAt Up s offset) (stream_same Up acts Closed refl) bad.1)
+  moved (inr bad) =
+      inr (
+        subst (λ s. is_bad Down s ≡ false) down bad.0,
+        subst (λ s. IsBadAt Up s offset)
+            (stream_same Up acts Closed refl) bad.1,
+      )
 
 -- ---- whether anything is handed out
 

@@ -32,7 +32,8 @@ Fits r = IsPacketText (text (packet.Proxy r))
 fits_in : (r : ProxyReply) → length (text (packet.Proxy r)) ≤ 10000 → Fits r
 fits_in r short = record { some_byte = packet_some (packet.Proxy r); fits = omega arith }
 
-started_fits : (key host : List ℕ) (port : ℕ) → length key ≤ 128 → length host ≤ 64 → port ≤ 65535 → Fits (Started key host port)
+started_fits : (key host : List ℕ) (port : ℕ) → length key ≤ 128 → length host ≤ 64 → port ≤ 65535
+    → Fits (Started key host port)
 started_fits key host port short narrow small =
     let p : Packet = packet.Proxy (Started key host port) in
     let whole = packet_short p _ (written_short (element_of p) 0 (omega arith)) in
@@ -64,7 +65,8 @@ refused_fits stopping id small =
     let error : Element = element (codes "error") ((codes "id", decimal id) ∷ []) (message_node (reason_of id) ∷ []) in
     let inner = written_short message (6 * length (reason_of id)) (text_short (reason_of id)) in
     let outer = written_short error (19 + 6 * length (reason_of id)) (child_short message _ inner) in
-    let whole = packet_short p _ (written_short (element_of p) (15 + weight ((codes "id", decimal id) ∷ []) + (19 + 6 * length (reason_of id))) (child_short error _ outer)) in
+    let whole = packet_short p _ (written_short (element_of p)
+    (15 + weight ((codes "id", decimal id) ∷ []) + (19 + 6 * length (reason_of id))) (child_short error _ outer)) in
     let digits = length-decimal-le 1 id (omega arith) (omega arith) (omega arith) in
     fits_in (Refused stopping id) (omega (arith, whole, digits, reason_short id, name_short stopping))
 
@@ -80,12 +82,15 @@ accepted_fits : (host : List ℕ) (call : Call) → IsHost host → IsSmall call
 accepted_fits host (Register port key multiple) h s = started_fits key host port s.0.short h.short s.1
 accepted_fits host (Stop key) h s = stopped_fits key s.0.short
 
-by_fits : (stopping : Bool) (host : List ℕ) (call : Option Call) (verdict : Result ⊤ Refusal) → IsHost host → ((c : Call) → call ≡ Some c → IsSmall c)
+by_fits : (stopping : Bool) (host : List ℕ) (call : Option Call) (verdict : Result ⊤ Refusal) → IsHost host
+    → ((c : Call) → call ≡ Some c → IsSmall c)
     → Fits (reply_by stopping host call verdict)
 by_fits stopping host None verdict h small = refused_fits stopping 4 (omega arith)
 by_fits stopping host (Some call) (Ok done) h small = accepted_fits host call h (small call refl)
 by_fits stopping host (Some call) (Err why) h small = refused_fits stopping (id_of why) (id_small why)
 
-pub reply_fits : (journal : List Entry) (host command : List ℕ) → IsHost host → IsPacketText (text (packet.Proxy (reply journal host command)))
+pub reply_fits : (journal : List Entry) (host command : List ℕ) → IsHost host
+    → IsPacketText (text (packet.Proxy (reply journal host command)))
 reply_fits journal host command h =
-    by_fits (is_stopping command) host (call_of command) (verdict_of journal host (call_of command)) h (λ call e. call_small command call e)
+    by_fits (is_stopping command) host (call_of command) (verdict_of journal host (call_of command)) h
+    (λ call e. call_small command call e)

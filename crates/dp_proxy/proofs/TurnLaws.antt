@@ -47,7 +47,8 @@ pub ide_comes : (journal : List Entry) (host : List ℕ) → turn journal New (I
 unfolding turn
 ide_comes journal host = refl
 
-pub engine_comes : (journal : List Entry) (key : List ℕ) (verdict : Result Pass Refusal) → verdict ≡ admit_verdict journal key
+pub engine_comes : (journal : List Entry) (key : List ℕ) (verdict : Result Pass Refusal)
+    → verdict ≡ admit_verdict journal key
     → turn journal New (Engine key) ≡ opened journal key verdict
 unfolding turn
 engine_comes journal key verdict e = ap (opened journal key) (sym e)
@@ -64,10 +65,12 @@ pub closed_before : (journal : List Entry) → turn journal New Closed ≡ quiet
 unfolding turn
 closed_before journal = refl
 
-pub asked_more : (journal : List Entry) (host heard : List ℕ) (act : Act) (link : Link) → question heard act ≡ None → listening host heard act ≡ link
+pub asked_more : (journal : List Entry) (host heard : List ℕ) (act : Act) (link : Link) → question heard act ≡ None
+    → listening host heard act ≡ link
     → turn journal (Asking host heard) act ≡ quiet journal link
 unfolding turn
-asked_more journal host heard act link none e = ap (λ q. answered journal host q (listening host heard act)) none ∙ ap (quiet journal) e
+asked_more journal host heard act link none e =
+    ap (λ q. answered journal host q (listening host heard act)) none ∙ ap (quiet journal) e
 
 abbrev pub settled : List Entry → List ℕ → List ℕ → Turn
 settled journal host command = record {
@@ -76,7 +79,8 @@ settled journal host command = record {
   effect = Some (Reply (reply_frame journal host command));
 }
 
-pub asked_all : (journal : List Entry) (host heard : List ℕ) (act : Act) (command : List ℕ) → question heard act ≡ Some command
+pub asked_all : (journal : List Entry) (host heard : List ℕ) (act : Act) (command : List ℕ)
+    → question heard act ≡ Some command
     → turn journal (Asking host heard) act ≡ settled journal host command
 unfolding turn
 asked_all journal host heard act command e = ap (λ q. answered journal host q (listening host heard act)) e
@@ -86,7 +90,13 @@ module _ (journal : List Entry) (key : List ℕ) (pass : Pass) (acts : List Act)
   on = record { link = Joined key pass (acts ++ act ∷ []); journal = journal; effect = passed acts act }
 
   abbrev pub over : Turn
-  over = record { link = Ended key pass acts; journal = journal ++ entry.Dismiss pass.session ∷ []; effect = passed acts act }
+  over =
+      record {
+        link = Ended key pass acts;
+        journal = journal ++ entry.Dismiss pass.session
+            ∷ [];
+        effect = passed acts act;
+      }
 
   pub joined_on : ends acts act ≡ false → turn journal (Joined key pass acts) act ≡ on
   unfolding turn
@@ -96,7 +106,8 @@ module _ (journal : List Entry) (key : List ℕ) (pass : Pass) (acts : List Act)
   unfolding turn
   joined_over e = ap (λ t. if t then over else on) e
 
-pub over_still : (journal : List Entry) (link : Link) (act : Act) → IsOver link → turn journal link act ≡ quiet journal link
+pub over_still : (journal : List Entry) (link : Link) (act : Act) → IsOver link
+    → turn journal link act ≡ quiet journal link
 unfolding turn
 over_still journal New act h = absurd h
 over_still journal (Asking host heard) act h = absurd h
@@ -114,29 +125,36 @@ entry_ends_none : (s : ℕ) (host : List ℕ) (call : Call) (reply : ℕ) → di
 entry_ends_none s host (Register port key multiple) reply = refl
 entry_ends_none s host (Stop key) reply = refl
 
-pub call_leaves : (journal : List Entry) (host : List ℕ) (call : Option Call) → LeavesOthers journal (registered_by journal host call) None
+pub call_leaves : (journal : List Entry) (host : List ℕ) (call : Option Call)
+    → LeavesOthers journal (registered_by journal host call) None
 call_leaves journal host None = λ s lives other. lives
 call_leaves journal host (Some call) = λ s lives other.
-    noted_lives journal s lives (entry_of host call) (reply_of (verdict_on journal host call)) (entry_ends_none s host call)
+    noted_lives journal s lives (entry_of host call) (reply_of (verdict_on journal host call))
+    (entry_ends_none s host call)
 
-pub registered_leaves : (journal next : List Entry) (host command : List ℕ) → (next ≡ journal) ⊎ (next ≡ registered journal host command)
+pub registered_leaves : (journal next : List Entry) (host command : List ℕ)
+    → (next ≡ journal) ⊎ (next ≡ registered journal host command)
     → LeavesOthers journal next None
 registered_leaves journal next host command (inl e) = same_leaves journal next None e
 registered_leaves journal next host command (inr e) = λ s lives other.
     subst (λ (j : List Entry). Contains (live j) s) (sym e) (call_leaves journal host (call_of command) s lives other)
 
-pub dismissed_leaves : (journal next : List Entry) (pass : Pass) (up down : Lane) → next ≡ journal ++ entry.Dismiss pass.session ∷ []
+pub dismissed_leaves : (journal next : List Entry) (pass : Pass) (up down : Lane)
+    → next ≡ journal ++ entry.Dismiss pass.session ∷ []
     → LeavesOthers journal next (Some (keep.Joined pass up down))
 dismissed_leaves journal next pass up down e = λ s lives other.
     subst (λ (j : List Entry). Contains (live j) s) (sym e)
     (still_lives journal s lives (entry.Dismiss pass.session) (ne_eqb pass.session s (λ same. other (ap Some same))))
 
-pub admit_leaves : (journal next : List Entry) (key : List ℕ) (reply : Option AdmitReply) → next ≡ noted journal (λ r. entry.Admit key r) reply
+pub admit_leaves : (journal next : List Entry) (key : List ℕ) (reply : Option AdmitReply)
+    → next ≡ noted journal (λ r. entry.Admit key r) reply
     → LeavesOthers journal next None
 admit_leaves journal next key reply e = λ s lives other.
-    subst (λ (j : List Entry). Contains (live j) s) (sym e) (noted_lives journal s lives (λ r. entry.Admit key r) reply (λ r. refl))
+    subst (λ (j : List Entry). Contains (live j) s) (sym e) (noted_lives journal s lives (λ r. entry.Admit key r) reply
+    (λ r. refl))
 
-pub new_is_own : (journal : List Entry) (pass : Pass) (up down : Lane) → IsNew journal pass.session → IsOwn journal None (Some (keep.Joined pass up down))
+pub new_is_own : (journal : List Entry) (pass : Pass) (up down : Lane) → IsNew journal pass.session
+    → IsOwn journal None (Some (keep.Joined pass up down))
 new_is_own journal pass up down new = λ s e. inr (λ lives.
     let same : pass.session ≡ s = same_Some pass.session s e in
     let less : s < pass.session = new.above s (from_filter (is_live journal) (given journal) s lives).0 in
@@ -157,14 +175,16 @@ over_comes (Refused key why) act h = tt
 
 module _ (journal next : List Entry) (link : Link) (act : Act) where
   -- an effect
-  told_leads : (t : Turn) (kept : Option Kept) (effect : Effect) → turn journal link act ≡ t → ComesWithKey link act → t.effect ≡ Some effect
+  told_leads : (t : Turn) (kept : Option Kept) (effect : Effect) → turn journal link act ≡ t → ComesWithKey link act
+      → t.effect ≡ Some effect
       → next ≡ t.journal → IsKept kept t.link → Leads journal link act next (record { kept = kept; told = Ok effect })
   told_leads t kept effect e comes told noted is = record {
     answers = (comes, ap (λ (u : Turn). u.effect) e ∙ told);
     moves = (noted ∙ sym (ap (λ (u : Turn). u.journal) e), subst (λ (u : Turn). IsKept kept u.link) (sym e) is);
   }
 
-  pub quiet_leads : (after : Link) (kept : Option Kept) → turn journal link act ≡ quiet journal after → ComesWithKey link act → next ≡ journal → IsKept kept after
+  pub quiet_leads : (after : Link) (kept : Option Kept) → turn journal link act ≡ quiet journal after
+      → ComesWithKey link act → next ≡ journal → IsKept kept after
       → Leads journal link act next (record { kept = kept; told = Ok Nothing })
   quiet_leads after kept e comes same is = told_leads (quiet journal after) kept Nothing e comes refl same is
 
@@ -178,17 +198,25 @@ module _ (journal next : List Entry) (key : List ℕ) (is_key : IsKey key) where
     same_err : (a b : Refusal) → ◌≡◌ {A = Result Pass Refusal} (Err a) (Err b) → a ≡ b
     same_err a b e = cc
   refused_leads why known (inr verdict) put =
-      told_leads journal next New (Engine key) (opened journal key (Err why)) (Some keep.Over) (Turned why) (engine_comes journal key (Err why) verdict) is_key refl put tt
+      told_leads journal next New (Engine key) (opened journal key (Err why)) (Some keep.Over) (Turned why)
+      (engine_comes journal key (Err why) verdict) is_key refl put tt
 
-  pub admitted_leads : (pass : Pass) (up down : Lane) → Follows Up up [] → Follows Down down [] → IsAnswer (admit_verdict journal key) (Ok pass)
+  pub admitted_leads : (pass : Pass) (up down : Lane) → Follows Up up [] → Follows Down down []
+      → IsAnswer (admit_verdict journal key) (Ok pass)
       → next ≡ noted journal (λ r. entry.Admit key r) (admit_reply_of (Ok pass))
-      → Leads journal New (Engine key) next (record { kept = Some (keep.Joined pass up down); told = Ok (Admitted pass.session pass.host pass.port) })
+      → Leads journal New (Engine key) next (record {
+        kept = Some (keep.Joined pass up down);
+        told = Ok
+            (Admitted pass.session pass.host pass.port);
+      })
   admitted_leads pass up down p q (inl memory) put = absurd (not_ok pass refusal.Memory memory) where
     not_ok : (a : Pass) (b : Refusal) → ◌≡◌ {A = Result Pass Refusal} (Ok a) (Err b) → ⊥
     not_ok a b e = cc
   admitted_leads pass up down p q (inr verdict) put =
-      told_leads journal next New (Engine key) (opened journal key (Ok pass)) (Some (keep.Joined pass up down)) (Admitted pass.session pass.host pass.port)
-      (engine_comes journal key (Ok pass) verdict) is_key refl put (record { key = key; acts = []; is = refl; packets = p; commands = q })
+      told_leads journal next New (Engine key) (opened journal key (Ok pass)) (Some (keep.Joined pass up down))
+      (Admitted pass.session pass.host pass.port)
+      (engine_comes journal key (Ok pass) verdict) is_key refl put
+      (record { key = key; acts = []; is = refl; packets = p; commands = q })
 
 -- an engine without a key
 pub keyless_leads : (journal next : List Entry) (key : List ℕ) → (IsKey key → ⊥) → next ≡ journal
@@ -198,36 +226,45 @@ keyless_leads journal next key isnt same = record { answers = isnt; moves = (sam
 -- an IDE that asks
 
 module _ (journal next : List Entry) (host heard : List ℕ) (act : Act) where
-  pub more_leads : (now : List ℕ) (kept : Option Kept) → Hears heard act More now → IsKept kept (Asking host now) → next ≡ journal
+  pub more_leads : (now : List ℕ) (kept : Option Kept) → Hears heard act More now → IsKept kept (Asking host now)
+      → next ≡ journal
       → Leads journal (Asking host heard) act next (record { kept = kept; told = Ok Nothing })
   more_leads now kept h is same =
-      quiet_leads journal next (Asking host heard) act (Asking host now) kept (asked_more journal host heard act (Asking host now) h.0 (h.2 host)) tt same is
+      quiet_leads journal next (Asking host heard) act (Asking host now) kept
+      (asked_more journal host heard act (Asking host now) h.0 (h.2 host)) tt same is
 
   pub silent_leads : (now : List ℕ) → Hears heard act Silence now → next ≡ journal
       → Leads journal (Asking host heard) act next (record { kept = Some keep.Over; told = Ok Nothing })
   silent_leads now h same =
-      quiet_leads journal next (Asking host heard) act (Settled host []) (Some keep.Over) (asked_more journal host heard act (Settled host []) h.0 (h.1 host)) tt same tt
+      quiet_leads journal next (Asking host heard) act (Settled host []) (Some keep.Over)
+      (asked_more journal host heard act (Settled host []) h.0 (h.1 host)) tt same tt
 
-  pub asked_leads : (command frame : List ℕ) → Hears heard act Asked command → frame ≡ reply_frame journal host command → next ≡ registered journal host command
+  pub asked_leads : (command frame : List ℕ) → Hears heard act Asked command → frame ≡ reply_frame journal host command
+      → next ≡ registered journal host command
       → Leads journal (Asking host heard) act next (record { kept = Some keep.Over; told = Ok (Reply frame) })
   asked_leads command frame h is put =
-      told_leads journal next (Asking host heard) act (settled journal host command) (Some keep.Over) (Reply frame) (asked_all journal host heard act command h) tt
+      told_leads journal next (Asking host heard) act (settled journal host command) (Some keep.Over) (Reply frame)
+      (asked_all journal host heard act command h) tt
       (ap (λ (f : List ℕ). Some (Reply f)) (sym is)) put tt
 
 -- a session
 
 module _ (journal next : List Entry) (key : List ℕ) (pass : Pass) (acts : List Act) (act : Act) where
-  pub on_leads : (up down : Lane) (effect : Effect) → Passes acts act (Told effect) → FollowBoth (acts ++ act ∷ []) up down → next ≡ journal
-      → Leads journal (Joined key pass acts) act next (record { kept = Some (keep.Joined pass up down); told = Ok effect })
+  pub on_leads : (up down : Lane) (effect : Effect) → Passes acts act (Told effect)
+      → FollowBoth (acts ++ act ∷ []) up down → next ≡ journal
+      → Leads journal (Joined key pass acts) act next (record
+      { kept = Some (keep.Joined pass up down); told = Ok effect })
   on_leads up down effect p f same =
-      told_leads journal next (Joined key pass acts) act (on journal key pass acts act) (Some (keep.Joined pass up down)) effect
+      told_leads journal next (Joined key pass acts) act (on journal key pass acts act)
+      (Some (keep.Joined pass up down)) effect
       (joined_on journal key pass acts act p.1) tt p.0 same
       (record { key = key; acts = acts ++ act ∷ []; is = refl; packets = f.packets; commands = f.commands })
 
   pub closed_leads : Passes acts act passing.Closed → next ≡ journal ++ entry.Dismiss pass.session ∷ []
       → Leads journal (Joined key pass acts) act next (record { kept = Some keep.Over; told = Ok Nothing })
   closed_leads p put =
-      told_leads journal next (Joined key pass acts) act (over journal key pass acts act) (Some keep.Over) Nothing (joined_over journal key pass acts act p.1) tt p.0 put tt
+      told_leads journal next (Joined key pass acts) act (over journal key pass acts act) (Some keep.Over) Nothing
+      (joined_over journal key pass acts act p.1) tt p.0 put tt
 
   pub broken_leads : (offset : ℕ) → Passes acts act (Broken offset) → next ≡ journal ++ entry.Dismiss pass.session ∷ []
       → Leads journal (Joined key pass acts) act next (record { kept = Some keep.Over; told = Err (BadFrame offset) })
@@ -235,20 +272,28 @@ module _ (journal next : List Entry) (key : List ℕ) (pass : Pass) (acts : List
       let e = joined_over journal key pass acts act p.1 in
       record {
         answers = (tt, ap (λ (u : Turn). u.effect) e ∙ p.0, p.2);
-        moves = (put ∙ sym (ap (λ (u : Turn). u.journal) e), subst (λ (u : Turn). IsKept (Some keep.Over) u.link) (sym e) tt);
+        moves = (
+          put ∙ sym (ap (λ (u : Turn). u.journal) e),
+          subst (λ (u : Turn). IsKept (Some keep.Over) u.link)
+              (sym e) tt,
+        );
       }
 
 -- lanes in which nothing came
-pub fresh_follows : (kind : LaneKind) (lane : Lane) → kind_of lane ≡ kind → (received_in lane).held ≡ [] → (received_in lane).dropped ≡ 0 → Follows kind lane []
+pub fresh_follows : (kind : LaneKind) (lane : Lane) → kind_of lane ≡ kind → (received_in lane).held ≡ []
+    → (received_in lane).dropped ≡ 0 → Follows kind lane []
 fresh_follows kind lane way held dropped = record { way = way; rest = by kind } where
   by : (k : LaneKind) → received_in lane ≡ left_of k []
   by Up = λ i. record { held = held i; dropped = dropped i }
   by Down = λ i. record { held = held i; dropped = dropped i }
 
 -- an engine that was refused, or want of memory
-pub refused_answer : {E : Type 0} (journal next : List Entry) (key : List ℕ) → IsKey key → (why : Refusal) (r : Result Step E) → IfOk r (λ step. why ≡ refusal.Memory → ⊥)
-    → IfOk r (λ step. step ≡ record { kept = Some keep.Over; told = Ok (Turned why) }) → IsAnswer (admit_verdict journal key) (Err why)
-    → next ≡ noted journal (λ r. entry.Admit key r) (admit_reply_of (Err why)) → IfOk r (Leads journal New (Engine key) next)
+pub refused_answer : {E : Type 0} (journal next : List Entry) (key : List ℕ) → IsKey key
+    → (why : Refusal) (r : Result Step E) → IfOk r (λ step. why ≡ refusal.Memory → ⊥)
+    → IfOk r (λ step. step ≡ record { kept = Some keep.Over; told = Ok (Turned why) })
+    → IsAnswer (admit_verdict journal key) (Err why)
+    → next ≡ noted journal (λ r. entry.Admit key r) (admit_reply_of (Err why))
+    → IfOk r (Leads journal New (Engine key) next)
 refused_answer journal next key k why (Ok step) known e verdict put =
     subst (Leads journal New (Engine key) next) (sym e) (refused_leads journal next key k why known verdict put)
 refused_answer journal next key k why (Err m) known e verdict put = tt

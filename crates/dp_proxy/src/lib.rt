@@ -1,5 +1,5 @@
-//! The core of a proxy between engines and IDEs: lanes that pass whole frames alone, what an IDE asks of the registry, the
-//! key with which an engine comes, and the events of all links.
+//! The core of a proxy between engines and IDEs: lanes that pass whole frames alone, what an IDE asks of the registry,
+//! the key with which an engine comes, and the events of all links.
 #![tactic(auto)]
 
 mod calls;

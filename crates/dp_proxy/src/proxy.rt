@@ -13,8 +13,8 @@ use dp_registry::Registry;
 use std::alloc::Global;
 use std::marker::Model;
 
-/// A proxy without its links: which IDE holds which key, and what came of each link that was not handed out. Contracts see
-/// the journal of its registry, and what is kept of each link.
+/// A proxy without its links: which IDE holds which key, and what came of each link that was not handed out. Contracts
+/// see the journal of its registry, and what is kept of each link.
 #[derive(Debug, Drop)]
 pub struct Proxy {
     alloc: Global,

@@ -11,7 +11,8 @@ impl Registry {
     ghost use Rattle.dp_registry.specs.declared.entry.Entry.TheVariants as entry;
     ghost use Rattle.dp_registry.specs.Journal.{IsNew, live};
     ghost use Rattle.dp_registry.specs.Names.{IsHost, IsKey};
-    ghost use Rattle.dp_registry.specs.Verdicts.{is_full, is_crowded, register_verdict, stop_verdict, admit_verdict, reply_of, admit_reply_of, noted, IsAnswer};
+    ghost use Rattle.dp_registry.specs.Verdicts.{is_full, is_crowded, register_verdict, stop_verdict, admit_verdict};
+    ghost use Rattle.dp_registry.specs.Verdicts.{reply_of, admit_reply_of, noted, IsAnswer};
 
     #[tactic(auto, using(crate::proofs::Fitting::registers, crate::proofs::Fitting::register_free))]
     pub(crate) fn register_owned(
@@ -25,7 +26,8 @@ impl Registry {
         requires key { IsKey key }
         requires room { is_full self.old ≡ false }
         ensures verdict { IsAnswer (register_verdict self.old host port key) result }
-        ensures journal { self.new ≡ noted self.old (λ reply. entry.Register host port key multiple reply) (reply_of result) }
+        ensures journal { self.new ≡ noted self.old (λ reply. entry.Register host port key multiple reply)
+            (reply_of result) }
     {
         match self.taken(&host, port, &key)? {
             None => {

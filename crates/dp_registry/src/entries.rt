@@ -1,6 +1,7 @@
 //! The entries, each with what it changes beside the journal. Memory is taken before anything changes.
 
-ghost use Rattle.std.specs.Prelude.{◌≡◌, ◌==◌, ◌<◌, ◌≤◌, ◌-◌, List, ℕ, length, Some, bytes_eq, filter, not, if◌then◌else◌, slice_get};
+ghost use Rattle.std.specs.Prelude.{◌≡◌, ◌==◌, ◌<◌, ◌≤◌, ◌-◌, List, ℕ, length, Some, bytes_eq, filter, not};
+ghost use Rattle.std.specs.Prelude.{if◌then◌else◌, slice_get};
 ghost use Rattle.dp_registry.specs.inner.Kept.{admitted_key};
 ghost use Rattle.dp_registry.specs.inner.Tables.{sessions_of};
 
@@ -79,7 +80,8 @@ impl Registry {
     pub(crate) fn give(&mut self, key: Bytes, host: Bytes, port: u16) -> Result<(), Memory>
         requires fit { IsFit self.old (entry.Admit key (reply.Given (next_session self.old) host port)) }
         requires room { is_crowded self.old ≡ false }
-        ensures ok { OnOk result (self.new ≡ self.old ++ entry.Admit key (reply.Given (next_session self.old) host port) ∷ []) }
+        ensures ok { OnOk result (self.new ≡ self.old
+            ++ entry.Admit key (reply.Given (next_session self.old) host port) ∷ []) }
         ensures lives { OnOk result (Contains (live self.new) (next_session self.old)) }
         ensures unused { OnOk result (IsNew self.old (next_session self.old)) }
         ensures err { OnErr result (self.new ≡ self.old) }
@@ -115,7 +117,9 @@ pub(crate) fn place_at(admissions: &[usize], session: u64) -> usize
 // Takes the session that the entry at a place gave out of those that are live under its key.
 pub(crate) fn end_session(journal: &[Entry], under: &mut LiveSessions, at: usize, session: u64)
     requires { at < length journal.now }
-    ensures { (key : List ℕ) → admitted_key (slice_get journal.now at) ≡ Some key → (other : List ℕ) → sessions_of under.new other ≡ (if bytes_eq key other then filter (λ s. not (session == s)) (sessions_of under.old other) else sessions_of under.old other) }
+    ensures { (key : List ℕ) → admitted_key (slice_get journal.now at) ≡ Some key → (other : List ℕ)
+        → sessions_of under.new other ≡ (if bytes_eq key other
+        then filter (λ s. not (session == s)) (sessions_of under.old other) else sessions_of under.old other) }
 {
     match &journal[at] {
         Entry::Admit { key, .. } => under.remove(key, session),

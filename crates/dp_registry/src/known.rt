@@ -94,7 +94,8 @@ impl Registry {
 
     // What an engine that asks under a key is answered.
     pub(crate) fn admission(&self, key: &Bytes) -> Result<AdmitReply, Memory>
-        ensures { IfOk result (λ reply. admitted reply ≡ admitting (holder self.now key.now) (live_under key.now self.now) (next_session self.now)) }
+        ensures { IfOk result (λ reply. admitted reply ≡ admitting (holder self.now key.now)
+            (live_under key.now self.now) (next_session self.now)) }
     {
         let Some((host, port, multiple)) = self.holder(key) else {
             return Ok(AdmitReply::Unknown);

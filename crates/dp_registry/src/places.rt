@@ -40,7 +40,8 @@ impl Places {
 
     /// Puts a place under a key, in the stead of the one that is there.
     pub fn set(&mut self, key: Bytes, at: usize) -> Result<(), Memory>
-        ensures ok { OnOk result ((other : List ℕ) → place_of self.new other ≡ (if bytes_eq key other then Some at else place_of self.old other)) }
+        ensures ok { OnOk result ((other : List ℕ)
+            → place_of self.new other ≡ (if bytes_eq key other then Some at else place_of self.old other)) }
         ensures err { OnErr result (self.new ≡ self.old) }
     {
         self.places.insert(key, at)?;
@@ -49,7 +50,8 @@ impl Places {
 
     /// Takes the place under a key away.
     pub fn remove(&mut self, key: &Bytes)
-        ensures { (other : List ℕ) → place_of self.new other ≡ (if bytes_eq key.now other then None else place_of self.old other) }
+        ensures { (other : List ℕ)
+            → place_of self.new other ≡ (if bytes_eq key.now other then None else place_of self.old other) }
     {
         let _ = self.places.swap_remove(key);
     }

@@ -32,7 +32,8 @@ impl Model for Registry {
 
     ghost view = { λ r. r.journal.items };
 
-    ghost invariant = { λ r. IsKept r.journal.items r.held r.under r.admissions.items r.living × (vec_len r.journal + r.living ≤ vec_capacity r.journal) };
+    ghost invariant = { λ r. IsKept r.journal.items r.held r.under r.admissions.items r.living
+        × (vec_len r.journal + r.living ≤ vec_capacity r.journal) };
 }
 
 impl Registry {
@@ -41,7 +42,8 @@ impl Registry {
     ghost use Rattle.dp_registry.specs.Journal.{IsNew, live};
     ghost use Rattle.dp_registry.specs.Legal.{IsLegal};
     ghost use Rattle.dp_registry.specs.Names.{IsHost, IsKey};
-    ghost use Rattle.dp_registry.specs.Verdicts.{register_verdict, stop_verdict, admit_verdict, reply_of, admit_reply_of, noted, IsAnswer};
+    ghost use Rattle.dp_registry.specs.Verdicts.{register_verdict, stop_verdict, admit_verdict, reply_of};
+    ghost use Rattle.dp_registry.specs.Verdicts.{admit_reply_of, noted, IsAnswer};
 
     /// The registry before any call. Takes no memory.
     #[tactic(auto, using(crate::proofs::Keeping::kept_new))]
@@ -80,7 +82,8 @@ impl Registry {
         requires host { IsHost host.now }
         requires key { IsKey key.now }
         ensures verdict { IsAnswer (register_verdict self.old host.now port key.now) result }
-        ensures journal { self.new ≡ noted self.old (λ reply. entry.Register host.now port key.now multiple reply) (reply_of result) }
+        ensures journal { self.new ≡ noted self.old (λ reply. entry.Register host.now port key.now multiple reply)
+            (reply_of result) }
     {
         if self.is_full() {
             return Err(self.full());

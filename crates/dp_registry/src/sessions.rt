@@ -1,6 +1,7 @@
 //! The live sessions under each key.
 
-ghost use Rattle.std.specs.Prelude.{◌≡◌, ◌==◌, ◌++◌, ◌∷◌, [], not, filter, if◌then◌else◌, bytes_eq, slice_get, length, IfOk, OnOk, OnErr, List, ℕ};
+ghost use Rattle.std.specs.Prelude.{◌≡◌, ◌==◌, ◌++◌, ◌∷◌, [], not, filter, if◌then◌else◌, bytes_eq, slice_get, length};
+ghost use Rattle.std.specs.Prelude.{IfOk, OnOk, OnErr, List, ℕ};
 ghost use Rattle.dp_registry.specs.inner.Tables.{sessions_of};
 
 use dp_value::{Bytes, Memory};
@@ -90,7 +91,9 @@ impl LiveSessions {
 
     /// Puts a session behind those under its key.
     pub fn add(&mut self, key: Bytes, session: u64) -> Result<(), Memory>
-        ensures ok { OnOk result ((other : List ℕ) → sessions_of self.new other ≡ (if bytes_eq key other then sessions_of self.old other ++ session ∷ [] else sessions_of self.old other)) }
+        ensures ok { OnOk result ((other : List ℕ)
+            → sessions_of self.new other ≡ (if bytes_eq key other then sessions_of self.old other ++ session ∷ []
+            else sessions_of self.old other)) }
         ensures err { OnErr result (self.new ≡ self.old) }
     {
         if let Some(sessions) = self.sessions.get_mut(&key) {
@@ -103,7 +106,9 @@ impl LiveSessions {
 
     /// Takes a session out of those under its key.
     pub fn remove(&mut self, key: &Bytes, session: u64)
-        ensures { (other : List ℕ) → sessions_of self.new other ≡ (if bytes_eq key.now other then filter (λ s. not (session == s)) (sessions_of self.old other) else sessions_of self.old other) }
+        ensures { (other : List ℕ)
+            → sessions_of self.new other ≡ (if bytes_eq key.now other
+            then filter (λ s. not (session == s)) (sessions_of self.old other) else sessions_of self.old other) }
     {
         if self.leave(key, session) {
             let _ = self.sessions.swap_remove(key);
@@ -113,7 +118,9 @@ impl LiveSessions {
     // Takes a session out, and says whether none is left under the key.
     fn leave(&mut self, key: &Bytes, session: u64) -> bool
         ensures none { result ≡ (length (sessions_of self.new key.now) == 0) }
-        ensures left { (other : List ℕ) → sessions_of self.new other ≡ (if bytes_eq key.now other then filter (λ s. not (session == s)) (sessions_of self.old other) else sessions_of self.old other) }
+        ensures left { (other : List ℕ)
+            → sessions_of self.new other ≡ (if bytes_eq key.now other
+            then filter (λ s. not (session == s)) (sessions_of self.old other) else sessions_of self.old other) }
     {
         let Some(sessions) = self.sessions.get_mut(key) else {
             return true;

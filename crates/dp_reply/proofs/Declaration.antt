@@ -30,7 +30,16 @@ up_to : UpTo (codes "?>") (said ++ codes "?>") said
 up_to = record { split = refl; first = free (codes "?>") said refl }
 
 spaced : (White >> UpTo (codes "?>")) (32 ∷ (said ++ codes "?>")) said
-spaced = record { front = 32 ∷ []; back = said ++ codes "?>"; value = 32; split = refl; one = one_byte is_white 32 refl; other = up_to }
+spaced =
+    record {
+      front = 32 ∷ [];
+      back = said
+          ++ codes "?>";
+      value = 32;
+      split = refl;
+      one = one_byte is_white 32 refl;
+      other = up_to;
+    }
 
 declared : Declaration (codes "<?xml" ++ (32 ∷ (said ++ codes "?>"))) said
 declared = before (codes "<?xml") (White >> UpTo (codes "?>")) (32 ∷ (said ++ codes "?>")) said spaced
@@ -43,13 +52,18 @@ before_root = record {
     back = 10 ∷ 60 ∷ [];
     value = false;
     split = refl;
-    one = inr (record { holds = refl; spelled = give Declaration (λ _. false) (codes "<?xml" ++ (32 ∷ (said ++ codes "?>"))) said declared });
+    one = inr (record {
+      holds = refl;
+      spelled = give Declaration (λ _. false)
+          (codes "<?xml" ++ (32 ∷ (said ++ codes "?>"))) said declared;
+    });
     other = record {
       front = 10 ∷ [];
       back = 60 ∷ [];
       value = false;
       split = refl;
-      one = inl (give Misc (λ _. false) (10 ∷ []) tt (inl (give White (λ _. tt) (10 ∷ []) 10 (one_byte is_white 10 refl))));
+      one = inl (give Misc (λ _. false) (10
+          ∷ []) tt (inl (give White (λ _. tt) (10 ∷ []) 10 (one_byte is_white 10 refl))));
       other = mark_of 60;
     };
   };

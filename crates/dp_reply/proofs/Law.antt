@@ -33,13 +33,16 @@ all_own : (attributes : Attributes) → list_all is_own attributes ≡ true → 
 all_own [] own = refl
 all_own (a ∷ attributes) own =
     let parts = and_parts (is_own a) (list_all is_own attributes) own in
-    ap (λ b. cond b (a ∷ filter is_own attributes) (filter is_own attributes)) parts.0 ∙ ap (λ l. a ∷ l) (all_own attributes parts.1)
+    ap (λ b. cond b (a ∷ filter is_own attributes) (filter is_own attributes)) parts.0
+    ∙ ap (λ l. a ∷ l) (all_own attributes parts.1)
 
-response_is : (r : Response) → (list_all is_own r.attributes && is_body r.body) ≡ true → IsReadable limit (response_element r) → response_in (response_element r) ≡ Some (norm_response r)
+response_is : (r : Response) → (list_all is_own r.attributes && is_body r.body) ≡ true
+    → IsReadable limit (response_element r) → response_in (response_element r) ≡ Some (norm_response r)
 unfolding response_in limit
 response_is r sound readable =
     let parts = and_parts (list_all is_own r.attributes) (is_body r.body) sound in
-    let with_body : Attributes → Body → Response = λ own b. record { command = r.command; id = r.id; attributes = own; body = b } in
+    let with_body : Attributes → Body
+    → Response = λ own b. record { command = r.command; id = r.id; attributes = own; body = b } in
     ap (λ found. found >>= λ b. Some (with_body (filter is_own r.attributes) b)) (body_is r.body parts.1 readable.2)
     ∙ ap (λ own. Some (with_body own (norm_body r.body))) (all_own r.attributes parts.0)
 
@@ -49,9 +52,11 @@ stream_is : (bytes : Text) → are_bytes bytes ≡ true → stream_in (stream_el
 unfolding stream_in
 stream_is bytes sound =
     let t = base64 bytes in
-    ap (λ all. alone all (words (text_nodes t)) >>= bytes_in) (elements_text t) ∙ ap bytes_in (words_text t) ∙ bytes_are bytes sound
+    ap (λ all. alone all (words (text_nodes t)) >>= bytes_in) (elements_text t) ∙ ap bytes_in (words_text t)
+    ∙ bytes_are bytes sound
 
-told_is : (told : Option BreakLine) → is_told told ≡ true → (alone (words (told_nodes told)) (elements (told_nodes told)) >>= only >>= told_of) ≡ Some told
+told_is : (told : Option BreakLine) → is_told told ≡ true
+    → (alone (words (told_nodes told)) (elements (told_nodes told)) >>= only >>= told_of) ≡ Some told
 unfolding breakpoint_element
 told_is None sound = refl
 told_is (Some line) sound =
@@ -62,24 +67,30 @@ told_is (Some line) sound =
 
 notify_is : (n : Notify) → is_told n.breakpoint ≡ true → notify_in (notify_element n) ≡ Some n
 unfolding notify_in
-notify_is n sound = ap (λ found. found >>= λ told. Some (record { name = n.name; breakpoint = told })) (told_is n.breakpoint sound)
+notify_is n sound =
+    ap (λ found. found >>= λ told. Some (record { name = n.name; breakpoint = told })) (told_is n.breakpoint sound)
 
 -- ---- a proxy's answers
 
 refusal_element : ℕ → Element
 refusal_element id = element (codes "error") ((codes "id", decimal id) ∷ []) (message_node (reason_of id) ∷ [])
 
-refused_is : (stopping : Bool) (id : ℕ) → nat_le id most_8 ≡ true → refused_in stopping (proxy_element (Refused stopping id)) ≡ Some (Refused stopping id)
+refused_is : (stopping : Bool) (id : ℕ) → nat_le id most_8 ≡ true
+    → refused_in stopping (proxy_element (Refused stopping id)) ≡ Some (Refused stopping id)
 unfolding refused_in refusal_element
 refused_is stopping id sound =
     let nodes = refusal_node id ∷ [] in
-    ap (λ w. alone w (elements nodes) >>= only >>= error_of (codes "id") most_8 >>= λ id. Some (Refused stopping id)) (words_none refusal_element (λ _. refl) (id ∷ []))
-    ∙ ap (λ all. only all >>= error_of (codes "id") most_8 >>= λ id. Some (Refused stopping id)) (elements_all refusal_element (λ _. refl) (id ∷ []))
+    ap (λ w. alone w (elements nodes) >>= only >>= error_of (codes "id") most_8 >>= λ id. Some (Refused stopping id))
+    (words_none refusal_element (λ _. refl) (id ∷ []))
+    ∙ ap (λ all. only all >>= error_of (codes "id") most_8 >>= λ id. Some (Refused stopping id))
+    (elements_all refusal_element (λ _. refl) (id ∷ []))
     ∙ ap (λ n. n >>= λ id. Some (Refused stopping id)) (number_is most_8 id sound (omega arith))
 
-started_is : (key host : Text) (port : ℕ) → nat_le port most_16 ≡ true → started_in (proxy_element (Started key host port)) ≡ Some (Started key host port)
+started_is : (key host : Text) (port : ℕ) → nat_le port most_16 ≡ true
+    → started_in (proxy_element (Started key host port)) ≡ Some (Started key host port)
 unfolding started_in
-started_is key host port sound = ap (λ n. n >>= λ port. Some (Started key host port)) (number_is most_16 port sound (omega arith))
+started_is key host port sound =
+    ap (λ n. n >>= λ port. Some (Started key host port)) (number_is most_16 port sound (omega arith))
 
 -- ---- packets
 
@@ -89,7 +100,8 @@ is_read_as (packet.Init i) sound readable = refl
 is_read_as (packet.Response r) sound readable = ap (option_map packet.Response) (response_is r sound readable)
 is_read_as (packet.Stream bytes) sound readable = ap (option_map packet.Stream) (stream_is bytes sound)
 is_read_as (packet.Notify n) sound readable = ap (option_map packet.Notify) (notify_is n sound)
-is_read_as (packet.Proxy (Started key host port)) sound readable = ap (option_map packet.Proxy) (started_is key host port sound)
+is_read_as (packet.Proxy (Started key host port)) sound readable =
+    ap (option_map packet.Proxy) (started_is key host port sound)
 is_read_as (packet.Proxy (Stopped key)) sound readable = refl
 is_read_as (packet.Proxy (Refused true id)) sound readable = ap (option_map packet.Proxy) (refused_is true id sound)
 is_read_as (packet.Proxy (Refused false id)) sound readable = ap (option_map packet.Proxy) (refused_is false id sound)

@@ -24,7 +24,9 @@ use Rattle.dp_reply.specs.Norm.{are_bytes}
 
 decimal_decimal : (n : ℕ) → n < 2 ^ 64 → is_decimal (decimal n) ≡ true
 decimal_decimal zero small = rw zero_text refl
-decimal_decimal (suc n) small = ap (λ b. bytes_eq (decimal (suc n)) (codes "0") || b) (positive (suc n) (omega arith) small) ∙ or_true (bytes_eq (decimal (suc n)) (codes "0"))
+decimal_decimal (suc n) small =
+    ap (λ b. bytes_eq (decimal (suc n)) (codes "0") || b) (positive (suc n) (omega arith) small)
+    ∙ or_true (bytes_eq (decimal (suc n)) (codes "0"))
 
 pub number_again : (most n : ℕ) → nat_le n most ≡ true → n < 2 ^ 64 → decimal_in most (decimal n) ≡ Some n
 unfolding decimal_in

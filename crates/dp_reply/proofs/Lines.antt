@@ -31,7 +31,8 @@ stack_is s sound =
     let parts = and_parts (nat_le s.level most_32) (nat_le s.line most_32) sound in
     let level = number_is most_32 s.level parts.0 (omega arith) in
     let line = number_is most_32 s.line parts.1 (omega arith) in
-    ap (λ n. n >>= λ level. decimal_in most_32 (decimal s.line) >>= λ line. Some (record { level = level; uri = s.uri; line = line; place = s.place })) level
+    ap (λ n. n >>= λ level. decimal_in most_32 (decimal s.line)
+    >>= λ line. Some (record { level = level; uri = s.uri; line = line; place = s.place })) level
     ∙ ap (λ n. n >>= λ line. Some (record { level = s.level; uri = s.uri; line = line; place = s.place })) line
 
 unfoldable pub context_element : Text × ℕ → Element
@@ -45,15 +46,18 @@ context_is c sound = ap (λ n. n >>= λ id. Some (c.0, id)) (number_is most_32 c
 
 unfoldable pub breakpoint_element : BreakLine → Element
 breakpoint_element b =
-    element (codes "breakpoint") (kind_attributes b ++ place_attributes b ++ hit_attributes b) (expression_nodes b.expression)
+    element (codes "breakpoint") (kind_attributes b ++ place_attributes b ++ hit_attributes b)
+    (expression_nodes b.expression)
 
 -- the attributes of a place, by what they say
 places : Option Text → Option ℕ → Option Text → Attributes
-places uri line function = given (codes "filename") uri ++ given_number (codes "lineno") line ++ given (codes "function") function
+places uri line function =
+    given (codes "filename") uri ++ given_number (codes "lineno") line ++ given (codes "function") function
 
 -- an attribute that says nothing of the place
 beside : (uri : Option Text) (line : Option ℕ) (function : Option Text) (rest : Attributes) (name : Text)
-    → same_text (codes "filename") name ≡ false → same_text (codes "lineno") name ≡ false → same_text (codes "function") name ≡ false
+    → same_text (codes "filename") name ≡ false → same_text (codes "lineno") name ≡ false
+    → same_text (codes "function") name ≡ false
     → value_of (places uri line function ++ rest) name ≡ value_of rest name
 unfolding places
 beside None None None rest name x y z = refl
@@ -69,7 +73,8 @@ abbrev line_text : Option ℕ → Option Text
 line_text None = None
 line_text (Some n) = Some (decimal n)
 
-uri_at : (uri : Option Text) (line : Option ℕ) (function : Option Text) (rest : Attributes) → value_of rest (codes "filename") ≡ None
+uri_at : (uri : Option Text) (line : Option ℕ) (function : Option Text) (rest : Attributes)
+    → value_of rest (codes "filename") ≡ None
     → value_of (places uri line function ++ rest) (codes "filename") ≡ uri
 unfolding places
 uri_at None None None rest none = none
@@ -78,7 +83,8 @@ uri_at None (Some l) None rest none = none
 uri_at None (Some l) (Some f) rest none = none
 uri_at (Some u) line function rest none = refl
 
-line_at : (uri : Option Text) (line : Option ℕ) (function : Option Text) (rest : Attributes) → value_of rest (codes "lineno") ≡ None
+line_at : (uri : Option Text) (line : Option ℕ) (function : Option Text) (rest : Attributes)
+    → value_of rest (codes "lineno") ≡ None
     → value_of (places uri line function ++ rest) (codes "lineno") ≡ line_text line
 unfolding places
 line_at None None None rest none = none
@@ -88,7 +94,8 @@ line_at (Some u) None None rest none = none
 line_at (Some u) None (Some f) rest none = none
 line_at (Some u) (Some l) function rest none = refl
 
-function_at : (uri : Option Text) (line : Option ℕ) (function : Option Text) (rest : Attributes) → value_of rest (codes "function") ≡ None
+function_at : (uri : Option Text) (line : Option ℕ) (function : Option Text) (rest : Attributes)
+    → value_of rest (codes "function") ≡ None
     → value_of (places uri line function ++ rest) (codes "function") ≡ function
 unfolding places
 function_at None None None rest none = none
@@ -109,14 +116,18 @@ expression_element text = element (codes "expression") [] (text_nodes text)
 
 expression_text : (text : Text) → text_in (expression_element text) ≡ Some text
 unfolding expression_element
-expression_text text = ap (λ all. alone all (words (text_nodes text))) (elements_text text) ∙ ap (λ (t : Text). Some t) (words_text text)
+expression_text text =
+    ap (λ all. alone all (words (text_nodes text))) (elements_text text) ∙ ap (λ (t : Text). Some t) (words_text text)
 
-expression_nodes_are : (expression : Option Text) → (alone (words (expression_nodes expression)) (elements (expression_nodes expression)) >>= only >>= expression_of) ≡ Some expression
+expression_nodes_are : (expression : Option Text)
+    → (alone (words (expression_nodes expression)) (elements (expression_nodes expression)) >>= only >>= expression_of)
+    ≡ Some expression
 unfolding expression_element
 expression_nodes_are None = refl
 expression_nodes_are (Some text) =
     let nodes = expression_nodes (Some text) in
-    ap (λ w. alone w (elements nodes) >>= only >>= expression_of) (words_none expression_element (λ _. refl) (text ∷ []))
+    ap (λ w. alone w (elements nodes) >>= only >>= expression_of)
+    (words_none expression_element (λ _. refl) (text ∷ []))
     ∙ ap (λ all. only all >>= expression_of) (elements_all expression_element (λ _. refl) (text ∷ []))
     ∙ ap (λ found. found >>= λ t. Some (Some t)) (expression_text text)
 
@@ -149,14 +160,17 @@ sort_is b sound =
 
 abbrev hits_from : Option ℕ → Option ℕ → Option HitRule → Option Bool → Option Hits
 hits_from hits hit_value hit_rule temporary =
-    hits >>= λ hits. hit_value >>= λ hit_value. hit_rule >>= λ hit_rule. temporary >>= λ temporary. Some (hits, hit_value, hit_rule, temporary)
+    hits >>= λ hits. hit_value >>= λ hit_value. hit_rule >>= λ hit_rule. temporary
+    >>= λ temporary. Some (hits, hit_value, hit_rule, temporary)
 
-behind_place : (b : BreakLine) (name : Text) → same_text (codes "filename") name ≡ false → same_text (codes "lineno") name ≡ false → same_text (codes "function") name ≡ false
+behind_place : (b : BreakLine) (name : Text) → same_text (codes "filename") name ≡ false
+    → same_text (codes "lineno") name ≡ false → same_text (codes "function") name ≡ false
     → value_of (place_attributes b ++ hit_attributes b) name ≡ value_of (hit_attributes b) name
 unfolding places
 behind_place b name x y z = beside b.uri b.line b.function (hit_attributes b) name x y z
 
-hits_are : (b : BreakLine) → SoundLine b → hits_in (breakpoint_element b) ≡ Some (b.hits, b.hit_value, b.hit_rule, b.temporary)
+hits_are : (b : BreakLine) → SoundLine b
+    → hits_in (breakpoint_element b) ≡ Some (b.hits, b.hit_value, b.hit_rule, b.temporary)
 unfolding hits_in breakpoint_element
 hits_are b sound =
     let count = behind_place b (codes "hit_count") refl refl refl in
@@ -167,12 +181,14 @@ hits_are b sound =
     let hit_value = number_is most_32 b.hit_value sound.hit_value (omega arith) in
     let rule = rule_is b.hit_rule in
     let flag = flag_is b.temporary in
-    (λ i. hits_from (count i >>= decimal_in most_64) (value i >>= decimal_in most_32) (condition i >>= rule_in) (temporary i >>= flag_in))
+    (λ i. hits_from (count i >>= decimal_in most_64) (value i >>= decimal_in most_32) (condition i >>= rule_in)
+    (temporary i >>= flag_in))
     ∙ (λ i. hits_from (hits i) (hit_value i) (rule i) (flag i))
 
 abbrev line_from : Element → Option Sort → Option (Option ℕ) → Option Hits → Option (Option Text) → Option BreakLine
 line_from e sort line hits expression =
-    sort >>= λ sort. line >>= λ line. hits >>= λ hits. expression >>= λ expression. Some (break_line e sort line hits expression)
+    sort >>= λ sort. line >>= λ line. hits >>= λ hits. expression
+    >>= λ expression. Some (break_line e sort line hits expression)
 
 at_place : BreakLine → Option Text → Option Text → BreakLine
 at_place b uri function = record {
@@ -194,7 +210,8 @@ unfolding breakpoint_in breakpoint_element places at_place
 breakpoint_is b good =
     let sound = sound_line b good in
     let sort = sort_is b sound in
-    let line = ap (optional_number most_32) (line_at b.uri b.line b.function (hit_attributes b) refl) ∙ line_is b.line sound.line in
+    let line = ap (optional_number most_32) (line_at b.uri b.line b.function (hit_attributes b) refl)
+    ∙ line_is b.line sound.line in
     let hits = hits_are b sound in
     let expression = expression_nodes_are b.expression in
     let uri = uri_at b.uri b.line b.function (hit_attributes b) refl in

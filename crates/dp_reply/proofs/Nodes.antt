@@ -32,16 +32,20 @@ elements_text (b ∷ t) = ap (λ v. elements_of v ++ []) (out_text (b ∷ t))
 module _ {A : Type 0} (f : A → Element) (own : (a : A) → is_foreign (f a).name ≡ false) where
   pub words_none : (all : List A) → words (map (λ a. node.Child (f a)) all) ≡ []
   words_none [] = refl
-  words_none (a ∷ all) = ap (λ v. words_of v ++ words (map (λ a. node.Child (f a)) all)) (out_child (f a)) ∙ words_none all
+  words_none (a ∷ all) =
+      ap (λ v. words_of v ++ words (map (λ a. node.Child (f a)) all)) (out_child (f a)) ∙ words_none all
 
   here : (a : A) → elements_of (out-Node (node.Child (f a))) ≡ f a ∷ []
   here a = ap elements_of (out_child (f a)) ∙ rw (own a) refl
 
   pub elements_all : (all : List A) → elements (map (λ a. node.Child (f a)) all) ≡ map f all
   elements_all [] = refl
-  elements_all (a ∷ all) = ap (λ first. first ++ elements (map (λ a. node.Child (f a)) all)) (here a) ∙ ap (λ rest. f a ∷ rest) (elements_all all)
+  elements_all (a ∷ all) =
+      ap (λ first. first ++ elements (map (λ a. node.Child (f a)) all)) (here a)
+      ∙ ap (λ rest. f a ∷ rest) (elements_all all)
 
-pub each_is : {A : Type 0} (read : Element → Option A) (f : A → Element) (all : List A) → AllByRecursion (λ a. read (f a) ≡ Some a) all → each read (map f all) ≡ Some all
+pub each_is : {A : Type 0} (read : Element → Option A) (f : A → Element) (all : List A)
+    → AllByRecursion (λ a. read (f a) ≡ Some a) all → each read (map f all) ≡ Some all
 each_is read f [] is = refl
 each_is read f (a ∷ all) is =
     ap (λ first. first >>= λ b. each read (map f all) >>= λ rest. Some (b ∷ rest)) is.0

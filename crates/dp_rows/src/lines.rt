@@ -16,8 +16,9 @@ pub(crate) fn is_content(line: &[u8]) -> bool {
     }
 }
 
-// Puts what a line of a content stands for: by its first byte, `|` and `>`, the rest of the line and a line feed, or a NUL;
-// `\`, the rest of the line, in which escapes stand; a digit, a packet, which has its length and its element there.
+// Puts what a line of a content stands for: by its first byte, `|` and `>`, the rest of the line and a line feed, or a
+// NUL; `\`, the rest of the line, in which escapes stand; a digit, a packet, which has its length and its element
+// there.
 fn put_line(bytes: &mut Vec<u8>, line: &[u8]) -> Result<(), Memory> {
     match line.split_first() {
         Some((b'|', rest)) => {

@@ -1,5 +1,5 @@
-//! The rows of calls of packets, markup, command lines, frames and features: makes each call, and prints for each file of
-//! rows how many there are and each that differs.
+//! The rows of calls of packets, markup, command lines, frames and features: makes each call, and prints for each file
+//! of rows how many there are and each that differs.
 #![tactic(auto)]
 
 mod calls;

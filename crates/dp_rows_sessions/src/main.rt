@@ -1,5 +1,5 @@
-//! The rows of sessions without an engine: where breakpoints stop, and what is shown of the states of programs. Prints for
-//! each file of rows how many there are and each that differs.
+//! The rows of sessions without an engine: where breakpoints stop, and what is shown of the states of programs. Prints
+//! for each file of rows how many there are and each that differs.
 #![tactic(auto)]
 
 mod answers;

@@ -1,10 +1,11 @@
-//! A session without an engine: moments of a program, breakpoints that are passed there, and what is shown of its states.
+//! A session without an engine: moments of a program, breakpoints that are passed there, and what is shown of its
+//! states.
 //!
-//! The fields of a row are done in their order: `at N` goes to the moment of this number, `line N` to the first moment on
-//! this line, `pass` goes from the first moment to the end and tells where a breakpoint stops, `moments` tells each moment,
-//! `limits CHILDREN BYTES DEPTH` says how much is shown, `ask COMMAND` gives the packet that answers a command, and
-//! `fill N COMMAND` asks it so many times and tells nothing. `evaluate N EXPRESSION` has each run after it evaluate an
-//! expression at the moment of this number, and `place N NAME EXPRESSION` has it give the place of a name a value.
+//! The fields of a row are done in their order: `at N` goes to the moment of this number, `line N` to the first moment
+//! on this line, `pass` goes from the first moment to the end and tells where a breakpoint stops, `moments` tells each
+//! moment, `limits CHILDREN BYTES DEPTH` says how much is shown, `ask COMMAND` gives the packet that answers a command,
+//! and `fill N COMMAND` asks it so many times and tells nothing. `evaluate N EXPRESSION` has each run after it evaluate
+//! an expression at the moment of this number, and `place N NAME EXPRESSION` has it give the place of a name a value.
 
 use crate::answers::{packet_for, put_packet};
 use crate::moments::{put_end, put_moment};

@@ -1,5 +1,5 @@
-//! The rows of the top call: makes each call over objects in memory, and prints for each file of rows how many there are
-//! and each that differs.
+//! The rows of the top call: makes each call over objects in memory, and prints for each file of rows how many there
+//! are and each that differs.
 #![tactic(auto)]
 
 mod calls;

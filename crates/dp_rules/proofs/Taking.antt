@@ -6,6 +6,7 @@ use Rattle.dp_rules.specs.Terminals.{head}
 use Rattle.dp_rules.specs.inner.Input.{one, taken}
 use Rattle.dp_rules.specs.TokenValues.{by_terminal}
 
-pub sort_taken : {A : Type 0} (worth : Terminal → Option A) (ts : List Token) → one (by_terminal worth) ts ≡ taken (worth (head ts)) ts
+pub sort_taken : {A : Type 0} (worth : Terminal → Option A) (ts : List Token)
+    → one (by_terminal worth) ts ≡ taken (worth (head ts)) ts
 sort_taken worth [] = refl
 sort_taken worth (t ∷ ts) = refl

@@ -17,7 +17,8 @@ contrary true b to none = let is : b ≡ true = to refl in absurd (cc)
 contrary false b to none = refl
 
 -- tests that rule each other out
-pub flip : (s t : Terminal → Bool) → ((x : Terminal) → s x ≡ true → t x ≡ false) → (x : Terminal) → t x ≡ true → s x ≡ false
+pub flip : (s t : Terminal → Bool) → ((x : Terminal) → s x ≡ true → t x ≡ false) → (x : Terminal) → t x ≡ true
+    → s x ≡ false
 flip s t apart x passes = go (s x) refl
   where
     go : (v : Bool) → s x ≡ v → s x ≡ false
@@ -25,17 +26,32 @@ flip s t apart x passes = go (s x) refl
     go false is = is
 
 -- what each of two tests rules out, both do
-pub apart_or : (s t u : Terminal → Bool) → ((x : Terminal) → s x ≡ true → u x ≡ false) → ((x : Terminal) → t x ≡ true → u x ≡ false) → (x : Terminal) → (s x || t x) ≡ true → u x ≡ false
+pub apart_or : (s t u : Terminal → Bool) → ((x : Terminal) → s x ≡ true → u x ≡ false)
+    → ((x : Terminal) → t x ≡ true → u x ≡ false) → (x : Terminal) → (s x || t x) ≡ true → u x ≡ false
 apart_or s t u one other x is = elim (or_cases (s x) (t x) is) [ inl h ↦ one x h | inr h ↦ other x h ]
 
 -- two tests that pass only what a third passes
-pub within_or : (s t u : Terminal → Bool) → ((x : Terminal) → s x ≡ true → u x ≡ true) → ((x : Terminal) → t x ≡ true → u x ≡ true) → (x : Terminal) → (s x || t x) ≡ true → u x ≡ true
+pub within_or : (s t u : Terminal → Bool) → ((x : Terminal) → s x ≡ true → u x ≡ true)
+    → ((x : Terminal) → t x ≡ true → u x ≡ true) → (x : Terminal) → (s x || t x) ≡ true → u x ≡ true
 within_or s t u one other x is = elim (or_cases (s x) (t x) is) [ inl h ↦ one x h | inr h ↦ other x h ]
 
 -- ---- sorts, by their numbers
 
 abbrev pub all_terminals : List Terminal
-all_terminals = terminal.End ∷ terminal.Variable ∷ terminal.Superglobal ∷ terminal.Name ∷ terminal.Reserved ∷ terminal.Number ∷ terminal.Text ∷ terminal.Array ∷ terminal.As ∷ terminal.Break ∷ terminal.Continue ∷ terminal.Die ∷ terminal.Do ∷ terminal.Echo ∷ terminal.Else ∷ terminal.ElseIf ∷ terminal.Exit ∷ terminal.False ∷ terminal.For ∷ terminal.Foreach ∷ terminal.Function ∷ terminal.Global ∷ terminal.If ∷ terminal.Include ∷ terminal.Isset ∷ terminal.Null ∷ terminal.Require ∷ terminal.Return ∷ terminal.True ∷ terminal.Unset ∷ terminal.While ∷ terminal.Identical ∷ terminal.NotIdentical ∷ terminal.Spaceship ∷ terminal.CoalesceAssign ∷ terminal.Equal ∷ terminal.NotEqual ∷ terminal.LessOrEqual ∷ terminal.GreaterOrEqual ∷ terminal.BothOf ∷ terminal.EitherOf ∷ terminal.Coalesce ∷ terminal.Increment ∷ terminal.Decrement ∷ terminal.AddAssign ∷ terminal.SubtractAssign ∷ terminal.MultiplyAssign ∷ terminal.ConcatAssign ∷ terminal.RemainderAssign ∷ terminal.Arrow ∷ terminal.Assign ∷ terminal.Less ∷ terminal.Greater ∷ terminal.Plus ∷ terminal.Minus ∷ terminal.Star ∷ terminal.Percent ∷ terminal.Dot ∷ terminal.Bang ∷ terminal.Question ∷ terminal.Colon ∷ terminal.Comma ∷ terminal.Semicolon ∷ terminal.OpenParenthesis ∷ terminal.CloseParenthesis ∷ terminal.OpenBracket ∷ terminal.CloseBracket ∷ terminal.OpenBrace ∷ terminal.CloseBrace ∷ []
+all_terminals =
+    terminal.End ∷ terminal.Variable ∷ terminal.Superglobal ∷ terminal.Name ∷ terminal.Reserved ∷ terminal.Number
+    ∷ terminal.Text ∷ terminal.Array ∷ terminal.As ∷ terminal.Break ∷ terminal.Continue ∷ terminal.Die ∷ terminal.Do
+    ∷ terminal.Echo ∷ terminal.Else ∷ terminal.ElseIf ∷ terminal.Exit ∷ terminal.False ∷ terminal.For ∷ terminal.Foreach
+    ∷ terminal.Function ∷ terminal.Global ∷ terminal.If ∷ terminal.Include ∷ terminal.Isset ∷ terminal.Null
+    ∷ terminal.Require ∷ terminal.Return ∷ terminal.True ∷ terminal.Unset ∷ terminal.While ∷ terminal.Identical
+    ∷ terminal.NotIdentical ∷ terminal.Spaceship ∷ terminal.CoalesceAssign ∷ terminal.Equal ∷ terminal.NotEqual
+    ∷ terminal.LessOrEqual ∷ terminal.GreaterOrEqual ∷ terminal.BothOf ∷ terminal.EitherOf ∷ terminal.Coalesce
+    ∷ terminal.Increment ∷ terminal.Decrement ∷ terminal.AddAssign ∷ terminal.SubtractAssign ∷ terminal.MultiplyAssign
+    ∷ terminal.ConcatAssign ∷ terminal.RemainderAssign ∷ terminal.Arrow ∷ terminal.Assign ∷ terminal.Less
+    ∷ terminal.Greater ∷ terminal.Plus ∷ terminal.Minus ∷ terminal.Star ∷ terminal.Percent ∷ terminal.Dot
+    ∷ terminal.Bang ∷ terminal.Question ∷ terminal.Colon ∷ terminal.Comma ∷ terminal.Semicolon
+    ∷ terminal.OpenParenthesis ∷ terminal.CloseParenthesis ∷ terminal.OpenBracket ∷ terminal.CloseBracket
+    ∷ terminal.OpenBrace ∷ terminal.CloseBrace ∷ []
 
 abbrev terminal_at : ℕ → Terminal
 terminal_at n = get_or all_terminals n terminal.End
@@ -141,22 +157,28 @@ other_sort c d s apart e = mark_fails (λ x. same_terminal x d) c apart s e
 
 -- ---- tests of sorts, decided by trying each sort
 
-all_get : (t : Terminal → Bool) (l : List Terminal) (n : ℕ) (d : Terminal) → list_all t l ≡ true → t d ≡ true → t (get_or l n d) ≡ true
+all_get : (t : Terminal → Bool) (l : List Terminal) (n : ℕ) (d : Terminal) → list_all t l ≡ true → t d ≡ true
+    → t (get_or l n d) ≡ true
 all_get t [] n d all default = default
 all_get t (x ∷ l) zero d all default = (and_parts (t x) (list_all t l) all).0
 all_get t (x ∷ l) (suc n) d all default = all_get t l n d (and_parts (t x) (list_all t l) all).1 default
 
 -- what each sort passes, any sort passes
 pub each_terminal : (t : Terminal → Bool) → list_all t all_terminals ≡ true → (s : Terminal) → t s ≡ true
-each_terminal t all s = ap t (sym (at_number s)) ∙ all_get t all_terminals (number_of s) terminal.End all (and_parts (t terminal.End) _ all).0
+each_terminal t all s =
+    ap t (sym (at_number s))
+    ∙ all_get t all_terminals (number_of s) terminal.End all (and_parts (t terminal.End) _ all).0
 
 -- a test that no sort passes without the other
-pub implied : (t u : Terminal → Bool) → list_all (λ s. not (t s) || u s) all_terminals ≡ true → (s : Terminal) → t s ≡ true → u s ≡ true
+pub implied : (t u : Terminal → Bool) → list_all (λ s. not (t s) || u s) all_terminals ≡ true → (s : Terminal)
+    → t s ≡ true → u s ≡ true
 implied t u all s is = ap (λ b. not b || u s) (sym is) ∙ each_terminal (λ s. not (t s) || u s) all s
 
 -- tests that no sort passes both
-pub excluded : (t u : Terminal → Bool) → list_all (λ s. not (t s) || not (u s)) all_terminals ≡ true → (s : Terminal) → t s ≡ true → u s ≡ false
-excluded t u all s is = go (u s) (ap (λ b. not b || not (u s)) (sym is) ∙ each_terminal (λ s. not (t s) || not (u s)) all s)
+pub excluded : (t u : Terminal → Bool) → list_all (λ s. not (t s) || not (u s)) all_terminals ≡ true → (s : Terminal)
+    → t s ≡ true → u s ≡ false
+excluded t u all s is =
+    go (u s) (ap (λ b. not b || not (u s)) (sym is) ∙ each_terminal (λ s. not (t s) || not (u s)) all s)
   where
     go : (b : Bool) → not b ≡ true → b ≡ false
     go true e = absurd (cc)
@@ -171,10 +193,12 @@ placed k = record { kind = k; start = 0; end = 0; line = 1 }
 pub line_is : (s : Terminal) (t : Token) → same_terminal (terminal_of t.kind) s ≡ true → line_at s t ≡ Some t.line
 line_is s t e = ap (λ b. cond b (Some t.line) None) e
 
-pub line_back : (s : Terminal) (t : Token) (a : ℕ) → line_at s t ≡ Some a → (same_terminal (terminal_of t.kind) s ≡ true) × (a ≡ t.line)
+pub line_back : (s : Terminal) (t : Token) (a : ℕ) → line_at s t ≡ Some a
+    → (same_terminal (terminal_of t.kind) s ≡ true) × (a ≡ t.line)
 line_back s t a = go (same_terminal (terminal_of t.kind) s) refl
   where
-    go : (b : Bool) → same_terminal (terminal_of t.kind) s ≡ b → cond b (Some t.line) None ≡ Some a → (same_terminal (terminal_of t.kind) s ≡ true) × (a ≡ t.line)
+    go : (b : Bool) → same_terminal (terminal_of t.kind) s ≡ b → cond b (Some t.line) None ≡ Some a
+        → (same_terminal (terminal_of t.kind) s ≡ true) × (a ≡ t.line)
     go true is e = (is, cc)
     go false is e = absurd (cc)
 
@@ -185,15 +209,19 @@ pub mark_alone : (s : Terminal) (k : TokenKind) → same_terminal (terminal_of k
 mark_alone s k e = mark_of s (placed k) e
 
 -- the one token of a mark
-pub mark_token : (s : Terminal) (text : List Token) (a : ℕ) → Mark s text a → (t : Token) × (text ≡ t ∷ []) × (same_terminal (terminal_of t.kind) s ≡ true) × (a ≡ t.line)
+pub mark_token : (s : Terminal) (text : List Token) (a : ℕ) → Mark s text a
+    → (t : Token) × (text ≡ t ∷ []) × (same_terminal (terminal_of t.kind) s ≡ true) × (a ≡ t.line)
 mark_token s text a one = let b = line_back s one.symbol a one.is_worth in (one.symbol, one.alone, b.0, b.1)
 
 -- the first token, where one of this sort comes next
-pub first_of_sort : (s : Terminal) (ts : List Token) → same_terminal terminal.End s ≡ false → same_terminal (head ts) s ≡ true → (x : Token) × (rest : List Token) × (ts ≡ x ∷ rest) × (same_terminal (terminal_of x.kind) s ≡ true)
+pub first_of_sort : (s : Terminal) (ts : List Token) → same_terminal terminal.End s ≡ false
+    → same_terminal (head ts) s ≡ true
+    → (x : Token) × (rest : List Token) × (ts ≡ x ∷ rest) × (same_terminal (terminal_of x.kind) s ≡ true)
 first_of_sort s [] none e = absurd (cc)
 first_of_sort s (x ∷ rest) none e = (x, rest, refl, e)
 
 -- the first token, where the next passes a test that the end does not pass
-pub first_of : (t : Terminal → Bool) (ts : List Token) → t terminal.End ≡ false → t (head ts) ≡ true → (x : Token) × (rest : List Token) × (ts ≡ x ∷ rest) × (t (terminal_of x.kind) ≡ true)
+pub first_of : (t : Terminal → Bool) (ts : List Token) → t terminal.End ≡ false → t (head ts) ≡ true
+    → (x : Token) × (rest : List Token) × (ts ≡ x ∷ rest) × (t (terminal_of x.kind) ≡ true)
 first_of t [] none e = absurd (cc)
 first_of t (x ∷ rest) none e = (x, rest, refl, e)

@@ -15,8 +15,8 @@ use dp_value::Bytes;
 use std::alloc::Global;
 use std::marker::Model;
 
-/// The tokens that are still to be read. A call that reads takes its tokens off the front. Where it refuses, what is left
-/// is open, so a reader whose call was refused refuses too. A token is sorted once, when it comes next.
+/// The tokens that are still to be read. A call that reads takes its tokens off the front. Where it refuses, what is
+/// left is open, so a reader whose call was refused refuses too. A token is sorted once, when it comes next.
 #[derive(Drop)]
 pub struct Tokens<'a> {
     rest: &'a [Token],

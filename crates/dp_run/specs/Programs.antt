@@ -91,9 +91,8 @@ refusal (unmade.Source file why) = Source file why
 refusal (unmade.TooLong file) = TooLong file
 refusal unmade.Memory = Memory
 
--- Where the files make a program, none is reported as bad; where they make a refusal, that is reported,
--- unless the shelf or
--- memory failed.
+-- Where the files make a program, none is reported as bad; where they make a refusal, that is
+-- reported, unless the shelf or memory failed.
 abbrev pub IsHeld : {A : Type 0} → Result Bundle BundleError → Result A ProgramError → ℕ → ℕ
     → Type 0
 IsHeld (Ok program) result before after = IfErr result (λ why. is_bad_file why ≡ false)

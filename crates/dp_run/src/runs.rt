@@ -14,8 +14,8 @@ use crate::programs::fetch_program;
 use dp_outside::{Shelf, Sink};
 use std::alloc::Global;
 
-/// Runs the program of the files of these names, of which the first is the main one, to its end, and puts what it wrote.
-/// It has at most `bound` moments. Answers the status with which the program ends: 0, or that of its exit.
+/// Runs the program of the files of these names, of which the first is the main one, to its end, and puts what it
+/// wrote. It has at most `bound` moments. Answers the status with which the program ends: 0, or that of its exit.
 ///
 /// The files are fetched first, in order, each once; then they are read. Nothing is put before the end.
 pub fn run<H: Shelf, K: Sink>(

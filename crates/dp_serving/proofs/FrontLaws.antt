@@ -22,14 +22,16 @@ pub front_all : (a b : Option (List ℕ)) (bytes : List ℕ) → Appends a b byt
 front_all a b bytes p = subst (AppendsFront a b) (append-nil bytes) (front_before a b bytes [] p)
 
 -- a front of these bytes is one of more
-pub front_of_more : (a b : Option (List ℕ)) (bytes more : List ℕ) → AppendsFront a b bytes → AppendsFront a b (bytes ++ more)
+pub front_of_more : (a b : Option (List ℕ)) (bytes more : List ℕ) → AppendsFront a b bytes
+    → AppendsFront a b (bytes ++ more)
 front_of_more a b bytes more p =
     let split : bytes ++ more ≡ take p.0 bytes ++ (drop p.0 bytes ++ more) =
     ap (λ l. l ++ more) (sym (take-append-drop p.0 bytes)) ∙ append_assoc (take p.0 bytes) (drop p.0 bytes) more in
     subst (AppendsFront a b) (sym split) (front_before a b (take p.0 bytes) (drop p.0 bytes ++ more) p.1)
 
 -- all of these bytes, and then a front of more
-pub front_after : (a b c : Option (List ℕ)) (bytes more : List ℕ) → Appends a b bytes → AppendsFront b c more → AppendsFront a c (bytes ++ more)
+pub front_after : (a b c : Option (List ℕ)) (bytes more : List ℕ) → Appends a b bytes → AppendsFront b c more
+    → AppendsFront a c (bytes ++ more)
 front_after a b c bytes more p q =
     let split : bytes ++ more ≡ (bytes ++ take q.0 more) ++ drop q.0 more =
     ap (λ l. bytes ++ l) (sym (take-append-drop q.0 more)) ∙ sym (append_assoc bytes (take q.0 more) (drop q.0 more)) in
@@ -37,7 +39,8 @@ front_after a b c bytes more p q =
     (front_before a c (bytes ++ take q.0 more) (drop q.0 more) (Appends-trans a b c bytes (take q.0 more) p q.1))
 
 -- what the first items lead to, and then a front of what the next one leads to
-pub front_of_next : {X : Type 0} (f : X → List ℕ) (a b c : Option (List ℕ)) (items : List X) (i : ℕ) (item : X) → i < length items → item ≡ get_or items i item
+pub front_of_next : {X : Type 0} (f : X → List ℕ) (a b c : Option (List ℕ)) (items : List X) (i : ℕ) (item : X)
+    → i < length items → item ≡ get_or items i item
     → Appends a b (flat_map f (take i items)) → AppendsFront b c (f item) → AppendsFront a c (flat_map f items)
 front_of_next f a b c items i item within is p q =
     let first = flat_map f (take i items) in
@@ -47,17 +50,21 @@ front_of_next f a b c items i item within is p q =
     let split : flat_map f items ≡ (first ++ f item) ++ flat_map f (drop (i + 1) items) =
     ap (flat_map f) (sym (take-append-drop (i + 1) items)) ∙ flat_map-append f (take (i + 1) items) (drop (i + 1) items)
     ∙ ap (λ l. l ++ flat_map f (drop (i + 1) items)) next in
-    subst (AppendsFront a c) (sym split) (front_of_more a c (first ++ f item) (flat_map f (drop (i + 1) items)) (front_after a b c first (f item) p q))
+    subst (AppendsFront a c) (sym split) (front_of_more a c (first ++ f item) (flat_map f (drop (i + 1) items))
+    (front_after a b c first (f item) p q))
 
 -- a put that failed, and one that did not
-pub put_failed : {T E : Type 0} (result : Result T E) (a b : Option (List ℕ)) (bytes : List ℕ) → is_err result ≡ true → PutAppends a b result bytes → AppendsFront a b bytes
+pub put_failed : {T E : Type 0} (result : Result T E) (a b : Option (List ℕ)) (bytes : List ℕ) → is_err result ≡ true
+    → PutAppends a b result bytes → AppendsFront a b bytes
 put_failed (Ok x) a b bytes e p = absurd (cc)
 put_failed (Err x) a b bytes e p = p
 
-pub failed_rose : {T E : Type 0} (result : Result T E) (before now : ℕ) → is_err result ≡ true → HasCause before now result → Rose before now
+pub failed_rose : {T E : Type 0} (result : Result T E) (before now : ℕ) → is_err result ≡ true
+    → HasCause before now result → Rose before now
 failed_rose (Ok x) before now e h = absurd (cc)
 failed_rose (Err x) before now e h = h.failed
 
-pub put_whole : {T E : Type 0} (result : Result T E) (a b : Option (List ℕ)) (bytes : List ℕ) → is_err result ≡ false → PutAppends a b result bytes → Appends a b bytes
+pub put_whole : {T E : Type 0} (result : Result T E) (a b : Option (List ℕ)) (bytes : List ℕ) → is_err result ≡ false
+    → PutAppends a b result bytes → Appends a b bytes
 put_whole (Ok x) a b bytes e p = p
 put_whole (Err x) a b bytes e p = absurd (cc)

@@ -44,7 +44,8 @@ impl<A: Responder> Conversation<A> {
         self.held.feed(piece)
     }
 
-    /// Answers the first whole command that is held, if there is one. A caller stops once an answer has ended the session.
+    /// Answers the first whole command that is held, if there is one. A caller stops once an answer has ended the
+    /// session.
     ///
     /// Once memory ran out the session has failed for good.
     pub fn next(&mut self, alloc: Global) -> Result<Next<A::End>, Memory>

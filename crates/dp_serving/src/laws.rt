@@ -11,8 +11,8 @@ pub fn one_session_grows<A: Responder>(session: &A)
         → GoesOn (served A.step session.now bytes) (served A.step session.now (bytes ++ more)) }
 {}
 
-/// What some bytes lead to goes on with more of them from the state that the session is in then, over the bytes that were
-/// left and the ones that come: so a session may be fed piece by piece.
+/// What some bytes lead to goes on with more of them from the state that the session is in then, over the bytes that
+/// were left and the ones that come: so a session may be fed piece by piece.
 pub fn feeding_goes_on<A: Responder>(session: &A)
     ensures { (bytes more : List ℕ) → FeedingGoesOn A.step session.now bytes more }
 {}

@@ -5,7 +5,8 @@ ghost use Rattle.dp_outside.specs.Streams.{PutAppends};
 ghost use Rattle.std.specs.Io.KnownBytes.{Consumes};
 ghost use Rattle.std.specs.List.{AllByRecursion};
 ghost use Rattle.dp_wire.specs.Frames.{IsPacketText, commands_in, packet_frame};
-ghost use Rattle.dp_serving.specs.inner.Exchanges.{AnswersHeld, CutsAnswer, CutsShort, DeliversAnswer, OpenFault, ReadsPiece};
+ghost use Rattle.dp_serving.specs.inner.Exchanges.{AnswersHeld, CutsAnswer, CutsShort, DeliversAnswer, OpenFault};
+ghost use Rattle.dp_serving.specs.inner.Exchanges.{ReadsPiece};
 ghost use Rattle.dp_serving.specs.Serving.{IsServed, IsCut};
 
 use crate::conversation::{Conversation, Next};
@@ -60,7 +61,7 @@ impl<E: Drop> From<AllocError> for Fault<E> {
 
 // Why no further command is answered.
 #[derive(Debug, Drop)]
-enum Held<E> {
+enum Pause<E> {
     /// A command ended the session.
     Ended(E),
     /// More of a command has to come.
@@ -117,7 +118,7 @@ fn answer_held<A: Responder, K: Sink, E: Sink>(
     talk: &mut Conversation<A>,
     sink: &mut K,
     out: &mut E,
-) -> Result<Held<A::End>, Fault<A::End>>
+) -> Result<Pause<A::End>, Fault<A::End>>
     ensures ok { IfOk result (λ held. AnswersHeld A.step talk.old.session talk.new.session
         talk.old.held.held talk.new.held.held held
         (change K.taken K.faults sink.old sink.new) (change E.taken E.faults out.old out.new)) }
@@ -130,11 +131,11 @@ fn answer_held<A: Responder, K: Sink, E: Sink>(
     'commands: loop {
         let answer = match talk.next(alloc)? {
             Next::Answered(answer) => answer,
-            Next::Partial => return Ok(Held::Partial),
-            Next::TooLong => return Ok(Held::TooLong),
+            Next::Partial => return Ok(Pause::Partial),
+            Next::TooLong => return Ok(Pause::TooLong),
         };
         if let Some(end) = deliver(alloc, answer, sink, out)? {
-            return Ok(Held::Ended(end));
+            return Ok(Pause::Ended(end));
         }
     }
 }
@@ -209,20 +210,20 @@ fn exchange<A: Responder, S: Source, K: Sink, E: Sink>(
         };
         count += more;
         match answer_held(alloc, talk, sink, out)? {
-            Held::Ended(end) => return Ok(Over::Ended(end)),
-            Held::TooLong => {
+            Pause::Ended(end) => return Ok(Over::Ended(end)),
+            Pause::TooLong => {
                 let offset = (count - talk.held.bytes().len()) as u64;
                 return Ok(Over::BadCommandFrame { offset });
             }
-            Held::Partial => {}
+            Pause::Partial => {}
         }
     }
     Ok(Over::ByteLimit)
 }
 
 /// Sends the first packet of a session and answers each command that comes, until the session is over or a fault of a
-/// sink cuts it short. It waits in the calls of the link alone. The session is handed back with how it ended; nothing is
-/// read behind the piece in which a command ended it, and once memory ran out it has failed for good.
+/// sink cuts it short. It waits in the calls of the link alone. The session is handed back with how it ended; nothing
+/// is read behind the piece in which a command ended it, and once memory ran out it has failed for good.
 pub fn converse<A: Responder + Drop, S: Source, K: Sink, E: Sink>(
     alloc: Global,
     session: A,

@@ -60,23 +60,29 @@ output-own at variables s = either-state _ _ _ s.output refl refl
 output-value : (level : ℕ) (name : List ℕ) (v : Value) (s : State) → (with_value level name v s).output ≡ s.output
 output-value level name v s = either-state _ _ _ s.output refl (output-own (owner_at s level) _ s)
 
-output-then : (r : Result Data WriteError) (f : Data → State) (o : List ℕ) (t : State) → ((d : Data) → (f d).output ≡ o) → then_state r f ≡ Ok t → t.output ≡ o
+output-then : (r : Result Data WriteError) (f : Data → State) (o : List ℕ) (t : State) → ((d : Data) → (f d).output ≡ o)
+    → then_state r f ≡ Ok t → t.output ≡ o
 output-then (Ok d) f o t h e = let same : f d ≡ t = cc in ap (λ (u : State). u.output) (sym same) ∙ h d
 output-then (Err w) f o t h e = absurd (cc)
 
-output-assigned : (level : ℕ) (name : List ℕ) (keys : List (Option Key)) (push : Bool) (v : Value) (s t : State) → assigned level name keys push v s ≡ Ok t → t.output ≡ s.output
+output-assigned : (level : ℕ) (name : List ℕ) (keys : List (Option Key)) (push : Bool) (v : Value) (s t : State)
+    → assigned level name keys push v s ≡ Ok t → t.output ≡ s.output
 output-assigned level name keys push v s t e =
-    output-then (write_result keys push (data_of v) (data_of (unwrap_or (read_at s level name) Null))) _ s.output t (λ d. output-value level name (value_of d) s) e
+    output-then (write_result keys push (data_of v) (data_of (unwrap_or (read_at s level name) Null))) _ s.output t
+    (λ d. output-value level name (value_of d) s) e
 
 output-without : (o : Option Value) (name : List ℕ) (keys : List (Option Key)) (s t : State)
-    → option_map_or (λ value. then_state (removed keys (data_of value)) (λ d. with_value 0 name (value_of d) s)) o (Ok s) ≡ Ok t → t.output ≡ s.output
+    → option_map_or (λ value. then_state (removed keys (data_of value)) (λ d. with_value 0 name (value_of d) s)) o
+    (Ok s) ≡ Ok t → t.output ≡ s.output
 output-without None name keys s t e = let same : s ≡ t = cc in ap (λ (u : State). u.output) (sym same)
-output-without (Some v) name keys s t e = output-then (removed keys (data_of v)) _ s.output t (λ d. output-value 0 name (value_of d) s) e
+output-without (Some v) name keys s t e =
+    output-then (removed keys (data_of v)) _ s.output t (λ d. output-value 0 name (value_of d) s) e
 
 output-unset : (name : List ℕ) (keys : List (Option Key)) (s t : State) → unset name keys s ≡ Ok t → t.output ≡ s.output
 output-unset name [] s t e =
     let less : Variables = without (variables_at s 0) name in
-    let same : with_variables 0 less s ≡ t = cc in ap (λ (u : State). u.output) (sym same) ∙ output-own (owner_at s 0) less s
+    let same : with_variables 0 less s ≡ t = cc in ap (λ (u : State). u.output) (sym same)
+    ∙ output-own (owner_at s 0) less s
 output-unset name (key ∷ keys) s t e = output-without (read_at s 0 name) name (key ∷ keys) s t e
 
 output-global : (name : List ℕ) (s : State) → (with_global name s).output ≡ s.output
@@ -91,7 +97,8 @@ output-printed piece s t e = ap (λ (u : State). u.output) (sym (either-ok _ _ _
 output-entered : (frame : Frame) (s t : State) → entered frame s ≡ Ok t → t.output ≡ s.output
 output-entered frame s t e = ap (λ (u : State). u.output) (sym (either-ok _ _ _ _ e))
 
-output-called : (file : ℕ) (f : Function) (values : List Value) (s t : State) → called file f values s ≡ Ok t → t.output ≡ s.output
+output-called : (file : ℕ) (f : Function) (values : List Value) (s t : State) → called file f values s ≡ Ok t
+    → t.output ≡ s.output
 output-called file f values s t e = go (nat_le (length f.parameters) (length values)) e
   where
     go : (b : Bool) → (if b then entered (called_frame file f values) s else Err Arguments) ≡ Ok t → t.output ≡ s.output
@@ -99,12 +106,14 @@ output-called file f values s t e = go (nat_le (length f.parameters) (length val
     go false e = absurd (cc)
 
 output-included : (bundle : Bundle) (file : ℕ) (s t : State) → included bundle file s ≡ Ok t → t.output ≡ s.output
-output-included bundle file s t e = go (nat_le (length s.frames + 1) frame_limit) (any_declared bundle s.declared (functions_of bundle file)) e
+output-included bundle file s t e =
+    go (nat_le (length s.frames + 1) frame_limit) (any_declared bundle s.declared (functions_of bundle file)) e
   where
     more : State
     more = record s { declared = s.declared ++ functions_of bundle file }
 
-    go : (b c : Bool) → (if b then (if c then Err Redeclared else entered (included_frame file) more) else Err TooDeep) ≡ Ok t → t.output ≡ s.output
+    go : (b c : Bool) → (if b then (if c then Err Redeclared else entered (included_frame file) more) else Err TooDeep)
+        ≡ Ok t → t.output ≡ s.output
     go true true e = absurd (cc)
     go true false e = output-entered (included_frame file) more t e
     go false c e = absurd (cc)
@@ -142,25 +151,33 @@ module _ (o : List ℕ) where
     leaves = λ d n s p. p;
   }
 
-  alone_says : {A : Type 0} (bound : ℕ) (r : Run A) (n : ℕ) → Always Said tt n r → (end : A × State) → alone bound r ≡ Some end → Begins o end.1.output
-  alone_says bound (Done a s) n h end e = let same : (a, s) ≡ end = cc in subst (λ (p : _ × State). Begins o p.1.output) same h
+  alone_says : {A : Type 0} (bound : ℕ) (r : Run A) (n : ℕ) → Always Said tt n r → (end : A × State)
+      → alone bound r ≡ Some end → Begins o end.1.output
+  alone_says bound (Done a s) n h end e =
+      let same : (a, s) ≡ end = cc in subst (λ (p : _ × State). Begins o p.1.output) same h
   alone_says bound (Over outcome s) n h end e = absurd cc
   alone_says {A} bound (At kind line s go) n h end e =
-      cases (nat_lt s.moments bound) (alone_says bound (go (arrived line s)) (n + 1) (h.2 (arrived line s) h.1) end) e where
-        cases : (b : Bool) → (alone bound (go (arrived line s)) ≡ Some end → Begins o end.1.output) → (if b then alone bound (go (arrived line s)) else None) ≡ Some end → Begins o end.1.output
-        cases true later f = later f
-        cases false later f = absurd cc
+      cases (nat_lt s.moments bound) (alone_says bound (go (arrived line s)) (n + 1) (h.2 (arrived line s) h.1) end) e
+    where
+      cases : (b : Bool) → (alone bound (go (arrived line s)) ≡ Some end → Begins o end.1.output)
+          → (if b then alone bound (go (arrived line s)) else None) ≡ Some end → Begins o end.1.output
+      cases true later f = later f
+      cases false later f = absurd cc
 
-left_says : (o : List ℕ) (s : State) (a : Option (Value × State)) → Begins o s.output → ((end : Value × State) → a ≡ Some end → Begins o end.1.output) → Begins o (left_by s (recounted s.moments a)).output
+left_says : (o : List ℕ) (s : State) (a : Option (Value × State)) → Begins o s.output
+    → ((end : Value × State) → a ≡ Some end → Begins o end.1.output)
+    → Begins o (left_by s (recounted s.moments a)).output
 left_says o s None said h = said
 left_says o s (Some end) said h = h end refl
 
-evaluation_adds : (bundle : Bundle) (e : Expression) (s : State) → Begins s.output (left_by s (evaluated (evaluation_setting bundle) e s)).output
+evaluation_adds : (bundle : Bundle) (e : Expression) (s : State)
+    → Begins s.output (left_by s (evaluated (evaluation_setting bundle) e s)).output
 evaluation_adds bundle e s =
     let o = s.output in
     let start : State = record s { moments = 0 } in
     let good = Keeps-setting (Said o) bundle (keeps o bundle) evaluation_limit frame_limit in
-    let always = (Keeps-expression (Said o) bundle (keeps o bundle) e).0 (evaluation_setting bundle) good tt 0 start (begins_same o) in
+    let always = (Keeps-expression (Said o) bundle (keeps o bundle) e).0 (evaluation_setting bundle) good tt 0 start
+    (begins_same o) in
     left_says o s (alone evaluation_limit (evaluation e (evaluation_setting bundle) start)) (begins_same o)
     (λ end is. alone_says o evaluation_limit (evaluation e (evaluation_setting bundle) start) 0 always end is)
 
@@ -169,40 +186,52 @@ abbrev HasOutput : List ℕ → Result State WriteFault → Type 0
 HasOutput o (Ok t) = t.output ≡ o
 HasOutput o (Err fault) = Unit {0}
 
-output-placed : (r : Result State FatalKind) (o : List ℕ) → ((t : State) → r ≡ Ok t → t.output ≡ o) → HasOutput o (place_or_fault r)
+output-placed : (r : Result State FatalKind) (o : List ℕ) → ((t : State) → r ≡ Ok t → t.output ≡ o)
+    → HasOutput o (place_or_fault r)
 output-placed (Ok t) o h = h t refl
 output-placed (Err kind) o h = tt
 
-output-context : (context level : ℕ) (path : Path) (v : Value) (s : State) → HasOutput s.output (in_context context level path v s)
-output-context zero level path v s = output-placed _ s.output (λ t e. output-assigned level path.name (given_keys path.keys) false v s t e)
-output-context (suc zero) level path v s = output-placed _ s.output (λ t e. output-assigned (length s.frames - 1) path.name (given_keys path.keys) false v s t e)
+output-context : (context level : ℕ) (path : Path) (v : Value) (s : State)
+    → HasOutput s.output (in_context context level path v s)
+output-context zero level path v s =
+    output-placed _ s.output (λ t e. output-assigned level path.name (given_keys path.keys) false v s t e)
+output-context (suc zero) level path v s =
+    output-placed _ s.output (λ t e. output-assigned (length s.frames - 1) path.name
+    (given_keys path.keys) false v s t e)
 output-context (suc (suc context)) level path v s = tt
 
-output-framed : (b : Bool) (r : Result State WriteFault) (o : List ℕ) → HasOutput o r → HasOutput o (if b then r else Err NoFrame)
+output-framed : (b : Bool) (r : Result State WriteFault) (o : List ℕ) → HasOutput o r
+    → HasOutput o (if b then r else Err NoFrame)
 output-framed true r o h = h
 output-framed false r o h = tt
 
-output-unchanged : (r : Result State WriteFault) (s : State) → HasOutput s.output r → (or_unchanged s r).output ≡ s.output
+output-unchanged : (r : Result State WriteFault) (s : State) → HasOutput s.output r
+    → (or_unchanged s r).output ≡ s.output
 output-unchanged (Ok t) s h = h
 output-unchanged (Err fault) s h = refl
 
 -- one write only adds to the output
-pub write_adds : (bundle : Bundle) (w : Write) (s : State) → Begins s.output (one_write (evaluation_setting bundle) w s).output
+pub write_adds : (bundle : Bundle) (w : Write) (s : State)
+    → Begins s.output (one_write (evaluation_setting bundle) w s).output
 write_adds bundle (Place level context path v) s =
     subst (Begins s.output)
-    (sym (output-unchanged (with_place level context path v s) s (output-framed (nat_lt level (length s.frames)) _ s.output (output-context context level path v s))))
+    (sym (output-unchanged (with_place level context path v s) s
+    (output-framed (nat_lt level (length s.frames)) _ s.output (output-context context level path v s))))
     (begins_same s.output)
 write_adds bundle (Evaluate e) s = evaluation_adds bundle e s
 
 -- and so do the writes of a number
-pub writes_add : (bundle : Bundle) (ws : List NumberedWrite) (n : ℕ) (s : State) → Begins s.output (written_by (evaluation_setting bundle) ws n s).output
+pub writes_add : (bundle : Bundle) (ws : List NumberedWrite) (n : ℕ) (s : State)
+    → Begins s.output (written_by (evaluation_setting bundle) ws n s).output
 writes_add bundle [] n s = begins_same s.output
 writes_add bundle (w ∷ ws) n s = by (nat_eq w.moment n) (writes_add bundle ws n) where
   by : (b : Bool) → ((t : State) → Begins t.output (written_by (evaluation_setting bundle) ws n t).output)
-      → Begins s.output (written_by (evaluation_setting bundle) ws n (if b then one_write (evaluation_setting bundle) w.write s else s)).output
+      → Begins s.output (written_by (evaluation_setting bundle) ws n
+      (if b then one_write (evaluation_setting bundle) w.write s else s)).output
   by true later =
       let t = one_write (evaluation_setting bundle) w.write s in
-      begins_all s.output t.output (written_by (evaluation_setting bundle) ws n t).output (write_adds bundle w.write s) (later t)
+      begins_all s.output t.output (written_by (evaluation_setting bundle) ws n t).output (write_adds bundle w.write s)
+      (later t)
   by false later = later s
 
 -- ---- from the writes of the i-th moment on, the output begins with this
@@ -242,7 +271,9 @@ module _ (i : ℕ) (o : List ℕ) where
 
     -- the i-th moment, if the trace comes to it, has this output after its writes
     abbrev IsThere : ℕ → List (Moment × State) → Type 0
-    IsThere n moments = (k : ℕ) (q : Moment × State) → n + k + 1 ≡ i → slice_get moments k ≡ Some q → (written (writes_of bundle ws) i q.1).output ≡ o
+    IsThere n moments =
+        (k : ℕ) (q : Moment × State) → n + k + 1 ≡ i → slice_get moments k ≡ Some q
+        → (written (writes_of bundle ws) i q.1).output ≡ o
 
     -- and from then on the output begins with it
     record Stays {A : Type 0} (n : ℕ) (t : Trace A) : Type 0 where
@@ -263,7 +294,8 @@ module _ (i : ℕ) (o : List ℕ) where
       end = λ late. said n t.state h (omega (arith, late, ap length none));
     }
 
-    stays_from : {A : Type 0} (r : Run A) (n : ℕ) → Always HasSaid tt n r → IsSteady n r → IsThere n (trace_from r).moments → Stays n (trace_from r)
+    stays_from : {A : Type 0} (r : Run A) (n : ℕ) → Always HasSaid tt n r → IsSteady n r
+        → IsThere n (trace_from r).moments → Stays n (trace_from r)
     stays_from (Done a s) n h steady there = stays_over n _ refl h
     stays_from (Over e s) n h steady there = stays_over n _ refl h.1
     stays_from {A} (At kind line s go) n h steady there =
@@ -284,30 +316,41 @@ module _ (i : ℕ) (o : List ℕ) where
           rest = trace_from (go u)
 
           -- after the writes of this moment
-          here : ((k : ℕ) (q : Moment × State) → n + k + 1 ≡ i → slice_get ((moment, t) ∷ rest.moments) k ≡ Some q → (written (writes_of bundle ws) i q.1).output ≡ o) → i ≤ n + 1 → Begins o u.output
+          here : ((k : ℕ) (q : Moment × State) → n + k + 1 ≡ i → slice_get ((moment, t) ∷ rest.moments) k ≡ Some q
+              → (written (writes_of bundle ws) i q.1).output ≡ o) → i ≤ n + 1 → Begins o u.output
           here there late =
               ⊎_elim
               (λ (before : n < i).
               let same : s.moments + 1 ≡ i = omega (arith, late, before, steady.1) in
               subst (Begins o)
-              (sym (there 0 (moment, t) (omega (arith, late, before)) refl) ∙ ap (λ (k : ℕ). (written (writes_of bundle ws) k t).output) (sym same)) (begins_same o))
-              (λ (after : i ≤ n). begins_all o s.output u.output (said n s h.1 after) (writes_add bundle ws (s.moments + 1) t)) (cases_lt n i)
+              (sym (there 0 (moment, t) (omega (arith, late, before)) refl)
+              ∙ ap (λ (k : ℕ). (written (writes_of bundle ws) k t).output) (sym same)) (begins_same o))
+              (λ (after : i ≤ n). begins_all o s.output u.output (said n s h.1 after)
+              (writes_add bundle ws (s.moments + 1) t)) (cases_lt n i)
 
-          next : ((k : ℕ) (q : Moment × State) → n + k + 1 ≡ i → slice_get ((moment, t) ∷ rest.moments) k ≡ Some q → (written (writes_of bundle ws) i q.1).output ≡ o) → HasSaid tt (n + 1) u
-          next there = ⊎_elim (λ (before : n + 1 < i). inl before) (λ (after : i ≤ n + 1). inr (here there after)) (cases_lt (n + 1) i)
+          next : ((k : ℕ) (q : Moment × State) → n + k + 1 ≡ i → slice_get ((moment, t) ∷ rest.moments) k ≡ Some q
+              → (written (writes_of bundle ws) i q.1).output ≡ o) → HasSaid tt (n + 1) u
+          next there =
+              ⊎_elim (λ (before : n + 1 < i). inl before) (λ (after : i ≤ n + 1). inr (here there after))
+              (cases_lt (n + 1) i)
 
           within : Stays (n + 1) rest → Stays n (with_moment moment t rest)
           within later = record {
             moments = at;
             end = λ late. later.end (omega (arith, late));
           } where
-            at : (k : ℕ) (q : Moment × State) → slice_get ((moment, t) ∷ rest.moments) k ≡ Some q → i < n + k + 1 → Begins o q.1.output
-            at zero q e late = let same : (moment, t) ≡ q = cc in subst (λ (p : Moment × State). Begins o p.1.output) same (said n s h.1 (omega (arith, late)))
+            at : (k : ℕ) (q : Moment × State) → slice_get ((moment, t) ∷ rest.moments) k ≡ Some q → i < n + k + 1
+                → Begins o q.1.output
+            at zero q e late =
+                let same : (moment, t) ≡ q = cc in subst (λ (p : Moment × State). Begins o p.1.output) same
+                (said n s h.1 (omega (arith, late)))
             at (suc k) q e late = later.moments k q e (omega (arith, late))
 
           cases : (b : Bool) → (HasSaid tt (n + 1) u → IsThere (n + 1) rest.moments → Stays (n + 1) rest)
-              → IsThere n (if b then with_moment moment t rest else (record { moments = []; end = Ended OutOfBound; state = s })).moments
-              → Stays n (if b then with_moment moment t rest else (record { moments = []; end = Ended OutOfBound; state = s }))
+              → IsThere n (if b then with_moment moment t rest
+              else (record { moments = []; end = Ended OutOfBound; state = s })).moments
+              → Stays n (if b then with_moment moment t rest
+              else (record { moments = []; end = Ended OutOfBound; state = s }))
           cases true later there = within (later (next there) (λ k q e f. there (suc k) q (omega (arith, e)) f))
           cases false later there = stays_over n _ refl h.1
 
@@ -320,19 +363,24 @@ module _ (bundle : Bundle) (bound : ℕ) (ws : List NumberedWrite) where
 
   -- what a program has written at a moment stays in front of what it has written at later ones, and at its end
   pub record StaysWritten (i : ℕ) (s : State) : Type 0 where
-    pub later : (j : ℕ) (q : Moment × State) → slice_get (program_trace bundle bound ws).moments j ≡ Some q → i < j → Begins s.output q.1.output
+    pub later : (j : ℕ) (q : Moment × State) → slice_get (program_trace bundle bound ws).moments j ≡ Some q → i < j
+        → Begins s.output q.1.output
     pub end : Begins s.output (program_trace bundle bound ws).state.output
 
-  pub stays_written : (i : ℕ) (p : Moment × State) → slice_get (program_trace bundle bound ws).moments i ≡ Some p → StaysWritten i (with_writes (suc i) p.1)
+  pub stays_written : (i : ℕ) (p : Moment × State) → slice_get (program_trace bundle bound ws).moments i ≡ Some p
+      → StaysWritten i (with_writes (suc i) p.1)
   unfolding program_trace
   stays_written i p is =
       let o = (with_writes (suc i) p.1).output in
-      let all = stays_from (suc i) o bundle bound ws (program_run bundle bound) 0 (said_program (suc i) o bundle bound (omega arith)) (steady-program bundle bound) there in
+      let all = stays_from (suc i) o bundle bound ws (program_run bundle bound) 0
+      (said_program (suc i) o bundle bound (omega arith)) (steady-program bundle bound) there in
       record {
         later = λ j q e late. all.moments j q e (omega (arith, late));
         end = all.end (omega (arith, slice_get_within (program_trace bundle bound ws).moments i p is));
       } where
-        there : (k : ℕ) (q : Moment × State) → 0 + k + 1 ≡ suc i → slice_get (program_trace bundle bound ws).moments k ≡ Some q → (with_writes (suc i) q.1).output ≡ (with_writes (suc i) p.1).output
+        there : (k : ℕ) (q : Moment × State) → 0 + k + 1 ≡ suc i
+            → slice_get (program_trace bundle bound ws).moments k ≡ Some q
+            → (with_writes (suc i) q.1).output ≡ (with_writes (suc i) p.1).output
         there k q e f =
             let same : k ≡ i = omega (arith, e) in
             let both : Some q ≡ Some p = sym f ∙ ap (slice_get (program_trace bundle bound ws).moments) same ∙ is in

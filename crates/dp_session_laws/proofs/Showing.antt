@@ -38,20 +38,26 @@ use Rattle.dp_engine.proofs.Turning.{view_first, write_first}
 
 module _ (state : State) (line : Line) (command : Command) (asks : command_of line ≡ Some command) where
   -- has no refusal of its own
-  own_passes : first_code (tests state line) ≡ None → first_code (own_tests state line.name command.id command.request) ≡ None
+  own_passes : first_code (tests state line) ≡ None
+      → first_code (own_tests state line.name command.id command.request) ≡ None
   own_passes e = by (name_of line.name) (allowed state line e).1 asks where
-    by : (name : Option CommandName) → first_code (option_map_or (row_tests state line) name []) ≡ None → option_map (command_as line) name ≡ Some command
+    by : (name : Option CommandName) → first_code (option_map_or (row_tests state line) name []) ≡ None
+        → option_map (command_as line) name ≡ Some command
         → first_code (own_tests state line.name command.id command.request) ≡ None
     by None e f = absurd cc
     by (Some name) e f =
         let same : command_as line name ≡ command = cc in
-        subst (λ (c : Command). first_code (own_tests state line.name c.id c.request) ≡ None) same (passed (not (fits_row name line)) 3 (own_tests state line.name (id_of line) (command_as line name).request) e).1
+        subst (λ (c : Command). first_code (own_tests state line.name c.id c.request) ≡ None) same
+        (passed (not (fits_row name line)) 3 (own_tests state line.name (id_of line) (command_as line name).request)
+        e).1
 
   -- and is done
   done_turn : (bytes : List ℕ) → line_of bytes ≡ Some line → refusal_of_line state (line_of bytes) ≡ None
-      → turn_of (line_of bytes) (refusal_of_line state (line_of bytes)) state ≡ done_on (side_of command.request) line.name command.id command.request state
+      → turn_of (line_of bytes) (refusal_of_line state (line_of bytes)) state ≡ done_on
+      (side_of command.request) line.name command.id command.request state
   done_turn bytes spells passes =
-      ap (λ (code : Option ℕ). turn_of (line_of bytes) code state) passes ∙ ap (λ (l : Option Line). turn_of l None state) spells
+      ap (λ (code : Option ℕ). turn_of (line_of bytes) code state) passes
+      ∙ ap (λ (l : Option Line). turn_of l None state) spells
       ∙ ap (λ (c : Option Command). asked line.name (id_of line) c state) asks
 
 -- what is shown of a response that is made
@@ -66,7 +72,8 @@ record IsKept (command id : Text) (state : State) (told : Result Response ℕ) (
   response : told ≡ Ok (response_in command id told)
   kept : kept_if told asks state ≡ with_write write state
 
-made_kept : (command id : Text) (state : State) (f : Write → Result Response ℕ) (told : Result Response ℕ) (asks : Result Write ℕ) → told ≡ and_then f asks → code_written told ≡ None
+made_kept : (command id : Text) (state : State) (f : Write → Result Response ℕ) (told : Result Response ℕ)
+    (asks : Result Write ℕ) → told ≡ and_then f asks → code_written told ≡ None
     → IsKept command id state told asks
 made_kept command id state f (Ok r) (Ok w) e n = record { write = w; is_asked = refl; response = refl; kept = refl }
 made_kept command id state f (Ok r) (Err code) e n = absurd cc
@@ -88,11 +95,14 @@ module _ (state : State) (bytes : List ℕ) (line : Line) (command : Command) (t
   unfolding view_refusal
   shows_program e =
       let same = turn_is Program e in
-      let none : view_refusal state.bundle (here state) state.features (program_of state) line.name command.id command.request ≡ None =
+      let none : view_refusal state.bundle (here state) state.features
+      (program_of state) line.name command.id command.request ≡ None =
       sym (view_first state line.name command.id command.request e) ∙ none_own in
       subst (IsShown state line command) (sym same)
       (record {
-        response = made_is line.name command.id (view_response state.bundle (here state) state.features (program_of state) line.name command.id command.request) none;
+        response =
+            made_is line.name command.id (view_response state.bundle (here state) state.features
+            (program_of state) line.name command.id command.request) none;
         stays = refl;
       })
 
@@ -100,11 +110,15 @@ module _ (state : State) (bytes : List ℕ) (line : Line) (command : Command) (t
   unfolding write_refusal write_response
   keeps_write e =
       let same = turn_is Writes e in
-      let none : write_refusal state.bundle state.features (program_of state) line.name command.id command.request ≡ None =
+      let none : write_refusal state.bundle state.features (program_of state) line.name command.id command.request ≡
+      None =
       sym (write_first state line.name command.id command.request e) ∙ none_own in
-      let kept = made_kept line.name command.id state (responding state.bundle state.features (program_of state) line.name command.id)
-      (write_response state.bundle state.features (program_of state) line.name command.id command.request) (write_asked (program_of state) command.request) refl none in
-      subst (IsAccepted state line command) (sym same) (record { write = kept.write; asked = kept.is_asked; response = kept.response; kept = kept.kept })
+      let kept = made_kept line.name command.id state (responding state.bundle state.features
+      (program_of state) line.name command.id)
+      (write_response state.bundle state.features (program_of state) line.name command.id command.request)
+      (write_asked (program_of state) command.request) refl none in
+      subst (IsAccepted state line command) (sym same) (record
+      { write = kept.write; asked = kept.is_asked; response = kept.response; kept = kept.kept })
 
 -- ---- no other write is kept
 
@@ -114,12 +128,14 @@ gone_keeps mode state = by (stop_of mode state) where
   by None = refl
   by (Some n) = refl
 
-continued_keeps : (command id : Text) (mode : Continuation) (phase : Phase) (state : State) → (continued command id mode phase state).next.writes ≡ state.writes
+continued_keeps : (command id : Text) (mode : Continuation) (phase : Phase) (state : State)
+    → (continued command id mode phase state).next.writes ≡ state.writes
 continued_keeps command id mode Starting state = gone_keeps mode state
 continued_keeps command id mode Break state = gone_keeps mode state
 continued_keeps command id mode Stopping state = refl
 
-session_keeps : (command id : Text) (r : Request) (state : State) → (session_done command id r state).next.writes ≡ state.writes
+session_keeps : (command id : Text) (r : Request) (state : State)
+    → (session_done command id r state).next.writes ≡ state.writes
 session_keeps command id (request.Continue mode) state = continued_keeps command id mode state.phase state
 session_keeps command id (request.Finish Stop) state = refl
 session_keeps command id (request.Finish Detach) state = refl
@@ -127,20 +143,24 @@ session_keeps command id (request.Redirect Stdout mode) state = refl
 session_keeps command id (request.Redirect Stderr mode) state = refl
 session_keeps command id r state = refl
 
-done_keeps : (side : Side) (command id : Text) (r : Request) (state : State) → side ≢ Writes → (done_on side command id r state).next.writes ≡ state.writes
+done_keeps : (side : Side) (command id : Text) (r : Request) (state : State) → side ≢ Writes
+    → (done_on side command id r state).next.writes ≡ state.writes
 done_keeps Session command id r state h = session_keeps command id r state
 done_keeps Breakpoints command id r state h = refl
 done_keeps Program command id r state h = refl
 done_keeps Writes command id r state h = absurd (h refl)
 
 module _ (state : State) (bytes : List ℕ) (h : WritesNothing state bytes) where
-  asked_keeps : (line : Line) (command : Option Command) → line_of bytes ≡ Some line → command_of line ≡ command → refusal state bytes ≡ None
+  asked_keeps : (line : Line) (command : Option Command) → line_of bytes ≡ Some line → command_of line ≡ command
+      → refusal state bytes ≡ None
       → (asked line.name (id_of line) command state).next.writes ≡ state.writes
   asked_keeps line None spells asks passes = refl
   asked_keeps line (Some c) spells asks passes =
-      done_keeps (side_of c.request) line.name c.id c.request state (h line c (record { spells = spells; asks = asks; passes = passes }))
+      done_keeps (side_of c.request) line.name c.id c.request state
+      (h line c (record { spells = spells; asks = asks; passes = passes }))
 
-  turn_keeps : (line : Option Line) (code : Option ℕ) → line_of bytes ≡ line → refusal_of_line state line ≡ code → refusal state bytes ≡ code
+  turn_keeps : (line : Option Line) (code : Option ℕ) → line_of bytes ≡ line → refusal_of_line state line ≡ code
+      → refusal state bytes ≡ code
       → (turn_of line code state).next.writes ≡ state.writes
   turn_keeps line (Some code) spells e passes = refl
   turn_keeps None None spells e passes = absurd cc

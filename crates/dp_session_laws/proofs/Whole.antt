@@ -1,4 +1,5 @@
--- What the engine sends, served alone, is whole packets: each text of a session, whatever bytes come, is one of a packet.
+-- What the engine sends, served alone, is whole packets: each text of a session, whatever bytes come, is one of a
+-- packet.
 use Rattle.std.proofs.Common.{◌≡◌, ℕ, ◌≤◌, Bool, true, false, not, if◌then◌else◌, List, [], ◌∷◌, ◌++◌, length, Option, Some, None, refl, sym, ap, subst, ◌∙◌, arith, append_assoc, decimal, nat_le}
 use Rattle.std.specs.Prelude.{◌&&◌, cond, is_some, option_and_then, option_map, IfSome, Result, Ok, Err}
 use Rattle.std.specs.List.{AllByRecursion, flat_map}
@@ -79,10 +80,13 @@ id_short None = omega arith
 id_short (Some value) = cases (is_id value) refl where
   cases : (b : Bool) → is_id value ≡ b → length (if b then value else []) ≤ 64
   cases true e =
-      let most = (and_true (nat_le 1 (length value)) (nat_le (length value) 64) (and_true _ _ e).0).1 in leb-true (length value) 64 most
+      let most = (and_true (nat_le 1 (length value)) (nat_le (length value) 64) (and_true _ _ e).0).1 in leb-true
+      (length value) 64 most
   cases false e = omega arith
 
-raised : (options : List (ℕ × List ℕ)) (few most : ℕ) → few ≤ most → AllByRecursion (λ (o : ℕ × List ℕ). length o.1 ≤ few) options → AllByRecursion (λ (o : ℕ × List ℕ). length o.1 ≤ most) options
+raised : (options : List (ℕ × List ℕ)) (few most : ℕ) → few ≤ most
+    → AllByRecursion (λ (o : ℕ × List ℕ). length o.1 ≤ few) options
+    → AllByRecursion (λ (o : ℕ × List ℕ). length o.1 ≤ most) options
 raised [] few most h all = tt
 raised (o ∷ options) few most h all = (omega (arith, all.0, h), raised options few most h all.1)
 
@@ -120,12 +124,64 @@ record AreSmall (features : Features) : Type 0 where
   notify_ok : features.notify_ok ≤ 1048576
 
 with_small : (feature : Feature) (n : ℕ) (f : Features) → n ≤ 1048576 → AreSmall f → AreSmall (with_number feature n f)
-with_small MultipleSessions n f p h = record { multiple_sessions = p; max_children = h.max_children; max_data = h.max_data; max_depth = h.max_depth; show_hidden = h.show_hidden; notify_ok = h.notify_ok }
-with_small MaxChildren n f p h = record { multiple_sessions = h.multiple_sessions; max_children = p; max_data = h.max_data; max_depth = h.max_depth; show_hidden = h.show_hidden; notify_ok = h.notify_ok }
-with_small MaxData n f p h = record { multiple_sessions = h.multiple_sessions; max_children = h.max_children; max_data = p; max_depth = h.max_depth; show_hidden = h.show_hidden; notify_ok = h.notify_ok }
-with_small MaxDepth n f p h = record { multiple_sessions = h.multiple_sessions; max_children = h.max_children; max_data = h.max_data; max_depth = p; show_hidden = h.show_hidden; notify_ok = h.notify_ok }
-with_small ShowHidden n f p h = record { multiple_sessions = h.multiple_sessions; max_children = h.max_children; max_data = h.max_data; max_depth = h.max_depth; show_hidden = p; notify_ok = h.notify_ok }
-with_small NotifyOk n f p h = record { multiple_sessions = h.multiple_sessions; max_children = h.max_children; max_data = h.max_data; max_depth = h.max_depth; show_hidden = h.show_hidden; notify_ok = p }
+with_small MultipleSessions n f p h =
+    record {
+      multiple_sessions = p;
+      max_children = h.max_children;
+      max_data = h.max_data;
+      max_depth = h.max_depth;
+      show_hidden = h.show_hidden;
+      notify_ok = h.notify_ok;
+    }
+with_small MaxChildren n f p h =
+    record {
+      multiple_sessions = h.multiple_sessions;
+      max_children = p;
+      max_data = h.max_data;
+      max_depth = h.max_depth;
+      show_hidden = h.show_hidden;
+      notify_ok = h.notify_ok;
+    }
+with_small MaxData n f p h =
+    record {
+      multiple_sessions = h.multiple_sessions;
+      max_children = h.max_children;
+      max_data = p;
+      max_depth =
+          h.max_depth;
+      show_hidden = h.show_hidden;
+      notify_ok = h.notify_ok;
+    }
+with_small MaxDepth n f p h =
+    record {
+      multiple_sessions = h.multiple_sessions;
+      max_children = h.max_children;
+      max_data = h.max_data;
+      max_depth =
+          p;
+      show_hidden = h.show_hidden;
+      notify_ok = h.notify_ok;
+    }
+with_small ShowHidden n f p h =
+    record {
+      multiple_sessions = h.multiple_sessions;
+      max_children = h.max_children;
+      max_data = h.max_data;
+      max_depth =
+          h.max_depth;
+      show_hidden = p;
+      notify_ok = h.notify_ok;
+    }
+with_small NotifyOk n f p h =
+    record {
+      multiple_sessions = h.multiple_sessions;
+      max_children = h.max_children;
+      max_data = h.max_data;
+      max_depth =
+          h.max_depth;
+      show_hidden = h.show_hidden;
+      notify_ok = p;
+    }
 with_small feature n f p h = h
 
 abbrev IsSmall : Option ℕ → Type 0
@@ -135,8 +191,11 @@ IsSmall (Some n) = n ≤ 1048576
 decimal_small : (most : ℕ) (value : List ℕ) → most ≤ 1048576 → IsSmall (decimal_in most value)
 unfolding decimal_in
 decimal_small most value p = cases (is_decimal value && nat_le (digits_value 10 value) most) refl where
-  cases : (b : Bool) → (is_decimal value && nat_le (digits_value 10 value) most) ≡ b → IsSmall (cond b (Some (digits_value 10 value)) None)
-  cases true e = let le : digits_value 10 value ≤ most = leb-true (digits_value 10 value) most (and_true (is_decimal value) (nat_le (digits_value 10 value) most) e).1 in omega (arith, le, p)
+  cases : (b : Bool) → (is_decimal value && nat_le (digits_value 10 value) most) ≡ b
+      → IsSmall (cond b (Some (digits_value 10 value)) None)
+  cases true e =
+      let le : digits_value 10 value ≤ most = leb-true (digits_value 10 value) most
+      (and_true (is_decimal value) (nat_le (digits_value 10 value) most) e).1 in omega (arith, le, p)
   cases false e = tt
 
 in_range_small : (value : List ℕ) (low most : ℕ) → most ≤ 1048576 → IsSmall (number_in value (low, most))
@@ -162,13 +221,17 @@ number_small ShowHidden value = in_range_small value 0 1 (omega arith)
 number_small NotifyOk value = in_range_small value 0 1 (omega arith)
 number_small feature value = tt
 
-set_small : (features : Features) (name value : List ℕ) → AreSmall features → AreSmall (set_by (setting_named name value) features)
+set_small : (features : Features) (name value : List ℕ) → AreSmall features
+    → AreSmall (set_by (setting_named name value) features)
 set_small features name value h = named (feature_named name) where
-  numbered : (feature : Feature) (n : Option ℕ) → IsSmall n → AreSmall (set_by (option_map (λ number. (feature, number)) n) features)
+  numbered : (feature : Feature) (n : Option ℕ) → IsSmall n
+      → AreSmall (set_by (option_map (λ number. (feature, number)) n) features)
   numbered feature None p = h
   numbered feature (Some n) p = with_small feature n features p h
 
-  named : (feature : Option Feature) → AreSmall (set_by (option_and_then (λ f. option_map (λ number. (f, number)) (number_of f value)) feature) features)
+  named : (feature : Option Feature)
+      → AreSmall (set_by (option_and_then (λ f. option_map (λ number. (f, number)) (number_of f value)) feature)
+      features)
   named None = h
   named (Some feature) = numbered feature (number_of feature value) (number_small feature value)
 
@@ -184,7 +247,8 @@ value_short features ShowHidden h = digits_short features.show_hidden h.show_hid
 value_short features NotifyOk h = digits_short features.notify_ok h.notify_ok
 value_short features feature h = omega arith
 
-told_short : (features : Features) (feature : Option Feature) → AreSmall features → IfSome (option_map (value_of features) feature) (λ text. length text ≤ 64)
+told_short : (features : Features) (feature : Option Feature) → AreSmall features
+    → IfSome (option_map (value_of features) feature) (λ text. length text ≤ 64)
 told_short features None h = tt
 told_short features (Some feature) h = value_short features feature h
 
@@ -221,7 +285,9 @@ module _ (command id : Text) (p : length command ≤ 64) (q : length id ≤ 64) 
     by (Some n) = record { small = h.small }
 
   tells : (s : State) → Fits (state_response command id s)
-  tells s = status_fits command id p q (phase_name s.phase) (reason_name s.reason) (phase_short s.phase) (reason_short s.reason)
+  tells s =
+      status_fits command id p q (phase_name s.phase) (reason_name s.reason) (phase_short s.phase)
+      (reason_short s.reason)
 
   continued_good : (mode : Continuation) (phase : Phase) → IsGood (continued command id mode phase state)
   continued_good mode Starting = record { fits = tells (gone_on mode state); next = gone_usual mode }
@@ -230,7 +296,8 @@ module _ (command id : Text) (p : length command ≤ 64) (q : length id ≤ 64) 
 
   told_good : (name : Text) → length name ≤ 1048576 → Fits (feature_told command id name state)
   told_good name few =
-      feature_fits_if command id p q name _ _ few (flag_short (option_map_or (λ feature. true) (feature_named name) (is_some (name_of name))))
+      feature_fits_if command id p q name _ _ few (flag_short
+      (option_map_or (λ feature. true) (feature_named name) (is_some (name_of name))))
       (told_short state.features (feature_named name) h.small)
 
   session_good : (r : Request) → IsShortRequest r → IsGood (session_done command id r state)
@@ -241,14 +308,18 @@ module _ (command id : Text) (p : length command ≤ 64) (q : length id ≤ 64) 
     next = record { small = set_small state.features name value h.small };
   }
   session_good (request.Continue mode) few = continued_good mode state.phase
-  session_good (request.Finish Stop) few = record { fits = status_fits command id p q _ _ (omega arith) (omega arith); next = h }
-  session_good (request.Finish Detach) few = record { fits = status_fits command id p q _ _ (omega arith) (omega arith); next = h }
-  session_good (request.Redirect Stdout mode) few = record { fits = success_fits command id p q true; next = record { small = h.small } }
+  session_good (request.Finish Stop) few =
+      record { fits = status_fits command id p q _ _ (omega arith) (omega arith); next = h }
+  session_good (request.Finish Detach) few =
+      record { fits = status_fits command id p q _ _ (omega arith) (omega arith); next = h }
+  session_good (request.Redirect Stdout mode) few =
+      record { fits = success_fits command id p q true; next = record { small = h.small } }
   session_good (request.Redirect Stderr mode) few = record { fits = success_fits command id p q false; next = h }
   session_good r few = record { fits = fault_fits command id p q 4 (refl, omega arith); next = h }
 
   -- a response to a breakpoint command
-  breakpoint_known : (r : Request) → HasMessage (packet.Response (breakpoint_response state.bundle command id state.breaks r))
+  breakpoint_known : (r : Request)
+      → HasMessage (packet.Response (breakpoint_response state.bundle command id state.breaks r))
   breakpoint_known (request.BreakpointSet set) = refl
   breakpoint_known (request.Breakpoint Get number) = refl
   breakpoint_known (request.Breakpoint Remove number) = refl
@@ -258,55 +329,84 @@ module _ (command id : Text) (p : length command ≤ 64) (q : length id ≤ 64) 
   in_packet_fits : (r : Response) → HasMessage (packet.Response r) → Fits (in_packet command id r)
   unfolding response_text
   in_packet_fits r known = by (nat_le (length (text (packet.Response r))) packet_limit) refl where
-    by : (b : Bool) → nat_le (length (text (packet.Response r))) packet_limit ≡ b → Fits (if b then r else response command id [] body.Nothing)
+    by : (b : Bool) → nat_le (length (text (packet.Response r))) packet_limit ≡ b
+        → Fits (if b then r else response command id [] body.Nothing)
     by true e = record { known = known; short = leb-true (length (text (packet.Response r))) packet_limit e }
     by false e = record { known = refl; short = omega (arith, bare_response_short command id []) }
 
-  shown_fits : (r : Request) → (made : Result Response ℕ) → view_response state.bundle (here state) state.features (program_of state) command id r ≡ made → Fits (response_in command id made)
+  shown_fits : (r : Request) → (made : Result Response ℕ)
+      → view_response state.bundle (here state) state.features (program_of state) command id r ≡ made
+      → Fits (response_in command id made)
   unfolding response_text
   shown_fits r (Ok response) e =
-      let sent = shows state.bundle (here state) state.features (program_of state) command id r response e in record { known = sent.known; short = sent.short }
-  shown_fits r (Err code) e = fault_fits command id p q code (shows_code state.bundle (here state) state.features (program_of state) command id r code e)
+      let sent = shows state.bundle (here state) state.features (program_of state) command id r response e in record
+      { known = sent.known; short = sent.short }
+  shown_fits r (Err code) e =
+      fault_fits command id p q code (shows_code state.bundle (here state) state.features
+      (program_of state) command id r code e)
 
   -- the response to a write
-  written_fits : (r : Request) → (made : Result Response ℕ) → write_response state.bundle state.features (program_of state) command id r ≡ made → Fits (response_in command id made)
+  written_fits : (r : Request) → (made : Result Response ℕ)
+      → write_response state.bundle state.features (program_of state) command id r ≡ made
+      → Fits (response_in command id made)
   unfolding response_text
   written_fits r (Ok response) e =
-      let sent = writes state.bundle state.features (program_of state) command id r p q response e in record { known = sent.known; short = sent.short }
-  written_fits r (Err code) e = fault_fits command id p q code (known_code state.bundle state.features (program_of state) command id r code e)
+      let sent = writes state.bundle state.features (program_of state) command id r p q response e in record
+      { known = sent.known; short = sent.short }
+  written_fits r (Err code) e =
+      fault_fits command id p q code (known_code state.bundle state.features (program_of state) command id r code e)
 
   kept_usual : (told : Result Response ℕ) (asked : Result Write ℕ) → IsUsual (kept_if told asked state)
   kept_usual (Ok r) (Ok w) = record { small = h.small }
   kept_usual (Ok r) (Err code) = h
   kept_usual (Err code) asked = h
 
-  done_good : (side : Side) (r : Request) → first_code (tests_on side state command id r) ≡ None → IsShortRequest r → IsGood (done_on side command id r state)
+  done_good : (side : Side) (r : Request) → first_code (tests_on side state command id r) ≡ None → IsShortRequest r
+      → IsGood (done_on side command id r state)
   done_good Session r e few = session_good r few
-  done_good Breakpoints r e few = record { fits = in_packet_fits _ (breakpoint_known r); next = record { small = h.small } }
+  done_good Breakpoints r e few =
+      record { fits = in_packet_fits _ (breakpoint_known r); next = record { small = h.small } }
   done_good Program r e few = record { fits = shown_fits r _ refl; next = h }
   done_good Writes r e few = record {
     fits = written_fits r _ refl;
-    next = kept_usual (write_response state.bundle state.features (program_of state) command id r) (write_asked (program_of state) r);
+    next =
+        kept_usual (write_response state.bundle state.features (program_of state) command id r)
+        (write_asked (program_of state) r);
   }
 
 module _ (state : State) (h : IsUsual state) where
-  asked_good : (line : Line) → IsShort line → (name : Option CommandName) → first_code (option_map_or (row_tests state line) name []) ≡ None
-      → ((n : CommandName) → name ≡ Some n → IsShortRequest (request_of n line)) → IsGood (asked line.name (id_of line) (option_map (command_as line) name) state)
-  asked_good line few None e short = record { fits = fault_fits line.name (id_of line) few.name (line_id_short (Some line)) 4 (refl, omega arith); next = h }
+  asked_good : (line : Line) → IsShort line → (name : Option CommandName)
+      → first_code (option_map_or (row_tests state line) name []) ≡ None
+      → ((n : CommandName) → name ≡ Some n → IsShortRequest (request_of n line))
+      → IsGood (asked line.name (id_of line) (option_map (command_as line) name) state)
+  asked_good line few None e short =
+      record {
+        fits = fault_fits line.name (id_of line) few.name (line_id_short (Some line)) 4
+            (refl, omega arith);
+        next = h;
+      }
   asked_good line few (Some name) e short =
-      done_good line.name (id_of line) few.name (line_id_short (Some line)) state h (side_of (request_of name line)) (request_of name line) (passed (not (fits_row name line)) 3 (own_tests state line.name (id_of line) (request_of name line)) e).1 (short name refl)
+      done_good line.name (id_of line) few.name (line_id_short (Some line)) state h (side_of (request_of name line))
+      (request_of name line) (passed (not (fits_row name line)) 3
+      (own_tests state line.name (id_of line) (request_of name line)) e).1 (short name refl)
 
-  turn_good : (line : Option Line) → IsShortLine line → (code : Option ℕ) → refusal_of_line state line ≡ code → IsGood (turn_of line code state)
+  turn_good : (line : Option Line) → IsShortLine line → (code : Option ℕ) → refusal_of_line state line ≡ code
+      → IsGood (turn_of line code state)
   turn_good line few (Some code) e = record {
-    fits = fault_fits (command_in line) (id_in line) (name_short line few) (line_id_short line) code (refusal_is_code state line code e);
+    fits =
+        fault_fits (command_in line) (id_in line) (name_short line few) (line_id_short line) code
+        (refusal_is_code state line code e);
     next = h;
   }
   turn_good None few None e = absurd cc
-  turn_good (Some line) few None e = asked_good line few (name_of line.name) (allowed state line e).1 (λ name n. request_short line name few)
+  turn_good (Some line) few None e =
+      asked_good line few (name_of line.name) (allowed state line e).1 (λ name n. request_short line name few)
 
   is_good : (bytes : List ℕ) → IsSpoken bytes → IsGood (turn state bytes)
   unfolding turn
-  is_good bytes spoken = turn_good (line_of bytes) (line_short bytes spoken (line_of bytes) refl) (refusal_of_line state (line_of bytes)) refl
+  is_good bytes spoken =
+      turn_good (line_of bytes) (line_short bytes spoken (line_of bytes) refl)
+      (refusal_of_line state (line_of bytes)) refl
 
 -- ---- all packets
 
@@ -323,43 +423,70 @@ unfolding answer
 answer_sends state bytes h spoken =
     let good = is_good state h bytes spoken in
     record {
-      texts = sent_texts state.stdout (written_between state (turn state bytes).next) (response_text (turn state bytes).response) (fits_packet (turn state bytes) good.fits);
+      texts =
+          sent_texts state.stdout (written_between state (turn state bytes).next)
+          (response_text (turn state bytes).response) (fits_packet (turn state bytes) good.fits);
       usual = good.next;
     }
 
-replies_send : (state : State) (lines : List (List ℕ)) → IsUsual state → AllByRecursion IsSpoken lines → SendsPackets (replies answer state lines)
+replies_send : (state : State) (lines : List (List ℕ)) → IsUsual state → AllByRecursion IsSpoken lines
+    → SendsPackets (replies answer state lines)
 replies_send state [] h each = record { texts = tt; usual = h }
-replies_send state (line ∷ lines) h each = cases (answer state line).ended first (replies_send (answer state line).state lines first.usual each.1) where
-  first : SendsPackets (answer state line)
-  first = answer_sends state line h each.0
+replies_send state (line ∷ lines) h each =
+    cases (answer state line).ended first (replies_send (answer state line).state lines first.usual each.1) where
+      first : SendsPackets (answer state line)
+      first = answer_sends state line h each.0
 
-  rest : Reply State SessionEnd
-  rest = replies answer (answer state line).state lines
+      rest : Reply State SessionEnd
+      rest = replies answer (answer state line).state lines
 
-  cases : (ended : Option SessionEnd) → SendsPackets (answer state line) → SendsPackets rest → SendsPackets (unless_ended ended (answer state line) rest)
-  cases (Some end) one more = one
-  cases None one more = record { texts = both_texts (answer state line).packets rest.packets one.texts more.texts; usual = more.usual }
+      cases : (ended : Option SessionEnd) → SendsPackets (answer state line) → SendsPackets rest
+          → SendsPackets (unless_ended ended (answer state line) rest)
+      cases (Some end) one more = one
+      cases None one more =
+          record {
+            texts = both_texts (answer state line).packets rest.packets one.texts more.texts;
+            usual = more.usual;
+          }
 
 opening_usual : (bundle : Bundle) (bound : ℕ) → IsUsual (opening bundle bound)
 opening_usual bundle bound = record {
-  small = record { multiple_sessions = omega arith; max_children = omega arith; max_data = omega arith; max_depth = omega arith; show_hidden = omega arith; notify_ok = omega arith };
+  small =
+      record {
+        multiple_sessions = omega arith;
+        max_children = omega arith;
+        max_data = omega arith;
+        max_depth = omega
+            arith;
+        show_hidden = omega arith;
+        notify_ok = omega arith;
+      };
 }
 
-all_spoken : (lines : List (List ℕ)) (rest : List ℕ) → AreBytes (flat_map command_frame lines ++ rest) → AllByRecursion IsCommand lines → AllByRecursion IsSpoken lines
+all_spoken : (lines : List (List ℕ)) (rest : List ℕ) → AreBytes (flat_map command_frame lines ++ rest)
+    → AllByRecursion IsCommand lines → AllByRecursion IsSpoken lines
 all_spoken [] rest b h = tt
 all_spoken (line ∷ lines) rest b h =
     let front = front_is (command_frame line ++ flat_map command_frame lines) rest b in
-    let back = back_is (command_frame line) (flat_map command_frame lines ++ rest) (subst AreBytes (append_assoc (command_frame line) (flat_map command_frame lines) rest) b) in (
-      record { command = h.0; of_bytes = front_is line (0 ∷ []) (front_is (command_frame line) (flat_map command_frame lines) front) },
+    let back = back_is (command_frame line) (flat_map command_frame lines ++ rest)
+    (subst AreBytes (append_assoc (command_frame line) (flat_map command_frame lines) rest) b) in (
+      record {
+        command = h.0;
+        of_bytes = front_is line (0 ∷ [])
+            (front_is (command_frame line) (flat_map command_frame lines) front);
+      },
       all_spoken lines rest back h.1,
     )
 
-frames_are : (texts : List (List ℕ)) → AllByRecursion IsPacketText texts → packets_in (flat_map packet_frame texts) ≡ texts
+frames_are : (texts : List (List ℕ)) → AllByRecursion IsPacketText texts
+    → packets_in (flat_map packet_frame texts) ≡ texts
 frames_are [] each = refl
 frames_are (text ∷ texts) each =
-    packets-first text (flat_map packet_frame texts) each.0 ∙ ap (λ (l : List (List ℕ)). text ∷ l) (frames_are texts each.1)
+    packets-first text (flat_map packet_frame texts) each.0
+    ∙ ap (λ (l : List (List ℕ)). text ∷ l) (frames_are texts each.1)
 
-pub whole_packets : (bundle : Bundle) (bound : ℕ) (key bytes : List ℕ) → AreBytes bytes → length key ≤ 128 → length (main_name bundle) ≤ 255
+pub whole_packets : (bundle : Bundle) (bound : ℕ) (key bytes : List ℕ) → AreBytes bytes → length key ≤ 128
+    → length (main_name bundle) ≤ 255
     → packets_in (alone bundle bound key bytes) ≡ init_text bundle key ∷ (answers bundle bound bytes).packets
 whole_packets bundle bound key bytes b p q =
     let split = commands_split bytes in

@@ -20,8 +20,8 @@ pub fn refused_exactly()
         → fault_in (turn state bytes).response.body ≡ refusal state bytes }
 {}
 
-/// What the engine sends, served alone, is whole packets: the first one, and those of its answers. The key has at most 128
-/// bytes, the name of the main file at most 255.
+/// What the engine sends, served alone, is whole packets: the first one, and those of its answers. The key has at most
+/// 128 bytes, the name of the main file at most 255.
 pub fn alone_is_whole_packets()
     ensures { (bundle : Bundle) (bound : ℕ) (key bytes : List ℕ) → AreBytes bytes
         → length key ≤ 128 → length (main_name bundle) ≤ 255
@@ -35,15 +35,15 @@ pub fn more_commands_only_add()
         → Begins (alone bundle bound key bytes) (alone bundle bound key (bytes ++ more)) }
 {}
 
-/// All that the program writes in a session, wherever it goes, and how it ends, is what it writes and how it ends with the
-/// writes that were accepted; of one that was killed it is a front of that.
+/// All that the program writes in a session, wherever it goes, and how it ends, is what it writes and how it ends with
+/// the writes that were accepted; of one that was killed it is a front of that.
 pub fn session_is_the_run()
     ensures { (bundle : Bundle) (bound : ℕ) (bytes : List ℕ) → IsRunWith bundle bound
         (writes bundle bound bytes) (all_output bundle bound bytes) (ending bundle bound bytes) }
 {}
 
-/// Watching a program changes nothing of what it writes and how it ends, and where its output never goes to the IDE alone
-/// the program's own output has all of it.
+/// Watching a program changes nothing of what it writes and how it ends, and where its output never goes to the IDE
+/// alone the program's own output has all of it.
 pub fn watching_changes_nothing()
     ensures run { (bundle : Bundle) (bound : ℕ) (bytes : List ℕ) → writes bundle bound bytes ≡ []
         → IsRunWith bundle bound [] (all_output bundle bound bytes) (ending bundle bound bytes) }
@@ -52,8 +52,8 @@ pub fn watching_changes_nothing()
         → own bundle bound bytes ≡ all_output bundle bound bytes }
 {}
 
-/// After any commands a session stands in the program's run with the writes that it has accepted, and what a command looks
-/// at there is the program's state there.
+/// After any commands a session stands in the program's run with the writes that it has accepted, and what a command
+/// looks at there is the program's state there.
 pub fn replies_show_the_run()
     ensures stands { (bundle : Bundle) (bound : ℕ) (bytes : List ℕ)
         → Stands bundle bound (answers bundle bound bytes).state }

@@ -36,7 +36,8 @@ fn line_of(alloc: Global, text: &[u8]) -> Result<Option<Bytes>, Memory>
 
 // Shows a packet's text, whose frame begins at this offset.
 fn show_text<K: Sink>(alloc: Global, text: &[u8], offset: u64, out: &mut K) -> Result<(), ShowError>
-    ensures ok { OnOk result ((line : List ℕ) × IsLine text.now line × Appends (K.taken out.old) (K.taken out.new) line) }
+    ensures ok { OnOk result ((line : List ℕ) × IsLine text.now line
+        × Appends (K.taken out.old) (K.taken out.new) line) }
     ensures err { IfErr result (λ why. TextFails why text.now offset (change K.taken K.faults out.old out.new)) }
     ensures later { K.faults out.old ≤ K.faults out.new }
 {
@@ -53,7 +54,8 @@ fn show_text<K: Sink>(alloc: Global, text: &[u8], offset: u64, out: &mut K) -> R
 fn show_held<K: Sink>(alloc: Global, packets: &mut Packets, out: &mut K) -> Result<(), ShowError>
     ensures shown { OnOk result (ShowsOn packets.old packets.new (K.taken out.old) (K.taken out.new)) }
     ensures partial { OnOk result (IsPartialPacket packets.new.held) }
-    ensures err { IfErr result (λ why. HeldFails why packets.old packets.new (change K.taken K.faults out.old out.new)) }
+    ensures err { IfErr result (λ why. HeldFails why packets.old packets.new
+        (change K.taken K.faults out.old out.new)) }
     ensures later { K.faults out.old ≤ K.faults out.new }
 {
     'packets: loop {
@@ -99,8 +101,8 @@ fn read_piece<S: Source>(
 
 /// Reads packets to the end of the input, and prints the element of each in canonical text with a line feed.
 ///
-/// A packet is shown as soon as it is read, and nothing behind the first bytes that are no packet. It waits in the calls
-/// of its input and output alone.
+/// A packet is shown as soon as it is read, and nothing behind the first bytes that are no packet. It waits in the
+/// calls of its input and output alone.
 pub fn show<S: Source, K: Sink>(alloc: Global, input: &mut S, out: &mut K) -> Result<(), ShowError>
     ensures ends { Ends result (change S.left S.faults input.old input.new) (change K.taken K.faults out.old out.new) }
     ensures input_later { S.faults input.old ≤ S.faults input.new }

@@ -44,21 +44,25 @@ IsGlobal variable = IsHeld variable.1
 abbrev Globals : Variables → Type 0
 Globals vs = AllByRecursion IsGlobal vs
 
-held-with_slot-by : (b : Bool) (e : List ℕ × Slot) (es new : Variables) (v : Value) → Globals (e ∷ es) → Globals new → Globals (if b then (e.0, Held v) ∷ es else e ∷ new)
+held-with_slot-by : (b : Bool) (e : List ℕ × Slot) (es new : Variables) (v : Value) → Globals (e ∷ es) → Globals new
+    → Globals (if b then (e.0, Held v) ∷ es else e ∷ new)
 held-with_slot-by true e es new v all rest = (tt, all.1)
 held-with_slot-by false e es new v all rest = (all.0, rest)
 
 held-with_slot : (vs : Variables) (name : List ℕ) (v : Value) → Globals vs → Globals (with_slot vs name (Held v))
 held-with_slot [] name v all = (tt, tt)
-held-with_slot (e ∷ es) name v all = held-with_slot-by (bytes_eq name e.0) e es (with_slot es name (Held v)) v all (held-with_slot es name v all.1)
+held-with_slot (e ∷ es) name v all =
+    held-with_slot-by (bytes_eq name e.0) e es (with_slot es name (Held v)) v all (held-with_slot es name v all.1)
 
-held-without-by : (b : Bool) (e : List ℕ × Slot) (es new : Variables) → Globals (e ∷ es) → Globals new → Globals (if b then es else e ∷ new)
+held-without-by : (b : Bool) (e : List ℕ × Slot) (es new : Variables) → Globals (e ∷ es) → Globals new
+    → Globals (if b then es else e ∷ new)
 held-without-by true e es new all rest = all.1
 held-without-by false e es new all rest = (all.0, rest)
 
 held-without : (vs : Variables) (name : List ℕ) → Globals vs → Globals (without vs name)
 held-without [] name all = tt
-held-without (e ∷ es) name all = held-without-by (bytes_eq name e.0) e es (without es name) all (held-without es name all.1)
+held-without (e ∷ es) name all =
+    held-without-by (bytes_eq name e.0) e es (without es name) all (held-without es name all.1)
 
 held-with_null : (vs : Variables) (name : List ℕ) → Globals vs → Globals (with_null name vs)
 held-with_null vs name all = by (is_some (slot_of vs name))
@@ -99,7 +103,8 @@ module _ (P : Frame → Type 0) where
     all-with_line n (f ∷ []) all = (same f (record f { line = n }) refl all.0, tt)
     all-with_line n (f ∷ g ∷ fs) all = (all.0, all-with_line n (g ∷ fs) all.1)
 
-    all-with_vars : (at : ℕ) (vs : Variables) (fs : List Frame) → AllByRecursion P fs → AllByRecursion P (with_vars at vs fs)
+    all-with_vars : (at : ℕ) (vs : Variables) (fs : List Frame) → AllByRecursion P fs
+        → AllByRecursion P (with_vars at vs fs)
     all-with_vars at vs [] all = tt
     all-with_vars zero vs (f ∷ fs) all = (same f (record f { vars = vs }) refl all.0, all.1)
     all-with_vars (suc at) vs (f ∷ fs) all = (all.0, all-with_vars at vs fs all.1)
@@ -149,12 +154,30 @@ module _ (bundle : Bundle) where
   pub of-on_line : (n : ℕ) (s : State) → IsOf bundle s → IsOf bundle (on_line n s)
   of-on_line n s is =
       let p = parts s is in
-      whole (on_line n s) (record { base = base-with_line n s.frames p.base; files = all-with_line HasFile moved n s.frames p.files; globals = p.globals; declared = p.declared })
+      whole (on_line n s) (record {
+        base = base-with_line n s.frames p.base;
+        files = all-with_line HasFile moved n
+            s.frames p.files;
+        globals = p.globals;
+        declared = p.declared;
+      })
 
   pub of-counted : (s : State) → IsOf bundle s → IsOf bundle (counted s)
-  of-counted s is = record { main = is.main; above = is.above; frames = is.frames; lowest = is.lowest; apart = is.apart; globals = is.globals; files = is.files; declared = is.declared }
+  of-counted s is =
+      record {
+        main = is.main;
+        above = is.above;
+        frames = is.frames;
+        lowest = is.lowest;
+        apart = is.apart;
+        globals =
+            is.globals;
+        files = is.files;
+        declared = is.declared;
+      }
 
-  printed-by : (piece : List ℕ) (s t : State) (b : Bool) → (if b then Ok (record s { output = s.output ++ piece }) else Err OutputFull) ≡ Ok t →
+  printed-by : (piece : List ℕ) (s t : State) (b : Bool)
+      → (if b then Ok (record s { output = s.output ++ piece }) else Err OutputFull) ≡ Ok t →
       t ≡ record s { output = s.output ++ piece }
   printed-by piece s t true g = cc
   printed-by piece s t false g = cc
@@ -162,20 +185,39 @@ module _ (bundle : Bundle) where
   pub of-printed : (piece : List ℕ) (s t : State) → printed piece s ≡ Ok t → IsOf bundle s → IsOf bundle t
   of-printed piece s t h is =
       subst (IsOf bundle) (sym (printed-by piece s t (nat_le (length s.output + length piece) output_limit) h))
-      (record { main = is.main; above = is.above; frames = is.frames; lowest = is.lowest; apart = is.apart; globals = is.globals; files = is.files; declared = is.declared })
+      (record {
+        main = is.main;
+        above = is.above;
+        frames = is.frames;
+        lowest = is.lowest;
+        apart = is.apart;
+        globals =
+            is.globals;
+        files = is.files;
+        declared = is.declared;
+      })
 
-  entered-by : (frame : Frame) (s t : State) (b : Bool) → (if b then Ok (record s { frames = s.frames ++ frame ∷ [] }) else Err TooDeep) ≡ Ok t →
+  entered-by : (frame : Frame) (s t : State) (b : Bool)
+      → (if b then Ok (record s { frames = s.frames ++ frame ∷ [] }) else Err TooDeep) ≡ Ok t →
       t ≡ record s { frames = s.frames ++ frame ∷ [] }
   entered-by frame s t true g = cc
   entered-by frame s t false g = cc
 
-  pub of-entered : (frame : Frame) (s t : State) → entered frame s ≡ Ok t → HasFile frame → IsOf bundle s → IsOf bundle t
+  pub of-entered : (frame : Frame) (s t : State) → entered frame s ≡ Ok t → HasFile frame → IsOf bundle s
+      → IsOf bundle t
   of-entered frame s t h there is =
       let p = parts s is in
       let u : State = record s { frames = s.frames ++ frame ∷ [] } in
-      let files : AllByRecursion HasFile u.frames = recursion_from_All HasFile (s.frames ++ frame ∷ []) (All-push HasFile s.frames frame is.files there) in
+      let files : AllByRecursion HasFile u.frames = recursion_from_All HasFile (s.frames ++ frame ∷ [])
+      (All-push HasFile s.frames frame is.files there) in
       subst (IsOf bundle) (sym (entered-by frame s t (nat_le (length s.frames + 1) frame_limit) h))
-      (whole u (record { base = base-push s.frames frame p.base; files = files; globals = p.globals; declared = p.declared }))
+      (whole u (record {
+        base = base-push s.frames frame p.base;
+        files = files;
+        globals = p.globals;
+        declared =
+            p.declared;
+      }))
 
   -- where a frame stands above the main one
   pub of-left : (s : State) → 1 < length s.frames → IsOf bundle s → IsOf bundle (left s)
@@ -188,33 +230,51 @@ module _ (bundle : Bundle) where
         declared = p.declared;
       })
 
-  of-with_own : (at : ℕ) (vs : Variables) (s : State) → (at ≡ 0 → Globals vs) → IsOf bundle s → IsOf bundle (with_own at vs s)
+  of-with_own : (at : ℕ) (vs : Variables) (s : State) → (at ≡ 0 → Globals vs) → IsOf bundle s
+      → IsOf bundle (with_own at vs s)
   of-with_own zero vs s held is =
       let p = parts s is in
-      whole (record s { globals = vs }) (record { base = p.base; files = p.files; globals = held refl; declared = p.declared })
+      whole (record s { globals = vs }) (record {
+        base = p.base;
+        files = p.files;
+        globals = held refl;
+        declared =
+            p.declared;
+      })
   of-with_own (suc at) vs s held is =
       let p = parts s is in
       let u : State = record s { frames = with_vars (suc at) vs s.frames } in
       subst (IsOf bundle) (sym (above at vs s))
-      (whole u (record { base = base-with_vars (suc at) vs s.frames p.base; files = all-with_vars HasFile moved (suc at) vs s.frames p.files; globals = p.globals; declared = p.declared }))
+      (whole u (record {
+        base = base-with_vars (suc at) vs s.frames p.base;
+        files = all-with_vars HasFile moved
+            (suc at) vs s.frames p.files;
+        globals = p.globals;
+        declared = p.declared;
+      }))
 
   own-held : (s : State) (at : ℕ) → IsOf bundle s → at ≡ 0 → Globals (own_variables s at)
   own-held s at is lowest = subst (λ n. Globals (own_variables s n)) (sym lowest) (parts s is).globals
 
-  pub of-with_value : (level : ℕ) (name : List ℕ) (v : Value) (s : State) → IsOf bundle s → IsOf bundle (with_value level name v s)
+  pub of-with_value : (level : ℕ) (name : List ℕ) (v : Value) (s : State) → IsOf bundle s
+      → IsOf bundle (with_value level name v s)
   of-with_value level name v s is =
       subst (IsOf bundle) (sym (value-home s level name v))
       (of-with_own (home s level name) (with_slot (own_variables s (home s level name)) name (Held v)) s
-      (λ lowest. held-with_slot (own_variables s (home s level name)) name v (own-held s (home s level name) is lowest)) is)
+      (λ lowest. held-with_slot (own_variables s (home s level name)) name v (own-held s (home s level name) is lowest))
+      is)
 
-  then-kept : (r : Result Data WriteError) (f : Data → State) (t : State) → then_state r f ≡ Ok t → ((d : Data) → IsOf bundle (f d)) → IsOf bundle t
+  then-kept : (r : Result Data WriteError) (f : Data → State) (t : State) → then_state r f ≡ Ok t
+      → ((d : Data) → IsOf bundle (f d)) → IsOf bundle t
   then-kept (Ok d) f t h kept = let same : f d ≡ t = cc in subst (IsOf bundle) same (kept d)
   then-kept (Err e) f t h kept = cc
 
-  pub of-assigned : (level : ℕ) (name : List ℕ) (keys : List (Option Key)) (push : Bool) (value : Value) (s t : State) → assigned level name keys push value s ≡ Ok t →
+  pub of-assigned : (level : ℕ) (name : List ℕ) (keys : List (Option Key)) (push : Bool) (value : Value) (s t : State)
+      → assigned level name keys push value s ≡ Ok t →
       IsOf bundle s → IsOf bundle t
   of-assigned level name keys push value s t h is =
-      then-kept (write_result keys push (data_of value) (data_of (unwrap_or (read_at s level name) Null))) (λ d. with_value level name (value_of d) s) t h
+      then-kept (write_result keys push (data_of value) (data_of (unwrap_or (read_at s level name) Null)))
+      (λ d. with_value level name (value_of d) s) t h
       (λ d. of-with_value level name (value_of d) s is)
 
   of-without_variable : (name : List ℕ) (s : State) → IsOf bundle s → IsOf bundle (without_variable name s)
@@ -223,17 +283,22 @@ module _ (bundle : Bundle) where
       (λ lowest. held-without (own_variables s (owner_at s 0)) name (own-held s (owner_at s 0) is lowest)) is
 
   entry-kept : (name : List ℕ) (keys : List (Option Key)) (s t : State) (o : Option Value) →
-      option_map_or (λ value. then_state (removed keys (data_of value)) (λ d. with_value 0 name (value_of d) s)) o (Ok s) ≡ Ok t → IsOf bundle s → IsOf bundle t
+      option_map_or (λ value. then_state (removed keys (data_of value)) (λ d. with_value 0 name (value_of d) s)) o
+      (Ok s) ≡ Ok t → IsOf bundle s → IsOf bundle t
   entry-kept name keys s t None h is = let same : s ≡ t = cc in subst (IsOf bundle) same is
   entry-kept name keys s t (Some value) h is =
-      then-kept (removed keys (data_of value)) (λ d. with_value 0 name (value_of d) s) t h (λ d. of-with_value 0 name (value_of d) s is)
+      then-kept (removed keys (data_of value)) (λ d. with_value 0 name (value_of d) s) t h
+      (λ d. of-with_value 0 name (value_of d) s is)
 
-  pub of-unset : (name : List ℕ) (keys : List (Option Key)) (s t : State) → unset name keys s ≡ Ok t → IsOf bundle s → IsOf bundle t
-  of-unset name [] s t h is = let same : without_variable name s ≡ t = cc in subst (IsOf bundle) same (of-without_variable name s is)
+  pub of-unset : (name : List ℕ) (keys : List (Option Key)) (s t : State) → unset name keys s ≡ Ok t → IsOf bundle s
+      → IsOf bundle t
+  of-unset name [] s t h is =
+      let same : without_variable name s ≡ t = cc in subst (IsOf bundle) same (of-without_variable name s is)
   of-unset name (key ∷ keys) s t h is = entry-kept name (key ∷ keys) s t (read_at s 0 name) h is
 
   of-made : (name : List ℕ) (s : State) → IsOf bundle s → IsOf bundle (record s { globals = with_null name s.globals })
-  of-made name s is = of-with_own 0 (with_null name s.globals) s (λ _. held-with_null s.globals name (parts s is).globals) is
+  of-made name s is =
+      of-with_own 0 (with_null name s.globals) s (λ _. held-with_null s.globals name (parts s is).globals) is
 
   global-by : (name : List ℕ) (s : State) (at : ℕ) → IsOf bundle s →
       IsOf bundle (if at == 0 then record s { globals = with_null name s.globals }
@@ -241,21 +306,26 @@ module _ (bundle : Bundle) where
   global-by name s zero is = of-made name s is
   global-by name s (suc n) is =
       let u : State = record s { globals = with_null name s.globals } in
-      subst (IsOf bundle) (ap (λ b. if b then u else with_own (suc n) (with_slot (variables_at s 0) name Bound) u) (sym (is_above n)))
-      (of-with_own (suc n) (with_slot (variables_at s 0) name Bound) u (λ lowest. absurd (omega arith)) (of-made name s is))
+      subst (IsOf bundle) (ap (λ b. if b then u else with_own (suc n) (with_slot (variables_at s 0) name Bound) u)
+      (sym (is_above n)))
+      (of-with_own (suc n) (with_slot (variables_at s 0) name Bound) u (λ lowest. absurd (omega arith))
+      (of-made name s is))
 
   pub of-with_global : (name : List ℕ) (s : State) → IsOf bundle s → IsOf bundle (with_global name s)
   of-with_global name s is = global-by name s (owner_at s 0) is
 
   called-by : (file : ℕ) (function : Function) (values : List Value) (s t : State) (b : Bool) →
-      (if b then entered (called_frame file function values) s else Err Arguments) ≡ Ok t → entered (called_frame file function values) s ≡ Ok t
+      (if b then entered (called_frame file function values) s else Err Arguments) ≡ Ok t
+      → entered (called_frame file function values) s ≡ Ok t
   called-by file function values s t true h = h
   called-by file function values s t false h = cc
 
-  pub of-called : (file : ℕ) (function : Function) (values : List Value) (s t : State) → called file function values s ≡ Ok t → file < length bundle.files →
+  pub of-called : (file : ℕ) (function : Function) (values : List Value) (s t : State)
+      → called file function values s ≡ Ok t → file < length bundle.files →
       IsOf bundle s → IsOf bundle t
   of-called file function values s t h there is =
-      of-entered (called_frame file function values) s t (called-by file function values s t (nat_le (length function.parameters) (length values)) h) there is
+      of-entered (called_frame file function values) s t (called-by file function values s t
+      (nat_le (length function.parameters) (length values)) h) there is
 
   -- the functions of a file are there
   first-there : (file n : ℕ) → n ≤ function_count bundle file → All IsThere (first_functions file n)
@@ -264,7 +334,8 @@ module _ (bundle : Bundle) where
       let f : FunctionRef = record { file = file; function = n } in
       All-push IsThere (first_functions file n) f (first-there file n (omega arith)) (omega arith)
 
-  of-declared : (file : ℕ) (s : State) → IsOf bundle s → IsOf bundle (record s { declared = s.declared ++ functions_of bundle file })
+  of-declared : (file : ℕ) (s : State) → IsOf bundle s
+      → IsOf bundle (record s { declared = s.declared ++ functions_of bundle file })
   of-declared file s is = record {
     main = is.main;
     above = is.above;
@@ -273,20 +344,26 @@ module _ (bundle : Bundle) where
     apart = is.apart;
     globals = is.globals;
     files = is.files;
-    declared = All-append IsThere s.declared (functions_of bundle file) is.declared (first-there file (function_count bundle file) (omega arith));
+    declared =
+        All-append IsThere s.declared (functions_of bundle file) is.declared
+        (first-there file (function_count bundle file) (omega arith));
   }
 
   included-by : (file : ℕ) (s t : State) (b d : Bool) →
-      (if b then (if d then Err Redeclared else entered (included_frame file) (record s { declared = s.declared ++ functions_of bundle file })) else Err TooDeep) ≡ Ok t →
+      (if b then (if d then Err Redeclared
+      else entered (included_frame file) (record s { declared = s.declared ++ functions_of bundle file }))
+      else Err TooDeep) ≡ Ok t →
       entered (included_frame file) (record s { declared = s.declared ++ functions_of bundle file }) ≡ Ok t
   included-by file s t true true g = cc
   included-by file s t true false g = g
   included-by file s t false d g = cc
 
-  pub of-included : (file : ℕ) (s t : State) → included bundle file s ≡ Ok t → file < length bundle.files → IsOf bundle s → IsOf bundle t
+  pub of-included : (file : ℕ) (s t : State) → included bundle file s ≡ Ok t → file < length bundle.files
+      → IsOf bundle s → IsOf bundle t
   of-included file s t h there is =
       of-entered (included_frame file) (record s { declared = s.declared ++ functions_of bundle file }) t
-      (included-by file s t (nat_le (length s.frames + 1) frame_limit) (any_declared bundle s.declared (functions_of bundle file)) h) there (of-declared file s is)
+      (included-by file s t (nat_le (length s.frames + 1) frame_limit)
+      (any_declared bundle s.declared (functions_of bundle file)) h) there (of-declared file s is)
 
   pub of-opening : 0 < length bundle.files → IsOf bundle (opening bundle)
   of-opening some = record {

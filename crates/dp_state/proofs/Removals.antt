@@ -21,7 +21,8 @@ free-then : (r : Result Data WriteError) (f : Data → Data) → IsFree r → Is
 free-then (Ok d) f free e = cc
 free-then (Err why) f free e = free e
 
-free-entry : (t : Table) (key : Key) (f : Data → Result Data WriteError) (o : Option Data) → ((d : Data) → IsFree (f d)) → IsFree (with_entry t key f o)
+free-entry : (t : Table) (key : Key) (f : Data → Result Data WriteError) (o : Option Data) → ((d : Data) → IsFree (f d))
+    → IsFree (with_entry t key f o)
 free-entry t key f None free e = cc
 free-entry t key f (Some d) free e = free-then (f d) (λ x. data_of_table (table_exchange t key x)) (free d) e
 
@@ -44,7 +45,8 @@ free-array (array es largest) f free e = free (record { pairs = pairs_of es; lar
 removed-free : (keys : List (Option Key)) (d : Data) → IsFree (removed keys d)
 removed-free [] d e = cc
 removed-free (key ∷ keys) d e =
-    free-array d _ (λ t. free-key key _ (λ k. free-if (length keys == 0) (data_of_table (table_remove t k)) (with_entry t k (removed keys) (value_at t k))
+    free-array d _ (λ t. free-key key _ (λ k. free-if (length keys == 0) (data_of_table (table_remove t k))
+    (with_entry t k (removed keys) (value_at t k))
     (free-entry t k (removed keys) (value_at t k) (removed-free keys)))) e
 
 -- what a removal refuses is no want of memory
@@ -58,7 +60,8 @@ removal_free keys d write.TooHeavy e f = cc
 removal_free keys d write.Memory e f = removed-free keys d e
 
 -- where no memory is wanted, each refusal is sure
-pub sure_by : {X : Type 0} (asked : Result State FatalKind) (r : Result X Fault) (s : State) → OnOk r (asked ≡ Ok s) → IfErr r (IsCause asked)
+pub sure_by : {X : Type 0} (asked : Result State FatalKind) (r : Result X Fault) (s : State) → OnOk r (asked ≡ Ok s)
+    → IfErr r (IsCause asked)
     → r ≢ Err fault.Memory → IsSure asked r
 sure_by asked (Ok x) s ok refused free kind e = absurd (cc)
 sure_by asked (Err fault.Memory) s ok refused free kind e = absurd (free refl)

@@ -25,16 +25,19 @@ module _ (name : List ℕ) where
   module _ (w : Slot) where
     -- a name that is there keeps its place
     set-inserts-more : (e : List ℕ × Slot) (es : Variables) (s : Slot) (b : Bool) → bytes_eq name e.0 ≡ b →
-        (slot_of es name ≡ Some s → set_value (bytes_eq name) es w ≡ with_slot es name w) → slot_of (e ∷ es) name ≡ Some s →
+        (slot_of es name ≡ Some s → set_value (bytes_eq name) es w ≡ with_slot es name w)
+        → slot_of (e ∷ es) name ≡ Some s →
         set_value (bytes_eq name) (e ∷ es) w ≡ with_slot (e ∷ es) name w
     set-inserts-more e es s true h rest found = rw h refl
     set-inserts-more e es s false h rest found = rw h (ap (λ fs. e ∷ fs) (rest (rw h at found)))
 
-    pub set-inserts : (es : Variables) (s : Slot) → slot_of es name ≡ Some s → set_value (bytes_eq name) es w ≡ with_slot es name w
+    pub set-inserts : (es : Variables) (s : Slot) → slot_of es name ≡ Some s
+        → set_value (bytes_eq name) es w ≡ with_slot es name w
     set-inserts [] s found = cc
     set-inserts (e ∷ es) s found = set-inserts-more e es s (bytes_eq name e.0) refl (set-inserts es s) found
 
-    slot-with_slot-more : (e : List ℕ × Slot) (es : Variables) (b : Bool) → bytes_eq name e.0 ≡ b → slot_of (with_slot es name w) name ≡ Some w →
+    slot-with_slot-more : (e : List ℕ × Slot) (es : Variables) (b : Bool) → bytes_eq name e.0 ≡ b
+        → slot_of (with_slot es name w) name ≡ Some w →
         slot_of (with_slot (e ∷ es) name w) name ≡ Some w
     slot-with_slot-more e es true h rest = rw (h, h) refl
     slot-with_slot-more e es false h rest = rw (h, h) rest
@@ -45,7 +48,8 @@ module _ (name : List ℕ) where
 
     -- of two slots the second counts
     with_slot-twice-more : (e : List ℕ × Slot) (es : Variables) (s : Slot) (b : Bool) → bytes_eq name e.0 ≡ b →
-        with_slot (with_slot es name s) name w ≡ with_slot es name w → with_slot (with_slot (e ∷ es) name s) name w ≡ with_slot (e ∷ es) name w
+        with_slot (with_slot es name s) name w ≡ with_slot es name w
+        → with_slot (with_slot (e ∷ es) name s) name w ≡ with_slot (e ∷ es) name w
     with_slot-twice-more e es s true h rest = rw (h, h) refl
     with_slot-twice-more e es s false h rest = rw (h, h) (ap (λ fs. e ∷ fs) rest)
 
@@ -54,7 +58,8 @@ module _ (name : List ℕ) where
     with_slot-twice (e ∷ es) s = with_slot-twice-more e es s (bytes_eq name e.0) refl (with_slot-twice es s)
 
     -- the slot that is there changes nothing
-    with_slot-same-more : (e : List ℕ × Slot) (es : Variables) (b : Bool) → bytes_eq name e.0 ≡ b → (slot_of es name ≡ Some w → with_slot es name w ≡ es) →
+    with_slot-same-more : (e : List ℕ × Slot) (es : Variables) (b : Bool) → bytes_eq name e.0 ≡ b
+        → (slot_of es name ≡ Some w → with_slot es name w ≡ es) →
         slot_of (e ∷ es) name ≡ Some w → with_slot (e ∷ es) name w ≡ e ∷ es
     with_slot-same-more e es true h rest found =
         rw h (ap (λ (s : Slot). let x : List ℕ × Slot = (e.0, s) in x ∷ es) (sym (same_Some e.1 w (rw h at found))))
@@ -65,7 +70,8 @@ module _ (name : List ℕ) where
     with_slot-same (e ∷ es) found = with_slot-same-more e es (bytes_eq name e.0) refl (with_slot-same es) found
 
     -- a new name goes as it came
-    without-new-more : (e : List ℕ × Slot) (es : Variables) (b : Bool) → bytes_eq name e.0 ≡ b → (slot_of es name ≡ None → without (with_slot es name w) name ≡ es) →
+    without-new-more : (e : List ℕ × Slot) (es : Variables) (b : Bool) → bytes_eq name e.0 ≡ b
+        → (slot_of es name ≡ None → without (with_slot es name w) name ≡ es) →
         slot_of (e ∷ es) name ≡ None → without (with_slot (e ∷ es) name w) name ≡ e ∷ es
     without-new-more e es true h rest missing = let there : Some e.1 ≡ None = rw h at missing in cc
     without-new-more e es false h rest missing = rw (h, h) (ap (λ fs. e ∷ fs) (rest (rw h at missing)))
@@ -79,7 +85,8 @@ module _ (name : List ℕ) where
   abbrev pub Exchanged : Variables → Value → Variables → Type 0
   Exchanged es value n = n ≡ (if is_some (value_held (slot_of es name)) then with_slot es name (Held value) else es)
 
-  pub exchanged : (es : Variables) (s : Slot) (value : Value) (n : Variables) (w : Slot) → Some s ≡ slot_of es name → w ≡ with_held value s →
+  pub exchanged : (es : Variables) (s : Slot) (value : Value) (n : Variables) (w : Slot) → Some s ≡ slot_of es name
+      → w ≡ with_held value s →
       n ≡ set_value (bytes_eq name) es w → Exchanged es value n
   exchanged es (Held old) value n w there new is =
       let test : true ≡ is_some (value_held (slot_of es name)) = ap (λ o. is_some (value_held o)) there in
@@ -87,7 +94,8 @@ module _ (name : List ℕ) where
       ∙ ap (λ b. if b then with_slot es name (Held value) else es) test
   exchanged es Bound value n w there new is =
       let test : false ≡ is_some (value_held (slot_of es name)) = ap (λ o. is_some (value_held o)) there in
-      is ∙ ap (λ (x : Slot). set_value (bytes_eq name) es x) new ∙ set-inserts Bound es Bound (sym there) ∙ with_slot-same Bound es (sym there)
+      is ∙ ap (λ (x : Slot). set_value (bytes_eq name) es x) new ∙ set-inserts Bound es Bound (sym there)
+      ∙ with_slot-same Bound es (sym there)
       ∙ ap (λ b. if b then with_slot es name (Held value) else es) test
 
   -- a value is taken out, changed to another, and put back
@@ -103,10 +111,12 @@ module _ (name : List ℕ) where
     taken-out : (value : Value) (n : Variables) → Exchanged es value n → n ≡ with_slot es name (Held value)
     taken-out value n out = out ∙ ap (λ o. if is_some (value_held o) then with_slot es name (Held value) else es) held
 
-    pub put_back : (value w : Value) (n m : Variables) → Exchanged es value n → Exchanged n w m → m ≡ with_slot es name (Held w)
+    pub put_back : (value w : Value) (n m : Variables) → Exchanged es value n → Exchanged n w m
+        → m ≡ with_slot es name (Held w)
     put_back value w n m out back =
         let first : n ≡ with_slot es name (Held value) = taken-out value n out in
-        let holds : slot_of n name ≡ Some (Held value) = ap (λ (x : Variables). slot_of x name) first ∙ slot-with_slot (Held value) es in
+        let holds : slot_of n name ≡ Some (Held value) = ap (λ (x : Variables). slot_of x name) first
+        ∙ slot-with_slot (Held value) es in
         back
         ∙ ap (λ o. if is_some (value_held o) then with_slot n name (Held w) else n) holds
         ∙ ap (λ (x : Variables). with_slot x name (Held w)) first
@@ -114,17 +124,20 @@ module _ (name : List ℕ) where
 
     pub put_same : (value w : Value) (n m : Variables) → Exchanged es value n → Exchanged n w m → w ≡ v → m ≡ es
     put_same value w n m out back same =
-        put_back value w n m out back ∙ ap (λ (x : Value). with_slot es name (Held x)) same ∙ with_slot-same (Held v) es held
+        put_back value w n m out back ∙ ap (λ (x : Value). with_slot es name (Held x)) same
+        ∙ with_slot-same (Held v) es held
 
     pub data_there : data_in es name ≡ data_of v
     data_there = ap (λ (o : Option Value). data_of (unwrap_or o Null)) (sym there)
 
     -- what a write or a removal gives for it is what is put back
-    pub then_put_back : (value w : Value) (n m : Variables) (asked : Result Data WriteError) → Exchanged es value n → Exchanged n w m → asked ≡ Ok (data_of w) →
+    pub then_put_back : (value w : Value) (n m : Variables) (asked : Result Data WriteError) → Exchanged es value n
+        → Exchanged n w m → asked ≡ Ok (data_of w) →
         then_variables name es asked ≡ Ok m
     then_put_back value w n m asked out back is =
         ap (then_variables name es) is
-        ∙ ap (λ (x : Value). let r : Result Variables FatalKind = Ok (with_slot es name (Held x)) in r) (value_of-data_of w)
+        ∙ ap (λ (x : Value). let r : Result Variables FatalKind = Ok (with_slot es name (Held x)) in r)
+        (value_of-data_of w)
         ∙ ap (λ (x : Variables). let r : Result Variables FatalKind = Ok x in r) (sym (put_back value w n m out back))
 
   -- a name that holds no value gets one
@@ -132,11 +145,13 @@ module _ (name : List ℕ) where
     pub data_missing : data_in es name ≡ null
     data_missing = ap (λ (o : Option Value). data_of (unwrap_or o Null)) none
 
-    pub then_new : (w : Value) (own : List ℕ) (m : Variables) (asked : Data → Result Data WriteError) → own ≡ name → m ≡ with_slot es own (Held w) →
+    pub then_new : (w : Value) (own : List ℕ) (m : Variables) (asked : Data → Result Data WriteError) → own ≡ name
+        → m ≡ with_slot es own (Held w) →
         asked null ≡ Ok (data_of w) → then_variables name es (asked (data_in es name)) ≡ Ok m
     then_new w own m asked copied set is =
         ap (λ (d : Data). then_variables name es (asked d)) data_missing
         ∙ ap (then_variables name es) is
-        ∙ ap (λ (x : Value). let r : Result Variables FatalKind = Ok (with_slot es name (Held x)) in r) (value_of-data_of w)
+        ∙ ap (λ (x : Value). let r : Result Variables FatalKind = Ok (with_slot es name (Held x)) in r)
+        (value_of-data_of w)
         ∙ ap (λ (x : List ℕ). let r : Result Variables FatalKind = Ok (with_slot es x (Held w)) in r) (sym copied)
         ∙ ap (λ (x : Variables). let r : Result Variables FatalKind = Ok x in r) (sym set)

@@ -27,29 +27,35 @@ abbrev pub with_result : ℕ → State → Result Variables FatalKind → Result
 with_result at s (Ok vs) = Ok (with_own at vs s)
 with_result at s (Err kind) = Err kind
 
-cause-by : (at : ℕ) (s : State) (part : Result Variables FatalKind) (f : Fault) → IsCauseIn part f → IsCause (with_result at s part) f
+cause-by : (at : ℕ) (s : State) (part : Result Variables FatalKind) (f : Fault) → IsCauseIn part f
+    → IsCause (with_result at s part) f
 cause-by at s part fault.Memory h = tt
 cause-by at s part (fault.Fatal kind) h = ap (with_result at s) h
 
 -- the frame is still there once its variables were taken out
-pub within-still : (at : ℕ) (s s₁ : State) → s₁ ≡ with_own at [] s → at ≤ length s.frames - 1 → at ≤ length s₁.frames - 1
+pub within-still : (at : ℕ) (s s₁ : State) → s₁ ≡ with_own at [] s → at ≤ length s.frames - 1
+    → at ≤ length s₁.frames - 1
 within-still at s s₁ left within = omega (arith, ap (λ (t : State). length t.frames) left, frames-with_own at [] s)
 
-module _ (at : ℕ) (s s₁ s₂ : State) (vs ws : Variables) (taken : vs ≡ own_variables s at) (left : s₁ ≡ with_own at [] s) (given : s₂ ≡ with_own at ws s₁) where
+module _ (at : ℕ) (s s₁ s₂ : State) (vs ws : Variables) (taken : vs ≡ own_variables s at) (left : s₁ ≡ with_own at [] s)
+    (given : s₂ ≡ with_own at ws s₁) where
   pub put : s₂ ≡ with_own at ws s
   put = given ∙ ap (with_own at ws) left ∙ with_own-twice at [] ws s
 
-  module _ (asked : Result State FatalKind) (part : Variables → Result Variables FatalKind) (is : asked ≡ with_result at s (part (own_variables s at))) where
+  module _ (asked : Result State FatalKind) (part : Variables → Result Variables FatalKind)
+      (is : asked ≡ with_result at s (part (own_variables s at))) where
     asked-by : asked ≡ with_result at s (part vs)
     asked-by = is ∙ ap (λ (x : Variables). with_result at s (part x)) (sym taken)
 
     pub on_ok : {X : Type 0} (r : Result X Fault) → OnOk r (part vs ≡ Ok ws) → OnOk r (asked ≡ Ok s₂)
-    on_ok (Ok x) h = asked-by ∙ ap (with_result at s) h ∙ ap (λ (t : State). let r : Result State FatalKind = Ok t in r) (sym put)
+    on_ok (Ok x) h =
+        asked-by ∙ ap (with_result at s) h ∙ ap (λ (t : State). let r : Result State FatalKind = Ok t in r) (sym put)
     on_ok (Err e) h = tt
 
     pub on_refused : {X : Type 0} (r : Result X Fault) → IfErr r (IsCauseIn (part vs)) → IfErr r (IsCause asked)
     on_refused (Ok x) h = tt
-    on_refused (Err e) h = subst (λ (a : Result State FatalKind). IsCause a e) (sym asked-by) (cause-by at s (part vs) e h)
+    on_refused (Err e) h =
+        subst (λ (a : Result State FatalKind). IsCause a e) (sym asked-by) (cause-by at s (part vs) e h)
 
   pub put_same : at ≤ length s.frames - 1 → ws ≡ vs → s₂ ≡ s
   put_same within same = put ∙ ap (λ (x : Variables). with_own at x s) (same ∙ taken) ∙ with_own-same at s within
@@ -61,7 +67,8 @@ module _ (at : ℕ) (s s₁ s₂ : State) (vs ws : Variables) (taken : vs ≡ ow
 -- ---- the frame among whose variables a variable stands
 module _ (s : State) (level : ℕ) (name : List ℕ) where
   read-by : (o : Option Slot) → slot_of (variables_at s level) name ≡ o →
-      value_through o (value_held (slot_of s.globals name)) ≡ value_held (slot_of (own_variables s (if is_bound o then 0 else owner_at s level)) name)
+      value_through o (value_held (slot_of s.globals name)) ≡ value_held
+      (slot_of (own_variables s (if is_bound o then 0 else owner_at s level)) name)
   read-by None h = sym (ap value_held h)
   read-by (Some Bound) h = refl
   read-by (Some (Held v)) h = sym (ap value_held h)
@@ -70,12 +77,16 @@ module _ (s : State) (level : ℕ) (name : List ℕ) where
   read-home = read-by (slot_of (variables_at s level) name) refl
 
   value-by : (b : Bool) (v : Value) →
-      (if b then record s { globals = with_slot s.globals name (Held v) } else with_own (owner_at s level) (with_slot (variables_at s level) name (Held v)) s)
-      ≡ with_own (if b then 0 else owner_at s level) (with_slot (own_variables s (if b then 0 else owner_at s level)) name (Held v)) s
+      (if b then record s { globals = with_slot s.globals name (Held v) }
+      else with_own (owner_at s level) (with_slot (variables_at s level) name (Held v)) s)
+      ≡ with_own (if b then 0
+      else owner_at s level) (with_slot (own_variables s (if b then 0 else owner_at s level)) name (Held v)) s
   value-by true v = refl
   value-by false v = refl
 
-  pub value-home : (v : Value) → with_value level name v s ≡ with_own (home s level name) (with_slot (own_variables s (home s level name)) name (Held v)) s
+  pub value-home : (v : Value)
+      → with_value level name v s ≡ with_own (home s level name)
+      (with_slot (own_variables s (home s level name)) name (Held v)) s
   value-home v = value-by (is_bound (slot_of (variables_at s level) name)) v
 
   then-home : (r : Result Data WriteError) → then_state r (λ d. with_value level name (value_of d) s)
@@ -86,44 +97,56 @@ module _ (s : State) (level : ℕ) (name : List ℕ) where
   pub assigned-home : (keys : List (Option Key)) (push : Bool) (value : Value) → assigned level name keys push value s
       ≡ with_result (home s level name) s (assigned_in name keys push value (own_variables s (home s level name)))
   assigned-home keys push value =
-      ap (λ (o : Option Value). then_state (write_result keys push (data_of value) (data_of (unwrap_or o Null))) (λ d. with_value level name (value_of d) s)) read-home
-      ∙ then-home (write_result keys push (data_of value) (data_of (unwrap_or (value_held (slot_of (own_variables s (home s level name)) name)) Null)))
+      ap (λ (o : Option Value). then_state (write_result keys push (data_of value) (data_of (unwrap_or o Null)))
+      (λ d. with_value level name (value_of d) s)) read-home
+      ∙ then-home (write_result keys push (data_of value) (data_of
+      (unwrap_or (value_held (slot_of (own_variables s (home s level name)) name)) Null)))
 
 -- ---- unset
-removed-by : (s : State) (name : List ℕ) (keys : List (Option Key)) (o : Option Value) → home s 0 name ≤ length s.frames - 1 →
+removed-by : (s : State) (name : List ℕ) (keys : List (Option Key)) (o : Option Value)
+    → home s 0 name ≤ length s.frames - 1 →
     option_map_or (λ value. then_state (removed keys (data_of value)) (λ d. with_value 0 name (value_of d) s)) o (Ok s)
-    ≡ with_result (home s 0 name) s (option_map_or (λ value. then_variables name (own_variables s (home s 0 name)) (removed keys (data_of value))) o (Ok (own_variables s (home s 0 name))))
-removed-by s name keys None within = ap (λ (t : State). let r : Result State FatalKind = Ok t in r) (sym (with_own-same (home s 0 name) s within))
+    ≡ with_result (home s 0 name) s (option_map_or (λ value. then_variables name (own_variables s (home s 0 name))
+    (removed keys (data_of value))) o (Ok (own_variables s (home s 0 name))))
+removed-by s name keys None within =
+    ap (λ (t : State). let r : Result State FatalKind = Ok t in r) (sym (with_own-same (home s 0 name) s within))
 removed-by s name keys (Some value) within = then-home s 0 name (removed keys (data_of value))
 
-unset-some : (name : List ℕ) (keys : List (Option Key)) (s : State) → (length keys == 0) ≡ false → unset name keys s ≡ without_entry name keys s
+unset-some : (name : List ℕ) (keys : List (Option Key)) (s : State) → (length keys == 0) ≡ false
+    → unset name keys s ≡ without_entry name keys s
 unset-some name [] s some = cc
 unset-some name (key ∷ keys) s some = refl
 
-pub unset-none : (name : List ℕ) (keys : List (Option Key)) (s : State) → (length keys == 0) ≡ true → unset name keys s ≡ Ok (without_variable name s)
+pub unset-none : (name : List ℕ) (keys : List (Option Key)) (s : State) → (length keys == 0) ≡ true
+    → unset name keys s ≡ Ok (without_variable name s)
 unset-none name [] s none = refl
 unset-none name (key ∷ keys) s none = let some : (length (key ∷ keys) == 0) ≡ false = grind (arith, nat_tests) in cc
 
-pub unset-home : (name : List ℕ) (keys : List (Option Key)) (s : State) → (length keys == 0) ≡ false → home s 0 name ≤ length s.frames - 1 →
+pub unset-home : (name : List ℕ) (keys : List (Option Key)) (s : State) → (length keys == 0) ≡ false
+    → home s 0 name ≤ length s.frames - 1 →
     unset name keys s ≡ with_result (home s 0 name) s (removed_in name keys (own_variables s (home s 0 name)))
 unset-home name keys s some within =
     unset-some name keys s some
-    ∙ ap (λ (o : Option Value). option_map_or (λ value. then_state (removed keys (data_of value)) (λ d. with_value 0 name (value_of d) s)) o (Ok s)) (read-home s 0 name)
+    ∙ ap (λ (o : Option Value). option_map_or (λ value. then_state (removed keys (data_of value))
+    (λ d. with_value 0 name (value_of d) s)) o (Ok s)) (read-home s 0 name)
     ∙ removed-by s name keys (value_held (slot_of (own_variables s (home s 0 name)) name)) within
 
 -- ---- global
 module _ (s : State) (name : List ℕ) (globals : Variables) (made : globals ≡ with_null name s.globals) where
   pub global-bound : (at : ℕ) (vs : Variables) (s₃ : State) → at ≡ owner_at s 0 → at ≢ 0 → at ≤ length s.frames - 1 →
-      vs ≡ own_variables (record s { globals = globals }) at → s₃ ≡ with_own at (with_slot vs name Bound) (record s { globals = globals }) → s₃ ≡ with_global name s
+      vs ≡ own_variables (record s { globals = globals }) at
+      → s₃ ≡ with_own at (with_slot vs name Bound) (record s { globals = globals }) → s₃ ≡ with_global name s
   global-bound at vs s₃ is apart within taken given =
       let own : vs ≡ variables_at s 0 = taken ∙ own-apart at s globals apart within ∙ ap (own_variables s) is in
       let test : (owner_at s 0 == 0) ≡ false = ap (λ n. n == 0) (sym is) ∙ apart-test at apart in
       given
       ∙ ap (λ (x : Variables). with_own at (with_slot x name Bound) (record s { globals = globals })) own
       ∙ ap (λ (n : ℕ). with_own n (with_slot (variables_at s 0) name Bound) (record s { globals = globals })) is
-      ∙ ap (λ (g : Variables). with_own (owner_at s 0) (with_slot (variables_at s 0) name Bound) (record s { globals = g })) made
+      ∙ ap (λ (g : Variables). with_own (owner_at s 0) (with_slot (variables_at s 0) name Bound)
+      (record s { globals = g })) made
       ∙ ap (λ b. if b then record s { globals = with_null name s.globals }
-      else with_own (owner_at s 0) (with_slot (variables_at s 0) name Bound) (record s { globals = with_null name s.globals })) (sym test)
+      else with_own (owner_at s 0) (with_slot (variables_at s 0) name Bound)
+      (record s { globals = with_null name s.globals })) (sym test)
 
   -- the global variable that was made goes again
   undone-by : (o : Option Slot) → slot_of s.globals name ≡ o → not (is_some o) ≡ true → without globals name ≡ s.globals
@@ -138,7 +161,8 @@ module _ (s : State) (name : List ℕ) (globals : Variables) (made : globals ≡
 
   kept-by : (o : Option Slot) → slot_of s.globals name ≡ o → not (is_some o) ≡ false → globals ≡ s.globals
   kept-by None missing h = cc
-  kept-by (Some x) there h = made ∙ ap (λ o. if is_some o then s.globals else with_slot s.globals name (Held Null)) there
+  kept-by (Some x) there h =
+      made ∙ ap (λ o. if is_some o then s.globals else with_slot s.globals name (Held Null)) there
 
   pub global-kept : not (is_some (slot_of s.globals name)) ≡ false → record s { globals = globals } ≡ s
   global-kept h = ap (λ (g : Variables). record s { globals = g }) (kept-by (slot_of s.globals name) refl h)

@@ -5,7 +5,8 @@ ghost use Rattle.std.specs.List.{list_any};
 ghost use Rattle.std.specs.Option.{option_map_or};
 ghost use Rattle.dp_state.specs.States.{IsCause, IsSure};
 ghost use Rattle.dp_tree.specs.Files.{functions_of};
-ghost use Rattle.dp_state.specs.Functions.{any_declared as has_declared, called, declared_function, included, included_frame as frame_of_file, with_parameters};
+ghost use Rattle.dp_state.specs.Functions.{any_declared as has_declared, called, declared_function, included};
+ghost use Rattle.dp_state.specs.Functions.{included_frame as frame_of_file, with_parameters};
 
 use crate::moments::FatalKind;
 use crate::state::{Fault, Frame, FrameKind, State};
@@ -17,11 +18,11 @@ use std::alloc::Global;
 use std::mem;
 
 impl State {
-    /// Puts a frame on top for a call of this function of a file, on the function's line, with its parameters set. Values
-    /// beyond the parameters are left out.
+    /// Puts a frame on top for a call of this function of a file, on the function's line, with its parameters set.
+    /// Values beyond the parameters are left out.
     ///
-    /// `Arguments` comes exactly where there are fewer values than parameters, else `TooDeep` exactly where there would be
-    /// more than [`FRAME_LIMIT`] frames, both also where there is no memory. After a refusal the state is as before.
+    /// `Arguments` comes exactly where there are fewer values than parameters, else `TooDeep` exactly where there would
+    /// be more than [`FRAME_LIMIT`] frames, both also where there is no memory. After a refusal the state is as before.
     pub fn call(
         &mut self,
         file: u32,
@@ -89,7 +90,8 @@ impl State {
 
     // Whether one of these functions has the name of one that is declared.
     fn any_named(&self, bundle: &Bundle, functions: &[Function]) -> bool
-        ensures { result ≡ list_any (λ f. is_some (declared_function bundle.now f.name self.now.declared)) functions.now }
+        ensures { result ≡ list_any (λ f. is_some (declared_function bundle.now f.name self.now.declared))
+            functions.now }
     {
         functions.iter().any(|function| self.function(bundle, function.name.as_slice()).is_some())
     }

@@ -2,7 +2,8 @@
 
 ghost use Rattle.std.specs.Prelude.{◌≡◌, ◌≤◌, ◌-◌, length, option_map};
 ghost use Rattle.dp_state.specs.Variables.{slot_of, value_held};
-ghost use Rattle.dp_state.specs.States.{file_of, line_of, own_variables, owner as owner_of, owner_at as owner_of_level, read, read_at, shares_at, top_frame, variables_at};
+ghost use Rattle.dp_state.specs.States.{file_of, line_of, own_variables, owner as owner_of, owner_at as owner_of_level};
+ghost use Rattle.dp_state.specs.States.{read, read_at, shares_at, top_frame, variables_at};
 
 use crate::state::{Frame, State};
 use crate::vars::{Slot, Vars};

@@ -1,10 +1,12 @@
 //! Writes of variables and of their entries, and `unset` and `global`.
 
-ghost use Rattle.std.specs.Prelude.{◌≡◌, ◌≢◌, ◌≤◌, ◌<◌, ◌-◌, [], Ok, Err, Some, length, option_map, slice_get, IfErr, OnOk, OnErr};
+ghost use Rattle.std.specs.Prelude.{◌≡◌, ◌≢◌, ◌≤◌, ◌<◌, ◌-◌, [], Ok, Err, Some, length, option_map, slice_get, IfErr};
+ghost use Rattle.std.specs.Prelude.{OnOk, OnErr};
 ghost use Rattle.dp_state.specs.States.{own_variables, IsCause, IsSure};
 ghost use Rattle.dp_state.specs.declared.state.Fault.TheVariants as fault;
 ghost use Rattle.dp_state.specs.Variables.{slot_of};
-ghost use Rattle.dp_state.specs.Places.{assigned, is_bound as is_mark, unset, with_global, with_own, with_vars, without_variable};
+ghost use Rattle.dp_state.specs.Places.{assigned, is_bound as is_mark, unset, with_global, with_own, with_vars};
+ghost use Rattle.dp_state.specs.Places.{without_variable};
 ghost use Rattle.dp_state.specs.inner.Parts.{home as home_of};
 
 use crate::entries::{assign_in, bind_in, make_null, remove_in};
@@ -19,8 +21,8 @@ impl State {
     /// variable's. What is missing is created. The work grows with the number of keys, and not with what the variable
     /// holds.
     ///
-    /// The causes are tried key by key: `Scalar` and `Unsupported` by what holds the entry, then `BadKey`; behind the last
-    /// key `NextIndex`, then `TooHeavy`. After a refusal the state is as before.
+    /// The causes are tried key by key: `Scalar` and `Unsupported` by what holds the entry, then `BadKey`; behind the
+    /// last key `NextIndex`, then `TooHeavy`. After a refusal the state is as before.
     pub fn assign(
         &mut self,
         level: usize,
@@ -40,13 +42,13 @@ impl State {
         done
     }
 
-    /// Takes a variable of the top frame away, or its entry under `keys` where there are any. A key that is `None` stands
-    /// for an index that is no key. A name that is bound is bound no more, and the global variable stays; an entry of it
-    /// is an entry of the global variable. Where the variable or an entry on the way is missing, nothing changes. Takes no
-    /// memory.
+    /// Takes a variable of the top frame away, or its entry under `keys` where there are any. A key that is `None`
+    /// stands for an index that is no key. A name that is bound is bound no more, and the global variable stays; an
+    /// entry of it is an entry of the global variable. Where the variable or an entry on the way is missing, nothing
+    /// changes. Takes no memory.
     ///
-    /// The causes are tried key by key: `Scalar` and `Unsupported` by what holds the entry, then `BadKey`. After a refusal
-    /// the state is as before.
+    /// The causes are tried key by key: `Scalar` and `Unsupported` by what holds the entry, then `BadKey`. After a
+    /// refusal the state is as before.
     pub fn unset(&mut self, name: &Bytes, keys: &[Option<Key>]) -> Result<(), Fault>
         ensures ok { OnOk result (unset name.now keys.now self.old ≡ Ok self.new) }
         ensures refused { IfErr result (IsCause (unset name.now keys.now self.old)) }

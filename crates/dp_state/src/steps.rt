@@ -41,8 +41,8 @@ impl State {
 
     /// Writes a piece of output.
     ///
-    /// `OutputFull` comes exactly where more than [`OUTPUT_LIMIT`] bytes would be written, also where there is no memory.
-    /// After a refusal the state is as before.
+    /// `OutputFull` comes exactly where more than [`OUTPUT_LIMIT`] bytes would be written, also where there is no
+    /// memory. After a refusal the state is as before.
     pub fn print(&mut self, piece: &[u8]) -> Result<(), Fault>
         ensures ok { OnOk result (printed piece.now self.old ≡ Ok self.new) }
         ensures sure { IsSure (printed piece.now self.old) result }

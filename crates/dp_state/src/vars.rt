@@ -50,7 +50,8 @@ impl Slot {
 }
 
 impl Vars {
-    ghost use Rattle.std.specs.Prelude.{◌≡◌, [], length, is_some, if◌then◌else◌, option_map, slice_get, IfOk, OnOk, OnErr};
+    ghost use Rattle.std.specs.Prelude.{◌≡◌, [], length, is_some, if◌then◌else◌, option_map, slice_get, IfOk, OnOk};
+    ghost use Rattle.std.specs.Prelude.{OnErr};
     ghost use Rattle.std.specs.List.{IsDistinct};
     ghost use Rattle.std.specs.Map.{keys_of};
     ghost use Rattle.std.specs.Str.{bytes_eq};
@@ -97,11 +98,12 @@ impl Vars {
         Ok(())
     }
 
-    /// Puts a value in the place of the one that a name holds, and gives that one out. Where the name holds none, nothing
-    /// changes. Takes no memory.
+    /// Puts a value in the place of the one that a name holds, and gives that one out. Where the name holds none,
+    /// nothing changes. Takes no memory.
     pub(crate) fn exchange(&mut self, name: &Bytes, value: Value) -> Option<Value>
         ensures value { result ≡ value_held (slot_of self.old name.now) }
-        ensures exchanged { self.new ≡ (if is_some (value_held (slot_of self.old name.now)) then with_slot self.old name.now (variable.Held value) else self.old) }
+        ensures exchanged { self.new ≡ (if is_some (value_held (slot_of self.old name.now))
+            then with_slot self.old name.now (variable.Held value) else self.old) }
     {
         let Some(slot) = self.slots.get_mut(name) else {
             return None;

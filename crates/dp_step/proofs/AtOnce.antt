@@ -22,10 +22,12 @@ module _ {A : Type 0} where
   leads_off setting r t (Stopped m) next h = record { by = h.leaves }
 
   -- a part whose first step gives something
-  pub then_done : (r : Run A) (a : A) (t : State) (next : A → State → Run Signal) → AtOnce r (Ok a) t → and_then r next ≡ next a t
+  pub then_done : (r : Run A) (a : A) (t : State) (next : A → State → Run Signal) → AtOnce r (Ok a) t
+      → and_then r next ≡ next a t
   then_done r a t next h = first_done next h
 
 -- a part that does the same leads to the same
-pub leads_as : (setting : Setting) (part same : Follows → Run Signal) (x : Result Next Halt) (t : State) → ((k : Follows) → part k ≡ same k)
+pub leads_as : (setting : Setting) (part same : Follows → Run Signal) (x : Result Next Halt) (t : State)
+    → ((k : Follows) → part k ≡ same k)
     → Leads setting same x t → Leads setting part x t
 leads_as setting part same x t e h = subst (λ (p : Follows → Run Signal). Leads setting p x t) (λ i k. sym (e k) i) h

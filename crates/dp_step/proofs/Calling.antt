@@ -24,16 +24,20 @@ use Rattle.dp_tree.specs.declared.tree.Inclusion.TheVariants.{Include, Require}
 use Rattle.dp_actions.specs.Calls.{include_run, inclusion_run}
 
 module _ (setting : Setting) (k : Follows) (s : State) where
-  pub begins-Call : (name : List ℕ) (arguments : List Expression) → (evaluation (tree.Call name arguments) setting s >>= to_value k)
+  pub begins-Call : (name : List ℕ) (arguments : List Expression)
+      → (evaluation (tree.Call name arguments) setting s >>= to_value k)
       ≡ (call_run (callee setting.bundle name s) (evaluations arguments) setting s >>= to_value k)
   begins-Call name arguments = ap (λ z. z.value setting s >>= to_value k) (layer.run-Call name arguments)
 
-  pub begins-Include : (how : Inclusion) (file : Expression) → (evaluation (tree.Include how file) setting s >>= to_value k)
+  pub begins-Include : (how : Inclusion) (file : Expression)
+      → (evaluation (tree.Include how file) setting s >>= to_value k)
       ≡ (evaluation file setting s >>= λ v t. include_run how v setting t >>= to_value k)
-  begins-Include how file = ap (λ z. z.value setting s >>= to_value k) (layer.run-Include how file) ∙ and_then-assoc _ _ _
+  begins-Include how file =
+      ap (λ z. z.value setting s >>= to_value k) (layer.run-Include how file) ∙ and_then-assoc _ _ _
 
 -- the call of a name, by what it calls
-pub called-as : (setting : Setting) (k : Follows) (s : State) (bundle : Bundle) → setting.bundle ≡ bundle → (name : List ℕ) (found : Option Callee)
+pub called-as : (setting : Setting) (k : Follows) (s : State) (bundle : Bundle) → setting.bundle ≡ bundle
+    → (name : List ℕ) (found : Option Callee)
     → callee bundle name s ≡ found → (arguments : List Expression)
     → (call_run (callee setting.bundle name s) (evaluations arguments) setting s >>= to_value k)
     ≡ (call_run found (evaluations arguments) setting s >>= to_value k)
@@ -42,16 +46,23 @@ called-as setting k s bundle same name found is arguments =
     ∙ ap (λ o. call_run o (evaluations arguments) setting s >>= to_value k) is
 
 -- a call, by the call of its name
-pub by_call : (setting : Setting) (s : State) (name : List ℕ) (arguments : List Expression) (next : Result NextWork Halt) (t : State)
-    → Leads setting (λ k. call_run (callee setting.bundle name s) (evaluations arguments) setting s >>= to_value k) next t
+pub by_call : (setting : Setting) (s : State) (name : List ℕ) (arguments : List Expression)
+    (next : Result NextWork Halt) (t : State)
+    → Leads setting (λ k. call_run (callee setting.bundle name s) (evaluations arguments) setting s >>= to_value k) next
+    t
     → Leads setting (λ k. evaluation (tree.Call name arguments) setting s >>= to_value k) next t
 by_call setting s name arguments next t h =
-    subst (λ (part : Follows → Run Signal). Leads setting part next t) (λ i k. sym (begins-Call setting k s name arguments) i) h
+    subst (λ (part : Follows → Run Signal). Leads setting part next t)
+    (λ i k. sym (begins-Call setting k s name arguments) i) h
 
 -- an inclusion, by the file that it names
-module _ (setting : Setting) (bundle : Bundle) (same : setting.bundle ≡ bundle) (how : Inclusion) (name : Value) (s : State) where
-  included-is : (file : Option ℕ) → file_named bundle (text_of (data_of name)) ≡ file → include_run how name setting s ≡ inclusion_run how file setting s
-  included-is file is = ap (λ b. inclusion_run how (file_named b (text_of (data_of name))) setting s) same ∙ ap (λ o. inclusion_run how o setting s) is
+module _ (setting : Setting) (bundle : Bundle) (same : setting.bundle ≡ bundle) (how : Inclusion) (name : Value)
+    (s : State) where
+  included-is : (file : Option ℕ) → file_named bundle (text_of (data_of name)) ≡ file
+      → include_run how name setting s ≡ inclusion_run how file setting s
+  included-is file is =
+      ap (λ b. inclusion_run how (file_named b (text_of (data_of name))) setting s) same
+      ∙ ap (λ o. inclusion_run how o setting s) is
 
   pub included-as : (file : Option ℕ) → file_named bundle (text_of (data_of name)) ≡ file → (k : Follows)
       → (include_run how name setting s >>= to_value k) ≡ (inclusion_run how file setting s >>= to_value k)

@@ -14,7 +14,8 @@ use Rattle.dp_meaning.proofs.Steady.{IsSteady}
 use Rattle.dp_meaning.proofs.WrittenMoments.{moments-written}
 
 -- past its m-th moment, of the number n, a run goes on as a later one does
-pub record Past {A : Type 0} (bound : ℕ) (ws : Writes) (w : Trace A) (f : Option (State → Run A)) (m n : ℕ) (later : Run A) : Type 0 where
+pub record Past {A : Type 0} (bound : ℕ) (ws : Writes) (w : Trace A) (f : Option (State → Run A)) (m n : ℕ)
+    (later : Run A) : Type 0 where
   pub next : slice_get w.moments (suc m) ≡ slice_get (trace bound ws later).moments 0
   pub after : f ≡ following bound ws later (suc n)
   pub end : w.end ≡ (trace bound ws later).end
@@ -40,10 +41,13 @@ module _ {A : Type 0} (bound : ℕ) (ws : Writes) where
       there = moments-written ws (s.moments + 1) (arrived line s) ∙ ap (λ n. n + 1) h.1
 
       whole : Bool → Trace A
-      whole b = if b then with_moment (moment_of kind (arrived line s)) (arrived line s) rest else (record { moments = []; end = Ended Bound; state = s })
+      whole b =
+          if b then with_moment (moment_of kind (arrived line s)) (arrived line s) rest
+          else (record { moments = []; end = Ended Bound; state = s })
 
       ahead : Bool → ℕ → Option (State → Run A)
-      ahead b number = if b then (if nat_eq (s.moments + 1) number then Some next else following bound ws (next t) number) else None
+      ahead b number =
+          if b then (if nat_eq (s.moments + 1) number then Some next else following bound ws (next t) number) else None
 
       inner : (m : ℕ) → n ≡ k + suc m
           → ((j : ℕ) → n ≡ k + 1 + suc j → following bound ws (next t) n ≡ Some go → slice_get rest.moments j ≡ Some p
@@ -57,12 +61,15 @@ module _ {A : Type 0} (bound : ℕ) (ws : Writes) where
           let pair : (moment_of kind (arrived line s), arrived line s) ≡ p = cc in
           let off : nat_eq (s.moments + 1) (suc n) ≡ false = ne_eqb _ _ (λ x. omega arith) in
           let there : n ≡ k + 1 = omega (arith) in
-          subst (λ later. Past bound ws (whole true) (ahead true (suc n)) zero n later) (λ i. same i (written ws (is i) ((pair i).1))) (record {
+          subst (λ later. Past bound ws (whole true) (ahead true (suc n)) zero n later)
+          (λ i. same i (written ws (is i) ((pair i).1))) (record {
             next = refl;
             after = rw off refl;
             end = refl;
             state = refl;
-            steady = subst (λ x. IsSteady x (next t)) (sym there) (h.2 t (moments-written ws (s.moments + 1) (arrived line s) ∙ ap (λ n. n + 1) h.1));
+            steady =
+                subst (λ x. IsSteady x (next t)) (sym there) (h.2 t
+                (moments-written ws (s.moments + 1) (arrived line s) ∙ ap (λ n. n + 1) h.1));
           })
       inner (suc j) e ih f g =
           let on : nat_eq (s.moments + 1) n ≡ false = ne_eqb _ _ (λ x. omega (arith, h.1)) in
@@ -84,11 +91,13 @@ module _ {A : Type 0} (bound : ℕ) (ws : Writes) where
       cases false m e ih f g = absurd (cc)
 
   -- the first moment of a run
-  module _ (r : Run A) (k : ℕ) (h : IsSteady k r) (kind : MomentKind) (line : ℕ) (s : State) (go : State → Run A) (is : r ≡ At kind line s go) where
+  module _ (r : Run A) (k : ℕ) (h : IsSteady k r) (kind : MomentKind) (line : ℕ) (s : State) (go : State → Run A)
+      (is : r ≡ At kind line s go) where
     pub first-moments : s.moments ≡ k
     first-moments = (subst (λ r. IsSteady k r) is h).1
 
-    pub first-moment : s.moments < bound → slice_get (trace bound ws r).moments 0 ≡ Some (moment_of kind (arrived line s), arrived line s)
+    pub first-moment : s.moments < bound
+        → slice_get (trace bound ws r).moments 0 ≡ Some (moment_of kind (arrived line s), arrived line s)
     first-moment less = rw (is, lt-ltb _ _ less) refl
 
     pub first-following : s.moments < bound → following bound ws r (suc k) ≡ Some go

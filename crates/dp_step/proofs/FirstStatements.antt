@@ -24,7 +24,8 @@ use Rattle.dp_step_parts.specs.Rest.{Follows, to_signal}
 use Rattle.dp_step_parts.proofs.FirstParts.{from-member}
 
 module _ (setting : Setting) (k : Follows) (s : State) where
-  pub statement-is : (statement : Statement) (is : StatementKind) → statement.kind ≡ is → (layer : KindRun) → kind_run is ≡ layer
+  pub statement-is : (statement : Statement) (is : StatementKind) → statement.kind ≡ is → (layer : KindRun)
+      → kind_run is ≡ layer
       → (statement_run statement setting s >>= to_signal k) ≡ (layer statement.line setting s >>= to_signal k)
   statement-is statement is e layer f = ap (λ (p : Part Signal). p setting s >>= to_signal k) (run-statement statement)
       ∙ ap (λ (x : StatementKind). kind_run x statement.line setting s >>= to_signal k) e
@@ -46,25 +47,33 @@ module _ (setting : Setting) (k : Follows) (s : State) where
       ≡ (evaluation first setting s >>= λ v t. echoed (echoes (map expression_run rest) setting) v t >>= to_signal k)
   echo-first first rest = and_then-assoc _ _ _
 
-  pub if-is : (statement : Statement) (arms : List Arm) (otherwise : Option Statement) → statement.kind ≡ kind.If arms otherwise
+  pub if-is : (statement : Statement) (arms : List Arm) (otherwise : Option Statement)
+      → statement.kind ≡ kind.If arms otherwise
       → (statement_run statement setting s >>= to_signal k) ≡ (arms_part arms otherwise setting s >>= to_signal k)
   if-is statement arms otherwise e = ap (λ (p : Part Signal). p setting s >>= to_signal k) (run-statement statement)
       ∙ ap (λ (x : StatementKind). kind_run x statement.line setting s >>= to_signal k) e
       ∙ ap (λ (p : Part Signal). p setting s >>= to_signal k) (kind-If arms otherwise statement.line)
 
-  pub arms-first : (all : List Arm) (at : ℕ) (first : Arm) (otherwise : Option Statement) → at < length all → first ≡ get_or all at first
-      → At moment.Place first.line s (λ t. evaluation first.test setting t >>= λ v u. branch_of (drop at all) otherwise setting v u >>= to_signal k)
+  pub arms-first : (all : List Arm) (at : ℕ) (first : Arm) (otherwise : Option Statement) → at < length all
+      → first ≡ get_or all at first
+      → At moment.Place first.line s (λ t. evaluation first.test setting t
+      >>= λ v u. branch_of (drop at all) otherwise setting v u >>= to_signal k)
       ≡ (arms_part (drop at all) otherwise setting s >>= to_signal k)
   unfolding and_then
   arms-first all at first otherwise h e =
       let part = from-member all at first h e in
       rw part ((λ i. At moment.Place first.line s (λ t. sym (and_then-assoc (evaluation first.test setting t)
-      (branch (statement_run first.body) (arms_part (drop (at + 1) all) otherwise) setting) (to_signal k)) i)) ∙ ap (λ (a : ArmRun). a (arms_part (drop (at + 1) all) otherwise) setting s >>= to_signal k) (sym (run-arm first)))
+      (branch (statement_run first.body) (arms_part (drop (at + 1) all) otherwise) setting) (to_signal k)) i))
+      ∙ ap (λ (a : ArmRun). a (arms_part (drop (at + 1) all) otherwise) setting s >>= to_signal k)
+      (sym (run-arm first)))
 
-  pub unset-first : (first : Place) (rest : List Place) → (unset_run (map place_run (first ∷ rest)) setting s >>= next_to k)
-      ≡ (evaluations first.indices setting s >>= λ indices t. taken (unset first.name (keys_of_indices indices) t) t >>= λ _ u.
+  pub unset-first : (first : Place) (rest : List Place)
+      → (unset_run (map place_run (first ∷ rest)) setting s >>= next_to k)
+      ≡ (evaluations first.indices setting s >>= λ indices t. taken (unset first.name (keys_of_indices indices) t) t
+      >>= λ _ u.
       unset_run (map place_run rest) setting u >>= next_to k)
   unset-first first rest =
       ap (λ (place : PlaceRun). unset_run (place ∷ map place_run rest) setting s >>= next_to k) (run-place first)
       ∙ and_then-assoc _ _ _ ∙ (λ i. evaluations first.indices setting s >>= λ indices t.
-      and_then-assoc (taken (unset first.name (keys_of_indices indices) t) t) (λ _ u. unset_run (map place_run rest) setting u) (next_to k) i)
+      and_then-assoc (taken (unset first.name (keys_of_indices indices) t) t)
+      (λ _ u. unset_run (map place_run rest) setting u) (next_to k) i)

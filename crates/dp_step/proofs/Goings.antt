@@ -27,11 +27,13 @@ use Rattle.dp_step.specs.inner.Leads.{Leads}
 abbrev at_once_of : Next → Small
 at_once_of next = record { moment = None; next = next }
 
-pub goes_on : (setting : Setting) (part : Follows → Run Signal) (next : Next) (small : Small) (t : State) → small ≡ at_once_of next
+pub goes_on : (setting : Setting) (part : Follows → Run Signal) (next : Next) (small : Small) (t : State)
+    → small ≡ at_once_of next
     → Leads setting part (Ok next) t → Goes setting part (Ok small) t
 goes_on setting part next small t e h = record { by = λ k. h.by k ∙ sym (ap (λ x. small_rest setting x k t) e) }
 
-pub goes_off : (setting : Setting) (part : Follows → Run Signal) (why : Halt) (t : State) → Leads setting part (Err why) t → Goes setting part (Err why) t
+pub goes_off : (setting : Setting) (part : Follows → Run Signal) (why : Halt) (t : State)
+    → Leads setting part (Err why) t → Goes setting part (Err why) t
 goes_off setting part Memory t h = record { by = tt }
 goes_off setting part (Finished o) t h = record { by = h.by }
 goes_off setting part (Stopped m) t h = record { by = h.by }
@@ -42,19 +44,22 @@ pub wide_on : (setting : Setting) (part : Follows → Run Signal) (next : PartNe
     → PartLeads setting part (Ok next) t → Goes setting part (Ok (at_once_of wide)) t
 wide_on setting part next wide t e h = record { by = λ k. h.by k ∙ sym (e k) }
 
-pub wide_off : (setting : Setting) (part : Follows → Run Signal) (why : Halt) (t : State) → PartLeads setting part (Err why) t → Goes setting part (Err why) t
+pub wide_off : (setting : Setting) (part : Follows → Run Signal) (why : Halt) (t : State)
+    → PartLeads setting part (Err why) t → Goes setting part (Err why) t
 wide_off setting part Memory t h = record { by = tt }
 wide_off setting part (Finished o) t h = record { by = h.by }
 wide_off setting part (Stopped m) t h = record { by = h.by }
 
 -- a bare equation
-pub goes_as : (setting : Setting) (part : Follows → Run Signal) (small : Small) (t : State) → ((k : Follows) → small_rest setting small k t ≡ part k)
+pub goes_as : (setting : Setting) (part : Follows → Run Signal) (small : Small) (t : State)
+    → ((k : Follows) → small_rest setting small k t ≡ part k)
     → Goes setting part (Ok small) t
 goes_as setting part small t e = record { by = λ k. sym (e k) }
 
 -- a part passes on what is of another kind than that which it waits for
 module _ (setting : Setting) where
-  pub passes-to_include : (how : Inclusion) (k : Follows) (g : Given) (s : State) → ((v : Value) → g ≡ given.Value v → ⊥)
+  pub passes-to_include : (how : Inclusion) (k : Follows) (g : Given) (s : State)
+      → ((v : Value) → g ≡ given.Value v → ⊥)
       → work_rest setting (work.Include how) k g s ≡ k g s
   passes-to_include how k (given.Value v) s not = absurd (not v refl)
   passes-to_include how k (given.Values values) s not = refl
@@ -66,7 +71,8 @@ module _ (setting : Setting) where
   passes-to_after w k (given.Values values) s not = refl
   passes-to_after w k (given.Signal g) s not = refl
 
-  pub passes-to_values : (w : ForValues) (k : Follows) (g : Given) (s : State) → ((v : List Value) → g ≡ given.Values v → ⊥)
+  pub passes-to_values : (w : ForValues) (k : Follows) (g : Given) (s : State)
+      → ((v : List Value) → g ≡ given.Values v → ⊥)
       → work_rest setting (work.ForValues w) k g s ≡ k g s
   passes-to_values w k (given.Value v) s not = refl
   passes-to_values w k (given.Values values) s not = absurd (not values refl)

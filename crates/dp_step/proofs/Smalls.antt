@@ -40,8 +40,10 @@ use Rattle.dp_step.specs.inner.Moves.{IsOver, Moves, MovesBy, body_with, ends_ca
 -- ---- the innermost item
 
 module _ (bundle : Bundle) (bound depth : ℕ) (ws : List Waiting) (w : Waiting) where
-  pub innermost : (all : List Waiting) → all ≡ ws ++ w ∷ [] → (g : Given) (s : State) → pending_rest bundle bound depth (reverse all) g s
-      ≡ waiting_rest (setting_of bundle bound (depth_after w depth)) w (pending_rest bundle bound (depth_after w depth) (reverse ws)) g s
+  pub innermost : (all : List Waiting) → all ≡ ws ++ w ∷ [] → (g : Given) (s : State)
+      → pending_rest bundle bound depth (reverse all) g s
+      ≡ waiting_rest (setting_of bundle bound (depth_after w depth)) w
+      (pending_rest bundle bound (depth_after w depth) (reverse ws)) g s
   innermost all e g s = ap (λ (l : List Waiting). pending_rest bundle bound depth (reverse l) g s) e
       ∙ ap (λ (l : List Waiting). pending_rest bundle bound depth l g s) (reverse-append ws (w ∷ []))
 
@@ -49,11 +51,14 @@ module _ (bundle : Bundle) (bound depth : ℕ) (ws : List Waiting) (w : Waiting)
   pub beside : (all : List Waiting) → all ≡ ws ++ w ∷ [] → (hand : Hand) (s : State)
       → hand_rest (setting_of bundle bound depth) hand (pending_rest bundle bound depth (reverse all)) s
       ≡ hand_rest (setting_of bundle bound depth) hand
-      (waiting_rest (setting_of bundle bound (depth_after w depth)) w (pending_rest bundle bound (depth_after w depth) (reverse ws))) s
-  beside all e hand s = ap (λ (k : Follows). hand_rest (setting_of bundle bound depth) hand k s) (λ i g t. innermost all e g t i)
+      (waiting_rest (setting_of bundle bound (depth_after w depth)) w
+      (pending_rest bundle bound (depth_after w depth) (reverse ws))) s
+  beside all e hand s =
+      ap (λ (k : Follows). hand_rest (setting_of bundle bound depth) hand k s) (λ i g t. innermost all e g t i)
 
 -- what a machine has to do, by its parts
-pub rest-by : (m : Machine) (bundle : Bundle) (bound depth : ℕ) (h : Hand) (items : List Waiting) → m.bundle.now ≡ bundle → m.bound ≡ bound → m.depth ≡ depth
+pub rest-by : (m : Machine) (bundle : Bundle) (bound depth : ℕ) (h : Hand) (items : List Waiting)
+    → m.bundle.now ≡ bundle → m.bound ≡ bound → m.depth ≡ depth
     → m.hand ≡ h → m.pending.items ≡ items → (s : State)
     → rest_of m s ≡ hand_rest (setting_of bundle bound depth) h (pending_rest bundle bound depth (reverse items)) s
 unfolding rest_of
@@ -63,7 +68,8 @@ rest-by m bundle bound depth h items b n d e l s =
 -- ---- a run that is the same
 
 pub moves_as : (old mid new : Machine) (run same : Run Signal) (result : Result (Option (MomentKind × ℕ)) Halt)
-    → run ≡ same → mid.bundle.now ≡ old.bundle.now → mid.bound ≡ old.bound → Moves mid same result new → Moves old run result new
+    → run ≡ same → mid.bundle.now ≡ old.bundle.now → mid.bound ≡ old.bound → Moves mid same result new
+    → Moves old run result new
 moves_as old mid new run same result e bundle bound moves = record {
   by = subst (λ r. MovesBy r result new) (sym e) moves.by;
   same_bundle = moves.same_bundle ∙ bundle;
@@ -75,14 +81,16 @@ pub over-is : (run : Run Signal) (o : Outcome) (t : State) → run ≡ Over o t 
 over-is run o t e = subst (λ r. IsOver r o t) (sym e) (refl, refl)
 
 -- a part that ends the program, or wants memory
-pub moves_off : (setting : Setting) (part : Follows → Run Signal) (why : Halt) (t : State) (k : Follows) (m : Machine) → m.state ≡ t
+pub moves_off : (setting : Setting) (part : Follows → Run Signal) (why : Halt) (t : State) (k : Follows) (m : Machine)
+    → m.state ≡ t
     → Goes setting part (Err why) t → MovesBy (part k) (Err why) m
 moves_off setting part Memory t k m e h = tt
 moves_off setting part (Finished o) t k m e h = subst (λ s. IsOver (part k) o s) (sym e) (over-is (part k) o t (h.by k))
 moves_off setting part (Stopped at) t k m e h = h.by
 
 -- the same of a step on the state
-pub taken_off : {A : Type 0} (r : Run A) (next : A → State → Run Signal) (why : Halt) (t : State) (m : Machine) → m.state ≡ t
+pub taken_off : {A : Type 0} (r : Run A) (next : A → State → Run Signal) (why : Halt) (t : State) (m : Machine)
+    → m.state ≡ t
     → AtOnce r (Err why) t → MovesBy (and_then r next) (Err why) m
 unfolding and_then
 taken_off r next Memory t m e h = tt
@@ -94,55 +102,68 @@ taken_off r next (Stopped at) t m e h = h.leaves
 
 module _ (m : Machine) (s : State) where
   pub too_deep-call : m.depth ≡ 0 → (file : ℕ) (f : Function) (values : List Value)
-      → and_then ((setting_at m).call file f values s) (to_value (follows_of m)) ≡ Over (way.Fatal TooDeep (file_of s) (line_of s)) s
+      → and_then ((setting_at m).call file f values s) (to_value (follows_of m)) ≡ Over
+      (way.Fatal TooDeep (file_of s) (line_of s)) s
   unfolding and_then
-  too_deep-call e file f values = ap (λ r. and_then r (to_value (follows_of m))) (zero-call m.bundle.now m.bound m.depth e file f values s)
+  too_deep-call e file f values =
+      ap (λ r. and_then r (to_value (follows_of m))) (zero-call m.bundle.now m.bound m.depth e file f values s)
 
   pub too_deep-file : m.depth ≡ 0 → (file : ℕ) → and_then ((setting_at m).include file s) (to_value (follows_of m))
       ≡ Over (way.Fatal TooDeep (file_of s) (line_of s)) s
   unfolding and_then
-  too_deep-file e file = ap (λ r. and_then r (to_value (follows_of m))) (zero-include m.bundle.now m.bound m.depth e file s)
+  too_deep-file e file =
+      ap (λ r. and_then r (to_value (follows_of m))) (zero-include m.bundle.now m.bound m.depth e file s)
 
   body-is : (f : Function) (t : State)
-      → and_then (At moment.Enter f.line t (λ u. body_run f.body (setting_of m.bundle.now m.bound (m.depth - 1)) u >>= leaving)) (to_value (follows_of m))
+      → and_then (At moment.Enter f.line t (λ u. body_run f.body (setting_of m.bundle.now m.bound (m.depth - 1)) u
+      >>= leaving)) (to_value (follows_of m))
       ≡ body_with m f t
   unfolding and_then
   body-is f t = λ i. At moment.Enter f.line t (λ u.
-      and_then-assoc (body_run f.body (setting_of m.bundle.now m.bound (m.depth - 1)) u) leaving (to_value (follows_of m)) i)
+      and_then-assoc (body_run f.body (setting_of m.bundle.now m.bound (m.depth - 1)) u) leaving
+      (to_value (follows_of m)) i)
 
   pub call-first : (m.depth ≡ 0 → ⊥) → (file : ℕ) (f : Function) (values : List Value)
-      → and_then ((setting_at m).call file f values s) (to_value (follows_of m)) ≡ and_then (taken (called file f values s) s) (λ _ t. body_with m f t)
+      → and_then ((setting_at m).call file f values s) (to_value (follows_of m)) ≡ and_then
+      (taken (called file f values s) s) (λ _ t. body_with m f t)
   call-first e file f values =
       ap (λ r. and_then r (to_value (follows_of m))) (suc-call m.bundle.now m.bound m.depth e file f values s)
       ∙ and_then-assoc _ _ _ ∙ and_then-same _ _ _ (λ _ t. body-is f t)
 
   pub file-first : (m.depth ≡ 0 → ⊥) → (file : ℕ)
-      → and_then ((setting_at m).include file s) (to_value (follows_of m)) ≡ and_then (taken (included m.bundle.now file s) s) (λ _ t. file_with m file t)
+      → and_then ((setting_at m).include file s) (to_value (follows_of m)) ≡ and_then
+      (taken (included m.bundle.now file s) s) (λ _ t. file_with m file t)
   file-first e file =
       ap (λ r. and_then r (to_value (follows_of m))) (suc-include m.bundle.now m.bound m.depth e file s
       ∙ file-is m.bundle.now m.bound (m.depth - 1) file s)
       ∙ and_then-assoc _ _ _ ∙ and_then-same _ _ _ (λ _ t. and_then-assoc _ _ _)
 
   -- the statements of a call or of a file in hand, with its end pending
-  module _ (new : Machine) (body : List Statement) (bundle : new.bundle.now ≡ m.bundle.now) (bound : new.bound ≡ m.bound) (depth : new.depth ≡ m.depth - 1)
-      (state : new.state ≡ s) (in-hand : (setting : Setting) (k : Follows) (t : State) → hand_rest setting new.hand k t ≡ (body_run body setting t >>= to_signal k)) where
+  module _ (new : Machine) (body : List Statement) (bundle : new.bundle.now ≡ m.bundle.now)
+      (bound : new.bound ≡ m.bound) (depth : new.depth ≡ m.depth - 1)
+      (state : new.state ≡ s) (in-hand : (setting : Setting) (k : Follows) (t : State)
+      → hand_rest setting new.hand k t ≡ (body_run body setting t >>= to_signal k)) where
     abbrev below : Setting
     below = setting_of m.bundle.now m.bound (m.depth - 1)
 
-    rest-held : (w : Waiting) → new.pending.items ≡ m.pending.items ++ w ∷ [] → (t : State) → rest_of new t ≡ (body_run body below t
+    rest-held : (w : Waiting) → new.pending.items ≡ m.pending.items ++ w ∷ [] → (t : State)
+        → rest_of new t ≡ (body_run body below t
         >>= λ g u. waiting_rest (setting_of m.bundle.now m.bound (depth_after w (m.depth - 1))) w
         (pending_rest m.bundle.now m.bound (depth_after w (m.depth - 1)) (reverse m.pending.items)) (given.Signal g) u)
     rest-held w items t =
         rest-by new m.bundle.now m.bound (m.depth - 1) new.hand new.pending.items bundle bound depth refl refl t
         ∙ in-hand below _ t
-        ∙ and_then-same _ _ _ (λ g u. innermost m.bundle.now m.bound (m.depth - 1) m.pending.items w new.pending.items items (given.Signal g) u)
+        ∙ and_then-same _ _ _ (λ g u. innermost m.bundle.now m.bound
+        (m.depth - 1) m.pending.items w new.pending.items items (given.Signal g) u)
 
     pub body-held : (f : Function) → f.body ≡ body → new.pending.items ≡ m.pending.items ++ waiting.EndCall m.depth ∷ []
         → body_with m f s ≡ At moment.Enter f.line new.state (rest_of new)
     body-held f is items = λ i. At moment.Enter f.line (sym state i) (λ t.
-        (ap (λ l. body_run l below t >>= λ g u. leaving g u >>= to_value (follows_of m)) is ∙ sym (rest-held (waiting.EndCall m.depth) items t)) i)
+        (ap (λ l. body_run l below t >>= λ g u. leaving g u >>= to_value (follows_of m)) is
+        ∙ sym (rest-held (waiting.EndCall m.depth) items t)) i)
 
-    pub file-held : (file : ℕ) → statements_of m.bundle.now file ≡ body → new.pending.items ≡ m.pending.items ++ waiting.EndFile m.depth ∷ []
+    pub file-held : (file : ℕ) → statements_of m.bundle.now file ≡ body
+        → new.pending.items ≡ m.pending.items ++ waiting.EndFile m.depth ∷ []
         → file_with m file s ≡ rest_of new new.state
     file-held file is items =
         ap (λ l. body_run l below s >>= λ g u. left_file g u >>= to_value (follows_of m)) is
@@ -156,14 +177,17 @@ module _ (m : Machine) (s : State) where
       rw empty (refl, refl)
 
 -- what is in hand
-pub moves_hand : (m new : Machine) (h : Hand) (result : Result (Option (MomentKind × ℕ)) Halt) (mid : Machine) → m.hand ≡ h
-    → mid.bundle.now ≡ m.bundle.now → mid.bound ≡ m.bound → Moves mid (rest_with m h m.state) result new → Moves m (rest_of m m.state) result new
+pub moves_hand : (m new : Machine) (h : Hand) (result : Result (Option (MomentKind × ℕ)) Halt) (mid : Machine)
+    → m.hand ≡ h
+    → mid.bundle.now ≡ m.bundle.now → mid.bound ≡ m.bound → Moves mid (rest_with m h m.state) result new
+    → Moves m (rest_of m m.state) result new
 unfolding rest_of
 moves_hand m new h result mid e bundle bound moves =
     moves_as m mid new _ _ result (ap (λ (x : Hand). rest_with m x m.state) e) bundle bound moves
 
 -- a small step that is kept
-pub kept : (old new : Machine) (small : Small) → ((s : State) → rest_of new s ≡ next_rest (setting_at old) small.next (follows_of old) s)
+pub kept : (old new : Machine) (small : Small)
+    → ((s : State) → rest_of new s ≡ next_rest (setting_at old) small.next (follows_of old) s)
     → (new.bundle.now ≡ old.bundle.now) × (new.bound ≡ old.bound) × (new.state ≡ old.state)
     → Moves old (small_with old small old.state) (Ok small.moment) new
 kept old new small rest same = record {
@@ -172,30 +196,41 @@ kept old new small rest same = record {
   same_bound = same.1;
 }
   where
-    go : (moment : Option (MomentKind × ℕ)) → behind moment (next_rest (setting_at old) small.next (follows_of old)) old.state ≡ behind moment (rest_of new) old.state
+    go : (moment : Option (MomentKind × ℕ))
+        → behind moment (next_rest (setting_at old) small.next (follows_of old)) old.state ≡ behind moment
+        (rest_of new) old.state
     go None = sym (rest old.state)
     go (Some m) = λ i. At m.0 m.1 old.state (λ t. sym (rest t) i)
 
 -- a part that goes on to what is kept
-pub moves_on : (setting : Setting) (part : Follows → Run Signal) (small : Small) (t : State) (k : Follows) (old mid new : Machine)
-    (result : Result (Option (MomentKind × ℕ)) Halt) (run : Run Signal) → mid.bundle.now ≡ old.bundle.now → mid.bound ≡ old.bound → run ≡ part k
+pub moves_on : (setting : Setting) (part : Follows → Run Signal) (small : Small) (t : State) (k : Follows)
+    (old mid new : Machine)
+    (result : Result (Option (MomentKind × ℕ)) Halt) (run : Run Signal) → mid.bundle.now ≡ old.bundle.now
+    → mid.bound ≡ old.bound → run ≡ part k
     → Goes setting part (Ok small) t → Moves mid (small_rest setting small k t) result new → Moves old run result new
 moves_on setting part small t k old mid new result run bundle bound is goes moves =
     moves_as old mid new run (small_rest setting small k t) result (is ∙ goes.by k) bundle bound moves
 
 -- a call whose body is done leaves at a moment, if it gave a signal
 pub call-ends : (m : Machine) (s : State) (depth : ℕ) (g : Given) (h : Hand) (leaves : Bool) (line : ℕ) (new : Machine)
-    → ((setting : Setting) (k : Follows) (s : State) → waiting_rest setting (waiting.EndCall depth) k g s ≡ behind (leave_if (ends_call g) (line_of s)) (hand_rest setting h k) s)
+    → ((setting : Setting) (k : Follows) (s : State)
+    → waiting_rest setting (waiting.EndCall depth) k g s ≡ behind (leave_if (ends_call g) (line_of s))
+    (hand_rest setting h k) s)
     → ends_call g ≡ leaves → line ≡ line_of s
-    → new.bundle.now ≡ m.bundle.now → new.bound ≡ m.bound → new.depth ≡ depth → new.hand ≡ h → new.pending.items ≡ m.pending.items → new.state ≡ s
-    → waiting_rest (setting_of m.bundle.now m.bound depth) (waiting.EndCall depth) (pending_rest m.bundle.now m.bound depth (reverse m.pending.items)) g s
+    → new.bundle.now ≡ m.bundle.now → new.bound ≡ m.bound → new.depth ≡ depth → new.hand ≡ h
+    → new.pending.items ≡ m.pending.items → new.state ≡ s
+    → waiting_rest (setting_of m.bundle.now m.bound depth) (waiting.EndCall depth)
+    (pending_rest m.bundle.now m.bound depth (reverse m.pending.items)) g s
     ≡ behind (leave_if leaves line) (rest_of new) new.state
 call-ends m s depth g h leaves line new ends is there b n d e l state =
     ends (setting_of m.bundle.now m.bound depth) (pending_rest m.bundle.now m.bound depth (reverse m.pending.items)) s
-    ∙ (λ i. behind (leave_if (is i) (sym there i)) (λ t. sym (rest-by new m.bundle.now m.bound depth h m.pending.items b n d e l t) i) (sym state i))
+    ∙ (λ i. behind (leave_if (is i) (sym there i)) (λ t. sym (rest-by new m.bundle.now m.bound depth h m.pending.items b
+    n d e l t) i) (sym state i))
 
-pub taken-moves : {A : Type 0} (old new : Machine) (run : Run Signal) (r : Run A) (next : A → State → Run Signal) (why : Halt) (t : State)
-    → run ≡ and_then r next → new.bundle.now ≡ old.bundle.now → new.bound ≡ old.bound → new.state ≡ t → AtOnce r (Err why) t
+pub taken-moves : {A : Type 0} (old new : Machine) (run : Run Signal) (r : Run A) (next : A → State → Run Signal)
+    (why : Halt) (t : State)
+    → run ≡ and_then r next → new.bundle.now ≡ old.bundle.now → new.bound ≡ old.bound → new.state ≡ t
+    → AtOnce r (Err why) t
     → Moves old run (Err why) new
 taken-moves old new run r next why t e bundle bound state h = record {
   by = subst (λ z. MovesBy z (Err why) new) (sym e) (taken_off r next why t new state h);

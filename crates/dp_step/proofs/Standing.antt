@@ -33,7 +33,8 @@ use Rattle.dp_step.specs.inner.Moves.{Arrives, Comes, Goes, GoesBy, IsEnd, IsOve
 use Rattle.dp_step.proofs.Courses.{first-following, first-moment, goes_past, none-in-bound}
 
 -- the member of a list whose image is there
-pub of_image : {A B : Type 0} (f : A → B) (o : Option A) (b : B) → option_map f o ≡ Some b → (a : A) × (o ≡ Some a) × (f a ≡ b)
+pub of_image : {A B : Type 0} (f : A → B) (o : Option A) (b : B) → option_map f o ≡ Some b
+    → (a : A) × (o ≡ Some a) × (f a ≡ b)
 of_image f None b e = absurd (cc)
 of_image f (Some a) b e = let same : f a ≡ b = cc in (a, refl, same)
 
@@ -56,13 +57,28 @@ module _ (bundle : Bundle) (bound : ℕ) (writes : List NumberedWrite) where
   unfolding program_run program_trace
   onward zero old stands =
       let same : opening bundle ≡ old.state = let e = stands.state in cc in
-      let is : whole ≡ rest_of old old.state = (λ i. sym stands.rest.1 i (opening bundle)) ∙ stands.rest.2 (opening bundle) ∙ ap (rest_of old) same in
-      subst (Onward zero) is (record { next = refl; after = refl; end = refl; state = refl; steady = steady-program bundle bound })
+      let is : whole ≡ rest_of old old.state = (λ i. sym stands.rest.1 i (opening bundle))
+      ∙ stands.rest.2 (opening bundle) ∙ ap (rest_of old) same in
+      subst (Onward zero) is (record {
+        next = refl;
+        after = refl;
+        end = refl;
+        state = refl;
+        steady = steady-program
+            bundle bound;
+      })
   onward (suc m) old stands =
       let found = of_image _ _ _ stands.state in
-      let past = goes_past bound ws whole 0 m (suc m) stands.rest.0 found.0 (steady-program bundle bound) (omega arith) stands.rest.1 found.1 in
+      let past = goes_past bound ws whole 0 m (suc m) stands.rest.0 found.0 (steady-program bundle bound)
+      (omega arith) stands.rest.1 found.1 in
       let is = stands.rest.2 (written ws (suc m) found.0.1) ∙ ap (rest_of old) found.2 in
-      subst (Onward (suc m)) is (record { next = past.next; after = past.after; end = past.end; state = past.state; steady = past.steady })
+      subst (Onward (suc m)) is (record {
+        next = past.next;
+        after = past.after;
+        end = past.end;
+        state = past.state;
+        steady = past.steady;
+      })
 
 -- ---- a step
 
@@ -71,7 +87,8 @@ raised n [] h = tt
 raised n (w ∷ ws) h = (omega (arith, h.0), raised n ws h.1)
 
 -- above the number of the last of them nothing is written
-pub nothing-by : (setting : Setting) (n : ℕ) (writes : List NumberedWrite) (s : State) → NoneAbove n writes → written_by setting writes (suc n) s ≡ s
+pub nothing-by : (setting : Setting) (n : ℕ) (writes : List NumberedWrite) (s : State) → NoneAbove n writes
+    → written_by setting writes (suc n) s ≡ s
 nothing-by setting n [] s h = refl
 nothing-by setting n (w ∷ ws) s h =
     let off : nat_eq w.moment (suc n) ≡ false = ne_eqb _ _ (λ x. omega (arith, h.0)) in
@@ -79,17 +96,20 @@ nothing-by setting n (w ∷ ws) s h =
 
 -- the trace of a run that is over
 over-trace : (bound : ℕ) (ws : Writes) (r : Run Signal) (o : Outcome) (t : State) → IsOver r o t
-    → (slice_get (trace bound ws r).moments 0 ≡ None) × (o ≡ outcome_of (trace bound ws r).end) × (t ≡ (trace bound ws r).state)
+    → (slice_get (trace bound ws r).moments 0 ≡ None) × (o ≡ outcome_of (trace bound ws r).end)
+    × (t ≡ (trace bound ws r).state)
 over-trace bound ws (Done a s) o t h = (refl, h.0, h.1)
 over-trace bound ws (Over p s) o t h = (refl, h.0, h.1)
 over-trace bound ws (At kind line s go) o t h = absurd h
 
-module _ (bundle : Bundle) (bound : ℕ) (writes : List NumberedWrite) (n : ℕ) (old mid new : Machine) (stands : StandsFor bundle bound writes n old) where
+module _ (bundle : Bundle) (bound : ℕ) (writes : List NumberedWrite) (n : ℕ) (old mid new : Machine)
+    (stands : StandsFor bundle bound writes n old) where
   abbrev later : Run Signal
   later = rest_of old old.state
 
   -- the end of the program
-  pub ends-with : (o : Outcome) → Arrives old later (arrival.End o) mid → new.state ≡ mid.state → EndsWith bundle bound writes n o new
+  pub ends-with : (o : Outcome) → Arrives old later (arrival.End o) mid → new.state ≡ mid.state
+      → EndsWith bundle bound writes n o new
   unfolding program_run program_trace
   ends-with o arrives same =
       let on = onward bundle bound writes n old stands in
@@ -105,7 +125,8 @@ module _ (bundle : Bundle) (bound : ℕ) (writes : List NumberedWrite) (n : ℕ)
     unfolding program_run program_trace
     ends-bound o comes =
         let on = onward bundle bound writes n old stands in
-        let none = none-in-bound bound (writes_of bundle writes) later n on.steady kind line mid.state (rest_of mid) arrives.by
+        let none = none-in-bound bound (writes_of bundle writes) later n on.steady kind line mid.state
+        (rest_of mid) arrives.by
         (omega (arith, comes.by.0, same-bound)) in (
           on.next ∙ ap (λ (t : Trace Signal). slice_get t.moments 0) none,
           comes.by.1 ∙ sym (ap outcome_of (on.end ∙ ap (λ (t : Trace Signal). t.end) none)),
@@ -118,8 +139,10 @@ module _ (bundle : Bundle) (bound : ℕ) (writes : List NumberedWrite) (n : ℕ)
     comes-to at comes =
         let on = onward bundle bound writes n old stands in
         let less : mid.state.moments < bound = omega (arith, comes.by.0, same-bound) in
-        let first = first-moment bound (writes_of bundle writes) later n on.steady kind line mid.state (rest_of mid) arrives.by less in
-        let found : slice_get (trace bound (writes_of bundle writes) (program_run bundle bound)).moments n ≡ Some (at, new.state) =
+        let first = first-moment bound (writes_of bundle writes) later n on.steady kind line mid.state
+        (rest_of mid) arrives.by less in
+        let found : slice_get (trace bound (writes_of bundle writes) (program_run bundle bound)).moments n ≡ Some
+        (at, new.state) =
         on.next ∙ first ∙ (λ i. Some (sym comes.by.1 i, sym comes.by.2 i)) in (
           found,
           record {
@@ -130,7 +153,8 @@ module _ (bundle : Bundle) (bound : ℕ) (writes : List NumberedWrite) (n : ℕ)
                 ∙ ap Some (nothing-by (writes_of bundle writes).setting n writes new.state stands.none_above);
             rest = (
               rest_of mid,
-              on.after ∙ first-following bound (writes_of bundle writes) later n on.steady kind line mid.state (rest_of mid) arrives.by less,
+              on.after ∙ first-following bound (writes_of bundle writes) later n on.steady kind line mid.state
+                  (rest_of mid) arrives.by less,
               λ s. sym (comes.by.3 s),
             );
           },
@@ -141,8 +165,10 @@ module _ (bundle : Bundle) (bound : ℕ) (writes : List NumberedWrite) (n : ℕ)
     goes-on (progress.Ended o) comes = ends-bound o comes
 
 -- the machine that starts
-pub starts : (bundle : Bundle) (bound : ℕ) (m : Machine) → m.bundle.now ≡ bundle → m.bound ≡ bound → m.state ≡ opening bundle
-    → ((s : State) → body_run (statements_of bundle 0) (setting_of bundle bound frame_limit) s ≡ rest_of m s) → StandsFor bundle bound [] 0 m
+pub starts : (bundle : Bundle) (bound : ℕ) (m : Machine) → m.bundle.now ≡ bundle → m.bound ≡ bound
+    → m.state ≡ opening bundle
+    → ((s : State) → body_run (statements_of bundle 0) (setting_of bundle bound frame_limit) s ≡ rest_of m s)
+    → StandsFor bundle bound [] 0 m
 starts bundle bound m same limit state rest = record {
   same_bundle = same;
   same_bound = limit;
@@ -152,11 +178,13 @@ starts bundle bound m same limit state rest = record {
 }
 
 -- statements in hand, with nothing pending
-pub all-done : (bundle : Bundle) (bound depth : ℕ) (r : Run Signal) → and_then r (to_signal (pending_rest bundle bound depth [])) ≡ r
+pub all-done : (bundle : Bundle) (bound depth : ℕ) (r : Run Signal)
+    → and_then r (to_signal (pending_rest bundle bound depth [])) ≡ r
 all-done bundle bound depth r = and_then-Done r
 
 -- a small step, by the moment or the end to which it came
-pub goes-by : (old new : Machine) (run : Run Signal) (moment : Option (MomentKind × ℕ)) (came : Option Arrival) → came ≡ option_map arrived_at moment
+pub goes-by : (old new : Machine) (run : Run Signal) (moment : Option (MomentKind × ℕ)) (came : Option Arrival)
+    → came ≡ option_map arrived_at moment
     → Moves old run (Ok moment) new → Goes old run came new
 goes-by old new run None came e h = record {
   by = subst (λ (o : Option Arrival). GoesBy run o new) (sym e) h.by;
@@ -169,7 +197,8 @@ goes-by old new run (Some m) came e h = record {
   same_bound = h.same_bound;
 }
 
-pub goes-end : (old new : Machine) (run : Run Signal) (why : Halt) (came : Option Arrival) → IsEnd why came → Moves old run (Err why) new → Goes old run came new
+pub goes-end : (old new : Machine) (run : Run Signal) (why : Halt) (came : Option Arrival) → IsEnd why came
+    → Moves old run (Err why) new → Goes old run came new
 goes-end old new run (halt.Finished o) came e h = record {
   by = subst (λ (o : Option Arrival). GoesBy run o new) (sym e) h.by;
   same_bundle = h.same_bundle;

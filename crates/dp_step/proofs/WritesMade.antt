@@ -239,7 +239,8 @@ module _ (bundle : Bundle) (bound : ℕ) (ws vs : List NumberedWrite) (old new :
         );
       }
 
--- a machine stands for a program with each list that has the same writes of each number up to the moment, and none above
+-- a machine stands for a program with each list that has the same writes of each number up to the moment, and none
+-- above
 pub stands-alike : (bundle : Bundle) (bound : ℕ) (ws vs : List NumberedWrite) (n : ℕ) (m : Machine)
     → StandsFor bundle bound ws n m
     → SameBelow (suc n) ws vs → NoneAbove n vs → StandsFor bundle bound vs n m
@@ -300,9 +301,11 @@ unfolding rest_of
 one-made bundle bound ws n w old new stands same state =
     let number = number-is bundle bound ws (suc n) old stands in
     let this : NumberedWrite = record { moment = suc n; write = w } in
-    let alone : of_number (suc n) (this ∷ []) ≡ this ∷ [] = ap (λ (b : Bool). if b then this ∷ [] else []) (nat_eq-same (suc n)) in
+    let alone : of_number (suc n) (this ∷ []) ≡ this
+    ∷ [] = ap (λ (b : Bool). if b then this ∷ [] else []) (nat_eq-same (suc n)) in
     subst (λ l. StandsFor bundle bound (ws ++ l) (suc n) new) alone
     (all-made bundle bound ws (this ∷ []) old (suc n) new stands (λ none. omega (arith, number, none))
-    (ap (λ (m : Machine). m.bundle.now) same) (ap (λ (m : Machine). m.bound) same) (λ s. ap (λ (m : Machine). rest_of m s) same)
+    (ap (λ (m : Machine). m.bundle.now) same) (ap (λ (m : Machine). m.bound) same)
+    (λ s. ap (λ (m : Machine). rest_of m s) same)
     (state ∙ sym (ap (λ (b : Bool). if b then one_write (evaluation_setting old.bundle.now) w old.state else old.state)
     (ap (nat_eq (suc n)) number ∙ nat_eq-same (suc n)))))

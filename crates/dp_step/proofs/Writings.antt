@@ -36,7 +36,8 @@ module _ (path : Path) (value : Value) (s : State) (level context : ℕ) where
   pub local : level < length s.frames → context ≡ 0 → with_place level context path value s ≡ at_level level
   local there e = in-frame there ∙ ap (λ n. in_context n level path value s) e
 
-  pub global : level < length s.frames → context ≡ 1 → with_place level context path value s ≡ at_level (length s.frames - 1)
+  pub global : level < length s.frames → context ≡ 1
+      → with_place level context path value s ≡ at_level (length s.frames - 1)
   global there e = in-frame there ∙ ap (λ n. in_context n level path value s) e
 
   beyond : (n : ℕ) → (n ≡ 0 → ⊥) → (n ≡ 1 → ⊥) → in_context n level path value s ≡ Err NoPlace
@@ -44,22 +45,28 @@ module _ (path : Path) (value : Value) (s : State) (level context : ℕ) where
   beyond (suc zero) some more = absurd (more refl)
   beyond (suc (suc n)) some more = refl
 
-  pub nowhere : level < length s.frames → (context ≡ 0 → ⊥) → (context ≡ 1 → ⊥) → with_place level context path value s ≡ Err NoPlace
+  pub nowhere : level < length s.frames → (context ≡ 0 → ⊥) → (context ≡ 1 → ⊥)
+      → with_place level context path value s ≡ Err NoPlace
   nowhere there some more = in-frame there ∙ beyond context some more
 
 -- a write that is made is one of the writes of the moment
-pub write-stands : (level context : ℕ) (path : Path) (value : Value) (result : Result Unit StepError) (old new : Machine)
+pub write-stands : (level context : ℕ) (path : Path) (value : Value) (result : Result Unit StepError)
+    (old new : Machine)
     → Writes (with_place level context path value old.state) result old new
-    → OnOk result ((bundle : Bundle) (bound : ℕ) (writes : List NumberedWrite) (n : ℕ) → StandsFor bundle bound writes (suc n) old
-    → StandsFor bundle bound (writes ++ record { moment = suc n; write = Place level context path value } ∷ []) (suc n) new)
+    → OnOk result ((bundle : Bundle) (bound : ℕ) (writes : List NumberedWrite) (n : ℕ)
+    → StandsFor bundle bound writes (suc n) old
+    → StandsFor bundle bound (writes ++ record { moment = suc n; write = Place level context path value } ∷ [])
+    (suc n) new)
 write-stands level context path value (Ok done) old new h = λ bundle bound writes n stands.
-    one-made bundle bound writes n (Place level context path value) old new stands h.1 (sym (ap (or_unchanged old.state) h.0))
+    one-made bundle bound writes n (Place level context path value) old new stands h.1
+    (sym (ap (or_unchanged old.state) h.0))
 write-stands level context path value (Err why) old new h = tt
 
 -- the same of an evaluation
 pub evaluate-stands : (e : Expression) (result : Result Value StepError) (old new : Machine)
     → Evaluates (evaluated (evaluation_setting old.bundle.now) e old.state) result old new
-    → OnOk result ((bundle : Bundle) (bound : ℕ) (writes : List NumberedWrite) (n : ℕ) → StandsFor bundle bound writes (suc n) old
+    → OnOk result ((bundle : Bundle) (bound : ℕ) (writes : List NumberedWrite) (n : ℕ)
+    → StandsFor bundle bound writes (suc n) old
     → StandsFor bundle bound (writes ++ record { moment = suc n; write = Evaluate e } ∷ []) (suc n) new)
 evaluate-stands e (Ok v) old new h = λ bundle bound writes n stands.
     one-made bundle bound writes n (Evaluate e) old new stands h.1 (sym (ap (left_by old.state) h.0))

@@ -32,7 +32,8 @@ pub(crate) fn receive_after<'p>(
     value: Value,
     state: &mut State,
 ) -> Result<Next<'p>, Halt>
-    ensures { (setting : Setting) → Leads setting (λ k. after_rest setting work.entry value k state.old) result state.new }
+    ensures { (setting : Setting)
+        → Leads setting (λ k. after_rest setting work.entry value k state.old) result state.new }
 {
     match work {
         AfterValue::Discard => {
@@ -59,7 +60,8 @@ pub(crate) fn receive_values<'p>(
     values: Items<Value>,
     state: &mut State,
 ) -> Result<Next<'p>, Halt>
-    ensures { (setting : Setting) → Leads setting (λ k. values_rest setting work.entry values k state.old) result state.new }
+    ensures { (setting : Setting)
+        → Leads setting (λ k. values_rest setting work.entry values k state.old) result state.new }
 {
     match work {
         ForValues::Call(file, function) => Ok(Next {
@@ -86,7 +88,8 @@ fn echoed<'p>(
     at: usize,
     state: &mut State,
 ) -> Result<Next<'p>, Halt>
-    ensures { (setting : Setting) → Leads setting (λ k. after_rest setting (any_after.Echoed rest.entry at) value k state.old) result state.new }
+    ensures { (setting : Setting)
+        → Leads setting (λ k. after_rest setting (any_after.Echoed rest.entry at) value k state.old) result state.new }
 {
     let done = print_value(alloc, &value, state);
     drop(value);
@@ -101,7 +104,8 @@ fn echoed<'p>(
 
 // The program ends with a value.
 fn exit_with<'p>(value: Value, state: &mut State) -> Result<Next<'p>, Halt>
-    ensures { (setting : Setting) → Leads setting (λ k. after_rest setting any_after.ExitWith value k state.old) result state.new }
+    ensures { (setting : Setting)
+        → Leads setting (λ k. after_rest setting any_after.ExitWith value k state.old) result state.new }
 {
     let done = exit_value(&value, state);
     drop(value);
@@ -119,7 +123,9 @@ fn unset_next<'p>(
     rest: &'p [Place],
     state: &mut State,
 ) -> Result<Next<'p>, Halt>
-    ensures { (setting : Setting) → Leads setting (λ k. and_then (taken (without name.now (keys_of_indices indices) state.old) state.old) (λ _ t. unset_after setting rest.now k t)) result state.new }
+    ensures { (setting : Setting)
+        → Leads setting (λ k. and_then (taken (without name.now (keys_of_indices indices) state.old) state.old)
+        (λ _ t. unset_after setting rest.now k t)) result state.new }
 {
     let done = unset_place(alloc, name, indices.as_slice(), state);
     drop(indices);
@@ -134,7 +140,9 @@ fn unset_next<'p>(
 
 /// `global`
 pub(crate) fn global<'p>(names: &[Bytes], state: &mut State) -> Result<Next<'p>, Halt>
-    ensures { (setting : Setting) → Leads setting (λ k. and_then (Done (tt {0}) (with_globals names.now state.old)) (next_to k)) result state.new }
+    ensures { (setting : Setting)
+        → Leads setting (λ k. and_then (Done (tt {0}) (with_globals names.now state.old)) (next_to k)) result
+        state.new }
 {
     match bind_all(names, state) {
         Ok(()) => Ok(signal(Signal::Next)),
@@ -149,7 +157,9 @@ pub(crate) fn bind<'p>(
     at: usize,
     state: &mut State,
 ) -> Result<Next<'p>, Halt>
-    ensures { (setting : Setting) → Leads setting (λ k. and_then (each_turn setting turns.entry (drop at (entries subject)) state.old) (to_signal k)) result state.new }
+    ensures { (setting : Setting)
+        → Leads setting (λ k. and_then (each_turn setting turns.entry (drop at (entries subject)) state.old)
+        (to_signal k)) result state.new }
 {
     if at >= entry_count(&subject) {
         drop(subject);
@@ -170,7 +180,8 @@ pub(crate) fn bind<'p>(
 
 // The entry at a position is bound.
 fn bind_at(binding: &Binding, subject: &Value, at: usize, state: &mut State) -> Result<(), Halt>
-    ensures { (entry : EntryKey × Data) → slice_get (entries subject.now) at ≡ Some entry → AtOnce (bind_run binding.now entry state.old) result state.new }
+    ensures { (entry : EntryKey × Data) → slice_get (entries subject.now) at ≡ Some entry
+        → AtOnce (bind_run binding.now entry state.old) result state.new }
 {
     match subject {
         Value::Array(array) => bind_entry(binding, array, at, state),

@@ -25,7 +25,9 @@ pub(crate) fn begin_call<'p>(
     arguments: &'p Items<Expression>,
     state: &State,
 ) -> Result<Next<'p>, Halt>
-    ensures { (setting : Setting) → setting.bundle ≡ bundle.now → Leads setting (λ k. and_then (call_run (callee_named setting.bundle name.now state.now) (evaluations arguments.now) setting state.now) (to_value k)) result state.now }
+    ensures { (setting : Setting) → setting.bundle ≡ bundle.now
+        → Leads setting (λ k. and_then (call_run (callee_named setting.bundle name.now state.now)
+        (evaluations arguments.now) setting state.now) (to_value k)) result state.now }
 {
     match look_up(bundle, name, state) {
         None => Err(fatal(FatalKind::NoFunction, state)),
@@ -48,7 +50,8 @@ pub(crate) fn include<'p>(
     name: Value,
     state: &State,
 ) -> Result<Next<'p>, Halt>
-    ensures { (setting : Setting) → setting.bundle ≡ bundle.now → Leads setting (λ k. and_then (include_run how name setting state.now) (to_value k)) result state.now }
+    ensures { (setting : Setting) → setting.bundle ≡ bundle.now
+        → Leads setting (λ k. and_then (include_run how name setting state.now) (to_value k)) result state.now }
 {
     let found = file_named_by(alloc, bundle, &name);
     drop(name);
@@ -60,7 +63,8 @@ pub(crate) fn include<'p>(
 
 // The inclusion of the file of this number, if there is one.
 fn included<'p>(how: Inclusion, file: Option<u32>, state: &State) -> Result<Next<'p>, Halt>
-    ensures { (setting : Setting) → Leads setting (λ k. and_then (inclusion_run how file setting state.now) (to_value k)) result state.now }
+    ensures { (setting : Setting)
+        → Leads setting (λ k. and_then (inclusion_run how file setting state.now) (to_value k)) result state.now }
 {
     match file {
         None => given(not_included(how, state)),

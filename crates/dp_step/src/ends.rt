@@ -28,9 +28,9 @@ impl<'p> Machine<'p> {
     ghost use Rattle.dp_step.specs.inner.Leaps.{HasRun, Leaps, RunsOut, part_with, whole_of};
     ghost use Rattle.dp_step.specs.inner.Moves.{rest_with};
 
-    /// Goes on to the end of the program, and answers its outcome; each moment that is left takes one step. Nothing stops
-    /// it, so it goes as fast as the evaluator: a statement, or the turns that are left of a loop, are run whole. After
-    /// out of memory nothing is said of the machine.
+    /// Goes on to the end of the program, and answers its outcome; each moment that is left takes one step. Nothing
+    /// stops it, so it goes as fast as the evaluator: a statement, or the turns that are left of a loop, are run whole.
+    /// After out of memory nothing is said of the machine.
     pub fn run_out<L: Ledger>(&mut self, steps: &mut Steps<L>) -> Result<Outcome, Memory>
         ensures end { (bundle : SomeBundle) (bound : ℕ) (writes : List NumberedWrite) (n : ℕ)
             → StandsFor bundle bound writes n self.old

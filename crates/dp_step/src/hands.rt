@@ -37,7 +37,8 @@ pub(crate) fn first_of<'p>(
     hand: Hand<'p>,
     state: &mut State,
 ) -> Result<Small<'p>, Halt>
-    ensures { (setting : Setting) → setting.bundle ≡ bundle.now → setting.bound ≡ bound → Goes setting (λ k. hand_rest setting hand.entry k state.old) result state.new }
+    ensures { (setting : Setting) → setting.bundle ≡ bundle.now → setting.bound ≡ bound
+        → Goes setting (λ k. hand_rest setting hand.entry k state.old) result state.new }
 {
     match hand {
         Hand::Part(part) => first_of_part(alloc, bundle, part, state),
@@ -52,7 +53,8 @@ fn first_of_part<'p>(
     part: PartHand<'p>,
     state: &State,
 ) -> Result<Small<'p>, Halt>
-    ensures { (setting : Setting) → setting.bundle ≡ bundle.now → Goes setting (λ k. part_hand_rest setting part.entry k state.now) result state.now }
+    ensures { (setting : Setting) → setting.bundle ≡ bundle.now
+        → Goes setting (λ k. part_hand_rest setting part.entry k state.now) result state.now }
 {
     match part {
         PartHand::Evaluate(e) => evaluate(alloc, bundle, e, state),
@@ -67,7 +69,8 @@ fn evaluate<'p>(
     e: &'p Expression,
     state: &State,
 ) -> Result<Small<'p>, Halt>
-    ensures { (setting : Setting) → setting.bundle ≡ bundle.now → Goes setting (λ k. and_then (evaluation e.now setting state.now) (given_value k)) result state.now }
+    ensures { (setting : Setting) → setting.bundle ≡ bundle.now
+        → Goes setting (λ k. and_then (evaluation e.now setting state.now) (given_value k)) result state.now }
 {
     match e {
         Expression::Call(name, arguments) => {
@@ -86,7 +89,8 @@ fn evaluate<'p>(
 
 // A step in an expression is one of the machine, without a moment.
 fn widened<'p>(next: Result<PartNext<'p>, Halt>) -> Result<Small<'p>, Halt>
-    ensures { (setting : Setting) (part : Follows → Run AnySignal) (t : AnyState) → PartLeads setting part next.entry t → Goes setting part result t }
+    ensures { (setting : Setting) (part : Follows → Run AnySignal) (t : AnyState)
+        → PartLeads setting part next.entry t → Goes setting part result t }
 {
     match next {
         Ok(next) => Ok(Small {
@@ -99,7 +103,8 @@ fn widened<'p>(next: Result<PartNext<'p>, Halt>) -> Result<Small<'p>, Halt>
 
 // What is to be done next of an expression is what is to be done next.
 fn widen<'p>(next: PartNext<'p>) -> Next<'p>
-    ensures { (setting : Setting) (k : Follows) (s : AnyState) → next_rest setting result k s ≡ part_next_rest setting next.entry k s }
+    ensures { (setting : Setting) (k : Follows) (s : AnyState)
+        → next_rest setting result k s ≡ part_next_rest setting next.entry k s }
 {
     let PartNext { hand, waits } = next;
     match waits {
@@ -121,7 +126,8 @@ fn first_of_statement<'p>(
     hand: Hand<'p>,
     state: &mut State,
 ) -> Result<Small<'p>, Halt>
-    ensures { (setting : Setting) → setting.bound ≡ bound → Goes setting (λ k. hand_rest setting hand.entry k state.old) result state.new }
+    ensures { (setting : Setting) → setting.bound ≡ bound
+        → Goes setting (λ k. hand_rest setting hand.entry k state.old) result state.new }
 {
     match hand {
         Hand::Run(statement) => Ok(run(alloc, bound, statement.as_ref())),
@@ -176,7 +182,8 @@ fn first_of_turn<'p>(alloc: Global, hand: Hand<'p>, state: &mut State) -> Result
 
 // A step without a moment.
 fn moved<'p>(next: Result<Next<'p>, Halt>) -> Result<Small<'p>, Halt>
-    ensures { (setting : Setting) (part : Follows → Run AnySignal) (t : AnyState) → Leads setting part next.entry t → Goes setting part result t }
+    ensures { (setting : Setting) (part : Follows → Run AnySignal) (t : AnyState) → Leads setting part next.entry t
+        → Goes setting part result t }
 {
     match next {
         Ok(next) => Ok(Small {
@@ -189,7 +196,8 @@ fn moved<'p>(next: Result<Next<'p>, Halt>) -> Result<Small<'p>, Halt>
 
 // The frame of a call or a file that is done goes. It gives what its statements gave, or this where they gave none.
 fn leave<'p>(none: Value, signal: Signal, state: &mut State) -> Next<'p>
-    ensures { (setting : Setting) (k : Follows) → next_rest setting result k state.new ≡ given_value k (value_returned none signal) (left state.old) }
+    ensures { (setting : Setting) (k : Follows)
+        → next_rest setting result k state.new ≡ given_value k (value_returned none signal) (left state.old) }
 {
     state.leave();
     give(returned(none, signal))
@@ -203,7 +211,8 @@ pub(crate) fn receive<'p>(
     given: Given,
     state: &mut State,
 ) -> Result<Small<'p>, Halt>
-    ensures { (setting : Setting) → setting.bundle ≡ bundle.now → Goes setting (λ k. work_rest setting work.entry k given state.old) result state.new }
+    ensures { (setting : Setting) → setting.bundle ≡ bundle.now
+        → Goes setting (λ k. work_rest setting work.entry k given state.old) result state.new }
 {
     match work {
         Work::Part(work) => widened(give_to(alloc, work, given, state)),
@@ -222,7 +231,8 @@ fn to_include<'p>(
     given: Given,
     state: &State,
 ) -> Result<Small<'p>, Halt>
-    ensures { (setting : Setting) → setting.bundle ≡ bundle.now → Goes setting (λ k. work_rest setting (any_work.Include how) k given state.now) result state.now }
+    ensures { (setting : Setting) → setting.bundle ≡ bundle.now
+        → Goes setting (λ k. work_rest setting (any_work.Include how) k given state.now) result state.now }
 {
     match given {
         Given::Value(value) => moved(include(alloc, bundle, how, value, state)),
@@ -250,7 +260,8 @@ fn to_after<'p>(
     given: Given,
     state: &mut State,
 ) -> Result<Small<'p>, Halt>
-    ensures { (setting : Setting) → Goes setting (λ k. work_rest setting (any_work.AfterValue work.entry) k given state.old) result state.new }
+    ensures { (setting : Setting)
+        → Goes setting (λ k. work_rest setting (any_work.AfterValue work.entry) k given state.old) result state.new }
 {
     match given {
         Given::Value(value) => moved(receive_after(alloc, work, value, state)),
@@ -268,7 +279,8 @@ fn to_values<'p>(
     given: Given,
     state: &mut State,
 ) -> Result<Small<'p>, Halt>
-    ensures { (setting : Setting) → Goes setting (λ k. work_rest setting (any_work.ForValues work.entry) k given state.old) result state.new }
+    ensures { (setting : Setting)
+        → Goes setting (λ k. work_rest setting (any_work.ForValues work.entry) k given state.old) result state.new }
 {
     match given {
         Given::Values(values) => moved(receive_values(alloc, work, values, state)),
@@ -281,7 +293,8 @@ fn to_values<'p>(
 
 // Something is given to a part that waits for a signal.
 fn to_signal<'p>(alloc: Global, work: ForSignal<'p>, given: Given) -> Small<'p>
-    ensures { (setting : Setting) (k : Follows) (s : AnyState) → small_rest setting result k s ≡ work_rest setting (any_work.ForSignal work.entry) k given s }
+    ensures { (setting : Setting) (k : Follows) (s : AnyState)
+        → small_rest setting result k s ≡ work_rest setting (any_work.ForSignal work.entry) k given s }
 {
     match given {
         Given::Signal(given) => receive_signal(alloc, work, given),

@@ -6,7 +6,8 @@ ghost use Rattle.dp_actions.specs.Expressions.{evaluations};
 ghost use Rattle.dp_actions.specs.Loops.{entries, last_holds as ends_true, turn_over as over};
 ghost use Rattle.dp_actions.specs.Run.{and_then};
 ghost use Rattle.dp_actions.specs.Setting.{Setting};
-ghost use Rattle.dp_step.specs.Rest.{do_decided, do_test, do_turns_of, each_from, next_rest, signal_rest, small_rest, tests_of, turns_decided, turns_next, turns_of, turns_tested};
+ghost use Rattle.dp_step.specs.Rest.{do_decided, do_test, do_turns_of, each_from, next_rest, signal_rest, small_rest};
+ghost use Rattle.dp_step.specs.Rest.{tests_of, turns_decided, turns_next, turns_of, turns_tested};
 ghost use Rattle.dp_step_parts.specs.Rest.{Follows, to_signal};
 
 use crate::next::{signal, values_first};
@@ -21,7 +22,8 @@ use std::alloc::Global;
 
 /// Turns of a `while` or a `for`, at most so many.
 pub(crate) fn turn<'p>(alloc: Global, turns: Turns<'p>, left: u64) -> Small<'p>
-    ensures { (setting : Setting) (k : Follows) (s : AnyState) → small_rest setting result k s ≡ and_then (turns_of setting turns.entry left s) (to_signal k) }
+    ensures { (setting : Setting) (k : Follows) (s : AnyState)
+        → small_rest setting result k s ≡ and_then (turns_of setting turns.entry left s) (to_signal k) }
 {
     if left == 0 {
         Small {
@@ -41,7 +43,9 @@ pub(crate) fn turn<'p>(alloc: Global, turns: Turns<'p>, left: u64) -> Small<'p>
 
 // The tests of a turn, after which at most so many are left.
 fn tests_first<'p>(alloc: Global, turns: Turns<'p>, left: u64) -> Next<'p>
-    ensures { (setting : Setting) (k : Follows) (s : AnyState) → next_rest setting result k s ≡ and_then (evaluations (tests_of turns.entry.head) setting s) (λ values t. and_then (turns_tested setting turns.entry left values t) (to_signal k)) }
+    ensures { (setting : Setting) (k : Follows) (s : AnyState)
+        → next_rest setting result k s ≡ and_then (evaluations (tests_of turns.entry.head) setting s)
+        (λ values t. and_then (turns_tested setting turns.entry left values t) (to_signal k)) }
 {
     match turns.head {
         Head::While(test) => Next {
@@ -58,7 +62,8 @@ fn tests_first<'p>(alloc: Global, turns: Turns<'p>, left: u64) -> Next<'p>
 
 /// A turn whose tests are evaluated.
 pub(crate) fn tested<'p>(turns: Turns<'p>, left: u64, holds: bool) -> Next<'p>
-    ensures { (setting : Setting) (k : Follows) (s : AnyState) → next_rest setting result k s ≡ and_then (turns_decided setting turns.entry left holds s) (to_signal k) }
+    ensures { (setting : Setting) (k : Follows) (s : AnyState)
+        → next_rest setting result k s ≡ and_then (turns_decided setting turns.entry left holds s) (to_signal k) }
 {
     if holds {
         Next {
@@ -81,7 +86,8 @@ pub(crate) fn test_holds(values: Items<Value>) -> bool
 
 /// Turns of a `do`, at most so many.
 pub(crate) fn do_turn<'p>(turns: DoTurns<'p>, left: u64) -> Next<'p>
-    ensures { (setting : Setting) (k : Follows) (s : AnyState) → next_rest setting result k s ≡ and_then (do_turns_of setting turns.entry left s) (to_signal k) }
+    ensures { (setting : Setting) (k : Follows) (s : AnyState)
+        → next_rest setting result k s ≡ and_then (do_turns_of setting turns.entry left s) (to_signal k) }
 {
     if left == 0 {
         Next {
@@ -98,7 +104,8 @@ pub(crate) fn do_turn<'p>(turns: DoTurns<'p>, left: u64) -> Next<'p>
 
 /// A turn of a `do` whose test is evaluated.
 pub(crate) fn do_tested<'p>(turns: DoTurns<'p>, left: u64, holds: bool) -> Next<'p>
-    ensures { (setting : Setting) (k : Follows) (s : AnyState) → next_rest setting result k s ≡ and_then (do_decided setting turns.entry left holds s) (to_signal k) }
+    ensures { (setting : Setting) (k : Follows) (s : AnyState)
+        → next_rest setting result k s ≡ and_then (do_decided setting turns.entry left holds s) (to_signal k) }
 {
     if holds {
         Next {
@@ -112,7 +119,8 @@ pub(crate) fn do_tested<'p>(turns: DoTurns<'p>, left: u64, holds: bool) -> Next<
 
 /// The turns of a `foreach` from the entry at a position on.
 pub(crate) fn each_turn<'p>(turns: EachTurns<'p>, subject: Value, at: usize) -> Small<'p>
-    ensures { (setting : Setting) (k : Follows) (s : AnyState) → small_rest setting result k s ≡ and_then (each_from setting turns.entry subject at s) (to_signal k) }
+    ensures { (setting : Setting) (k : Follows) (s : AnyState)
+        → small_rest setting result k s ≡ and_then (each_from setting turns.entry subject at s) (to_signal k) }
 {
     if at >= entry_count(&subject) {
         drop(subject);
@@ -143,7 +151,8 @@ pub(crate) fn entry_count(subject: &Value) -> usize
 
 /// A signal is given to a part that waits for one.
 pub(crate) fn receive_signal<'p>(alloc: Global, work: ForSignal<'p>, given: Signal) -> Small<'p>
-    ensures { (setting : Setting) (k : Follows) (s : AnyState) → small_rest setting result k s ≡ signal_rest setting work.entry given k s }
+    ensures { (setting : Setting) (k : Follows) (s : AnyState)
+        → small_rest setting result k s ≡ signal_rest setting work.entry given k s }
 {
     match work {
         ForSignal::Rest(rest, at) => match given {
@@ -167,7 +176,8 @@ pub(crate) fn receive_signal<'p>(alloc: Global, work: ForSignal<'p>, given: Sign
 
 // The body of a turn is over.
 fn body_over<'p>(alloc: Global, turns: Turns<'p>, left: u64, given: Signal) -> Small<'p>
-    ensures { (setting : Setting) (k : Follows) (s : AnyState) → small_rest setting result k s ≡ and_then (over given (turns_next setting turns.entry left) s) (to_signal k) }
+    ensures { (setting : Setting) (k : Follows) (s : AnyState)
+        → small_rest setting result k s ≡ and_then (over given (turns_next setting turns.entry left) s) (to_signal k) }
 {
     match turn_over(given) {
         Turn::On => Small {
@@ -183,7 +193,8 @@ fn body_over<'p>(alloc: Global, turns: Turns<'p>, left: u64, given: Signal) -> S
 
 // What comes between two turns, and then at most so many.
 fn turns_on<'p>(alloc: Global, turns: Turns<'p>, left: u64) -> Next<'p>
-    ensures { (setting : Setting) (k : Follows) (s : AnyState) → next_rest setting result k s ≡ and_then (turns_next setting turns.entry left s) (to_signal k) }
+    ensures { (setting : Setting) (k : Follows) (s : AnyState)
+        → next_rest setting result k s ≡ and_then (turns_next setting turns.entry left s) (to_signal k) }
 {
     match turns.head {
         Head::While(_) => Next {
@@ -200,7 +211,8 @@ fn turns_on<'p>(alloc: Global, turns: Turns<'p>, left: u64) -> Next<'p>
 
 // The body of a turn of a `do` is over.
 fn do_over<'p>(turns: DoTurns<'p>, left: u64, given: Signal) -> Small<'p>
-    ensures { (setting : Setting) (k : Follows) (s : AnyState) → small_rest setting result k s ≡ and_then (over given (do_test setting turns.entry left) s) (to_signal k) }
+    ensures { (setting : Setting) (k : Follows) (s : AnyState)
+        → small_rest setting result k s ≡ and_then (over given (do_test setting turns.entry left) s) (to_signal k) }
 {
     match turn_over(given) {
         Turn::On => Small {
@@ -219,7 +231,9 @@ fn do_over<'p>(turns: DoTurns<'p>, left: u64, given: Signal) -> Small<'p>
 
 // The body of a turn of a `foreach` is over.
 fn each_over<'p>(turns: EachTurns<'p>, subject: Value, at: usize, given: Signal) -> Small<'p>
-    ensures { (setting : Setting) (k : Follows) (s : AnyState) → small_rest setting result k s ≡ and_then (over given (each_from setting turns.entry subject at) s) (to_signal k) }
+    ensures { (setting : Setting) (k : Follows) (s : AnyState)
+        → small_rest setting result k s ≡ and_then (over given (each_from setting turns.entry subject at) s)
+        (to_signal k) }
 {
     match turn_over(given) {
         Turn::On => Small {

@@ -15,8 +15,8 @@ use dp_value::Memory;
 use std::alloc::Global;
 use std::sync::ledger::Ledger;
 
-/// A program that has come to a moment, or is before its first one: its state, what is in hand, and the pending work, of
-/// which the last item is the innermost. `depth` is how many frames more can be on the stack.
+/// A program that has come to a moment, or is before its first one: its state, what is in hand, and the pending work,
+/// of which the last item is the innermost. `depth` is how many frames more can be on the stack.
 #[derive(Drop)]
 pub struct Machine<'p> {
     pub(crate) bundle: &'p Bundle,
@@ -77,13 +77,16 @@ impl<'p> Machine<'p> {
         &self.state
     }
 
-    /// Goes on to the next moment, or to the end of the program, and counts a step for a moment. Once the program has ended
-    /// it answers the same end; once memory has run out it answers so for good.
+    /// Goes on to the next moment, or to the end of the program, and counts a step for a moment. Once the program has
+    /// ended it answers the same end; once memory has run out it answers so for good.
     pub fn step<L: Ledger>(&mut self, steps: &mut Steps<L>) -> Result<Progress, Memory>
-        ensures goes_on { (bundle : SomeBundle) (bound : ℕ) (writes : List NumberedWrite) (n : ℕ) → StandsFor bundle bound writes n self.old → IfOk result (λ progress. GoesOn bundle bound writes n progress self.new) }
+        ensures goes_on { (bundle : SomeBundle) (bound : ℕ) (writes : List NumberedWrite) (n : ℕ)
+            → StandsFor bundle bound writes n self.old
+            → IfOk result (λ progress. GoesOn bundle bound writes n progress self.new) }
         ensures counted { IfOk result (λ progress. steps.new ≡ steps.old + steps_of progress) }
         ensures leaves { Leaves result self.new }
-        ensures stays { (o : SomeOutcome) → HasEnded o self.old → IfOk result (λ progress. (progress ≡ any_progress.Ended o) × (self.new.state ≡ self.old.state)) }
+        ensures stays { (o : SomeOutcome) → HasEnded o self.old
+            → IfOk result (λ progress. (progress ≡ any_progress.Ended o) × (self.new.state ≡ self.old.state)) }
         ensures fails { HasFailed self.old → OnOk result ⊥ }
     {
         if self.has_failed() {
@@ -120,9 +123,12 @@ impl<'p> Machine<'p> {
 
     // Goes on to the next moment, or to the end of the program.
     fn next_moment(&mut self) -> Result<Progress, Memory>
-        ensures goes_on { (bundle : SomeBundle) (bound : ℕ) (writes : List NumberedWrite) (n : ℕ) → StandsFor bundle bound writes n self.old → IfOk result (λ progress. GoesOn bundle bound writes n progress self.new) }
+        ensures goes_on { (bundle : SomeBundle) (bound : ℕ) (writes : List NumberedWrite) (n : ℕ)
+            → StandsFor bundle bound writes n self.old
+            → IfOk result (λ progress. GoesOn bundle bound writes n progress self.new) }
         ensures ends { OnOk result (Leaves result self.new) }
-        ensures stays { (o : SomeOutcome) → HasEnded o self.old → IfOk result (λ progress. (progress ≡ any_progress.Ended o) × (self.new.state ≡ self.old.state)) }
+        ensures stays { (o : SomeOutcome) → HasEnded o self.old
+            → IfOk result (λ progress. (progress ≡ any_progress.Ended o) × (self.new.state ≡ self.old.state)) }
     {
         match self.advance() {
             Ok(Arrival::Moment(kind, line)) => self.come(kind, line),

@@ -43,7 +43,8 @@ pub(crate) fn signal<'p>(signal: Signal) -> Next<'p>
 
 /// A value that was made is given.
 pub(crate) fn given<'p>(made: Result<Value, Halt>) -> Result<Next<'p>, Halt>
-    ensures { (setting : Setting) (run : Run AnyValue) (t : AnyState) → AtOnce run made t → Leads setting (λ k. and_then run (to_value k)) result t }
+    ensures { (setting : Setting) (run : Run AnyValue) (t : AnyState) → AtOnce run made t
+        → Leads setting (λ k. and_then run (to_value k)) result t }
 {
     match made {
         Ok(value) => Ok(give(value)),
@@ -57,7 +58,9 @@ pub(crate) fn values_first<'p>(
     all: &'p Items<Expression>,
     work: Work<'p>,
 ) -> Next<'p>
-    ensures { (setting : Setting) (k : Follows) (s : AnyState) → next_rest setting result k s ≡ and_then (evaluations all.now setting s) (to_values (work_rest setting work.entry k)) }
+    ensures { (setting : Setting) (k : Follows) (s : AnyState)
+        → next_rest setting result k s ≡ and_then (evaluations all.now setting s)
+        (to_values (work_rest setting work.entry k)) }
 {
     Next {
         hand: Hand::Part(PartHand::Values(Items::of(Vec::new(alloc)), all, 0)),

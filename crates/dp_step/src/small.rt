@@ -29,7 +29,8 @@ impl<'p> Machine<'p> {
     ghost use Rattle.dp_step.specs.Stands.{rest_of};
     ghost use Rattle.dp_step.specs.declared.work.Hand.TheVariants as any_hand;
     ghost use Rattle.dp_step_parts.specs.declared.work.Hand.TheVariants as any_part;
-    ghost use Rattle.dp_step.specs.inner.Moves.{Moves, body_with, end_with, file_with, next_with, rest_with, small_with, work_with};
+    ghost use Rattle.dp_step.specs.inner.Moves.{Moves, body_with, end_with, file_with, next_with, rest_with};
+    ghost use Rattle.dp_step.specs.inner.Moves.{small_with, work_with};
 
     /// A small step. It may come to a moment of a kind, on a line of the top frame.
     pub(crate) fn small(&mut self) -> Result<Option<(MomentKind, u32)>, Halt>
@@ -54,10 +55,11 @@ impl<'p> Machine<'p> {
         }
     }
 
-    // A small step with an expression. One that changes nothing is evaluated whole, in the state as it is; where that is
-    // fatal it is done part by part, so that the end is that of its part.
+    // A small step with an expression. One that changes nothing is evaluated whole, in the state as it is; where that
+    // is fatal it is done part by part, so that the end is that of its part.
     fn evaluate_whole(&mut self, e: &'p Expression) -> Result<Option<(MomentKind, u32)>, Halt>
-        ensures { Moves self.old (rest_with self.old (any_hand.Part (any_part.Evaluate e.entry)) self.old.state) result self.new }
+        ensures { Moves self.old (rest_with self.old (any_hand.Part (any_part.Evaluate e.entry)) self.old.state)
+            result self.new }
     {
         if !is_pure(e) {
             return self.first(Hand::Part(PartHand::Evaluate(e)));
@@ -81,7 +83,8 @@ impl<'p> Machine<'p> {
 
     // Something is given to the innermost item of the pending work.
     fn take(&mut self, given: Given) -> Result<Option<(MomentKind, u32)>, Halt>
-        ensures { Moves self.old (rest_with self.old (any_hand.Part (any_part.Give given)) self.old.state) result self.new }
+        ensures { Moves self.old (rest_with self.old (any_hand.Part (any_part.Give given)) self.old.state) result
+            self.new }
     {
         match self.pending.pop() {
             None => {
@@ -118,7 +121,8 @@ impl<'p> Machine<'p> {
     // What is to be done next is in hand, and what waits for it is the innermost item of the pending work.
     fn hold(&mut self, next: Next<'p>) -> Result<(), Memory>
         ensures rest { OnOk result ((s : AnyState) → rest_of self.new s ≡ next_with self.old next.entry s) }
-        ensures kept { (self.new.bundle.now ≡ self.old.bundle.now) × (self.new.bound ≡ self.old.bound) × (self.new.state ≡ self.old.state) }
+        ensures kept { (self.new.bundle.now ≡ self.old.bundle.now) × (self.new.bound ≡ self.old.bound)
+            × (self.new.state ≡ self.old.state) }
     {
         let Next { hand, waits } = next;
         match waits {
@@ -132,8 +136,10 @@ impl<'p> Machine<'p> {
 
     // This is in hand, and the innermost item of the pending work is this.
     fn hold_both(&mut self, hand: Hand<'p>, item: Waiting<'p>) -> Result<(), Memory>
-        ensures held { OnOk result ((self.new.hand ≡ hand.entry) × (self.new.pending.items ≡ self.old.pending.items ++ item.entry ∷ [])) }
-        ensures kept { (self.new.bundle.now ≡ self.old.bundle.now) × (self.new.bound ≡ self.old.bound) × (self.new.depth ≡ self.old.depth) × (self.new.state ≡ self.old.state) }
+        ensures held { OnOk result ((self.new.hand ≡ hand.entry)
+            × (self.new.pending.items ≡ self.old.pending.items ++ item.entry ∷ [])) }
+        ensures kept { (self.new.bundle.now ≡ self.old.bundle.now) × (self.new.bound ≡ self.old.bound)
+            × (self.new.depth ≡ self.old.depth) × (self.new.state ≡ self.old.state) }
     {
         put_hand(&mut self.hand, hand);
         match push_item(&mut self.pending, item) {
@@ -152,7 +158,8 @@ impl<'p> Machine<'p> {
         function: &'p Function,
         values: Items<Value>,
     ) -> Result<Option<(MomentKind, u32)>, Halt>
-        ensures { Moves self.old (rest_with self.old (any_hand.Call file function.entry values) self.old.state) result self.new }
+        ensures { Moves self.old (rest_with self.old (any_hand.Call file function.entry values) self.old.state) result
+            self.new }
     {
         if self.depth == 0 {
             drop(values);
@@ -209,7 +216,8 @@ impl<'p> Machine<'p> {
 
     // The body of a call is done.
     fn end_call(&mut self, depth: u64, given: Given) -> Option<(MomentKind, u32)>
-        ensures { Moves self.old (end_with self.old (any_waiting.EndCall depth) given self.old.state) (Ok result) self.new }
+        ensures { Moves self.old (end_with self.old (any_waiting.EndCall depth) given self.old.state)
+            (Ok result) self.new }
     {
         self.depth = depth;
         let leaves = ends_call(&given);
@@ -223,7 +231,8 @@ impl<'p> Machine<'p> {
 
     // The statements of an included file are done.
     fn end_file(&mut self, depth: u64, given: Given) -> Option<(MomentKind, u32)>
-        ensures { Moves self.old (end_with self.old (any_waiting.EndFile depth) given self.old.state) (Ok result) self.new }
+        ensures { Moves self.old (end_with self.old (any_waiting.EndFile depth) given self.old.state)
+            (Ok result) self.new }
     {
         self.depth = depth;
         put_hand(&mut self.hand, file_left(given));
@@ -244,7 +253,9 @@ fn ends_call(given: &Given) -> bool
 
 // What is in hand once the body of a call is done.
 fn call_hand<'p>(given: Given) -> Hand<'p>
-    ensures { (setting : Setting) (depth : ℕ) (k : Follows) (s : SomeState) → waiting_rest setting (any_waiting.EndCall depth) k given s ≡ behind (leave_if (call_ends given) (line_of s)) (hand_rest setting result k) s }
+    ensures { (setting : Setting) (depth : ℕ) (k : Follows) (s : SomeState)
+        → waiting_rest setting (any_waiting.EndCall depth) k given s ≡ behind (leave_if (call_ends given) (line_of s))
+        (hand_rest setting result k) s }
 {
     match given {
         Given::Signal(signal) => Hand::Left(signal),
@@ -255,7 +266,8 @@ fn call_hand<'p>(given: Given) -> Hand<'p>
 
 // What is in hand once the statements of an included file are done.
 fn file_left<'p>(given: Given) -> Hand<'p>
-    ensures { (setting : Setting) (depth : ℕ) (k : Follows) (s : SomeState) → waiting_rest setting (any_waiting.EndFile depth) k given s ≡ hand_rest setting result k s }
+    ensures { (setting : Setting) (depth : ℕ) (k : Follows) (s : SomeState)
+        → waiting_rest setting (any_waiting.EndFile depth) k given s ≡ hand_rest setting result k s }
 {
     match given {
         Given::Signal(signal) => Hand::LeftFile(signal),
@@ -281,7 +293,8 @@ fn push_item<'p>(pending: &mut Vec<Waiting<'p>>, item: Waiting<'p>) -> Result<()
 
 /// The statements of the file of this number.
 pub(crate) fn file_hand<'p>(bundle: &'p Bundle, file: u32) -> Hand<'p>
-    ensures { (setting : Setting) (k : Follows) (s : SomeState) → hand_rest setting result k s ≡ and_then (body_run (body_of bundle.now file) setting s) (to_signal k) }
+    ensures { (setting : Setting) (k : Follows) (s : SomeState)
+        → hand_rest setting result k s ≡ and_then (body_run (body_of bundle.now file) setting s) (to_signal k) }
 {
     match bundle.files.as_slice().get(file as usize) {
         Some(file) => Hand::Each(&file.tree.body, 0),

@@ -7,7 +7,8 @@ ghost use Rattle.dp_actions.specs.Places.{unset_run};
 ghost use Rattle.dp_actions.specs.Run.{and_then};
 ghost use Rattle.dp_actions.specs.Setting.{Setting};
 ghost use Rattle.dp_meaning.specs.Statements.{body_run, echoes, end_run, return_run, statement_run};
-ghost use Rattle.dp_step.specs.Rest.{arms_part, branch_decided, first_body_run, first_run, next_rest, next_to, small_rest};
+ghost use Rattle.dp_step.specs.Rest.{arms_part, branch_decided, first_body_run, first_run, next_rest, next_to};
+ghost use Rattle.dp_step.specs.Rest.{small_rest};
 ghost use Rattle.dp_step_parts.specs.Rest.{Follows, to_signal};
 
 use crate::next::{signal, values_first};
@@ -23,7 +24,8 @@ use std::alloc::Global;
 
 /// A statement.
 pub(crate) fn run<'p>(alloc: Global, bound: u64, statement: &'p Statement) -> Small<'p>
-    ensures { (setting : Setting) → setting.bound ≡ bound → (k : Follows) (s : AnyState) → small_rest setting result k s ≡ and_then (statement_run statement.now setting s) (to_signal k) }
+    ensures { (setting : Setting) → setting.bound ≡ bound → (k : Follows) (s : AnyState)
+        → small_rest setting result k s ≡ and_then (statement_run statement.now setting s) (to_signal k) }
 {
     let line = statement.line;
     match &statement.kind {
@@ -168,7 +170,8 @@ pub(crate) fn run_at<'p>(
     all: &'p Items<Statement>,
     at: usize,
 ) -> Small<'p>
-    ensures { (setting : Setting) → setting.bound ≡ bound → (k : Follows) (s : AnyState) → small_rest setting result k s ≡ and_then (first_run (drop at all.now) setting s) (to_signal k) }
+    ensures { (setting : Setting) → setting.bound ≡ bound → (k : Follows) (s : AnyState)
+        → small_rest setting result k s ≡ and_then (first_run (drop at all.now) setting s) (to_signal k) }
 {
     match all.as_slice().get(at) {
         None => Small {
@@ -181,7 +184,8 @@ pub(crate) fn run_at<'p>(
 
 /// The body of the arm at a position.
 pub(crate) fn run_arm<'p>(alloc: Global, bound: u64, all: &'p Items<Arm>, at: usize) -> Small<'p>
-    ensures { (setting : Setting) → setting.bound ≡ bound → (k : Follows) (s : AnyState) → small_rest setting result k s ≡ and_then (first_body_run (drop at all.now) setting s) (to_signal k) }
+    ensures { (setting : Setting) → setting.bound ≡ bound → (k : Follows) (s : AnyState)
+        → small_rest setting result k s ≡ and_then (first_body_run (drop at all.now) setting s) (to_signal k) }
 {
     match all.as_slice().get(at) {
         None => Small {
@@ -194,7 +198,8 @@ pub(crate) fn run_arm<'p>(alloc: Global, bound: u64, all: &'p Items<Arm>, at: us
 
 // `return`
 fn return_value<'p>(value: &'p Option<Expression>) -> Next<'p>
-    ensures { (setting : Setting) (k : Follows) (s : AnyState) → next_rest setting result k s ≡ and_then (return_run value.now setting s) (to_signal k) }
+    ensures { (setting : Setting) (k : Follows) (s : AnyState)
+        → next_rest setting result k s ≡ and_then (return_run value.now setting s) (to_signal k) }
 {
     match value {
         None => signal(Signal::Return(Value::Null)),
@@ -207,7 +212,8 @@ fn return_value<'p>(value: &'p Option<Expression>) -> Next<'p>
 
 // `exit`
 fn exit<'p>(value: &'p Option<Expression>) -> Next<'p>
-    ensures { (setting : Setting) (k : Follows) (s : AnyState) → next_rest setting result k s ≡ and_then (end_run value.now setting s) (to_signal k) }
+    ensures { (setting : Setting) (k : Follows) (s : AnyState)
+        → next_rest setting result k s ≡ and_then (end_run value.now setting s) (to_signal k) }
 {
     match value {
         None => Next {
@@ -223,7 +229,8 @@ fn exit<'p>(value: &'p Option<Expression>) -> Next<'p>
 
 /// Statements from a position on, one after another.
 pub(crate) fn each<'p>(all: &'p Items<Statement>, at: usize) -> Next<'p>
-    ensures { (setting : Setting) (k : Follows) (s : AnyState) → next_rest setting result k s ≡ and_then (body_run (drop at all.now) setting s) (to_signal k) }
+    ensures { (setting : Setting) (k : Follows) (s : AnyState)
+        → next_rest setting result k s ≡ and_then (body_run (drop at all.now) setting s) (to_signal k) }
 {
     match all.as_slice().get(at) {
         None => signal(Signal::Next),
@@ -236,7 +243,9 @@ pub(crate) fn each<'p>(all: &'p Items<Statement>, at: usize) -> Next<'p>
 
 /// The operands of an `echo` from a position on.
 pub(crate) fn echo<'p>(all: &'p Items<Expression>, at: usize) -> Next<'p>
-    ensures { (setting : Setting) (k : Follows) (s : AnyState) → next_rest setting result k s ≡ and_then (echoes (map expression_run (drop at all.now)) setting s) (to_signal k) }
+    ensures { (setting : Setting) (k : Follows) (s : AnyState)
+        → next_rest setting result k s ≡ and_then (echoes (map expression_run (drop at all.now)) setting s)
+        (to_signal k) }
 {
     match all.as_slice().get(at) {
         None => signal(Signal::Next),
@@ -253,7 +262,8 @@ pub(crate) fn arms<'p>(
     at: usize,
     otherwise: &'p Option<Boxed<Statement>>,
 ) -> Small<'p>
-    ensures { (setting : Setting) (k : Follows) (s : AnyState) → small_rest setting result k s ≡ and_then (arms_part (drop at all.now) otherwise.now setting s) (to_signal k) }
+    ensures { (setting : Setting) (k : Follows) (s : AnyState)
+        → small_rest setting result k s ≡ and_then (arms_part (drop at all.now) otherwise.now setting s) (to_signal k) }
 {
     match all.as_slice().get(at) {
         None => Small {
@@ -277,7 +287,9 @@ pub(crate) fn branch<'p>(
     otherwise: &'p Option<Boxed<Statement>>,
     holds: bool,
 ) -> Next<'p>
-    ensures { (setting : Setting) (k : Follows) (s : AnyState) → next_rest setting result k s ≡ and_then (branch_decided (drop at all.now) otherwise.now setting holds s) (to_signal k) }
+    ensures { (setting : Setting) (k : Follows) (s : AnyState)
+        → next_rest setting result k s ≡ and_then (branch_decided (drop at all.now) otherwise.now setting holds s)
+        (to_signal k) }
 {
     match all.as_slice().get(at) {
         None => signal(Signal::Next),
@@ -299,7 +311,8 @@ pub(crate) fn branch<'p>(
 
 // What an `if` does where no test holds.
 fn without_arm<'p>(otherwise: &'p Option<Boxed<Statement>>) -> Next<'p>
-    ensures { (setting : Setting) (k : Follows) (s : AnyState) → next_rest setting result k s ≡ and_then (arms_part [] otherwise.now setting s) (to_signal k) }
+    ensures { (setting : Setting) (k : Follows) (s : AnyState)
+        → next_rest setting result k s ≡ and_then (arms_part [] otherwise.now setting s) (to_signal k) }
 {
     match otherwise {
         None => signal(Signal::Next),
@@ -312,7 +325,8 @@ fn without_arm<'p>(otherwise: &'p Option<Boxed<Statement>>) -> Next<'p>
 
 /// The places of an `unset` that are left.
 pub(crate) fn unset<'p>(alloc: Global, places: &'p [Place]) -> Next<'p>
-    ensures { (setting : Setting) (k : Follows) (s : AnyState) → next_rest setting result k s ≡ and_then (unset_run (map place_run places.now) setting s) (next_to k) }
+    ensures { (setting : Setting) (k : Follows) (s : AnyState)
+        → next_rest setting result k s ≡ and_then (unset_run (map place_run places.now) setting s) (next_to k) }
 {
     match places.split_first() {
         None => signal(Signal::Next),

@@ -1,5 +1,5 @@
-//! What a machine has in hand, and the pending work that waits for it. Each item is a part of the program half done, with
-//! the values that it has read, and lends its tree.
+//! What a machine has in hand, and the pending work that waits for it. Each item is a part of the program half done,
+//! with the values that it has read, and lends its tree.
 
 use dp_actions::Signal;
 use dp_state::{MomentKind, Outcome};

@@ -35,10 +35,11 @@ impl Machine<'_> {
     ghost use Rattle.dp_step.specs.Lending.{LendsState};
     ghost use Rattle.dp_step.specs.Stands.{StandsFor};
 
-    /// Makes those of the writes that have the number of the moment, in their order; before the first moment there is none to
-    /// make. Once memory ran out nothing is said of the machine.
+    /// Makes those of the writes that have the number of the moment, in their order; before the first moment there is
+    /// none to make. Once memory ran out nothing is said of the machine.
     pub fn write_all(&mut self, writes: &[NumberedWrite]) -> Result<(), Memory>
-        ensures { (bundle : SomeBundle) (bound : ℕ) (made : List NumberedWrite) (n : ℕ) → StandsFor bundle bound made n self.old
+        ensures { (bundle : SomeBundle) (bound : ℕ) (made : List NumberedWrite) (n : ℕ)
+            → StandsFor bundle bound made n self.old
             → OnOk result (StandsFor bundle bound (made ++ of_number n writes.now) n self.new) }
     {
         let number = self.state.moments;
@@ -88,7 +89,10 @@ impl Machine<'_> {
         value: Value,
     ) -> Result<(), StepError>
         ensures written { Writes (with_place level context path.now value self.old.state) result self.old self.new }
-        ensures stands { OnOk result ((bundle : SomeBundle) (bound : ℕ) (writes : List NumberedWrite) (n : ℕ) → StandsFor bundle bound writes (suc n) self.old → StandsFor bundle bound (writes ++ record { moment = suc n; write = any_write.Place level context path.now value } ∷ []) (suc n) self.new) }
+        ensures stands { OnOk result ((bundle : SomeBundle) (bound : ℕ) (writes : List NumberedWrite) (n : ℕ)
+            → StandsFor bundle bound writes (suc n) self.old
+            → StandsFor bundle bound (writes
+            ++ record { moment = suc n; write = any_write.Place level context path.now value } ∷ []) (suc n) self.new) }
     {
         self.write_place(level, context, path, value)
     }
@@ -120,7 +124,8 @@ impl Machine<'_> {
     // Gives a place a value that begins at a global variable.
     fn write_global(&mut self, path: &Path, value: Value) -> Result<(), StepError>
         requires { 0 < length self.old.state.frames }
-        ensures { Writes (place_or_fault (assigned (length self.old.state.frames - 1) path.now.name (keys_given path.now.keys) false value self.old.state)) result self.old self.new }
+        ensures { Writes (place_or_fault (assigned (length self.old.state.frames - 1) path.now.name
+            (keys_given path.now.keys) false value self.old.state)) result self.old self.new }
     {
         let depth = self.state.frames.len();
         self.write_at(depth - 1, path, value)
@@ -128,7 +133,8 @@ impl Machine<'_> {
 
     // Gives a place a value that begins at a variable of the frame at a level.
     fn write_at(&mut self, level: usize, path: &Path, value: Value) -> Result<(), StepError>
-        ensures { Writes (place_or_fault (assigned level path.now.name (keys_given path.now.keys) false value self.old.state)) result self.old self.new }
+        ensures { Writes (place_or_fault (assigned level path.now.name
+            (keys_given path.now.keys) false value self.old.state)) result self.old self.new }
     {
         match assign_at(self.alloc, level, path, value, &mut self.state) {
             Ok(()) => Ok(()),
@@ -146,18 +152,23 @@ impl Machine<'_> {
         StepError::Memory
     }
 
-    /// Evaluates an expression in the top frame at the moment, and keeps what it leaves. It has at most 10,000 moments of
-    /// its own, which are counted apart. A refusal changes nothing.
+    /// Evaluates an expression in the top frame at the moment, and keeps what it leaves. It has at most 10,000 moments
+    /// of its own, which are counted apart. A refusal changes nothing.
     pub fn evaluate(&mut self, e: &Expression) -> Result<Value, StepError>
-        ensures evaluated { Evaluates (evaluated (evaluation_setting self.old.bundle.now) e.now self.old.state) result self.old self.new }
-        ensures stands { OnOk result ((bundle : SomeBundle) (bound : ℕ) (writes : List NumberedWrite) (n : ℕ) → StandsFor bundle bound writes (suc n) self.old → StandsFor bundle bound (writes ++ record { moment = suc n; write = any_write.Evaluate e.now } ∷ []) (suc n) self.new) }
+        ensures evaluated { Evaluates (evaluated (evaluation_setting self.old.bundle.now) e.now self.old.state) result
+            self.old self.new }
+        ensures stands { OnOk result ((bundle : SomeBundle) (bound : ℕ) (writes : List NumberedWrite) (n : ℕ)
+            → StandsFor bundle bound writes (suc n) self.old
+            → StandsFor bundle bound (writes ++ record { moment = suc n; write = any_write.Evaluate e.now } ∷ [])
+            (suc n) self.new) }
     {
         self.value_of(e)
     }
 
     // The same.
     fn value_of(&mut self, e: &Expression) -> Result<Value, StepError>
-        ensures { Evaluates (evaluated (evaluation_setting self.old.bundle.now) e.now self.old.state) result self.old self.new }
+        ensures { Evaluates (evaluated (evaluation_setting self.old.bundle.now) e.now self.old.state) result self.old
+            self.new }
     {
         match evaluation(self.alloc, self.bundle, e, &self.state) {
             Err(_) => Err(self.failed()),
@@ -193,8 +204,10 @@ fn assign_at(
     value: Value,
     state: &mut State,
 ) -> Result<(), Fault>
-    ensures ok { OnOk result (assigned_at level path.now.name (all_given path.now.keys) false value state.old ≡ Ok state.new) }
-    ensures refused { IfErr result (IsCause (assigned_at level path.now.name (all_given path.now.keys) false value state.old)) }
+    ensures ok { OnOk result (assigned_at level path.now.name
+        (all_given path.now.keys) false value state.old ≡ Ok state.new) }
+    ensures refused { IfErr result (IsCause (assigned_at level path.now.name
+        (all_given path.now.keys) false value state.old)) }
     ensures err { OnErr result (state.new ≡ state.old) }
 {
     match given_keys(alloc, path.keys.as_slice()) {

@@ -21,5 +21,6 @@ module _ {A : Type 0} where
   leads_off setting r t (Stopped m) next h = record { by = h.leaves }
 
   -- a part whose first step gives something
-  pub then_done : (r : Run A) (a : A) (t : State) (next : A → State → Run Signal) → AtOnce r (Ok a) t → and_then r next ≡ next a t
+  pub then_done : (r : Run A) (a : A) (t : State) (next : A → State → Run Signal) → AtOnce r (Ok a) t
+      → and_then r next ≡ next a t
   then_done r a t next h = first_done next h

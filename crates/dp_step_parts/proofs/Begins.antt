@@ -29,7 +29,8 @@ use Rattle.dp_step_parts.specs.Rest.{Follows, to_value}
 
 -- an expression, by what is done first and what waits for it
 module _ (setting : Setting) (k : Follows) (s : State) where
-  by_layer : (e : Expression) (r : ExpressionRun) → expression_run e ≡ r → (evaluation e setting s >>= to_value k) ≡ (r.value setting s >>= to_value k)
+  by_layer : (e : Expression) (r : ExpressionRun) → expression_run e ≡ r
+      → (evaluation e setting s >>= to_value k) ≡ (r.value setting s >>= to_value k)
   by_layer e r h = ap (λ z. z.value setting s >>= to_value k) h
 
   pub begins-Null : (evaluation tree.Null setting s >>= to_value k) ≡ to_value k value.Null s
@@ -58,29 +59,35 @@ module _ (setting : Setting) (k : Follows) (s : State) where
       ≡ (isset_run (map place_run places) setting s >>= to_value k)
   begins-Isset places = by_layer _ _ (layer.run-Isset places)
 
-  pub begins-Index : (base : Expression) (indices : List Expression) → (evaluation (tree.Index base indices) setting s >>= to_value k)
-      ≡ (evaluation base setting s >>= λ v t. indices_run indexed (map expression_run indices) v setting t >>= to_value k)
+  pub begins-Index : (base : Expression) (indices : List Expression)
+      → (evaluation (tree.Index base indices) setting s >>= to_value k)
+      ≡ (evaluation base setting s >>= λ v t. indices_run indexed (map expression_run indices) v setting t
+      >>= to_value k)
   begins-Index base indices = by_layer _ _ (layer.run-Index base indices) ∙ and_then-assoc _ _ _
 
   pub begins-Unary : (op : UnaryOp) (e : Expression) → (evaluation (tree.Unary op e) setting s >>= to_value k)
       ≡ (evaluation e setting s >>= λ v t. value_run (unary_of op (data_of v)) t >>= to_value k)
   begins-Unary op e = by_layer _ _ (layer.run-Unary op e) ∙ and_then-assoc _ _ _
 
-  pub begins-Chain : (first : Expression) (links : List Link) → (evaluation (tree.Chain first links) setting s >>= to_value k)
+  pub begins-Chain : (first : Expression) (links : List Link)
+      → (evaluation (tree.Chain first links) setting s >>= to_value k)
       ≡ (evaluation first setting s >>= λ v t. links_run (map link_run links) v setting t >>= to_value k)
   begins-Chain first links = by_layer _ _ (layer.run-Chain first links) ∙ and_then-assoc _ _ _
 
-  if_then : {A B : Type 0} (b : Bool) (x y : Run A) (f : A → State → Run B) → ((if b then x else y) >>= f) ≡ (if b then x >>= f else y >>= f)
+  if_then : {A B : Type 0} (b : Bool) (x y : Run A) (f : A → State → Run B)
+      → ((if b then x else y) >>= f) ≡ (if b then x >>= f else y >>= f)
   if_then true x y f = refl
   if_then false x y f = refl
 
-  coalesce-rest : (right : Expression) (v : Value) (t : State) → ((if is_missing v then evaluation right setting t else Done v t) >>= to_value k)
+  coalesce-rest : (right : Expression) (v : Value) (t : State)
+      → ((if is_missing v then evaluation right setting t else Done v t) >>= to_value k)
       ≡ (if is_missing v then evaluation right setting t >>= to_value k else to_value k v t)
   unfolding and_then
   coalesce-rest right v t = if_then (is_missing v) (evaluation right setting t) (Done v t) (to_value k)
 
   pub begins-Coalesce : (left right : Expression) → (evaluation (tree.Coalesce left right) setting s >>= to_value k)
-      ≡ ((expression_run left).found setting s >>= λ v t. if is_missing v then evaluation right setting t >>= to_value k else to_value k v t)
+      ≡ ((expression_run left).found setting s >>= λ v t. if is_missing v then evaluation right setting t >>= to_value k
+      else to_value k v t)
   begins-Coalesce left right = by_layer _ _ (layer.run-Coalesce left right) ∙ and_then-assoc _ _ _
       ∙ and_then-same _ _ _ (λ v t. coalesce-rest right v t)
 
@@ -91,7 +98,8 @@ module _ (setting : Setting) (k : Follows) (s : State) where
       else evaluation otherwise setting t >>= to_value k)
   begins-Conditional test middle otherwise =
       ap (λ z. z setting s >>= to_value k) (layer.run-Conditional test middle otherwise) ∙ and_then-assoc _ _ _
-      ∙ and_then-same _ _ _ (λ v t. if_then (holds v) (choice (option_map expression_run middle) v setting t) (evaluation otherwise setting t) (to_value k))
+      ∙ and_then-same _ _ _ (λ v t. if_then (holds v) (choice (option_map expression_run middle) v setting t)
+      (evaluation otherwise setting t) (to_value k))
 
   -- the indices of a place, and then what is done with it
   module _ (place : Place) (part : List ℕ → List Value → State → Run Value) where
@@ -99,35 +107,55 @@ module _ (setting : Setting) (k : Follows) (s : State) where
         ≡ (evaluations place.indices setting s >>= λ indices t. part place.name indices t)
     by_place = ap (λ p. p.indices setting s >>= λ indices t. part p.name indices t) (layer.run-place place)
 
-  pub begins-Step : (op : UnaryOp) (order : Order) (place : Place) → (evaluation (tree.Step op order place) setting s >>= to_value k)
+  pub begins-Step : (op : UnaryOp) (order : Order) (place : Place)
+      → (evaluation (tree.Step op order place) setting s >>= to_value k)
       ≡ (evaluations place.indices setting s >>= λ indices t. step_under op order place.name indices t >>= to_value k)
   begins-Step op order place = by_layer _ _ (layer.run-Step op order place)
-      ∙ ap (λ r. r >>= to_value k) (by_place place (λ name indices t. step_under op order name indices t)) ∙ and_then-assoc _ _ _
+      ∙ ap (λ r. r >>= to_value k) (by_place place (λ name indices t. step_under op order name indices t))
+      ∙ and_then-assoc _ _ _
 
-  pub begins-Assign : (place : Place) (right : Expression) → (evaluation (tree.Assign place right) setting s >>= to_value k)
-      ≡ (evaluations place.indices setting s >>= λ indices t. assigned_under false place.name (evaluation right) indices setting t >>= to_value k)
+  pub begins-Assign : (place : Place) (right : Expression)
+      → (evaluation (tree.Assign place right) setting s >>= to_value k)
+      ≡ (evaluations place.indices setting s
+      >>= λ indices t. assigned_under false place.name (evaluation right) indices setting t >>= to_value k)
   begins-Assign place right = by_layer _ _ (layer.run-Assign place right)
-      ∙ ap (λ r. r >>= to_value k) (by_place place (λ name indices t. assigned_under false name (evaluation right) indices setting t)) ∙ and_then-assoc _ _ _
+      ∙ ap (λ r. r
+      >>= to_value k) (by_place place (λ name indices t. assigned_under false name
+      (evaluation right) indices setting t)) ∙ and_then-assoc _ _ _
 
   pub begins-Push : (place : Place) (right : Expression) → (evaluation (tree.Push place right) setting s >>= to_value k)
-      ≡ (evaluations place.indices setting s >>= λ indices t. assigned_under true place.name (evaluation right) indices setting t >>= to_value k)
+      ≡ (evaluations place.indices setting s
+      >>= λ indices t. assigned_under true place.name (evaluation right) indices setting t >>= to_value k)
   begins-Push place right = by_layer _ _ (layer.run-Push place right)
-      ∙ ap (λ r. r >>= to_value k) (by_place place (λ name indices t. assigned_under true name (evaluation right) indices setting t)) ∙ and_then-assoc _ _ _
+      ∙ ap (λ r. r
+      >>= to_value k) (by_place place (λ name indices t. assigned_under true name
+      (evaluation right) indices setting t)) ∙ and_then-assoc _ _ _
 
-  pub begins-Compound : (op : BinaryOp) (place : Place) (right : Expression) → (evaluation (tree.Compound op place right) setting s >>= to_value k)
-      ≡ (evaluations place.indices setting s >>= λ indices t. compound_under op place.name (evaluation right) indices setting t >>= to_value k)
+  pub begins-Compound : (op : BinaryOp) (place : Place) (right : Expression)
+      → (evaluation (tree.Compound op place right) setting s >>= to_value k)
+      ≡ (evaluations place.indices setting s
+      >>= λ indices t. compound_under op place.name (evaluation right) indices setting t >>= to_value k)
   begins-Compound op place right = by_layer _ _ (layer.run-Compound op place right)
-      ∙ ap (λ r. r >>= to_value k) (by_place place (λ name indices t. compound_under op name (evaluation right) indices setting t)) ∙ and_then-assoc _ _ _
+      ∙ ap (λ r. r
+      >>= to_value k) (by_place place (λ name indices t. compound_under op name
+      (evaluation right) indices setting t)) ∙ and_then-assoc _ _ _
 
-  pub begins-CoalesceAssign : (place : Place) (right : Expression) → (evaluation (tree.CoalesceAssign place right) setting s >>= to_value k)
-      ≡ (evaluations place.indices setting s >>= λ indices t. coalescing_under place.name (evaluation right) indices setting t >>= to_value k)
+  pub begins-CoalesceAssign : (place : Place) (right : Expression)
+      → (evaluation (tree.CoalesceAssign place right) setting s >>= to_value k)
+      ≡ (evaluations place.indices setting s
+      >>= λ indices t. coalescing_under place.name (evaluation right) indices setting t >>= to_value k)
   begins-CoalesceAssign place right = by_layer _ _ (layer.run-CoalesceAssign place right)
-      ∙ ap (λ r. r >>= to_value k) (by_place place (λ name indices t. coalescing_under name (evaluation right) indices setting t)) ∙ and_then-assoc _ _ _
+      ∙ ap (λ r. r
+      >>= to_value k) (by_place place (λ name indices t. coalescing_under name
+      (evaluation right) indices setting t)) ∙ and_then-assoc _ _ _
 
   -- to the left of `??`
-  pub finds-Index : (base : Expression) (indices : List Expression) → ((expression_run (tree.Index base indices)).found setting s >>= to_value k)
-      ≡ ((expression_run base).found setting s >>= λ v t. indices_run looked_up (map expression_run indices) v setting t >>= to_value k)
-  finds-Index base indices = ap (λ z. z.found setting s >>= to_value k) (layer.run-Index base indices) ∙ and_then-assoc _ _ _
+  pub finds-Index : (base : Expression) (indices : List Expression)
+      → ((expression_run (tree.Index base indices)).found setting s >>= to_value k)
+      ≡ ((expression_run base).found setting s >>= λ v t. indices_run looked_up (map expression_run indices) v setting t
+      >>= to_value k)
+  finds-Index base indices =
+      ap (λ z. z.found setting s >>= to_value k) (layer.run-Index base indices) ∙ and_then-assoc _ _ _
 
 -- any end
 pub anything : Follows

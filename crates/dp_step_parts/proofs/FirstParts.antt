@@ -28,7 +28,8 @@ use Rattle.dp_step_parts.specs.declared.work.Given.TheVariants as given
 use Rattle.dp_step_parts.specs.Rest.{Follows, keyed_after, to_value}
 
 -- the part of a list from a position on, by the member at that position
-pub from-member : {A : Type 0} (l : List A) (n : ℕ) (x : A) → n < length l → x ≡ get_or l n x → drop n l ≡ x ∷ drop (n + 1) l
+pub from-member : {A : Type 0} (l : List A) (n : ℕ) (x : A) → n < length l → x ≡ get_or l n x
+    → drop n l ≡ x ∷ drop (n + 1) l
 from-member l n x h e =
     let next : n + 1 ≡ suc n = omega arith in
     drop-cons l n x h ∙ ap (λ y. y ∷ drop (suc n) l) (sym e) ∙ ap (λ m. x ∷ drop m l) (sym next)
@@ -36,33 +37,44 @@ from-member l n x h e =
 module _ (setting : Setting) (k : Follows) (s : State) where
   -- ---- values
 
-  pub values-none : (before : List Value) → (evaluations [] setting s >>= λ values t. k (given.Values (before ++ values)) t) ≡ k (given.Values before) s
+  pub values-none : (before : List Value)
+      → (evaluations [] setting s >>= λ values t. k (given.Values (before ++ values)) t) ≡ k (given.Values before) s
   unfolding and_then
   values-none before = ap (λ l. k (given.Values l) s) (append-nil before)
 
   values-rest : (rest : List Expression) (before : List Value) (v : Value) (t : State)
-      → ((evaluations rest setting t >>= λ values u. Done (v ∷ values) u) >>= λ values u. k (given.Values (before ++ values)) u)
+      → ((evaluations rest setting t >>= λ values u. Done (v ∷ values) u)
+      >>= λ values u. k (given.Values (before ++ values)) u)
       ≡ (evaluations rest setting t >>= λ values u. k (given.Values (before ++ v ∷ values)) u)
   unfolding and_then
-  values-rest rest before v t = and_then-assoc (evaluations rest setting t) (λ values u. Done (v ∷ values) u) (λ values u. k (given.Values (before ++ values)) u)
+  values-rest rest before v t =
+      and_then-assoc (evaluations rest setting t) (λ values u. Done (v ∷ values) u)
+      (λ values u. k (given.Values (before ++ values)) u)
 
   pub values-first : (first : Expression) (rest : List Expression) (before : List Value)
       → (evaluations (first ∷ rest) setting s >>= λ values t. k (given.Values (before ++ values)) t)
-      ≡ (evaluation first setting s >>= λ v t. evaluations rest setting t >>= λ values u. k (given.Values (before ++ v ∷ values)) u)
+      ≡ (evaluation first setting s >>= λ v t. evaluations rest setting t
+      >>= λ values u. k (given.Values (before ++ v ∷ values)) u)
   values-first first rest before =
-      and_then-assoc (evaluation first setting s) (λ v t. evaluations rest setting t >>= λ values u. Done (v ∷ values) u) (λ values t. k (given.Values
+      and_then-assoc (evaluation first setting s) (λ v t. evaluations rest setting t
+      >>= λ values u. Done (v ∷ values) u) (λ values t. k (given.Values
       (before ++ values)) t)
       ∙ (λ i. evaluation first setting s >>= λ v t. values-rest rest before v t i)
 
   -- ---- items
 
-  pub items-first : (first : Item) (rest : List Item) (array : Value) → (items_run (map item_run_of (first ∷ rest)) array setting s >>= to_value k)
-      ≡ (item_run_of first array setting s >>= λ longer t. items_run (map item_run_of rest) longer setting t >>= to_value k)
-  items-first first rest array = and_then-assoc (item_run_of first array setting s) (λ longer t. items_run (map item_run_of rest) longer setting t) (to_value k)
+  pub items-first : (first : Item) (rest : List Item) (array : Value)
+      → (items_run (map item_run_of (first ∷ rest)) array setting s >>= to_value k)
+      ≡ (item_run_of first array setting s >>= λ longer t. items_run (map item_run_of rest) longer setting t
+      >>= to_value k)
+  items-first first rest array =
+      and_then-assoc (item_run_of first array setting s) (λ longer t. items_run (map item_run_of rest) longer setting t)
+      (to_value k)
 
   module _ (next : Value → State → Run Signal) (item : Item) (array : Value) where
     pub item-plain : item.key ≡ None → (item_run_of item array setting s >>= next)
-        ≡ (evaluation item.value setting s >>= λ v t. write_run (write_result [] true (data_of v) (data_of array)) t >>= next)
+        ≡ (evaluation item.value setting s >>= λ v t. write_run (write_result [] true (data_of v) (data_of array)) t
+        >>= next)
     item-plain e = ap (λ part. part array setting s >>= next) (run-item-None item e) ∙ and_then-assoc _ _ _
 
     pub item-keyed : (key : Expression) → item.key ≡ Some key → (item_run_of item array setting s >>= next)
@@ -71,87 +83,113 @@ module _ (setting : Setting) (k : Follows) (s : State) where
 
   -- ---- operands
 
-  pub links-first : (first : Link) (rest : List Link) (left : Value) → (links_run (map link_run (first ∷ rest)) left setting s >>= to_value k)
+  pub links-first : (first : Link) (rest : List Link) (left : Value)
+      → (links_run (map link_run (first ∷ rest)) left setting s >>= to_value k)
       ≡ (link_run first left setting s >>= λ v t. links_run (map link_run rest) v setting t >>= to_value k)
-  links-first first rest left = and_then-assoc (link_run first left setting s) (λ v t. links_run (map link_run rest) v setting t) (to_value k)
+  links-first first rest left =
+      and_then-assoc (link_run first left setting s) (λ v t. links_run (map link_run rest) v setting t) (to_value k)
 
   module _ (next : Value → State → Run Signal) (link : Link) (left : Value) where
-    by_link : (link_run link left setting s >>= next) ≡ (operator_run link.operator (expression_run link.operand) left setting s >>= next)
+    by_link : (link_run link left setting s
+        >>= next) ≡ (operator_run link.operator (expression_run link.operand) left setting s >>= next)
     by_link = ap (λ part. part left setting s >>= next) (run-link link)
 
-    or-true : link.operator ≡ Or → holds left ≡ true → (link_run link left setting s >>= next) ≡ next (value.Bool true) s
+    or-true : link.operator ≡ Or → holds left ≡ true
+        → (link_run link left setting s >>= next) ≡ next (value.Bool true) s
     unfolding and_then
     or-true e h = by_link ∙ rw (e, h) refl
 
     or-false : link.operator ≡ Or → holds left ≡ false
-        → (link_run link left setting s >>= next) ≡ (evaluation link.operand setting s >>= λ v t. next (value.Bool (holds v)) t)
+        → (link_run link left setting s >>= next) ≡ (evaluation link.operand setting s
+        >>= λ v t. next (value.Bool (holds v)) t)
     unfolding and_then
-    or-false e h = by_link ∙ rw (e, h) (and_then-assoc (evaluation link.operand setting s) (λ v t. Done (value.Bool (holds v)) t) next)
+    or-false e h =
+        by_link ∙ rw (e, h) (and_then-assoc (evaluation link.operand setting s)
+        (λ v t. Done (value.Bool (holds v)) t) next)
 
-    and-false : link.operator ≡ And → holds left ≡ false → (link_run link left setting s >>= next) ≡ next (value.Bool false) s
+    and-false : link.operator ≡ And → holds left ≡ false
+        → (link_run link left setting s >>= next) ≡ next (value.Bool false) s
     unfolding and_then
     and-false e h = by_link ∙ rw (e, h) refl
 
     and-true : link.operator ≡ And → holds left ≡ true
-        → (link_run link left setting s >>= next) ≡ (evaluation link.operand setting s >>= λ v t. next (value.Bool (holds v)) t)
+        → (link_run link left setting s >>= next) ≡ (evaluation link.operand setting s
+        >>= λ v t. next (value.Bool (holds v)) t)
     unfolding and_then
-    and-true e h = by_link ∙ rw (e, h) (and_then-assoc (evaluation link.operand setting s) (λ v t. Done (value.Bool (holds v)) t) next)
+    and-true e h =
+        by_link ∙ rw (e, h) (and_then-assoc (evaluation link.operand setting s)
+        (λ v t. Done (value.Bool (holds v)) t) next)
 
     pub or-either : link.operator ≡ Or → (b : Bool) → holds left ≡ b
-        → (if b then next (value.Bool true) s else (evaluation link.operand setting s >>= λ v t. next (value.Bool (holds v)) t))
+        → (if b then next (value.Bool true) s
+        else (evaluation link.operand setting s >>= λ v t. next (value.Bool (holds v)) t))
         ≡ (link_run link left setting s >>= next)
     or-either e true h = sym (or-true e h)
     or-either e false h = sym (or-false e h)
 
     pub and-either : link.operator ≡ And → (b : Bool) → holds left ≡ b
-        → (if b then (evaluation link.operand setting s >>= λ v t. next (value.Bool (holds v)) t) else next (value.Bool false) s)
+        → (if b then (evaluation link.operand setting s >>= λ v t. next (value.Bool (holds v)) t)
+        else next (value.Bool false) s)
         ≡ (link_run link left setting s >>= next)
     and-either e true h = sym (and-true e h)
     and-either e false h = sym (and-false e h)
 
     pub operated-by : (op : BinaryOp) → link.operator ≡ Of op → (link_run link left setting s >>= next)
         ≡ (evaluation link.operand setting s >>= λ v t. value_run (binary_of op (data_of left) (data_of v)) t >>= next)
-    operated-by op e = by_link ∙ rw e (and_then-assoc (evaluation link.operand setting s) (λ v t. value_run (binary_of op (data_of left) (data_of v)) t) next)
+    operated-by op e =
+        by_link ∙ rw e (and_then-assoc (evaluation link.operand setting s)
+        (λ v t. value_run (binary_of op (data_of left) (data_of v)) t) next)
 
   -- ---- indices
 
-  module _ (entry : Data → Data → Result Data ValueError) (first : Expression) (rest : List Expression) (v : Value) where
+  module _ (entry : Data → Data → Result Data ValueError) (first : Expression) (rest : List Expression)
+      (v : Value) where
     indices-rest : (at : Value) (t : State)
-        → ((value_run (entry (data_of v) (data_of at)) t >>= λ w u. indices_run entry (map expression_run rest) w setting u) >>= to_value k)
-        ≡ (value_run (entry (data_of v) (data_of at)) t >>= λ w u. indices_run entry (map expression_run rest) w setting u >>= to_value k)
+        → ((value_run (entry (data_of v) (data_of at)) t
+        >>= λ w u. indices_run entry (map expression_run rest) w setting u) >>= to_value k)
+        ≡ (value_run (entry (data_of v) (data_of at)) t
+        >>= λ w u. indices_run entry (map expression_run rest) w setting u >>= to_value k)
     indices-rest at t = and_then-assoc _ _ _
 
     pub indices-first : (indices_run entry (map expression_run (first ∷ rest)) v setting s >>= to_value k)
         ≡ (evaluation first setting s >>= λ at t.
-        value_run (entry (data_of v) (data_of at)) t >>= λ w u. indices_run entry (map expression_run rest) w setting u >>= to_value k)
+        value_run (entry (data_of v) (data_of at)) t >>= λ w u. indices_run entry (map expression_run rest) w setting u
+        >>= to_value k)
     indices-first = and_then-assoc (evaluation first setting s) (λ at t.
-        value_run (entry (data_of v) (data_of at)) t >>= λ w u. indices_run entry (map expression_run rest) w setting u) (to_value k)
+        value_run (entry (data_of v) (data_of at)) t >>= λ w u. indices_run entry (map expression_run rest) w setting u)
+        (to_value k)
         ∙ (λ i. evaluation first setting s >>= λ at t. indices-rest at t i)
 
   -- ---- places
 
   module _ (name : List ℕ) (rest : List Place) where
-    isset-if : (b : Bool) (u : State) → ((if b then Done (value.Bool false) u else isset_run (map place_run rest) setting u) >>= to_value k)
+    isset-if : (b : Bool) (u : State)
+        → ((if b then Done (value.Bool false) u else isset_run (map place_run rest) setting u) >>= to_value k)
         ≡ (if b then to_value k (value.Bool false) u else isset_run (map place_run rest) setting u >>= to_value k)
     unfolding and_then
     isset-if true u = refl
     isset-if false u = refl
 
     isset-rest : (indices : List Value) (t : State)
-        → ((found_run name indices t >>= λ v u. if is_missing v then Done (value.Bool false) u else isset_run (map place_run rest) setting u) >>= to_value k)
+        → ((found_run name indices t >>= λ v u. if is_missing v then Done (value.Bool false) u
+        else isset_run (map place_run rest) setting u) >>= to_value k)
         ≡ (found_run name indices t >>= λ v u.
-        if is_missing v then to_value k (value.Bool false) u else isset_run (map place_run rest) setting u >>= to_value k)
+        if is_missing v then to_value k (value.Bool false) u
+        else isset_run (map place_run rest) setting u >>= to_value k)
     isset-rest indices t = and_then-assoc _ _ _ ∙ (λ i. found_run name indices t >>= λ v u. isset-if (is_missing v) u i)
 
-  pub isset-first : (first : Place) (rest : List Place) → (isset_run (map place_run (first ∷ rest)) setting s >>= to_value k)
+  pub isset-first : (first : Place) (rest : List Place)
+      → (isset_run (map place_run (first ∷ rest)) setting s >>= to_value k)
       ≡ (evaluations first.indices setting s >>= λ indices t. found_run first.name indices t >>= λ v u.
       if is_missing v then to_value k (value.Bool false) u else isset_run (map place_run rest) setting u >>= to_value k)
   isset-first first rest =
       ap (λ (place : PlaceRun). isset_run (place ∷ map place_run rest) setting s >>= to_value k) (run-place first)
-      ∙ and_then-assoc _ _ _ ∙ (λ i. evaluations first.indices setting s >>= λ indices t. isset-rest first.name rest indices t i)
+      ∙ and_then-assoc _ _ _
+      ∙ (λ i. evaluations first.indices setting s >>= λ indices t. isset-rest first.name rest indices t i)
 
   -- an item whose key is evaluated first
-  pub keyed-first : (all : List Item) (at : ℕ) (first : Item) → at < length all → first ≡ get_or all at first → (array : Value) (key : Expression)
+  pub keyed-first : (all : List Item) (at : ℕ) (first : Item) → at < length all → first ≡ get_or all at first
+      → (array : Value) (key : Expression)
       → first.key ≡ Some key → (evaluation key setting s >>= λ v t. keyed_after setting (drop at all) v array k t)
       ≡ (items_run (map item_run_of (drop at all)) array setting s >>= to_value k)
   keyed-first all at first h e array key is =

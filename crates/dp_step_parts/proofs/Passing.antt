@@ -24,7 +24,8 @@ module _ (setting : Setting) where
   passes-to_value w k (given.Values values) s not = refl
   passes-to_value w k (given.Signal g) s not = refl
 
-  pub passes-to_values : (w : ForValues) (k : Follows) (g : Given) (s : State) → ((v : List Value) → g ≡ given.Values v → ⊥)
+  pub passes-to_values : (w : ForValues) (k : Follows) (g : Given) (s : State)
+      → ((v : List Value) → g ≡ given.Values v → ⊥)
       → work_rest setting (work.ForValues w) k g s ≡ k g s
   passes-to_values w k (given.Value v) s not = refl
   passes-to_values w k (given.Values values) s not = absurd (not values refl)

@@ -24,10 +24,12 @@ use Rattle.dp_step_parts.proofs.AtOnce.{then_done}
 pub more : (setting : Setting) (rest : List Expression) (before : List Value) (v : Value) (s : State) (k : Follows)
     → (evaluations rest setting s >>= λ values t. k (given.Values (before ++ v ∷ values)) t)
     ≡ (evaluations rest setting s >>= λ values t. k (given.Values ((before ++ v ∷ []) ++ values)) t)
-more setting rest before v s k = λ i. evaluations rest setting s >>= λ values t. k (given.Values (sym (append_assoc before (v ∷ []) values) i)) t
+more setting rest before v s k =
+    λ i. evaluations rest setting s >>= λ values t. k (given.Values (sym (append_assoc before (v ∷ []) values) i)) t
 
 -- a part that does the same leads to the same
-pub leads_as : (setting : Setting) (part same : Follows → Run Signal) (x : Result Next Halt) (t : State) → ((k : Follows) → part k ≡ same k)
+pub leads_as : (setting : Setting) (part same : Follows → Run Signal) (x : Result Next Halt) (t : State)
+    → ((k : Follows) → part k ≡ same k)
     → Leads setting same x t → Leads setting part x t
 leads_as setting part same x t e h = subst (λ (p : Follows → Run Signal). Leads setting p x t) (λ i k. sym (e k) i) h
 
@@ -38,26 +40,34 @@ module _ (setting : Setting) (k : Follows) (s : State) where
       → (compound_under op name (evaluation right) indices setting s >>= to_value k)
       ≡ (evaluation right setting s >>= λ v t. combined op name indices old v t >>= to_value k)
   compounds op name indices right old h =
-      and_then-assoc _ _ _ ∙ then_done (read_run name indices s) old s (λ old t. compound_from op name (evaluation right) indices old setting t >>= to_value k) h
+      and_then-assoc _ _ _
+      ∙ then_done (read_run name indices s) old s (λ old t. compound_from op name
+      (evaluation right) indices old setting t >>= to_value k) h
       ∙ and_then-assoc _ _ _
 
   -- a `??=` whose place is read
   pub coalesces : (name : List ℕ) (indices : List Value) (right : Expression) (old : Value)
       → AtOnce (found_run name indices s) (Ok old) s
       → (coalescing_under name (evaluation right) indices setting s >>= to_value k)
-      ≡ ((if is_missing old then assigned_under false name (evaluation right) indices setting s else Done old s) >>= to_value k)
+      ≡ ((if is_missing old then assigned_under false name (evaluation right) indices setting s else Done old s)
+      >>= to_value k)
   coalesces name indices right old h = and_then-assoc _ _ _ ∙ then_done (found_run name indices s) old s (λ old t.
-      (if is_missing old then assigned_under false name (evaluation right) indices setting t else Done old t) >>= to_value k) h
+      (if is_missing old then assigned_under false name (evaluation right) indices setting t else Done old t)
+      >>= to_value k) h
 
   module _ (name : List ℕ) (indices : List Value) (right : Expression) (old : Value) where
     pub or_assign-there : (given : Value) → is_missing old ≡ false → old ≡ given → to_value k given s
-        ≡ ((if is_missing old then assigned_under false name (evaluation right) indices setting s else Done old s) >>= to_value k)
+        ≡ ((if is_missing old then assigned_under false name (evaluation right) indices setting s else Done old s)
+        >>= to_value k)
     unfolding and_then
-    or_assign-there given absent same = sym (ap (λ b. (if b then assigned_under false name (evaluation right) indices setting s else Done old s)
+    or_assign-there given absent same =
+        sym (ap (λ b. (if b then assigned_under false name (evaluation right) indices setting s else Done old s)
         >>= to_value k) absent ∙ ap (λ v. to_value k v s) same)
 
     pub or_assign-missing : is_missing old ≡ true
         → (evaluation right setting s >>= λ v t. assign_run name indices false v t >>= to_value k)
-        ≡ ((if is_missing old then assigned_under false name (evaluation right) indices setting s else Done old s) >>= to_value k)
-    or_assign-missing missing = sym (ap (λ b. (if b then assigned_under false name (evaluation right) indices setting s else Done old s)
+        ≡ ((if is_missing old then assigned_under false name (evaluation right) indices setting s else Done old s)
+        >>= to_value k)
+    or_assign-missing missing =
+        sym (ap (λ b. (if b then assigned_under false name (evaluation right) indices setting s else Done old s)
         >>= to_value k) missing ∙ and_then-assoc _ _ _)

@@ -23,7 +23,9 @@ pub(crate) fn values_first<'p>(
     all: &'p Items<Expression>,
     work: ForValues<'p>,
 ) -> Next<'p>
-    ensures { (setting : Setting) (k : Follows) (s : AnyState) → next_rest setting result k s ≡ and_then (evaluations all.now setting s) (to_values (work_rest setting (any_work.ForValues work.entry) k)) }
+    ensures { (setting : Setting) (k : Follows) (s : AnyState)
+        → next_rest setting result k s ≡ and_then (evaluations all.now setting s)
+        (to_values (work_rest setting (any_work.ForValues work.entry) k)) }
 {
     Next {
         hand: Hand::Values(Items::of(Vec::new(alloc)), all, 0),
@@ -33,7 +35,8 @@ pub(crate) fn values_first<'p>(
 
 /// An expression to the left of `??`.
 pub(crate) fn find<'p>(e: &'p Boxed<Expression>) -> Next<'p>
-    ensures { (setting : Setting) (k : Follows) (s : AnyState) → next_rest setting result k s ≡ and_then ((expression_run e.now).found setting s) (to_value k) }
+    ensures { (setting : Setting) (k : Follows) (s : AnyState)
+        → next_rest setting result k s ≡ and_then ((expression_run e.now).found setting s) (to_value k) }
 {
     match e.as_ref() {
         Expression::Index(base, indices) => Next {
@@ -49,7 +52,8 @@ pub(crate) fn find<'p>(e: &'p Boxed<Expression>) -> Next<'p>
 
 /// An expression.
 pub(crate) fn begin<'p>(alloc: Global, e: &'p Expression, state: &State) -> Result<Next<'p>, Halt>
-    ensures { (setting : Setting) → Leads setting (λ k. and_then (evaluation e.now setting state.now) (to_value k)) result state.now }
+    ensures { (setting : Setting)
+        → Leads setting (λ k. and_then (evaluation e.now setting state.now) (to_value k)) result state.now }
 {
     match e {
         Expression::Null => Ok(give(Value::Null)),
@@ -74,7 +78,8 @@ pub(crate) fn begin<'p>(alloc: Global, e: &'p Expression, state: &State) -> Resu
 
 // An operator, by its first operand.
 fn begin_operator<'p>(alloc: Global, e: &'p Expression) -> Next<'p>
-    ensures { (setting : Setting) (k : Follows) (s : AnyState) → next_rest setting result k s ≡ and_then (evaluation e.now setting s) (to_value k) }
+    ensures { (setting : Setting) (k : Follows) (s : AnyState)
+        → next_rest setting result k s ≡ and_then (evaluation e.now setting s) (to_value k) }
 {
     match e {
         Expression::Index(base, indices) => Next {
@@ -101,10 +106,11 @@ fn begin_operator<'p>(alloc: Global, e: &'p Expression) -> Next<'p>
     }
 }
 
-// A change of a place, by the indices of the place. The beginnings of a call and of an inclusion are not here: they stay in
-// hand.
+// A change of a place, by the indices of the place. The beginnings of a call and of an inclusion are not here: they
+// stay in hand.
 fn begin_change<'p>(alloc: Global, e: &'p Expression) -> Next<'p>
-    ensures { (setting : Setting) (k : Follows) (s : AnyState) → next_rest setting result k s ≡ and_then (evaluation e.now setting s) (to_value k) }
+    ensures { (setting : Setting) (k : Follows) (s : AnyState)
+        → next_rest setting result k s ≡ and_then (evaluation e.now setting s) (to_value k) }
 {
     match e {
         Expression::Step(op, order, place) => values_first(

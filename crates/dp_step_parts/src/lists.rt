@@ -1,9 +1,10 @@
-//! What is left of lists of parts: the values of expressions, the items of a literal, the operands of a chain, the indices of
-//! an entry, the places of an `isset`.
+//! What is left of lists of parts: the values of expressions, the items of a literal, the operands of a chain, the
+//! indices of an entry, the places of an `isset`.
 
 ghost use Rattle.std.specs.Prelude.{◌≡◌, ◌++◌, drop as members_from, false, if◌then◌else◌, map, true};
 ghost use Rattle.dp_state.specs.declared.state.State.{State as AnyState};
-ghost use Rattle.dp_actions.specs.Expressions.{evaluation, evaluations, expression_run, indices_run, items_run, links_run, place_run};
+ghost use Rattle.dp_actions.specs.Expressions.{evaluation, evaluations, expression_run, indices_run, items_run};
+ghost use Rattle.dp_actions.specs.Expressions.{links_run, place_run};
 ghost use Rattle.dp_actions.specs.Expressions.{item_run_of, link_run};
 ghost use Rattle.dp_actions.specs.Places.{isset_run};
 ghost use Rattle.dp_actions.specs.InPlace.{entries_by};
@@ -25,7 +26,9 @@ use std::alloc::Global;
 
 /// The values of expressions, of which the first are there.
 pub(crate) fn values<'p>(before: Items<Value>, all: &'p Items<Expression>, at: usize) -> Next<'p>
-    ensures { (setting : Setting) (k : Follows) (s : AnyState) → next_rest setting result k s ≡ and_then (evaluations (members_from at all.now) setting s) (λ values t. k (any_given.Values (before ++ values)) t) }
+    ensures { (setting : Setting) (k : Follows) (s : AnyState)
+        → next_rest setting result k s ≡ and_then (evaluations (members_from at all.now) setting s)
+        (λ values t. k (any_given.Values (before ++ values)) t) }
 {
     match all.as_slice().get(at) {
         None => Next {
@@ -41,7 +44,9 @@ pub(crate) fn values<'p>(before: Items<Value>, all: &'p Items<Expression>, at: u
 
 /// A literal so far, and its items that are left.
 pub(crate) fn items<'p>(array: Value, all: &'p Items<Item>, at: usize) -> Next<'p>
-    ensures { (setting : Setting) (k : Follows) (s : AnyState) → next_rest setting result k s ≡ and_then (items_run (map item_run_of (members_from at all.now)) array setting s) (to_value k) }
+    ensures { (setting : Setting) (k : Follows) (s : AnyState)
+        → next_rest setting result k s ≡ and_then (items_run
+        (map item_run_of (members_from at all.now)) array setting s) (to_value k) }
 {
     match all.as_slice().get(at) {
         None => give(array),
@@ -60,7 +65,8 @@ pub(crate) fn items<'p>(array: Value, all: &'p Items<Item>, at: usize) -> Next<'
 
 /// A literal before the item at a position, whose key is evaluated.
 pub(crate) fn keyed_item<'p>(array: Value, key: Value, all: &'p Items<Item>, at: usize) -> Next<'p>
-    ensures { (setting : Setting) (k : Follows) (s : AnyState) → next_rest setting result k s ≡ keyed_after setting (members_from at all.now) key array k s }
+    ensures { (setting : Setting) (k : Follows) (s : AnyState)
+        → next_rest setting result k s ≡ keyed_after setting (members_from at all.now) key array k s }
 {
     match all.as_slice().get(at) {
         None => {
@@ -76,7 +82,9 @@ pub(crate) fn keyed_item<'p>(array: Value, key: Value, all: &'p Items<Item>, at:
 
 /// A left operand, and what is joined to it.
 pub(crate) fn links<'p>(left: Value, all: &'p Items<Link>, at: usize) -> Next<'p>
-    ensures { (setting : Setting) (k : Follows) (s : AnyState) → next_rest setting result k s ≡ and_then (links_run (map link_run (members_from at all.now)) left setting s) (to_value k) }
+    ensures { (setting : Setting) (k : Follows) (s : AnyState)
+        → next_rest setting result k s ≡ and_then (links_run (map link_run (members_from at all.now)) left setting s)
+        (to_value k) }
 {
     match all.as_slice().get(at) {
         None => give(left),
@@ -86,7 +94,9 @@ pub(crate) fn links<'p>(left: Value, all: &'p Items<Link>, at: usize) -> Next<'p
 
 // A left operand, an operator with its right operand, and what is joined behind it.
 fn link<'p>(left: Value, first: &'p Link, all: &'p Items<Link>, at: usize) -> Next<'p>
-    ensures { (setting : Setting) (k : Follows) (s : AnyState) → next_rest setting result k s ≡ and_then (link_run first.now left setting s) (λ v t. and_then (links_run (map link_run (members_from at all.now)) v setting t) (to_value k)) }
+    ensures { (setting : Setting) (k : Follows) (s : AnyState)
+        → next_rest setting result k s ≡ and_then (link_run first.now left setting s)
+        (λ v t. and_then (links_run (map link_run (members_from at all.now)) v setting t) (to_value k)) }
 {
     match first.operator {
         Operator::Or => or(holds(left), &first.operand, all, at),
@@ -100,7 +110,11 @@ fn link<'p>(left: Value, first: &'p Link, all: &'p Items<Link>, at: usize) -> Ne
 
 // `||`: the left operand holds, or the right one decides.
 fn or<'p>(left: bool, right: &'p Expression, all: &'p Items<Link>, at: usize) -> Next<'p>
-    ensures { (setting : Setting) (k : Follows) (s : AnyState) → next_rest setting result k s ≡ if left then links_after setting (members_from at all.now) k (any_kind.Bool true) s else and_then (evaluation right.now setting s) (λ v t. links_after setting (members_from at all.now) k (any_kind.Bool (value_holds v)) t) }
+    ensures { (setting : Setting) (k : Follows) (s : AnyState)
+        → next_rest setting result k s ≡ if left
+        then links_after setting (members_from at all.now) k (any_kind.Bool true) s
+        else and_then (evaluation right.now setting s) (λ v t. links_after setting (members_from at all.now) k
+        (any_kind.Bool (value_holds v)) t) }
 {
     if left {
         Next {
@@ -117,7 +131,11 @@ fn or<'p>(left: bool, right: &'p Expression, all: &'p Items<Link>, at: usize) ->
 
 // `&&`: the left operand does not hold, or the right one decides.
 fn and<'p>(left: bool, right: &'p Expression, all: &'p Items<Link>, at: usize) -> Next<'p>
-    ensures { (setting : Setting) (k : Follows) (s : AnyState) → next_rest setting result k s ≡ if left then and_then (evaluation right.now setting s) (λ v t. links_after setting (members_from at all.now) k (any_kind.Bool (value_holds v)) t) else links_after setting (members_from at all.now) k (any_kind.Bool false) s }
+    ensures { (setting : Setting) (k : Follows) (s : AnyState)
+        → next_rest setting result k s ≡ if left
+        then and_then (evaluation right.now setting s) (λ v t. links_after setting (members_from at all.now) k
+        (any_kind.Bool (value_holds v)) t)
+        else links_after setting (members_from at all.now) k (any_kind.Bool false) s }
 {
     if left {
         Next {
@@ -139,7 +157,9 @@ pub(crate) fn under<'p>(
     all: &'p Items<Expression>,
     at: usize,
 ) -> Next<'p>
-    ensures { (setting : Setting) (k : Follows) (s : AnyState) → next_rest setting result k s ≡ and_then (indices_run (entries_by how) (map expression_run (members_from at all.now)) value setting s) (to_value k) }
+    ensures { (setting : Setting) (k : Follows) (s : AnyState)
+        → next_rest setting result k s ≡ and_then (indices_run (entries_by how)
+        (map expression_run (members_from at all.now)) value setting s) (to_value k) }
 {
     match all.as_slice().get(at) {
         None => give(value),
@@ -152,7 +172,8 @@ pub(crate) fn under<'p>(
 
 /// The places of an `isset` that are left.
 pub(crate) fn isset<'p>(alloc: Global, places: &'p [Place]) -> Next<'p>
-    ensures { (setting : Setting) (k : Follows) (s : AnyState) → next_rest setting result k s ≡ and_then (isset_run (map place_run places.now) setting s) (to_value k) }
+    ensures { (setting : Setting) (k : Follows) (s : AnyState)
+        → next_rest setting result k s ≡ and_then (isset_run (map place_run places.now) setting s) (to_value k) }
 {
     match places.split_first() {
         None => give(Value::Bool(true)),

@@ -31,7 +31,8 @@ pub(crate) fn give<'p>(value: Value) -> Next<'p>
 
 /// A value that was made is given.
 pub(crate) fn given<'p>(made: Result<Value, Halt>) -> Result<Next<'p>, Halt>
-    ensures { (setting : Setting) (run : Run AnyValue) (t : AnyState) → AtOnce run made t → Leads setting (λ k. and_then run (to_value k)) result t }
+    ensures { (setting : Setting) (run : Run AnyValue) (t : AnyState) → AtOnce run made t
+        → Leads setting (λ k. and_then run (to_value k)) result t }
 {
     match made {
         Ok(value) => Ok(give(value)),
@@ -45,7 +46,9 @@ pub(crate) fn linked<'p>(
     links: &'p Items<Link>,
     at: usize,
 ) -> Result<Next<'p>, Halt>
-    ensures { (setting : Setting) (run : Run AnyValue) (t : AnyState) → AtOnce run made t → Leads setting (λ k. and_then run (λ v u. and_then (links_run (map link_run (members_from at links.now)) v setting u) (to_value k))) result t }
+    ensures { (setting : Setting) (run : Run AnyValue) (t : AnyState) → AtOnce run made t
+        → Leads setting (λ k. and_then run (λ v u. and_then (links_run
+        (map link_run (members_from at links.now)) v setting u) (to_value k))) result t }
 {
     match made {
         Ok(value) => Ok(Next {
@@ -62,7 +65,9 @@ pub(crate) fn lengthened<'p>(
     items: &'p Items<Item>,
     at: usize,
 ) -> Result<Next<'p>, Halt>
-    ensures { (setting : Setting) (run : Run AnyValue) (t : AnyState) → AtOnce run made t → Leads setting (λ k. and_then run (λ v u. and_then (items_run (map item_run_of (members_from at items.now)) v setting u) (to_value k))) result t }
+    ensures { (setting : Setting) (run : Run AnyValue) (t : AnyState) → AtOnce run made t
+        → Leads setting (λ k. and_then run (λ v u. and_then (items_run
+        (map item_run_of (members_from at items.now)) v setting u) (to_value k))) result t }
 {
     match made {
         Ok(value) => Ok(Next {
@@ -80,7 +85,9 @@ pub(crate) fn read_under<'p>(
     indices: &'p Items<Expression>,
     at: usize,
 ) -> Result<Next<'p>, Halt>
-    ensures { (setting : Setting) (run : Run AnyValue) (t : AnyState) → AtOnce run made t → Leads setting (λ k. and_then run (λ v u. and_then (indices_run (entries_by how) (map expression_run (members_from at indices.now)) v setting u) (to_value k))) result t }
+    ensures { (setting : Setting) (run : Run AnyValue) (t : AnyState) → AtOnce run made t
+        → Leads setting (λ k. and_then run (λ v u. and_then (indices_run (entries_by how)
+        (map expression_run (members_from at indices.now)) v setting u) (to_value k))) result t }
 {
     match made {
         Ok(value) => Ok(Next {

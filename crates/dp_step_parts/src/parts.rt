@@ -13,7 +13,8 @@ use dp_actions::Halt;
 use dp_state::State;
 use std::alloc::Global;
 
-/// What is in hand is done as far as one small step goes. What is given stays in hand, and so do a call and an inclusion.
+/// What is in hand is done as far as one small step goes. What is given stays in hand, and so do a call and an
+/// inclusion.
 pub fn first_of<'p>(alloc: Global, hand: Hand<'p>, state: &State) -> Result<Next<'p>, Halt>
     ensures { (setting : Setting) → Leads setting (λ k. hand_rest setting hand.entry k state.now) result state.now }
 {
@@ -39,7 +40,8 @@ pub fn give_to<'p>(
     given: Given,
     state: &mut State,
 ) -> Result<Next<'p>, Halt>
-    ensures { (setting : Setting) → Leads setting (λ k. work_rest setting work.entry k given state.old) result state.new }
+    ensures { (setting : Setting)
+        → Leads setting (λ k. work_rest setting work.entry k given state.old) result state.new }
 {
     match work {
         Work::ForPart(work) => to_part(alloc, work, given, state),
@@ -55,7 +57,8 @@ fn to_part<'p>(
     given: Given,
     state: &State,
 ) -> Result<Next<'p>, Halt>
-    ensures { (setting : Setting) → Leads setting (λ k. work_rest setting (any_work.ForPart work.entry) k given state.now) result state.now }
+    ensures { (setting : Setting)
+        → Leads setting (λ k. work_rest setting (any_work.ForPart work.entry) k given state.now) result state.now }
 {
     match given {
         Given::Value(value) => receive_part(alloc, work, value, state),
@@ -76,7 +79,8 @@ fn to_value<'p>(
     given: Given,
     state: &mut State,
 ) -> Result<Next<'p>, Halt>
-    ensures { (setting : Setting) → Leads setting (λ k. work_rest setting (any_work.ForValue work.entry) k given state.old) result state.new }
+    ensures { (setting : Setting)
+        → Leads setting (λ k. work_rest setting (any_work.ForValue work.entry) k given state.old) result state.new }
 {
     match given {
         Given::Value(value) => receive_value(alloc, work, value, state),
@@ -97,7 +101,8 @@ fn to_values<'p>(
     given: Given,
     state: &mut State,
 ) -> Result<Next<'p>, Halt>
-    ensures { (setting : Setting) → Leads setting (λ k. work_rest setting (any_work.ForValues work.entry) k given state.old) result state.new }
+    ensures { (setting : Setting)
+        → Leads setting (λ k. work_rest setting (any_work.ForValues work.entry) k given state.old) result state.new }
 {
     match given {
         Given::Values(values) => receive_values(alloc, work, values, state),

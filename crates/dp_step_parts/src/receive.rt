@@ -8,7 +8,8 @@ ghost use Rattle.dp_actions.specs.Places.{assigned_under, coalescing_under, comp
 ghost use Rattle.dp_actions.specs.Run.{Done, and_then};
 ghost use Rattle.dp_actions.specs.Setting.{Setting};
 ghost use Rattle.dp_actions.specs.Values.{holds as value_holds, is_missing as missing};
-ghost use Rattle.dp_step_parts.specs.Rest.{Follows, isset_after, next_rest, part_rest, to_value, value_rest, values_rest};
+ghost use Rattle.dp_step_parts.specs.Rest.{Follows, isset_after, next_rest, part_rest, to_value, value_rest};
+ghost use Rattle.dp_step_parts.specs.Rest.{values_rest};
 ghost use Rattle.dp_step_parts.specs.declared.work.ForPart.TheVariants as any_part;
 ghost use Rattle.dp_step_parts.specs.declared.work.ForValue.TheVariants as any_value;
 ghost use Rattle.dp_step_parts.specs.declared.work.ForValues.TheVariants as any_values;
@@ -34,7 +35,8 @@ pub(crate) fn receive_part<'p>(
     value: Value,
     state: &State,
 ) -> Result<Next<'p>, Halt>
-    ensures { (setting : Setting) → Leads setting (λ k. part_rest setting work.entry value k state.now) result state.now }
+    ensures { (setting : Setting)
+        → Leads setting (λ k. part_rest setting work.entry value k state.now) result state.now }
 {
     match work {
         ForPart::More(before, rest, at) => more(before, value, rest, at),
@@ -78,7 +80,9 @@ fn put_item<'p>(
     at: usize,
     state: &State,
 ) -> Result<Next<'p>, Halt>
-    ensures { (setting : Setting) → Leads setting (λ k. part_rest setting (any_part.PutItem array key rest.entry at) value k state.now) result state.now }
+    ensures { (setting : Setting)
+        → Leads setting (λ k. part_rest setting (any_part.PutItem array key rest.entry at) value k state.now) result
+        state.now }
 {
     let made = put(alloc, array, &key, value, state);
     drop(key);
@@ -95,7 +99,9 @@ fn operate<'p>(
     at: usize,
     state: &State,
 ) -> Result<Next<'p>, Halt>
-    ensures { (setting : Setting) → Leads setting (λ k. part_rest setting (any_part.Operate op left links.entry at) right k state.now) result state.now }
+    ensures { (setting : Setting)
+        → Leads setting (λ k. part_rest setting (any_part.Operate op left links.entry at) right k state.now) result
+        state.now }
 {
     let made = value_of(binary(alloc, op, &left, &right), state);
     drop(left);
@@ -113,7 +119,9 @@ fn read_entry<'p>(
     at: usize,
     state: &State,
 ) -> Result<Next<'p>, Halt>
-    ensures { (setting : Setting) → Leads setting (λ k. part_rest setting (any_part.Entry how holder indices.entry at) index k state.now) result state.now }
+    ensures { (setting : Setting)
+        → Leads setting (λ k. part_rest setting (any_part.Entry how holder indices.entry at) index k state.now) result
+        state.now }
 {
     let made = value_of(look(alloc, how, &holder, &index), state);
     drop(holder);
@@ -137,7 +145,8 @@ fn more<'p>(
     rest: &'p Items<Expression>,
     at: usize,
 ) -> Result<Next<'p>, Halt>
-    ensures { (setting : Setting) (s : AnyState) → Leads setting (λ k. part_rest setting (any_part.More before rest.entry at) value k s) result s }
+    ensures { (setting : Setting) (s : AnyState)
+        → Leads setting (λ k. part_rest setting (any_part.More before rest.entry at) value k s) result s }
 {
     match longer(before, value) {
         Ok(values) => Ok(Next {
@@ -164,7 +173,8 @@ pub(crate) fn receive_value<'p>(
     value: Value,
     state: &mut State,
 ) -> Result<Next<'p>, Halt>
-    ensures { (setting : Setting) → Leads setting (λ k. value_rest setting work.entry value k state.old) result state.new }
+    ensures { (setting : Setting)
+        → Leads setting (λ k. value_rest setting work.entry value k state.old) result state.new }
 {
     match work {
         ForValue::Unary(op) => operate_alone(op, value, state),
@@ -181,7 +191,8 @@ pub(crate) fn receive_value<'p>(
 
 // An operator takes its only operand.
 fn operate_alone<'p>(op: UnaryOp, value: Value, state: &State) -> Result<Next<'p>, Halt>
-    ensures { (setting : Setting) → Leads setting (λ k. value_rest setting (any_value.Unary op) value k state.now) result state.now }
+    ensures { (setting : Setting)
+        → Leads setting (λ k. value_rest setting (any_value.Unary op) value k state.now) result state.now }
 {
     let made = value_of(unary(op, &value), state);
     drop(value);
@@ -197,7 +208,9 @@ fn assign<'p>(
     value: Value,
     state: &mut State,
 ) -> Result<Next<'p>, Halt>
-    ensures { (setting : Setting) → Leads setting (λ k. value_rest setting (any_value.Assign name.entry indices push) value k state.old) result state.new }
+    ensures { (setting : Setting)
+        → Leads setting (λ k. value_rest setting (any_value.Assign name.entry indices push) value k state.old) result
+        state.new }
 {
     let made = assign_place(alloc, name, indices.as_slice(), push, value, state);
     drop(indices);
@@ -214,7 +227,9 @@ fn combine_with<'p>(
     value: Value,
     state: &mut State,
 ) -> Result<Next<'p>, Halt>
-    ensures { (setting : Setting) → Leads setting (λ k. value_rest setting (any_value.Combine op name.entry indices old) value k state.old) result state.new }
+    ensures { (setting : Setting)
+        → Leads setting (λ k. value_rest setting (any_value.Combine op name.entry indices old) value k state.old)
+        result state.new }
 {
     let made = combine(alloc, op, name, indices.as_slice(), &old, &value, state);
     drop(indices);
@@ -225,7 +240,8 @@ fn combine_with<'p>(
 
 // The left operand of `??`, or the right one where it is missing.
 fn coalesce<'p>(left: Value, right: &'p Boxed<Expression>) -> Next<'p>
-    ensures { (setting : Setting) (k : Follows) (s : AnyState) → next_rest setting result k s ≡ value_rest setting (any_value.Coalesce right.entry) left k s }
+    ensures { (setting : Setting) (k : Follows) (s : AnyState)
+        → next_rest setting result k s ≡ value_rest setting (any_value.Coalesce right.entry) left k s }
 {
     if is_missing(&left) {
         drop(left);
@@ -244,7 +260,8 @@ fn choose<'p>(
     otherwise: &'p Boxed<Expression>,
     test: Value,
 ) -> Next<'p>
-    ensures { (setting : Setting) (k : Follows) (s : AnyState) → next_rest setting result k s ≡ value_rest setting (any_value.Choose middle.entry otherwise.entry) test k s }
+    ensures { (setting : Setting) (k : Follows) (s : AnyState)
+        → next_rest setting result k s ≡ value_rest setting (any_value.Choose middle.entry otherwise.entry) test k s }
 {
     if truthy(&test) {
         chosen(middle, test)
@@ -259,7 +276,9 @@ fn choose<'p>(
 
 // The middle part of a conditional, or the value of its test where it has none.
 fn chosen<'p>(middle: &'p Option<Boxed<Expression>>, test: Value) -> Next<'p>
-    ensures { (setting : Setting) (k : Follows) (s : AnyState) → next_rest setting result k s ≡ and_then (choice (option_map expression_run middle.now) test setting s) (to_value k) }
+    ensures { (setting : Setting) (k : Follows) (s : AnyState)
+        → next_rest setting result k s ≡ and_then (choice (option_map expression_run middle.now) test setting s)
+        (to_value k) }
 {
     match middle {
         None => give(test),
@@ -280,7 +299,8 @@ pub(crate) fn receive_values<'p>(
     values: Items<Value>,
     state: &mut State,
 ) -> Result<Next<'p>, Halt>
-    ensures { (setting : Setting) → Leads setting (λ k. values_rest setting work.entry values k state.old) result state.new }
+    ensures { (setting : Setting)
+        → Leads setting (λ k. values_rest setting work.entry values k state.old) result state.new }
 {
     match work {
         ForValues::Builtin(b) => call_builtin(alloc, b, values, state),
@@ -304,7 +324,8 @@ fn call_builtin<'p>(
     values: Items<Value>,
     state: &State,
 ) -> Result<Next<'p>, Halt>
-    ensures { (setting : Setting) → Leads setting (λ k. values_rest setting (any_values.Builtin function) values k state.now) result state.now }
+    ensures { (setting : Setting)
+        → Leads setting (λ k. values_rest setting (any_values.Builtin function) values k state.now) result state.now }
 {
     let made = builtin_value(builtin(alloc, function, values.as_slice()), state);
     drop(values);
@@ -320,7 +341,9 @@ fn step<'p>(
     indices: Items<Value>,
     state: &mut State,
 ) -> Result<Next<'p>, Halt>
-    ensures { (setting : Setting) → Leads setting (λ k. values_rest setting (any_values.Step op order name.entry) indices k state.old) result state.new }
+    ensures { (setting : Setting)
+        → Leads setting (λ k. values_rest setting (any_values.Step op order name.entry) indices k state.old) result
+        state.new }
 {
     let made = step_place(alloc, op, order, name, indices.as_slice(), state);
     drop(indices);
@@ -336,7 +359,9 @@ fn compound<'p>(
     right: &'p Boxed<Expression>,
     state: &State,
 ) -> Result<Next<'p>, Halt>
-    ensures { (setting : Setting) → Leads setting (λ k. and_then (compound_under op name.now (evaluation right.now) indices setting state.now) (to_value k)) result state.now }
+    ensures { (setting : Setting)
+        → Leads setting (λ k. and_then (compound_under op name.now (evaluation right.now) indices setting state.now)
+        (to_value k)) result state.now }
 {
     match read_place(alloc, name, indices.as_slice(), state) {
         Ok(old) => Ok(Next {
@@ -358,7 +383,9 @@ fn coalesce_assign<'p>(
     right: &'p Boxed<Expression>,
     state: &State,
 ) -> Result<Next<'p>, Halt>
-    ensures { (setting : Setting) → Leads setting (λ k. and_then (coalescing_under name.now (evaluation right.now) indices setting state.now) (to_value k)) result state.now }
+    ensures { (setting : Setting)
+        → Leads setting (λ k. and_then (coalescing_under name.now (evaluation right.now) indices setting state.now)
+        (to_value k)) result state.now }
 {
     match found_place(alloc, name, indices.as_slice(), state) {
         Ok(old) => Ok(or_assign(name, indices, right, old)),
@@ -376,7 +403,9 @@ fn or_assign<'p>(
     right: &'p Boxed<Expression>,
     old: Value,
 ) -> Next<'p>
-    ensures { (setting : Setting) (k : Follows) (s : AnyState) → next_rest setting result k s ≡ and_then (if missing old then assigned_under false name.now (evaluation right.now) indices setting s else Done old s) (to_value k) }
+    ensures { (setting : Setting) (k : Follows) (s : AnyState)
+        → next_rest setting result k s ≡ and_then (if missing old
+        then assigned_under false name.now (evaluation right.now) indices setting s else Done old s) (to_value k) }
 {
     match present(old) {
         Some(old) => {
@@ -398,7 +427,9 @@ fn isset_place<'p>(
     rest: &'p [Place],
     state: &State,
 ) -> Result<Next<'p>, Halt>
-    ensures { (setting : Setting) → Leads setting (λ k. values_rest setting (any_values.Isset name.entry rest.entry) indices k state.now) result state.now }
+    ensures { (setting : Setting)
+        → Leads setting (λ k. values_rest setting (any_values.Isset name.entry rest.entry) indices k state.now) result
+        state.now }
 {
     let found = found_place(alloc, name, indices.as_slice(), state);
     drop(indices);
@@ -410,7 +441,9 @@ fn isset_place<'p>(
 
 // The value of a place of an `isset` was found.
 fn isset_found<'p>(found: Value, rest: &'p [Place]) -> Next<'p>
-    ensures { (setting : Setting) (k : Follows) (s : AnyState) → next_rest setting result k s ≡ if missing found then to_value k (any_kind.Bool false) s else isset_after setting rest.now k s }
+    ensures { (setting : Setting) (k : Follows) (s : AnyState)
+        → next_rest setting result k s ≡ if missing found then to_value k (any_kind.Bool false) s
+        else isset_after setting rest.now k s }
 {
     let missing = is_missing(&found);
     drop(found);

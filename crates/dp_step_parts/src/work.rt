@@ -1,5 +1,5 @@
-//! What is in hand, and the parts that wait for it. Each is a part of an expression half done, with the values that it has
-//! read, and lends its tree.
+//! What is in hand, and the parts that wait for it. Each is a part of an expression half done, with the values that it
+//! has read, and lends its tree.
 
 use dp_actions::{Reading, Signal};
 use dp_tree::{Boxed, Expression, Item, Link, Order, Place};

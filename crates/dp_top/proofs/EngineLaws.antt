@@ -10,7 +10,7 @@ use Rattle.dp_run.specs.declared.errors.ProgramError.{ProgramError}
 use Rattle.dp_run.specs.Programs.{Make, NoProgram}
 use Rattle.dp_top.specs.declared.failures.Failure.TheVariants as failure
 use Rattle.dp_top.specs.declared.failures.Refused.{Refused}
-use Rattle.dp_words.specs.CommandLine.{Address, Ask}
+use Rattle.dp_words.specs.CommandLine.{Address, Invocation}
 use Rattle.dp_top.specs.Engine.{Engages, EngineFails, IsApart, IsIdle}
 use Rattle.dp_top.specs.Links.{IsDialled, IsUndialled, dial_of}
 use Rattle.dp_top.specs.Runs.{IsProgramTold}
@@ -60,7 +60,7 @@ taken_back address host given back first source last sink old over new same none
       returned = subst (λ (n : ℕ). CountsReturned (source + sink) n new.returned) returned counts;
     }
 
-pub served_over : (program : Bundle) (address : Address) (key : List ℕ) (ask : Ask) (source sink out : Change)
+pub served_over : (program : Bundle) (address : Address) (key : List ℕ) (ask : Invocation) (source sink out : Change)
     (old new : Net) → IsDialled address source sink old new
     → (result : Result ℕ Refused)
     → MatchResult result (λ status. ServedSo failure.Network status program key ask source sink out)
@@ -92,7 +92,7 @@ served_over program address key ask source sink out old new dialled (Err why) (i
           h.told;
     }))
 
-module _ (address : Address) (key : List ℕ) (ask : Ask) (old new : Seen) (apart : IsApart old new) where
+module _ (address : Address) (key : List ℕ) (ask : Invocation) (old new : Seen) (apart : IsApart old new) where
   pub program_engaged : (program : Bundle) → Make old.shelf.files ask.names (Ok program) → (result : Result ℕ Refused)
       → MatchResult result (λ status. EngagedSo status program address key ask
       (changed old.out new.out) old.net new.net)

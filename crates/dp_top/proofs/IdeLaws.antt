@@ -24,7 +24,7 @@ use Rattle.dp_top.specs.Seen.{Net, NoneRose, Seen, changed}
 use Rattle.dp_top.specs.Tasks.{Caused, Does}
 use Rattle.dp_top.specs.inner.Gated.{Called, DoorSeen, GatedSo, IsBadScript, IsToldBy, MetSo, NoCall, PlayedSo, UnreadSo}
 use Rattle.dp_top.proofs.TaskLaws.{one_task, returned_rose}
-use Rattle.dp_words.specs.CommandLine.{Asks, IsIde, Task, ide}
+use Rattle.dp_words.specs.CommandLine.{IsInvocation, IsIde, Task, ide}
 
 -- ---- a gate
 
@@ -301,7 +301,7 @@ module _ (port line : ℕ) (script : List ℕ) (old new : Seen) (told : IsSome o
   refusal why name (inr (inr (inr h))) = absurd (never_held h.played.instructions h.played.held)
 
 pub script_refused_told : (status : ℕ) (words : List (List ℕ)) (task : Task) (old new : Seen) (refused : Refused)
-    (A B : Type 0) → Asks words task
+    (A B : Type 0) → IsInvocation words task
     → Caused refused.failure refused.name.now task old new
     → ((status ≡ status_of refused.failure) × A) ⊎ ((status ≡ 209) × B)
     → (port line : ℕ) (script : List ℕ) → IsIde words port script → IsSome old.shelf.files
@@ -320,7 +320,7 @@ script_refused_told status words task old new refused A B asks caused is_told po
       by (inl t) (inr (inl e)) = inr (inl (t.0 ∙ e))
       by (inl t) (inr (inr e)) = inr (inr e)
 
-pub script_refused_done : (status : ℕ) (words : List (List ℕ)) (task : Task) (old new : Seen) → Asks words task
+pub script_refused_done : (status : ℕ) (words : List (List ℕ)) (task : Task) (old new : Seen) → IsInvocation words task
     → Does status task old new
     → (port line : ℕ) (script : List ℕ) → IsIde words port script → IsSome old.shelf.files
     → IsNoScript old.shelf.files script line → ⊥
@@ -428,7 +428,7 @@ module _ (port : ℕ) (script : List ℕ) (instructions : List Instruction) (old
     ide_end why name (inr (inr (inr h))) = by_end h.end why h.is_why h.played
 
 pub script_held_told : (status : ℕ) (words : List (List ℕ)) (task : Task) (old new : Seen) (refused : Refused)
-    (A B : Type 0) → Asks words task
+    (A B : Type 0) → IsInvocation words task
     → Caused refused.failure refused.name.now task old new
     → ((status ≡ status_of refused.failure) × A) ⊎ ((status ≡ 209) × B)
     → (port : ℕ) (script : List ℕ) (instructions : List Instruction) → IsIde words port script → IsSome old.shelf.files
@@ -446,7 +446,7 @@ script_held_told status words task old new refused A B asks caused is_told port 
       by (inr t) = omega (arith, t.0, e)
 
 pub complete_ide_told : (status : ℕ) (words : List (List ℕ)) (task : Task) (old new : Seen) (refused : Refused)
-    (A B : Type 0) → Asks words task
+    (A B : Type 0) → IsInvocation words task
     → Caused refused.failure refused.name.now task old new
     → ((status ≡ status_of refused.failure) × A) ⊎ ((status ≡ 209) × B)
     → (port : ℕ) (script : List ℕ) (instructions : List Instruction) → IsIde words port script → IsSome old.shelf.files
@@ -467,7 +467,7 @@ complete_ide_told status words task old new refused A B asks caused is_told port
       by (inl t) (inr (inr (inr e))) = inr (inr (inr (inr (t.0 ∙ e))))
 
 -- a script that was played well has the status 0
-pub plays_well : (status : ℕ) (words : List (List ℕ)) (task : Task) (old new : Seen) → Asks words task
+pub plays_well : (status : ℕ) (words : List (List ℕ)) (task : Task) (old new : Seen) → IsInvocation words task
     → Does status task old new → (port : ℕ) (script : List ℕ) → IsIde words port script
     → status ≡ 0
 plays_well status words task old new asks does port script is =

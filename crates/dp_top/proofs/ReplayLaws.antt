@@ -26,7 +26,7 @@ use Rattle.dp_top.specs.inner.Held.{IsHeld}
 use Rattle.dp_top.specs.Replay.{IsBadAt, IsHeldList, IsReplayed, ReadBefore, ReplayFails, Unlisted, list_limit}
 use Rattle.dp_top.specs.Runs.{AreFetched as OnlyFetched, IsProgramTold}
 use Rattle.dp_top.specs.inner.Replaying.{EndsFetched, EndsOver, EndsReplay, IsBadList, IsWholeList, UnlistedSo}
-use Rattle.dp_words.specs.CommandLine.{Ask}
+use Rattle.dp_words.specs.CommandLine.{Invocation}
 
 -- ---- the list
 
@@ -50,7 +50,7 @@ bad_list (failure.Packet offset) name events bytes files before after fetched ba
 bad_list failure.Network name events bytes files before after fetched bad = absurd bad
 bad_list failure.Stopped name events bytes files before after fetched bad = absurd bad
 
-pub unlisted_fails : (why : Failure) (name events : List ℕ) (ask : Ask) (files : Files) (before after : ℕ)
+pub unlisted_fails : (why : Failure) (name events : List ℕ) (ask : Invocation) (files : Files) (before after : ℕ)
     (out : Change)
     → UnlistedSo why name events files before after → IsUntouched out
     → ReplayFails why name events ask files before after out
@@ -174,7 +174,7 @@ over_held (Ok made) program (Err why) list bound before after out h over = by ov
 
 -- ---- what was fetched
 
-module _ (files : Files) (before after : ℕ) (events : List ℕ) (ask : Ask) (out : Change) where
+module _ (files : Files) (before after : ℕ) (events : List ℕ) (ask : Invocation) (out : Change) where
   module _ (list : List Event) (held : IsHeldList files events list) where
     read_before : (why : ProgramError) → ReadBefore why files events
     read_before (none.TooLong file) = (list, held)
@@ -272,7 +272,7 @@ module _ (files : Files) (before after : ℕ) (events : List ℕ) (ask : Ask) (o
       unread_before (none.TooLong file) u = absurd u
       unread_before (none.Source file why) u = absurd u
 
-pub status_small : (result : Result ℕ Refused) (events : List ℕ) (ask : Ask) (files : Files) (before after : ℕ)
+pub status_small : (result : Result ℕ Refused) (events : List ℕ) (ask : Invocation) (files : Files) (before after : ℕ)
     (out : Change)
     → EndsReplay result events ask files before after out → IfOk result (λ status. status ≤ 199)
 status_small (Ok status) events ask files before after out h = omega (arith, h.0)

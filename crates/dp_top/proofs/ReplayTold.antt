@@ -22,7 +22,7 @@ use Rattle.dp_top.specs.inner.Held.{AreHeldWith, IsGood}
 use Rattle.dp_top.proofs.ReplayLaws.{held_or_bad, held_or_lacking}
 use Rattle.dp_top.proofs.RunTold.{bad_source}
 use Rattle.dp_top.proofs.TaskLaws.{no_program, one_task}
-use Rattle.dp_words.specs.CommandLine.{Ask, Asks, IsReplay, Task, replay}
+use Rattle.dp_words.specs.CommandLine.{Invocation, IsInvocation, IsReplay, Task, replay}
 
 -- a failure of these statuses, or the shelf failed
 abbrev IsListEnd : Failure → ℕ → ℕ → Type 0
@@ -39,7 +39,7 @@ never_missing (Err e) file before after (inr (inr rose)) = rose
 
 -- ---- a file that is no list
 
-module _ (files : Files) (before after : ℕ) (out : Change) (events : List ℕ) (ask : Ask) (line : ℕ)
+module _ (files : Files) (before after : ℕ) (out : Change) (events : List ℕ) (ask : Invocation) (line : ℕ)
     (made : Result Bundle BundleError) (bad : IsNoList files events line)
     (holds : Holds files ask.names made) where
   never_held : (list : List Event) → IsHeldList files events list → ⊥
@@ -82,17 +82,17 @@ module _ (files : Files) (before after : ℕ) (out : Change) (events : List ℕ)
   list_end why name (inr (inr (inr h))) = absurd (never_held h.replayed.events h.replayed.held)
 
 module _ (status : ℕ) (words : List (List ℕ)) (task : Task) (old new : Seen) (refused : Refused) (A B : Type 0)
-    (asks : Asks words task)
+    (asks : IsInvocation words task)
     (caused : Caused refused.failure refused.name.now task old new)
     (told : ((status ≡ status_of refused.failure) × A) ⊎ ((status ≡ 209) × B)) where
-  fails : (events : List ℕ) (ask : Ask) → IsReplay words events ask
+  fails : (events : List ℕ) (ask : Invocation) → IsReplay words events ask
       → ReplayFails refused.failure refused.name.now events ask old.shelf.files old.shelf.faults new.shelf.faults
       (changed old.out new.out)
   fails events ask is =
       (subst (λ (t : Task). Caused refused.failure refused.name.now t old new)
       (one_task words task (replay events ask) asks is) caused).0
 
-  pub list_refused_told : (events : List ℕ) (ask : Ask) (line : ℕ) (made : Result Bundle BundleError)
+  pub list_refused_told : (events : List ℕ) (ask : Invocation) (line : ℕ) (made : Result Bundle BundleError)
       → IsReplay words events ask → IsNoList old.shelf.files events line
       → Holds old.shelf.files ask.names made → (status ≡ 204) ⊎ (status ≡ 209) ⊎ Rose old.shelf.faults new.shelf.faults
   list_refused_told events ask line made is bad holds =
@@ -110,7 +110,7 @@ module _ (status : ℕ) (words : List (List ℕ)) (task : Task) (old new : Seen)
 
 -- ---- a file that is a list
 
-module _ (files : Files) (before after : ℕ) (out : Change) (events : List ℕ) (ask : Ask) (list : List Event)
+module _ (files : Files) (before after : ℕ) (out : Change) (events : List ℕ) (ask : Invocation) (list : List Event)
     (told : IsSome files) (held : IsHeldList files events list) where
   unlisted_not : (why : Failure) (name : List ℕ) → Unlisted why name events files before after
       → (why ≡ failure.ShelfFailed) × Rose before after
@@ -157,10 +157,10 @@ module _ (files : Files) (before after : ℕ) (out : Change) (events : List ℕ)
   memory_alone why name good shelf sink (inr (inr (inr h))) = absurd (sink h.replayed.replays.0)
 
 module _ (status : ℕ) (words : List (List ℕ)) (task : Task) (old new : Seen) (refused : Refused) (A B : Type 0)
-    (asks : Asks words task)
+    (asks : IsInvocation words task)
     (caused : Caused refused.failure refused.name.now task old new)
     (told : ((status ≡ status_of refused.failure) × A) ⊎ ((status ≡ 209) × B)) where
-  pub list_held_told : (events : List ℕ) (ask : Ask) (list : List Event) → IsReplay words events ask
+  pub list_held_told : (events : List ℕ) (ask : Invocation) (list : List Event) → IsReplay words events ask
       → IsSome old.shelf.files → IsHeldList old.shelf.files events list
       → status ≡ 204 → ⊥
   list_held_told events ask list is some held e = by told where
@@ -171,7 +171,7 @@ module _ (status : ℕ) (words : List (List ℕ)) (task : Task) (old new : Seen)
         (changed old.out new.out) events ask list some held refused.failure refused.name.now
         (fails status words task old new refused A B asks caused told events ask is) (sym t.0 ∙ e)
 
-  pub complete_replay_told : (events : List ℕ) (ask : Ask) (list : List Event) → IsReplay words events ask
+  pub complete_replay_told : (events : List ℕ) (ask : Invocation) (list : List Event) → IsReplay words events ask
       → IsSome old.shelf.files → IsHeldList old.shelf.files events list
       → IsGood refused.failure → NoneRose old new → (status ≡ 0) ⊎ (status ≡ 209)
   complete_replay_told events ask list is some held good none = by told where
@@ -184,17 +184,17 @@ module _ (status : ℕ) (words : List (List ℕ)) (task : Task) (old new : Seen)
 
 -- ---- a replay that went well
 
-module _ (status : ℕ) (words : List (List ℕ)) (task : Task) (old new : Seen) (asks : Asks words task)
+module _ (status : ℕ) (words : List (List ℕ)) (task : Task) (old new : Seen) (asks : IsInvocation words task)
     (does : Does status task old new) where
-  replays_so : (events : List ℕ) (ask : Ask) → IsReplay words events ask
+  replays_so : (events : List ℕ) (ask : Invocation) → IsReplay words events ask
       → (status ≡ 0) × IsReplayed (Ok tt) events ask old.shelf.files (changed old.out new.out)
   replays_so events ask is =
       (subst (λ (t : Task). Does status t old new) (one_task words task (replay events ask) asks is) does).0
 
-  pub replays_well : (events : List ℕ) (ask : Ask) → IsReplay words events ask → status ≡ 0
+  pub replays_well : (events : List ℕ) (ask : Invocation) → IsReplay words events ask → status ≡ 0
   replays_well events ask is = (replays_so events ask is).0
 
-  pub list_refused_done : (events : List ℕ) (ask : Ask) (line : ℕ) (made : Result Bundle BundleError)
+  pub list_refused_done : (events : List ℕ) (ask : Invocation) (line : ℕ) (made : Result Bundle BundleError)
       → IsReplay words events ask → IsNoList old.shelf.files events line
       → Holds old.shelf.files ask.names made → ⊥
   list_refused_done events ask line made is bad holds =
@@ -202,12 +202,12 @@ module _ (status : ℕ) (words : List (List ℕ)) (task : Task) (old new : Seen)
       held_or_bad old.shelf.files events bad.content r.events line holds.tells r.held bad.fetched bad.bad
 
 -- it is a replay of these
-pub asks_replay : (words : List (List ℕ)) (task : Task) (events : List ℕ) (ask : Ask) → Asks words task
+pub asks_replay : (words : List (List ℕ)) (task : Task) (events : List ℕ) (ask : Invocation) → IsInvocation words task
     → IsReplay words events ask → task ≡ replay events ask
 asks_replay words task events ask asks is = one_task words task (replay events ask) asks is
 
 -- likewise what is held of it
-pub held_with : {A : Type 0} (events other : List ℕ) (ask asked : Ask) (task : Task) (result : Result A Refused)
+pub held_with : {A : Type 0} (events other : List ℕ) (ask asked : Invocation) (task : Task) (result : Result A Refused)
     (old new : Seen) → task ≡ replay other asked → task ≡ replay events ask
     → AreHeldWith other asked result old new → AreHeldWith events ask result old new
 held_with {A} events other ask asked task result old new p q h =
@@ -215,4 +215,4 @@ held_with {A} events other ask asked task result old new p q h =
     let same_events : other ≡ events = cc in
     let same_ask : asked ≡ ask = cc in
     subst (λ (e : List ℕ). AreHeldWith {A = A} e ask result old new) same_events
-    (subst (λ (a : Ask). AreHeldWith {A = A} other a result old new) same_ask h)
+    (subst (λ (a : Invocation). AreHeldWith {A = A} other a result old new) same_ask h)

@@ -17,7 +17,7 @@ use Rattle.dp_run.specs.declared.errors.RunError.TheVariants as run
 use Rattle.dp_run.specs.Programs.{Asks, IsHeld as IsRunHeld, Told, is_bad_file, refusal}
 use Rattle.dp_run.specs.Runs.{of_program}
 use Rattle.dp_top.specs.declared.failures.Refused.{Refused}
-use Rattle.dp_words.specs.CommandLine.{Ask}
+use Rattle.dp_words.specs.CommandLine.{Invocation}
 use Rattle.dp_top.specs.Runs.{IsFetched, failure_of, program_failure}
 use Rattle.dp_top.specs.inner.Held.{IsBadSource, IsGood, IsHeld}
 use Rattle.dp_top.specs.Sources.{failure_of as failure_of_source}
@@ -88,7 +88,7 @@ all_fetched : (before after : Told) (names : List (List ℕ)) → after ≡ grow
 all_fetched before after names e =
     (length names, e ∙ ap (grown before) (sym (take_all (length names) names (omega arith))))
 
-pub fetched : (A : Type 0) (result : Result A ProgramError) (before after : Told) (ask : Ask)
+pub fetched : (A : Type 0) (result : Result A ProgramError) (before after : Told) (ask : Invocation)
     → Asks result before after ask.names → IsFetched (Some ask) before after
 fetched A (Ok a) before after ask e = all_fetched before after ask.names e
 fetched A (Err (none.Shelf file)) before after ask e = (file + 1, e)
@@ -98,6 +98,6 @@ fetched A (Err (none.Source file why)) before after ask e = all_fetched before a
 fetched A (Err none.Memory) before after ask e = e
 
 -- nothing was
-pub nothing_fetched : (asked : Option Ask) (told : Told) → IsFetched asked told told
+pub nothing_fetched : (asked : Option Invocation) (told : Told) → IsFetched asked told told
 nothing_fetched None told = refl
 nothing_fetched (Some ask) told = (0, grown_by_none told)

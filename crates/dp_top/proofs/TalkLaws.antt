@@ -24,7 +24,7 @@ use Rattle.dp_state.specs.declared.moments.Outcome.TheVariants as way
 use Rattle.dp_top.specs.declared.failures.Failure.{Failure}
 use Rattle.dp_top.specs.declared.failures.Failure.TheVariants as failure
 use Rattle.dp_top.specs.declared.failures.Refused.{Refused}
-use Rattle.dp_words.specs.CommandLine.{AreFileWords, Ask}
+use Rattle.dp_words.specs.CommandLine.{AreFileWords, Invocation}
 use Rattle.dp_top.specs.Runs.{IsProgramTold, IsRunTold}
 use Rattle.dp_top.specs.inner.Held.{IsGood, IsHeld}
 use Rattle.dp_top.specs.Seen.{Seen, changed}
@@ -38,16 +38,17 @@ pub unnamed_told : (refused : Refused) (why : Failure) → refused.failure ≡ w
     → told_in (Err refused) ≡ unnamed why
 unnamed_told refused why failed name = λ i. Err (failed i, name i)
 
-pub end_status : (ask : Ask) (status : ℕ) (outcome : Outcome) → Ok status ≡ judged_end outcome
+pub end_status : (ask : Invocation) (status : ℕ) (outcome : Outcome) → Ok status ≡ judged_end outcome
     → told_in (Ok status) ≡ ended ask (Some outcome)
 end_status ask status outcome e = ap (end_told ask) e
 
-pub end_failure : (ask : Ask) (refused : Refused) (why : RunError) (outcome : Outcome)
+pub end_failure : (ask : Invocation) (refused : Refused) (why : RunError) (outcome : Outcome)
     → IsRunTold refused.failure refused.name.now ask why → Err why ≡ judged_end outcome
     → told_in (Err refused) ≡ ended ask (Some outcome)
 end_failure ask refused why outcome told e = (λ i. Err (told.0 i, told.1 i)) ∙ ap (end_told ask) e
 
-pub by_its_end : (unsent : Failure) (ask : Ask) (served : Served) (end : ServeEnd) (told : Told) → served.end ≡ end
+pub by_its_end : (unsent : Failure) (ask : Invocation) (served : Served) (end : ServeEnd) (told : Told)
+    → served.end ≡ end
     → told ≡ judged_by unsent ask served.outcome end
     → told ≡ judged_by unsent ask served.outcome served.end
 by_its_end unsent ask served end told is e = e ∙ ap (judged_by unsent ask served.outcome) (sym is)
@@ -58,14 +59,14 @@ abbrev IsGoodTold : Told → Type 0
 IsGoodTold (Ok status) = Unit {0}
 IsGoodTold (Err why) = IsGood why.0
 
-good_end : (ask : Ask) (outcome : Option Outcome) → IsGoodTold (ended ask outcome)
+good_end : (ask : Invocation) (outcome : Option Outcome) → IsGoodTold (ended ask outcome)
 good_end ask None = ((λ e. omega (arith, e)), (λ e. cc))
 good_end ask (Some way.Done) = tt
 good_end ask (Some (way.Exit status)) = tt
 good_end ask (Some (way.Fatal kind file line)) = ((λ e. omega (arith, e)), (λ e. cc))
 good_end ask (Some way.Bound) = ((λ e. omega (arith, e)), (λ e. cc))
 
-good_judged : (unsent : Failure) → IsGood unsent → (ask : Ask) (outcome : Option Outcome) (end : ServeEnd)
+good_judged : (unsent : Failure) → IsGood unsent → (ask : Invocation) (outcome : Option Outcome) (end : ServeEnd)
     → IsGoodTold (judged_by unsent ask outcome end)
 good_judged unsent good ask outcome Stopped = good_end ask outcome
 good_judged unsent good ask outcome Detached = good_end ask outcome
@@ -77,7 +78,7 @@ good_judged unsent good ask outcome (BadCommandFrame offset) = ((λ e. omega (ar
 good_judged unsent good ask outcome ByteLimit = ((λ e. omega (arith, e)), (λ e. cc))
 good_judged unsent good ask outcome Memory = ((λ e. omega (arith, e)), (λ e. cc))
 
-pub good_served : (unsent : Failure) → IsGood unsent → (ask : Ask) (served : Served) (result : Result ℕ Refused)
+pub good_served : (unsent : Failure) → IsGood unsent → (ask : Invocation) (served : Served) (result : Result ℕ Refused)
     → told_in result ≡ judged_by unsent ask served.outcome served.end → IfErr result (λ why. IsGood why.failure)
 good_served unsent good ask served (Ok status) told = tt
 good_served unsent good ask served (Err why) told =
@@ -88,7 +89,7 @@ good_memory refused memory = subst IsGood (sym memory) ((λ e. omega (arith, e))
 
 -- ---- a status is one of 200
 
-end_small : (ask : Ask) (state : State) (status : ℕ) (o : Outcome) → outcome_of state ≡ o
+end_small : (ask : Invocation) (state : State) (status : ℕ) (o : Outcome) → outcome_of state ≡ o
     → ended ask (Some o) ≡ Ok status → status ≤ 199
 end_small ask state status way.Done is e = let same : 0 ≡ status = cc in omega (arith, same)
 end_small ask state status (way.Exit n) is e =
@@ -96,14 +97,14 @@ end_small ask state status (way.Exit n) is e =
 end_small ask state status (way.Fatal kind file line) is e = absurd (cc)
 end_small ask state status way.Bound is e = absurd (cc)
 
-ended_small : (ask : Ask) (ended_by : Option SessionEnd) (state : State) (status : ℕ)
+ended_small : (ask : Invocation) (ended_by : Option SessionEnd) (state : State) (status : ℕ)
     → ended ask (ending_after ended_by state) ≡ Ok status → status ≤ 199
 ended_small ask (Some Killed) state status e = absurd (cc)
 ended_small ask (Some gone) state status e = end_small ask state status (outcome_of state) refl e
 ended_small ask (Some (Finished o)) state status e = end_small ask state status (outcome_of state) refl e
 ended_small ask None state status e = end_small ask state status (outcome_of state) refl e
 
-module _ (unsent : Failure) (ask : Ask) (served : Served) (program : Bundle) (key : List ℕ)
+module _ (unsent : Failure) (ask : Invocation) (served : Served) (program : Bundle) (key : List ℕ)
     (input out err : Change) where
   small : (status : ℕ) (end : ServeEnd) → ServesTo end served program ask.bound key input out err
       → judged_by unsent ask served.outcome end ≡ Ok status → status ≤ 199
@@ -132,7 +133,7 @@ module _ (unsent : Failure) (ask : Ask) (served : Served) (program : Bundle) (ke
 
 -- ---- a session over the program of the files
 
-module _ (key : List ℕ) (ask : Ask) (old new : Seen) where
+module _ (key : List ℕ) (ask : Invocation) (old new : Seen) where
   pub program_served : (program : Bundle) → Make old.shelf.files ask.names (Ok program) → (result : Result ℕ Refused)
       → MatchResult result (λ status. ServedSo failure.Output status program key ask (changed old.input new.input)
       (changed old.out new.out) (changed old.err new.err))

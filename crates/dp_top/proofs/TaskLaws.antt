@@ -22,7 +22,7 @@ use Rattle.dp_run.specs.Runs.{RunCaused}
 use Rattle.dp_state.specs.declared.moments.Outcome.{Outcome}
 use Rattle.dp_state.specs.declared.moments.Outcome.TheVariants as way
 use Rattle.dp_top.specs.declared.failures.Refused.{Refused}
-use Rattle.dp_words.specs.CommandLine.{Address, Ask, IsEngine, IsRun, IsTalk, Task, run, talk, engine, ide, replay, show, Asks, ask_in, ask_of, port_of, uses_net}
+use Rattle.dp_words.specs.CommandLine.{Address, Invocation, IsEngine, IsRun, IsTalk, Task, run, talk, engine, ide, replay, show, IsInvocation, invocation_in, invocation_of, port_of, uses_net}
 use Rattle.dp_outside.specs.Links.{CountsReturned}
 use Rattle.dp_top.specs.Engine.{EngineFails, EndsSo as EngineEnds}
 use Rattle.dp_top.specs.Links.{IsDialled}
@@ -55,7 +55,7 @@ abbrev behind_of : List (List ℕ) → List (List ℕ)
 behind_of [] = []
 behind_of (word ∷ words) = words
 
-named : (words : List (List ℕ)) (task : Task) → Asks words task → first_of words ≡ name_of task
+named : (words : List (List ℕ)) (task : Task) → IsInvocation words task → first_of words ≡ name_of task
 named words (run ask) h = ap first_of h.words_are
 named words (talk key ask) h = ap first_of h.words_are
 named words (engine address key ask) h = ap first_of h.words_are
@@ -69,23 +69,23 @@ letters [] = 0
 letters (a ∷ []) = a
 letters (a ∷ b ∷ more) = b
 
-apart : (words : List (List ℕ)) (task other : Task) → Asks words task → Asks words other
+apart : (words : List (List ℕ)) (task other : Task) → IsInvocation words task → IsInvocation words other
     → letters (name_of task) ≡ letters (name_of other)
 apart words task other p q = ap letters (sym (named words task p) ∙ named words other q)
 
-abbrev bound_in : Option Ask → ℕ
+abbrev bound_in : Option Invocation → ℕ
 bound_in None = 0
 bound_in (Some ask) = ask.bound
 
-abbrev names_in : Option Ask → List (List ℕ)
+abbrev names_in : Option Invocation → List (List ℕ)
 names_in None = []
 names_in (Some ask) = ask.names
 
 -- the same words ask for the same
-asks_same : (words behind other : List (List ℕ)) (name : List ℕ) (a b : Option Ask) → words ≡ name ∷ behind
-    → words ≡ name ∷ other → ask_of behind ≡ a → ask_of other ≡ b → a ≡ b
+asks_same : (words behind other : List (List ℕ)) (name : List ℕ) (a b : Option Invocation) → words ≡ name ∷ behind
+    → words ≡ name ∷ other → invocation_of behind ≡ a → invocation_of other ≡ b → a ≡ b
 asks_same words behind other name a b p q asked asks =
-    sym asked ∙ ap (λ (l : List (List ℕ)). ask_of (behind_of l)) (sym p ∙ q) ∙ asks
+    sym asked ∙ ap (λ (l : List (List ℕ)). invocation_of (behind_of l)) (sym p ∙ q) ∙ asks
 
 abbrev number_in : Option ℕ → ℕ
 number_in None = 0
@@ -95,7 +95,8 @@ abbrev word_at : ℕ → List (List ℕ) → List ℕ
 word_at n words = get_or words n []
 
 -- the words ask for one task
-pub one_task : (words : List (List ℕ)) (task other : Task) → Asks words task → Asks words other → task ≡ other
+pub one_task : (words : List (List ℕ)) (task other : Task) → IsInvocation words task → IsInvocation words other
+    → task ≡ other
 one_task words (run ask) (run other) p q =
     let same = asks_same words p.behind q.behind (codes "run") _ _ p.words_are q.words_are p.follows.asked
     q.follows.asked in
@@ -108,7 +109,7 @@ one_task words (engine address key ask) (engine other k asked) p q =
     let same = asks_same words p.behind q.behind (codes "engine") _ _ p.words_are q.words_are p.dials.asked
     q.dials.asked in
     let ports : Some address.port ≡ Some other.port =
-    sym p.dials.port ∙ ap (λ (o : Option Ask). port_of (word_at 1 (names_in o))) same ∙ q.dials.port in
+    sym p.dials.port ∙ ap (λ (o : Option Invocation). port_of (word_at 1 (names_in o))) same ∙ q.dials.port in
     λ i. engine (record { host = word_at 0 (names_in (same i)); port = number_in (ports i) })
     (word_at 2 (names_in (same i)))
     (record { bound = bound_in (same i); names = drop 3 (names_in (same i)) })
@@ -207,13 +208,14 @@ memory_name (replay events ask) name = name
 memory_name show name = name
 
 -- want of memory once a session was served, or there was none
-talk_starved : (failed : Failure) (name key : List ℕ) (ask : Ask) (old new : Seen)
+talk_starved : (failed : Failure) (name key : List ℕ) (ask : Invocation) (old new : Seen)
     → TalkFails failed name key ask old new → TalkFails failure.Memory name key ask old new
 talk_starved failed name key ask old new (inl memory) = inl (refl, memory.1)
 talk_starved failed name key ask old new (inr (inl u)) = inl (refl, inl u.idle)
 talk_starved failed name key ask old new (inr (inr h)) = inl (refl, inr (h.served, h.is))
 
-engine_starved : (failed : Failure) (name : List ℕ) (address : Address) (key : List ℕ) (ask : Ask) (old new : Seen)
+engine_starved : (failed : Failure) (name : List ℕ) (address : Address) (key : List ℕ) (ask : Invocation)
+    (old new : Seen)
     → EngineFails failed name address key ask old new → EngineFails failure.Memory name address key ask old new
 engine_starved failed name address key ask old new (inl memory) = inl (refl, memory.1)
 engine_starved failed name address key ask old new (inr (inl u)) = inl (refl, inl u.idle)
@@ -228,7 +230,8 @@ ide_starved failed name port script old new (inr (inl u)) = inl (refl, inl u.1)
 ide_starved failed name port script old new (inr (inr (inl alone))) = inl (refl, inr (inl alone.2))
 ide_starved failed name port script old new (inr (inr (inr h))) = inl (refl, inr (inr (Err h.end, h.played)))
 
-replay_starved : (failed : Failure) (name events : List ℕ) (ask : Ask) (files : Files) (before after : ℕ) (out : Change)
+replay_starved : (failed : Failure) (name events : List ℕ) (ask : Invocation) (files : Files) (before after : ℕ)
+    (out : Change)
     → ReplayFails failed name events ask files before after out
     → ReplayFails failure.Memory name events ask files before after out
 replay_starved failed name events ask files before after out (inl memory) = inl (refl, memory.1)
@@ -251,7 +254,7 @@ memory_instead failed name show old new h = (h.0, show_cut failed _ _ h.1, h.2, 
 
 -- the failure is told, or there is no memory for its line
 pub fails_told : (status : ℕ) (words : List (List ℕ)) (task : Task) (name : List ℕ) (old new : Seen) (err : Stream)
-    (failed : Failure) → Asks words task
+    (failed : Failure) → IsInvocation words task
     → Caused failed name task old (before_line new err) → err.faults ≤ new.err.faults
     → ((status ≡ status_of failed) × Says (changed err new.err) (line_of failed name))
     ⊎ ((status ≡ 209) × Says (changed err new.err) (codes "out of memory\n"))
@@ -306,7 +309,7 @@ told_above status failed A B (inr told) = omega (arith, told.0)
 
 -- the failure's cause, of the task that is asked for
 caused_of : (status : ℕ) (words : List (List ℕ)) (old new : Seen) (f : Fails status words old new) → (task : Task)
-    → Asks words task → Caused f.failure f.name task old (before_line new f.err)
+    → IsInvocation words task → Caused f.failure f.name task old (before_line new f.err)
 caused_of status words old new f task asks =
     subst (λ (t : Task). Caused f.failure f.name t old (before_line new f.err))
     (one_task words f.task task f.asks asks) f.caused
@@ -326,7 +329,7 @@ no_program failed files before after names good shelf none.Memory caused told = 
 -- ---- `talk`
 
 -- where no count rose and the files are not told as bad, what fails is a packet, the program's end, a stop or memory
-module _ (failed : Failure) (name key : List ℕ) (ask : Ask) (old new : Seen) (good : IsGood failed)
+module _ (failed : Failure) (name key : List ℕ) (ask : Invocation) (old new : Seen) (good : IsGood failed)
     (none : NoneRose old new) where
   abbrev IsTalkEnd : Failure → Type 0
   IsTalkEnd f = (status_of f ≡ 207) ⊎ (status_of f ≡ 210) ⊎ (status_of f ≡ 255) ⊎ (status_of f ≡ 209)
@@ -395,21 +398,22 @@ module _ (failed : Failure) (name key : List ℕ) (ask : Ask) (old new : Seen) (
 
 -- what the files of the program that is asked for make decides whether it fails by a bad source
 abbrev IsNoBadTask : Task → Refused → Seen → Seen → Type 0
-IsNoBadTask task refused old new = (ask : Ask) → ask_in task ≡ Some ask → AreHeld {A = ℕ} ask (Err refused) old new
+IsNoBadTask task refused old new =
+    (ask : Invocation) → invocation_in task ≡ Some ask → AreHeld {A = ℕ} ask (Err refused) old new
 
 -- the same of the call's answer
 pub complete_talk_told : (status : ℕ) (words : List (List ℕ)) (task : Task) (old new : Seen) (refused : Refused)
-    (A B : Type 0) → Asks words task
+    (A B : Type 0) → IsInvocation words task
     → Caused refused.failure refused.name.now task old new → IsNoBadTask task refused old new
     → ((status ≡ status_of refused.failure) × A) ⊎ ((status ≡ 209) × B)
-    → (key : List ℕ) (ask : Ask) (program : Bundle) → IsTalk words key ask
+    → (key : List ℕ) (ask : Invocation) (program : Bundle) → IsTalk words key ask
     → Holds old.shelf.files ask.names (Ok program) → NoneRose old new
     → (status ≤ 199) ⊎ (status ≡ 207) ⊎ (status ≡ 210) ⊎ (status ≡ 255) ⊎ (status ≡ 209)
 complete_talk_told status words task old new refused A B asks caused held told key ask program is holds none =
     let same = one_task words task (talk key ask) asks is in
     let fails = subst (λ (t : Task). Caused refused.failure refused.name.now t old new) same caused in
     by told (talk_end refused.failure refused.name.now key ask old new
-    ((held ask (ap ask_in same)).by_files (Ok program) holds) none fails.0) where
+    ((held ask (ap invocation_in same)).by_files (Ok program) holds) none fails.0) where
       by : ((status ≡ status_of refused.failure) × A) ⊎ ((status ≡ 209) × B)
           → (status_of refused.failure ≡ 207) ⊎ (status_of refused.failure ≡ 210) ⊎ (status_of refused.failure ≡ 255)
           ⊎ (status_of refused.failure ≡ 209)
@@ -427,7 +431,7 @@ returned_rose zero before after h some = absurd (omega (arith, some))
 returned_rose (suc n) before after h some = h
 
 -- where no count rose and the files are not told as bad, what fails is a packet, the program's end, a stop or memory
-module _ (failed : Failure) (name : List ℕ) (address : Address) (key : List ℕ) (ask : Ask) (old new : Seen)
+module _ (failed : Failure) (name : List ℕ) (address : Address) (key : List ℕ) (ask : Invocation) (old new : Seen)
     (good : IsGood failed) (none : NoneRose old new) where
   link_sound : (source sink : Change) → IsDialled address source sink old.net new.net → 0 < source.faults + sink.faults
       → ⊥
@@ -491,17 +495,17 @@ module _ (failed : Failure) (name : List ℕ) (address : Address) (key : List �
   engine_end (inr (inr (inr h))) = engine_by_end h h.served.end refl h.is.serves h.told
 
 pub complete_engine_told : (status : ℕ) (words : List (List ℕ)) (task : Task) (old new : Seen) (refused : Refused)
-    (A B : Type 0) → Asks words task
+    (A B : Type 0) → IsInvocation words task
     → Caused refused.failure refused.name.now task old new → IsNoBadTask task refused old new
     → ((status ≡ status_of refused.failure) × A) ⊎ ((status ≡ 209) × B)
-    → (address : Address) (key : List ℕ) (ask : Ask) (program : Bundle) → IsEngine words address key ask
+    → (address : Address) (key : List ℕ) (ask : Invocation) (program : Bundle) → IsEngine words address key ask
     → Holds old.shelf.files ask.names (Ok program) → NoneRose old new
     → (status ≤ 199) ⊎ (status ≡ 207) ⊎ (status ≡ 210) ⊎ (status ≡ 255) ⊎ (status ≡ 209)
 complete_engine_told status words task old new refused A B asks caused held told address key ask program is holds none =
     let same = one_task words task (engine address key ask) asks is in
     let fails = subst (λ (t : Task). Caused refused.failure refused.name.now t old new) same caused in
     by told (engine_end refused.failure refused.name.now address key ask old new
-    ((held ask (ap ask_in same)).by_files (Ok program) holds) none fails) where
+    ((held ask (ap invocation_in same)).by_files (Ok program) holds) none fails) where
       by : ((status ≡ status_of refused.failure) × A) ⊎ ((status ≡ 209) × B)
           → (status_of refused.failure ≡ 207) ⊎ (status_of refused.failure ≡ 210) ⊎ (status_of refused.failure ≡ 255)
           ⊎ (status_of refused.failure ≡ 209)
@@ -532,17 +536,17 @@ caused_offline failed name (ide port script) old new h e = absurd cc
 caused_offline failed name (replay events ask) old new h e = h.3
 caused_offline failed name show old new h e = h.3
 
-pub asks_offline : (words : List (List ℕ)) (task other : Task) → Asks words task → Asks words other
+pub asks_offline : (words : List (List ℕ)) (task other : Task) → IsInvocation words task → IsInvocation words other
     → uses_net other ≡ false → uses_net task ≡ false
 asks_offline words task other p q e = ap uses_net (one_task words task other p q) ∙ e
 
-pub offline_done : (status : ℕ) (words : List (List ℕ)) (task other : Task) (old new : Seen) → Asks words task
-    → Does status task old new → Asks words other → uses_net other ≡ false → new.net ≡ old.net
+pub offline_done : (status : ℕ) (words : List (List ℕ)) (task other : Task) (old new : Seen) → IsInvocation words task
+    → Does status task old new → IsInvocation words other → uses_net other ≡ false → new.net ≡ old.net
 offline_done status words task other old new p does q e =
     done_offline status task old new does (asks_offline words task other p q e)
 
 pub offline_caused : (failed : Failure) (name : List ℕ) (words : List (List ℕ)) (task other : Task) (old new : Seen)
-    → Asks words task → Caused failed name task old new → Asks words other
+    → IsInvocation words task → Caused failed name task old new → IsInvocation words other
     → uses_net other ≡ false → new.net ≡ old.net
 offline_caused failed name words task other old new p caused q e =
     caused_offline failed name task old new caused (asks_offline words task other p q e)
@@ -550,7 +554,7 @@ offline_caused failed name words task other old new p caused q e =
 -- ---- `run`
 
 -- where no count rose and the files are not told as bad, what fails is the program's end or memory
-module _ (failed : Failure) (ask : Ask) (old new : Seen) (good : IsGood failed) (none : NoneRose old new) where
+module _ (failed : Failure) (ask : Invocation) (old new : Seen) (good : IsGood failed) (none : NoneRose old new) where
   abbrev IsEnd : Failure → Type 0
   IsEnd f = (status_of f ≡ 255) ⊎ (status_of f ≡ 209)
 
@@ -570,15 +574,16 @@ module _ (failed : Failure) (ask : Ask) (old new : Seen) (good : IsGood failed) 
       ⊎_elim (λ t. by_why fails.why fails.caused t.0) (λ starved. inr (ap status_of starved.0)) fails.told
 
 pub complete_run_told : (status : ℕ) (words : List (List ℕ)) (task : Task) (old new : Seen) (refused : Refused)
-    (A B : Type 0) → Asks words task
+    (A B : Type 0) → IsInvocation words task
     → Caused refused.failure refused.name.now task old new → IsNoBadTask task refused old new
     → ((status ≡ status_of refused.failure) × A) ⊎ ((status ≡ 209) × B)
-    → (ask : Ask) (program : Bundle) → IsRun words ask → Holds old.shelf.files ask.names (Ok program) → NoneRose old new
+    → (ask : Invocation) (program : Bundle) → IsRun words ask → Holds old.shelf.files ask.names (Ok program)
+    → NoneRose old new
     → (status ≤ 199) ⊎ (status ≡ 255) ⊎ (status ≡ 209)
 complete_run_told status words task old new refused A B asks caused held told ask program is holds none =
     let same = one_task words task (run ask) asks is in
     let fails = (subst (λ (t : Task). Caused refused.failure refused.name.now t old new) same caused).0 in
-    by told (by_told refused.failure ask old new ((held ask (ap ask_in same)).by_files (Ok program) holds) none
+    by told (by_told refused.failure ask old new ((held ask (ap invocation_in same)).by_files (Ok program) holds) none
     refused.name.now fails) where
       by : ((status ≡ status_of refused.failure) × A) ⊎ ((status ≡ 209) × B)
           → (status_of refused.failure ≡ 255) ⊎ (status_of refused.failure ≡ 209)
@@ -597,9 +602,10 @@ refused_told status before after failed A B (inl told) (inl (inl e)) = inl (told
 refused_told status before after failed A B (inl told) (inl (inr e)) = inr (inl (told.0 ∙ ap status_of e))
 
 -- it is asked for this program
-pub asks_program : (words : List (List ℕ)) (task other : Task) (ask : Ask) → Asks words task → Asks words other
-    → ask_in other ≡ Some ask → ask_in task ≡ Some ask
-asks_program words task other ask asks is program = ap ask_in (one_task words task other asks is) ∙ program
+pub asks_program : (words : List (List ℕ)) (task other : Task) (ask : Invocation) → IsInvocation words task
+    → IsInvocation words other
+    → invocation_in other ≡ Some ask → invocation_in task ≡ Some ask
+asks_program words task other ask asks is program = ap invocation_in (one_task words task other asks is) ∙ program
 
 -- ---- `show`
 
@@ -623,7 +629,7 @@ show_fails (failure.Script line) input out i o h = absurd h
 show_fails (failure.Differs line wanted found) input out i o h = absurd h
 
 pub complete_show_fails : (status : ℕ) (words : List (List ℕ)) (old new : Seen) → Fails status words old new
-    → Asks words show → NoneRose old new → (status ≡ 0) ⊎ (status ≡ 206) ⊎ (status ≡ 207) ⊎ (status ≡ 209)
+    → IsInvocation words show → NoneRose old new → (status ≡ 0) ⊎ (status ≡ 206) ⊎ (status ≡ 207) ⊎ (status ≡ 209)
 complete_show_fails status words old new f asks none =
     let caused = caused_of status words old new f show asks in
     by (show_fails f.failure _ _ none.input_not none.out_not caused.1) where
@@ -634,18 +640,18 @@ complete_show_fails status words old new f asks none =
       by (inr (inr e)) = inr (inr (inr (f.is_status ∙ e)))
 
 -- what is asked for is this
-pub asks_show : (words : List (List ℕ)) (task : Task) → Asks words task → Asks words show → task ≡ show
+pub asks_show : (words : List (List ℕ)) (task : Task) → IsInvocation words task → IsInvocation words show → task ≡ show
 asks_show words task asks other = one_task words task show asks other
 
 -- what was shown well has the status 0
-pub shows_well : (status : ℕ) (words : List (List ℕ)) (task : Task) (old new : Seen) → Asks words task
-    → Does status task old new → Asks words show → status ≡ 0
+pub shows_well : (status : ℕ) (words : List (List ℕ)) (task : Task) (old new : Seen) → IsInvocation words task
+    → Does status task old new → IsInvocation words show → status ≡ 0
 shows_well status words task old new asks does is =
     (subst (λ (t : Task). Does status t old new) (one_task words task show asks is) does).0
 
 -- what was fetched for the task that is asked for
-pub asks_fetched : (words : List (List ℕ)) (task other : Task) (before after : FetchedTold) → Asks words task
-    → IsFetchedFor task before after → Asks words other → IsFetchedFor other before after
+pub asks_fetched : (words : List (List ℕ)) (task other : Task) (before after : FetchedTold) → IsInvocation words task
+    → IsFetchedFor task before after → IsInvocation words other → IsFetchedFor other before after
 asks_fetched words task other before after asks is asked =
     subst (λ (t : Task). IsFetchedFor t before after) (one_task words task other asks asked) is
 

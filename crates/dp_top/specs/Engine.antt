@@ -8,14 +8,14 @@ use Rattle.dp_run.specs.declared.errors.ProgramError.{ProgramError}
 use Rattle.dp_run.specs.Programs.{Make, NoProgram}
 use Rattle.dp_top.specs.declared.failures.Failure.{Failure}
 use Rattle.dp_top.specs.declared.failures.Failure.TheVariants as failure
-use Rattle.dp_words.specs.CommandLine.{Address, Ask}
+use Rattle.dp_words.specs.CommandLine.{Address, Invocation}
 use Rattle.dp_top.specs.Links.{IsDialled, IsUndialled}
 use Rattle.dp_top.specs.Runs.{IsProgramTold}
 use Rattle.dp_top.specs.Seen.{Seen, changed}
 use Rattle.dp_top.specs.Talk.{Told, judged_by}
 
 -- a fault of the link is one of the network
-abbrev pub judged : Ask → Served → Told
+abbrev pub judged : Invocation → Served → Told
 judged ask served = judged_by failure.Network ask served.outcome served.end
 
 -- it does not use these
@@ -25,7 +25,7 @@ pub record IsApart (old new : Seen) : Type 0 where
 
 -- the session of this key over the program was served so, over a link that was dialled; the
 -- program's own output goes to `out`
-pub record IsServed (served : Served) (address : Address) (key : List ℕ) (ask : Ask)
+pub record IsServed (served : Served) (address : Address) (key : List ℕ) (ask : Invocation)
     (old new : Seen) : Type 0 where
   pub program : Bundle
   pub made : Make old.shelf.files ask.names (Ok program)
@@ -36,7 +36,8 @@ pub record IsServed (served : Served) (address : Address) (key : List ℕ) (ask 
   pub apart : IsApart old new
 
 -- it went well, with this status
-pub record Engages (status : ℕ) (address : Address) (key : List ℕ) (ask : Ask) (old new : Seen)
+pub record Engages (status : ℕ) (address : Address) (key : List ℕ) (ask : Invocation)
+    (old new : Seen)
     : Type 0 where
   pub served : Served
   pub is : IsServed served address key ask old new
@@ -49,26 +50,28 @@ pub record IsIdle (old new : Seen) : Type 0 where
   pub apart : IsApart old new
 
 -- there is no program
-pub record IsUnserved (why : Failure) (name : List ℕ) (ask : Ask) (old new : Seen) : Type 0 where
+pub record IsUnserved (why : Failure) (name : List ℕ) (ask : Invocation)
+    (old new : Seen) : Type 0 where
   pub cause : ProgramError
   pub caused : NoProgram cause old.shelf.files old.shelf.faults new.shelf.faults ask.names
   pub told : IsProgramTold why name ask cause
   pub idle : IsIdle old new
 
 -- the dial failed: the program did not run
-pub record IsUnlinked (address : Address) (ask : Ask) (old new : Seen) : Type 0 where
+pub record IsUnlinked (address : Address) (ask : Invocation) (old new : Seen) : Type 0 where
   pub program : Bundle
   pub made : Make old.shelf.files ask.names (Ok program)
   pub undialled : IsUndialled address old.net new.net
   pub out : IsUntouched (changed old.out new.out)
   pub apart : IsApart old new
 
-abbrev pub IsAlone : Failure → List ℕ → Address → Ask → Seen → Seen → Type 0
+abbrev pub IsAlone : Failure → List ℕ → Address → Invocation → Seen → Seen → Type 0
 IsAlone why name address ask old new =
     (why ≡ failure.Network) × (name ≡ []) × IsUnlinked address ask old new
 
 -- the session was served, and its end is this failure
-pub record EndsSo (why : Failure) (name : List ℕ) (address : Address) (key : List ℕ) (ask : Ask)
+pub record EndsSo (why : Failure) (name : List ℕ) (address : Address) (key : List ℕ)
+    (ask : Invocation)
     (old new : Seen) : Type 0 where
   pub served : Served
   pub is : IsServed served address key ask old new
@@ -86,13 +89,13 @@ pub record IsUnused (address : Address) (old new : Seen) : Type 0 where
 
 -- memory ran out before a link was dialled, before the session began, for the line on a failed
 -- dial, or once it was served
-abbrev pub IsStarved : Address → List ℕ → Ask → Seen → Seen → Type 0
+abbrev pub IsStarved : Address → List ℕ → Invocation → Seen → Seen → Type 0
 IsStarved address key ask old new =
     IsIdle old new ⊎ IsUnused address old new ⊎ IsUnlinked address ask old new
     ⊎ ((served : Served) × IsServed served address key ask old new)
 
 -- why it failed
-abbrev pub EngineFails : Failure → List ℕ → Address → List ℕ → Ask → Seen → Seen → Type 0
+abbrev pub EngineFails : Failure → List ℕ → Address → List ℕ → Invocation → Seen → Seen → Type 0
 EngineFails why name address key ask old new =
     ((why ≡ failure.Memory) × IsStarved address key ask old new)
     ⊎ IsUnserved why name ask old new ⊎ IsAlone why name address ask old new

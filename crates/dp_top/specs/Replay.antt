@@ -14,7 +14,7 @@ use Rattle.dp_world.specs.declared.errors.ReplayError.TheVariants as ends
 use Rattle.dp_world.specs.Replays.{Replays}
 use Rattle.dp_top.specs.declared.failures.Failure.{Failure}
 use Rattle.dp_top.specs.declared.failures.Failure.TheVariants as failure
-use Rattle.dp_words.specs.CommandLine.{Ask}
+use Rattle.dp_words.specs.CommandLine.{Invocation}
 use Rattle.dp_top.specs.Runs.{IsProgramTold}
 
 -- ---- the list of events
@@ -45,7 +45,7 @@ pub record IsNoList (files : Files) (name : List ℕ) (line : ℕ) : Type 0 wher
 -- ---- what it does
 
 -- the list of this name was replayed over the program, and ended so
-pub record IsReplayed (end : Result (Unit {0}) ReplayError) (name : List ℕ) (ask : Ask)
+pub record IsReplayed (end : Result (Unit {0}) ReplayError) (name : List ℕ) (ask : Invocation)
     (files : Files) (out : Change) : Type 0 where
   pub events : List Event
   pub held : IsHeldList files name events
@@ -53,7 +53,7 @@ pub record IsReplayed (end : Result (Unit {0}) ReplayError) (name : List ℕ) (a
   pub made : Make files ask.names (Ok program)
   pub replays : Replays end program ask.bound events out
 
-abbrev pub DoesReplay : ℕ → List ℕ → Ask → Files → Change → Type 0
+abbrev pub DoesReplay : ℕ → List ℕ → Invocation → Files → Change → Type 0
 DoesReplay status events ask files out =
     (status ≡ 0) × IsReplayed (Ok tt) events ask files out
 
@@ -76,7 +76,7 @@ ReadBefore (none.Source file why) files name =
 ReadBefore why files name = Unit {0}
 
 -- there is no program
-pub record IsUnmade (why : Failure) (name events : List ℕ) (ask : Ask) (files : Files)
+pub record IsUnmade (why : Failure) (name events : List ℕ) (ask : Invocation) (files : Files)
     (before after : ℕ) : Type 0 where
   pub cause : ProgramError
   pub caused : NoProgram cause files before after ask.names
@@ -84,20 +84,20 @@ pub record IsUnmade (why : Failure) (name events : List ℕ) (ask : Ask) (files 
   pub told : IsProgramTold why name ask cause
 
 -- the output failed
-pub record IsCutShort (why : Failure) (name events : List ℕ) (ask : Ask) (files : Files)
+pub record IsCutShort (why : Failure) (name events : List ℕ) (ask : Invocation) (files : Files)
     (out : Change) : Type 0 where
   pub is_why : why ≡ failure.Output
   pub is_name : name ≡ []
   pub replayed : IsReplayed (Err ends.OutFault) events ask files out
 
 -- memory ran out before anything was put, or once the list was replayed, to whatever end
-abbrev pub IsStarved : List ℕ → Ask → Files → Change → Type 0
+abbrev pub IsStarved : List ℕ → Invocation → Files → Change → Type 0
 IsStarved events ask files out =
     IsUntouched out
     ⊎ ((end : Result (Unit {0}) ReplayError) × IsReplayed end events ask files out)
 
 -- why it failed
-abbrev pub ReplayFails : Failure → List ℕ → List ℕ → Ask → Files → ℕ → ℕ → Change → Type 0
+abbrev pub ReplayFails : Failure → List ℕ → List ℕ → Invocation → Files → ℕ → ℕ → Change → Type 0
 ReplayFails why name events ask files before after out =
     ((why ≡ failure.Memory) × IsStarved events ask files out)
     ⊎ (Unlisted why name events files before after × IsUntouched out)

@@ -10,7 +10,7 @@ use Rattle.dp_run.specs.Programs.{Files, Told}
 use Rattle.dp_run.specs.Runs.{RunCaused}
 use Rattle.dp_top.specs.declared.failures.Failure.{Failure}
 use Rattle.dp_top.specs.declared.failures.Failure.TheVariants.{TooLong, ShelfFailed, NoFile, Fatal, Bound, Output, Memory}
-use Rattle.dp_words.specs.CommandLine.{Ask}
+use Rattle.dp_words.specs.CommandLine.{Invocation}
 use Rattle.dp_top.specs.Sources.{failure_of as failure_of_source}
 
 -- the name of the file of a number, from 0; nothing where there is none
@@ -35,7 +35,7 @@ program_name names (none.TooLong file) = name_at names file
 program_name names (none.Source file why) = name_at names file
 program_name names none.Memory = []
 
-abbrev pub IsProgramTold : Failure → List ℕ → Ask → ProgramError → Type 0
+abbrev pub IsProgramTold : Failure → List ℕ → Invocation → ProgramError → Type 0
 IsProgramTold failure name ask why =
     (failure ≡ program_failure why) × (name ≡ program_name ask.names why)
 
@@ -45,7 +45,7 @@ AreFetched names before after = (count : ℕ) × (after ≡ grown before (take c
 
 -- Only files of a program that is asked for are fetched. Where no program is asked for nothing is
 -- fetched.
-abbrev pub IsFetched : Option Ask → Told → Told → Type 0
+abbrev pub IsFetched : Option Invocation → Told → Told → Type 0
 IsFetched None before after = after ≡ before
 IsFetched (Some ask) before after = AreFetched ask.names before after
 
@@ -67,18 +67,18 @@ name_told names run.Bound = []
 name_told names run.OutFault = []
 name_told names run.Memory = []
 
-abbrev pub IsRunTold : Failure → List ℕ → Ask → RunError → Type 0
+abbrev pub IsRunTold : Failure → List ℕ → Invocation → RunError → Type 0
 IsRunTold failure name ask why =
     (failure ≡ failure_of ask.bound why) × (name ≡ name_told ask.names why)
 
 -- it is reported so, or memory ran out for its line
-abbrev pub IsToldOrStarved : Failure → List ℕ → Ask → RunError → Type 0
+abbrev pub IsToldOrStarved : Failure → List ℕ → Invocation → RunError → Type 0
 IsToldOrStarved failure name ask why =
     IsRunTold failure name ask why ⊎ ((failure ≡ Memory) × (name ≡ []))
 
 -- why the run failed, as it is reported
 pub record RunFails (failure : Failure) (name : List ℕ) (files : Files) (before after : ℕ)
-    (ask : Ask) (out : Change) : Type 0 where
+    (ask : Invocation) (out : Change) : Type 0 where
   pub why : RunError
   pub caused : RunCaused why files before after ask.names ask.bound out
   pub told : IsToldOrStarved failure name ask why

@@ -14,7 +14,7 @@ use Rattle.dp_serving.specs.Serving.{byte_limit}
 use Rattle.dp_state.specs.declared.moments.Outcome.{Outcome}
 use Rattle.dp_top.specs.declared.failures.Failure.{Failure}
 use Rattle.dp_top.specs.declared.failures.Failure.TheVariants as failure
-use Rattle.dp_words.specs.CommandLine.{Ask}
+use Rattle.dp_words.specs.CommandLine.{Invocation}
 use Rattle.dp_top.specs.Runs.{IsProgramTold, failure_of, name_told}
 use Rattle.dp_top.specs.Seen.{Seen, changed}
 
@@ -28,17 +28,17 @@ abbrev pub unnamed : Failure → Told
 unnamed why = Err (why, [])
 
 -- the end of a run
-abbrev pub end_told : Ask → Result ℕ RunError → Told
+abbrev pub end_told : Invocation → Result ℕ RunError → Told
 end_told ask (Ok status) = Ok status
 end_told ask (Err why) = Err (failure_of ask.bound why, name_told ask.names why)
 
 -- how a program ended; one that did not was stopped
-abbrev pub ended : Ask → Option Outcome → Told
+abbrev pub ended : Invocation → Option Outcome → Told
 ended ask None = unnamed failure.Stopped
 ended ask (Some outcome) = end_told ask (judged_end outcome)
 
 -- how serving a session ended, where a fault of the link's sink is this failure
-abbrev pub judged_by : Failure → Ask → Option Outcome → ServeEnd → Told
+abbrev pub judged_by : Failure → Invocation → Option Outcome → ServeEnd → Told
 judged_by unsent ask outcome Stopped = ended ask outcome
 judged_by unsent ask outcome Detached = ended ask outcome
 judged_by unsent ask outcome LinkEnd = ended ask outcome
@@ -50,20 +50,21 @@ judged_by unsent ask outcome ByteLimit = unnamed (failure.Packet byte_limit)
 judged_by unsent ask outcome Memory = unnamed failure.Memory
 
 -- over the program's own input and output a fault of the link is one of the output
-abbrev pub judged : Ask → Served → Told
+abbrev pub judged : Invocation → Served → Told
 judged ask served = judged_by failure.Output ask served.outcome served.end
 
 -- ---- what it does
 
 -- the session of this key over the program was served so
-pub record IsServed (served : Served) (key : List ℕ) (ask : Ask) (old new : Seen) : Type 0 where
+pub record IsServed (served : Served) (key : List ℕ) (ask : Invocation)
+    (old new : Seen) : Type 0 where
   pub program : Bundle
   pub made : Make old.shelf.files ask.names (Ok program)
   pub serves : Serves served program ask.bound key
       (changed old.input new.input) (changed old.out new.out) (changed old.err new.err)
 
 -- it went well, with this status; the program's own output goes to `err`
-pub record Talks (status : ℕ) (key : List ℕ) (ask : Ask) (old new : Seen) : Type 0 where
+pub record Talks (status : ℕ) (key : List ℕ) (ask : Invocation) (old new : Seen) : Type 0 where
   pub served : Served
   pub is : IsServed served key ask old new
   pub told : judged ask served ≡ Ok status
@@ -79,7 +80,8 @@ AreIdle old new =
     IsIdle (changed old.input new.input) (changed old.out new.out) (changed old.err new.err)
 
 -- there is no program
-pub record IsUnserved (why : Failure) (name : List ℕ) (ask : Ask) (old new : Seen) : Type 0 where
+pub record IsUnserved (why : Failure) (name : List ℕ) (ask : Invocation)
+    (old new : Seen) : Type 0 where
   pub cause : ProgramError
   pub caused : NoProgram cause old.shelf.files old.shelf.faults new.shelf.faults ask.names
   pub told : IsProgramTold why name ask cause
@@ -87,18 +89,19 @@ pub record IsUnserved (why : Failure) (name : List ℕ) (ask : Ask) (old new : S
 
 -- The session was served, and its end is this failure. What `out` and `err` have taken then is said
 -- with each end of serving.
-pub record EndsSo (why : Failure) (name key : List ℕ) (ask : Ask) (old new : Seen) : Type 0 where
+pub record EndsSo (why : Failure) (name key : List ℕ) (ask : Invocation)
+    (old new : Seen) : Type 0 where
   pub served : Served
   pub is : IsServed served key ask old new
   pub told : judged ask served ≡ Err (why, name)
 
 -- memory ran out before the session began, or once it was served, to whatever end
-abbrev pub IsStarved : List ℕ → Ask → Seen → Seen → Type 0
+abbrev pub IsStarved : List ℕ → Invocation → Seen → Seen → Type 0
 IsStarved key ask old new =
     AreIdle old new ⊎ ((served : Served) × IsServed served key ask old new)
 
 -- why it failed
-abbrev pub TalkFails : Failure → List ℕ → List ℕ → Ask → Seen → Seen → Type 0
+abbrev pub TalkFails : Failure → List ℕ → List ℕ → Invocation → Seen → Seen → Type 0
 TalkFails why name key ask old new =
     ((why ≡ failure.Memory) × IsStarved key ask old new)
     ⊎ IsUnserved why name ask old new ⊎ EndsSo why name key ask old new

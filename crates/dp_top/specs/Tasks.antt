@@ -6,7 +6,7 @@ use Rattle.dp_show.specs.declared.errors.ShowError.TheVariants as ends
 use Rattle.dp_show.specs.Shows.{Shows, Ends}
 use Rattle.dp_top.specs.declared.failures.Failure.{Failure}
 use Rattle.dp_top.specs.declared.failures.Failure.TheVariants.{TooLong, Source, ShelfFailed, NoFile, Fatal, Bound, Output, Script, Differs, PeerEnd, Packet, Network, Stopped, Memory}
-use Rattle.dp_words.specs.CommandLine.{Task, run, talk, engine, ide, replay, show, Asks, ask_in}
+use Rattle.dp_words.specs.CommandLine.{Task, run, talk, engine, ide, replay, show, IsInvocation, invocation_in}
 use Rattle.dp_top.specs.Engine.{Engages, EngineFails}
 use Rattle.dp_top.specs.Ide.{Plays, IdeFails}
 use Rattle.dp_top.specs.Replay.{DoesReplay, ReplayFails}
@@ -91,7 +91,7 @@ Caused failure name show old new =
 abbrev pub IsFetchedFor : Task → Told → Told → Type 0
 IsFetchedFor (ide port script) before after = AreFetched (script ∷ []) before after
 IsFetchedFor (replay events ask) before after = AreFetched (events ∷ ask.names) before after
-IsFetchedFor task before after = IsFetched (ask_in task) before after
+IsFetchedFor task before after = IsFetched (invocation_in task) before after
 
 -- ---- the answers
 
@@ -109,7 +109,7 @@ before_line new err =
 -- A status is that of a failure: it has its cause, and then its line is said.
 pub record Fails (status : ℕ) (words : List (List ℕ)) (old new : Seen) : Type 0 where
   pub task : Task
-  pub asks : Asks words task
+  pub asks : IsInvocation words task
   pub failure : Failure
   pub name : List ℕ
   pub is_status : status ≡ status_of failure
@@ -121,7 +121,7 @@ pub record Fails (status : ℕ) (words : List (List ℕ)) (old new : Seen) : Typ
 -- The words are in their grammar, and what they ask for went well, with this status.
 pub record IsDone (status : ℕ) (words : List (List ℕ)) (old new : Seen) : Type 0 where
   pub task : Task
-  pub asks : Asks words task
+  pub asks : IsInvocation words task
   pub does : Does status task old new
 
 -- Memory ran out as the words were read: that is said, and nothing else was done.

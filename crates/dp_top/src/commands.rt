@@ -2,7 +2,7 @@
 ghost use Rattle.std.specs.Prelude.{◌≡◌, ◌≤◌, ℕ, List, [], Ok, Some, IfOk, MatchResult};
 ghost use Rattle.dp_outside.specs.Changes.{change};
 ghost use Rattle.dp_show.specs.Shows.{Shows};
-ghost use Rattle.dp_words.specs.CommandLine.{Ask, Task, Asks, ask_in};
+ghost use Rattle.dp_words.specs.CommandLine.{Invocation, Task, IsInvocation, invocation_in};
 ghost use Rattle.dp_words.specs.Commands.{task_of};
 ghost use Rattle.dp_top.specs.inner.Held.{AreHeld, AreHeldWith};
 ghost use Rattle.dp_top.specs.inner.Kept.{Continues, GoesOn};
@@ -63,7 +63,7 @@ pub(crate) fn carry_out<'a, R: Wait + Sync, H: Shelf, S: Source, K: Sink, E: Sin
     command: Command<'a>,
     objects: &mut Objects<H, S, K, E, N>,
 ) -> Result<u8, Refused<'a>>
-    requires asked { (words : List (List ℕ)) × Asks words (task_of command) }
+    requires asked { (words : List (List ℕ)) × IsInvocation words (task_of command) }
 
     ensures ends { MatchResult result
         (λ status. Does status (task_of command.entry) objects.old.seen objects.new.seen)
@@ -71,14 +71,15 @@ pub(crate) fn carry_out<'a, R: Wait + Sync, H: Shelf, S: Source, K: Sink, E: Sin
         objects.old.seen objects.new.seen) }
     ensures status { IfOk result (λ status. status ≤ 199) }
     // Files that make a program are no bad source, and those that make none are one, unless the shelf failed.
-    ensures held { (ask : Ask) → ask_in (task_of command.entry) ≡ Some ask
+    ensures held { (ask : Invocation) → invocation_in (task_of command.entry) ≡ Some ask
         → AreHeld ask result objects.old.seen objects.new.seen }
     // Likewise of a list of events, where it is one.
-    ensures replay_held { (events : List ℕ) (ask : Ask) → task_of command.entry ≡ Task.replay events ask
+    ensures replay_held { (events : List ℕ) (ask : Invocation) → task_of command.entry ≡ Task.replay events ask
         → AreHeldWith events ask result objects.old.seen objects.new.seen }
     ensures show_shelf { task_of command.entry ≡ Task.show
         → objects.new.seen.shelf.faults ≡ objects.old.seen.shelf.faults }
-    ensures fetched { IsFetchedFor (task_of command.entry) objects.old.seen.shelf.fetched objects.new.seen.shelf.fetched }
+    ensures fetched { IsFetchedFor (task_of command.entry) objects.old.seen.shelf.fetched
+        objects.new.seen.shelf.fetched }
     ensures goes_on { GoesOn objects.old objects.new }
 {
     match command {
@@ -102,7 +103,7 @@ pub(crate) fn carry_out_on<'a, R: Wait + Sync, H: Shelf, S: Source, K: Sink, E: 
     err: &mut E,
     net: &mut N,
 ) -> Result<u8, Refused<'a>>
-    requires asked { (words : List (List ℕ)) × Asks words (task_of command) }
+    requires asked { (words : List (List ℕ)) × IsInvocation words (task_of command) }
 
     ensures ends { MatchResult result
         (λ status. Does status (task_of command.entry) (seen H.Shelf S.Source K.Sink E.Sink N.Dialer N.shut_doors
@@ -113,12 +114,12 @@ pub(crate) fn carry_out_on<'a, R: Wait + Sync, H: Shelf, S: Source, K: Sink, E: 
         (seen H.Shelf S.Source K.Sink E.Sink N.Dialer N.shut_doors shelf.new input.new out.new err.new net.new)) }
     ensures status { IfOk result (λ status. status ≤ 199) }
     // Files that make a program are no bad source, and those that make none are one, unless the shelf failed.
-    ensures held { (ask : Ask) → ask_in (task_of command.entry) ≡ Some ask
+    ensures held { (ask : Invocation) → invocation_in (task_of command.entry) ≡ Some ask
         → AreHeld ask result (seen H.Shelf S.Source K.Sink E.Sink N.Dialer N.shut_doors shelf.old input.old out.old
         err.old net.old)
         (seen H.Shelf S.Source K.Sink E.Sink N.Dialer N.shut_doors shelf.new input.new out.new err.new net.new) }
     // Likewise of a list of events, where it is one.
-    ensures replay_held { (events : List ℕ) (ask : Ask) → task_of command.entry ≡ Task.replay events ask
+    ensures replay_held { (events : List ℕ) (ask : Invocation) → task_of command.entry ≡ Task.replay events ask
         → AreHeldWith events ask result (seen H.Shelf S.Source K.Sink E.Sink N.Dialer N.shut_doors shelf.old input.old
         out.old err.old net.old)
         (seen H.Shelf S.Source K.Sink E.Sink N.Dialer N.shut_doors shelf.new input.new out.new err.new net.new) }

@@ -4,8 +4,8 @@ use dp_outside::{Net, Shelf, Sink, Source};
 use std::marker::Model;
 
 /// The objects of the outside that a command is lent, each behind a lifetime of its own. Contracts see what they tell,
-/// how often each has failed, and which objects they are: by that the function that made the record, and takes it apart,
-/// knows what became of each.
+/// how often each has failed, and which objects they are: by that the function that made the record, and takes it
+/// apart, knows what became of each.
 #[derive(Drop)]
 pub(crate) struct Objects<'h, 's, 'k, 'e, 'n, H: Shelf, S: Source, K: Sink, E: Sink, N: Net> {
     pub(crate) shelf: &'h mut H,

@@ -10,7 +10,7 @@ ghost use Rattle.dp_run.specs.Programs.{Holds};
 ghost use Rattle.dp_tree.specs.declared.bundle.Bundle.{Bundle as Made};
 ghost use Rattle.dp_tree.specs.FileNames.{AreFileNames};
 ghost use Rattle.dp_words.specs.CommandLine.{AreFileWords};
-ghost use Rattle.dp_words.specs.Commands.{ask_told};
+ghost use Rattle.dp_words.specs.Commands.{invocation_seen};
 ghost use Rattle.dp_top.specs.Replay.{IsHeldList, list_limit};
 ghost use Rattle.dp_top.specs.Runs.{AreFetched};
 ghost use Rattle.dp_top.specs.inner.Held.{IsHeld};
@@ -122,9 +122,11 @@ fn replay_fetched<'a, K: Sink>(
     out: &mut K,
 ) -> Result<u8, Refused<'a>>
     requires { AreForBundle fetched }
-    ensures ends { EndsFetched result request.entry.events.now content.now fetched (ask_told request.entry.program)
+    ensures ends { EndsFetched result request.entry.events.now content.now fetched
+        (invocation_seen request.entry.program)
         (change K.taken K.faults out.old out.new) }
-    ensures held { HeldFetched result request.entry.events.now content.now fetched (ask_told request.entry.program) }
+    ensures held { HeldFetched result request.entry.events.now content.now fetched
+        (invocation_seen request.entry.program) }
     ensures out_later { K.faults out.old ≤ K.faults out.new }
 {
     let events = match list_in(alloc, content) {
@@ -151,15 +153,17 @@ pub(crate) fn replay<'a, H: Shelf, K: Sink>(
     shelf: &mut H,
     out: &mut K,
 ) -> Result<u8, Refused<'a>>
-    requires { AreFileWords (ask_told request.program).names }
-    ensures ends { EndsReplay result request.entry.events.now (ask_told request.entry.program) (H.files shelf.old)
+    requires { AreFileWords (invocation_seen request.program).names }
+    ensures ends { EndsReplay result request.entry.events.now (invocation_seen request.entry.program)
+        (H.files shelf.old)
         (H.faults shelf.old) (H.faults shelf.new) (change K.taken K.faults out.old out.new) }
     ensures status { IfOk result (λ status. status ≤ 199) }
     // Files that make a program are no bad source, and those that make none are one, unless the shelf failed.
-    ensures held { (asked : Result Made Unmade) → Holds (H.files shelf.old) (ask_told request.entry.program).names asked
+    ensures held { (asked : Result Made Unmade)
+        → Holds (H.files shelf.old) (invocation_seen request.entry.program).names asked
         → (list : List Event) → IsHeldList (H.files shelf.old) request.entry.events.now list
         → IsHeld asked result (H.faults shelf.old) (H.faults shelf.new) }
-    ensures fetched { AreFetched (request.entry.events.now ∷ (ask_told request.entry.program).names)
+    ensures fetched { AreFetched (request.entry.events.now ∷ (invocation_seen request.entry.program).names)
         (H.fetched shelf.old) (H.fetched shelf.new) }
     ensures files { H.files shelf.new ≡ H.files shelf.old }
     ensures shelf_later { H.faults shelf.old ≤ H.faults shelf.new }

@@ -6,7 +6,7 @@ ghost use Rattle.dp_bundle.specs.declared.errors.BundleError.{BundleError as Unm
 ghost use Rattle.dp_run.specs.Programs.{Holds};
 ghost use Rattle.dp_run.specs.Runs.{Runs};
 ghost use Rattle.dp_words.specs.CommandLine.{AreFileWords};
-ghost use Rattle.dp_words.specs.Commands.{ask_told};
+ghost use Rattle.dp_words.specs.Commands.{invocation_seen};
 ghost use Rattle.dp_top.specs.Runs.{IsFetched, IsProgramTold, IsRunTold, failure_of, name_at as name_in, name_told};
 ghost use Rattle.dp_top.specs.Runs.{program_failure, program_name, RunFails};
 ghost use Rattle.dp_top.specs.inner.Held.{IsHeld};
@@ -55,7 +55,7 @@ fn program_name<'a>(names: &'a [String], why: &ProgramError) -> &'a [u8]
 
 /// What is reported of files that make no program.
 pub(crate) fn told_of_files<'a>(program: Program<'a>, why: ProgramError) -> Refused<'a>
-    ensures { IsProgramTold result.failure result.name.now (ask_told program.entry) why }
+    ensures { IsProgramTold result.failure result.name.now (invocation_seen program.entry) why }
 {
     Refused {
         failure: program_failure(&why),
@@ -102,7 +102,7 @@ fn name_told<'a>(names: &'a [String], why: &RunError) -> &'a [u8]
 
 /// What is reported of the end of a run.
 pub(crate) fn told<'a>(program: Program<'a>, why: &RunError) -> Refused<'a>
-    ensures { IsRunTold result.failure result.name.now (ask_told program.entry) why.now }
+    ensures { IsRunTold result.failure result.name.now (invocation_seen program.entry) why.now }
 {
     Refused {
         failure: failure_of(program.bound, why),
@@ -117,16 +117,17 @@ pub(crate) fn run<'a, H: Shelf, K: Sink>(
     shelf: &mut H,
     out: &mut K,
 ) -> Result<u8, Refused<'a>>
-    requires { AreFileWords (ask_told program).names }
+    requires { AreFileWords (invocation_seen program).names }
     ensures ends { MatchResult result
-        (λ status. Runs status (H.files shelf.old) (ask_told program.entry).names program.entry.bound
+        (λ status. Runs status (H.files shelf.old) (invocation_seen program.entry).names program.entry.bound
         (change K.taken K.faults out.old out.new))
         (λ why. RunFails why.failure why.name.now (H.files shelf.old) (H.faults shelf.old) (H.faults shelf.new)
-        (ask_told program.entry) (change K.taken K.faults out.old out.new)) }
+        (invocation_seen program.entry) (change K.taken K.faults out.old out.new)) }
     ensures status { IfOk result (λ status. status ≤ 199) }
-    ensures held { (asked : Result Bundle Unmade) → Holds (H.files shelf.old) (ask_told program.entry).names asked
+    ensures held { (asked : Result Bundle Unmade)
+        → Holds (H.files shelf.old) (invocation_seen program.entry).names asked
         → IsHeld asked result (H.faults shelf.old) (H.faults shelf.new) }
-    ensures fetched { IsFetched (Some (ask_told program.entry)) (H.fetched shelf.old) (H.fetched shelf.new) }
+    ensures fetched { IsFetched (Some (invocation_seen program.entry)) (H.fetched shelf.old) (H.fetched shelf.new) }
     ensures shelf_later { H.faults shelf.old ≤ H.faults shelf.new }
     ensures files { H.files shelf.new ≡ H.files shelf.old }
     ensures out_later { K.faults out.old ≤ K.faults out.new }

@@ -3,7 +3,7 @@ ghost use Rattle.std.specs.Prelude.{◌≡◌, ◌<◌, ◌≤◌, ℕ, Ok, map,
 ghost use Rattle.dp_outside.specs.Changes.{change};
 ghost use Rattle.dp_tree.specs.declared.bundle.Bundle.{Bundle as Made};
 ghost use Rattle.dp_words.specs.CommandLine.{IsSession};
-ghost use Rattle.dp_words.specs.Commands.{ask_told};
+ghost use Rattle.dp_words.specs.Commands.{invocation_seen};
 ghost use Rattle.dp_top.specs.inner.Held.{IsGood, IsHeld};
 ghost use Rattle.dp_top.specs.Talk.{ended, judged_by};
 ghost use Rattle.dp_top.specs.inner.Sessions.{ServedSo, UnservedSo, told_in};
@@ -21,7 +21,7 @@ use std::sync::ledger::{Blank, Ledger};
 
 // What the end of a program says of the command; a program that has none was stopped.
 fn judge_end<'a>(program: Program<'a>, outcome: Option<Outcome>) -> Result<u8, Refused<'a>>
-    ensures { told_in result ≡ ended (ask_told program.entry) outcome }
+    ensures { told_in result ≡ ended (invocation_seen program.entry) outcome }
 {
     match outcome {
         None => Err(Refused::unnamed(Failure::Stopped)),
@@ -34,7 +34,7 @@ fn judge_end<'a>(program: Program<'a>, outcome: Option<Outcome>) -> Result<u8, R
 
 // What the end of a session says of the command; a fault of the link's sink is this failure.
 fn judge<'a>(program: Program<'a>, unsent: Failure, served: Served) -> Result<u8, Refused<'a>>
-    ensures { told_in result ≡ judged_by unsent (ask_told program.entry) served.outcome served.end }
+    ensures { told_in result ≡ judged_by unsent (invocation_seen program.entry) served.outcome served.end }
 {
     if let ServeEnd::WriteFault = served.end {
         return Err(Refused::unnamed(unsent));
@@ -71,14 +71,14 @@ pub(crate) fn serve_program<'a, S: Source, K: Sink, E: Sink, L: Ledger>(
     requires parts { blank.parts ≡ L.parts }
     requires some { 0 < blank.parts }
     requires good { IsGood unsent }
-    requires session { IsSession request.key.now (ask_told request.program) }
-    requires named { map (λ file. file.name) bundle.now.files ≡ (ask_told request.program).names }
+    requires session { IsSession request.key.now (invocation_seen request.program) }
+    requires named { map (λ file. file.name) bundle.now.files ≡ (invocation_seen request.program).names }
     ensures ends { MatchResult result
-        (λ status. ServedSo unsent status bundle.now request.entry.key.now (ask_told request.entry.program)
+        (λ status. ServedSo unsent status bundle.now request.entry.key.now (invocation_seen request.entry.program)
         (change S.left S.faults input.old input.new) (change K.taken K.faults out.old out.new)
         (change E.taken E.faults err.old err.new))
         (λ why. UnservedSo unsent why.failure why.name.now bundle.now request.entry.key.now
-        (ask_told request.entry.program)
+        (invocation_seen request.entry.program)
         (change S.left S.faults input.old input.new) (change K.taken K.faults out.old out.new)
         (change E.taken E.faults err.old err.new)) }
     ensures status { IfOk result (λ status. status ≤ 199) }

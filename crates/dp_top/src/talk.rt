@@ -1,7 +1,7 @@
 //! The command `talk`: one session over the program's own input and output.
 ghost use Rattle.std.specs.Prelude.{◌≡◌, ◌≤◌, Some, IfOk, MatchResult};
 ghost use Rattle.dp_words.specs.CommandLine.{IsSession};
-ghost use Rattle.dp_words.specs.Commands.{ask_told};
+ghost use Rattle.dp_words.specs.Commands.{invocation_seen};
 ghost use Rattle.dp_top.specs.Runs.{IsFetched};
 ghost use Rattle.dp_top.specs.inner.Held.{AreHeld};
 ghost use Rattle.dp_top.specs.inner.Kept.{GoesOn};
@@ -24,16 +24,16 @@ pub(crate) fn talk<'a, H: Shelf, S: Source, K: Sink, E: Sink, N: Net>(
     request: Talk<'a>,
     objects: &mut Objects<H, S, K, E, N>,
 ) -> Result<u8, Refused<'a>>
-    requires { IsSession request.key.now (ask_told request.program) }
+    requires { IsSession request.key.now (invocation_seen request.program) }
     ensures ends { MatchResult result
-        (λ status. Talks status request.entry.key.now (ask_told request.entry.program)
+        (λ status. Talks status request.entry.key.now (invocation_seen request.entry.program)
         objects.old.seen objects.new.seen)
-        (λ why. TalkFails why.failure why.name.now request.entry.key.now (ask_told request.entry.program)
+        (λ why. TalkFails why.failure why.name.now request.entry.key.now (invocation_seen request.entry.program)
         objects.old.seen objects.new.seen) }
     ensures status { IfOk result (λ status. status ≤ 199) }
     // Files that make a program are no bad source, and those that make none are one, unless the shelf failed.
-    ensures held { AreHeld (ask_told request.entry.program) result objects.old.seen objects.new.seen }
-    ensures fetched { IsFetched (Some (ask_told request.entry.program)) objects.old.seen.shelf.fetched
+    ensures held { AreHeld (invocation_seen request.entry.program) result objects.old.seen objects.new.seen }
+    ensures fetched { IsFetched (Some (invocation_seen request.entry.program)) objects.old.seen.shelf.fetched
         objects.new.seen.shelf.fetched }
     ensures offline { objects.new.seen.net ≡ objects.old.seen.net }
     ensures goes_on { GoesOn objects.old objects.new }

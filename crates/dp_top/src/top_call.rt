@@ -5,8 +5,9 @@ ghost use Rattle.dp_outside.specs.Causes.{Rose};
 ghost use Rattle.dp_outside.specs.Changes.{change, IsUntouched};
 ghost use Rattle.dp_tree.specs.declared.bundle.Bundle.{Bundle};
 ghost use Rattle.dp_bundle.specs.declared.errors.BundleError.{BundleError};
-ghost use Rattle.dp_words.specs.CommandLine.{Address, Ask, IsEngine, IsIde, IsReplay, IsRun, IsTalk, Task, Asks};
-ghost use Rattle.dp_words.specs.CommandLine.{ask_in, uses_net};
+ghost use Rattle.dp_words.specs.CommandLine.{Address, Invocation, IsEngine, IsIde, IsReplay, IsRun, IsTalk, Task};
+ghost use Rattle.dp_words.specs.CommandLine.{IsInvocation};
+ghost use Rattle.dp_words.specs.CommandLine.{invocation_in, uses_net};
 ghost use Rattle.dp_top.specs.Failures.{Says};
 ghost use Rattle.dp_run.specs.Programs.{Holds};
 ghost use Rattle.dp_ide.specs.declared.instruction.Instruction.{Instruction};
@@ -27,11 +28,12 @@ use std::sync::Wait;
 ///
 /// `words` are the command line without the program's name: `run [--bound N] FILE..` runs the program of the files, of
 /// which the first is the main one, and puts its output on `out`; `talk [--bound N] KEY FILE..` serves a session of KEY
-/// over the program, with `input` and `out` as the link, and the program's own output on `err`; `engine [--bound N] HOST PORT
-/// KEY FILE..` serves one over a link that `net` dials, with the program's own output on `out`; `ide PORT SCRIPT` plays the
-/// script over the link that an engine makes to the port, and what it prints goes to `out`; `replay [--bound N] EVENTS FILE..`
-/// writes the transcript of the list of events on `out`, with engines in memory that run the program; `show` reads framed
-/// packets from `input` and prints the element of each on `out`, in canonical text with a line feed.
+/// over the program, with `input` and `out` as the link, and the program's own output on `err`; `engine [--bound N]
+/// HOST PORT KEY FILE..` serves one over a link that `net` dials, with the program's own output on `out`; `ide PORT
+/// SCRIPT` plays the script over the link that an engine makes to the port, and what it prints goes to `out`; `replay
+/// [--bound N] EVENTS FILE..` writes the transcript of the list of events on `out`, with engines in memory that run the
+/// program; `show` reads framed packets from `input` and prints the element of each on `out`, in canonical text with a
+/// line feed.
 ///
 /// | status | comes | line on `err` |
 /// |---|---|---|
@@ -49,8 +51,8 @@ use std::sync::Wait;
 /// | 210 | a command stopped the program before its end | `stopped by the IDE` |
 /// | 255 | the program could not go on, or would have had more moments than N | `fatal KIND in NAME on line N`, `bound reached after N steps` |
 ///
-/// It waits in the calls of `input`, of a gate and of a link alone. `show` does not use the shelf, nor `run`, `engine`, `ide` and
-/// `replay` the input; `net` is used by `engine` and `ide` alone, and `spawner` is not used.
+/// It waits in the calls of `input`, of a gate and of a link alone. `show` does not use the shelf, nor `run`, `engine`,
+/// `ide` and `replay` the input; `net` is used by `engine` and `ide` alone, and `spawner` is not used.
 pub fn top<R: Wait + Sync, H: Shelf, S: Source, K: Sink, E: Sink, N: Net, P: Spawner>(
     rt: &R,
     alloc: Global,
@@ -62,9 +64,9 @@ pub fn top<R: Wait + Sync, H: Shelf, S: Source, K: Sink, E: Sink, N: Net, P: Spa
     net: &mut N,
     spawner: &mut P,
 ) -> u8
-    ensures usage { result ≡ 200 → (task : Task) → Asks (map string_bytes words.now) task → ⊥ }
+    ensures usage { result ≡ 200 → (task : Task) → IsInvocation (map string_bytes words.now) task → ⊥ }
     // Words that ask for nothing are reported, unless memory ran out as they were read.
-    ensures usage_only { ((task : Task) → Asks (map string_bytes words.now) task → ⊥)
+    ensures usage_only { ((task : Task) → IsInvocation (map string_bytes words.now) task → ⊥)
         → (result ≡ 200) ⊎ (result ≡ 209) }
     ensures usage_told { result ≡ 200 → Says (change E.taken E.faults err.old err.new) (codes "usage\n") }
     ensures usage_input { result ≡ 200 → IsUntouched (change S.left S.faults input.old input.new) }
@@ -84,23 +86,24 @@ pub fn top<R: Wait + Sync, H: Shelf, S: Source, K: Sink, E: Sink, N: Net, P: Spa
         net.old)
         (seen H.Shelf S.Source K.Sink E.Sink N.Dialer N.shut_doors shelf.new input.new out.new err.new net.new) }
 
-    // Where the shelf tells the files, they make a program, and no count rose, it is run to its end, and all that it wrote
-    // is put.
-    ensures complete_run { (ask : Ask) (program : Bundle) → IsRun (map string_bytes words.now) ask
+    // Where the shelf tells the files, they make a program, and no count rose, it is run to its end, and all that it
+    // wrote is put.
+    ensures complete_run { (ask : Invocation) (program : Bundle) → IsRun (map string_bytes words.now) ask
         → Holds (H.files shelf.old) ask.names (Ok program)
         → NoneRose (seen H.Shelf S.Source K.Sink E.Sink N.Dialer N.shut_doors shelf.old input.old out.old err.old
         net.old)
         (seen H.Shelf S.Source K.Sink E.Sink N.Dialer N.shut_doors shelf.new input.new out.new err.new net.new)
         → (result ≤ 199) ⊎ (result ≡ 255) ⊎ (result ≡ 209) }
     // Likewise the session is served whole, or what is no command is reported.
-    ensures complete_talk { (key : List ℕ) (ask : Ask) (program : Bundle) → IsTalk (map string_bytes words.now) key ask
+    ensures complete_talk { (key : List ℕ) (ask : Invocation) (program : Bundle)
+        → IsTalk (map string_bytes words.now) key ask
         → Holds (H.files shelf.old) ask.names (Ok program)
         → NoneRose (seen H.Shelf S.Source K.Sink E.Sink N.Dialer N.shut_doors shelf.old input.old out.old err.old
         net.old)
         (seen H.Shelf S.Source K.Sink E.Sink N.Dialer N.shut_doors shelf.new input.new out.new err.new net.new)
         → (result ≤ 199) ⊎ (result ≡ 207) ⊎ (result ≡ 210) ⊎ (result ≡ 255) ⊎ (result ≡ 209) }
     // Likewise over a link that was dialled.
-    ensures complete_engine { (address : Address) (key : List ℕ) (ask : Ask) (program : Bundle)
+    ensures complete_engine { (address : Address) (key : List ℕ) (ask : Invocation) (program : Bundle)
         → IsEngine (map string_bytes words.now) address key ask
         → Holds (H.files shelf.old) ask.names (Ok program)
         → NoneRose (seen H.Shelf S.Source K.Sink E.Sink N.Dialer N.shut_doors shelf.old input.old out.old err.old
@@ -108,26 +111,28 @@ pub fn top<R: Wait + Sync, H: Shelf, S: Source, K: Sink, E: Sink, N: Net, P: Spa
         (seen H.Shelf S.Source K.Sink E.Sink N.Dialer N.shut_doors shelf.new input.new out.new err.new net.new)
         → (result ≤ 199) ⊎ (result ≡ 207) ⊎ (result ≡ 210) ⊎ (result ≡ 255) ⊎ (result ≡ 209) }
     // Where they make none, that is reported, unless the shelf fails first.
-    ensures refused { (task : Task) (ask : Ask) (why : BundleError) → Asks (map string_bytes words.now) task
-        → ask_in task ≡ Some ask
+    ensures refused { (task : Task) (ask : Invocation) (why : BundleError)
+        → IsInvocation (map string_bytes words.now) task
+        → invocation_in task ≡ Some ask
         → Holds (H.files shelf.old) ask.names (Err why)
         → (result ≡ 201) ⊎ (result ≡ 209) ⊎ Rose (H.faults shelf.old) (H.faults shelf.new) }
     // Where no count rose, every packet is shown, or the input ended inside one, or what is no packet is reported.
-    ensures complete_show { Asks (map string_bytes words.now) Task.show
+    ensures complete_show { IsInvocation (map string_bytes words.now) Task.show
         → NoneRose (seen H.Shelf S.Source K.Sink E.Sink N.Dialer N.shut_doors shelf.old input.old out.old err.old
         net.old)
         (seen H.Shelf S.Source K.Sink E.Sink N.Dialer N.shut_doors shelf.new input.new out.new err.new net.new)
         → (result ≡ 0) ⊎ (result ≡ 206) ⊎ (result ≡ 207) ⊎ (result ≡ 209) }
 
-    // A file that is no script is reported at its first line that is none, or at line 0 where it is too long, unless the shelf fails.
+    // A file that is no script is reported at its first line that is none, or at line 0 where it is too long, unless
+    // the shelf fails.
     ensures script_refused { (port line : ℕ) (script : List ℕ) → IsIde (map string_bytes words.now) port script
         → IsSome (H.files shelf.old) → IsNoScript (H.files shelf.old) script line
         → (result ≡ 204) ⊎ (result ≡ 209) ⊎ Rose (H.faults shelf.old) (H.faults shelf.new) }
     ensures script_held { (port : ℕ) (script : List ℕ) (instructions : List Instruction)
         → IsIde (map string_bytes words.now) port script
         → IsSome (H.files shelf.old) → IsHeldScript (H.files shelf.old) script instructions → result ≡ 204 → ⊥ }
-    // Where it is one, and no count rose, the script is played to its end, or what differs, the link's end or what is no packet
-    // is reported.
+    // Where it is one, and no count rose, the script is played to its end, or what differs, the link's end or what is
+    // no packet is reported.
     ensures complete_ide { (port : ℕ) (script : List ℕ) (instructions : List Instruction)
         → IsIde (map string_bytes words.now) port script
         → IsSome (H.files shelf.old) → IsHeldScript (H.files shelf.old) script instructions
@@ -136,22 +141,22 @@ pub fn top<R: Wait + Sync, H: Shelf, S: Source, K: Sink, E: Sink, N: Net, P: Spa
         (seen H.Shelf S.Source K.Sink E.Sink N.Dialer N.shut_doors shelf.new input.new out.new err.new net.new)
         → (result ≡ 0) ⊎ (result ≡ 205) ⊎ (result ≡ 206) ⊎ (result ≡ 207) ⊎ (result ≡ 209) }
 
-    // A file that is no list of events is reported at its first line that adds nothing, or at line 0 where it is too long, unless the
-    // shelf fails or lacks a file of the program.
-    ensures list_refused { (events : List ℕ) (ask : Ask) (line : ℕ) (made : Result Bundle BundleError)
+    // A file that is no list of events is reported at its first line that adds nothing, or at line 0 where it is too
+    // long, unless the shelf fails or lacks a file of the program.
+    ensures list_refused { (events : List ℕ) (ask : Invocation) (line : ℕ) (made : Result Bundle BundleError)
         → IsReplay (map string_bytes words.now) events ask → IsNoList (H.files shelf.old) events line
         → Holds (H.files shelf.old) ask.names made
         → (result ≡ 204) ⊎ (result ≡ 209) ⊎ Rose (H.faults shelf.old) (H.faults shelf.new) }
-    ensures list_held { (events : List ℕ) (ask : Ask) (list : List Event)
+    ensures list_held { (events : List ℕ) (ask : Invocation) (list : List Event)
         → IsReplay (map string_bytes words.now) events ask
         → IsSome (H.files shelf.old) → IsHeldList (H.files shelf.old) events list → result ≡ 204 → ⊥ }
     // Where it is one, files that make no program are reported, unless the shelf fails first.
-    ensures replay_refused { (events : List ℕ) (ask : Ask) (list : List Event) (why : BundleError)
+    ensures replay_refused { (events : List ℕ) (ask : Invocation) (list : List Event) (why : BundleError)
         → IsReplay (map string_bytes words.now) events ask → IsHeldList (H.files shelf.old) events list
         → Holds (H.files shelf.old) ask.names (Err why)
         → (result ≡ 201) ⊎ (result ≡ 209) ⊎ Rose (H.faults shelf.old) (H.faults shelf.new) }
     // Where they make one, and no count rose, the whole transcript is put.
-    ensures complete_replay { (events : List ℕ) (ask : Ask) (list : List Event) (program : Bundle)
+    ensures complete_replay { (events : List ℕ) (ask : Invocation) (list : List Event) (program : Bundle)
         → IsReplay (map string_bytes words.now) events ask → IsHeldList (H.files shelf.old) events list
         → Holds (H.files shelf.old) ask.names (Ok program)
         → NoneRose (seen H.Shelf S.Source K.Sink E.Sink N.Dialer N.shut_doors shelf.old input.old out.old err.old
@@ -159,13 +164,13 @@ pub fn top<R: Wait + Sync, H: Shelf, S: Source, K: Sink, E: Sink, N: Net, P: Spa
         (seen H.Shelf S.Source K.Sink E.Sink N.Dialer N.shut_doors shelf.new input.new out.new err.new net.new)
         → (result ≡ 0) ⊎ (result ≡ 209) }
 
-    ensures show_shelf { Asks (map string_bytes words.now) Task.show → H.faults shelf.new ≡ H.faults shelf.old }
+    ensures show_shelf { IsInvocation (map string_bytes words.now) Task.show → H.faults shelf.new ≡ H.faults shelf.old }
     // Only files that the words name are fetched, each once, in their order; for `show` none.
-    ensures fetched { (task : Task) → Asks (map string_bytes words.now) task
+    ensures fetched { (task : Task) → IsInvocation (map string_bytes words.now) task
         → IsFetchedFor task (H.fetched shelf.old) (H.fetched shelf.new) }
     ensures files { H.files shelf.new ≡ H.files shelf.old }
     // The network is used by `engine` and `ide` alone.
-    ensures offline { (task : Task) → Asks (map string_bytes words.now) task → uses_net task ≡ false
+    ensures offline { (task : Task) → IsInvocation (map string_bytes words.now) task → uses_net task ≡ false
         → net_seen N.Dialer N.shut_doors net.new ≡ net_seen N.Dialer N.shut_doors net.old }
     ensures net_later { N.faults net.old ≤ N.faults net.new }
     ensures returned_later { N.returned net.old ≤ N.returned net.new }

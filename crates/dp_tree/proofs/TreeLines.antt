@@ -22,20 +22,26 @@ joined f all = flat_map-map (λ lines. lines) f all
 pub block_lines : (all : List Statement) (first : ℕ) → kind_lines (tree.Block all) first ≡ body_lines all
 block_lines all first =
     ap (λ k. kind_lines k first) (sym (tree.rolls-Block all))
-    ∙ ap (λ lines. lines first) (fold-roll-StatementKind LinesFrom Lines Lines kind_layer arm_layer statement_layer (StatementKind-F.Block all))
+    ∙ ap (λ lines. lines first) (fold-roll-StatementKind LinesFrom Lines Lines kind_layer arm_layer statement_layer
+    (StatementKind-F.Block all))
     ∙ joined lines_of all
 
-pub if_lines : (arms : List Arm) (otherwise : Option Statement) (first : ℕ) → kind_lines (tree.If arms otherwise) first ≡ flat_map arm_lines arms ++ option_map_or lines_of otherwise []
+pub if_lines : (arms : List Arm) (otherwise : Option Statement) (first : ℕ)
+    → kind_lines (tree.If arms otherwise) first ≡ flat_map arm_lines arms ++ option_map_or lines_of otherwise []
 if_lines arms None first =
     ap (λ k. kind_lines k first) (sym (tree.rolls-If arms None))
-    ∙ ap (λ lines. lines first) (fold-roll-StatementKind LinesFrom Lines Lines kind_layer arm_layer statement_layer (StatementKind-F.If arms None))
+    ∙ ap (λ lines. lines first) (fold-roll-StatementKind LinesFrom Lines Lines kind_layer arm_layer statement_layer
+    (StatementKind-F.If arms None))
     ∙ ap (λ lines. lines ++ []) (joined arm_lines arms)
 if_lines arms (Some s) first =
     ap (λ k. kind_lines k first) (sym (tree.rolls-If arms (Some s)))
-    ∙ ap (λ lines. lines first) (fold-roll-StatementKind LinesFrom Lines Lines kind_layer arm_layer statement_layer (StatementKind-F.If arms (Some s)))
+    ∙ ap (λ lines. lines first) (fold-roll-StatementKind LinesFrom Lines Lines kind_layer arm_layer statement_layer
+    (StatementKind-F.If arms (Some s)))
     ∙ ap (λ lines. lines ++ lines_of s) (joined arm_lines arms)
 
-pub do_lines : (body : Statement) (end : ℕ) (test : Expression) (first : ℕ) → kind_lines (tree.DoWhile body end test) first ≡ lines_of body ++ end ∷ []
+pub do_lines : (body : Statement) (end : ℕ) (test : Expression) (first : ℕ)
+    → kind_lines (tree.DoWhile body end test) first ≡ lines_of body ++ end ∷ []
 do_lines body end test first =
     ap (λ k. kind_lines k first) (sym (tree.rolls-DoWhile body end test))
-    ∙ ap (λ lines. lines first) (fold-roll-StatementKind LinesFrom Lines Lines kind_layer arm_layer statement_layer (StatementKind-F.DoWhile body end test))
+    ∙ ap (λ lines. lines first) (fold-roll-StatementKind LinesFrom Lines Lines kind_layer arm_layer statement_layer
+    (StatementKind-F.DoWhile body end test))

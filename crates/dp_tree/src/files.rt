@@ -1,7 +1,8 @@
 //! The files of a bundle by their names, and their functions by their numbers.
 
 ghost use Rattle.std.specs.Prelude.{◌≡◌, ◌<◌, length, option_map, IfOk, OnErr};
-ghost use Rattle.dp_tree.specs.Files.{file_named, first_functions, function_at, function_count as count_of, functions_of};
+ghost use Rattle.dp_tree.specs.Files.{file_named, first_functions, function_at, function_count as count_of};
+ghost use Rattle.dp_tree.specs.Files.{functions_of};
 
 use crate::bundle::{Bundle, FunctionRef};
 use crate::tree::Function;
@@ -9,8 +10,8 @@ use dp_value::{Items, Memory};
 use std::alloc::Global;
 
 impl Bundle {
-    /// The number of the file of this name, by exact equality. Takes no memory: `Memory` comes only where there are more
-    /// files than can be numbered.
+    /// The number of the file of this name, by exact equality. Takes no memory: `Memory` comes only where there are
+    /// more files than can be numbered.
     pub fn file_named(&self, name: &[u8]) -> Result<Option<u32>, Memory>
         ensures number { IfOk result (λ number. number ≡ file_named self.now name.now) }
         ensures memory { OnErr result (u32.MAX < length self.now.files) }

@@ -23,7 +23,8 @@ second false b h = cc
 
 positive_digits : (bs : List ℕ) → is_positive bs ≡ true → IsNumeral 10 bs
 positive_digits [] h = cc
-positive_digits (c ∷ cs) h = (omega arith, own.to (c ∷ cs) (second (not (c == 48)) (list_all is_ascii_digit (c ∷ cs)) h))
+positive_digits (c ∷ cs) h =
+    (omega arith, own.to (c ∷ cs) (second (not (c == 48)) (list_all is_ascii_digit (c ∷ cs)) h))
 
 zero_digits : (bs : List ℕ) → bs ≡ 48 ∷ [] → IsNumeral 10 bs
 zero_digits bs h = rw h (omega arith, own.to (48 ∷ []) refl)
@@ -43,10 +44,12 @@ without_sign c cs h n =
 
 formed_plain : (c : ℕ) (cs : List ℕ) → (c == 45) ≡ false → IsNumeral 10 (c ∷ cs) → Formed (c ∷ cs)
 formed_plain c cs minus n =
-    let other : c ≢ 45 = λ m. let yes45 : (c == 45) ≡ true = (Decides-eqb c 45).1 m in let never : true ≡ false = sym yes45 ∙ minus in cc in
+    let other : c ≢ 45 = λ m. let yes45 : (c == 45) ≡ true = (Decides-eqb c 45).1 m in let never : true ≡ false = sym
+    yes45 ∙ minus in cc in
     record { numeral = rw (without_sign c cs other n) n; ascii = IsAscii-from_digits (c ∷ cs) n.1 }
 
-formed_by : (c : ℕ) (cs : List ℕ) (b z : Bool) → (c == 45) ≡ b → pointwise nat_eq (c ∷ cs) (48 ∷ []) ≡ z → (z || is_positive (cond b cs (c ∷ cs))) ≡ true → Formed (c ∷ cs)
+formed_by : (c : ℕ) (cs : List ℕ) (b z : Bool) → (c == 45) ≡ b → pointwise nat_eq (c ∷ cs) (48 ∷ []) ≡ z
+    → (z || is_positive (cond b cs (c ∷ cs))) ≡ true → Formed (c ∷ cs)
 formed_by c cs true true minus zero h =
     let e : c ∷ cs ≡ 48 ∷ [] = (bytes_eq-Decides (c ∷ cs) (48 ∷ [])).0 zero in
     let first : c ≡ 48 = cc in
@@ -76,11 +79,14 @@ pub Fits-in_range : (z : ℤ) → FitsSigned w64 z → is_in_64_bits z ≡ true
 Fits-in_range (pos n) h = search rules
 Fits-in_range (negsuc n) h = search rules
 
-not_in_range : (bs : List ℕ) (b : Bool) → is_in_64_bits (signed_digits_value 10 bs) ≡ b → ¬ (IsNumeral 10 (without_leading_sign bs) × FitsSigned w64 (signed_digits_value 10 bs)) →
+not_in_range : (bs : List ℕ) (b : Bool) → is_in_64_bits (signed_digits_value 10 bs) ≡ b
+    → ¬ (IsNumeral 10 (without_leading_sign bs) × FitsSigned w64 (signed_digits_value 10 bs)) →
     IsNumeral 10 (without_leading_sign bs) → b ≡ false
 not_in_range bs false e refused numeral = refl
 not_in_range bs true e refused numeral = absurd (refused (numeral, in_range_Fits (signed_digits_value 10 bs) e))
 
-pub parsed_int : {E : Type 0} (bs : List ℕ) (r : Result ℤ E) → is_int_form bs ≡ true → ParsesSigned w64 10 bs r → result_ok r ≡ int_of_text bs
+pub parsed_int : {E : Type 0} (bs : List ℕ) (r : Result ℤ E) → is_int_form bs ≡ true → ParsesSigned w64 10 bs r
+    → result_ok r ≡ int_of_text bs
 parsed_int bs (Ok z) form says = rw (form, Fits-in_range (signed_digits_value 10 bs) says.0.1) (ap Some says.1)
-parsed_int bs (Err e) form refused = rw (form, not_in_range bs (is_in_64_bits (signed_digits_value 10 bs)) refl refused (formed bs form).numeral)
+parsed_int bs (Err e) form refused =
+    rw (form, not_in_range bs (is_in_64_bits (signed_digits_value 10 bs)) refl refused (formed bs form).numeral)

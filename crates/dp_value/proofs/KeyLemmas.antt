@@ -28,7 +28,10 @@ pub key_eq-Decides : (a b : Key) → Decides (key_eq a b) (a ≡ b)
 key_eq-Decides (Int a) (Int b) = (λ h. ap Int ((Decides-int_eq a b).0 h), λ h. (Decides-int_eq a b).1 (cc))
 key_eq-Decides (Int a) (Text b) = (λ h. cc, λ h. cc)
 key_eq-Decides (Text a) (Int b) = (λ h. cc, λ h. cc)
-key_eq-Decides (Text a) (Text b) = (λ h. ap Text ((slice_eq-Decides Decides-eqb a b _ refl).0 h), λ h. (slice_eq-Decides Decides-eqb a b _ refl).1 (cc))
+key_eq-Decides (Text a) (Text b) = (
+  λ h. ap Text ((slice_eq-Decides Decides-eqb a b _ refl).0 h),
+  λ h. (slice_eq-Decides Decides-eqb a b _ refl).1 (cc),
+)
 
 key_eq-congr : (a b c : Key) → a ≡ b → key_eq a c ≡ key_eq b c
 key_eq-congr a b c h = ap (λ (k : Key). key_eq k c) h
@@ -47,9 +50,11 @@ key_eq_equivalence = record {
 }
 
 -- a key that a set lacks goes last
-pub inserted_new : (ks : List Key) (key : Key) → list_any (key_eq key) ks ≡ false → insert_key ghosts.eq ks key ≡ ks ++ key ∷ []
+pub inserted_new : (ks : List Key) (key : Key) → list_any (key_eq key) ks ≡ false
+    → insert_key ghosts.eq ks key ≡ ks ++ key ∷ []
 inserted_new ks key lacks =
-    let any : list_any (ghosts.eq key) ks ≡ false = ap (λ (test : Key → Bool). list_any test ks) (λ i k. derived_eq key k i) ∙ lacks in
+    let any : list_any (ghosts.eq key) ks ≡ false = ap (λ (test : Key → Bool). list_any test ks)
+    (λ i k. derived_eq key k i) ∙ lacks in
     rw any
 
 pub inserted : (ks : List Key) (key : Key) → IsAbsent (key_eq key) ks → insert_key ghosts.eq ks key ≡ ks ++ key ∷ []
@@ -60,7 +65,8 @@ pub distinct_keys : (ks : List Key) → IsDistinct ghosts.eq ks → IsDistinct k
 distinct_keys ks is = subst (λ (eq : Key → Key → Bool). IsDistinct eq ks) (λ i a b. derived_eq a b i) is
 
 -- a key of distinct ones is not among those before it
-pub fresh : (ks : List Key) (i : ℕ) (k : Key) → IsDistinct key_eq ks → i < length ks → k ≡ get_or ks i k → list_any (key_eq k) (take i ks) ≡ false
+pub fresh : (ks : List Key) (i : ℕ) (k : Key) → IsDistinct key_eq ks → i < length ks → k ≡ get_or ks i k
+    → list_any (key_eq k) (take i ks) ≡ false
 fresh [] i k is within at = absurd (omega arith)
 fresh (x ∷ ks) zero k is within at = refl
 fresh (x ∷ ks) (suc i) k is within at =

@@ -10,13 +10,15 @@ use Rattle.dp_value.specs.Data.{Data, weight_of, pairs_weight}
 use Rattle.dp_value.specs.Table.{find_value, put, swapped, take_away}
 use Rattle.dp_value.specs.Place.{IsAbsent, IsFirst}
 
-pub zip_none : {X Y : Type 0} (xs : List X) (ys : List Y) (i : ℕ) → None ≡ slice_get xs i → None ≡ slice_get (zip xs ys) i
+pub zip_none : {X Y : Type 0} (xs : List X) (ys : List Y) (i : ℕ) → None ≡ slice_get xs i
+    → None ≡ slice_get (zip xs ys) i
 zip_none [] ys i h = refl
 zip_none (x ∷ xs) [] i h = refl
 zip_none (x ∷ xs) (y ∷ ys) zero h = cc
 zip_none (x ∷ xs) (y ∷ ys) (suc i) h = zip_none xs ys i h
 
-pub zip_some : {X Y : Type 0} (xs : List X) (ys : List Y) (i : ℕ) (x : X) (y : Y) → slice_get xs i ≡ Some x → slice_get ys i ≡ Some y → slice_get (zip xs ys) i ≡ Some (x, y)
+pub zip_some : {X Y : Type 0} (xs : List X) (ys : List Y) (i : ℕ) (x : X) (y : Y) → slice_get xs i ≡ Some x
+    → slice_get ys i ≡ Some y → slice_get (zip xs ys) i ≡ Some (x, y)
 zip_some [] ys i x y h g = cc
 zip_some (a ∷ xs) [] i x y h g = cc
 zip_some (a ∷ xs) (b ∷ ys) zero x y h g = cc
@@ -24,9 +26,12 @@ zip_some (a ∷ xs) (b ∷ ys) (suc i) x y h g = zip_some xs ys i x y h g
 
 -- the first place of an element that passes is within the list, or no element passes
 abbrev Places : {X : Type 0} → (X → Bool) → List X → Type 0
-Places test xs = ((position_or_len test xs ≡ length xs) × IsAbsent test xs) ⊎ ((position_or_len test xs < length xs) × IsFirst test xs (position_or_len test xs))
+Places test xs =
+    ((position_or_len test xs ≡ length xs) × IsAbsent test xs)
+    ⊎ ((position_or_len test xs < length xs) × IsFirst test xs (position_or_len test xs))
 
-places_more : {X : Type 0} (test : X → Bool) (x : X) (xs : List X) (b : Bool) → test x ≡ b → Places test xs → Places test (x ∷ xs)
+places_more : {X : Type 0} (test : X → Bool) (x : X) (xs : List X) (b : Bool) → test x ≡ b → Places test xs
+    → Places test (x ∷ xs)
 places_more test x xs true h rest = let e : position_or_len test (x ∷ xs) ≡ zero = rw h in rw e (inr (omega arith, h))
 places_more test x xs false h rest =
     let e : position_or_len test (x ∷ xs) ≡ suc (position_or_len test xs) = rw h (omega arith) in
@@ -37,68 +42,88 @@ places test [] = inl (refl, tt)
 places test (x ∷ xs) = places_more test x xs (test x) refl (places test xs)
 
 -- where the first element that passes stands
-pub placed : {X : Type 0} (test : X → Bool) (xs : List X) → MatchOption (position test xs) (IsAbsent test xs) (IsFirst test xs)
+pub placed : {X : Type 0} (test : X → Bool) (xs : List X)
+    → MatchOption (position test xs) (IsAbsent test xs) (IsFirst test xs)
 placed test xs = elim (places test xs) [
-  | inl absent ↦ let past : nat_lt (position_or_len test xs) (length xs) ≡ false = grind (arith, nat_tests) in rw past absent.1
-  | inr first ↦ let within : nat_lt (position_or_len test xs) (length xs) ≡ true = grind (arith, nat_tests) in rw within first.1
+  | inl absent ↦ let past : nat_lt (position_or_len test xs) (length xs) ≡ false =
+      grind (arith, nat_tests) in rw past absent.1
+  | inr first ↦ let within : nat_lt (position_or_len test xs) (length xs) ≡ true =
+      grind (arith, nat_tests) in rw within first.1
 ]
 
-pub absent-find_value : (test : Key → Bool) (ks : List Key) (ds : List Data) → IsAbsent test ks → find_value test (zip ks ds) ≡ None
+pub absent-find_value : (test : Key → Bool) (ks : List Key) (ds : List Data) → IsAbsent test ks
+    → find_value test (zip ks ds) ≡ None
 absent-find_value test [] ds h = refl
 absent-find_value test (k ∷ ks) [] h = refl
 absent-find_value test (k ∷ ks) (d ∷ ds) h = rw h.0 (absent-find_value test ks ds h.1)
 
-pub first-find_value : (test : Key → Bool) (ks : List Key) (ds : List Data) (n : ℕ) → IsFirst test ks n → length ds ≡ length ks → find_value test (zip ks ds) ≡ slice_get ds n
+pub first-find_value : (test : Key → Bool) (ks : List Key) (ds : List Data) (n : ℕ) → IsFirst test ks n
+    → length ds ≡ length ks → find_value test (zip ks ds) ≡ slice_get ds n
 first-find_value test [] ds n h same = elim h [ ]
 first-find_value test (k ∷ ks) [] n h same = cc
 first-find_value test (k ∷ ks) (d ∷ ds) zero h same = rw h
 first-find_value test (k ∷ ks) (d ∷ ds) (suc n) h same = rw h.0 (first-find_value test ks ds n h.1 (omega arith))
 
 -- ---- a write
-pub put-first : (key : Key) (ks : List Key) (ds : List Data) (n : ℕ) (d : Data) → IsFirst (key_eq key) ks n → length ds ≡ length ks → put (zip ks ds) key d ≡ zip ks (set ds n d)
+pub put-first : (key : Key) (ks : List Key) (ds : List Data) (n : ℕ) (d : Data) → IsFirst (key_eq key) ks n
+    → length ds ≡ length ks → put (zip ks ds) key d ≡ zip ks (set ds n d)
 put-first key [] ds n d h same = elim h [ ]
 put-first key (k ∷ ks) [] n d h same = cc
 put-first key (k ∷ ks) (e ∷ ds) zero d h same = rw h
-put-first key (k ∷ ks) (e ∷ ds) (suc n) d h same = rw h.0 (ap (λ ps. (k, e) ∷ ps) (put-first key ks ds n d h.1 (omega arith)))
+put-first key (k ∷ ks) (e ∷ ds) (suc n) d h same =
+    rw h.0 (ap (λ ps. (k, e) ∷ ps) (put-first key ks ds n d h.1 (omega arith)))
 
-pub put-absent : (key : Key) (ks : List Key) (ds : List Data) (d : Data) → IsAbsent (key_eq key) ks → length ds ≡ length ks → put (zip ks ds) key d ≡ zip (ks ++ key ∷ []) (ds ++ d ∷ [])
+pub put-absent : (key : Key) (ks : List Key) (ds : List Data) (d : Data) → IsAbsent (key_eq key) ks
+    → length ds ≡ length ks → put (zip ks ds) key d ≡ zip (ks ++ key ∷ []) (ds ++ d ∷ [])
 put-absent key [] [] d h same = refl
 put-absent key [] (e ∷ ds) d h same = cc
 put-absent key (k ∷ ks) [] d h same = cc
 put-absent key (k ∷ ks) (e ∷ ds) d h same = rw h.0 (ap (λ ps. (k, e) ∷ ps) (put-absent key ks ds d h.1 (omega arith)))
 
-pub weight-put-first : (key : Key) (ks : List Key) (ds : List Data) (n : ℕ) (old d : Data) → IsFirst (key_eq key) ks n → slice_get ds n ≡ Some old →
+pub weight-put-first : (key : Key) (ks : List Key) (ds : List Data) (n : ℕ) (old d : Data) → IsFirst (key_eq key) ks n
+    → slice_get ds n ≡ Some old →
     pairs_weight (put (zip ks ds) key d) + weight_of old ≡ pairs_weight (zip ks ds) + weight_of d
 weight-put-first key [] ds n old d h at = elim h [ ]
 weight-put-first key (k ∷ ks) [] n old d h at = cc
-weight-put-first key (k ∷ ks) (e ∷ ds) zero old d h at = let s : weight_of e ≡ weight_of old = ap weight_of (same_Some e old at) in rw h (omega (arith, s))
-weight-put-first key (k ∷ ks) (e ∷ ds) (suc n) old d h at = let rest = weight-put-first key ks ds n old d h.1 at in rw h.0 (omega (arith, rest))
+weight-put-first key (k ∷ ks) (e ∷ ds) zero old d h at =
+    let s : weight_of e ≡ weight_of old = ap weight_of (same_Some e old at) in rw h (omega (arith, s))
+weight-put-first key (k ∷ ks) (e ∷ ds) (suc n) old d h at =
+    let rest = weight-put-first key ks ds n old d h.1 at in rw h.0 (omega (arith, rest))
 
-pub weight-put-absent : (key : Key) (ks : List Key) (ds : List Data) (d : Data) → IsAbsent (key_eq key) ks → length ds ≡ length ks →
+pub weight-put-absent : (key : Key) (ks : List Key) (ds : List Data) (d : Data) → IsAbsent (key_eq key) ks
+    → length ds ≡ length ks →
     pairs_weight (put (zip ks ds) key d) ≡ pairs_weight (zip ks ds) + (1 + key_weight key + weight_of d)
 weight-put-absent key [] ds d h same = omega arith
 weight-put-absent key (k ∷ ks) [] d h same = cc
-weight-put-absent key (k ∷ ks) (e ∷ ds) d h same = let rest = weight-put-absent key ks ds d h.1 (omega arith) in rw h.0 (omega (arith, rest))
+weight-put-absent key (k ∷ ks) (e ∷ ds) d h same =
+    let rest = weight-put-absent key ks ds d h.1 (omega arith) in rw h.0 (omega (arith, rest))
 
-pub weight-at : (ks : List Key) (ds : List Data) (n : ℕ) (d : Data) → length ds ≡ length ks → slice_get ds n ≡ Some d → weight_of d ≤ pairs_weight (zip ks ds)
+pub weight-at : (ks : List Key) (ds : List Data) (n : ℕ) (d : Data) → length ds ≡ length ks → slice_get ds n ≡ Some d
+    → weight_of d ≤ pairs_weight (zip ks ds)
 weight-at ks [] n d same at = cc
 weight-at [] (e ∷ ds) n d same at = cc
-weight-at (k ∷ ks) (e ∷ ds) zero d same at = let s : weight_of e ≡ weight_of d = ap weight_of (same_Some e d at) in omega (arith, s)
-weight-at (k ∷ ks) (e ∷ ds) (suc n) d same at = let rest : weight_of d ≤ pairs_weight (zip ks ds) = weight-at ks ds n d (omega arith) at in omega (arith, rest)
+weight-at (k ∷ ks) (e ∷ ds) zero d same at =
+    let s : weight_of e ≡ weight_of d = ap weight_of (same_Some e d at) in omega (arith, s)
+weight-at (k ∷ ks) (e ∷ ds) (suc n) d same at =
+    let rest : weight_of d ≤ pairs_weight (zip ks ds) = weight-at ks ds n d (omega arith) at in omega (arith, rest)
 
 -- ---- a removal
-pub take_away-absent : (key : Key) (ks : List Key) (ds : List Data) → IsAbsent (key_eq key) ks → take_away (zip ks ds) key ≡ zip ks ds
+pub take_away-absent : (key : Key) (ks : List Key) (ds : List Data) → IsAbsent (key_eq key) ks
+    → take_away (zip ks ds) key ≡ zip ks ds
 take_away-absent key [] ds h = refl
 take_away-absent key (k ∷ ks) [] h = refl
 take_away-absent key (k ∷ ks) (e ∷ ds) h = rw h.0 (ap (λ ps. (k, e) ∷ ps) (take_away-absent key ks ds h.1))
 
-pub take_away-first : (key : Key) (ks : List Key) (ds : List Data) (n : ℕ) → IsFirst (key_eq key) ks n → length ds ≡ length ks → take_away (zip ks ds) key ≡ zip (remove ks n) (remove ds n)
+pub take_away-first : (key : Key) (ks : List Key) (ds : List Data) (n : ℕ) → IsFirst (key_eq key) ks n
+    → length ds ≡ length ks → take_away (zip ks ds) key ≡ zip (remove ks n) (remove ds n)
 take_away-first key [] ds n h same = elim h [ ]
 take_away-first key (k ∷ ks) [] n h same = cc
 take_away-first key (k ∷ ks) (e ∷ ds) zero h same = rw h
-take_away-first key (k ∷ ks) (e ∷ ds) (suc n) h same = rw h.0 (ap (λ ps. (k, e) ∷ ps) (take_away-first key ks ds n h.1 (omega arith)))
+take_away-first key (k ∷ ks) (e ∷ ds) (suc n) h same =
+    rw h.0 (ap (λ ps. (k, e) ∷ ps) (take_away-first key ks ds n h.1 (omega arith)))
 
-pub weight-remove : (ks : List Key) (ds : List Data) (n : ℕ) (k : Key) (d : Data) → slice_get ks n ≡ Some k → slice_get ds n ≡ Some d →
+pub weight-remove : (ks : List Key) (ds : List Data) (n : ℕ) (k : Key) (d : Data) → slice_get ks n ≡ Some k
+    → slice_get ds n ≡ Some d →
     (1 + key_weight k + weight_of d) + pairs_weight (zip (remove ks n) (remove ds n)) ≡ pairs_weight (zip ks ds)
 weight-remove [] ds n k d key at = cc
 weight-remove (l ∷ ks) [] n k d key at = cc
@@ -120,20 +145,26 @@ absent-list_any test [] h = refl
 absent-list_any test (x ∷ xs) h = rw h.0 (absent-list_any test xs h.1)
 
 -- ---- an exchange
-pub swapped-first : (key : Key) (ks : List Key) (ds : List Data) (n : ℕ) (d : Data) → IsFirst (key_eq key) ks n → length ds ≡ length ks → swapped (zip ks ds) key d ≡ zip ks (set ds n d)
+pub swapped-first : (key : Key) (ks : List Key) (ds : List Data) (n : ℕ) (d : Data) → IsFirst (key_eq key) ks n
+    → length ds ≡ length ks → swapped (zip ks ds) key d ≡ zip ks (set ds n d)
 swapped-first key [] ds n d h same = elim h [ ]
 swapped-first key (k ∷ ks) [] n d h same = cc
 swapped-first key (k ∷ ks) (e ∷ ds) zero d h same = rw h
-swapped-first key (k ∷ ks) (e ∷ ds) (suc n) d h same = rw h.0 (ap (λ ps. (k, e) ∷ ps) (swapped-first key ks ds n d h.1 (omega arith)))
+swapped-first key (k ∷ ks) (e ∷ ds) (suc n) d h same =
+    rw h.0 (ap (λ ps. (k, e) ∷ ps) (swapped-first key ks ds n d h.1 (omega arith)))
 
-pub swapped-absent : (key : Key) (ks : List Key) (ds : List Data) (d : Data) → IsAbsent (key_eq key) ks → swapped (zip ks ds) key d ≡ zip ks ds
+pub swapped-absent : (key : Key) (ks : List Key) (ds : List Data) (d : Data) → IsAbsent (key_eq key) ks
+    → swapped (zip ks ds) key d ≡ zip ks ds
 swapped-absent key [] ds d h = refl
 swapped-absent key (k ∷ ks) [] d h = refl
 swapped-absent key (k ∷ ks) (e ∷ ds) d h = rw h.0 (ap (λ ps. (k, e) ∷ ps) (swapped-absent key ks ds d h.1))
 
-pub weight-swapped-first : (key : Key) (ks : List Key) (ds : List Data) (n : ℕ) (old d : Data) → IsFirst (key_eq key) ks n → slice_get ds n ≡ Some old →
+pub weight-swapped-first : (key : Key) (ks : List Key) (ds : List Data) (n : ℕ) (old d : Data)
+    → IsFirst (key_eq key) ks n → slice_get ds n ≡ Some old →
     pairs_weight (swapped (zip ks ds) key d) + weight_of old ≡ pairs_weight (zip ks ds) + weight_of d
 weight-swapped-first key [] ds n old d h at = elim h [ ]
 weight-swapped-first key (k ∷ ks) [] n old d h at = cc
-weight-swapped-first key (k ∷ ks) (e ∷ ds) zero old d h at = let s : weight_of e ≡ weight_of old = ap weight_of (same_Some e old at) in rw h (omega (arith, s))
-weight-swapped-first key (k ∷ ks) (e ∷ ds) (suc n) old d h at = let rest = weight-swapped-first key ks ds n old d h.1 at in rw h.0 (omega (arith, rest))
+weight-swapped-first key (k ∷ ks) (e ∷ ds) zero old d h at =
+    let s : weight_of e ≡ weight_of old = ap weight_of (same_Some e old at) in rw h (omega (arith, s))
+weight-swapped-first key (k ∷ ks) (e ∷ ds) (suc n) old d h at =
+    let rest = weight-swapped-first key ks ds n old d h.1 at in rw h.0 (omega (arith, rest))

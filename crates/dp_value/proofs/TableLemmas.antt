@@ -12,25 +12,31 @@ use Rattle.dp_value.specs.Data.{Data, Table, pairs_weight}
 use Rattle.dp_value.specs.Table.{empty, keys_of, put, take_away, swapped, raised, table_set, table_exchange, table_remove, weight_limit, IsUpTo, IsTable}
 use Rattle.dp_value.proofs.KeyLemmas.{key_eq_equivalence}
 
-keys_of-put_present-more : (p : Key × Data) (ps : List (Key × Data)) (key : Key) (d : Data) (b : Bool) → key_eq key p.0 ≡ b →
+keys_of-put_present-more : (p : Key × Data) (ps : List (Key × Data)) (key : Key) (d : Data) (b : Bool)
+    → key_eq key p.0 ≡ b →
     (list_any (key_eq key) (keys_of ps) ≡ true → keys_of (put ps key d) ≡ keys_of ps) →
     list_any (key_eq key) (keys_of (p ∷ ps)) ≡ true → keys_of (put (p ∷ ps) key d) ≡ keys_of (p ∷ ps)
 keys_of-put_present-more p ps key d true h rest any = rw h
 keys_of-put_present-more p ps key d false h rest any = rw h (ap (λ ks. p.0 ∷ ks) (rest (rw h at any)))
 
-pub keys_of-put_present : (ps : List (Key × Data)) (key : Key) (d : Data) → list_any (key_eq key) (keys_of ps) ≡ true → keys_of (put ps key d) ≡ keys_of ps
+pub keys_of-put_present : (ps : List (Key × Data)) (key : Key) (d : Data) → list_any (key_eq key) (keys_of ps) ≡ true
+    → keys_of (put ps key d) ≡ keys_of ps
 keys_of-put_present [] key d any = cc
-keys_of-put_present (p ∷ ps) key d any = keys_of-put_present-more p ps key d (key_eq key p.0) refl (keys_of-put_present ps key d) any
+keys_of-put_present (p ∷ ps) key d any =
+    keys_of-put_present-more p ps key d (key_eq key p.0) refl (keys_of-put_present ps key d) any
 
-keys_of-put_absent-more : (p : Key × Data) (ps : List (Key × Data)) (key : Key) (d : Data) (b : Bool) → key_eq key p.0 ≡ b →
+keys_of-put_absent-more : (p : Key × Data) (ps : List (Key × Data)) (key : Key) (d : Data) (b : Bool)
+    → key_eq key p.0 ≡ b →
     (list_any (key_eq key) (keys_of ps) ≡ false → keys_of (put ps key d) ≡ keys_of ps ++ key ∷ []) →
     list_any (key_eq key) (keys_of (p ∷ ps)) ≡ false → keys_of (put (p ∷ ps) key d) ≡ keys_of (p ∷ ps) ++ key ∷ []
 keys_of-put_absent-more p ps key d true h rest any = let never : true ≡ false = rw h at any in cc
 keys_of-put_absent-more p ps key d false h rest any = rw h (ap (λ ks. p.0 ∷ ks) (rest (rw h at any)))
 
-pub keys_of-put_absent : (ps : List (Key × Data)) (key : Key) (d : Data) → list_any (key_eq key) (keys_of ps) ≡ false → keys_of (put ps key d) ≡ keys_of ps ++ key ∷ []
+pub keys_of-put_absent : (ps : List (Key × Data)) (key : Key) (d : Data) → list_any (key_eq key) (keys_of ps) ≡ false
+    → keys_of (put ps key d) ≡ keys_of ps ++ key ∷ []
 keys_of-put_absent [] key d any = refl
-keys_of-put_absent (p ∷ ps) key d any = keys_of-put_absent-more p ps key d (key_eq key p.0) refl (keys_of-put_absent ps key d) any
+keys_of-put_absent (p ∷ ps) key d any =
+    keys_of-put_absent-more p ps key d (key_eq key p.0) refl (keys_of-put_absent ps key d) any
 
 le_int_max : (m n : ℤ) → (m ≤ℤ int_max m n) × (n ≤ℤ int_max m n)
 le_int_max m n = (omega (arith, ints, int_max_is m n), omega (arith, ints, int_max_is m n))
@@ -54,21 +60,26 @@ IsTable-set-by t key d is light true any =
     record {
       distinct = subst (λ (ks : List Key). IsDistinct key_eq ks) same is.distinct;
       up_to = subst (λ (ks : List Key). All (IsUpTo (raised t.largest key)) ks) same
-          (All-weaker (IsUpTo t.largest) (IsUpTo (raised t.largest key)) (IsUpTo-raised t.largest key) (keys_of t.pairs) is.up_to);
+          (All-weaker (IsUpTo t.largest) (IsUpTo (raised t.largest key)) (IsUpTo-raised t.largest key)
+          (keys_of t.pairs) is.up_to);
       light = light;
     }
 IsTable-set-by t key d is light false any =
     let same = sym (keys_of-put_absent t.pairs key d any) in
     record {
-      distinct = subst (λ (ks : List Key). IsDistinct key_eq ks) same (IsDistinct-push key_eq_equivalence (keys_of t.pairs) key is.distinct any);
+      distinct =
+          subst (λ (ks : List Key). IsDistinct key_eq ks) same
+          (IsDistinct-push key_eq_equivalence (keys_of t.pairs) key is.distinct any);
       up_to = subst (λ (ks : List Key). All (IsUpTo (raised t.largest key)) ks) same
           (All-push (IsUpTo (raised t.largest key)) (keys_of t.pairs) key
-          (All-weaker (IsUpTo t.largest) (IsUpTo (raised t.largest key)) (IsUpTo-raised t.largest key) (keys_of t.pairs) is.up_to)
+          (All-weaker (IsUpTo t.largest) (IsUpTo (raised t.largest key)) (IsUpTo-raised t.largest key)
+          (keys_of t.pairs) is.up_to)
           (IsUpTo-new t.largest key));
       light = light;
     }
 
-pub IsTable-set : (t : Table) (key : Key) (d : Data) → IsTable t → pairs_weight (put t.pairs key d) ≤ weight_limit → IsTable (table_set t key d)
+pub IsTable-set : (t : Table) (key : Key) (d : Data) → IsTable t → pairs_weight (put t.pairs key d) ≤ weight_limit
+    → IsTable (table_set t key d)
 IsTable-set t key d is light = IsTable-set-by t key d is light (list_any (key_eq key) (keys_of t.pairs)) refl
 
 pub IsTable-empty : IsTable empty
@@ -76,24 +87,33 @@ unfolding IsDistinct
 IsTable-empty = record { distinct = tt; up_to = All-nil (IsUpTo None); light = omega arith }
 
 -- ---- a removal
-all_take_away-more : (P : Key → Type 0) (p : Key × Data) (ps : List (Key × Data)) (key : Key) (b : Bool) → key_eq key p.0 ≡ b →
-    AllByRecursion P (keys_of (p ∷ ps)) → AllByRecursion P (keys_of (take_away ps key)) → AllByRecursion P (keys_of (take_away (p ∷ ps) key))
+all_take_away-more : (P : Key → Type 0) (p : Key × Data) (ps : List (Key × Data)) (key : Key) (b : Bool)
+    → key_eq key p.0 ≡ b →
+    AllByRecursion P (keys_of (p ∷ ps)) → AllByRecursion P (keys_of (take_away ps key))
+    → AllByRecursion P (keys_of (take_away (p ∷ ps) key))
 all_take_away-more P p ps key true h all rest = rw h all.1
 all_take_away-more P p ps key false h all rest = rw h (all.0, rest)
 
-pub all_take_away : (P : Key → Type 0) (ps : List (Key × Data)) (key : Key) → AllByRecursion P (keys_of ps) → AllByRecursion P (keys_of (take_away ps key))
+pub all_take_away : (P : Key → Type 0) (ps : List (Key × Data)) (key : Key) → AllByRecursion P (keys_of ps)
+    → AllByRecursion P (keys_of (take_away ps key))
 all_take_away P [] key all = tt
-all_take_away P (p ∷ ps) key all = all_take_away-more P p ps key (key_eq key p.0) refl all (all_take_away P ps key all.1)
+all_take_away P (p ∷ ps) key all =
+    all_take_away-more P p ps key (key_eq key p.0) refl all (all_take_away P ps key all.1)
 
 distinct_take_away-more : (p : Key × Data) (ps : List (Key × Data)) (key : Key) (b : Bool) → key_eq key p.0 ≡ b →
-    IsDistinct key_eq (keys_of (p ∷ ps)) → IsDistinct key_eq (keys_of (take_away ps key)) → IsDistinct key_eq (keys_of (take_away (p ∷ ps) key))
+    IsDistinct key_eq (keys_of (p ∷ ps)) → IsDistinct key_eq (keys_of (take_away ps key))
+    → IsDistinct key_eq (keys_of (take_away (p ∷ ps) key))
 distinct_take_away-more p ps key true h is rest = rw h (IsDistinct-tail key_eq p.0 (keys_of ps) is)
 distinct_take_away-more p ps key false h is rest =
-    rw h (IsDistinct-cons key_eq p.0 (keys_of (take_away ps key)) (all_take_away (λ k. key_eq p.0 k ≡ false) ps key (IsDistinct-head key_eq p.0 (keys_of ps) is)) rest)
+    rw h (IsDistinct-cons key_eq p.0 (keys_of (take_away ps key))
+    (all_take_away (λ k. key_eq p.0 k ≡ false) ps key (IsDistinct-head key_eq p.0 (keys_of ps) is)) rest)
 
-pub distinct_take_away : (ps : List (Key × Data)) (key : Key) → IsDistinct key_eq (keys_of ps) → IsDistinct key_eq (keys_of (take_away ps key))
+pub distinct_take_away : (ps : List (Key × Data)) (key : Key) → IsDistinct key_eq (keys_of ps)
+    → IsDistinct key_eq (keys_of (take_away ps key))
 distinct_take_away [] key is = is
-distinct_take_away (p ∷ ps) key is = distinct_take_away-more p ps key (key_eq key p.0) refl is (distinct_take_away ps key (IsDistinct-tail key_eq p.0 (keys_of ps) is))
+distinct_take_away (p ∷ ps) key is =
+    distinct_take_away-more p ps key (key_eq key p.0) refl is
+    (distinct_take_away ps key (IsDistinct-tail key_eq p.0 (keys_of ps) is))
 
 light_take_away-more : (p : Key × Data) (ps : List (Key × Data)) (key : Key) (b : Bool) → key_eq key p.0 ≡ b →
     pairs_weight (take_away ps key) ≤ pairs_weight ps → pairs_weight (take_away (p ∷ ps) key) ≤ pairs_weight (p ∷ ps)
@@ -113,7 +133,8 @@ IsTable-remove t key is = record {
 }
 
 -- ---- an exchange
-keys_of-swapped-more : (p : Key × Data) (ps : List (Key × Data)) (key : Key) (d : Data) (b : Bool) → key_eq key p.0 ≡ b →
+keys_of-swapped-more : (p : Key × Data) (ps : List (Key × Data)) (key : Key) (d : Data) (b : Bool)
+    → key_eq key p.0 ≡ b →
     keys_of (swapped ps key d) ≡ keys_of ps → keys_of (swapped (p ∷ ps) key d) ≡ keys_of (p ∷ ps)
 keys_of-swapped-more p ps key d true h rest = rw h
 keys_of-swapped-more p ps key d false h rest = rw h (ap (λ ks. p.0 ∷ ks) rest)
@@ -122,7 +143,8 @@ keys_of-swapped : (ps : List (Key × Data)) (key : Key) (d : Data) → keys_of (
 keys_of-swapped [] key d = refl
 keys_of-swapped (p ∷ ps) key d = keys_of-swapped-more p ps key d (key_eq key p.0) refl (keys_of-swapped ps key d)
 
-pub IsTable-exchange : (t : Table) (key : Key) (d : Data) → IsTable t → pairs_weight (swapped t.pairs key d) ≤ weight_limit → IsTable (table_exchange t key d)
+pub IsTable-exchange : (t : Table) (key : Key) (d : Data) → IsTable t
+    → pairs_weight (swapped t.pairs key d) ≤ weight_limit → IsTable (table_exchange t key d)
 IsTable-exchange t key d is light =
     let same = sym (keys_of-swapped t.pairs key d) in
     record {

@@ -22,58 +22,72 @@ use Rattle.dp_value.proofs.KeyLemmas.{key_eq-Decides}
 
 -- ---- a key that is there
 put-present-more : (p : Key × Data) (ps : List (Key × Data)) (key : Key) (d e : Data) (b : Bool) → key_eq key p.0 ≡ b →
-    (find_value (key_eq key) ps ≡ Some e → put ps key d ≡ swapped ps key d) → find_value (key_eq key) (p ∷ ps) ≡ Some e → put (p ∷ ps) key d ≡ swapped (p ∷ ps) key d
+    (find_value (key_eq key) ps ≡ Some e → put ps key d ≡ swapped ps key d) → find_value (key_eq key) (p ∷ ps) ≡ Some e
+    → put (p ∷ ps) key d ≡ swapped (p ∷ ps) key d
 put-present-more p ps key d e true h rest found = rw h
 put-present-more p ps key d e false h rest found = rw h (ap (λ qs. p ∷ qs) (rest (rw h at found)))
 
-pub put-present : (ps : List (Key × Data)) (key : Key) (d e : Data) → find_value (key_eq key) ps ≡ Some e → put ps key d ≡ swapped ps key d
+pub put-present : (ps : List (Key × Data)) (key : Key) (d e : Data) → find_value (key_eq key) ps ≡ Some e
+    → put ps key d ≡ swapped ps key d
 put-present [] key d e found = cc
 put-present (p ∷ ps) key d e found = put-present-more p ps key d e (key_eq key p.0) refl (put-present ps key d e) found
 
 swapped-same-more : (p : Key × Data) (ps : List (Key × Data)) (key : Key) (d : Data) (b : Bool) → key_eq key p.0 ≡ b →
-    (find_value (key_eq key) ps ≡ Some d → swapped ps key d ≡ ps) → find_value (key_eq key) (p ∷ ps) ≡ Some d → swapped (p ∷ ps) key d ≡ p ∷ ps
+    (find_value (key_eq key) ps ≡ Some d → swapped ps key d ≡ ps) → find_value (key_eq key) (p ∷ ps) ≡ Some d
+    → swapped (p ∷ ps) key d ≡ p ∷ ps
 swapped-same-more p ps key d true h rest found =
     let at : Some p.1 ≡ Some d = rw h at found in
     rw h (ap (λ (x : Data). let q : Key × Data = (p.0, x) in q ∷ ps) (sym (same_Some p.1 d at)))
 swapped-same-more p ps key d false h rest found = rw h (ap (λ qs. p ∷ qs) (rest (rw h at found)))
 
 -- an exchange with the value that is there changes nothing
-pub swapped-same : (ps : List (Key × Data)) (key : Key) (d : Data) → find_value (key_eq key) ps ≡ Some d → swapped ps key d ≡ ps
+pub swapped-same : (ps : List (Key × Data)) (key : Key) (d : Data) → find_value (key_eq key) ps ≡ Some d
+    → swapped ps key d ≡ ps
 swapped-same [] key d found = refl
 swapped-same (p ∷ ps) key d found = swapped-same-more p ps key d (key_eq key p.0) refl (swapped-same ps key d) found
 
-swapped-swapped-more : (p : Key × Data) (ps : List (Key × Data)) (key : Key) (d e : Data) (b : Bool) → key_eq key p.0 ≡ b →
-    swapped (swapped ps key d) key e ≡ swapped ps key e → swapped (swapped (p ∷ ps) key d) key e ≡ swapped (p ∷ ps) key e
+swapped-swapped-more : (p : Key × Data) (ps : List (Key × Data)) (key : Key) (d e : Data) (b : Bool)
+    → key_eq key p.0 ≡ b →
+    swapped (swapped ps key d) key e ≡ swapped ps key e
+    → swapped (swapped (p ∷ ps) key d) key e ≡ swapped (p ∷ ps) key e
 swapped-swapped-more p ps key d e true h rest = rw (h, h) refl
 swapped-swapped-more p ps key d e false h rest = rw (h, h) (ap (λ qs. p ∷ qs) rest)
 
 swapped-none-more : (p : Key × Data) (ps : List (Key × Data)) (key : Key) (d : Data) (b : Bool) → key_eq key p.0 ≡ b →
-    (find_value (key_eq key) ps ≡ None → swapped ps key d ≡ ps) → find_value (key_eq key) (p ∷ ps) ≡ None → swapped (p ∷ ps) key d ≡ p ∷ ps
+    (find_value (key_eq key) ps ≡ None → swapped ps key d ≡ ps) → find_value (key_eq key) (p ∷ ps) ≡ None
+    → swapped (p ∷ ps) key d ≡ p ∷ ps
 swapped-none-more p ps key d true h rest lacks = let at : Some p.1 ≡ None = rw h at lacks in cc
 swapped-none-more p ps key d false h rest lacks = rw h (ap (λ qs. p ∷ qs) (rest (rw h at lacks)))
 
 -- an exchange under a key that is not there changes nothing
-pub swapped-none : (ps : List (Key × Data)) (key : Key) (d : Data) → find_value (key_eq key) ps ≡ None → swapped ps key d ≡ ps
+pub swapped-none : (ps : List (Key × Data)) (key : Key) (d : Data) → find_value (key_eq key) ps ≡ None
+    → swapped ps key d ≡ ps
 swapped-none [] key d lacks = refl
 swapped-none (p ∷ ps) key d lacks = swapped-none-more p ps key d (key_eq key p.0) refl (swapped-none ps key d) lacks
 
 pub exchange-none : (t : Table) (key : Key) (d : Data) → value_at t key ≡ None → table_exchange t key d ≡ t
-exchange-none t key d lacks = let same = swapped-none t.pairs key d lacks in λ i. record { pairs = same i; largest = t.largest }
+exchange-none t key d lacks =
+    let same = swapped-none t.pairs key d lacks in λ i. record { pairs = same i; largest = t.largest }
 
 pub exchange-same : (t : Table) (key : Key) (d : Data) → value_at t key ≡ Some d → table_exchange t key d ≡ t
-exchange-same t key d found = let same = swapped-same t.pairs key d found in λ i. record { pairs = same i; largest = t.largest }
+exchange-same t key d found =
+    let same = swapped-same t.pairs key d found in λ i. record { pairs = same i; largest = t.largest }
 
 -- of two exchanges the second counts
-pub swapped-swapped : (ps : List (Key × Data)) (key : Key) (d e : Data) → swapped (swapped ps key d) key e ≡ swapped ps key e
+pub swapped-swapped : (ps : List (Key × Data)) (key : Key) (d e : Data)
+    → swapped (swapped ps key d) key e ≡ swapped ps key e
 swapped-swapped [] key d e = refl
 swapped-swapped (p ∷ ps) key d e = swapped-swapped-more p ps key d e (key_eq key p.0) refl (swapped-swapped ps key d e)
 
-pub exchange-exchange : (t : Table) (key : Key) (d e : Data) → table_exchange (table_exchange t key d) key e ≡ table_exchange t key e
-exchange-exchange t key d e = let same = swapped-swapped t.pairs key d e in λ i. record { pairs = same i; largest = t.largest }
+pub exchange-exchange : (t : Table) (key : Key) (d e : Data)
+    → table_exchange (table_exchange t key d) key e ≡ table_exchange t key e
+exchange-exchange t key d e =
+    let same = swapped-swapped t.pairs key d e in λ i. record { pairs = same i; largest = t.largest }
 
 -- ---- weights
 weight-swapped_null-more : (p : Key × Data) (ps : List (Key × Data)) (key : Key) (b : Bool) → key_eq key p.0 ≡ b →
-    pairs_weight (swapped ps key null) ≤ pairs_weight ps → pairs_weight (swapped (p ∷ ps) key null) ≤ pairs_weight (p ∷ ps)
+    pairs_weight (swapped ps key null) ≤ pairs_weight ps
+    → pairs_weight (swapped (p ∷ ps) key null) ≤ pairs_weight (p ∷ ps)
 weight-swapped_null-more p ps key true h rest = rw h (omega arith)
 weight-swapped_null-more p ps key false h rest = rw h (omega (arith, rest))
 
@@ -82,12 +96,14 @@ weight-swapped_null [] key = omega arith
 weight-swapped_null (p ∷ ps) key = weight-swapped_null-more p ps key (key_eq key p.0) refl (weight-swapped_null ps key)
 
 weight-put-more : (p : Key × Data) (ps : List (Key × Data)) (key : Key) (d : Data) (b : Bool) → key_eq key p.0 ≡ b →
-    pairs_weight (put ps key d) ≡ pairs_weight (put ps key null) + weight_of d → pairs_weight (put (p ∷ ps) key d) ≡ pairs_weight (put (p ∷ ps) key null) + weight_of d
+    pairs_weight (put ps key d) ≡ pairs_weight (put ps key null) + weight_of d
+    → pairs_weight (put (p ∷ ps) key d) ≡ pairs_weight (put (p ∷ ps) key null) + weight_of d
 weight-put-more p ps key d true h rest = rw h (omega arith)
 weight-put-more p ps key d false h rest = rw h (omega (arith, rest))
 
 -- a value under a key weighs beside all else
-pub weight-put : (ps : List (Key × Data)) (key : Key) (d : Data) → pairs_weight (put ps key d) ≡ pairs_weight (put ps key null) + weight_of d
+pub weight-put : (ps : List (Key × Data)) (key : Key) (d : Data)
+    → pairs_weight (put ps key d) ≡ pairs_weight (put ps key null) + weight_of d
 weight-put [] key d = omega arith
 weight-put (p ∷ ps) key d = weight-put-more p ps key d (key_eq key p.0) refl (weight-put ps key d)
 
@@ -97,26 +113,32 @@ raised-up_to largest (Text bytes) h = refl
 raised-up_to None (Int n) h = absurd h
 raised-up_to (Some m) (Int n) h = let top : int_max m n ≡ m = omega (arith, ints, int_max_is m n) in ap Some top
 
-up_to-present-more : (largest : Option ℤ) (p : Key × Data) (ps : List (Key × Data)) (key : Key) (d : Data) (b : Bool) → key_eq key p.0 ≡ b →
+up_to-present-more : (largest : Option ℤ) (p : Key × Data) (ps : List (Key × Data)) (key : Key) (d : Data) (b : Bool)
+    → key_eq key p.0 ≡ b →
     (find_value (key_eq key) ps ≡ Some d → AllByRecursion (IsUpTo largest) (keys_of ps) → IsUpTo largest key) →
     find_value (key_eq key) (p ∷ ps) ≡ Some d → AllByRecursion (IsUpTo largest) (keys_of (p ∷ ps)) → IsUpTo largest key
-up_to-present-more largest p ps key d true h rest found all = subst (λ (k : Key). IsUpTo largest k) (sym ((key_eq-Decides key p.0).0 h)) all.0
+up_to-present-more largest p ps key d true h rest found all =
+    subst (λ (k : Key). IsUpTo largest k) (sym ((key_eq-Decides key p.0).0 h)) all.0
 up_to-present-more largest p ps key d false h rest found all = rest (rw h at found) all.1
 
 up_to-present : (largest : Option ℤ) (ps : List (Key × Data)) (key : Key) (d : Data) →
     find_value (key_eq key) ps ≡ Some d → AllByRecursion (IsUpTo largest) (keys_of ps) → IsUpTo largest key
 up_to-present largest [] key d found all = cc
-up_to-present largest (p ∷ ps) key d found all = up_to-present-more largest p ps key d (key_eq key p.0) refl (up_to-present largest ps key d) found all
+up_to-present largest (p ∷ ps) key d found all =
+    up_to-present-more largest p ps key d (key_eq key p.0) refl (up_to-present largest ps key d) found all
 
 -- a write under a key that is there is an exchange
-pub set-present : (t : Table) (key : Key) (d e : Data) → IsTable t → value_at t key ≡ Some e → table_set t key d ≡ table_exchange t key d
+pub set-present : (t : Table) (key : Key) (d e : Data) → IsTable t → value_at t key ≡ Some e
+    → table_set t key d ≡ table_exchange t key d
 set-present t key d e is found =
     let pairs = put-present t.pairs key d e found in
-    let largest = raised-up_to t.largest key (up_to-present t.largest t.pairs key e found (recursion_from_All (IsUpTo t.largest) (keys_of t.pairs) is.up_to)) in
+    let largest = raised-up_to t.largest key (up_to-present t.largest t.pairs key e found
+    (recursion_from_All (IsUpTo t.largest) (keys_of t.pairs) is.up_to)) in
     λ i. record { pairs = pairs i; largest = largest i }
 
 -- ---- limits
-then_cond : (b : Bool) (d : Data) (f : Data → Data) → cond b (Ok (f d)) (Err TooHeavy) ≡ then_data (cond b (Ok d) (Err TooHeavy)) f
+then_cond : (b : Bool) (d : Data) (f : Data → Data)
+    → cond b (Ok (f d)) (Err TooHeavy) ≡ then_data (cond b (Ok d) (Err TooHeavy)) f
 then_cond true d f = refl
 then_cond false d f = refl
 
@@ -126,22 +148,27 @@ pub within_set : (beside : ℕ) (t : Table) (key : Key) (r : Result Data WriteEr
     ≡ then_data (within (beside + pairs_weight (put t.pairs key null)) r) (λ d. data_of_table (table_set t key d))
 within_set beside t key (Err e) = refl
 within_set beside t key (Ok d) =
-    let same : beside + pairs_weight (put t.pairs key d) ≡ (beside + pairs_weight (put t.pairs key null)) + weight_of d = omega (arith, weight-put t.pairs key d) in
+    let same : beside + pairs_weight (put t.pairs key d) ≡ (beside + pairs_weight (put t.pairs key null)) + weight_of d
+    = omega (arith, weight-put t.pairs key d) in
     ap (λ (n : ℕ). cond (nat_le n weight_limit) (Ok (data_of_table (table_set t key d))) (Err TooHeavy)) same
-    ∙ then_cond (nat_le ((beside + pairs_weight (put t.pairs key null)) + weight_of d) weight_limit) d (λ x. data_of_table (table_set t key x))
+    ∙ then_cond (nat_le ((beside + pairs_weight (put t.pairs key null)) + weight_of d) weight_limit) d
+    (λ x. data_of_table (table_set t key x))
 
 -- what weighs beside may be counted up to a bound that is past the limit
-pub within_min : (beside : ℕ) (r : Result Data WriteError) → within (min beside 18446744073709551615) r ≡ within beside r
+pub within_min : (beside : ℕ) (r : Result Data WriteError)
+    → within (min beside 18446744073709551615) r ≡ within beside r
 within_min beside (Err e) = refl
 within_min beside (Ok d) =
-    let same : nat_le (min beside 18446744073709551615 + weight_of d) weight_limit ≡ nat_le (beside + weight_of d) weight_limit = grind (arith, nat_tests) in
+    let same : nat_le (min beside 18446744073709551615 + weight_of d) weight_limit ≡ nat_le
+    (beside + weight_of d) weight_limit = grind (arith, nat_tests) in
     ap (λ (b : Bool). cond b (Ok d) (Err TooHeavy)) same
 
 pub within_nothing : (r : Result Data WriteError) → within 0 r ≡ light r
 within_nothing (Err e) = refl
 within_nothing (Ok d) = ap (λ (n : ℕ). cond (nat_le n weight_limit) (Ok d) (Err TooHeavy)) (zero-add (weight_of d))
 
-light_enough-by : (n : ℕ) (d e : Data) (b : Bool) → nat_le (n + weight_of d) weight_limit ≡ b → cond b (Ok d) (Err TooHeavy) ≡ Ok e → n + weight_of e ≤ weight_limit
+light_enough-by : (n : ℕ) (d e : Data) (b : Bool) → nat_le (n + weight_of d) weight_limit ≡ b
+    → cond b (Ok d) (Err TooHeavy) ≡ Ok e → n + weight_of e ≤ weight_limit
 light_enough-by n d e true test h =
     let same : weight_of d ≡ weight_of e = ap weight_of (cc) in
     let below : n + weight_of d ≤ weight_limit = grind (arith, nat_tests) in
@@ -172,18 +199,23 @@ written-holder empty [] false new d enters =
     ]
 written-holder empty (key ∷ keys) push new d enters = refl
 
-pub written-entered : (empty : Bool) (keys : List (Option Key)) (push : Bool) (new d : Data) (t : Table) → Enters empty keys push → holder_of d ≡ Ok t →
+pub written-entered : (empty : Bool) (keys : List (Option Key)) (push : Bool) (new d : Data) (t : Table)
+    → Enters empty keys push → holder_of d ≡ Ok t →
     written keys push new d ≡ written_in keys push new t
 written-entered empty keys push new d t enters is =
-    written-holder empty keys push new d enters ∙ ap (λ (r : Result Table WriteError). then_table r (written_in keys push new)) is
+    written-holder empty keys push new d enters
+    ∙ ap (λ (r : Result Table WriteError). then_table r (written_in keys push new)) is
 
-pub written-refused : (empty : Bool) (keys : List (Option Key)) (push : Bool) (new d : Data) (e : WriteError) → Enters empty keys push → holder_of d ≡ Err e →
+pub written-refused : (empty : Bool) (keys : List (Option Key)) (push : Bool) (new d : Data) (e : WriteError)
+    → Enters empty keys push → holder_of d ≡ Err e →
     written keys push new d ≡ Err e
 written-refused empty keys push new d e enters is =
-    written-holder empty keys push new d enters ∙ ap (λ (r : Result Table WriteError). then_table r (written_in keys push new)) is
+    written-holder empty keys push new d enters
+    ∙ ap (λ (r : Result Table WriteError). then_table r (written_in keys push new)) is
 
 -- ---- results that are passed on
-pub at_exit : {X : Type 0} (r : Result X WriteError) (e : WriteError) (asked : Result Data WriteError) → IsErrAnd r (λ y. y ≡ e) → IsCause asked e → IfErr r (IsCause asked)
+pub at_exit : {X : Type 0} (r : Result X WriteError) (e : WriteError) (asked : Result Data WriteError)
+    → IsErrAnd r (λ y. y ≡ e) → IsCause asked e → IfErr r (IsCause asked)
 at_exit (Ok x) e asked is cause = tt
 at_exit (Err y) e asked is cause = subst (IsCause asked) (sym is) cause
 
@@ -195,22 +227,28 @@ pub err-along : {X : Type 0} (r : Result X WriteError) (a b t : Table) → OnErr
 err-along (Ok x) a b t h same = tt
 err-along (Err e) a b t h same = h ∙ same
 
-pub data-along : {X : Type 0} (r : Result X WriteError) (v w : Value) → OnErr r (v ≡ w) → OnErr r (data_of v ≡ data_of w)
+pub data-along : {X : Type 0} (r : Result X WriteError) (v w : Value) → OnErr r (v ≡ w)
+    → OnErr r (data_of v ≡ data_of w)
 data-along (Ok x) v w h = tt
 data-along (Err e) v w h = ap data_of h
 
-pub ok-along : {X : Type 0} (r : Result X WriteError) (asked : Result Data WriteError) (a b : Table) → OnOk r (a ≡ b) → asked ≡ Ok (data_of_table b) → OnOk r (asked ≡ Ok (data_of_table a))
-ok-along (Ok x) asked a b h is = is ∙ ap (λ (t : Table). let r : Result Data WriteError = Ok (data_of_table t) in r) (sym h)
+pub ok-along : {X : Type 0} (r : Result X WriteError) (asked : Result Data WriteError) (a b : Table) → OnOk r (a ≡ b)
+    → asked ≡ Ok (data_of_table b) → OnOk r (asked ≡ Ok (data_of_table a))
+ok-along (Ok x) asked a b h is =
+    is ∙ ap (λ (t : Table). let r : Result Data WriteError = Ok (data_of_table t) in r) (sym h)
 ok-along (Err e) asked a b h is = tt
 
 -- ---- a write under a first key: what is asked of the value there
-pub record IsBehind (beside inner : ℕ) (keys : List (Option Key)) (key : Key) (rest : List (Option Key)) (t : Table) (child : Data) : Type 0 where
+pub record IsBehind (beside inner : ℕ) (keys : List (Option Key)) (key : Key) (rest : List (Option Key)) (t : Table)
+    (child : Data) : Type 0 where
   pub room : inner ≡ min (beside + pairs_weight (put t.pairs key null)) 18446744073709551615
   pub first : keys ≡ Some key ∷ rest
   pub entry : entry_at t key ≡ child
 
-module _ (beside inner : ℕ) (keys : List (Option Key)) (key : Key) (rest : List (Option Key)) (push : Bool) (new : Data) (t : Table) (child : Data) (is : IsBehind beside inner keys key rest t child) where
-  pub asked : within beside (written_in keys push new t) ≡ then_data (within inner (written rest push new child)) (λ d. data_of_table (table_set t key d))
+module _ (beside inner : ℕ) (keys : List (Option Key)) (key : Key) (rest : List (Option Key)) (push : Bool) (new : Data)
+    (t : Table) (child : Data) (is : IsBehind beside inner keys key rest t child) where
+  pub asked : within beside (written_in keys push new t) ≡ then_data (within inner (written rest push new child))
+      (λ d. data_of_table (table_set t key d))
   asked =
       ap (λ (ks : List (Option Key)). within beside (written_in ks push new t)) is.first
       ∙ within_set beside t key (written rest push new (entry_at t key))
@@ -219,42 +257,52 @@ module _ (beside inner : ℕ) (keys : List (Option Key)) (key : Key) (rest : Lis
       ∙ ap (λ (n : ℕ). within n (written rest push new (entry_at t key))) (sym is.room)
       ∙ ap (λ (d : Data). within inner (written rest push new d)) is.entry)
 
-  pub behind-done : (d : Data) → within inner (written rest push new child) ≡ Ok d → within beside (written_in keys push new t) ≡ Ok (data_of_table (table_set t key d))
+  pub behind-done : (d : Data) → within inner (written rest push new child) ≡ Ok d
+      → within beside (written_in keys push new t) ≡ Ok (data_of_table (table_set t key d))
   behind-done d h = asked ∙ ap (λ (r : Result Data WriteError). then_data r (λ x. data_of_table (table_set t key x))) h
 
-  pub behind-cause : (e : WriteError) → IsCause (within inner (written rest push new child)) e → IsCause (within beside (written_in keys push new t)) e
+  pub behind-cause : (e : WriteError) → IsCause (within inner (written rest push new child)) e
+      → IsCause (within beside (written_in keys push new t)) e
   behind-cause e cause = elim cause [
     | inl memory ↦ inl memory
     | inr h ↦ inr (asked ∙ ap (λ (r : Result Data WriteError). then_data r (λ x. data_of_table (table_set t key x))) h)
   ]
 
-  pub behind-light : (d : Data) → within inner (written rest push new child) ≡ Ok d → pairs_weight (put t.pairs key d) ≤ weight_limit
+  pub behind-light : (d : Data) → within inner (written rest push new child) ≡ Ok d
+      → pairs_weight (put t.pairs key d) ≤ weight_limit
   behind-light d h =
       let enough : inner + weight_of d ≤ weight_limit = light_enough inner (written rest push new child) d h in
       let room : inner ≡ min (beside + pairs_weight (put t.pairs key null)) 18446744073709551615 = is.room in
       omega (arith, weight-put t.pairs key d)
 
-  pub behind-refused : {X : Type 0} (r : Result X WriteError) → IfErr r (IsCause (within inner (written rest push new child))) → IfErr r (IsCause (within beside (written_in keys push new t)))
+  pub behind-refused : {X : Type 0} (r : Result X WriteError)
+      → IfErr r (IsCause (within inner (written rest push new child)))
+      → IfErr r (IsCause (within beside (written_in keys push new t)))
   behind-refused (Ok x) h = tt
   behind-refused (Err e) h = behind-cause e h
 
   module _ (table : IsTable t) (found : value_at t key ≡ Some child) where
-    pub behind-back : {X : Type 0} (r : Result X WriteError) (d : Data) → OnOk r (within inner (written rest push new child) ≡ Ok d) → OnErr r (d ≡ child) →
+    pub behind-back : {X : Type 0} (r : Result X WriteError) (d : Data)
+        → OnOk r (within inner (written rest push new child) ≡ Ok d) → OnErr r (d ≡ child) →
         pairs_weight (swapped (swapped t.pairs key null) key d) ≤ weight_limit
     behind-back (Ok x) d done err =
-        let same : swapped (swapped t.pairs key null) key d ≡ put t.pairs key d = swapped-swapped t.pairs key null d ∙ sym (put-present t.pairs key d child found) in
+        let same : swapped (swapped t.pairs key null) key d ≡ put t.pairs key d = swapped-swapped t.pairs key null d
+        ∙ sym (put-present t.pairs key d child found) in
         omega (arith, ap pairs_weight same, behind-light d done)
     behind-back (Err e) d done err =
         let same : swapped (swapped t.pairs key null) key d ≡ t.pairs =
         swapped-swapped t.pairs key null d ∙ ap (swapped t.pairs key) err ∙ swapped-same t.pairs key child found in
         omega (arith, ap pairs_weight same, table.light)
 
-    pub behind-ok : {X : Type 0} (r : Result X WriteError) (d : Data) (after : Table) → after ≡ table_exchange t key d → OnOk r (within inner (written rest push new child) ≡ Ok d) →
+    pub behind-ok : {X : Type 0} (r : Result X WriteError) (d : Data) (after : Table) → after ≡ table_exchange t key d
+        → OnOk r (within inner (written rest push new child) ≡ Ok d) →
         OnOk r (within beside (written_in keys push new t) ≡ Ok (data_of_table after))
     behind-ok (Ok x) d after h done =
-        behind-done d done ∙ ap (λ (u : Table). let r : Result Data WriteError = Ok (data_of_table u) in r) (set-present t key d child table found ∙ sym h)
+        behind-done d done ∙ ap (λ (u : Table). let r : Result Data WriteError = Ok (data_of_table u) in r)
+        (set-present t key d child table found ∙ sym h)
     behind-ok (Err e) d after h done = tt
 
-    pub behind-err : {X : Type 0} (r : Result X WriteError) (d : Data) (after : Table) → after ≡ table_exchange t key d → OnErr r (d ≡ child) → OnErr r (after ≡ t)
+    pub behind-err : {X : Type 0} (r : Result X WriteError) (d : Data) (after : Table) → after ≡ table_exchange t key d
+        → OnErr r (d ≡ child) → OnErr r (after ≡ t)
     behind-err (Ok x) d after h err = tt
     behind-err (Err e) d after h err = h ∙ ap (table_exchange t key) err ∙ exchange-same t key child found

@@ -183,7 +183,8 @@ fn raised(largest: Option<i64>, key: &Key) -> Option<i64>
 
 /// The position of a key.
 pub(crate) fn place(keys: &IndexSet<Key>, key: &Key) -> Option<usize>
-    ensures place { MatchOption result (IsAbsent (key_eq key.now) keys.now.keys) (IsFirst (key_eq key.now) keys.now.keys) }
+    ensures place { MatchOption result (IsAbsent (key_eq key.now) keys.now.keys)
+        (IsFirst (key_eq key.now) keys.now.keys) }
     ensures within { IfSome result (λ i. i < length keys.now.keys) }
 {
     keys.get_index_of(key)
@@ -197,7 +198,8 @@ pub(crate) fn store(
     value: Value,
 ) -> Result<(), Memory>
     requires { length values.old.items ≡ length keys.old.keys }
-    ensures ok { OnOk result (pairs_in keys.new.keys values.new.items ≡ put (pairs_in keys.old.keys values.old.items) key (data_of value)) }
+    ensures ok { OnOk result (pairs_in keys.new.keys values.new.items ≡ put
+        (pairs_in keys.old.keys values.old.items) key (data_of value)) }
     ensures err { OnErr result (pairs_in keys.new.keys values.new.items ≡ pairs_in keys.old.keys values.old.items) }
     ensures same_length { length values.new.items ≡ length keys.new.keys }
 {
@@ -218,7 +220,8 @@ pub(crate) fn take_out(keys: &mut IndexSet<Key>, values: &mut Vec<Value>, at: us
     requires light { pairs_weight (pairs_in keys.old.keys values.old.items) ≤ weight_limit }
     ensures keys { keys.new.keys ≡ remove keys.old.keys at }
     ensures values { values.new.items ≡ remove values.old.items at }
-    ensures weight { result + pairs_weight (pairs_in keys.new.keys values.new.items) ≡ pairs_weight (pairs_in keys.old.keys values.old.items) }
+    ensures weight { result + pairs_weight (pairs_in keys.new.keys values.new.items) ≡ pairs_weight
+        (pairs_in keys.old.keys values.old.items) }
 {
     let key = &keys.as_slice()[at];
     let value = &values[at];

@@ -16,7 +16,8 @@ use std::alloc::Global;
 /// `BadKey` comes exactly for an array. Null, a bool and an integer take no memory.
 /// Source: the PHP manual, "Arrays".
 pub fn key_of(alloc: Global, value: &Value) -> Result<Key, ValueError>
-    ensures key { MatchResult result (λ k. key_of_data (data_of value.now) ≡ Some k) (λ e. (e ≡ ValueError.Memory) ⊎ ((e ≡ ValueError.BadKey) × (key_of_data (data_of value.now) ≡ None))) }
+    ensures key { MatchResult result (λ k. key_of_data (data_of value.now) ≡ Some k)
+        (λ e. (e ≡ ValueError.Memory) ⊎ ((e ≡ ValueError.BadKey) × (key_of_data (data_of value.now) ≡ None))) }
     ensures memory { IsErrOf result ValueError.Memory → IsText (data_of value.now) }
 {
     match value {

@@ -1,8 +1,10 @@
 //! The values of the language.
 
-ghost use Rattle.std.specs.Prelude.{◌≡◌, ◌==◌, ◌<◌, ◌≤◌, ◌↔◌, ◌⊎◌, min, length, map, slice_get, is_some, option_map, Some, OnOk, OnErr, IfErr, IsErrOf};
+ghost use Rattle.std.specs.Prelude.{◌≡◌, ◌==◌, ◌<◌, ◌≤◌, ◌↔◌, ◌⊎◌, min, length, map, slice_get, is_some, option_map};
+ghost use Rattle.std.specs.Prelude.{Some, OnOk, OnErr, IfErr, IsErrOf};
 ghost use Rattle.dp_value.specs.Data.{pairs_weight};
-ghost use Rattle.dp_value.specs.Table.{empty, keys_of, values_of, value_at, put, table_set, table_push, table_remove, table_exchange, swapped, weight_limit, largest_int, IsTable};
+ghost use Rattle.dp_value.specs.Table.{empty, keys_of, values_of, value_at, put, table_set, table_push, table_remove};
+ghost use Rattle.dp_value.specs.Table.{table_exchange, swapped, weight_limit, largest_int, IsTable};
 
 use crate::columns::first_entry;
 use crate::{Bytes, Key, ValueError, weight};
@@ -199,7 +201,8 @@ impl PhpArray {
     /// refusal the array is as before.
     pub fn set(&mut self, key: Key, value: Value) -> Result<(), ValueError>
         ensures ok { OnOk result (self.new ≡ table_set self.old key (data_of value)) }
-        ensures too_heavy { IsErrOf result ValueError.TooHeavy ↔ (weight_limit < pairs_weight (put self.old.pairs key (data_of value))) }
+        ensures too_heavy { IsErrOf result ValueError.TooHeavy ↔
+            (weight_limit < pairs_weight (put self.old.pairs key (data_of value))) }
         ensures only { IfErr result (λ e. (e ≡ ValueError.TooHeavy) ⊎ (e ≡ ValueError.Memory)) }
         ensures err { OnErr result (self.new ≡ self.old) }
     {
@@ -217,8 +220,11 @@ impl PhpArray {
     pub fn push(&mut self, value: Value) -> Result<(), ValueError>
         ensures ok { OnOk result (self.new ≡ table_push self.old (data_of value)) }
         ensures next_index { IsErrOf result ValueError.NextIndex ↔ (self.old.largest ≡ Some largest_int) }
-        ensures too_heavy { IsErrOf result ValueError.TooHeavy ↔ ((¬ (self.old.largest ≡ Some largest_int)) × (weight_limit < pairs_weight (table_push self.old (data_of value)).pairs)) }
-        ensures only { IfErr result (λ e. (e ≡ ValueError.NextIndex) ⊎ (e ≡ ValueError.TooHeavy) ⊎ (e ≡ ValueError.Memory)) }
+        ensures too_heavy { IsErrOf result ValueError.TooHeavy ↔
+            ((¬ (self.old.largest ≡ Some largest_int))
+            × (weight_limit < pairs_weight (table_push self.old (data_of value)).pairs)) }
+        ensures only { IfErr result (λ e. (e ≡ ValueError.NextIndex) ⊎ (e ≡ ValueError.TooHeavy)
+            ⊎ (e ≡ ValueError.Memory)) }
         ensures err { OnErr result (self.new ≡ self.old) }
     {
         match self.largest() {

@@ -10,13 +10,13 @@ ghost use Rattle.dp_value.specs.inner.Writing.{put_under, written_in};
 use crate::{Key, PhpArray, Value, WEIGHT_LIMIT, WriteError, weight};
 use std::alloc::Global;
 
-/// Writes one entry, however deep: the value under `keys`, or a new one that is pushed there. A key that is `None` stands
-/// for an index that is no key. Without keys the value itself is replaced, or pushed into. Null and false on the way
-/// become arrays. The work grows with the number of keys, and not with the size of the arrays.
+/// Writes one entry, however deep: the value under `keys`, or a new one that is pushed there. A key that is `None`
+/// stands for an index that is no key. Without keys the value itself is replaced, or pushed into. Null and false on the
+/// way become arrays. The work grows with the number of keys, and not with the size of the arrays.
 ///
-/// The causes are tried key by key: `Scalar` and `Unsupported` by what holds the entry, then `BadKey`; behind the last key
-/// `NextIndex`, then `TooHeavy` where the value, or an array on the way, would weigh more than `WEIGHT_LIMIT`. After a
-/// refusal the value is as before. Source: the PHP manual, "Arrays".
+/// The causes are tried key by key: `Scalar` and `Unsupported` by what holds the entry, then `BadKey`; behind the last
+/// key `NextIndex`, then `TooHeavy` where the value, or an array on the way, would weigh more than `WEIGHT_LIMIT`.
+/// After a refusal the value is as before. Source: the PHP manual, "Arrays".
 pub fn write_at(
     alloc: Global,
     value: &mut Value,
@@ -41,8 +41,10 @@ fn write(
     new: Value,
     beside: u64,
 ) -> Result<(), WriteError>
-    ensures ok { OnOk result (within beside (written keys.now push (data_of new) (data_of value.old)) ≡ Ok (data_of value.new)) }
-    ensures refused { IfErr result (λ e. IsCause (within beside (written keys.now push (data_of new) (data_of value.old))) e) }
+    ensures ok { OnOk result (within beside (written keys.now push (data_of new) (data_of value.old)) ≡ Ok
+        (data_of value.new)) }
+    ensures refused { IfErr result (λ e. IsCause (within beside
+        (written keys.now push (data_of new) (data_of value.old))) e) }
     ensures err { OnErr result (value.new ≡ value.old) }
 {
     if keys.is_empty() && !push {
@@ -69,7 +71,8 @@ fn write_new(
     new: Value,
     beside: u64,
 ) -> Result<PhpArray, WriteError>
-    ensures ok { IfOk result (λ array. within beside (written_in keys.now push (data_of new) empty) ≡ Ok (data_of_table array)) }
+    ensures ok { IfOk result (λ array. within beside (written_in keys.now push (data_of new) empty) ≡ Ok
+        (data_of_table array)) }
     ensures refused { IfErr result (λ e. IsCause (within beside (written_in keys.now push (data_of new) empty)) e) }
 {
     let mut array = PhpArray::new(alloc);
@@ -87,7 +90,8 @@ fn write_into(
     new: Value,
     beside: u64,
 ) -> Result<(), WriteError>
-    ensures ok { OnOk result (within beside (written_in keys.now push (data_of new) array.old) ≡ Ok (data_of_table array.new)) }
+    ensures ok { OnOk result (within beside (written_in keys.now push (data_of new) array.old) ≡ Ok
+        (data_of_table array.new)) }
     ensures refused { IfErr result (λ e. IsCause (within beside (written_in keys.now push (data_of new) array.old)) e) }
     ensures err { OnErr result (array.new ≡ array.old) }
 {

@@ -37,7 +37,8 @@ each_part : (name : List ℕ) → IsName name → Each is_part name
 each_part [] is = elim is [ ]
 each_part (b ∷ t) is = (rw is.0 refl, is.1)
 
-name_again : (name rest : List ℕ) → IsName name → length name ≤ longest_name → begins is_part rest ≡ false → name_at (name ++ rest) ≡ Some (name, rest)
+name_again : (name rest : List ℕ) → IsName name → length name ≤ longest_name → begins is_part rest ≡ false
+    → name_at (name ++ rest) ≡ Some (name, rest)
 unfolding name_at
 name_again [] rest is short stops = elim is [ ]
 name_again (b ∷ t) rest is short stops =
@@ -52,9 +53,11 @@ undollared : (name rest : List ℕ) → IsName name → without_dollar (name ++ 
 undollared [] rest is = elim is [ ]
 undollared (b ∷ t) rest is = ap (λ u. cond u (t ++ rest) (b ∷ (t ++ rest))) (other_byte is_start 36 b refl is.0)
 
-dollar_again : (front name rest : List ℕ) → Dollar front → IsName name → without_dollar (front ++ (name ++ rest)) ≡ name ++ rest
+dollar_again : (front name rest : List ℕ) → Dollar front → IsName name
+    → without_dollar (front ++ (name ++ rest)) ≡ name ++ rest
 dollar_again front name rest (inl e) is = ap (λ (t : List ℕ). without_dollar (t ++ (name ++ rest))) e
-dollar_again front name rest (inr e) is = ap (λ (t : List ℕ). without_dollar (t ++ (name ++ rest))) e ∙ undollared name rest is
+dollar_again front name rest (inr e) is =
+    ap (λ (t : List ℕ). without_dollar (t ++ (name ++ rest))) e ∙ undollared name rest is
 
 -- ---- between quotes
 
@@ -66,7 +69,8 @@ unfolding byte_at
 plain_again quote b tail e =
     let one = and_parts (not (b == quote) && not (b == 92)) (not (b == 0)) e in
     let two = and_parts (not (b == quote)) (not (b == 92)) one.0 in
-    ap (λ u. cond u (Some (None, b ∷ tail)) (cond (b == 92) (pair_at quote tail) (cond (b == 0) None (found_byte b tail)))) (not_true (b == quote) two.0)
+    ap (λ u. cond u (Some (None, b ∷ tail)) (cond (b == 92) (pair_at quote tail)
+    (cond (b == 0) None (found_byte b tail)))) (not_true (b == quote) two.0)
     ∙ ap (λ u. cond u (pair_at quote tail) (cond (b == 0) None (found_byte b tail))) (not_true (b == 92) two.1)
     ∙ ap (λ u. cond u None (found_byte b tail)) (not_true (b == 0) one.1)
 
@@ -75,15 +79,19 @@ not_backslash : (quote : ℕ) → IsQuote quote → (92 == quote) ≡ false
 not_backslash quote (inl e) = subst (λ (q : ℕ). (92 == q) ≡ false) (sym e) refl
 not_backslash quote (inr e) = subst (λ (q : ℕ). (92 == q) ≡ false) (sym e) refl
 
-pair_again : (quote c b : ℕ) (tail : List ℕ) → IsQuote quote → pair_of quote c ≡ Some b → byte_at quote (92 ∷ c ∷ tail) ≡ found_byte b tail
+pair_again : (quote c b : ℕ) (tail : List ℕ) → IsQuote quote → pair_of quote c ≡ Some b
+    → byte_at quote (92 ∷ c ∷ tail) ≡ found_byte b tail
 unfolding byte_at
 pair_again quote c b tail is e =
     ap (λ u. cond u (Some (None, 92 ∷ c ∷ tail)) (pair_at quote (c ∷ tail))) (not_backslash quote is)
     ∙ ap (λ (o : Option ℕ). o >>= λ b. found_byte b tail) e
 
-byte_again : (quote b : ℕ) (front tail : List ℕ) → IsQuote quote → Within quote b front → byte_at quote (front ++ tail) ≡ found_byte b tail
-byte_again quote b front tail is (inl p) = ap (λ (t : List ℕ). byte_at quote (t ++ tail)) p.1 ∙ plain_again quote b tail p.0
-byte_again quote b front tail is (inr p) = ap (λ (t : List ℕ). byte_at quote (t ++ tail)) p.2 ∙ pair_again quote p.0 b tail is p.1
+byte_again : (quote b : ℕ) (front tail : List ℕ) → IsQuote quote → Within quote b front
+    → byte_at quote (front ++ tail) ≡ found_byte b tail
+byte_again quote b front tail is (inl p) =
+    ap (λ (t : List ℕ). byte_at quote (t ++ tail)) p.1 ∙ plain_again quote b tail p.0
+byte_again quote b front tail is (inr p) =
+    ap (λ (t : List ℕ). byte_at quote (t ++ tail)) p.2 ∙ pair_again quote p.0 b tail is p.1
 
 within_some : (quote b : ℕ) (front : List ℕ) → Within quote b front → 1 ≤ length front
 within_some quote b front (inl p) = omega (arith, ap length p.1)
@@ -98,13 +106,19 @@ behind_quote : (quote : ℕ) (rest : List ℕ) → IsQuote quote → behind quot
 behind_quote quote rest (inl e) = subst (λ (q : ℕ). behind q (q ∷ rest) ≡ Some rest) (sym e) refl
 behind_quote quote rest (inr e) = subst (λ (q : ℕ). behind q (q ∷ rest) ≡ Some rest) (sym e) refl
 
-quoted_again : (quote : ℕ) (value inner rest : List ℕ) → IsQuote quote → Repeated (Within quote) value inner → quoted_at quote (inner ++ (quote ∷ rest)) ≡ Some (key_of_text value, rest)
+quoted_again : (quote : ℕ) (value inner rest : List ℕ) → IsQuote quote → Repeated (Within quote) value inner
+    → quoted_at quote (inner ++ (quote ∷ rest)) ≡ Some (key_of_text value, rest)
 unfolding quoted_at
 quoted_again quote value inner rest is items =
     let all = inner ++ (quote ∷ rest) in
-    let few : length value ≤ length all = omega (arith, items_few (Within quote) (within_some quote) value inner items, length-append inner (quote ∷ rest)) in
+    let few : length value ≤ length all = omega (
+      arith,
+      items_few (Within quote) (within_some quote) value inner items,
+      length-append inner (quote ∷ rest),
+    ) in
     ap (λ (o : Option (List ℕ × List ℕ)). o >>= λ v. behind quote v.1 >>= λ r. Some (key_of_text v.0, r))
-    (items_again (Within quote) (byte_at quote) (λ _. Unit {0}) (quote ∷ rest) (λ a f t r. tt) tt (λ a f t r _. byte_again quote a f t is r) (quote_ends quote rest is) (length all) value inner items few)
+    (items_again (Within quote) (byte_at quote) (λ _. Unit {0}) (quote ∷ rest) (λ a f t r. tt) tt
+    (λ a f t r _. byte_again quote a f t is r) (quote_ends quote rest is) (length all) value inner items few)
     ∙ ap (λ (o : Option (List ℕ)). o >>= λ r. Some (key_of_text value, r)) (behind_quote quote rest is)
 
 -- ---- integers
@@ -119,15 +133,18 @@ positive_each : (text : List ℕ) → is_positive text ≡ true → Each is_int_
 positive_each [] e = tt
 positive_each (c ∷ cs) e = digits_each (c ∷ cs) (and_parts (not (c == 48)) (list_all is_ascii_digit (c ∷ cs)) e).1
 
-signed_each : (c : ℕ) (cs : List ℕ) (u : Bool) → (c == 45) ≡ u → is_positive (cond u cs (c ∷ cs)) ≡ true → Each is_int_byte (c ∷ cs)
+signed_each : (c : ℕ) (cs : List ℕ) (u : Bool) → (c == 45) ≡ u → is_positive (cond u cs (c ∷ cs)) ≡ true
+    → Each is_int_byte (c ∷ cs)
 signed_each c cs true m e = (subst (λ (x : ℕ). is_int_byte x ≡ true) (sym (eqb-true c 45 m)) refl, positive_each cs e)
 signed_each c cs false m e = positive_each (c ∷ cs) e
 
 zero_each : (c : ℕ) (cs : List ℕ) → pointwise nat_eq (c ∷ cs) (48 ∷ []) ≡ true → Each is_int_byte (c ∷ cs)
-zero_each c [] e = (subst (λ (x : ℕ). is_int_byte x ≡ true) (sym (eqb-true c 48 (and_parts (nat_eq c 48) true e).0)) refl, tt)
+zero_each c [] e =
+    (subst (λ (x : ℕ). is_int_byte x ≡ true) (sym (eqb-true c 48 (and_parts (nat_eq c 48) true e).0)) refl, tt)
 zero_each c (d ∷ cs) e = let p : false ≡ true = (and_parts (nat_eq c 48) false e).1 in absurd cc
 
-form_cases : (c : ℕ) (cs : List ℕ) (u : Bool) → pointwise nat_eq (c ∷ cs) (48 ∷ []) ≡ u → (u || is_positive (without_minus (c ∷ cs))) ≡ true → Each is_int_byte (c ∷ cs)
+form_cases : (c : ℕ) (cs : List ℕ) (u : Bool) → pointwise nat_eq (c ∷ cs) (48 ∷ []) ≡ u
+    → (u || is_positive (without_minus (c ∷ cs))) ≡ true → Each is_int_byte (c ∷ cs)
 form_cases c cs true z e = zero_each c cs z
 form_cases c cs false z e = signed_each c cs (c == 45) refl e
 
@@ -145,14 +162,17 @@ int_bytes (c ∷ cs) n e =
     let each = form_cases c cs (pointwise nat_eq text (48 ∷ [])) refl form in
     (each.0, each)
 
-no_quote : (quote : ℕ) (text rest : List ℕ) → is_int_byte quote ≡ false → begins is_int_byte text ≡ true → begins (λ b. b == quote) (text ++ rest) ≡ false
+no_quote : (quote : ℕ) (text rest : List ℕ) → is_int_byte quote ≡ false → begins is_int_byte text ≡ true
+    → begins (λ b. b == quote) (text ++ rest) ≡ false
 no_quote quote [] rest wrong right = absurd cc
 no_quote quote (b ∷ t) rest wrong right = other_byte is_int_byte quote b wrong right
 
-int_again : (text rest : List ℕ) (n : ℤ) → int_of_text text ≡ Some n → int_at (text ++ (93 ∷ rest)) ≡ Some (Int n, 93 ∷ rest)
+int_again : (text rest : List ℕ) (n : ℤ) → int_of_text text ≡ Some n
+    → int_at (text ++ (93 ∷ rest)) ≡ Some (Int n, 93 ∷ rest)
 unfolding int_at
 int_again text rest n e =
-    ap (λ (v : List ℕ × List ℕ). int_of_text v.0 >>= λ n. Some (Int n, v.1)) (run_again is_int_byte text (93 ∷ rest) (int_bytes text n e).1 refl)
+    ap (λ (v : List ℕ × List ℕ). int_of_text v.0 >>= λ n. Some (Int n, v.1))
+    (run_again is_int_byte text (93 ∷ rest) (int_bytes text n e).1 refl)
     ∙ ap (λ (o : Option ℤ). o >>= λ n. Some (Int n, 93 ∷ rest)) e
 
 -- ---- keys
@@ -160,7 +180,8 @@ int_again text rest n e =
 abbrev key_by : Bool → Bool → List ℕ → Option (Key × List ℕ)
 key_by u v bytes = cond u (quoted_at 34 (drop 1 bytes)) (cond v (quoted_at 39 (drop 1 bytes)) (int_at bytes))
 
-int_key_again : (key : Key) (text rest : List ℕ) (n : ℤ) → int_of_text text ≡ Some n → key ≡ Int n → key_at (text ++ (93 ∷ rest)) ≡ Some (key, 93 ∷ rest)
+int_key_again : (key : Key) (text rest : List ℕ) (n : ℤ) → int_of_text text ≡ Some n → key ≡ Int n
+    → key_at (text ++ (93 ∷ rest)) ≡ Some (key, 93 ∷ rest)
 unfolding key_at
 int_key_again key text rest n e k =
     let bytes = text ++ (93 ∷ rest) in
@@ -175,14 +196,17 @@ unfolding key_at
 opened_again quote tail (inl e) = subst (λ (q : ℕ). key_at (q ∷ tail) ≡ quoted_at q tail) (sym e) refl
 opened_again quote tail (inr e) = subst (λ (q : ℕ). key_at (q ∷ tail) ≡ quoted_at q tail) (sym e) refl
 
-text_key_again : (key : Key) (quote : ℕ) (value front rest : List ℕ) → IsQuote quote → Quoted quote value front → key ≡ key_of_text value → key_at (front ++ (93 ∷ rest)) ≡ Some (key, 93 ∷ rest)
+text_key_again : (key : Key) (quote : ℕ) (value front rest : List ℕ) → IsQuote quote → Quoted quote value front
+    → key ≡ key_of_text value → key_at (front ++ (93 ∷ rest)) ≡ Some (key, 93 ∷ rest)
 text_key_again key quote value front rest is q k =
     let i = q.second in
     let close : List ℕ = quote ∷ 93 ∷ rest in
     let back : q.back ++ (93 ∷ rest) ≡ i.front ++ close =
-    ap (λ (t : List ℕ). t ++ (93 ∷ rest)) (i.whole ∙ ap (λ (t : List ℕ). i.front ++ t) i.second) ∙ append_assoc i.front (quote ∷ []) (93 ∷ rest) in
+    ap (λ (t : List ℕ). t ++ (93 ∷ rest)) (i.whole ∙ ap (λ (t : List ℕ). i.front ++ t) i.second)
+    ∙ append_assoc i.front (quote ∷ []) (93 ∷ rest) in
     let all : front ++ (93 ∷ rest) ≡ quote ∷ (i.front ++ close) =
-    ap (λ (t : List ℕ). t ++ (93 ∷ rest)) (q.whole ∙ ap (λ (t : List ℕ). t ++ q.back) q.first) ∙ ap (λ (t : List ℕ). quote ∷ t) back in
+    ap (λ (t : List ℕ). t ++ (93 ∷ rest)) (q.whole ∙ ap (λ (t : List ℕ). t ++ q.back) q.first)
+    ∙ ap (λ (t : List ℕ). quote ∷ t) back in
     ap key_at all ∙ opened_again quote (i.front ++ close) is ∙ quoted_again quote value i.front (93 ∷ rest) is i.first
     ∙ ap (λ (x : Key). Some (x, 93 ∷ rest)) (sym k)
 
@@ -192,18 +216,22 @@ key_again key front rest (inr p) = text_key_again key p.0 p.1 front rest p.2 p.3
 
 -- ---- indices
 
-index_spelt : (key : Key) (front tail : List ℕ) (i : Index key front) → front ++ tail ≡ 91 ∷ (i.second.front ++ (93 ∷ tail))
+index_spelt : (key : Key) (front tail : List ℕ) (i : Index key front)
+    → front ++ tail ≡ 91 ∷ (i.second.front ++ (93 ∷ tail))
 index_spelt key front tail i =
     let s = i.second in
     let back : i.back ++ tail ≡ s.front ++ (93 ∷ tail) =
-    ap (λ (t : List ℕ). t ++ tail) (s.whole ∙ ap (λ (t : List ℕ). s.front ++ t) s.second) ∙ append_assoc s.front (93 ∷ []) tail in
-    ap (λ (t : List ℕ). t ++ tail) (i.whole ∙ ap (λ (t : List ℕ). t ++ i.back) i.first) ∙ ap (λ (t : List ℕ). 91 ∷ t) back
+    ap (λ (t : List ℕ). t ++ tail) (s.whole ∙ ap (λ (t : List ℕ). s.front ++ t) s.second)
+    ∙ append_assoc s.front (93 ∷ []) tail in
+    ap (λ (t : List ℕ). t ++ tail) (i.whole ∙ ap (λ (t : List ℕ). t ++ i.back) i.first)
+    ∙ ap (λ (t : List ℕ). 91 ∷ t) back
 
 index_again : (key : Key) (front tail : List ℕ) → Index key front → index_at (front ++ tail) ≡ Some (Some key, tail)
 unfolding index_at
 index_again key front tail i =
     ap index_at (index_spelt key front tail i)
-    ∙ ap (λ (o : Option (Key × List ℕ)). o >>= λ k. behind 93 k.1 >>= λ r. Some (Some k.0, r)) (key_again key i.second.front tail i.second.first)
+    ∙ ap (λ (o : Option (Key × List ℕ)). o >>= λ k. behind 93 k.1 >>= λ r. Some (Some k.0, r))
+    (key_again key i.second.front tail i.second.first)
 
 index_some : (key : Key) (front : List ℕ) → Index key front → 1 ≤ length front
 index_some key front i = omega (arith, ap length (sym (append-nil front) ∙ index_spelt key front [] i))
@@ -226,7 +254,8 @@ keys_again keys bytes items =
     let few = items_few Index index_some keys bytes items in
     let read : items_at index_at (length bytes) bytes ≡ Some (keys, []) =
     ap (items_at index_at (length bytes)) (sym (append-nil bytes))
-    ∙ items_again Index index_at (λ _. Unit {0}) [] (λ a f t r. tt) tt (λ a f t r _. index_again a f t r) no_index (length bytes) keys bytes items few in
+    ∙ items_again Index index_at (λ _. Unit {0}) [] (λ a f t r. tt) tt (λ a f t r _. index_again a f t r) no_index
+    (length bytes) keys bytes items few in
     ap (λ (o : Option (List Key × List ℕ)). o >>= λ found. cond (length found.1 == 0) (Some found.0) None) read
 
 pub path_again : (bytes : List ℕ) (path : Path) → spelt bytes path → path_at bytes ≡ Some path
@@ -237,7 +266,8 @@ path_again bytes path j =
     let rest = n.back in
     let back : j.back ≡ name ++ rest = n.whole ∙ ap (λ (t : List ℕ). t ++ rest) n.first.1 in
     let bare : without_dollar bytes ≡ name ++ rest =
-    ap without_dollar (j.whole ∙ ap (λ (t : List ℕ). j.front ++ t) back) ∙ dollar_again j.front name rest j.first n.first.0.0 in
+    ap without_dollar (j.whole ∙ ap (λ (t : List ℕ). j.front ++ t) back)
+    ∙ dollar_again j.front name rest j.first n.first.0.0 in
     let named : name_at (without_dollar bytes) ≡ Some (name, rest) =
     ap name_at bare ∙ name_again name rest n.first.0.0 n.first.0.1 (keys_start path.keys rest n.second) in
     let with : List ℕ → List Key → Path = λ a b. record { name = a; keys = b } in

@@ -17,12 +17,14 @@ own = numerals_by_value (λ ds. list_all is_ascii_digit ds ≡ true) (search rul
 -- ---- numbers
 
 positive : (n : ℕ) → 0 < n → n < 2 ^ 64 → is_positive (decimal n) ≡ true
-positive n some small = by (decimal n) (digits_decimal own n small) (first_decimal n some small) (decimal_is_IsNumeral n small).0.0 where
-  by : (ds : List ℕ) → list_all is_ascii_digit ds ≡ true → 48 < get_or ds 0 0 → 0 < length ds → is_positive ds ≡ true
-  by [] all first more = absurd (omega arith)
-  by (c ∷ cs) all first more =
-      let no : (c == 48) ≡ false = grind (arith, nat_tests) in
-      rw (no, all) refl
+positive n some small =
+    by (decimal n) (digits_decimal own n small) (first_decimal n some small) (decimal_is_IsNumeral n small).0.0 where
+      by : (ds : List ℕ) → list_all is_ascii_digit ds ≡ true → 48 < get_or ds 0 0 → 0 < length ds →
+          is_positive ds ≡ true
+      by [] all first more = absurd (omega arith)
+      by (c ∷ cs) all first more =
+          let no : (c == 48) ≡ false = grind (arith, nat_tests) in
+          rw (no, all) refl
 
 or_true : (b : Bool) → (b || true) ≡ true
 or_true true = refl
@@ -31,14 +33,16 @@ or_true false = refl
 zero_text : decimal 0 ≡ 48 ∷ []
 zero_text = decimal_digit 0 (omega arith)
 
-positive_int : (ds : List ℕ) (n : ℕ) → is_positive ds ≡ true → 48 < get_or ds 0 0 → digits_value 10 ds ≡ n → nat_lt n (2 ^ 63) ≡ true → int_of_text ds ≡ Some (pos n)
+positive_int : (ds : List ℕ) (n : ℕ) → is_positive ds ≡ true → 48 < get_or ds 0 0 → digits_value 10 ds ≡ n
+    → nat_lt n (2 ^ 63) ≡ true → int_of_text ds ≡ Some (pos n)
 positive_int [] n form first value within = absurd cc
 positive_int (c ∷ cs) n form first value within =
     let minus : (c == 45) ≡ false = grind (arith, nat_tests) in
     let plus : (c == 43) ≡ false = grind (arith, nat_tests) in
     let text : List ℕ = c ∷ cs in
     let is_zero = pointwise nat_eq text (48 ∷ []) in
-    let is_form : is_int_form text ≡ true = ap (λ m. is_zero || is_positive (cond m cs text)) minus ∙ ap (λ v. is_zero || v) form ∙ or_true is_zero in
+    let is_form : is_int_form text ≡ true = ap (λ m. is_zero || is_positive (cond m cs text)) minus
+    ∙ ap (λ v. is_zero || v) form ∙ or_true is_zero in
     let number : signed_digits_value 10 text ≡ pos n = rw (minus, plus) (ap pos value) in
     rw (is_form, number, within) refl
 
@@ -46,7 +50,8 @@ pub int_is : (i : ℤ) → is_in_64_bits i ≡ true → int_of_text (signed_deci
 int_is (pos zero) within = rw zero_text refl
 int_is (pos (suc n)) within =
     let less : suc n < 2 ^ 63 = ltb-true (suc n) (2 ^ 63) within in
-    positive_int (decimal (suc n)) (suc n) (positive (suc n) (omega arith) (omega arith)) (first_decimal (suc n) (omega arith) (omega arith)) (digits_value-decimal own (suc n) (omega arith)) within
+    positive_int (decimal (suc n)) (suc n) (positive (suc n) (omega arith) (omega arith))
+    (first_decimal (suc n) (omega arith) (omega arith)) (digits_value-decimal own (suc n) (omega arith)) within
 int_is (negsuc n) within =
     let less : n < 2 ^ 63 = ltb-true n (2 ^ 63) within in
     let value : digits_value 10 (decimal (suc n)) ≡ suc n = digits_value-decimal own (suc n) (omega arith) in

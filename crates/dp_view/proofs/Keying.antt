@@ -16,17 +16,21 @@ use Rattle.dp_view.specs.declared.paging.Paging.{Paging}
 use Rattle.dp_view.specs.inner.Keyed.{AreKeyed, HoldsOn, HoldsWithin, IsKeyed, VariableIsKeyed, VariablesAreKeyed, pairs_in}
 
 -- what holds so far, and of one more
-pub within_more : (P : Data → Type 0) (pairs : List (Key × Data)) (start at : ℕ) → HoldsWithin P pairs start at → HoldsWithin P pairs at (at + 1) → HoldsWithin P pairs start (at + 1)
+pub within_more : (P : Data → Type 0) (pairs : List (Key × Data)) (start at : ℕ) → HoldsWithin P pairs start at
+    → HoldsWithin P pairs at (at + 1) → HoldsWithin P pairs start (at + 1)
 within_more P pairs start at before here = λ k e low high there.
     by k e low high there (nat_lt k at) refl where
-      by : (k : ℕ) (e : Key × Data) → start ≤ k → k < at + 1 → slice_get pairs k ≡ Some e → (b : Bool) → nat_lt k at ≡ b → P e.1
+      by : (k : ℕ) (e : Key × Data) → start ≤ k → k < at + 1 → slice_get pairs k ≡ Some e → (b : Bool) → nat_lt k at ≡ b
+          → P e.1
       by k e low high there true is = before k e low (ltb-true k at is) there
       by k e low high there false is = here k e (ltb-false k at is) high there
 
-pub within_less : (P : Data → Type 0) (pairs : List (Key × Data)) (start end at : ℕ) → end ≤ at → HoldsWithin P pairs start at → HoldsWithin P pairs start end
+pub within_less : (P : Data → Type 0) (pairs : List (Key × Data)) (start end at : ℕ) → end ≤ at
+    → HoldsWithin P pairs start at → HoldsWithin P pairs start end
 within_less P pairs start end at le all = λ k e low high there. all k e low (omega arith) there
 
-pub on_page : (size page levels : ℕ) (pairs : List (Key × Data)) (start end : ℕ) → levels ≢ 0 → start ≡ min (page * size) (length pairs) → end ≡ min (start + size) (length pairs)
+pub on_page : (size page levels : ℕ) (pairs : List (Key × Data)) (start end : ℕ) → levels ≢ 0
+    → start ≡ min (page * size) (length pairs) → end ≡ min (start + size) (length pairs)
     → HoldsWithin (IsKeyed size 0 (levels - 1)) pairs start end → AreKeyed size page levels pairs
 on_page size page zero pairs start end some s e all = tt
 on_page size page (suc levels) pairs start end some s e all = λ k entry low high there.
@@ -45,16 +49,23 @@ distinct_none = tt
 pub bare_keyed : (size page levels : ℕ) (d : Data) → pairs_in d ≡ [] → IsKeyed size page levels d
 bare_keyed size page zero d e = tt
 bare_keyed size page (suc levels) d e =
-    subst (λ (pairs : List (Key × Data)). IsDistinct key_eq (keys_of pairs) × HoldsOn (IsKeyed size 0 levels) pairs page size) (sym e)
-    (distinct_none, λ k entry low high there. let none : slice_get {X = Key × Data} [] k ≡ None = slice_get_past [] k (omega arith) in absurd cc)
+    subst (λ (pairs : List (Key × Data)). IsDistinct key_eq (keys_of pairs)
+    × HoldsOn (IsKeyed size 0 levels) pairs page size) (sym e) (
+      distinct_none,
+      λ k entry low high there. let none : slice_get {X = Key × Data} [] k ≡ None = slice_get_past [] k
+          (omega arith) in absurd cc,
+    )
 
-pub array_keyed : (size page levels : ℕ) (t : Table) → IsTable t → AreKeyed size page levels t.pairs → IsKeyed size page levels (data_of (Array t))
+pub array_keyed : (size page levels : ℕ) (t : Table) → IsTable t → AreKeyed size page levels t.pairs
+    → IsKeyed size page levels (data_of (Array t))
 array_keyed size page zero t is all = tt
 array_keyed size page (suc levels) t is all =
-    subst (λ (pairs : List (Key × Data)). IsDistinct key_eq (keys_of pairs) × HoldsOn (IsKeyed size 0 levels) pairs page size) (sym (pairs_of-entries_of t.pairs)) (is.distinct, all)
+    subst (λ (pairs : List (Key × Data)). IsDistinct key_eq (keys_of pairs)
+    × HoldsOn (IsKeyed size 0 levels) pairs page size) (sym (pairs_of-entries_of t.pairs)) (is.distinct, all)
 
 -- the entry at a place
-pub here_only : (P : Data → Type 0) (pairs : List (Key × Data)) (at : ℕ) (found : Option (Key × Data)) → slice_get pairs at ≡ found → ((e : Key × Data) → found ≡ Some e → P e.1)
+pub here_only : (P : Data → Type 0) (pairs : List (Key × Data)) (at : ℕ) (found : Option (Key × Data))
+    → slice_get pairs at ≡ found → ((e : Key × Data) → found ≡ Some e → P e.1)
     → HoldsWithin P pairs at (at + 1)
 here_only P pairs at found is here = λ k e low high there.
     let same : k ≡ at = omega arith in
@@ -66,5 +77,6 @@ on_ok P Q more (Err e) p = tt
 
 -- ---- variables
 
-pub keyed_more : (p : Paging) (globals variables : Variables) (at : ℕ) → VariablesAreKeyed p globals variables at → VariableIsKeyed p globals variables at → VariablesAreKeyed p globals variables (at + 1)
+pub keyed_more : (p : Paging) (globals variables : Variables) (at : ℕ) → VariablesAreKeyed p globals variables at
+    → VariableIsKeyed p globals variables at → VariablesAreKeyed p globals variables (at + 1)
 keyed_more p globals variables at before here = below_more (VariableIsKeyed p globals variables) at before here

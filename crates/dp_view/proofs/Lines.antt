@@ -21,7 +21,8 @@ dropped_none (suc k) = refl
 
 -- ---- a byte at the front of the first line
 
-front_begun : (b n : ℕ) (lines : List (List ℕ)) → joined (take (suc n) (begun b lines)) ≡ b ∷ joined (take (suc n) lines)
+front_begun : (b n : ℕ) (lines : List (List ℕ))
+    → joined (take (suc n) (begun b lines)) ≡ b ∷ joined (take (suc n) lines)
 front_begun b n [] = ap (λ (t : List ℕ). b ∷ t) (none_joined n)
 front_begun b n (line ∷ lines) = refl
 
@@ -39,17 +40,23 @@ front_lines : (n : ℕ) (bytes : List ℕ) → joined (take n (lines_of bytes)) 
 front_lines zero bytes = refl
 front_lines (suc n) [] = none_of (suc n)
 front_lines (suc n) (b ∷ bytes) = by (b == 10) (front_lines n bytes) (front_lines (suc n) bytes) where
-  by : (feed : Bool) → joined (take n (lines_of bytes)) ≡ take (lines_length n bytes) bytes → joined (take (suc n) (lines_of bytes)) ≡ take (lines_length (suc n) bytes) bytes
-      → joined (take (suc n) (cond feed ((b ∷ []) ∷ lines_of bytes) (begun b (lines_of bytes)))) ≡ take (1 + lines_length (cond feed n (suc n)) bytes) (b ∷ bytes)
-  by true ended going = ap (λ (t : List ℕ). b ∷ t) ended ∙ ap (λ k. take k (b ∷ bytes)) (one_more (lines_length n bytes))
-  by false ended going = front_begun b n (lines_of bytes) ∙ ap (λ (t : List ℕ). b ∷ t) going ∙ ap (λ k. take k (b ∷ bytes)) (one_more (lines_length (suc n) bytes))
+  by : (feed : Bool) → joined (take n (lines_of bytes)) ≡ take (lines_length n bytes) bytes
+      → joined (take (suc n) (lines_of bytes)) ≡ take (lines_length (suc n) bytes) bytes
+      → joined (take (suc n) (cond feed ((b ∷ []) ∷ lines_of bytes) (begun b (lines_of bytes)))) ≡ take
+      (1 + lines_length (cond feed n (suc n)) bytes) (b ∷ bytes)
+  by true ended going =
+      ap (λ (t : List ℕ). b ∷ t) ended ∙ ap (λ k. take k (b ∷ bytes)) (one_more (lines_length n bytes))
+  by false ended going =
+      front_begun b n (lines_of bytes) ∙ ap (λ (t : List ℕ). b ∷ t) going
+      ∙ ap (λ k. take k (b ∷ bytes)) (one_more (lines_length (suc n) bytes))
 
 back_lines : (n : ℕ) (bytes : List ℕ) → joined (drop n (lines_of bytes)) ≡ drop (lines_length n bytes) bytes
 back_lines zero bytes = whole bytes where
   whole : (bytes : List ℕ) → joined (lines_of bytes) ≡ bytes
   whole [] = refl
   whole (b ∷ bytes) = by (b == 10) (whole bytes) where
-    by : (feed : Bool) → joined (lines_of bytes) ≡ bytes → joined (cond feed ((b ∷ []) ∷ lines_of bytes) (begun b (lines_of bytes))) ≡ b ∷ bytes
+    by : (feed : Bool) → joined (lines_of bytes) ≡ bytes
+        → joined (cond feed ((b ∷ []) ∷ lines_of bytes) (begun b (lines_of bytes))) ≡ b ∷ bytes
     by true more = ap (λ (t : List ℕ). b ∷ t) more
     by false more = begins (lines_of bytes) ∙ ap (λ (t : List ℕ). b ∷ t) more where
       begins : (lines : List (List ℕ)) → joined (begun b lines) ≡ b ∷ joined lines
@@ -57,33 +64,46 @@ back_lines zero bytes = whole bytes where
       begins (line ∷ lines) = refl
 back_lines (suc n) [] = ap joined (dropped_none n)
 back_lines (suc n) (b ∷ bytes) = by (b == 10) (back_lines n bytes) (back_lines (suc n) bytes) where
-  by : (feed : Bool) → joined (drop n (lines_of bytes)) ≡ drop (lines_length n bytes) bytes → joined (drop (suc n) (lines_of bytes)) ≡ drop (lines_length (suc n) bytes) bytes
-      → joined (drop (suc n) (cond feed ((b ∷ []) ∷ lines_of bytes) (begun b (lines_of bytes)))) ≡ drop (1 + lines_length (cond feed n (suc n)) bytes) (b ∷ bytes)
+  by : (feed : Bool) → joined (drop n (lines_of bytes)) ≡ drop (lines_length n bytes) bytes
+      → joined (drop (suc n) (lines_of bytes)) ≡ drop (lines_length (suc n) bytes) bytes
+      → joined (drop (suc n) (cond feed ((b ∷ []) ∷ lines_of bytes) (begun b (lines_of bytes)))) ≡ drop
+      (1 + lines_length (cond feed n (suc n)) bytes) (b ∷ bytes)
   by true ended going = ended ∙ ap (λ k. drop k (b ∷ bytes)) (one_more (lines_length n bytes))
-  by false ended going = ap joined (back_begun b n (lines_of bytes)) ∙ going ∙ ap (λ k. drop k (b ∷ bytes)) (one_more (lines_length (suc n) bytes))
+  by false ended going =
+      ap joined (back_begun b n (lines_of bytes)) ∙ going
+      ∙ ap (λ k. drop k (b ∷ bytes)) (one_more (lines_length (suc n) bytes))
 
 -- the first lines of what stands behind others
-middle_lines : (n k : ℕ) (bytes : List ℕ) → joined (take k (drop n (lines_of bytes))) ≡ joined (take k (lines_of (drop (lines_length n bytes) bytes)))
+middle_lines : (n k : ℕ) (bytes : List ℕ)
+    → joined (take k (drop n (lines_of bytes))) ≡ joined (take k (lines_of (drop (lines_length n bytes) bytes)))
 middle_lines zero k bytes = refl
-middle_lines (suc n) k [] = ap (λ (l : List (List ℕ)). joined (take k l)) (dropped_none n) ∙ none_joined k ∙ sym (none_of k)
+middle_lines (suc n) k [] =
+    ap (λ (l : List (List ℕ)). joined (take k l)) (dropped_none n) ∙ none_joined k ∙ sym (none_of k)
 middle_lines (suc n) k (b ∷ bytes) = by (b == 10) (middle_lines n k bytes) (middle_lines (suc n) k bytes) where
-  by : (feed : Bool) → joined (take k (drop n (lines_of bytes))) ≡ joined (take k (lines_of (drop (lines_length n bytes) bytes)))
-      → joined (take k (drop (suc n) (lines_of bytes))) ≡ joined (take k (lines_of (drop (lines_length (suc n) bytes) bytes)))
+  by : (feed : Bool) → joined (take k (drop n (lines_of bytes))) ≡ joined
+      (take k (lines_of (drop (lines_length n bytes) bytes)))
+      → joined (take k (drop (suc n) (lines_of bytes))) ≡ joined
+      (take k (lines_of (drop (lines_length (suc n) bytes) bytes)))
       → joined (take k (drop (suc n) (cond feed ((b ∷ []) ∷ lines_of bytes) (begun b (lines_of bytes)))))
       ≡ joined (take k (lines_of (drop (1 + lines_length (cond feed n (suc n)) bytes) (b ∷ bytes))))
-  by true ended going = ended ∙ ap (λ m. joined (take k (lines_of (drop m (b ∷ bytes))))) (one_more (lines_length n bytes))
+  by true ended going =
+      ended ∙ ap (λ m. joined (take k (lines_of (drop m (b ∷ bytes))))) (one_more (lines_length n bytes))
   by false ended going =
       ap (λ (l : List (List ℕ)). joined (take k l)) (back_begun b n (lines_of bytes)) ∙ going
       ∙ ap (λ m. joined (take k (lines_of (drop m (b ∷ bytes))))) (one_more (lines_length (suc n) bytes))
 
 between_lines : (before last : ℕ) (bytes : List ℕ)
-    → let back = drop (lines_length before bytes) bytes in take (lines_length (last - before) back) back ≡ joined (lines_between before (Some last) bytes)
+    → let back =
+    drop (lines_length before bytes) bytes in take (lines_length (last - before) back) back ≡ joined
+    (lines_between before (Some last) bytes)
 between_lines before last bytes =
-    sym (middle_lines before (last - before) bytes ∙ front_lines (last - before) (drop (lines_length before bytes) bytes))
+    sym (middle_lines before (last - before) bytes
+    ∙ front_lines (last - before) (drop (lines_length before bytes) bytes))
 
 -- ---- what is asked for
 
-module _ (first last : Option ℕ) (before n : ℕ) (text back : List ℕ) (counted : before ≡ unwrap_or first 1 - 1) (n_is : n ≡ lines_length before text) (back_is : back ≡ drop n text) where
+module _ (first last : Option ℕ) (before n : ℕ) (text back : List ℕ) (counted : before ≡ unwrap_or first 1 - 1)
+    (n_is : n ≡ lines_length before text) (back_is : back ≡ drop n text) where
   back_same : back ≡ drop (lines_length before text) text
   back_same = back_is ∙ ap (λ k. drop k text) n_is
 
@@ -93,7 +113,8 @@ module _ (first last : Option ℕ) (before n : ℕ) (text back : List ℕ) (coun
       ∙ ap (λ k. joined (drop k (lines_of text))) counted
       ∙ ap (λ o. source_lines first o text) (sym none)
 
-  pub up_to_line : (line m : ℕ) → last ≡ Some line → m ≡ lines_length (line - before) back → take m back ≡ source_lines first last text
+  pub up_to_line : (line m : ℕ) → last ≡ Some line → m ≡ lines_length (line - before) back
+      → take m back ≡ source_lines first last text
   up_to_line line m some m_is =
       ap (λ k. take k back) m_is
       ∙ ap (λ (b : List ℕ). take (lines_length (line - before) b) b) back_same
@@ -104,7 +125,8 @@ module _ (first last : Option ℕ) (before n : ℕ) (text back : List ℕ) (coun
 -- ---- a turn of the loop
 
 turn : (left at : ℕ) (text : List ℕ) → at < length text → 0 < left
-    → lines_length left (drop at text) ≡ 1 + lines_length (cond (get_or text at 0 == 10) (left - 1) left) (drop (at + 1) text)
+    → lines_length left (drop at text) ≡ 1 + lines_length (cond (get_or text at 0 == 10) (left - 1) left)
+    (drop (at + 1) text)
 turn zero at text within some = absurd (omega arith)
 turn (suc k) at text within some =
     let less : suc k - 1 ≡ k = omega arith in
@@ -112,13 +134,17 @@ turn (suc k) at text within some =
     let here : drop at text ≡ get_or text at 0 ∷ drop (suc at) text = drop-cons text at 0 (omega arith) in
     rw (less, more) (ap (lines_length (suc k)) here)
 
-pub turn_feed : (left at : ℕ) (text : List ℕ) → at < length text → 0 < left → get_or text at 0 ≡ 10 → lines_length left (drop at text) ≡ 1 + lines_length (left - 1) (drop (at + 1) text)
+pub turn_feed : (left at : ℕ) (text : List ℕ) → at < length text → 0 < left → get_or text at 0 ≡ 10
+    → lines_length left (drop at text) ≡ 1 + lines_length (left - 1) (drop (at + 1) text)
 turn_feed left at text within some is =
-    turn left at text within some ∙ ap (λ b. 1 + lines_length (cond b (left - 1) left) (drop (at + 1) text)) (eq-eqb (get_or text at 0) 10 is)
+    turn left at text within some
+    ∙ ap (λ b. 1 + lines_length (cond b (left - 1) left) (drop (at + 1) text)) (eq-eqb (get_or text at 0) 10 is)
 
-pub turn_other : (left at : ℕ) (text : List ℕ) → at < length text → 0 < left → get_or text at 0 ≢ 10 → lines_length left (drop at text) ≡ 1 + lines_length left (drop (at + 1) text)
+pub turn_other : (left at : ℕ) (text : List ℕ) → at < length text → 0 < left → get_or text at 0 ≢ 10
+    → lines_length left (drop at text) ≡ 1 + lines_length left (drop (at + 1) text)
 turn_other left at text within some is =
-    turn left at text within some ∙ ap (λ b. 1 + lines_length (cond b (left - 1) left) (drop (at + 1) text)) (ne_eqb (get_or text at 0) 10 is)
+    turn left at text within some
+    ∙ ap (λ b. 1 + lines_length (cond b (left - 1) left) (drop (at + 1) text)) (ne_eqb (get_or text at 0) 10 is)
 
 pub ended : (left at : ℕ) (text : List ℕ) → length text ≤ at → lines_length left (drop at text) ≡ 0
 ended left at text past = ap (lines_length left) (drop_all at text past) ∙ nothing left where

@@ -32,7 +32,15 @@ byte_written b = byte_cases b (b == 34) (b == 92) (b == 0) refl refl refl
 
 bytes_written : (bytes : List ℕ) → Repeated (Within 34) bytes (flat_map in_quotes bytes)
 bytes_written [] = refl
-bytes_written (b ∷ t) = record { front = in_quotes b; back = flat_map in_quotes t; whole = refl; first = byte_written b; second = bytes_written t }
+bytes_written (b ∷ t) =
+    record {
+      front = in_quotes b;
+      back = flat_map in_quotes t;
+      whole = refl;
+      first = byte_written b;
+      second =
+          bytes_written t;
+    }
 
 quoted_written : (bytes : List ℕ) → Quoted 34 bytes (34 ∷ (flat_map in_quotes bytes ++ 34 ∷ []))
 quoted_written bytes = record {
@@ -40,7 +48,15 @@ quoted_written bytes = record {
   back = flat_map in_quotes bytes ++ 34 ∷ [];
   whole = refl;
   first = refl;
-  second = record { front = flat_map in_quotes bytes; back = 34 ∷ []; whole = refl; first = bytes_written bytes; second = refl };
+  second =
+      record {
+        front = flat_map in_quotes bytes;
+        back = 34
+            ∷ [];
+        whole = refl;
+        first = bytes_written bytes;
+        second = refl;
+      };
 }
 
 bracketed : (key : Key) (inner : List ℕ) → Inner key inner → Index key (91 ∷ (inner ++ 93 ∷ []))
@@ -59,8 +75,10 @@ index_written : (key : Key) → HasIndex key → Index key (index_of key)
 index_written (Int n) is = bracketed (Int n) _ (inl (n, int_is n is, refl))
 index_written (Text bytes) is =
     let inner : List ℕ = 34 ∷ (flat_map in_quotes bytes ++ 34 ∷ []) in
-    let made : Index (Text bytes) (91 ∷ (inner ++ 93 ∷ [])) = bracketed (Text bytes) inner (inr (34, bytes, inl refl, quoted_written bytes, text_key bytes is)) in
-    subst (Index (Text bytes)) (ap (λ (t : List ℕ). 91 ∷ 34 ∷ t) (append_assoc (flat_map in_quotes bytes) (34 ∷ []) (93 ∷ []))) made
+    let made : Index (Text bytes) (91 ∷ (inner ++ 93 ∷ [])) = bracketed (Text bytes) inner
+    (inr (34, bytes, inl refl, quoted_written bytes, text_key bytes is)) in
+    subst (Index (Text bytes)) (ap (λ (t : List ℕ). 91 ∷ 34 ∷ t)
+    (append_assoc (flat_map in_quotes bytes) (34 ∷ []) (93 ∷ []))) made
 
 indices_written : (keys : List Key) → AllByRecursion HasIndex keys → Repeated Index keys (flat_map index_of keys)
 indices_written [] all = refl
@@ -90,11 +108,15 @@ full_name_spelt path has = record {
 pub full_name_read : (path : Path) → HasFullName path → path_at (full_name path) ≡ Some path
 full_name_read path has = path_again (full_name path) path (full_name_spelt path has)
 
-indices_more : (keys : List Key) (key : Key) → flat_map index_of keys ++ index_of key ≡ flat_map index_of (keys ++ key ∷ [])
+indices_more : (keys : List Key) (key : Key)
+    → flat_map index_of keys ++ index_of key ≡ flat_map index_of (keys ++ key ∷ [])
 indices_more [] key = sym (append-nil (index_of key))
 indices_more (k ∷ keys) key =
-    append_assoc (index_of k) (flat_map index_of keys) (index_of key) ∙ ap (λ (t : List ℕ). index_of k ++ t) (indices_more keys key)
+    append_assoc (index_of k) (flat_map index_of keys) (index_of key)
+    ∙ ap (λ (t : List ℕ). index_of k ++ t) (indices_more keys key)
 
-pub entry_full_name : (path : Path) (key : Key) → entry_name (Some (full_name path)) key ≡ Some (full_name (with_key path key))
+pub entry_full_name : (path : Path) (key : Key)
+    → entry_name (Some (full_name path)) key ≡ Some (full_name (with_key path key))
 entry_full_name path key =
-    ap (λ (t : List ℕ). Some (36 ∷ t)) (append_assoc path.name (flat_map index_of path.keys) (index_of key) ∙ ap (λ (t : List ℕ). path.name ++ t) (indices_more path.keys key))
+    ap (λ (t : List ℕ). Some (36 ∷ t)) (append_assoc path.name (flat_map index_of path.keys) (index_of key)
+    ∙ ap (λ (t : List ℕ). path.name ++ t) (indices_more path.keys key))

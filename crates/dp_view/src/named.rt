@@ -17,8 +17,8 @@ use dp_packet::Property;
 use dp_state::{Path, State};
 use std::alloc::Global;
 
-/// The path that bytes name, where there are the level and the context: 301 where there is no such level, else 302 where there
-/// is no such context, else 300 where the bytes are no name. No refusal takes memory.
+/// The path that bytes name, where there are the level and the context: 301 where there is no such level, else 302
+/// where there is no such context, else 300 where the bytes are no name. No refusal takes memory.
 pub fn named_path(
     alloc: Global,
     state: &State,
@@ -39,8 +39,8 @@ pub fn named_path(
 /// The property that a command asks for by a name, in a context at a level; level 0 is the top frame. DBGp 1.0,
 /// "property_get".
 ///
-/// The code is 301 exactly where the level is not below the number of frames, else 302 exactly where there is no context
-/// with this id, else 300 exactly where the bytes are no name, or nothing stands there.
+/// The code is 301 exactly where the level is not below the number of frames, else 302 exactly where there is no
+/// context with this id, else 300 exactly where the bytes are no name, or nothing stands there.
 pub fn named_property(
     alloc: Global,
     state: &State,

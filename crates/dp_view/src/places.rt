@@ -103,8 +103,8 @@ fn value_among<'s>(globals: &'s Vars, variables: &'s Vars, path: &Path) -> Optio
 /// The value at a path in a context at a level; level 0 is the top frame. A path leads through arrays alone, and a
 /// variable that is bound has the value of the global variable of its name.
 ///
-/// The code is 301 exactly where the level is not below the number of frames, else 302 exactly where there is no context
-/// with this id, else 300 exactly where nothing stands at the path. Takes no memory.
+/// The code is 301 exactly where the level is not below the number of frames, else 302 exactly where there is no
+/// context with this id, else 300 exactly where nothing stands at the path. Takes no memory.
 pub fn value_at<'s>(
     state: &'s State,
     level: u32,

@@ -26,8 +26,8 @@ fn front(alloc: Global, bytes: &[u8], most: u64) -> Result<Bytes, Memory>
     Bytes::from_slice(alloc, &bytes[..end])
 }
 
-/// Where a page of an array begins, counted from 0, where a page has so many entries: at its end, if there are not so many.
-/// Takes no memory.
+/// Where a page of an array begins, counted from 0, where a page has so many entries: at its end, if there are not so
+/// many. Takes no memory.
 pub fn page_start(array: &PhpArray, page: u64, size: u64) -> usize
     ensures { result ≡ min (page * size) (length array.now.pairs) }
 {
@@ -220,8 +220,8 @@ fn property_at(alloc: Global, path: &Path, p: &Paging, value: &Value) -> Result<
 
 /// The property of what stands at a path in a context at a level; level 0 is the top frame.
 ///
-/// The code is 301 exactly where the level is not below the number of frames, else 302 exactly where there is no context
-/// with this id, else 300 exactly where nothing stands at the path.
+/// The code is 301 exactly where the level is not below the number of frames, else 302 exactly where there is no
+/// context with this id, else 300 exactly where nothing stands at the path.
 pub fn property(
     alloc: Global,
     state: &State,

@@ -20,9 +20,9 @@ fn lines_length(text: &[u8], count: u32) -> usize
     at
 }
 
-/// The lines of a text from one up to another, counted from 1; without a first one from the beginning, and without a last
-/// one up to the end. A line keeps its line feed, and what follows the last line feed is a line too. Lines beyond the end
-/// are none, and from one line up to an earlier one there is none. Takes no memory.
+/// The lines of a text from one up to another, counted from 1; without a first one from the beginning, and without a
+/// last one up to the end. A line keeps its line feed, and what follows the last line feed is a line too. Lines beyond
+/// the end are none, and from one line up to an earlier one there is none. Takes no memory.
 pub fn source_lines(text: &[u8], first: Option<u32>, last: Option<u32>) -> &[u8]
     ensures { result.now ≡ spec.source_lines first last text.now }
 {

@@ -108,8 +108,9 @@ fn one_line(
     Ok(lines)
 }
 
-/// The lines of the stack, or the line of one level; level 0 is the top frame, and stands first. A line has the URI of the
-/// frame's file, the line of its last moment, and where it is: `{main}`, `include`, or the function's name as declared.
+/// The lines of the stack, or the line of one level; level 0 is the top frame, and stands first. A line has the URI of
+/// the frame's file, the line of its last moment, and where it is: `{main}`, `include`, or the function's name as
+/// declared.
 ///
 /// The code is 301 exactly where the level is not below the number of frames.
 pub fn stack(

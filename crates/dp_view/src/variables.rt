@@ -100,8 +100,8 @@ fn all_variables(
 /// frame. A variable that is bound shows the value of the global variable of its name. Each value is shown as `p` asks
 /// for it, so each array shows the same page.
 ///
-/// The code is 301 exactly where the level is not below the number of frames, else 302 exactly where there is no context
-/// with this id.
+/// The code is 301 exactly where the level is not below the number of frames, else 302 exactly where there is no
+/// context with this id.
 pub fn context(
     alloc: Global,
     // The program of the state, as the other views take it. No property needs it.

@@ -21,27 +21,32 @@ use Rattle.dp_view_commands.specs.inner.Making.{Gives}
 abbrev ok_of : {A : Type 0} → A → Result A ℕ
 ok_of a = Ok a
 
-fits_in : (r : Response) (rest size base : ℕ) → rest + base ≡ packet_limit → length (text (packet.Response r)) ≡ base + size → size ≤ rest → within_limit r ≡ Ok r
+fits_in : (r : Response) (rest size base : ℕ) → rest + base ≡ packet_limit
+    → length (text (packet.Response r)) ≡ base + size → size ≤ rest → within_limit r ≡ Ok r
 fits_in r rest size base room whole le =
     let low : length (text (packet.Response r)) ≤ packet_limit = omega arith in
     let yes : is_short r ≡ true = grind (arith, nat_tests) in
     ap (λ (b : Bool). cond b (ok_of r) (Err 300)) yes
 
-passes : (r : Response) (rest size base : ℕ) → rest + base ≡ packet_limit → length (text (packet.Response r)) ≡ base + size → rest < size → within_limit r ≡ Err 300
+passes : (r : Response) (rest size base : ℕ) → rest + base ≡ packet_limit
+    → length (text (packet.Response r)) ≡ base + size → rest < size → within_limit r ≡ Err 300
 passes r rest size base room whole lt =
     let high : packet_limit < length (text (packet.Response r)) = omega arith in
     let no : is_short r ≡ false = grind (arith, nat_tests) in
     ap (λ (b : Bool). cond b (ok_of r) (Err 300)) no
 
-module _ {A : Type 0} (size : A → ℕ) (part : A → Part) (command id : Text) (rest base : ℕ) (room : rest + base ≡ packet_limit)
+module _ {A : Type 0} (size : A → ℕ) (part : A → Part) (command id : Text) (rest base : ℕ)
+    (room : rest + base ≡ packet_limit)
     (whole : (a : A) → length (text (packet.Response (response_with command id (part a)))) ≡ base + size a) where
   abbrev shown : Result A ℕ → Result Response ℕ
   shown x = answered command id (and_then (λ a. Ok (part a)) x)
 
-  is_made : (x : Result A ℕ) (a : A) → and_then (within rest size) x ≡ Ok a → shown x ≡ Ok (response_with command id (part a))
+  is_made : (x : Result A ℕ) (a : A) → and_then (within rest size) x ≡ Ok a
+      → shown x ≡ Ok (response_with command id (part a))
   is_made (Err code) a e = absurd cc
   is_made (Ok b) a e = by (nat_le (size b) rest) refl e where
-    by : (t : Bool) → nat_le (size b) rest ≡ t → cond t (ok_of b) (Err 300) ≡ Ok a → shown (Ok b) ≡ Ok (response_with command id (part a))
+    by : (t : Bool) → nat_le (size b) rest ≡ t → cond t (ok_of b) (Err 300) ≡ Ok a
+        → shown (Ok b) ≡ Ok (response_with command id (part a))
     by false t h = absurd cc
     by true t h =
         let same : b ≡ a = cc in
@@ -55,17 +60,20 @@ module _ {A : Type 0} (size : A → ℕ) (part : A → Part) (command id : Text)
     by true t h = absurd cc
     by false t h =
         let same : 300 ≡ code = cc in
-        passes (response_with command id (part b)) rest (size b) base room (whole b) (leb-false (size b) rest t) ∙ ap (λ c. Err c) same
+        passes (response_with command id (part b)) rest (size b) base room (whole b) (leb-false (size b) rest t)
+        ∙ ap (λ c. Err c) same
 
   -- what a call answers, by what it answered within its room
-  pub refused_answers : (x : Result A ℕ) (why : ViewError) → viewed.Refuses why (and_then (within rest size) x) → viewed.Refuses why (shown x)
+  pub refused_answers : (x : Result A ℕ) (why : ViewError) → viewed.Refuses why (and_then (within rest size) x)
+      → viewed.Refuses why (shown x)
   refused_answers x (Code code) e = is_refused x code e
   refused_answers x Memory e = by (and_then (within rest size) x) refl e where
     by : (l : Result A ℕ) → and_then (within rest size) x ≡ l → IsOk l → IsOk (shown x)
     by (Ok a) is ok = subst (λ (r : Result Response ℕ). IsOk r) (sym (is_made x a is)) refl
     by (Err code) is ok = absurd cc
 
-  pub made_answers : (x : Result A ℕ) (a : A) (result : Result Response ViewError) → and_then (within rest size) x ≡ Ok a → Gives (response_with command id (part a)) result
+  pub made_answers : (x : Result A ℕ) (a : A) (result : Result Response ViewError)
+      → and_then (within rest size) x ≡ Ok a → Gives (response_with command id (part a)) result
       → viewed.Answers (λ r. r) result (shown x)
   made_answers x a (Ok r) is gives = is_made x a is ∙ ap (λ (r : Response). ok_of r) (sym gives)
   made_answers x a (Err (Code code)) is gives = absurd gives
@@ -73,18 +81,21 @@ module _ {A : Type 0} (size : A → ℕ) (part : A → Part) (command id : Text)
 
   -- the same where something is looked for first
   module _ {Z : Type 0} (first : Result Z ℕ) where
-    pub refused_after : (x : Result A ℕ) (why : ViewError) → viewed.AnswersAfter {X = A} (λ a. a) (Err why) first (and_then (within rest size) x)
+    pub refused_after : (x : Result A ℕ) (why : ViewError)
+        → viewed.AnswersAfter {X = A} (λ a. a) (Err why) first (and_then (within rest size) x)
         → viewed.AnswersAfter {X = Response} (λ r. r) (Err why) first (shown x)
     refused_after x (Code code) e = is_refused x code e
     refused_after x Memory e = e
 
-    pub made_after : (x : Result A ℕ) (a : A) (result : Result Response ViewError) → and_then (within rest size) x ≡ Ok a → IsOk first → Gives (response_with command id (part a)) result
+    pub made_after : (x : Result A ℕ) (a : A) (result : Result Response ViewError)
+        → and_then (within rest size) x ≡ Ok a → IsOk first → Gives (response_with command id (part a)) result
         → viewed.AnswersAfter (λ r. r) result first (shown x)
     made_after x a (Ok r) is there gives = is_made x a is ∙ ap (λ (r : Response). ok_of r) (sym gives)
     made_after x a (Err (Code code)) is there gives = absurd gives
     made_after x a (Err Memory) is there gives = there
 
 -- what comes first was there
-pub was_there : {A B C : Type 0} (f : A → Result B ℕ) (g : B → Result C ℕ) (first : Result A ℕ) (c : C) → and_then g (and_then f first) ≡ Ok c → IsOk first
+pub was_there : {A B C : Type 0} (f : A → Result B ℕ) (g : B → Result C ℕ) (first : Result A ℕ) (c : C)
+    → and_then g (and_then f first) ≡ Ok c → IsOk first
 was_there f g (Ok a) c e = refl
 was_there f g (Err code) c e = absurd cc

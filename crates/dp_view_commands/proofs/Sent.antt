@@ -41,7 +41,8 @@ Holds P (Err code) = IsKnown code
 abbrev Any : {A : Type 0} → A → Type 0
 Any a = Unit {0}
 
-then_holds : {A B : Type 0} (Q : B → Type 0) (f : A → Result B ℕ) (r : Result A ℕ) → Holds Any r → ((a : A) → Holds Q (f a)) → Holds Q (and_then f r)
+then_holds : {A B : Type 0} (Q : B → Type 0) (f : A → Result B ℕ) (r : Result A ℕ) → Holds Any r
+    → ((a : A) → Holds Q (f a)) → Holds Q (and_then f r)
 then_holds Q f (Ok a) p q = q a
 then_holds Q f (Err code) p q = p
 
@@ -57,13 +58,18 @@ if_holds P false x y p q = q
 
 variables_hold : (s : State) (level id : ℕ) → Holds Any (shown_variables s level id)
 variables_hold s level id =
-    if_holds Any (nat_lt level (length s.frames)) (ok_or (variables_of s level id) 302) (Err 301) (or_holds (variables_of s level id) 302 (refl, omega arith)) (refl, omega arith)
+    if_holds Any (nat_lt level (length s.frames)) (ok_or (variables_of s level id) 302) (Err 301)
+    (or_holds (variables_of s level id) 302 (refl, omega arith)) (refl, omega arith)
 
 value_holds : (s : State) (level id : ℕ) (path : Path) → Holds Any (value_at s level id path)
-value_holds s level id path = then_holds Any _ (shown_variables s level id) (variables_hold s level id) (λ variables. or_holds (value_among s.globals path variables) 300 (refl, omega arith))
+value_holds s level id path =
+    then_holds Any _ (shown_variables s level id) (variables_hold s level id)
+    (λ variables. or_holds (value_among s.globals path variables) 300 (refl, omega arith))
 
 path_holds : (s : State) (level id : ℕ) (name : Text) → Holds Any (named_path s level id name)
-path_holds s level id name = then_holds Any _ (shown_variables s level id) (variables_hold s level id) (λ variables. or_holds (path_at name) 300 (refl, omega arith))
+path_holds s level id name =
+    then_holds Any _ (shown_variables s level id) (variables_hold s level id)
+    (λ variables. or_holds (path_at name) 300 (refl, omega arith))
 
 stack_holds : (bundle : Bundle) (s : State) (level : Option ℕ) → Holds Any (stack_at bundle s level)
 stack_holds bundle s None = tt
@@ -80,24 +86,32 @@ lines_hold : (range : SourceRange) (t : Option Text) → Holds IsPlainPart (line
 lines_hold range None = (refl, omega arith)
 lines_hold range (Some t) = tt
 
-part_holds : (bundle : Bundle) (here : ℕ) (features : Features) (s : State) (asked : Request) → Holds IsPlainPart (part_of bundle here features s asked)
+part_holds : (bundle : Bundle) (here : ℕ) (features : Features) (s : State) (asked : Request)
+    → Holds IsPlainPart (part_of bundle here features s asked)
 part_holds bundle here features s request.StackDepth = tt
-part_holds bundle here features s (request.StackGet level) = then_holds IsPlainPart _ (stack_at bundle s level) (stack_holds bundle s level) (λ lines. tt)
+part_holds bundle here features s (request.StackGet level) =
+    then_holds IsPlainPart _ (stack_at bundle s level) (stack_holds bundle s level) (λ lines. tt)
 part_holds bundle here features s request.ContextNames = tt
 part_holds bundle here features s (request.ContextGet level id) =
-    then_holds IsPlainPart _ (context_at s level id _) (then_holds Any _ (shown_variables s level id) (variables_hold s level id) (λ variables. tt)) (λ shown. tt)
+    then_holds IsPlainPart _ (context_at s level id _) (then_holds Any _ (shown_variables s level id)
+    (variables_hold s level id) (λ variables. tt)) (λ shown. tt)
 part_holds bundle here features s (request.PropertyGet place page most) =
     then_holds IsPlainPart _ (named_property s place.level place.context place.name _)
-    (then_holds Any _ (named_path s place.level place.context place.name) (path_holds s place.level place.context place.name)
-    (λ path. then_holds Any _ (value_at s place.level place.context path) (value_holds s place.level place.context path) (λ d. tt)))
+    (then_holds Any _ (named_path s place.level place.context place.name)
+    (path_holds s place.level place.context place.name)
+    (λ path. then_holds Any _ (value_at s place.level place.context path) (value_holds s place.level place.context path)
+    (λ d. tt)))
     (λ shown. tt)
 part_holds bundle here features s (request.PropertyValue place most) =
     then_holds IsPlainPart _ (named_value s place.level place.context place.name most)
-    (then_holds Any _ (named_path s place.level place.context place.name) (path_holds s place.level place.context place.name)
-    (λ path. then_holds Any _ (value_at s place.level place.context path) (value_holds s place.level place.context path) (λ d. tt)))
+    (then_holds Any _ (named_path s place.level place.context place.name)
+    (path_holds s place.level place.context place.name)
+    (λ path. then_holds Any _ (value_at s place.level place.context path) (value_holds s place.level place.context path)
+    (λ d. tt)))
     (λ shown. tt)
 part_holds bundle here features s (request.Source range) =
-    if_holds IsPlainPart (is_zero range.first || is_zero range.last) (Err 3) (lines_part range (option_map (λ f. f.text) (file_asked bundle here range.file))) (refl, omega arith)
+    if_holds IsPlainPart (is_zero range.first || is_zero range.last) (Err 3)
+    (lines_part range (option_map (λ f. f.text) (file_asked bundle here range.file))) (refl, omega arith)
     (lines_hold range (option_map (λ f. f.text) (file_asked bundle here range.file)))
 part_holds bundle here features s request.Status = (refl, omega arith)
 part_holds bundle here features s (request.FeatureGet name) = (refl, omega arith)
@@ -129,30 +143,42 @@ no_fault b p code e = subst IsPlain e p
 limit_holds : (r : Response) → IsPlain r.body → Holds IsSent (within_limit r)
 limit_holds r plain = by (is_short r) refl where
   by : (t : Bool) → is_short r ≡ t → Holds IsSent (cond t (Ok r) (Err 300))
-  by true t = record { known = words r.body plain; short = leb-true (length (text (packet.Response r))) packet_limit t; no_error = no_fault r.body plain }
+  by true t =
+      record {
+        known = words r.body plain;
+        short = leb-true (length (text (packet.Response r))) packet_limit t;
+        no_error
+            = no_fault r.body plain;
+      }
   by false t = (refl, omega arith)
 
-answered_holds : (command id : Text) (part : Result Part ℕ) → Holds IsPlainPart part → Holds IsSent (and_then (λ p. within_limit (response_with command id p)) part)
+answered_holds : (command id : Text) (part : Result Part ℕ) → Holds IsPlainPart part
+    → Holds IsSent (and_then (λ p. within_limit (response_with command id p)) part)
 answered_holds command id (Ok part) plain = limit_holds (response_with command id part) plain
 answered_holds command id (Err code) known = known
 
-response_holds : (bundle : Bundle) (here : ℕ) (features : Features) (s : State) (command id : Text) (asked : Request) → Holds IsSent (view_response bundle here features s command id asked)
+response_holds : (bundle : Bundle) (here : ℕ) (features : Features) (s : State) (command id : Text) (asked : Request)
+    → Holds IsSent (view_response bundle here features s command id asked)
 unfolding view_response
-response_holds bundle here features s command id asked = answered_holds command id (part_of bundle here features s asked) (part_holds bundle here features s asked)
+response_holds bundle here features s command id asked =
+    answered_holds command id (part_of bundle here features s asked) (part_holds bundle here features s asked)
 
 module _ (bundle : Bundle) (here : ℕ) (features : Features) (s : State) (command id : Text) (asked : Request) where
   pub sent : (r : Response) → view_response bundle here features s command id asked ≡ Ok r → IsSent r
   sent r e = subst (Holds IsSent) e (response_holds bundle here features s command id asked)
 
-  pub code : (k : ℕ) → view_response bundle here features s command id asked ≡ Err k → (is_some_text (message_of k) ≡ true) × (k < 1000)
+  pub code : (k : ℕ) → view_response bundle here features s command id asked ≡ Err k
+      → (is_some_text (message_of k) ≡ true) × (k < 1000)
   code k e = subst (Holds IsSent) e (response_holds bundle here features s command id asked)
 
   -- what a call answers
-  pub answer_sent : (result : Result Response ViewError) → Answers result (view_response bundle here features s command id asked) → IfOk result IsSent
+  pub answer_sent : (result : Result Response ViewError)
+      → Answers result (view_response bundle here features s command id asked) → IfOk result IsSent
   answer_sent (Ok r) e = sent r e
   answer_sent (Err why) e = tt
 
-  pub answer_known : (result : Result Response ViewError) → Answers result (view_response bundle here features s command id asked) → HasKnownCode result
+  pub answer_known : (result : Result Response ViewError)
+      → Answers result (view_response bundle here features s command id asked) → HasKnownCode result
   answer_known (Ok r) e = tt
   answer_known (Err (Code k)) e = code k e
   answer_known (Err Memory) e = tt

@@ -24,8 +24,8 @@ Answers (Ok made) asked = asked ≡ Ok made
 Answers (Err (Code code)) asked = asked ≡ Err code
 Answers (Err Memory) asked = ⊤
 
--- The code of a refusal that is reported whatever memory there is: each one, but that there is nothing
--- at a name that is one, that this is too long, and that there is no such file.
+-- The code of a refusal that is reported whatever memory there is: each one, but that there is
+-- nothing at a name that is one, that this is too long, and that there is no such file.
 abbrev pub refusal_at_once : Bundle → ℕ → Features → State → Text → Text → Request → Option ℕ
 refusal_at_once bundle here features s command id (request.StackGet level) =
     code_in (stack_at bundle s level)

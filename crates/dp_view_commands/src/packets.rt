@@ -1,6 +1,7 @@
 //! Responses, and what fits into them.
 
-ghost use Rattle.std.specs.Prelude.{◌≡◌, ◌+◌, ◌≤◌, ◌∷◌, ◌++◌, [], if◌then◌else◌, codes, decimal, length, Err, Ok, IfOk, OnOk};
+ghost use Rattle.std.specs.Prelude.{◌≡◌, ◌+◌, ◌≤◌, ◌∷◌, ◌++◌, [], if◌then◌else◌, codes, decimal, length, Err, Ok, IfOk};
+ghost use Rattle.std.specs.Prelude.{OnOk};
 ghost use Rattle.dp_markup.specs.Writing.{attribute_text};
 ghost use Rattle.dp_view.specs.Answers.{AnswersSurely};
 ghost use Rattle.dp_view_commands.specs.Views as spec;

@@ -80,7 +80,8 @@ fn lines_response(
     text: &[u8],
     to: &Addressee,
 ) -> Result<Response, ViewError>
-    ensures answer { Answers result (spec.answered to.now.command to.now.id (spec.lines_part range.now (Some text.now))) }
+    ensures answer { Answers result (spec.answered to.now.command to.now.id
+        (spec.lines_part range.now (Some text.now))) }
 {
     let attributes = encoded(alloc)?;
     let lines = base64_of(alloc, source_lines(text, range.first, range.last))?;
@@ -112,7 +113,8 @@ pub(crate) fn source_response(
     range: &SourceRange,
     to: &Addressee,
 ) -> Result<Response, ViewError>
-    ensures answer { Answers result (spec.answered to.now.command to.now.id (spec.source_part bundle.now here range.now)) }
+    ensures answer { Answers result (spec.answered to.now.command to.now.id
+        (spec.source_part bundle.now here range.now)) }
     ensures at_once { IfSome (if spec.is_zero range.now.first || spec.is_zero range.now.last then Some 3 else None)
         (λ code. result ≡ Err (ViewError.Code code)) }
 {

@@ -43,8 +43,10 @@ pub(crate) fn stack_response(
     level: Option<u32>,
     to: &Addressee,
 ) -> Result<Response, ViewError>
-    ensures answer { Answers result (spec.answered to.now.command to.now.id (spec.stack_part bundle.now state.now level)) }
-    ensures at_once { IfSome (spec.code_in (stack_at bundle.now state.now level)) (λ code. result ≡ Err (ViewError.Code code)) }
+    ensures answer { Answers result (spec.answered to.now.command to.now.id
+        (spec.stack_part bundle.now state.now level)) }
+    ensures at_once { IfSome (spec.code_in (stack_at bundle.now state.now level))
+        (λ code. result ≡ Err (ViewError.Code code)) }
 {
     let lines = stack(alloc, bundle, state, level)?;
     limited(respond(alloc, to, none(alloc), Body::Stacks(lines))?)

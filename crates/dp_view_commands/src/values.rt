@@ -128,7 +128,8 @@ pub(crate) fn value_response(
     most: Option<u32>,
     to: &Addressee,
 ) -> Result<Response, ViewError>
-    ensures answer { Answers result (spec.answered to.now.command to.now.id (spec.value_part state.now place.now most)) }
+    ensures answer { Answers result (spec.answered to.now.command to.now.id
+        (spec.value_part state.now place.now most)) }
     ensures at_once { IfSome (spec.code_in (named_path state.now place.now.level place.now.context place.now.name))
         (λ code. result ≡ Err (ViewError.Code code)) }
 {

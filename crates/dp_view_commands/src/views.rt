@@ -55,11 +55,11 @@ fn look(
 /// The response to a command that looks at a program: stack_depth, stack_get, context_names, context_get, property_get,
 /// property_value and source. `here` is the number of the file of the moment, 0 before the first.
 ///
-/// The codes, in their order: of stack_get 301; of context_get 301, 302; of property_get and property_value 301, 302, and 300
-/// where the name is none or nothing stands there; of source 3 where a line is 0, and 100 where there is no such file. Then 300
-/// where the text of the response would pass 16,777,216 bytes: of context_get and property_get this is found before anything
-/// is made, and no stack, no file and no text of a program is so long. Values are shown as the features say. Another command
-/// has 4.
+/// The codes, in their order: of stack_get 301; of context_get 301, 302; of property_get and property_value 301, 302,
+/// and 300 where the name is none or nothing stands there; of source 3 where a line is 0, and 100 where there is no
+/// such file. Then 300 where the text of the response would pass 16,777,216 bytes: of context_get and property_get this
+/// is found before anything is made, and no stack, no file and no text of a program is so long. Values are shown as the
+/// features say. Another command has 4.
 pub fn view_response(
     alloc: Global,
     bundle: &Bundle,

@@ -23,13 +23,15 @@ fits_is left size (Some rest) fits = let le : size ≤ left = omega (arith, fits
 
 -- ---- one part behind another
 
-pub behind_none : (left here more size : ℕ) (part result : Option ℕ) → here + more ≡ size → Leaves left here part → part ≡ None → result ≡ None → Leaves left size result
+pub behind_none : (left here more size : ℕ) (part result : Option ℕ) → here + more ≡ size → Leaves left here part
+    → part ≡ None → result ≡ None → Leaves left size result
 behind_none left here more size part result sum leaves is same =
     let over : left < here = subst (Leaves left here) is leaves in
     let passed : left < size = omega arith in
     subst (Leaves left size) (sym same) passed
 
-pub behind_some : (left rest here more size : ℕ) (part result : Option ℕ) → here + more ≡ size → Leaves left here part → part ≡ Some rest → Leaves rest more result → Leaves left size result
+pub behind_some : (left rest here more size : ℕ) (part result : Option ℕ) → here + more ≡ size → Leaves left here part
+    → part ≡ Some rest → Leaves rest more result → Leaves left size result
 behind_some left rest here more size part result sum leaves is behind = by result behind where
   fit : rest + here ≡ left
   fit = subst (Leaves left here) is leaves
@@ -39,13 +41,15 @@ behind_some left rest here more size part result sum leaves is behind = by resul
   by (Some last) fits = omega (arith, fit, fits)
 
 -- one of parts that stand one behind another; what is left and all of them are what there was and those that are left
-pub turn_none : (left rest all here more : ℕ) (part result : Option ℕ) → rest + all ≡ left + (here + more) → Leaves rest here part → part ≡ None → result ≡ None → Leaves left all result
+pub turn_none : (left rest all here more : ℕ) (part result : Option ℕ) → rest + all ≡ left + (here + more)
+    → Leaves rest here part → part ≡ None → result ≡ None → Leaves left all result
 turn_none left rest all here more part result so_far leaves is same =
     let over : rest < here = subst (Leaves rest here) is leaves in
     let passed : left < all = omega arith in
     subst (Leaves left all) (sym same) passed
 
-pub turn_some : (left rest all here more next : ℕ) (part : Option ℕ) → rest + all ≡ left + (here + more) → Leaves rest here part → part ≡ Some next → next + all ≡ left + more
+pub turn_some : (left rest all here more next : ℕ) (part : Option ℕ) → rest + all ≡ left + (here + more)
+    → Leaves rest here part → part ≡ Some next → next + all ≡ left + more
 turn_some left rest all here more next part so_far leaves is =
     let fit : next + here ≡ rest = subst (Leaves rest here) is leaves in
     omega arith
@@ -55,37 +59,49 @@ turn_some left rest all here more next part so_far leaves is =
 more : (n : ℕ) → suc n + 1 ≡ suc (n + 1)
 more n = omega arith
 
-pub sum_step : {A : Type 0} (f : A → ℕ) (xs : List A) (at : ℕ) → sum_by f (drop at xs) ≡ option_map_or f (slice_get xs at) 0 + sum_by f (drop (at + 1) xs)
+pub sum_step : {A : Type 0} (f : A → ℕ) (xs : List A) (at : ℕ)
+    → sum_by f (drop at xs) ≡ option_map_or f (slice_get xs at) 0 + sum_by f (drop (at + 1) xs)
 sum_step f [] zero = refl
-sum_step f [] (suc n) = let none : sum_by f (drop (suc n + 1) []) ≡ 0 = ap (λ k. sum_by f (drop k [])) (more n) in omega (arith, none)
+sum_step f [] (suc n) =
+    let none : sum_by f (drop (suc n + 1) []) ≡ 0 = ap (λ k. sum_by f (drop k [])) (more n) in omega (arith, none)
 sum_step f (x ∷ xs) zero = sum_by-cons f x xs
-sum_step f (x ∷ xs) (suc n) = sum_step f xs n ∙ ap (λ k. option_map_or f (slice_get xs n) 0 + sum_by f (drop k (x ∷ xs))) (sym (more n))
+sum_step f (x ∷ xs) (suc n) =
+    sum_step f xs n ∙ ap (λ k. option_map_or f (slice_get xs n) 0 + sum_by f (drop k (x ∷ xs))) (sym (more n))
 
 pub front_step : {A : Type 0} (f : A → ℕ) (xs : List A) (at end : ℕ) → at < end
     → sum_by f (drop at (take end xs)) ≡ option_map_or f (slice_get xs at) 0 + sum_by f (drop (at + 1) (take end xs))
 front_step {A} f xs at end below =
     sum_step f (take end xs) at
-    ∙ ap (λ (o : Option A). option_map_or f o 0 + sum_by f (drop (at + 1) (take end xs))) (slice_get_front xs at end below)
+    ∙ ap (λ (o : Option A). option_map_or f o 0 + sum_by f (drop (at + 1) (take end xs)))
+    (slice_get_front xs at end below)
 
 pub front_end : {A : Type 0} (f : A → ℕ) (xs : List A) (at end : ℕ) → end ≤ at → sum_by f (drop at (take end xs)) ≡ 0
-front_end {A} f xs at end past = ap (λ (l : List A). sum_by f l) (drop_all at (take end xs) (omega (arith, length-take end xs)))
+front_end {A} f xs at end past =
+    ap (λ (l : List A). sum_by f l) (drop_all at (take end xs) (omega (arith, length-take end xs)))
 
 pub whole_end : {A : Type 0} (f : A → ℕ) (xs : List A) (at : ℕ) → length xs ≤ at → sum_by f (drop at xs) ≡ 0
 whole_end {A} f xs at past = ap (λ (l : List A). sum_by f l) (drop_all at xs past)
 
 -- ---- arrays
 
-one_deeper : (p : Paging) (levels : ℕ) (full : Option ℕ) (es : List (Key × Data)) → levels ≢ 0 → sum_by (entry_size p (entries_size p (levels - 1)) full) es ≡ entries_size p levels full es
+one_deeper : (p : Paging) (levels : ℕ) (full : Option ℕ) (es : List (Key × Data)) → levels ≢ 0
+    → sum_by (entry_size p (entries_size p (levels - 1)) full) es ≡ entries_size p levels full es
 one_deeper p zero full es some = absurd (some refl)
-one_deeper p (suc levels) full es some = let less : suc levels - 1 ≡ levels = omega arith in ap (λ n. sum_by (entry_size p (entries_size p n) full) es) less
+one_deeper p (suc levels) full es some =
+    let less : suc levels - 1 ≡ levels = omega arith in ap (λ n. sum_by (entry_size p (entries_size p n) full) es) less
 
 pub page_size : (p : Paging) (page levels : ℕ) (full : Option ℕ) (es : List (Key × Data)) (start end : ℕ) → levels ≢ 0
     → start ≡ min (page * p.children) (length es) → end ≡ min (start + p.children) (length es)
-    → sum_by (entry_size p (entries_size p (levels - 1)) full) (drop start (take end es)) ≡ entries_size p levels full (page_of page p.children es)
+    → sum_by (entry_size p (entries_size p (levels - 1)) full) (drop start (take end es)) ≡ entries_size p levels full
+    (page_of page p.children es)
 page_size p page levels full es start end some s e =
-    ap (λ (l : List (Key × Data)). sum_by (entry_size p (entries_size p (levels - 1)) full) l) (page_cut page p.children start end es s e)
+    ap (λ (l : List (Key × Data)). sum_by (entry_size p (entries_size p (levels - 1)) full) l)
+    (page_cut page p.children start end es s e)
     ∙ one_deeper p levels full (page_of page p.children es) some
 
 pub array_is : (p : Paging) (page : ℕ) (nest : List (Key × Data) → ℕ) (t : Table)
-    → array_size (length t.pairs) page p.children + nest (page_of page p.children t.pairs) ≡ value_size p page nest (data_of (Array t))
-array_is p page nest t = ap (λ (ps : List (Key × Data)). array_size (length ps) page p.children + nest (page_of page p.children ps)) (sym (pairs_of-entries_of t.pairs))
+    → array_size (length t.pairs) page p.children + nest (page_of page p.children t.pairs) ≡ value_size p page nest
+    (data_of (Array t))
+array_is p page nest t =
+    ap (λ (ps : List (Key × Data)). array_size (length ps) page p.children + nest (page_of page p.children ps))
+    (sym (pairs_of-entries_of t.pairs))

@@ -55,70 +55,91 @@ shape_is p page nest size same (array es largest) =
 
 -- ---- names
 
-given_is : (name : Text) (value : Option Text) → attributes_size (given name value) ≡ given_size (4 + length name) (option_map text_size value)
+given_is : (name : Text) (value : Option Text)
+    → attributes_size (given name value) ≡ given_size (4 + length name) (option_map text_size value)
 given_is name None = refl
 given_is name (Some value) = omega arith
 
 sized : (name full : Option Text) (s : Shape) (size : ℕ) → part_size (shape_part s) ≡ size
-    → property_size (record { name = name; fullname = full; shape = s }) ≡ 21 + given_size 8 (option_map text_size name) + given_size 12 (option_map text_size full) + size
+    → property_size (record { name = name; fullname = full; shape = s }) ≡ 21 + given_size 8
+    (option_map text_size name) + given_size 12 (option_map text_size full) + size
 sized name full s size is =
     let q : Property = record { name = name; fullname = full; shape = s } in
     omega (arith, is, property_length q, given_is (codes "name") name, given_is (codes "fullname") full)
 
-full_is : (full : Option Text) (key : Key) → option_map text_size (entry_name full key) ≡ full_behind (option_map text_size full) key
+full_is : (full : Option Text) (key : Key)
+    → option_map text_size (entry_name full key) ≡ full_behind (option_map text_size full) key
 full_is None key = refl
 full_is (Some name) key = ap (λ n. Some n) (text_size-append name (index_of key))
 
 -- ---- entries
 
-module _ (p : Paging) (levels : ℕ) (below : (full : Option Text) (es : List (Key × Data)) → properties_size (nested p levels full es) ≡ entries_size p levels (option_map text_size full) es) where
-  entry_is : (full : Option Text) (e : Key × Data) → property_size (entry_property p (nested p levels) full e) ≡ entry_size p (entries_size p levels) (option_map text_size full) e
+module _ (p : Paging) (levels : ℕ) (below : (full : Option Text) (es : List (Key × Data))
+    → properties_size (nested p levels full es) ≡ entries_size p levels (option_map text_size full) es) where
+  entry_is : (full : Option Text) (e : Key × Data)
+      → property_size (entry_property p (nested p levels) full e) ≡ entry_size p (entries_size p levels)
+      (option_map text_size full) e
   entry_is full e =
       let name = entry_name full e.0 in
       let size = option_map text_size name in
-      let whole = sized (Some (key_text e.0)) name (shape_of p 0 (nested p levels name) e.1) (value_size p 0 (entries_size p levels size) e.1)
+      let whole = sized (Some (key_text e.0)) name (shape_of p 0 (nested p levels name) e.1)
+      (value_size p 0 (entries_size p levels size) e.1)
       (shape_is p 0 (nested p levels name) (entries_size p levels size) (below name) e.1) in
-      let count : 21 + (8 + text_size (key_text e.0)) + given_size 12 size + value_size p 0 (entries_size p levels size) e.1
-      ≡ 29 + text_size (key_text e.0) + given_size 12 size + value_size p 0 (entries_size p levels size) e.1 = omega arith in
+      let count : 21 + (8 + text_size (key_text e.0)) + given_size 12 size + value_size p 0
+      (entries_size p levels size) e.1
+      ≡ 29 + text_size (key_text e.0) + given_size 12 size + value_size p 0 (entries_size p levels size) e.1 =
+      omega arith in
       whole ∙ count
-      ∙ ap (λ (o : Option ℕ). 29 + text_size (key_text e.0) + given_size 12 o + value_size p 0 (entries_size p levels o) e.1) (full_is full e.0)
+      ∙ ap (λ (o : Option ℕ). 29 + text_size (key_text e.0) + given_size 12 o + value_size p 0
+      (entries_size p levels o) e.1) (full_is full e.0)
 
-  entries_are : (full : Option Text) (es : List (Key × Data)) → properties_size (map (entry_property p (nested p levels) full) es) ≡ sum_by (entry_size p (entries_size p levels) (option_map text_size full)) es
+  entries_are : (full : Option Text) (es : List (Key × Data))
+      → properties_size (map (entry_property p (nested p levels) full) es) ≡ sum_by
+      (entry_size p (entries_size p levels) (option_map text_size full)) es
   entries_are full [] = refl
   entries_are full (e ∷ es) =
       let q = entry_property p (nested p levels) full e in
       omega (
         arith,
-        length-append (node_text (property_node q)) (nodes_text (map property_node (map (entry_property p (nested p levels) full) es))),
+        length-append (node_text (property_node q)) (nodes_text
+            (map property_node (map (entry_property p (nested p levels) full) es))),
         entry_is full e,
         entries_are full es,
         sum_by-cons (entry_size p (entries_size p levels) (option_map text_size full)) e es,
       )
 
-nested_are : (p : Paging) (levels : ℕ) (full : Option Text) (es : List (Key × Data)) → properties_size (nested p levels full es) ≡ entries_size p levels (option_map text_size full) es
+nested_are : (p : Paging) (levels : ℕ) (full : Option Text) (es : List (Key × Data))
+    → properties_size (nested p levels full es) ≡ entries_size p levels (option_map text_size full) es
 nested_are p zero full es = refl
 nested_are p (suc levels) full es = entries_are p levels (nested_are p levels) full es
 
 -- ---- properties
 
-named_is : (p : Paging) (name full : Option Text) (d : Data) → property_size (record { name = name; fullname = full; shape = shape_of p p.page (nested p p.depth full) d })
+named_is : (p : Paging) (name full : Option Text) (d : Data)
+    → property_size (record { name = name; fullname = full; shape = shape_of p p.page (nested p p.depth full) d })
     ≡ named_size p (option_map text_size name) (option_map text_size full) d
 named_is p name full d =
     let size = entries_size p p.depth (option_map text_size full) in
-    sized name full (shape_of p p.page (nested p p.depth full) d) (value_size p p.page size d) (shape_is p p.page (nested p p.depth full) size (nested_are p p.depth full) d)
+    sized name full (shape_of p p.page (nested p p.depth full) d) (value_size p p.page size d)
+    (shape_is p p.page (nested p p.depth full) size (nested_are p p.depth full) d)
 
 pub shown_is : (p : Paging) (d : Data) → property_size (shown p d) ≡ named_size p None None d
 shown_is p d = named_is p None None d
 
-pub path_is : (path : Path) (p : Paging) (d : Data) → property_size (path_property path p d) ≡ named_size p (Some (text_size (own_name path))) (Some (text_size (full_name path))) d
+pub path_is : (path : Path) (p : Paging) (d : Data)
+    → property_size (path_property path p d) ≡ named_size p (Some (text_size (own_name path)))
+    (Some (text_size (full_name path))) d
 path_is path p d = named_is p (Some (own_name path)) (Some (full_name path)) d
 
 -- ---- variables
 
-variable_is : (name : Text) (p : Paging) (d : Data) → property_size (path_property (variable_path name) p d) ≡ named_size p (Some (text_size (variable_name name))) (Some (text_size (variable_name name))) d
+variable_is : (name : Text) (p : Paging) (d : Data)
+    → property_size (path_property (variable_path name) p d) ≡ named_size p (Some (text_size (variable_name name)))
+    (Some (text_size (variable_name name))) d
 variable_is name p d =
     path_is (variable_path name) p d
-    ∙ ap (λ (full : Text). named_size p (Some (text_size (variable_name name))) (Some (text_size full)) d) (append-nil (variable_name name))
+    ∙ ap (λ (full : Text). named_size p (Some (text_size (variable_name name))) (Some (text_size full)) d)
+    (append-nil (variable_name name))
 
 sizes_append : (a b : List Property) → properties_size (a ++ b) ≡ properties_size a + properties_size b
 sizes_append [] b = omega arith
@@ -133,14 +154,18 @@ sizes_append (q ∷ a) b =
 one_is : (q : Property) → properties_size (q ∷ []) ≡ property_size q
 one_is q = ap length (append-nil (node_text (property_node q)))
 
-shown_variable : (p : Paging) (globals : Variables) (v : Text × Slot) → properties_size (variable_shown p globals v) ≡ variable_size p globals v
+shown_variable : (p : Paging) (globals : Variables) (v : Text × Slot)
+    → properties_size (variable_shown p globals v) ≡ variable_size p globals v
 shown_variable p globals v = by (variable_value globals v) where
-  by : (o : Option Value) → properties_size (option_map_or (λ value. path_property (variable_path v.0) p (data_of value) ∷ []) o [])
-      ≡ option_map_or (λ value. named_size p (Some (text_size (variable_name v.0))) (Some (text_size (variable_name v.0))) (data_of value)) o 0
+  by : (o : Option Value)
+      → properties_size (option_map_or (λ value. path_property (variable_path v.0) p (data_of value) ∷ []) o [])
+      ≡ option_map_or (λ value. named_size p (Some (text_size (variable_name v.0)))
+      (Some (text_size (variable_name v.0))) (data_of value)) o 0
   by None = refl
   by (Some value) = one_is (path_property (variable_path v.0) p (data_of value)) ∙ variable_is v.0 p (data_of value)
 
-pub variables_are : (p : Paging) (globals variables : Variables) → properties_size (flat_map (variable_shown p globals) variables) ≡ sum_by (variable_size p globals) variables
+pub variables_are : (p : Paging) (globals variables : Variables)
+    → properties_size (flat_map (variable_shown p globals) variables) ≡ sum_by (variable_size p globals) variables
 variables_are p globals [] = refl
 variables_are p globals (v ∷ variables) =
     omega (

@@ -40,12 +40,13 @@ fn property_within(
     }
 }
 
-/// The property that a command asks for by a name, in a context at a level, if its element has at most so many bytes in the
-/// text of a packet; level 0 is the top frame. DBGp 1.0, "property_get".
+/// The property that a command asks for by a name, in a context at a level, if its element has at most so many bytes in
+/// the text of a packet; level 0 is the top frame. DBGp 1.0, "property_get".
 ///
-/// The code is 301 exactly where the level is not below the number of frames, else 302 exactly where there is no context
-/// with this id, else 300 exactly where the bytes are no name, nothing stands there, or the element has more bytes. That it
-/// has more is found before it is made, and by looking at no more of the value than that many bytes show.
+/// The code is 301 exactly where the level is not below the number of frames, else 302 exactly where there is no
+/// context with this id, else 300 exactly where the bytes are no name, nothing stands there, or the element has more
+/// bytes. That it has more is found before it is made, and by looking at no more of the value than that many bytes
+/// show.
 pub fn limited_property(
     alloc: Global,
     state: &State,
@@ -65,11 +66,12 @@ pub fn limited_property(
     property_within(alloc, state, level, id, &path, p, most)
 }
 
-/// The properties of the variables of a context at a level, in the order of their first assignment, if their elements have at
-/// most so many bytes together in the text of a packet; level 0 is the top frame. DBGp 1.0, "context_get".
+/// The properties of the variables of a context at a level, in the order of their first assignment, if their elements
+/// have at most so many bytes together in the text of a packet; level 0 is the top frame. DBGp 1.0, "context_get".
 ///
-/// The code is 301 exactly where the level is not below the number of frames, else 302 exactly where there is no context
-/// with this id, else 300 exactly where the elements have more bytes. That they have more is found without memory.
+/// The code is 301 exactly where the level is not below the number of frames, else 302 exactly where there is no
+/// context with this id, else 300 exactly where the elements have more bytes. That they have more is found without
+/// memory.
 pub fn limited_context(
     alloc: Global,
     bundle: &Bundle,
@@ -91,8 +93,8 @@ pub fn limited_context(
     }
 }
 
-/// The property that an evaluation shows of its value, if its element has at most so many bytes in the text of a packet: 300
-/// exactly where it has more, which is found without memory.
+/// The property that an evaluation shows of its value, if its element has at most so many bytes in the text of a
+/// packet: 300 exactly where it has more, which is found without memory.
 pub fn limited_shown(
     alloc: Global,
     value: &Value,

@@ -1,5 +1,5 @@
-//! Whether properties fit into so many bytes, before they are made. The walk over a value ends as soon as what is left does
-//! not suffice, so it goes no further than the limit. No call takes memory.
+//! Whether properties fit into so many bytes, before they are made. The walk over a value ends as soon as what is left
+//! does not suffice, so it goes no further than the limit. No call takes memory.
 
 ghost use Rattle.std.specs.Prelude.{◌≡◌, drop, take, nat_le, sum_by, slice_get, None, Some};
 ghost use Rattle.std.specs.List.{flat_map};

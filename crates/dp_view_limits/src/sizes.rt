@@ -1,4 +1,5 @@
-//! What is left of so many bytes behind the texts that a property is made of: counted, and not built. No call takes memory.
+//! What is left of so many bytes behind the texts that a property is made of: counted, and not built. No call takes
+//! memory.
 
 ghost use Rattle.std.specs.Prelude.{◌≡◌, decimal, flat_map, length, take};
 ghost use Rattle.std.specs.Fmt.{signed_decimal};

@@ -27,31 +27,44 @@ module _ (now : List ℕ) (n : ℕ) (found : FirstNul now (Some n)) where
   pub some_refused : n ≤ command_limit → BeginsNoCommand now → ⊥
   some_refused fits no_frame = no_frame (take n now) (drop (n + 1) now) [] (some_is fits) (append-nil now ∙ some_frame)
 
-  pub some_first : n ≤ command_limit → (more : List ℕ) → commands_in (now ++ more) ≡ take n now ∷ commands_in (drop (n + 1) now ++ more)
+  pub some_first : n ≤ command_limit → (more : List ℕ)
+      → commands_in (now ++ more) ≡ take n now ∷ commands_in (drop (n + 1) now ++ more)
   some_first fits more =
       ap (λ l. commands_in (l ++ more)) found.1 ∙ ap commands_in (append_assoc (take n now) (0 ∷ drop (n + 1) now) more)
       ∙ commands-text (take n now) (drop (n + 1) now ++ more) found.0 (some_is fits).fits
 
   pub some_rest : (text rest : List ℕ) → BeginsCommand now text rest → drop (n + 1) now ≡ rest
-  some_rest text rest b = (same_text (take n now) text _ rest found.0 b.is_text.no_nul (sym found.1 ∙ b.whole ∙ framed text rest)).1
+  some_rest text rest b =
+      (same_text (take n now) text _ rest found.0 b.is_text.no_nul (sym found.1 ∙ b.whole ∙ framed text rest)).1
 
   pub some_length : (text rest : List ℕ) → BeginsCommand now text rest → n + 1 ≡ length (command_frame text)
   some_length text rest b =
-      let same = (same_text (take n now) text _ rest found.0 b.is_text.no_nul (sym found.1 ∙ b.whole ∙ framed text rest)).0 in
+      let same = (same_text (take n now) text _ rest found.0 b.is_text.no_nul
+      (sym found.1 ∙ b.whole ∙ framed text rest)).0 in
       omega (arith, front_length, ap length same, length-append text (0 ∷ []))
 
 -- no command begins what has no NUL
 pub none_begins : (now : List ℕ) → has_no_nul now ≡ true → (text rest : List ℕ) → BeginsCommand now text rest → ⊥
-none_begins now none text rest b = no_nul-at text rest (subst (λ l. has_no_nul l ≡ true) (b.whole ∙ framed text rest) none)
+none_begins now none text rest b =
+    no_nul-at text rest (subst (λ l. has_no_nul l ≡ true) (b.whole ∙ framed text rest) none)
 
 nul_comes : (b : ℕ) → b ∷ [] ≢ []
 nul_comes b e = cc
 
 pub none_partial : (now : List ℕ) → has_no_nul now ≡ true → length now ≤ command_limit → IsPartialCommand now
-none_partial now none fits = record { text = now; more = 0 ∷ []; is_text = record { no_nul = none; fits = fits }; comes = nul_comes 0; whole = refl }
+none_partial now none fits =
+    record {
+      text = now;
+      more = 0
+          ∷ [];
+      is_text = record { no_nul = none; fits = fits };
+      comes = nul_comes 0;
+      whole = refl;
+    }
 
 pub none_refused : (now : List ℕ) → has_no_nul now ≡ true → length now ≤ command_limit → BeginsNoCommand now → ⊥
-none_refused now none fits no_frame = no_frame now [] (0 ∷ []) (record { no_nul = none; fits = fits }) (sym (append-nil (command_frame now)))
+none_refused now none fits no_frame =
+    no_frame now [] (0 ∷ []) (record { no_nul = none; fits = fits }) (sym (append-nil (command_frame now)))
 
 -- more bytes than a command has, and no NUL among them
 pub record IsLong (now : List ℕ) : Type 0 where
@@ -62,7 +75,15 @@ pub record IsLong (now : List ℕ) : Type 0 where
   pub long : command_limit < length front
 
 pub long_some : (now : List ℕ) (n : ℕ) → FirstNul now (Some n) → command_limit < n → IsLong now
-long_some now n found long = record { front = take n now; back = 0 ∷ drop (n + 1) now; whole = found.1; no_nul = found.0; long = omega (arith, front_length now n found) }
+long_some now n found long =
+    record {
+      front = take n now;
+      back = 0
+          ∷ drop (n + 1) now;
+      whole = found.1;
+      no_nul = found.0;
+      long = omega (arith, front_length now n found);
+    }
 
 pub long_none : (now : List ℕ) → has_no_nul now ≡ true → command_limit < length now → IsLong now
 long_none now none long = record { front = now; back = []; whole = sym (append-nil now); no_nul = none; long = long }
@@ -79,29 +100,40 @@ long_partial now l p =
 
 pub long_never : (now : List ℕ) → IsLong now → (more : List ℕ) → commands_in (now ++ more) ≡ []
 long_never now l more =
-    ap (λ x. commands_in (x ++ more)) l.whole ∙ ap commands_in (append_assoc l.front l.back more) ∙ commands-long l.front (l.back ++ more) l.no_nul l.long
+    ap (λ x. commands_in (x ++ more)) l.whole ∙ ap commands_in (append_assoc l.front l.back more)
+    ∙ commands-long l.front (l.back ++ more) l.no_nul l.long
 
 -- ---- once a piece follows
 
 pub first_stays : (held piece : List ℕ) (n : ℕ) → FirstNul held (Some n) → FirstNul (held ++ piece) (Some n)
 first_stays held piece n found =
     let long = front_length held n found in
-    let within : n + 1 ≤ length held = omega (arith, ap length found.1, long, length-append (take n held) (0 ∷ drop (n + 1) held)) in
+    let within : n + 1 ≤ length held = omega (
+      arith,
+      ap length found.1,
+      long,
+      length-append (take n held) (0 ∷ drop (n + 1) held),
+    ) in
     let front : take n (held ++ piece) ≡ take n held = take-append-le n held piece (omega (arith, within)) in
     let back : drop (n + 1) (held ++ piece) ≡ drop (n + 1) held ++ piece = drop-append-le (n + 1) held piece within in (
       subst (λ l. has_no_nul l ≡ true) (sym front) found.0,
-      ap (λ l. l ++ piece) found.1 ∙ append_assoc (take n held) (0 ∷ drop (n + 1) held) piece ∙ (λ i. sym front i ++ 0 ∷ sym back i),
+      ap (λ l. l ++ piece) found.1 ∙ append_assoc (take n held) (0 ∷ drop (n + 1) held) piece
+          ∙ (λ i. sym front i ++ 0 ∷ sym back i),
     )
 
-pub none_comes : (held piece : List ℕ) → has_no_nul held ≡ true → has_no_nul piece ≡ true → has_no_nul (held ++ piece) ≡ true
+pub none_comes : (held piece : List ℕ) → has_no_nul held ≡ true → has_no_nul piece ≡ true
+    → has_no_nul (held ++ piece) ≡ true
 none_comes held piece p q = list_all-append _ held piece ∙ and_from _ _ p q
 
-pub first_comes : (held piece : List ℕ) (n : ℕ) → has_no_nul held ≡ true → FirstNul piece (Some n) → FirstNul (held ++ piece) (Some (length held + n))
+pub first_comes : (held piece : List ℕ) (n : ℕ) → has_no_nul held ≡ true → FirstNul piece (Some n)
+    → FirstNul (held ++ piece) (Some (length held + n))
 first_comes held piece n none found =
     let front : take (length held + n) (held ++ piece) ≡ held ++ take n piece = take-append-add held piece n in
     let back : drop (length held + (n + 1)) (held ++ piece) ≡ drop (n + 1) piece = drop-append-add held piece (n + 1) in
     let place : length held + (n + 1) ≡ length held + n + 1 = omega arith in
-    let after : drop (length held + n + 1) (held ++ piece) ≡ drop (n + 1) piece = subst (λ (k : ℕ). drop k (held ++ piece) ≡ drop (n + 1) piece) place back in (
+    let after : drop (length held + n + 1) (held ++ piece) ≡ drop (n + 1) piece = subst
+    (λ (k : ℕ). drop k (held ++ piece) ≡ drop (n + 1) piece) place back in (
       subst (λ l. has_no_nul l ≡ true) (sym front) (none_comes held (take n piece) none found.0),
-      ap (λ l. held ++ l) found.1 ∙ sym (append_assoc held (take n piece) (0 ∷ drop (n + 1) piece)) ∙ (λ i. sym front i ++ 0 ∷ sym after i),
+      ap (λ l. held ++ l) found.1 ∙ sym (append_assoc held (take n piece) (0 ∷ drop (n + 1) piece))
+          ∙ (λ i. sym front i ++ 0 ∷ sym after i),
     )

@@ -1,7 +1,9 @@
 //! A stream split into commands.
 
-ghost use Rattle.std.specs.Prelude.{◌≡◌, ◌↔◌, ◌+◌, ◌≤◌, [], ◌∷◌, ◌++◌, List, ℕ, min, length, vec_len, take, drop, IsErr, IfOk, IfErr, IfSome, OnOk, OnErr};
-ghost use Rattle.dp_wire.specs.Frames.{command_frame, command_limit, BeginsCommand, IsPartialCommand, BeginsNoCommand, commands_in};
+ghost use Rattle.std.specs.Prelude.{◌≡◌, ◌↔◌, ◌+◌, ◌≤◌, [], ◌∷◌, ◌++◌, List, ℕ, min, length, vec_len, take, drop};
+ghost use Rattle.std.specs.Prelude.{IsErr, IfOk, IfErr, IfSome, OnOk, OnErr};
+ghost use Rattle.dp_wire.specs.Frames.{command_frame, command_limit, BeginsCommand, IsPartialCommand, BeginsNoCommand};
+ghost use Rattle.dp_wire.specs.Frames.{commands_in};
 ghost use Rattle.dp_wire.specs.inner.Held.{FirstNul};
 ghost use Rattle.dp_wire.specs.Received.{last_place};
 
@@ -108,7 +110,8 @@ impl Commands {
 
         // What stands there stays, whatever comes after it.
         ensures first { IfOk result (λ found. IfSome found (λ range. (more : List ℕ)
-            → commands_in (self.now.held ++ more) ≡ take range.end self.now.held ∷ commands_in (drop (range.end + 1) self.now.held ++ more))) }
+            → commands_in (self.now.held ++ more) ≡ take range.end self.now.held
+            ∷ commands_in (drop (range.end + 1) self.now.held ++ more))) }
         ensures none { result ≡ Ok None → commands_in self.now.held ≡ [] }
         ensures never { IsErr result → (more : List ℕ) → commands_in (self.now.held ++ more) ≡ [] }
 

@@ -1,6 +1,7 @@
 //! What holds of frames, whatever the bytes are.
 ghost use Rattle.std.specs.Prelude.{◌≡◌, List, [], ℕ, ◌++◌};
-ghost use Rattle.dp_wire.specs.Frames.{Splits, IsCommand, command_frame, commands_in, rest_of, IsPacketText, packet_frame, packets_in, rest_of_packets};
+ghost use Rattle.dp_wire.specs.Frames.{Splits, IsCommand, command_frame, commands_in, rest_of, IsPacketText};
+ghost use Rattle.dp_wire.specs.Frames.{packet_frame, packets_in, rest_of_packets};
 
 /// No frame of a command is a proper prefix of another.
 pub fn no_frame_begins_another()

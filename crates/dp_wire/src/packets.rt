@@ -1,6 +1,7 @@
 //! A stream split into packets.
 
-ghost use Rattle.std.specs.Prelude.{◌≡◌, ◌↔◌, ◌+◌, ◌-◌, ◌<◌, ◌≤◌, [], ◌∷◌, ◌++◌, List, ℕ, min, length, drop, slice_range, IsErr, IfOk, IfErr, IfSome, OnOk, OnErr};
+ghost use Rattle.std.specs.Prelude.{◌≡◌, ◌↔◌, ◌+◌, ◌-◌, ◌<◌, ◌≤◌, [], ◌∷◌, ◌++◌, List, ℕ, min, length, drop};
+ghost use Rattle.std.specs.Prelude.{slice_range, IsErr, IfOk, IfErr, IfSome, OnOk, OnErr};
 ghost use Rattle.std.specs.Fmt.{decimal};
 ghost use Rattle.dp_wire.specs.Frames.{BeginsPacket, IsPartialPacket, BeginsNoPacket, packet_frame, packets_in};
 ghost use Rattle.dp_wire.specs.Received.{IsCause, place_of, last_place};

@@ -39,8 +39,8 @@ Answers bundle features before after command id asked (Err (Code code)) =
     (write_response bundle features before command id asked ≡ Err code) × (after ≡ before)
 Answers bundle features before after command id asked (Err Memory) = after ≡ before
 
--- The code of a refusal that is reported whatever memory there is: each one of property_set, but that
--- the name is reserved and that the place cannot hold the value.
+-- The code of a refusal that is reported whatever memory there is: each one of property_set, but
+-- that the name is reserved and that the place cannot hold the value.
 abbrev pub refusal_at_once : State → Request → Option ℕ
 refusal_at_once s (request.PropertySet set) =
     code_in

@@ -137,7 +137,8 @@ pub(crate) fn path_asked(
     place: &PropertyPlace,
 ) -> Result<Path, ViewError>
     ensures { AnswersAfter (λ path. path) result
-        (path_of_name state.now place.now.level place.now.context place.now.name) (spec.path_asked state.now place.now) }
+        (path_of_name state.now place.now.level place.now.context place.now.name) (spec.path_asked
+        state.now place.now) }
 {
     let name = place.name.as_slice();
     match named_path(alloc, state, place.level, place.context, name) {

@@ -1,7 +1,8 @@
 //! Commands that write.
 
 ghost use Rattle.std.specs.Prelude.{◌≡◌, Ok, Err, Some, IfOk, IfSome};
-ghost use Rattle.dp_write_commands.specs.Asked.{path_asked as asked_path, tree_of as spec_tree, value_asked as asked_value};
+ghost use Rattle.dp_write_commands.specs.Asked.{path_asked as asked_path, tree_of as spec_tree};
+ghost use Rattle.dp_write_commands.specs.Asked.{value_asked as asked_value};
 ghost use Rattle.dp_command.specs.declared.command.Request.TheVariants as request;
 ghost use Rattle.dp_meaning.specs.declared.writes.Write.TheVariants as write;
 ghost use Rattle.dp_view.specs.Named.{named_path};
@@ -262,12 +263,12 @@ fn make_write(
     }
 }
 
-/// Makes the write that a command asks for in the program's state at a moment, and answers it with its response. Where it
-/// is refused, or memory runs out, the state is as before.
+/// Makes the write that a command asks for in the program's state at a moment, and answers it with its response. Where
+/// it is refused, or memory runs out, the state is as before.
 ///
-/// The codes, in their order: of property_set 3 where there is no such value, 301, 302, and 300 where the name is none, is
-/// `$this` or `$GLOBALS`, or the place cannot hold the value; of eval 206 where the text is no expression, where it does not
-/// hold, or where the text of the response would pass 16,777,216 bytes. Another command has 4.
+/// The codes, in their order: of property_set 3 where there is no such value, 301, 302, and 300 where the name is none,
+/// is `$this` or `$GLOBALS`, or the place cannot hold the value; of eval 206 where the text is no expression, where it
+/// does not hold, or where the text of the response would pass 16,777,216 bytes. Another command has 4.
 pub fn write_response(
     alloc: Global,
     bundle: &Bundle,

@@ -9,8 +9,8 @@ use Rattle.dp_outside.specs.Streams.{AppendsFront}
 use Rattle.dp_wire.specs.Frames.{IsCommand, command_frame, commands_in, packet_frame, IsPartialCommand, BeginsNoCommand}
 use Rattle.dp_serving.specs.declared.link.Fault.{Fault}
 use Rattle.dp_serving.specs.declared.link.Fault.TheVariants.{Write, Out, Memory}
-use Rattle.dp_serving.specs.declared.link.Held.{Held}
-use Rattle.dp_serving.specs.declared.link.Held.TheVariants.{Ended, Partial, TooLong}
+use Rattle.dp_serving.specs.declared.link.Pause.{Pause}
+use Rattle.dp_serving.specs.declared.link.Pause.TheVariants.{Ended, Partial, TooLong}
 use Rattle.dp_serving.specs.declared.link.Over.{Over}
 use Rattle.dp_serving.specs.declared.link.Piece.{Piece}
 use Rattle.dp_serving.specs.declared.link.Piece.TheVariants.{Came, End, Failed}
@@ -42,7 +42,7 @@ pub record CutsAnswer {E : Type 0} (answer : Answer E) (fault : Fault E)
   pub by : CutBy {S = ℕ} fault (reply_of answer 0) sink out
 
 -- why no further command is answered
-abbrev pub StopsBy : {E : Type 0} → Held E → Option E → List ℕ → Type 0
+abbrev pub StopsBy : {E : Type 0} → Pause E → Option E → List ℕ → Type 0
 StopsBy (Ended end) ended rest = ended ≡ Some end
 StopsBy Partial ended rest = (ended ≡ None) × IsPartialCommand rest
 StopsBy TooLong ended rest = (ended ≡ None) × BeginsNoCommand rest
@@ -57,7 +57,7 @@ pub record Reached {S E : Type 0} (step : S → List ℕ → Reply S E) (start s
 
 -- the commands among the bytes held were answered, as far as they go
 pub record AnswersHeld {S E : Type 0} (step : S → List ℕ → Reply S E) (start state : S)
-    (held rest : List ℕ) (answer : Held E) (sink out : Change) : Type 0 where
+    (held rest : List ℕ) (answer : Pause E) (sink out : Change) : Type 0 where
   pub reached : Reached step start state held rest sink out
   pub stops : StopsBy answer (replies step start reached.taken).ended rest
 

@@ -6,13 +6,14 @@ use Rattle.dp_engine.specs.declared.service.Served.{Served}
 use Rattle.dp_engine.specs.Serving.{Serves}
 use Rattle.dp_top.specs.declared.failures.Failure.{Failure}
 use Rattle.dp_top.specs.declared.failures.Failure.TheVariants as failure
-use Rattle.dp_words.specs.CommandLine.{Address, Ask}
+use Rattle.dp_words.specs.CommandLine.{Address, Invocation}
 use Rattle.dp_top.specs.Engine.{judged}
 use Rattle.dp_top.specs.Links.{IsDialled, IsUndialled}
 use Rattle.dp_top.specs.Seen.{Net}
 
 -- a session over this program and a link to this address went well, with this status
-pub record EngagedSo (status : ℕ) (program : Bundle) (address : Address) (key : List ℕ) (ask : Ask)
+pub record EngagedSo (status : ℕ) (program : Bundle) (address : Address) (key : List ℕ)
+    (ask : Invocation)
     (out : Change) (old new : Net) : Type 0 where
   pub served : Served
   pub source : Change
@@ -22,7 +23,7 @@ pub record EngagedSo (status : ℕ) (program : Bundle) (address : Address) (key 
   pub told : judged ask served ≡ Ok status
 
 pub record BrokenSo (why : Failure) (name : List ℕ) (program : Bundle) (address : Address)
-    (key : List ℕ) (ask : Ask) (out : Change) (old new : Net) : Type 0 where
+    (key : List ℕ) (ask : Invocation) (out : Change) (old new : Net) : Type 0 where
   pub served : Served
   pub source : Change
   pub sink : Change
@@ -48,7 +49,8 @@ pub record NoLink (why : Failure) (name : List ℕ) (address : Address) (out : C
   pub out_stays : IsUntouched out
 
 -- one failed so: memory ran out before it began, the dial failed, or it ended by this failure
-abbrev pub UnengagedSo : Failure → List ℕ → Bundle → Address → List ℕ → Ask → Change → Net → Net
+abbrev pub UnengagedSo : Failure → List ℕ → Bundle → Address → List ℕ → Invocation → Change → Net
+    → Net
     → Type 0
 UnengagedSo why name program address key ask out old new =
     ((why ≡ failure.Memory) × CameBack address out old new)

@@ -16,7 +16,7 @@ use Rattle.dp_top.specs.declared.failures.Refused.{Refused}
 use Rattle.dp_top.specs.Replay.{DoesReplay, IsBadAt, IsHeldList, ReplayFails, Unlisted}
 use Rattle.dp_top.specs.Replay.{list_limit}
 use Rattle.dp_top.specs.inner.Held.{IsHeld}
-use Rattle.dp_words.specs.CommandLine.{Ask}
+use Rattle.dp_words.specs.CommandLine.{Invocation}
 
 -- the bytes are a list of events, and not too many
 pub record IsWholeList (bytes : List ℕ) (events : List Event) : Type 0 where
@@ -43,14 +43,14 @@ EndsOver (Err why) events program bound out =
     ⊎ ((why.failure ≡ failure.Memory) × Replays (Err ends.Memory) program bound events out))
 
 -- how a replay ends
-abbrev pub EndsReplay : Result ℕ Refused → List ℕ → Ask → Files → ℕ → ℕ → Change → Type 0
+abbrev pub EndsReplay : Result ℕ Refused → List ℕ → Invocation → Files → ℕ → ℕ → Change → Type 0
 EndsReplay result events ask files before after out =
     MatchResult result (λ status. DoesReplay status events ask files out)
     (λ why. ReplayFails why.failure why.name.now events ask files before after out)
 
 -- what was fetched of a shelf that holds the list is no bad source, if the files make a program,
 -- and one if they make none
-abbrev pub HeldFetched : Result ℕ Refused → List ℕ → List ℕ → List Given → Ask → Type 0
+abbrev pub HeldFetched : Result ℕ Refused → List ℕ → List ℕ → List Given → Invocation → Type 0
 HeldFetched result events content fetched ask =
     (files : Files) (before after : ℕ) → Fetches files events list_limit content
     → AreFetched files ask.names fetched → (asked : Result Bundle BundleError)
@@ -58,7 +58,8 @@ HeldFetched result events content fetched ask =
     → IsHeld asked result before after
 
 -- likewise of what was fetched of any shelf that holds it
-abbrev pub EndsFetched : Result ℕ Refused → List ℕ → List ℕ → List Given → Ask → Change → Type 0
+abbrev pub EndsFetched : Result ℕ Refused → List ℕ → List ℕ → List Given → Invocation → Change
+    → Type 0
 EndsFetched result events content fetched ask out =
     (files : Files) (before after : ℕ) → Fetches files events list_limit content
     → AreFetched files ask.names fetched → EndsReplay result events ask files before after out

@@ -7,7 +7,7 @@ use Rattle.dp_engine.specs.Serving.{Serves}
 use Rattle.dp_top.specs.declared.failures.Failure.{Failure}
 use Rattle.dp_top.specs.declared.failures.Failure.TheVariants as failure
 use Rattle.dp_top.specs.declared.failures.Refused.{Refused}
-use Rattle.dp_words.specs.CommandLine.{Ask}
+use Rattle.dp_words.specs.CommandLine.{Invocation}
 use Rattle.dp_top.specs.Talk.{IsIdle, Told, judged_by}
 
 -- what the code tells
@@ -17,20 +17,21 @@ told_in (Err why) = Err (why.failure, why.name.now)
 
 -- a session over this program went well, with this status; a fault of the link's sink is the first
 -- failure
-pub record ServedSo (unsent : Failure) (status : ℕ) (program : Bundle) (key : List ℕ) (ask : Ask)
+pub record ServedSo (unsent : Failure) (status : ℕ) (program : Bundle) (key : List ℕ)
+    (ask : Invocation)
     (input out err : Change) : Type 0 where
   pub served : Served
   pub serves : Serves served program ask.bound key input out err
   pub told : judged_by unsent ask served.outcome served.end ≡ Ok status
 
 pub record EndedSo (unsent why : Failure) (name : List ℕ) (program : Bundle) (key : List ℕ)
-    (ask : Ask) (input out err : Change) : Type 0 where
+    (ask : Invocation) (input out err : Change) : Type 0 where
   pub served : Served
   pub serves : Serves served program ask.bound key input out err
   pub told : judged_by unsent ask served.outcome served.end ≡ Err (why, name)
 
 -- one failed so, or memory ran out before it began
-abbrev pub UnservedSo : Failure → Failure → List ℕ → Bundle → List ℕ → Ask
+abbrev pub UnservedSo : Failure → Failure → List ℕ → Bundle → List ℕ → Invocation
     → Change → Change → Change → Type 0
 UnservedSo unsent why name program key ask input out err =
     ((why ≡ failure.Memory) × IsIdle input out err)

@@ -13,4 +13,6 @@ pub returns-in-Ok : goal.returns-in-Ok
 returns-in-Ok c = rw c.in-Text.is (goes_on _ (step-ok _ _ _ (rw c.as_slice.ensures at c.in-Ok.ensures.ok)) ends)
 
 pub returns-in-Err : goal.returns-in-Err
-returns-in-Err c = rw (c.in-Text.is, c.fault.ensures, c.in-Err.ensures.err) (breaks_off _ (step-err _ _ _ (rw c.as_slice.ensures at c.in-Err.ensures.refused)))
+returns-in-Err c =
+    rw (c.in-Text.is, c.fault.ensures, c.in-Err.ensures.err) (breaks_off _
+    (step-err _ _ _ (rw c.as_slice.ensures at c.in-Err.ensures.refused)))

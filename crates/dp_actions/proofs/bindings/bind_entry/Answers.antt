@@ -11,4 +11,5 @@ returns-in_err-bind_value-in-Some c = λ entry found.
 pub returns-in_ok-bind_value-in-Some : goal.returns-in_ok-bind_value-in-Some
 returns-in_ok-bind_value-in-Some c = λ entry found.
     let same = entry-is _ _ _ _ _ c.pair.ensures c.in-Some.is found in
-    bind-goes-on c.args.binding.now _ _ entry same c.args.state.now _ _ _ c.in_ok-bind_value-in-Some.ensures c.bind_key.ensures
+    bind-goes-on c.args.binding.now _ _ entry same c.args.state.now _ _ _ c.in_ok-bind_value-in-Some.ensures
+    c.bind_key.ensures

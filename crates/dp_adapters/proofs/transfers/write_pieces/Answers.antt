@@ -14,8 +14,12 @@ pub pieces-preserved : goal.pieces-preserved
 pieces-preserved g c =
     let (done, split, appended) = c.pieces.invariant in
     let rest = c.pieces.rest.now in
-    let n = c.in_ok-count.count in
-    (done ++ take n rest, piece_written _ done rest n split, Appends-trans _ _ _ _ _ appended c.in_ok-count.ensures.bytes)
+    let n = c.in_ok-count.count in (
+      done ++ take n rest,
+      piece_written _ done rest n split,
+      Appends-trans _ _ _ _ _ appended
+          c.in_ok-count.ensures.bytes,
+    )
 
 pub returns : goal.returns
 returns g c =

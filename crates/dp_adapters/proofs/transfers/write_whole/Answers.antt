@@ -5,5 +5,6 @@ use Rattle.dp_adapters.proofs.transfers.write_whole.Goals as goal
 
 pub returns-in-Err : goal.returns-in-Err
 returns-in-Err g c =
-    let wrote : Appends (g.W.Write.contents c.args.writer.now) (g.W.Write.contents c.write_pieces.new.writer) c.args.bytes.now = search rules in
+    let wrote : Appends (g.W.Write.contents c.args.writer.now)
+    (g.W.Write.contents c.write_pieces.new.writer) c.args.bytes.now = search rules in
     front_of_all _ _ _ _ wrote c.flush.ensures.bytes

@@ -12,14 +12,17 @@ returns-then-not-is_enough-clause-left c = λ d.
     let counted : c.saturating_add-breakpoint.result ≡ b.hits + min 1 (most_hits - b.hits) = omega arith in
     let bare : c.is_enough.result ≡ false = search rules in
     let stays : (stops_once_more b && b.temporary) ≡ false =
-    and_left (stops_once_more b) b.temporary (sym (ap (is_enough_for b.hit_rule b.hit_value) counted) ∙ sym c.is_enough.ensures ∙ bare)
+    and_left (stops_once_more b) b.temporary (sym (ap (is_enough_for b.hit_rule b.hit_value) counted)
+    ∙ sym c.is_enough.ensures ∙ bare)
     in
-    hit_left c.args.held.now.items c.args.at d b _ (search rules) c.index_mut-breakpoint.ensures.value (ap (λ (h : ℕ). record b { hits = h }) counted) stays
+    hit_left c.args.held.now.items c.args.at d b _ (search rules) c.index_mut-breakpoint.ensures.value
+    (ap (λ (h : ℕ). record b { hits = h }) counted) stays
 
 pub returns-then-not-breakpoint-clause-left : goal.returns-then-not-breakpoint-clause-left
 returns-then-not-breakpoint-clause-left c = λ d.
     let b = c.index_mut-breakpoint.result.now in
     let counted : c.saturating_add-breakpoint.result ≡ b.hits + min 1 (most_hits - b.hits) = omega arith in
     let bare : b.temporary ≡ false = search rules in
-    hit_left c.args.held.now.items c.args.at d b _ (search rules) c.index_mut-breakpoint.ensures.value (ap (λ (h : ℕ). record b { hits = h }) counted)
+    hit_left c.args.held.now.items c.args.at d b _ (search rules) c.index_mut-breakpoint.ensures.value
+    (ap (λ (h : ℕ). record b { hits = h }) counted)
     (and_right (stops_once_more b) b.temporary bare)

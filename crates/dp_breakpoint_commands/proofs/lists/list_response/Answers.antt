@@ -9,5 +9,6 @@ returns-clause-short c =
     let command = c.args.to.now.command in
     let id = c.args.to.now.id in
     let lines = map (breakpoint_line c.args.bundle.now) c.args.held.now in
-    lines_made_fit command id c.in_ok-lines.lines.items (listed command id lines) c.lines_response.result c.lines_response.ensures c.in_ok-lines.ensures
+    lines_made_fit command id c.in_ok-lines.lines.items (listed command id lines) c.lines_response.result
+    c.lines_response.ensures c.in_ok-lines.ensures
     (listed_short command id c.args.to.now.command_bound c.args.to.now.id_bound lines)

@@ -7,4 +7,5 @@ pub returns-clause-short : goal.returns-clause-short
 returns-clause-short c =
     let command = c.args.to.now.command in
     let id = c.args.to.now.id in
-    made_fits command id Nothing c.new.result.items [] c.response.result c.response.ensures c.new.ensures.items (bare_response_fits command id c.args.to.now.command_bound c.args.to.now.id_bound)
+    made_fits command id Nothing c.new.result.items [] c.response.result c.response.ensures c.new.ensures.items
+    (bare_response_fits command id c.args.to.now.command_bound c.args.to.now.id_bound)

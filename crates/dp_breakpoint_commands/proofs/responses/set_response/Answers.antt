@@ -10,5 +10,8 @@ returns-clause-short c =
     let command = c.args.to.now.command in
     let id = c.args.to.now.id in
     let small = c.ranges.id.fits in
-    made_fits command id Nothing c.in_ok-attributes.attributes.items ((codes "state", state_name c.args.enabled) ∷ (codes "id", decimal c.args.id) ∷ []) c.response.result c.response.ensures c.in_ok-attributes.ensures
-    (set_response_fits command id c.args.to.now.command_bound c.args.to.now.id_bound c.args.enabled c.args.id (omega (arith, small)))
+    made_fits command id Nothing c.in_ok-attributes.attributes.items
+    ((codes "state", state_name c.args.enabled) ∷ (codes "id", decimal c.args.id) ∷ []) c.response.result
+    c.response.ensures c.in_ok-attributes.ensures
+    (set_response_fits command id c.args.to.now.command_bound c.args.to.now.id_bound c.args.enabled c.args.id
+    (omega (arith, small)))

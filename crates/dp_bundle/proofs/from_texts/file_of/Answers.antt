@@ -9,9 +9,11 @@ use Rattle.dp_bundle.proofs.from_texts.file_of.Goals as goal
 pub returns-in-Ok-clause-only : goal.returns-in-Ok-clause-only
 returns-in-Ok-clause-only c =
     one_file c.args.name c.args.text c.in-Ok.tree
-    (subst (λ (bytes : List ℕ). (other : File) → IsFile bytes other → c.in-Ok.tree ≡ other) c.as_slice.ensures c.in-Ok.ensures.only)
+    (subst (λ (bytes : List ℕ). (other : File) → IsFile bytes other → c.in-Ok.tree ≡ other) c.as_slice.ensures
+    c.in-Ok.ensures.only)
 
 pub returns-in-Err-clause-only : goal.returns-in-Err-clause-only
 returns-in-Err-clause-only c = λ file h.
     c.source_of.ensures ∙ ap (source_of c.args.number)
-    (subst (λ (bytes : List ℕ). (other : File) → IsFile bytes other → c.in-Err.why ≡ Memory) c.as_slice.ensures c.in-Err.ensures.only file.tree h.tree)
+    (subst (λ (bytes : List ℕ). (other : File) → IsFile bytes other → c.in-Err.why ≡ Memory) c.as_slice.ensures
+    c.in-Err.ensures.only file.tree h.tree)

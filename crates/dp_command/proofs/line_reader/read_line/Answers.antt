@@ -5,7 +5,8 @@ use Rattle.dp_command.proofs.Short.{read_short}
 use Rattle.dp_command.proofs.line_reader.read_line.Goals as goal
 
 pub returns-clause-found : goal.returns-clause-found
-returns-clause-found c = read_found c.args.bytes.now c.line.result (λ i. omega (arith, c.type_inv.bytes i)) c.line.ensures
+returns-clause-found c =
+    read_found c.args.bytes.now c.line.result (λ i. omega (arith, c.type_inv.bytes i)) c.line.ensures
 
 pub returns-clause-only : goal.returns-clause-only
 returns-clause-only c = λ line s. read_only c.args.bytes.now c.line.result line c.line.ensures s

@@ -6,4 +6,5 @@ use Rattle.dp_command.proofs.line_reader.reread.Goals as goal
 pub returns : goal.returns
 returns c =
     let line = c.args.line.now in
-    c.read_line.ensures.only line (subst (λ bytes. spelt bytes line) (sym (c.as_slice.ensures ∙ c.in_ok-text.ensures)) (written_is line c.requires))
+    c.read_line.ensures.only line (subst (λ bytes. spelt bytes line) (sym (c.as_slice.ensures ∙ c.in_ok-text.ensures))
+    (written_is line c.requires))

@@ -5,4 +5,6 @@ use Rattle.dp_command.specs.Names.{text_of}
 use Rattle.dp_command.proofs.names.first_of.Given as goal
 
 abbrev pub invariant-loop-name : goal.invariant-loop-name
-invariant-loop-name l = find (λ n. bytes_eq (text_of n) l.text) (drop l.name-index l.names) ≡ find (λ n. bytes_eq (text_of n) l.text) l.names
+invariant-loop-name l =
+    find (λ n. bytes_eq (text_of n) l.text) (drop l.name-index l.names) ≡ find
+    (λ n. bytes_eq (text_of n) l.text) l.names

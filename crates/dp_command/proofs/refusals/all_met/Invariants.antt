@@ -4,4 +4,5 @@ use Rattle.dp_command.specs.Refusals as spec
 use Rattle.dp_command.proofs.refusals.all_met.Given as goal
 
 abbrev pub invariant-loop-slot : goal.invariant-loop-slot
-invariant-loop-slot l = list_all (spec.is_met l.options) (drop l.slot-index l.slots) ≡ list_all (spec.is_met l.options) l.slots
+invariant-loop-slot l =
+    list_all (spec.is_met l.options) (drop l.slot-index l.slots) ≡ list_all (spec.is_met l.options) l.slots

@@ -4,7 +4,9 @@ use Rattle.dp_command.specs.inner.Reading.{test_of}
 use Rattle.dp_command.proofs.sort.run_len.Given as goal
 
 abbrev pub invariant-loop-n : goal.invariant-loop-n
-invariant-loop-n l = (l.n + prefix_len (test_of l.sort) (drop l.n l.bytes) ≡ prefix_len (test_of l.sort) l.bytes) × (l.n ≤ length l.bytes)
+invariant-loop-n l =
+    (l.n + prefix_len (test_of l.sort) (drop l.n l.bytes) ≡ prefix_len (test_of l.sort) l.bytes)
+    × (l.n ≤ length l.bytes)
 
 abbrev pub decreases-loop-n : goal.decreases-loop-n
 decreases-loop-n l = length l.bytes - l.n

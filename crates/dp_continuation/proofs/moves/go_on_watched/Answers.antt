@@ -26,7 +26,8 @@ returns-then-branch-clause-breaks g c = λ bound writes n stands.
     let comes = rw c.in-At.is at (c.in_ok-moment.ensures.goes_on c.args.bundle.now bound writes way.at way.stands) in
     let one = rw c.in-At.is at c.in_ok-moment.ensures.counted in
     let pass = c.in_ok-pass-in-At.ensures in
-    reaches-with _ _ _ _ _ _ _ _ _ _ way c.in-At.moment c.step.new.self comes _ one c.state_mut.result.now c.pass.new.program
+    reaches-with _ _ _ _ _ _ _ _ _ _ way c.in-At.moment c.step.new.self comes _ one c.state_mut.result.now
+    c.pass.new.program
     c.state_mut.ensures.state pass.same c.pass.new.breaks pass.breaks _ pass.stop c.if-branch.true
 
 pub returns-then-branch-clause-of : goal.returns-then-branch-clause-of
@@ -35,7 +36,8 @@ returns-then-branch-clause-of g c = λ bound writes n stands.
     let comes = rw c.in-At.is at (c.in_ok-moment.ensures.goes_on c.args.bundle.now bound writes way.at way.stands) in
     let one = rw c.in-At.is at c.in_ok-moment.ensures.counted in
     let pass = c.in_ok-pass-in-At.ensures in
-    reaches-of _ _ _ _ _ _ _ _ _ _ way c.in-At.moment c.step.new.self comes _ one c.state_mut.result.now c.pass.new.program
+    reaches-of _ _ _ _ _ _ _ _ _ _ way c.in-At.moment c.step.new.self comes _ one c.state_mut.result.now
+    c.pass.new.program
     c.state_mut.ensures.state pass.same c.pass.new.breaks pass.breaks _ pass.stop
 
 pub returns-then-branch-clause-counted : goal.returns-then-branch-clause-counted

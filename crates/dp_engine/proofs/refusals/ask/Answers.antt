@@ -7,4 +7,5 @@ pub returns : goal.returns
 returns c = λ state is.
     let name = c.in-Ok.name in
     let allowed = ap (λ p. allows p name) is ∙ sym c.allows.ensures ∙ c.if-not-allows.false in
-    read_asks state c.args.line.now name c.read.result c.in-Ok.ensures.admitted c.in-Ok.ensures.named allowed c.read.ensures.refused c.read.ensures.accepted
+    read_asks state c.args.line.now name c.read.result c.in-Ok.ensures.admitted c.in-Ok.ensures.named allowed
+    c.read.ensures.refused c.read.ensures.accepted

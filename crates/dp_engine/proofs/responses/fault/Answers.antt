@@ -7,4 +7,7 @@ pub returns-clause-fits : goal.returns-clause-fits
 returns-clause-fits c =
     let command = c.args.to.now.command in
     let id = c.args.to.now.id in
-    made_fits command id c.of.result [] (Fault c.args.code) c.response.result c.response.ensures (c.of.ensures ∙ c.new.ensures.items) (fault_fits command id c.args.to.now.command_bound c.args.to.now.id_bound c.args.code c.requires.code)
+    made_fits command id c.of.result [] (Fault c.args.code) c.response.result c.response.ensures
+    (c.of.ensures
+    ∙ c.new.ensures.items) (fault_fits command id c.args.to.now.command_bound c.args.to.now.id_bound c.args.code
+    c.requires.code)

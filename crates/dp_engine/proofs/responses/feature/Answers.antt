@@ -10,7 +10,11 @@ pub returns-clause-fits : goal.returns-clause-fits
 returns-clause-fits c =
     let command = c.args.to.now.command in
     let id = c.args.to.now.id in
-    made_fits command id c.in_ok-attributes.attributes ((codes "feature_name", c.args.feature.now) ∷ (codes "supported", c.args.supported.now) ∷ []) (value_body c.args.value)
-    c.response.result (subst (λ (what : Body). IfOk c.response.result (λ (r : Response). r ≡ response command id c.in_ok-attributes.attributes what)) c.told.ensures c.response.ensures)
+    made_fits command id c.in_ok-attributes.attributes ((codes "feature_name", c.args.feature.now)
+    ∷ (codes "supported", c.args.supported.now) ∷ []) (value_body c.args.value)
+    c.response.result (subst (λ (what : Body). IfOk c.response.result
+    (λ (r : Response). r ≡ response command id c.in_ok-attributes.attributes what)) c.told.ensures
+    c.response.ensures)
     c.in_ok-attributes.ensures
-    (feature_fits_if command id c.args.to.now.command_bound c.args.to.now.id_bound c.args.feature.now c.args.supported.now c.args.value c.requires.feature c.requires.supported c.requires.value)
+    (feature_fits_if command id c.args.to.now.command_bound c.args.to.now.id_bound c.args.feature.now
+    c.args.supported.now c.args.value c.requires.feature c.requires.supported c.requires.value)

@@ -8,5 +8,7 @@ pub returns-clause-fits : goal.returns-clause-fits
 returns-clause-fits c =
     let command = c.args.to.now.command in
     let id = c.args.to.now.id in
-    made_fits command id c.in_ok-attributes.attributes ((codes "success", flag c.args.success) ∷ []) Nothing c.response.result c.response.ensures
-    c.in_ok-attributes.ensures (success_fits command id c.args.to.now.command_bound c.args.to.now.id_bound c.args.success)
+    made_fits command id c.in_ok-attributes.attributes ((codes "success", flag c.args.success) ∷ []) Nothing
+    c.response.result c.response.ensures
+    c.in_ok-attributes.ensures (success_fits command id c.args.to.now.command_bound c.args.to.now.id_bound
+    c.args.success)

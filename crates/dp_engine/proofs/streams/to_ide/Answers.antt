@@ -2,4 +2,5 @@ use Rattle.dp_engine.proofs.Streaming.{all_texts}
 use Rattle.dp_engine.proofs.streams.to_ide.Goals as goal
 
 pub returns-clause-are_texts : goal.returns-clause-are_texts
-returns-clause-are_texts c = all_texts c.args.mode c.args.output.now c.args.text c.gather.result c.requires c.gather.ensures
+returns-clause-are_texts c =
+    all_texts c.args.mode c.args.output.now c.args.text c.gather.result c.requires c.gather.ensures

@@ -7,5 +7,7 @@ pub place_over-requires : goal.place_over-requires
 unfolding below reading
 place_over-requires c = record {
   callable = λ alloc old part some. tt;
-  reads = λ alloc old new part r some post. let e : suc (c.args.level - 1) ≡ c.args.level = omega arith in subst (λ n. Reads (below n part old.now) r new.now) e post.2;
+  reads =
+      λ alloc old new part r some post. let e : suc (c.args.level - 1) ≡ c.args.level = omega arith in subst
+      (λ n. Reads (below n part old.now) r new.now) e post.2;
 }

@@ -6,4 +6,5 @@ use Rattle.dp_features.proofs.feature.first_of.Given as goal
 
 abbrev pub invariant-loop-feature : goal.invariant-loop-feature
 invariant-loop-feature l =
-    find (λ f. bytes_eq (name_of f) l.name) (drop l.feature-index l.features) ≡ find (λ f. bytes_eq (name_of f) l.name) l.features
+    find (λ f. bytes_eq (name_of f) l.name) (drop l.feature-index l.features) ≡ find
+    (λ f. bytes_eq (name_of f) l.name) l.features

@@ -13,7 +13,8 @@ returns-in-Ok-None c = λ kind stream follows.
 pub returns-in-Ok-Some : goal.returns-in-Ok-Some
 returns-in-Ok-Some c = λ kind stream follows.
     let e : c.in-Ok-Some.field-0 ≡ Some c.in-Ok-Some.field-0-0 = cc in
-    let front = subst (λ (o : Option (Range ℕ)). IfSome o (λ range. IsFront (kind_of c.args.lane.now) (received_in c.args.lane.now).held range.start range.end))
+    let front = subst (λ (o : Option (Range ℕ)). IfSome o (λ range. IsFront (kind_of c.args.lane.now)
+    (received_in c.args.lane.now).held range.start range.end))
     e c.in-Ok-Some.ensures.whole in
     absurd (no_front kind c.args.lane.now stream follows _ _ front.whole)
 

@@ -9,4 +9,6 @@ close_len-short (b ∷ []) h = refl
 close_len-short (b ∷ c ∷ z) h = absurd (omega arith)
 
 pub returns-clause-value : goal.returns-clause-value
-returns-clause-value c = sym (ap (λ o. longer c.loop-rest.n o) (close_len-short c.loop-rest.rest.now (omega arith))) ∙ c.loop-rest.invariant.0
+returns-clause-value c =
+    sym (ap (λ o. longer c.loop-rest.n o) (close_len-short c.loop-rest.rest.now (omega arith)))
+    ∙ c.loop-rest.invariant.0

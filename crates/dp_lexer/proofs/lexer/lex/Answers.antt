@@ -24,11 +24,14 @@ returns-clause-refused c = λ f o e.
     (subst (λ r. IsRefusedFrom 5 r f o) (whole_rest c.args.bytes.now 5) (c.lex_from.ensures.refused f o e))
 
 -- a file that has its tag is refused for what stands behind it
-refused_behind : (bytes : List ℕ) (f : Fault) (o : ℕ) → ((rest : List ℕ) → HasTag bytes rest → rest ≡ drop 5 bytes) → HasTag bytes (drop 5 bytes) → IsFileRefused bytes f o
+refused_behind : (bytes : List ℕ) (f : Fault) (o : ℕ) → ((rest : List ℕ) → HasTag bytes rest → rest ≡ drop 5 bytes)
+    → HasTag bytes (drop 5 bytes) → IsFileRefused bytes f o
     → IsRefusedFrom 5 (take (length bytes - 5) (drop 5 bytes)) f o
 refused_behind bytes f o only tag (no_tag why at none) = absurd (none (drop 5 bytes) tag)
-refused_behind bytes f o only tag (behind_tag rest has r) = subst (λ z. IsRefusedFrom 5 z f o) (only rest has ∙ sym (whole_rest bytes 5)) r
+refused_behind bytes f o only tag (behind_tag rest has r) =
+    subst (λ z. IsRefusedFrom 5 z f o) (only rest has ∙ sym (whole_rest bytes 5)) r
 
 pub returns-clause-refuses : goal.returns-clause-refuses
 returns-clause-refuses c = λ f o r.
-    c.lex_from.ensures.refuses f o (refused_behind c.args.bytes.now f o (λ rest h. (c.if-not-has_tag.ensures.only rest h).1) (c.if-not-has_tag.ensures.holds refl) r)
+    c.lex_from.ensures.refuses f o (refused_behind c.args.bytes.now f o
+    (λ rest h. (c.if-not-has_tag.ensures.only rest h).1) (c.if-not-has_tag.ensures.holds refl) r)

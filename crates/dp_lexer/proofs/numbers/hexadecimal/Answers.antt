@@ -5,4 +5,5 @@ use Rattle.dp_lexer.proofs.numbers.hexadecimal.Goals as goal
 
 pub ended-requires-clause-digits : goal.ended-requires-clause-digits
 ended-requires-clause-digits c =
-    subst (λ l. Each is_hexadecimal l) (sym (c.split_at.ensures.front ∙ ap (λ n. take n c.args.z.now) c.hexadecimal_len-len.ensures.value)) (run_passes is_hexadecimal c.args.z.now)
+    subst (λ l. Each is_hexadecimal l) (sym (c.split_at.ensures.front
+    ∙ ap (λ n. take n c.args.z.now) c.hexadecimal_len-len.ensures.value)) (run_passes is_hexadecimal c.args.z.now)

@@ -14,7 +14,13 @@ loop-n-preserved c =
     )
 
 pub returns-in_default-clause-value : goal.returns-in_default-clause-value
-returns-in_default-clause-value c = (refl, sym c.loop-n.invariant.0 ∙ doubled-stop c.args.body.now c.loop-n.bytes.items c.loop-n.n c.loop-n-test.true c.in_default.ensures.value)
+returns-in_default-clause-value c = (
+  refl,
+  sym c.loop-n.invariant.0
+      ∙ doubled-stop c.args.body.now c.loop-n.bytes.items c.loop-n.n c.loop-n-test.true c.in_default.ensures.value,
+)
 
 pub returns-clause-value : goal.returns-clause-value
-returns-clause-value c = sym c.loop-n.invariant.0 ∙ doubled-end c.args.body.now c.loop-n.bytes.items c.loop-n.n c.loop-n-test.false ∙ ap (λ l. Ok l) (sym c.of.ensures)
+returns-clause-value c =
+    sym c.loop-n.invariant.0 ∙ doubled-end c.args.body.now c.loop-n.bytes.items c.loop-n.n c.loop-n-test.false
+    ∙ ap (λ l. Ok l) (sym c.of.ensures)

@@ -8,23 +8,27 @@ use Rattle.dp_markup.proofs.documents.prolog.Goals as goal
 pub returns-in_err-more : goal.returns-in_err-more
 unfolding until prolog
 returns-in_err-more c =
-    let e = one_turn (λ n. until prolog_step n c.loop-turn.state c.loop-turn.input) _ c.loop-turn._turn c.loop-turn-test.true c.loop-turn.invariant in
+    let e = one_turn (λ n. until prolog_step n c.loop-turn.state c.loop-turn.input) _ c.loop-turn._turn
+    c.loop-turn-test.true c.loop-turn.invariant in
     first_of (search rules, grind (arith, common_steps))
 
 pub returns-in-Break : goal.returns-in-Break
 unfolding until prolog
 returns-in-Break c =
-    let e = one_turn (λ n. until prolog_step n c.loop-turn.state c.loop-turn.input) _ c.loop-turn._turn c.loop-turn-test.true c.loop-turn.invariant in
+    let e = one_turn (λ n. until prolog_step n c.loop-turn.state c.loop-turn.input) _ c.loop-turn._turn
+    c.loop-turn-test.true c.loop-turn.invariant in
     first_of (search rules, grind (arith, common_steps))
 
 pub loop-turn-preserved : goal.loop-turn-preserved
 unfolding until prolog
 loop-turn-preserved c =
-    let e = one_turn (λ n. until prolog_step n c.loop-turn.state c.loop-turn.input) _ c.loop-turn._turn c.loop-turn-test.true c.loop-turn.invariant in
+    let e = one_turn (λ n. until prolog_step n c.loop-turn.state c.loop-turn.input) _ c.loop-turn._turn
+    c.loop-turn-test.true c.loop-turn.invariant in
     first_of (search rules, grind (arith, common_steps))
 
 pub returns : goal.returns
 unfolding until prolog
 returns c =
-    let e = no_turn (λ n. until prolog_step n c.loop-turn.state c.loop-turn.input) _ c.loop-turn._turn c.loop-turn-test.false c.loop-turn.invariant in
+    let e = no_turn (λ n. until prolog_step n c.loop-turn.state c.loop-turn.input) _ c.loop-turn._turn
+    c.loop-turn-test.false c.loop-turn.invariant in
     first_of (search rules, grind (arith, common_steps))

@@ -4,7 +4,9 @@ use Rattle.dp_markup.specs.inner.Reading.{content_step, opened}
 use Rattle.dp_markup.proofs.elements.+elements.Given as goal
 
 abbrev pub invariant-inside_from-loop-turn : goal.invariant-inside_from-loop-turn
-invariant-inside_from-loop-turn l = closed (content_step (opened l.level) l.name) l.fn.first l.fn.input ≡ until (content_step (opened l.level) l.name) (l._turn-end - l._turn) l.state l.input
+invariant-inside_from-loop-turn l =
+    closed (content_step (opened l.level) l.name) l.fn.first l.fn.input ≡ until (content_step (opened l.level) l.name)
+    (l._turn-end - l._turn) l.state l.input
 
 abbrev pub decreases-opened : goal.decreases-opened
 decreases-opened l = 7 * l.level + 0

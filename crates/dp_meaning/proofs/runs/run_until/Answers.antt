@@ -9,10 +9,12 @@ use Rattle.dp_meaning.proofs.runs.run_until.Goals as goal
 
 pub returns-clause-first : goal.returns-clause-first
 returns-clause-first g c =
-    IfOk-weaker c.run.result _ _ (λ stop e. e ∙ program_first c.args.bundle.now c.args.writes.now c.args.bound c.args.after
+    IfOk-weaker c.run.result _ _ (λ stop e. e
+    ∙ program_first c.args.bundle.now c.args.writes.now c.args.bound c.args.after
     (g.S.Stops.test c.args.stops.now)) c.run.ensures
 
 pub returns-clause-of : goal.returns-clause-of
 returns-clause-of g c = λ some.
     IfOk-weaker c.run.result _ _ (λ stop e. subst (λ (x : Stop). IsOf c.args.bundle.now (state_of x)) (sym e)
-    (first_stop-of c.args.bundle.now c.args.bound c.args.writes.now c.args.after (g.S.Stops.test c.args.stops.now) some)) (returns-clause-first g c)
+    (first_stop-of c.args.bundle.now c.args.bound c.args.writes.now c.args.after
+    (g.S.Stops.test c.args.stops.now) some)) (returns-clause-first g c)

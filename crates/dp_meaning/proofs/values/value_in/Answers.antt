@@ -8,4 +8,5 @@ use Rattle.dp_meaning.proofs.values.value_in.Goals as goal
 pub returns : goal.returns
 returns c =
     IfOk-weaker c.value_in_place.result _ _ (λ (value : Option Value) is.
-    subst (λ (s : State). IsValueIn c.args.bundle.now c.args.e.now s value) c.in_ok-copy.ensures is) c.value_in_place.ensures.value
+    subst (λ (s : State). IsValueIn c.args.bundle.now c.args.e.now s value) c.in_ok-copy.ensures is)
+    c.value_in_place.ensures.value

@@ -2,4 +2,6 @@ use Rattle.dp_value.specs.inner.Codes.{pairs_of-entries_of}
 use Rattle.dp_operations.proofs.arrays.key_list.Goals as goal
 
 pub returns-in-Array : goal.returns-in-Array
-returns-in-Array c = rw (← c.in-Some.ensures, c.in-Array.is, pairs_of-entries_of c.in-Array.array.pairs, ← c.keys.ensures) c.list_of_keys.ensures
+returns-in-Array c =
+    rw (← c.in-Some.ensures, c.in-Array.is, pairs_of-entries_of c.in-Array.array.pairs, ← c.keys.ensures)
+    c.list_of_keys.ensures

@@ -13,8 +13,10 @@ returns-in_err-append c =
     let whole = split_at data_of_key c.args.keys.now c.loop-key.key-index c.key-item.result within c.key-item.is in
     let only = rw c.in_ok-to_value.ensures at c.in_err-append.ensures.only in
     rw (p.1, p.2, whole)
-    (refused (map data_of_key (take c.loop-key.key-index c.args.keys.now)) (map data_of_key (drop (c.loop-key.key-index + 1) c.args.keys.now))
-    (data_of_key c.key-item.result) c.loop-key.list c.in_err-append.field-0.0 c.loop-key.invariant.0 c.loop-key.invariant.1 only)
+    (refused (map data_of_key (take c.loop-key.key-index c.args.keys.now))
+    (map data_of_key (drop (c.loop-key.key-index + 1) c.args.keys.now))
+    (data_of_key c.key-item.result) c.loop-key.list c.in_err-append.field-0.0 c.loop-key.invariant.0
+    c.loop-key.invariant.1 only)
 
 pub loop-key-preserved : goal.loop-key-preserved
 loop-key-preserved c =

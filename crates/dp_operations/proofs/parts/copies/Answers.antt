@@ -7,5 +7,7 @@ use Rattle.dp_operations.proofs.parts.copies.Goals as goal
 
 pub returns-then-is_empty : goal.returns-then-is_empty
 returns-then-is_empty c =
-    let none : c.args.bytes.now ≡ [] = nil_from_length c.args.bytes.now (grind (arith, nat_tests, c.is_empty.ensures, c.if-is_empty.true)) in
-    c.new-copies.ensures.items ∙ sym (ap (λ (bs : List ℕ). repeated c.args.count bs) none ∙ repeated-nothing c.args.count)
+    let none : c.args.bytes.now ≡ [] = nil_from_length c.args.bytes.now
+    (grind (arith, nat_tests, c.is_empty.ensures, c.if-is_empty.true)) in
+    c.new-copies.ensures.items
+    ∙ sym (ap (λ (bs : List ℕ). repeated c.args.count bs) none ∙ repeated-nothing c.args.count)

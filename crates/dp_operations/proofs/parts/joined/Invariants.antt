@@ -7,4 +7,5 @@ use Rattle.dp_operations.proofs.parts.joined.Given as goal
 
 abbrev pub invariant-loop-value : goal.invariant-loop-value
 invariant-loop-value l =
-    (join_by l.glue (map text_of (map data_of l.values)) ≡ l.bytes.items ++ glued l.glue (map text_of (map data_of (drop l.value-index l.rest)))) × (length l.bytes.items ≤ weight_limit)
+    (join_by l.glue (map text_of (map data_of l.values)) ≡ l.bytes.items
+    ++ glued l.glue (map text_of (map data_of (drop l.value-index l.rest)))) × (length l.bytes.items ≤ weight_limit)

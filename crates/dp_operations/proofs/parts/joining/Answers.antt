@@ -3,4 +3,11 @@ use Rattle.dp_operations.proofs.parts.joining.Goals as goal
 
 pub returns-in-Text-Array : goal.returns-in-Text-Array
 returns-in-Text-Array c =
-    rw (← c.in-Some.ensures, c.in-Text-Array.is-0, c.in-Text-Array.is-1, pairs_of-entries_of c.in-Text-Array.array.pairs, ← c.values.ensures, ← c.as_slice.ensures) c.joined.ensures
+    rw (
+      ← c.in-Some.ensures,
+      c.in-Text-Array.is-0,
+      c.in-Text-Array.is-1,
+      pairs_of-entries_of c.in-Text-Array.array.pairs,
+      ← c.values.ensures,
+      ← c.as_slice.ensures,
+    ) c.joined.ensures

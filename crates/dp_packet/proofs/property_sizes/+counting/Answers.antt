@@ -22,4 +22,14 @@ content_size-returns-in-Text bound c =
 
 pub property_size-returns : goal.property_size-returns
 property_size-returns bound c =
-    omega (arith, c.given_size.ensures, c.given_size-2.ensures, c.saturating_add-names.ensures, c.value_size.ensures, c.saturating_add-attributes.ensures, c.content_size.ensures, c.element_size.ensures, property_length c.args.p.now)
+    omega (
+      arith,
+      c.given_size.ensures,
+      c.given_size-2.ensures,
+      c.saturating_add-names.ensures,
+      c.value_size.ensures,
+      c.saturating_add-attributes.ensures,
+      c.content_size.ensures,
+      c.element_size.ensures,
+      property_length c.args.p.now,
+    )

@@ -6,4 +6,5 @@ use Rattle.dp_packet.proofs.property_sizes.+counting.Given as goal
 
 abbrev pub invariant-properties_size-loop-p : goal.invariant-properties_size-loop-p
 invariant-properties_size-loop-p l =
-    (l.size < 2 ^ 64) × (counted (l.size + length (nodes_text (map property_node (drop l.p-index l.properties)))) ≡ counted (length (nodes_text (map property_node l.properties))))
+    (l.size < 2 ^ 64) × (counted (l.size + length (nodes_text (map property_node (drop l.p-index l.properties)))) ≡
+    counted (length (nodes_text (map property_node l.properties))))

@@ -4,4 +4,6 @@ use Rattle.dp_packet.specs.Sizes.{counted}
 use Rattle.dp_packet.proofs.sizes.escaped_size.Given as goal
 
 abbrev pub invariant-loop-byte : goal.invariant-loop-byte
-invariant-loop-byte l = (l.size < 2 ^ 64) × (counted (l.size + length (escaped_all (drop l.byte-index l.bytes))) ≡ counted (length (escaped_all l.bytes)))
+invariant-loop-byte l =
+    (l.size < 2 ^ 64) × (counted (l.size + length (escaped_all (drop l.byte-index l.bytes))) ≡ counted
+    (length (escaped_all l.bytes)))

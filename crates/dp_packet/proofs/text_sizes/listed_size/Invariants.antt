@@ -5,4 +5,5 @@ use Rattle.dp_packet.proofs.text_sizes.listed_size.Given as goal
 
 abbrev pub invariant-loop-attribute : goal.invariant-loop-attribute
 invariant-loop-attribute l =
-    (l.size < 2 ^ 64) × (counted (l.size + attributes_size (drop l.attribute-index l.attributes)) ≡ counted (attributes_size l.attributes))
+    (l.size < 2 ^ 64) × (counted (l.size + attributes_size (drop l.attribute-index l.attributes)) ≡ counted
+    (attributes_size l.attributes))

@@ -6,4 +6,5 @@ use Rattle.dp_packet.proofs.text_sizes.stacks_size.Given as goal
 
 abbrev pub invariant-loop-line : goal.invariant-loop-line
 invariant-loop-line l =
-    (l.size < 2 ^ 64) × (counted (l.size + length (nodes_text (map stack_node (drop l.line-index l.lines)))) ≡ counted (length (nodes_text (map stack_node l.lines))))
+    (l.size < 2 ^ 64) × (counted (l.size + length (nodes_text (map stack_node (drop l.line-index l.lines)))) ≡ counted
+    (length (nodes_text (map stack_node l.lines))))

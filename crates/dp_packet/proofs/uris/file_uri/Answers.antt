@@ -13,4 +13,6 @@ unfolding file_uri
 returns c =
     let name = All-from_get_or IsByte c.args.name.now 0 (λ i within. omega (arith, c.type_inv.name i)) in
     c.of.ensures ∙ ap (λ (v : Vec ℕ Global). v.items) c.into_bytes.ensures.value ∙ c.in_ok-append_to.ensures.ok
-    ∙ (λ i. c.in_ok-uri.ensures.ok i ++ (c.percent_encode.ensures.text ∙ ap (percent_encode ESCAPED) c.without_slash.ensures ∙ same_bytes (without_slash c.args.name.now) (small_rest c.args.name.now name)) i)
+    ∙ (λ i. c.in_ok-uri.ensures.ok i
+    ++ (c.percent_encode.ensures.text ∙ ap (percent_encode ESCAPED) c.without_slash.ensures
+    ∙ same_bytes (without_slash c.args.name.now) (small_rest c.args.name.now name)) i)

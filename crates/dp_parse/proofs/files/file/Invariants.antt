@@ -6,4 +6,5 @@ use Rattle.dp_parse.specs.inner.ReadingStatements.{file_step}
 use Rattle.dp_parse.proofs.files.file.Given as goal
 
 abbrev pub invariant-loop-turn : goal.invariant-loop-turn
-invariant-loop-turn l = closed (file_step limits) no_parts l.fn.tokens ≡ until (file_step limits) (l._turn-end - l._turn) l.state l.tokens
+invariant-loop-turn l =
+    closed (file_step limits) no_parts l.fn.tokens ≡ until (file_step limits) (l._turn-end - l._turn) l.state l.tokens

@@ -7,5 +7,7 @@ use Rattle.dp_parse.proofs.files.function_body.Goals as goal
 pub bodies_over-requires-clause-ready : goal.bodies_over-requires-clause-ready
 bodies_over-requires-clause-ready c = record {
   callable = λ alloc old around some near. omega arith;
-  reads = λ alloc old new around r some post. subst (λ (o : Outcome Body). Reads o r new.now) (body_is 32 around old.now some) post.1;
+  reads =
+      λ alloc old new around r some post. subst (λ (o : Outcome Body). Reads o r new.now)
+      (body_is 32 around old.now some) post.1;
 }

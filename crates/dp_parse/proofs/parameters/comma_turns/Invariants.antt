@@ -6,4 +6,6 @@ use Rattle.dp_rules.specs.inner.ReadingLists.{comma_step}
 use Rattle.dp_parse.proofs.parameters.comma_turns.Given as goal
 
 abbrev pub invariant-loop-turn : goal.invariant-loop-turn
-invariant-loop-turn l = closed (comma_step checked CloseParenthesis) l.fn.first l.fn.tokens ≡ until (comma_step checked CloseParenthesis) (l._turn-end - l._turn) l.state l.tokens
+invariant-loop-turn l =
+    closed (comma_step checked CloseParenthesis) l.fn.first l.fn.tokens ≡ until (comma_step checked CloseParenthesis)
+    (l._turn-end - l._turn) l.state l.tokens

@@ -9,6 +9,8 @@ statement_over-requires t c = record {
   few = c.requires.few;
   ready = record {
     callable = λ alloc old around some near. (omega arith, omega (arith, c.requires.few));
-    reads = λ alloc old new around r some post. subst (λ (o : Outcome Body). Reads o r new.now) (body_is c.args.level around old.now some) post.1;
+    reads =
+        λ alloc old new around r some post. subst (λ (o : Outcome Body). Reads o r new.now)
+        (body_is c.args.level around old.now some) post.1;
   };
 }

@@ -11,14 +11,18 @@ use Rattle.dp_proxy.proofs.calls.call_of.Goals as goal
 
 pub returns-in-Ok-clause-call : goal.returns-in-Ok-clause-call
 returns-in-Ok-clause-call c =
-    IfOk-weaker c.call_on.result (λ (call : Option Call). call ≡ call_on c.in-Ok.line) (λ (call : Option Call). call ≡ call_of c.args.command.now)
+    IfOk-weaker c.call_on.result (λ (call : Option Call). call ≡ call_on c.in-Ok.line)
+    (λ (call : Option Call). call ≡ call_of c.args.command.now)
     (λ call e. e ∙ called c.args.command.now c.in-Ok.line c.in-Ok.ensures.read) c.call_on.ensures
 
 pub returns-in-Ok-clause-key : goal.returns-in-Ok-clause-key
 returns-in-Ok-clause-key c =
-    IfOk-weaker c.call_on.result (λ (call : Option Call). call ≡ call_on c.in-Ok.line) (λ (call : Option Call). IfSome call IsKeyed)
-    (λ call e. keyed c.args.command.now call (e ∙ called c.args.command.now c.in-Ok.line c.in-Ok.ensures.read)) c.call_on.ensures
+    IfOk-weaker c.call_on.result (λ (call : Option Call). call ≡ call_on c.in-Ok.line)
+    (λ (call : Option Call). IfSome call IsKeyed)
+    (λ call e. keyed c.args.command.now call (e ∙ called c.args.command.now c.in-Ok.line c.in-Ok.ensures.read))
+    c.call_on.ensures
 
 pub returns-in-Err-Parse-clause-call : goal.returns-in-Err-Parse-clause-call
 returns-in-Err-Parse-clause-call c =
-    uncalled c.args.command.now (subst (λ (e : LineError). Fails e (line_of c.args.command.now)) c.in-Err-Parse.field-0-is c.in-Err-Parse.ensures.read)
+    uncalled c.args.command.now (subst (λ (e : LineError). Fails e (line_of c.args.command.now))
+    c.in-Err-Parse.field-0-is c.in-Err-Parse.ensures.read)

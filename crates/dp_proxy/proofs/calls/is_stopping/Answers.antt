@@ -12,4 +12,5 @@ returns-in-Ok c =
 
 pub returns-in-Err-Parse : goal.returns-in-Err-Parse
 returns-in-Err-Parse c =
-    not_stopping c.args.command.now (subst (λ (e : LineError). Fails e (line_of c.args.command.now)) c.in-Err-Parse.field-0-is c.in-Err-Parse.ensures.read)
+    not_stopping c.args.command.now (subst (λ (e : LineError). Fails e (line_of c.args.command.now))
+    c.in-Err-Parse.field-0-is c.in-Err-Parse.ensures.read)

@@ -8,5 +8,6 @@ use Rattle.dp_proxy.proofs.passes.pass.Goals as goal
 
 pub returns-in-Closed : goal.returns-in-Closed
 returns-in-Closed c = λ acts follow.
-    subst (λ (a : Act). Passes acts a c.close.result × FollowBoth (acts ++ a ∷ []) c.args.up.now c.args.down.now) (sym c.in-Closed.is)
+    subst (λ (a : Act). Passes acts a c.close.result × FollowBoth (acts ++ a ∷ []) c.args.up.now c.args.down.now)
+    (sym c.in-Closed.is)
     (c.close.ensures acts follow, follow_idle acts Closed c.args.up.now c.args.down.now refl refl follow)

@@ -7,27 +7,39 @@ use Rattle.dp_proxy.proofs.passes.read.Goals as goal
 
 pub returns-then-not-is_empty : goal.returns-then-not-is_empty
 returns-then-not-is_empty c = λ acts follow.
-    let carries = subst (λ (b : List ℕ). Carries Up c.carry.new.lane (stream Up acts) b c.of-out.result) c.as_slice.ensures
+    let carries = subst (λ (b : List ℕ). Carries Up c.carry.new.lane (stream Up acts) b c.of-out.result)
+    c.as_slice.ensures
     (subst (λ (o : List ℕ). Carries Up c.carry.new.lane (stream Up acts) c.as_slice.result.now o) (sym c.of-out.ensures)
     (c.in_ok-frames.ensures Up (stream Up acts) follow.packets)) in (
-      moved_frames acts c.args.bytes.now c.args.up.now c.args.down.now c.carry.new.lane c.of-out.result follow carries (some_bytes c.of-out.result c.is_empty.result c.is_empty.ensures c.if-not-is_empty.true),
+      moved_frames acts c.args.bytes.now c.args.up.now c.args.down.now c.carry.new.lane c.of-out.result follow carries
+          (some_bytes c.of-out.result c.is_empty.result c.is_empty.ensures c.if-not-is_empty.true),
       moved_follows acts c.args.bytes.now c.args.up.now c.args.down.now c.carry.new.lane c.of-out.result follow carries,
     )
 
 pub returns-in-Some : goal.returns-in-Some
 returns-in-Some c = λ acts follow.
-    let carries = subst (λ (b : List ℕ). Carries Up c.carry.new.lane (stream Up acts) b c.of-out.result) c.as_slice.ensures
+    let carries = subst (λ (b : List ℕ). Carries Up c.carry.new.lane (stream Up acts) b c.of-out.result)
+    c.as_slice.ensures
     (subst (λ (o : List ℕ). Carries Up c.carry.new.lane (stream Up acts) c.as_slice.result.now o) (sym c.of-out.ensures)
     (c.in_ok-frames.ensures Up (stream Up acts) follow.packets)) in
     let none = no_bytes c.of-out.result c.is_empty.result c.is_empty.ensures c.if-not-is_empty.false in
-    let after = moved_follows acts c.args.bytes.now c.args.up.now c.args.down.now c.carry.new.lane c.of-out.result follow carries in
-    (moved_broken acts c.args.bytes.now c.args.up.now c.args.down.now c.carry.new.lane c.of-out.result follow carries none c.in-Some.offset (c.in-Some.ensures _ after), after)
+    let after = moved_follows acts c.args.bytes.now c.args.up.now c.args.down.now c.carry.new.lane c.of-out.result
+    follow carries in (
+      moved_broken acts c.args.bytes.now c.args.up.now c.args.down.now c.carry.new.lane c.of-out.result follow carries
+          none c.in-Some.offset (c.in-Some.ensures _ after),
+      after,
+    )
 
 pub returns : goal.returns
 returns c = λ acts follow.
-    let carries = subst (λ (b : List ℕ). Carries Up c.carry.new.lane (stream Up acts) b c.of-out.result) c.as_slice.ensures
+    let carries = subst (λ (b : List ℕ). Carries Up c.carry.new.lane (stream Up acts) b c.of-out.result)
+    c.as_slice.ensures
     (subst (λ (o : List ℕ). Carries Up c.carry.new.lane (stream Up acts) c.as_slice.result.now o) (sym c.of-out.ensures)
     (c.in_ok-frames.ensures Up (stream Up acts) follow.packets)) in
     let none = no_bytes c.of-out.result c.is_empty.result c.is_empty.ensures c.if-not-is_empty.false in
-    let after = moved_follows acts c.args.bytes.now c.args.up.now c.args.down.now c.carry.new.lane c.of-out.result follow carries in
-    (moved_nothing acts c.args.bytes.now c.args.up.now c.args.down.now c.carry.new.lane c.of-out.result follow carries none (c.in-None.ensures _ after), after)
+    let after = moved_follows acts c.args.bytes.now c.args.up.now c.args.down.now c.carry.new.lane c.of-out.result
+    follow carries in (
+      moved_nothing acts c.args.bytes.now c.args.up.now c.args.down.now c.carry.new.lane c.of-out.result follow carries
+          none (c.in-None.ensures _ after),
+      after,
+    )

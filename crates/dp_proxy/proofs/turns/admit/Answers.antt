@@ -14,9 +14,11 @@ use Rattle.dp_proxy.proofs.turns.admit.Goals as goal
 
 pub returns-in-Ok-clause-leads : goal.returns-in-Ok-clause-leads
 returns-in-Ok-clause-leads c =
-    IfOk-weaker c.welcome.result (Welcomes c.in-Ok.pass) (Leads c.args.registry.now New (Engine c.args.key.now) c.admit.new.self)
+    IfOk-weaker c.welcome.result (Welcomes c.in-Ok.pass) (Leads c.args.registry.now New
+    (Engine c.args.key.now) c.admit.new.self)
     (λ step w. subst (Leads c.args.registry.now New (Engine c.args.key.now) c.admit.new.self) (sym w.is)
-    (admitted_leads c.args.registry.now c.admit.new.self c.args.key.now c.requires c.in-Ok.pass w.up w.down w.packets w.commands
+    (admitted_leads c.args.registry.now c.admit.new.self c.args.key.now c.requires c.in-Ok.pass w.up w.down w.packets
+    w.commands
     c.in-Ok.ensures.verdict c.in-Ok.ensures.journal)) c.welcome.ensures
 
 pub returns-in-Ok-clause-sound : goal.returns-in-Ok-clause-sound
@@ -32,11 +34,13 @@ returns-in-Ok-clause-own c =
 
 pub returns-in-Ok-clause-others : goal.returns-in-Ok-clause-others
 returns-in-Ok-clause-others c =
-    admit_leaves c.args.registry.now c.admit.new.self c.args.key.now (admit_reply_of (Ok c.in-Ok.pass)) c.in-Ok.ensures.journal
+    admit_leaves c.args.registry.now c.admit.new.self c.args.key.now
+    (admit_reply_of (Ok c.in-Ok.pass)) c.in-Ok.ensures.journal
 
 pub returns-in-Err-clause-leads : goal.returns-in-Err-clause-leads
 returns-in-Err-clause-leads c =
-    refused_answer c.args.registry.now c.admit.new.self c.args.key.now c.requires c.in-Err.why c.refuse.result c.refuse.ensures.known c.refuse.ensures.step
+    refused_answer c.args.registry.now c.admit.new.self c.args.key.now c.requires c.in-Err.why c.refuse.result
+    c.refuse.ensures.known c.refuse.ensures.step
     c.in-Err.ensures.verdict c.in-Err.ensures.journal
 
 pub returns-in-Err-clause-sound : goal.returns-in-Err-clause-sound
@@ -47,9 +51,11 @@ returns-in-Err-clause-sound c =
 pub returns-in-Err-clause-own : goal.returns-in-Err-clause-own
 returns-in-Err-clause-own c =
     IfOk-weaker c.refuse.result _ (λ (step : Step). IsOwn c.args.registry.now None step.kept)
-    (λ step e. subst (λ (s : Step). IsOwn c.args.registry.now None s.kept) (sym e) (none_is_own c.args.registry.now None (Some keep.Over) refl))
+    (λ step e. subst (λ (s : Step). IsOwn c.args.registry.now None s.kept) (sym e)
+    (none_is_own c.args.registry.now None (Some keep.Over) refl))
     c.refuse.ensures.step
 
 pub returns-in-Err-clause-others : goal.returns-in-Err-clause-others
 returns-in-Err-clause-others c =
-    admit_leaves c.args.registry.now c.admit.new.self c.args.key.now (admit_reply_of (Err c.in-Err.why)) c.in-Err.ensures.journal
+    admit_leaves c.args.registry.now c.admit.new.self c.args.key.now
+    (admit_reply_of (Err c.in-Err.why)) c.in-Err.ensures.journal

@@ -9,18 +9,22 @@ use Rattle.dp_proxy.proofs.turns.answer.Goals as goal
 
 pub returns-in_err-reply-clause-others : goal.returns-in_err-reply-clause-others
 returns-in_err-reply-clause-others c =
-    registered_leaves c.args.registry.now c.registration.new.registry c.args.host.now c.args.command.now c.in_err-reply.ensures.memory
+    registered_leaves c.args.registry.now c.registration.new.registry c.args.host.now c.args.command.now
+    c.in_err-reply.ensures.memory
 
 pub returns-in_err-text-clause-others : goal.returns-in_err-text-clause-others
 returns-in_err-text-clause-others c =
-    registered_leaves c.args.registry.now c.registration.new.registry c.args.host.now c.args.command.now (inr c.in_ok-reply.ensures.journal)
+    registered_leaves c.args.registry.now c.registration.new.registry c.args.host.now c.args.command.now
+    (inr c.in_ok-reply.ensures.journal)
 
 pub packet_bytes-requires : goal.packet_bytes-requires
 packet_bytes-requires c =
     subst IsPacketText
-    (sym (c.as_slice.ensures ∙ c.in_ok-text.ensures ∙ ap (λ (r : ProxyReply). text (packet.Proxy r)) c.in_ok-reply.ensures.reply))
+    (sym (c.as_slice.ensures ∙ c.in_ok-text.ensures
+    ∙ ap (λ (r : ProxyReply). text (packet.Proxy r)) c.in_ok-reply.ensures.reply))
     (reply_fits c.args.registry.now c.args.host.now c.args.command.now c.requires)
 
 pub returns-clause-others : goal.returns-clause-others
 returns-clause-others c =
-    registered_leaves c.args.registry.now c.registration.new.registry c.args.host.now c.args.command.now (inr c.in_ok-reply.ensures.journal)
+    registered_leaves c.args.registry.now c.registration.new.registry c.args.host.now c.args.command.now
+    (inr c.in_ok-reply.ensures.journal)

@@ -10,6 +10,7 @@ pub returns-clause-leads : goal.returns-clause-leads
 returns-clause-leads c = λ journal.
     let same = c.in_ok-host.ensures in
     let none = c.new-heard.ensures.items in
-    quiet_leads journal journal New (Ide c.args.host.now) (Asking c.args.host.now []) (Some (keep.Asking c.in_ok-host.host c.new-heard.result))
+    quiet_leads journal journal New (Ide c.args.host.now) (Asking c.args.host.now [])
+    (Some (keep.Asking c.in_ok-host.host c.new-heard.result))
     (ide_comes journal c.args.host.now) tt refl
     ((λ i. Asking (sym same i) (sym none i)), subst (λ (l : List ℕ). has_no_nul l ≡ true) (sym none) refl)

@@ -8,5 +8,7 @@ use Rattle.dp_proxy.proofs.turns.turn.Goals as goal
 pub returns-in-Some-Over-clause-leads : goal.returns-in-Some-Over-clause-leads
 returns-in-Some-Over-clause-leads c = λ link kept.
     let j = c.args.registry.now in
-    let over = subst (λ (k : Option Kept). IsKept k link) (c.in-Some-Over.is ∙ ap Some c.in-Some-Over.field-0-is) kept in
-    quiet_leads j j link c.args.act.now link (Some keep.Over) (over_still j link c.args.act.now over) (over_comes link c.args.act.now over) refl over
+    let over = subst (λ (k : Option Kept). IsKept k link) (c.in-Some-Over.is ∙ ap Some c.in-Some-Over.field-0-is) kept
+    in
+    quiet_leads j j link c.args.act.now link (Some keep.Over) (over_still j link c.args.act.now over)
+    (over_comes link c.args.act.now over) refl over

@@ -13,7 +13,9 @@ returns c =
       up = c.new-up.result;
       down = c.new-down.result;
       packets = fresh_follows Up c.new-up.result c.new-up.ensures.kind c.new-up.ensures.held c.new-up.ensures.dropped;
-      commands = fresh_follows Down c.new-down.result c.new-down.ensures.kind c.new-down.ensures.held c.new-down.ensures.dropped;
+      commands =
+          fresh_follows Down c.new-down.result c.new-down.ensures.kind c.new-down.ensures.held
+          c.new-down.ensures.dropped;
       is = λ i. record {
         kept = Some (keep.Joined c.args.pass c.new-up.result c.new-down.result);
         told = Ok (Admitted c.args.pass.session (host i) c.args.pass.port);

@@ -4,4 +4,6 @@ use Rattle.dp_reply.specs.Verdict.{behind}
 use Rattle.dp_reply.proofs.lists.entries.Given as goal
 
 abbrev pub invariant-loop-node : goal.invariant-loop-node
-invariant-loop-node g l = behind l.found.items (each g.T.Entry.entry (elements (drop l.node-index l.nodes))) ≡ each g.T.Entry.entry (elements l.nodes)
+invariant-loop-node g l =
+    behind l.found.items (each g.T.Entry.entry (elements (drop l.node-index l.nodes))) ≡ each g.T.Entry.entry
+    (elements l.nodes)

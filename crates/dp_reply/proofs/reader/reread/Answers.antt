@@ -12,4 +12,5 @@ pub returns : goal.returns
 returns c =
     let p = c.args.packet.now in
     let text = c.as_slice.ensures ∙ c.in_ok-text.ensures in
-    c.packet_of.ensures.only (element_of p) (norm p) (subst (λ t. IsMarkup t (element_of p)) (sym text) (is_markup p c.requires)) (is_read p c.requires)
+    c.packet_of.ensures.only (element_of p) (norm p) (subst (λ t. IsMarkup t (element_of p)) (sym text)
+    (is_markup p c.requires)) (is_read p c.requires)

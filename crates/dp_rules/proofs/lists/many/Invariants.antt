@@ -5,4 +5,6 @@ use Rattle.dp_rules.specs.inner.ReadingLists.{many_step}
 use Rattle.dp_rules.proofs.lists.many.Given as goal
 
 abbrev pub invariant-loop-turn : goal.invariant-loop-turn
-invariant-loop-turn g l = closed (many_step (is l.begin) (g.P.Piece.reads l.piece)) [] l.fn.tokens ≡ until (many_step (is l.begin) (g.P.Piece.reads l.piece)) (l._turn-end - l._turn) l.state l.tokens
+invariant-loop-turn g l =
+    closed (many_step (is l.begin) (g.P.Piece.reads l.piece)) [] l.fn.tokens ≡ until
+    (many_step (is l.begin) (g.P.Piece.reads l.piece)) (l._turn-end - l._turn) l.state l.tokens

@@ -4,4 +4,6 @@ use Rattle.dp_rules.specs.inner.ReadingLists.{plain_step}
 use Rattle.dp_rules.proofs.lists.plain_turns.Given as goal
 
 abbrev pub invariant-loop-turn : goal.invariant-loop-turn
-invariant-loop-turn g l = closed (plain_step (λ _. g.P.Piece.reads l.item) l.close) l.fn.first l.fn.tokens ≡ until (plain_step (λ _. g.P.Piece.reads l.item) l.close) (l._turn-end - l._turn) l.state l.tokens
+invariant-loop-turn g l =
+    closed (plain_step (λ _. g.P.Piece.reads l.item) l.close) l.fn.first l.fn.tokens ≡ until
+    (plain_step (λ _. g.P.Piece.reads l.item) l.close) (l._turn-end - l._turn) l.state l.tokens

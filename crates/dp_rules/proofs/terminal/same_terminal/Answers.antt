@@ -79,4 +79,6 @@ tag_is terminal.OpenBrace = refl
 tag_is terminal.CloseBrace = refl
 
 pub returns : goal.returns
-returns c = ap (λ n. nat_eq n (tag_of the_type c.args.b)) (tag_is c.args.a) ∙ ap (λ n. nat_eq (number_of c.args.a) n) (tag_is c.args.b)
+returns c =
+    ap (λ n. nat_eq n (tag_of the_type c.args.b)) (tag_is c.args.a)
+    ∙ ap (λ n. nat_eq (number_of c.args.a) n) (tag_is c.args.b)

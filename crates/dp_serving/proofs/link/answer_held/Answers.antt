@@ -18,24 +18,43 @@ pub commands-init : goal.commands-init
 commands-init g c = (
   omega arith,
   omega arith,
-  reached_first g.A.Responder.step g.K.Sink.taken g.K.Sink.faults g.E.Sink.taken g.E.Sink.faults c.args.talk.now.session c.args.talk.now.held.held c.args.sink.now c.args.out.now,
+  reached_first g.A.Responder.step g.K.Sink.taken g.K.Sink.faults g.E.Sink.taken g.E.Sink.faults c.args.talk.now.session
+      c.args.talk.now.held.held c.args.sink.now c.args.out.now,
 )
 
 pub returns-in-Partial-clause-ok : goal.returns-in-Partial-clause-ok
 returns-in-Partial-clause-ok g c =
     let next = rw c.in-Partial.is at c.in_ok-answer.ensures.comes in
     let kept = reached_kept g.A.Responder.step g.K.Sink.taken g.K.Sink.faults g.E.Sink.taken g.E.Sink.faults
-    c.args.talk.now.session c.commands.talk.session c.next.new.self.session c.args.talk.now.held.held c.commands.talk.held.held c.next.new.self.held.held _ _
+    c.args.talk.now.session c.commands.talk.session c.next.new.self.session c.args.talk.now.held.held
+    c.commands.talk.held.held c.next.new.self.held.held _ _
     c.commands.invariant.2.0 next.1 next.2 in
-    record { reached = kept.0; stops = (ap (λ (l : List (List ℕ)). (replies g.A.Responder.step c.args.talk.now.session l).ended) kept.1 ∙ c.commands.invariant.2.1, rw (← next.2) at next.0) }
+    record {
+      reached = kept.0;
+      stops = (
+        ap (λ (l : List (List ℕ)).
+            (replies g.A.Responder.step c.args.talk.now.session l).ended) kept.1
+            ∙ c.commands.invariant.2.1,
+        rw (← next.2) at next.0,
+      );
+    }
 
 pub returns-in-TooLong-clause-ok : goal.returns-in-TooLong-clause-ok
 returns-in-TooLong-clause-ok g c =
     let next = rw c.in-TooLong.is at c.in_ok-answer.ensures.comes in
     let kept = reached_kept g.A.Responder.step g.K.Sink.taken g.K.Sink.faults g.E.Sink.taken g.E.Sink.faults
-    c.args.talk.now.session c.commands.talk.session c.next.new.self.session c.args.talk.now.held.held c.commands.talk.held.held c.next.new.self.held.held _ _
+    c.args.talk.now.session c.commands.talk.session c.next.new.self.session c.args.talk.now.held.held
+    c.commands.talk.held.held c.next.new.self.held.held _ _
     c.commands.invariant.2.0 next.1 next.2 in
-    record { reached = kept.0; stops = (ap (λ (l : List (List ℕ)). (replies g.A.Responder.step c.args.talk.now.session l).ended) kept.1 ∙ c.commands.invariant.2.1, rw (← next.2) at next.0) }
+    record {
+      reached = kept.0;
+      stops = (
+        ap (λ (l : List (List ℕ)).
+            (replies g.A.Responder.step c.args.talk.now.session l).ended) kept.1
+            ∙ c.commands.invariant.2.1,
+        rw (← next.2) at next.0,
+      );
+    }
 
 pub returns-in_err-answer-clause-cut : goal.returns-in_err-answer-clause-cut
 returns-in_err-answer-clause-cut g c =
@@ -43,10 +62,13 @@ returns-in_err-answer-clause-cut g c =
     let held = commands_in c.commands.talk.held.held in
     rw (p.1, p.2)
     (cut_after g.A.Responder.step g.K.Sink.taken g.K.Sink.faults g.E.Sink.taken g.E.Sink.faults
-    c.args.talk.now.session c.commands.talk.session c.next.new.self.session c.args.talk.now.held.held c.commands.talk.held.held held [] Memory
+    c.args.talk.now.session c.commands.talk.session c.next.new.self.session c.args.talk.now.held.held
+    c.commands.talk.held.held held [] Memory
     c.args.sink.now c.commands.sink c.commands.sink c.args.out.now c.commands.out c.commands.out
-    c.commands.invariant.2.0 c.commands.invariant.2.1 (sym (append-nil held)) c.commands.invariant.0 c.commands.invariant.1
-    (cut_before g.A.Responder.step g.K.Sink.taken g.K.Sink.faults g.E.Sink.taken g.E.Sink.faults c.commands.talk.session c.next.new.self.session held c.commands.sink c.commands.out))
+    c.commands.invariant.2.0 c.commands.invariant.2.1 (sym (append-nil held)) c.commands.invariant.0
+    c.commands.invariant.1
+    (cut_before g.A.Responder.step g.K.Sink.taken g.K.Sink.faults g.E.Sink.taken g.E.Sink.faults c.commands.talk.session
+    c.next.new.self.session held c.commands.sink c.commands.out))
 
 pub returns-in_err-end-clause-cut : goal.returns-in_err-end-clause-cut
 returns-in_err-end-clause-cut g c =
@@ -54,32 +76,41 @@ returns-in_err-end-clause-cut g c =
     let first = rw c.in-Answered.is at c.in_ok-answer.ensures.comes in
     rw (p.1, p.2)
     (cut_after g.A.Responder.step g.K.Sink.taken g.K.Sink.faults g.E.Sink.taken g.E.Sink.faults
-    c.args.talk.now.session c.commands.talk.session c.next.new.self.session c.args.talk.now.held.held c.commands.talk.held.held
+    c.args.talk.now.session c.commands.talk.session c.next.new.self.session c.args.talk.now.held.held
+    c.commands.talk.held.held
     (first.line ∷ []) (commands_in c.next.new.self.held.held) _
     c.args.sink.now c.commands.sink c.deliver.new.sink c.args.out.now c.commands.out c.deliver.new.out
-    c.commands.invariant.2.0 c.commands.invariant.2.1 (front_comes c.commands.talk.held.held first.line c.next.new.self.held.held first.begins)
+    c.commands.invariant.2.0 c.commands.invariant.2.1 (front_comes c.commands.talk.held.held first.line
+    c.next.new.self.held.held first.begins)
     c.commands.invariant.0 c.commands.invariant.1
-    (cut_answer g.A.Responder.step g.K.Sink.taken g.K.Sink.faults g.E.Sink.taken g.E.Sink.faults c.commands.talk.session c.next.new.self.session first.line c.in-Answered.answer _ _ _
+    (cut_answer g.A.Responder.step g.K.Sink.taken g.K.Sink.faults g.E.Sink.taken g.E.Sink.faults c.commands.talk.session
+    c.next.new.self.session first.line c.in-Answered.answer _ _ _
     first.is c.in_err-end.ensures.cut))
 
 pub returns-in-Some-clause-ok : goal.returns-in-Some-clause-ok
 returns-in-Some-clause-ok g c =
     let first = rw c.in-Answered.is at c.in_ok-answer.ensures.comes in
     let next = reached_next g.A.Responder.step g.K.Sink.taken g.K.Sink.faults g.E.Sink.taken g.E.Sink.faults
-    c.args.talk.now.session c.commands.talk.session c.next.new.self.session c.args.talk.now.held.held c.commands.talk.held.held first.line c.next.new.self.held.held
+    c.args.talk.now.session c.commands.talk.session c.next.new.self.session c.args.talk.now.held.held
+    c.commands.talk.held.held first.line c.next.new.self.held.held
     c.args.sink.now c.commands.sink c.deliver.new.sink c.args.out.now c.commands.out c.deliver.new.out
-    c.commands.invariant.2.0 c.commands.invariant.2.1 (stands_first_of c.commands.talk.held.held first.line c.next.new.self.held.held first.begins) (state_is first.is)
-    (delivers_reply g.A.Responder.step g.K.Sink.taken g.K.Sink.faults g.E.Sink.taken g.E.Sink.faults c.in-Answered.answer c.next.new.self.session _ _ _ first.is c.in_ok-end.ensures.delivers) in
+    c.commands.invariant.2.0 c.commands.invariant.2.1 (stands_first_of c.commands.talk.held.held first.line
+    c.next.new.self.held.held first.begins) (state_is first.is)
+    (delivers_reply g.A.Responder.step g.K.Sink.taken g.K.Sink.faults g.E.Sink.taken g.E.Sink.faults
+    c.in-Answered.answer c.next.new.self.session _ _ _ first.is c.in_ok-end.ensures.delivers) in
     record { reached = next.0; stops = next.1 ∙ sym (ended_is first.is) ∙ sym c.in_ok-end.ensures.ended ∙ c.in-Some.is }
 
 pub commands-preserved : goal.commands-preserved
 commands-preserved g c =
     let first = rw c.in-Answered.is at c.in_ok-answer.ensures.comes in
     let next = reached_next g.A.Responder.step g.K.Sink.taken g.K.Sink.faults g.E.Sink.taken g.E.Sink.faults
-    c.args.talk.now.session c.commands.talk.session c.next.new.self.session c.args.talk.now.held.held c.commands.talk.held.held first.line c.next.new.self.held.held
+    c.args.talk.now.session c.commands.talk.session c.next.new.self.session c.args.talk.now.held.held
+    c.commands.talk.held.held first.line c.next.new.self.held.held
     c.args.sink.now c.commands.sink c.deliver.new.sink c.args.out.now c.commands.out c.deliver.new.out
-    c.commands.invariant.2.0 c.commands.invariant.2.1 (stands_first_of c.commands.talk.held.held first.line c.next.new.self.held.held first.begins) (state_is first.is)
-    (delivers_reply g.A.Responder.step g.K.Sink.taken g.K.Sink.faults g.E.Sink.taken g.E.Sink.faults c.in-Answered.answer c.next.new.self.session _ _ _ first.is c.in_ok-end.ensures.delivers) in (
+    c.commands.invariant.2.0 c.commands.invariant.2.1 (stands_first_of c.commands.talk.held.held first.line
+    c.next.new.self.held.held first.begins) (state_is first.is)
+    (delivers_reply g.A.Responder.step g.K.Sink.taken g.K.Sink.faults g.E.Sink.taken g.E.Sink.faults
+    c.in-Answered.answer c.next.new.self.session _ _ _ first.is c.in_ok-end.ensures.delivers) in (
       omega (arith, c.in_ok-end.ensures.sink_later),
       omega (arith, c.in_ok-end.ensures.out_later),
       (next.0, next.1 ∙ sym (ended_is first.is) ∙ sym c.in_ok-end.ensures.ended ∙ c.in_default.is),

@@ -8,7 +8,10 @@ returns-then-is_err-clause-cut g c =
     let failed : is_err c.put_some.result ≡ true = sym c.is_err.ensures.value ∙ c.if-is_err.true in
     record {
       sent = front_none (g.K.Sink.taken c.args.sink.now) _;
-      by = (failed_rose c.put_some.result _ _ failed c.put_some.ensures.cause, rw c.as_slice.ensures at (put_failed c.put_some.result _ _ _ failed c.put_some.ensures.taken));
+      by = (
+        failed_rose c.put_some.result _ _ failed c.put_some.ensures.cause,
+        rw c.as_slice.ensures at (put_failed c.put_some.result _ _ _ failed c.put_some.ensures.taken),
+      );
     }
 
 pub returns-in-Err-Failed-clause-cut : goal.returns-in-Err-Failed-clause-cut
@@ -16,7 +19,11 @@ returns-in-Err-Failed-clause-cut g c =
     let whole : is_err c.put_some.result ≡ false = sym c.is_err.ensures.value ∙ c.if-is_err.false in
     record {
       sent = rw c.as_slice-2.ensures at c.in-Err-Failed.ensures.taken;
-      by = ((rw c.in-Err-Failed.field-0-is at c.in-Err-Failed.ensures.write) refl, refl, rw c.as_slice.ensures at (put_whole c.put_some.result _ _ _ whole c.put_some.ensures.taken));
+      by = (
+        (rw c.in-Err-Failed.field-0-is at c.in-Err-Failed.ensures.write) refl,
+        refl,
+        rw c.as_slice.ensures at (put_whole c.put_some.result _ _ _ whole c.put_some.ensures.taken),
+      );
     }
 
 pub returns-clause-cut : goal.returns-clause-cut
@@ -24,5 +31,6 @@ returns-clause-cut g c =
     let whole : is_err c.put_some.result ≡ false = sym c.is_err.ensures.value ∙ c.if-is_err.false in
     record {
       sent = rw c.as_slice-2.ensures at c.in-Err-Memory.ensures.taken;
-      by = front_all _ _ _ (rw c.as_slice.ensures at (put_whole c.put_some.result _ _ _ whole c.put_some.ensures.taken));
+      by = front_all _ _ _ (rw c.as_slice.ensures at (put_whole c.put_some.result _ _ _ whole
+          c.put_some.ensures.taken));
     }

@@ -13,8 +13,10 @@ use Rattle.dp_serving.proofs.link.exchange.Goals as goal
 
 pub pieces-init : goal.pieces-init
 pieces-init g c =
-    let first = talk_first g.A.Responder.step g.S.Source.left g.S.Source.faults g.K.Sink.taken g.K.Sink.faults g.E.Sink.taken g.E.Sink.faults
-    c.args.talk.now.session c.args.init.now c.args.source.now c.args.sink.now c.open.new.sink c.args.out.now c.in_ok-open.ensures.taken in
+    let first = talk_first g.A.Responder.step g.S.Source.left g.S.Source.faults g.K.Sink.taken g.K.Sink.faults
+    g.E.Sink.taken g.E.Sink.faults
+    c.args.talk.now.session c.args.init.now c.args.source.now c.args.sink.now c.open.new.sink c.args.out.now
+    c.in_ok-open.ensures.taken in
     let none : [] ≡ c.args.talk.now.held.held = sym c.requires.fed in (
       omega arith,
       omega (arith, c.in_ok-open.ensures.later),
@@ -24,9 +26,12 @@ pieces-init g c =
       (
         [],
         refl,
-        subst (λ (l : List ℕ). (talk : Conversation g.A.Responder.step c.args.talk.now.session c.args.talk.now.session c.args.init.now [] l
-            (change g.S.Source.left g.S.Source.faults c.args.source.now c.args.source.now) (change g.K.Sink.taken g.K.Sink.faults c.args.sink.now c.open.new.sink)
-            (change g.E.Sink.taken g.E.Sink.faults c.args.out.now c.args.out.now)) × ((replies g.A.Responder.step c.args.talk.now.session talk.taken).ended ≡ None)) none first,
+        subst (λ (l : List ℕ). (talk : Conversation g.A.Responder.step c.args.talk.now.session c.args.talk.now.session
+            c.args.init.now [] l
+            (change g.S.Source.left g.S.Source.faults c.args.source.now c.args.source.now)
+            (change g.K.Sink.taken g.K.Sink.faults c.args.sink.now c.open.new.sink)
+            (change g.E.Sink.taken g.E.Sink.faults c.args.out.now c.args.out.now))
+            × ((replies g.A.Responder.step c.args.talk.now.session talk.taken).ended ≡ None)) none first,
       ),
     )
 
@@ -34,36 +39,62 @@ pub returns-in-Failed-clause-ok : goal.returns-in-Failed-clause-ok
 returns-in-Failed-clause-ok g c =
     let piece = rw c.in-Failed.is at c.in_ok-read_piece.ensures.ok in
     let inv = c.pieces.invariant in
-    let talk = talk_same g.A.Responder.step c.args.talk.now.session c.pieces.talk.session c.read_piece.new.talk.session c.args.init.now inv.5.0 c.pieces.talk.held.held
-    (change g.S.Source.left g.S.Source.faults c.args.source.now c.pieces.source) (change g.K.Sink.taken g.K.Sink.faults c.args.sink.now c.pieces.sink) (change g.E.Sink.taken g.E.Sink.faults c.args.out.now c.pieces.out)
+    let talk = talk_same g.A.Responder.step c.args.talk.now.session c.pieces.talk.session c.read_piece.new.talk.session
+    c.args.init.now inv.5.0 c.pieces.talk.held.held
+    (change g.S.Source.left g.S.Source.faults c.args.source.now c.pieces.source)
+    (change g.K.Sink.taken g.K.Sink.faults c.args.sink.now c.pieces.sink)
+    (change g.E.Sink.taken g.E.Sink.faults c.args.out.now c.pieces.out)
     c.in_ok-read_piece.ensures.session inv.5.2.0 inv.5.2.1 in
-    let still = goes_on_still g.A.Responder.step c.args.talk.now.session inv.5.0 c.pieces.talk.held.held talk.0.taken talk.0.stands talk.1 inv.4 in
-    let kept = talk_kept g.A.Responder.step g.S.Source.left g.S.Source.faults g.K.Sink.taken g.K.Sink.faults g.E.Sink.taken g.E.Sink.faults
-    _ _ _ inv.5.0 c.pieces.talk.held.held c.read_piece.new.talk.held.held c.args.source.now c.pieces.source c.read_piece.new.source _ _ talk.0 piece.0 piece.2 in
+    let still = goes_on_still g.A.Responder.step c.args.talk.now.session inv.5.0 c.pieces.talk.held.held talk.0.taken
+    talk.0.stands talk.1 inv.4 in
+    let kept = talk_kept g.A.Responder.step g.S.Source.left g.S.Source.faults g.K.Sink.taken g.K.Sink.faults
+    g.E.Sink.taken g.E.Sink.faults
+    _ _ _ inv.5.0 c.pieces.talk.held.held c.read_piece.new.talk.held.held c.args.source.now c.pieces.source
+    c.read_piece.new.source _ _ talk.0 piece.0 piece.2 in
     is_served g.A.Responder.step _ _ _ _ _ _ _ (record {
       read = inv.5.0;
       held = c.read_piece.new.talk.held.held;
-      up_to = read_up_to g.A.Responder.step c.args.talk.now.session inv.5.0 [] inv.5.0 (sym (append-nil inv.5.0)) (omega arith) still;
+      up_to =
+          read_up_to g.A.Responder.step c.args.talk.now.session inv.5.0 [] inv.5.0 (sym (append-nil inv.5.0))
+          (omega arith) still;
       talk = kept.0;
-      ends = (ap (λ l. (replies g.A.Responder.step c.args.talk.now.session l).ended) kept.1 ∙ talk.1, subst IsPartialCommand (sym piece.2) inv.4, omega (arith, piece.1, inv.0));
+      ends = (
+        ap (λ l. (replies g.A.Responder.step c.args.talk.now.session l).ended) kept.1
+            ∙ talk.1,
+        subst IsPartialCommand (sym piece.2) inv.4,
+        omega (arith, piece.1, inv.0),
+      );
     })
 
 pub returns-in-End-clause-ok : goal.returns-in-End-clause-ok
 returns-in-End-clause-ok g c =
     let piece = rw c.in-End.is at c.in_ok-read_piece.ensures.ok in
     let inv = c.pieces.invariant in
-    let talk = talk_same g.A.Responder.step c.args.talk.now.session c.pieces.talk.session c.read_piece.new.talk.session c.args.init.now inv.5.0 c.pieces.talk.held.held
-    (change g.S.Source.left g.S.Source.faults c.args.source.now c.pieces.source) (change g.K.Sink.taken g.K.Sink.faults c.args.sink.now c.pieces.sink) (change g.E.Sink.taken g.E.Sink.faults c.args.out.now c.pieces.out)
+    let talk = talk_same g.A.Responder.step c.args.talk.now.session c.pieces.talk.session c.read_piece.new.talk.session
+    c.args.init.now inv.5.0 c.pieces.talk.held.held
+    (change g.S.Source.left g.S.Source.faults c.args.source.now c.pieces.source)
+    (change g.K.Sink.taken g.K.Sink.faults c.args.sink.now c.pieces.sink)
+    (change g.E.Sink.taken g.E.Sink.faults c.args.out.now c.pieces.out)
     c.in_ok-read_piece.ensures.session inv.5.2.0 inv.5.2.1 in
-    let still = goes_on_still g.A.Responder.step c.args.talk.now.session inv.5.0 c.pieces.talk.held.held talk.0.taken talk.0.stands talk.1 inv.4 in
-    let kept = talk_kept g.A.Responder.step g.S.Source.left g.S.Source.faults g.K.Sink.taken g.K.Sink.faults g.E.Sink.taken g.E.Sink.faults
-    _ _ _ inv.5.0 c.pieces.talk.held.held c.read_piece.new.talk.held.held c.args.source.now c.pieces.source c.read_piece.new.source _ _ talk.0 piece.0 piece.2 in
+    let still = goes_on_still g.A.Responder.step c.args.talk.now.session inv.5.0 c.pieces.talk.held.held talk.0.taken
+    talk.0.stands talk.1 inv.4 in
+    let kept = talk_kept g.A.Responder.step g.S.Source.left g.S.Source.faults g.K.Sink.taken g.K.Sink.faults
+    g.E.Sink.taken g.E.Sink.faults
+    _ _ _ inv.5.0 c.pieces.talk.held.held c.read_piece.new.talk.held.held c.args.source.now c.pieces.source
+    c.read_piece.new.source _ _ talk.0 piece.0 piece.2 in
     is_served g.A.Responder.step _ _ _ _ _ _ _ (record {
       read = inv.5.0;
       held = c.read_piece.new.talk.held.held;
-      up_to = read_up_to g.A.Responder.step c.args.talk.now.session inv.5.0 [] inv.5.0 (sym (append-nil inv.5.0)) (omega arith) still;
+      up_to =
+          read_up_to g.A.Responder.step c.args.talk.now.session inv.5.0 [] inv.5.0 (sym (append-nil inv.5.0))
+          (omega arith) still;
       talk = kept.0;
-      ends = (ap (λ l. (replies g.A.Responder.step c.args.talk.now.session l).ended) kept.1 ∙ talk.1, subst IsPartialCommand (sym piece.2) inv.4, piece.1);
+      ends = (
+        ap (λ l. (replies g.A.Responder.step c.args.talk.now.session l).ended) kept.1
+            ∙ talk.1,
+        subst IsPartialCommand (sym piece.2) inv.4,
+        piece.1,
+      );
     })
 
 pub returns-in-Ended-clause-ok : goal.returns-in-Ended-clause-ok
@@ -71,13 +102,19 @@ returns-in-Ended-clause-ok g c =
     let piece = rw c.in-Came.is at c.in_ok-read_piece.ensures.ok in
     let answers = c.in_ok-end.ensures.ok in
     let inv = c.pieces.invariant in
-    let talk = talk_same g.A.Responder.step c.args.talk.now.session c.pieces.talk.session c.read_piece.new.talk.session c.args.init.now inv.5.0 c.pieces.talk.held.held
-    (change g.S.Source.left g.S.Source.faults c.args.source.now c.pieces.source) (change g.K.Sink.taken g.K.Sink.faults c.args.sink.now c.pieces.sink) (change g.E.Sink.taken g.E.Sink.faults c.args.out.now c.pieces.out)
+    let talk = talk_same g.A.Responder.step c.args.talk.now.session c.pieces.talk.session c.read_piece.new.talk.session
+    c.args.init.now inv.5.0 c.pieces.talk.held.held
+    (change g.S.Source.left g.S.Source.faults c.args.source.now c.pieces.source)
+    (change g.K.Sink.taken g.K.Sink.faults c.args.sink.now c.pieces.sink)
+    (change g.E.Sink.taken g.E.Sink.faults c.args.out.now c.pieces.out)
     c.in_ok-read_piece.ensures.session inv.5.2.0 inv.5.2.1 in
-    let still = goes_on_still g.A.Responder.step c.args.talk.now.session inv.5.0 c.pieces.talk.held.held talk.0.taken talk.0.stands talk.1 inv.4 in
-    let after = talk_goes_on g.A.Responder.step g.S.Source.left g.S.Source.faults g.K.Sink.taken g.K.Sink.faults g.E.Sink.taken g.E.Sink.faults
+    let still = goes_on_still g.A.Responder.step c.args.talk.now.session inv.5.0 c.pieces.talk.held.held talk.0.taken
+    talk.0.stands talk.1 inv.4 in
+    let after = talk_goes_on g.A.Responder.step g.S.Source.left g.S.Source.faults g.K.Sink.taken g.K.Sink.faults
+    g.E.Sink.taken g.E.Sink.faults
     _ _ _ _ inv.5.0 c.pieces.talk.held.held c.read_piece.new.talk.held.held piece.2.0 c.answer_held.new.talk.held.held
-    c.args.source.now c.pieces.source c.read_piece.new.source c.args.sink.now c.pieces.sink c.answer_held.new.sink c.args.out.now c.pieces.out c.answer_held.new.out
+    c.args.source.now c.pieces.source c.read_piece.new.source c.args.sink.now c.pieces.sink c.answer_held.new.sink
+    c.args.out.now c.pieces.out c.answer_held.new.out
     talk.0 talk.1 piece.2.1 piece.2.2 answers.reached in
     let stops = rw c.in-Ended.is at answers.stops in
     is_served g.A.Responder.step _ _ _ _ _ _ _ (record {
@@ -114,13 +151,19 @@ returns-in-TooLong-clause-ok g c =
     let piece = rw c.in-Came.is at c.in_ok-read_piece.ensures.ok in
     let answers = c.in_ok-end.ensures.ok in
     let inv = c.pieces.invariant in
-    let talk = talk_same g.A.Responder.step c.args.talk.now.session c.pieces.talk.session c.read_piece.new.talk.session c.args.init.now inv.5.0 c.pieces.talk.held.held
-    (change g.S.Source.left g.S.Source.faults c.args.source.now c.pieces.source) (change g.K.Sink.taken g.K.Sink.faults c.args.sink.now c.pieces.sink) (change g.E.Sink.taken g.E.Sink.faults c.args.out.now c.pieces.out)
+    let talk = talk_same g.A.Responder.step c.args.talk.now.session c.pieces.talk.session c.read_piece.new.talk.session
+    c.args.init.now inv.5.0 c.pieces.talk.held.held
+    (change g.S.Source.left g.S.Source.faults c.args.source.now c.pieces.source)
+    (change g.K.Sink.taken g.K.Sink.faults c.args.sink.now c.pieces.sink)
+    (change g.E.Sink.taken g.E.Sink.faults c.args.out.now c.pieces.out)
     c.in_ok-read_piece.ensures.session inv.5.2.0 inv.5.2.1 in
-    let still = goes_on_still g.A.Responder.step c.args.talk.now.session inv.5.0 c.pieces.talk.held.held talk.0.taken talk.0.stands talk.1 inv.4 in
-    let after = talk_goes_on g.A.Responder.step g.S.Source.left g.S.Source.faults g.K.Sink.taken g.K.Sink.faults g.E.Sink.taken g.E.Sink.faults
+    let still = goes_on_still g.A.Responder.step c.args.talk.now.session inv.5.0 c.pieces.talk.held.held talk.0.taken
+    talk.0.stands talk.1 inv.4 in
+    let after = talk_goes_on g.A.Responder.step g.S.Source.left g.S.Source.faults g.K.Sink.taken g.K.Sink.faults
+    g.E.Sink.taken g.E.Sink.faults
     _ _ _ _ inv.5.0 c.pieces.talk.held.held c.read_piece.new.talk.held.held piece.2.0 c.answer_held.new.talk.held.held
-    c.args.source.now c.pieces.source c.read_piece.new.source c.args.sink.now c.pieces.sink c.answer_held.new.sink c.args.out.now c.pieces.out c.answer_held.new.out
+    c.args.source.now c.pieces.source c.read_piece.new.source c.args.sink.now c.pieces.sink c.answer_held.new.sink
+    c.args.out.now c.pieces.out c.answer_held.new.out
     talk.0 talk.1 piece.2.1 piece.2.2 answers.reached in
     let stops = rw c.in-TooLong.is at answers.stops in
     is_served g.A.Responder.step _ _ _ _ _ _ _ (record {
@@ -149,13 +192,19 @@ pieces-preserved g c =
     let piece = rw c.in-Came.is at c.in_ok-read_piece.ensures.ok in
     let answers = c.in_ok-end.ensures.ok in
     let inv = c.pieces.invariant in
-    let talk = talk_same g.A.Responder.step c.args.talk.now.session c.pieces.talk.session c.read_piece.new.talk.session c.args.init.now inv.5.0 c.pieces.talk.held.held
-    (change g.S.Source.left g.S.Source.faults c.args.source.now c.pieces.source) (change g.K.Sink.taken g.K.Sink.faults c.args.sink.now c.pieces.sink) (change g.E.Sink.taken g.E.Sink.faults c.args.out.now c.pieces.out)
+    let talk = talk_same g.A.Responder.step c.args.talk.now.session c.pieces.talk.session c.read_piece.new.talk.session
+    c.args.init.now inv.5.0 c.pieces.talk.held.held
+    (change g.S.Source.left g.S.Source.faults c.args.source.now c.pieces.source)
+    (change g.K.Sink.taken g.K.Sink.faults c.args.sink.now c.pieces.sink)
+    (change g.E.Sink.taken g.E.Sink.faults c.args.out.now c.pieces.out)
     c.in_ok-read_piece.ensures.session inv.5.2.0 inv.5.2.1 in
-    let still = goes_on_still g.A.Responder.step c.args.talk.now.session inv.5.0 c.pieces.talk.held.held talk.0.taken talk.0.stands talk.1 inv.4 in
-    let after = talk_goes_on g.A.Responder.step g.S.Source.left g.S.Source.faults g.K.Sink.taken g.K.Sink.faults g.E.Sink.taken g.E.Sink.faults
+    let still = goes_on_still g.A.Responder.step c.args.talk.now.session inv.5.0 c.pieces.talk.held.held talk.0.taken
+    talk.0.stands talk.1 inv.4 in
+    let after = talk_goes_on g.A.Responder.step g.S.Source.left g.S.Source.faults g.K.Sink.taken g.K.Sink.faults
+    g.E.Sink.taken g.E.Sink.faults
     _ _ _ _ inv.5.0 c.pieces.talk.held.held c.read_piece.new.talk.held.held piece.2.0 c.answer_held.new.talk.held.held
-    c.args.source.now c.pieces.source c.read_piece.new.source c.args.sink.now c.pieces.sink c.answer_held.new.sink c.args.out.now c.pieces.out c.answer_held.new.out
+    c.args.source.now c.pieces.source c.read_piece.new.source c.args.sink.now c.pieces.sink c.answer_held.new.sink
+    c.args.out.now c.pieces.out c.answer_held.new.out
     talk.0 talk.1 piece.2.1 piece.2.2 answers.reached in
     let stops = rw c.in-Partial.is at answers.stops in (
       omega (arith, c.in_ok-read_piece.ensures.later),
@@ -163,17 +212,24 @@ pieces-preserved g c =
       omega (arith, c.in_ok-end.ensures.out_later),
       omega (arith, piece.1, c.min-room.ensures, length-take c.min-room.result c.pieces.buffer),
       stops.1,
-      (inv.5.0 ++ piece.2.0, omega (arith, length-append inv.5.0 piece.2.0, piece.2.3, inv.5.1), (after.0, after.1 ∙ stops.0)),
+      (
+        inv.5.0 ++ piece.2.0,
+        omega (arith, length-append inv.5.0 piece.2.0, piece.2.3, inv.5.1),
+        (after.0, after.1 ∙ stops.0),
+      ),
     )
 
 pub returns-clause-ok : goal.returns-clause-ok
 returns-clause-ok g c =
     let inv = c.pieces.invariant in
-    let still = goes_on_still g.A.Responder.step c.args.talk.now.session inv.5.0 c.pieces.talk.held.held inv.5.2.0.taken inv.5.2.0.stands inv.5.2.1 inv.4 in
+    let still = goes_on_still g.A.Responder.step c.args.talk.now.session inv.5.0 c.pieces.talk.held.held inv.5.2.0.taken
+    inv.5.2.0.stands inv.5.2.1 inv.4 in
     is_served g.A.Responder.step _ _ _ _ _ _ _ (record {
       read = inv.5.0;
       held = c.pieces.talk.held.held;
-      up_to = read_up_to g.A.Responder.step c.args.talk.now.session inv.5.0 [] inv.5.0 (sym (append-nil inv.5.0)) (omega arith) still;
+      up_to =
+          read_up_to g.A.Responder.step c.args.talk.now.session inv.5.0 [] inv.5.0 (sym (append-nil inv.5.0))
+          (omega arith) still;
       talk = inv.5.2.0;
       ends = (inv.5.2.1, inv.4, omega (arith, inv.5.1));
     })
@@ -182,20 +238,27 @@ pub returns-in_err-open-clause-cut : goal.returns-in_err-open-clause-cut
 returns-in_err-open-clause-cut g c =
     let p = err_from_is_err_and c.from_residual.result c.from_residual.ensures.1 in
     rw (p.1, p.2)
-    (cut_at_start g.A.Responder.step g.K.Sink.taken g.K.Sink.faults g.E.Sink.taken g.E.Sink.faults g.S.Source.left g.S.Source.faults
-    c.args.talk.now.session c.args.init.now _ c.args.source.now c.args.sink.now c.open.new.sink c.args.out.now c.in_err-open.ensures.taken c.in_err-open.ensures.cause)
+    (cut_at_start g.A.Responder.step g.K.Sink.taken g.K.Sink.faults g.E.Sink.taken g.E.Sink.faults g.S.Source.left
+    g.S.Source.faults
+    c.args.talk.now.session c.args.init.now _ c.args.source.now c.args.sink.now c.open.new.sink c.args.out.now
+    c.in_err-open.ensures.taken c.in_err-open.ensures.cause)
 
 pub returns-in_err-read_piece-clause-cut : goal.returns-in_err-read_piece-clause-cut
 returns-in_err-read_piece-clause-cut g c =
     let p = err_from_is_err_and c.from_residual-in_err-read_piece.result c.from_residual-in_err-read_piece.ensures.1 in
     let inv = c.pieces.invariant in
-    let talk = talk_same g.A.Responder.step c.args.talk.now.session c.pieces.talk.session c.read_piece.new.talk.session c.args.init.now inv.5.0 c.pieces.talk.held.held
-    (change g.S.Source.left g.S.Source.faults c.args.source.now c.pieces.source) (change g.K.Sink.taken g.K.Sink.faults c.args.sink.now c.pieces.sink) (change g.E.Sink.taken g.E.Sink.faults c.args.out.now c.pieces.out)
+    let talk = talk_same g.A.Responder.step c.args.talk.now.session c.pieces.talk.session c.read_piece.new.talk.session
+    c.args.init.now inv.5.0 c.pieces.talk.held.held
+    (change g.S.Source.left g.S.Source.faults c.args.source.now c.pieces.source)
+    (change g.K.Sink.taken g.K.Sink.faults c.args.sink.now c.pieces.sink)
+    (change g.E.Sink.taken g.E.Sink.faults c.args.out.now c.pieces.out)
     c.in_err-read_piece.ensures.session inv.5.2.0 inv.5.2.1 in
     let read = c.in_err-read_piece.ensures.err in
     rw (p.1, p.2)
-    (cut_reading g.A.Responder.step g.K.Sink.taken g.K.Sink.faults g.E.Sink.taken g.E.Sink.faults g.S.Source.left g.S.Source.faults
-    c.args.talk.now.session c.read_piece.new.talk.session c.args.init.now inv.5.0 c.pieces.talk.held.held read.0 c.args.source.now c.pieces.source c.read_piece.new.source
+    (cut_reading g.A.Responder.step g.K.Sink.taken g.K.Sink.faults g.E.Sink.taken g.E.Sink.faults g.S.Source.left
+    g.S.Source.faults
+    c.args.talk.now.session c.read_piece.new.talk.session c.args.init.now inv.5.0 c.pieces.talk.held.held read.0
+    c.args.source.now c.pieces.source c.read_piece.new.source
     c.args.sink.now c.pieces.sink c.args.out.now c.pieces.out talk.0 talk.1 read.1 inv.1 inv.2)
 
 pub returns-in_err-end-clause-cut : goal.returns-in_err-end-clause-cut
@@ -203,12 +266,19 @@ returns-in_err-end-clause-cut g c =
     let p = err_from_is_err_and c.from_residual-in_err-end.result c.from_residual-in_err-end.ensures.1 in
     let piece = rw c.in-Came.is at c.in_ok-read_piece.ensures.ok in
     let inv = c.pieces.invariant in
-    let talk = talk_same g.A.Responder.step c.args.talk.now.session c.pieces.talk.session c.read_piece.new.talk.session c.args.init.now inv.5.0 c.pieces.talk.held.held
-    (change g.S.Source.left g.S.Source.faults c.args.source.now c.pieces.source) (change g.K.Sink.taken g.K.Sink.faults c.args.sink.now c.pieces.sink) (change g.E.Sink.taken g.E.Sink.faults c.args.out.now c.pieces.out)
+    let talk = talk_same g.A.Responder.step c.args.talk.now.session c.pieces.talk.session c.read_piece.new.talk.session
+    c.args.init.now inv.5.0 c.pieces.talk.held.held
+    (change g.S.Source.left g.S.Source.faults c.args.source.now c.pieces.source)
+    (change g.K.Sink.taken g.K.Sink.faults c.args.sink.now c.pieces.sink)
+    (change g.E.Sink.taken g.E.Sink.faults c.args.out.now c.pieces.out)
     c.in_ok-read_piece.ensures.session inv.5.2.0 inv.5.2.1 in
-    let still = goes_on_still g.A.Responder.step c.args.talk.now.session inv.5.0 c.pieces.talk.held.held talk.0.taken talk.0.stands talk.1 inv.4 in
+    let still = goes_on_still g.A.Responder.step c.args.talk.now.session inv.5.0 c.pieces.talk.held.held talk.0.taken
+    talk.0.stands talk.1 inv.4 in
     rw (p.1, p.2)
-    (cut_answering g.A.Responder.step g.K.Sink.taken g.K.Sink.faults g.E.Sink.taken g.E.Sink.faults g.S.Source.left g.S.Source.faults
-    c.args.talk.now.session c.read_piece.new.talk.session c.answer_held.new.talk.session c.args.init.now inv.5.0 c.pieces.talk.held.held c.read_piece.new.talk.held.held piece.2.0 _
-    c.args.source.now c.pieces.source c.read_piece.new.source c.args.sink.now c.pieces.sink c.answer_held.new.sink c.args.out.now c.pieces.out c.answer_held.new.out
+    (cut_answering g.A.Responder.step g.K.Sink.taken g.K.Sink.faults g.E.Sink.taken g.E.Sink.faults g.S.Source.left
+    g.S.Source.faults
+    c.args.talk.now.session c.read_piece.new.talk.session c.answer_held.new.talk.session c.args.init.now inv.5.0
+    c.pieces.talk.held.held c.read_piece.new.talk.held.held piece.2.0 _
+    c.args.source.now c.pieces.source c.read_piece.new.source c.args.sink.now c.pieces.sink c.answer_held.new.sink
+    c.args.out.now c.pieces.out c.answer_held.new.out
     talk.0 talk.1 piece.2.1 piece.2.2 inv.1 inv.2 c.in_err-end.ensures.cut)

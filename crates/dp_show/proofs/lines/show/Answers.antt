@@ -19,7 +19,8 @@ pieces-init g c = (
   (
     [],
     Consumes-nil (g.S.Source.left c.args.input.now),
-    nothing_shown c.new-packets.result (g.K.Sink.taken c.args.out.now) c.new-packets.ensures.held c.new-packets.ensures.dropped,
+    nothing_shown c.new-packets.result (g.K.Sink.taken c.args.out.now) c.new-packets.ensures.held
+        c.new-packets.ensures.dropped,
   ),
 )
 
@@ -27,9 +28,12 @@ pub returns-in-Ok-eq0-clause-ends : goal.returns-in-Ok-eq0-clause-ends
 returns-in-Ok-eq0-clause-ends g c =
     let inv = c.pieces.invariant in
     let piece = c.in-Ok-eq0.ensures.ok in
-    ends_whole (inv.3.0 ++ piece.0) c.read_piece.new.packets (g.K.Sink.taken c.args.out.now) (g.K.Sink.taken c.pieces.out)
-    (piece_held inv.3.0 piece.0 c.pieces.packets c.read_piece.new.packets _ _ inv.3.2 piece.2 c.read_piece.ensures.dropped)
-    (change g.S.Source.left g.S.Source.faults c.args.input.now c.read_piece.new.input) (change g.K.Sink.taken g.K.Sink.faults c.args.out.now c.pieces.out)
+    ends_whole (inv.3.0 ++ piece.0) c.read_piece.new.packets (g.K.Sink.taken c.args.out.now)
+    (g.K.Sink.taken c.pieces.out)
+    (piece_held inv.3.0 piece.0 c.pieces.packets c.read_piece.new.packets _ _ inv.3.2 piece.2
+    c.read_piece.ensures.dropped)
+    (change g.S.Source.left g.S.Source.faults c.args.input.now c.read_piece.new.input)
+    (change g.K.Sink.taken g.K.Sink.faults c.args.out.now c.pieces.out)
     (Consumes-trans _ _ _ inv.3.0 piece.0 inv.3.1 piece.1) refl refl
     (sym c.bytes.ensures ∙ none_left c.bytes.result.now (sym c.is_empty.ensures ∙ c.if-is_empty.true))
     (c.in-Ok-eq0.ensures.end c.in-Ok-eq0.field-0-test)
@@ -39,20 +43,29 @@ returns-in-Ok-eq0-2-clause-ends g c =
     let inv = c.pieces.invariant in
     let piece = c.in-Ok-eq0.ensures.ok in
     let zero = c.in-Ok-eq0.field-0-test in
-    ends_inside (inv.3.0 ++ piece.0) c.read_piece.new.packets (g.K.Sink.taken c.args.out.now) (g.K.Sink.taken c.pieces.out)
-    (piece_held inv.3.0 piece.0 c.pieces.packets c.read_piece.new.packets _ _ inv.3.2 piece.2 c.read_piece.ensures.dropped)
-    (change g.S.Source.left g.S.Source.faults c.args.input.now c.read_piece.new.input) (change g.K.Sink.taken g.K.Sink.faults c.args.out.now c.pieces.out)
+    ends_inside (inv.3.0 ++ piece.0) c.read_piece.new.packets (g.K.Sink.taken c.args.out.now)
+    (g.K.Sink.taken c.pieces.out)
+    (piece_held inv.3.0 piece.0 c.pieces.packets c.read_piece.new.packets _ _ inv.3.2 piece.2
+    c.read_piece.ensures.dropped)
+    (change g.S.Source.left g.S.Source.faults c.args.input.now c.read_piece.new.input)
+    (change g.K.Sink.taken g.K.Sink.faults c.args.out.now c.pieces.out)
     (Consumes-trans _ _ _ inv.3.0 piece.0 inv.3.1 piece.1) refl refl
-    (λ none. false≢true (sym (sym c.is_empty.ensures ∙ c.if-is_empty.false) ∙ ap (λ (l : List ℕ). eqb (length l) 0) (c.bytes.ensures ∙ none)))
-    (subst IsPartialPacket (sym (piece.2 ∙ ap (λ l. c.pieces.packets.held ++ l) (nil_from_length piece.0 (sym piece.3 ∙ zero)) ∙ append-nil c.pieces.packets.held)) inv.2)
+    (λ none. false≢true (sym (sym c.is_empty.ensures ∙ c.if-is_empty.false)
+    ∙ ap (λ (l : List ℕ). eqb (length l) 0) (c.bytes.ensures ∙ none)))
+    (subst IsPartialPacket (sym (piece.2
+    ∙ ap (λ l. c.pieces.packets.held ++ l) (nil_from_length piece.0 (sym piece.3 ∙ zero))
+    ∙ append-nil c.pieces.packets.held)) inv.2)
     (c.in-Ok-eq0.ensures.end zero)
 
 pub returns-in-Err-clause-ends : goal.returns-in-Err-clause-ends
 returns-in-Err-clause-ends g c =
     let inv = c.pieces.invariant in
-    ends_piece (g.S.Source.left c.args.input.now) (g.S.Source.left c.pieces.input) (g.S.Source.left c.read_piece.new.input)
-    (g.S.Source.faults c.args.input.now) (g.S.Source.faults c.pieces.input) (g.S.Source.faults c.read_piece.new.input) inv.0
-    c.in-Err.why inv.3.0 c.pieces.packets (change g.K.Sink.taken g.K.Sink.faults c.args.out.now c.pieces.out) inv.3.1 inv.3.2 inv.2 c.in-Err.ensures.err
+    ends_piece (g.S.Source.left c.args.input.now) (g.S.Source.left c.pieces.input)
+    (g.S.Source.left c.read_piece.new.input)
+    (g.S.Source.faults c.args.input.now) (g.S.Source.faults c.pieces.input)
+    (g.S.Source.faults c.read_piece.new.input) inv.0
+    c.in-Err.why inv.3.0 c.pieces.packets (change g.K.Sink.taken g.K.Sink.faults c.args.out.now c.pieces.out) inv.3.1
+    inv.3.2 inv.2 c.in-Err.ensures.err
 
 pub returns-in-Err-show_held-clause-ends : goal.returns-in-Err-show_held-clause-ends
 returns-in-Err-show_held-clause-ends g c =
@@ -63,7 +76,8 @@ returns-in-Err-show_held-clause-ends g c =
     c.in-Err-show_held.why (inv.3.0 ++ piece.0) c.read_piece.new.packets c.show_held.new.packets
     (change g.S.Source.left g.S.Source.faults c.args.input.now c.read_piece.new.input)
     (Consumes-trans _ _ _ inv.3.0 piece.0 inv.3.1 piece.1)
-    (piece_held inv.3.0 piece.0 c.pieces.packets c.read_piece.new.packets _ _ inv.3.2 piece.2 c.read_piece.ensures.dropped)
+    (piece_held inv.3.0 piece.0 c.pieces.packets c.read_piece.new.packets _ _ inv.3.2 piece.2
+    c.read_piece.ensures.dropped)
     c.in-Err-show_held.ensures.err
 
 pub pieces-preserved : goal.pieces-preserved
@@ -77,7 +91,8 @@ pieces-preserved g c =
         inv.3.0 ++ piece.0,
         Consumes-trans _ _ _ inv.3.0 piece.0 inv.3.1 piece.1,
         c.in-Ok-show_held.ensures.shown (inv.3.0 ++ piece.0) (g.K.Sink.taken c.args.out.now)
-            (piece_held inv.3.0 piece.0 c.pieces.packets c.read_piece.new.packets _ _ inv.3.2 piece.2 c.read_piece.ensures.dropped),
+            (piece_held inv.3.0 piece.0 c.pieces.packets c.read_piece.new.packets _ _ inv.3.2 piece.2
+            c.read_piece.ensures.dropped),
       ),
     )
 
@@ -85,5 +100,7 @@ pub returns-clause-ends : goal.returns-clause-ends
 returns-clause-ends g c =
     let inv = c.pieces.invariant in
     ends_cut inv.3.0 (g.K.Sink.taken c.args.out.now) (g.K.Sink.taken c.pieces.out)
-    (stopped c.pieces.packets (g.K.Sink.taken c.pieces.out) (g.K.Sink.taken c.pieces.out) refl inv.3.0 (g.K.Sink.taken c.args.out.now) inv.3.2)
-    (change g.S.Source.left g.S.Source.faults c.args.input.now c.pieces.input) (change g.K.Sink.taken g.K.Sink.faults c.args.out.now c.pieces.out) inv.3.1 refl refl
+    (stopped c.pieces.packets (g.K.Sink.taken c.pieces.out) (g.K.Sink.taken c.pieces.out) refl inv.3.0
+    (g.K.Sink.taken c.args.out.now) inv.3.2)
+    (change g.S.Source.left g.S.Source.faults c.args.input.now c.pieces.input)
+    (change g.K.Sink.taken g.K.Sink.faults c.args.out.now c.pieces.out) inv.3.1 refl refl

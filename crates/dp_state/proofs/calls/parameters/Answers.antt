@@ -5,8 +5,10 @@ use Rattle.dp_state.proofs.calls.parameters.Goals as goal
 pub returns : goal.returns
 returns c =
     elim c.in-None.ensures.steps [
-      | inl names ↦ sym (names_end c.loop-name.name-iterator.a.rest.now c.loop-name.name-iterator.b.rest.items c.loop-name.vars names.1.0) ∙ c.loop-name.invariant.2
+      | inl names ↦ sym (names_end c.loop-name.name-iterator.a.rest.now c.loop-name.name-iterator.b.rest.items
+          c.loop-name.vars names.1.0) ∙ c.loop-name.invariant.2
       | inr values ↦
-          sym (values_end c.loop-name.name-iterator.a.rest.now c.loop-name.name-iterator.b.rest.items c.loop-name.vars (sym c.loop-name.name-iterator.b.rest.ok.0 ∙ values.1.0))
+          sym (values_end c.loop-name.name-iterator.a.rest.now c.loop-name.name-iterator.b.rest.items c.loop-name.vars
+          (sym c.loop-name.name-iterator.b.rest.ok.0 ∙ values.1.0))
           ∙ c.loop-name.invariant.2
     ]

@@ -11,11 +11,16 @@ use Rattle.dp_state.proofs.entries.assign_in.Goals as goal
 
 pub returns-in-Ok-clause-ok : goal.returns-in-Ok-clause-ok
 returns-in-Ok-clause-ok c =
-    ap (λ (d : Data). then_variables c.args.name.now c.args.vars.now (write_result c.args.keys.now c.args.push (data_of c.args.value) d)) (data_there c.args.name.now c.args.vars.now c.in-Some.held c.in-Some.ensures.value)
-    ∙ then_put_back c.args.name.now c.args.vars.now c.in-Some.held c.in-Some.ensures.value Null c.write_at-done.new.value c.exchange.new.self c.exchange-2.new.self (write_result c.args.keys.now c.args.push (data_of c.args.value) (data_of c.in-Some.held))
+    ap (λ (d : Data). then_variables c.args.name.now c.args.vars.now
+    (write_result c.args.keys.now c.args.push (data_of c.args.value) d))
+    (data_there c.args.name.now c.args.vars.now c.in-Some.held c.in-Some.ensures.value)
+    ∙ then_put_back c.args.name.now c.args.vars.now c.in-Some.held c.in-Some.ensures.value Null
+    c.write_at-done.new.value c.exchange.new.self c.exchange-2.new.self
+    (write_result c.args.keys.now c.args.push (data_of c.args.value) (data_of c.in-Some.held))
     c.in-Some.ensures.exchanged c.exchange-2.ensures.exchanged c.in-Ok.ensures.ok
 
 pub returns-in-Err-clause-err : goal.returns-in-Err-clause-err
 returns-in-Err-clause-err c =
-    put_same c.args.name.now c.args.vars.now c.in-Some.held c.in-Some.ensures.value Null c.write_at-done.new.value c.exchange.new.self c.exchange-2.new.self
+    put_same c.args.name.now c.args.vars.now c.in-Some.held c.in-Some.ensures.value Null c.write_at-done.new.value
+    c.exchange.new.self c.exchange-2.new.self
     c.in-Some.ensures.exchanged c.exchange-2.ensures.exchanged c.in-Err.ensures.err

@@ -12,8 +12,11 @@ use Rattle.dp_state.proofs.entries.remove_in.Goals as goal
 
 pub returns-in-Ok-clause-ok : goal.returns-in-Ok-clause-ok
 returns-in-Ok-clause-ok c =
-    ap (λ (o : Option Value). option_map_or (λ value. then_variables c.args.name.now c.args.vars.now (removed c.args.keys.now (data_of value))) o (Ok c.args.vars.now)) (sym c.in-Some.ensures.value)
-    ∙ then_put_back c.args.name.now c.args.vars.now c.in-Some.held c.in-Some.ensures.value Null c.remove_at-done.new.value c.exchange.new.self c.exchange-2.new.self (removed c.args.keys.now (data_of c.in-Some.held))
+    ap (λ (o : Option Value). option_map_or (λ value. then_variables c.args.name.now c.args.vars.now
+    (removed c.args.keys.now (data_of value))) o (Ok c.args.vars.now)) (sym c.in-Some.ensures.value)
+    ∙ then_put_back c.args.name.now c.args.vars.now c.in-Some.held c.in-Some.ensures.value Null
+    c.remove_at-done.new.value c.exchange.new.self c.exchange-2.new.self
+    (removed c.args.keys.now (data_of c.in-Some.held))
     c.in-Some.ensures.exchanged c.exchange-2.ensures.exchanged c.in-Ok.ensures.ok
 
 pub returns-in-Err-clause-memory : goal.returns-in-Err-clause-memory
@@ -22,5 +25,6 @@ returns-in-Err-clause-memory c =
 
 pub returns-in-Err-clause-err : goal.returns-in-Err-clause-err
 returns-in-Err-clause-err c =
-    put_same c.args.name.now c.args.vars.now c.in-Some.held c.in-Some.ensures.value Null c.remove_at-done.new.value c.exchange.new.self c.exchange-2.new.self
+    put_same c.args.name.now c.args.vars.now c.in-Some.held c.in-Some.ensures.value Null c.remove_at-done.new.value
+    c.exchange.new.self c.exchange-2.new.self
     c.in-Some.ensures.exchanged c.exchange-2.ensures.exchanged c.in-Err.ensures.err

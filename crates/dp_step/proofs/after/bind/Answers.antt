@@ -9,7 +9,11 @@ use Rattle.dp_step.proofs.after.bind.Goals as goal
 pub returns-then-at-entry_count : goal.returns-then-at-entry_count
 unfolding and_then
 returns-then-at-entry_count c = λ setting. record {
-  by = λ k. rw (drop_of_length-le (entries c.args.subject) {i = c.args.at} (omega (arith, c.if-at-entry_count.true, c.entry_count.ensures)), c.signal.ensures) refl;
+  by = λ k. rw (
+    drop_of_length-le (entries c.args.subject) {i = c.args.at}
+        (omega (arith, c.if-at-entry_count.true, c.entry_count.ensures)),
+    c.signal.ensures,
+  ) refl;
 }
 
 pub returns-in-Ok : goal.returns-in-Ok

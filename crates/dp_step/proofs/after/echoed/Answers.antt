@@ -9,4 +9,6 @@ returns-in-Ok c = λ setting. record {
 }
 
 pub returns-in-Err : goal.returns-in-Err
-returns-in-Err c = λ setting. leads_as setting _ _ _ _ (λ k. and_then-assoc _ _ _) (leads_off setting _ c.print_value-done.new.state c.in-Err.why _ c.in-Err.ensures)
+returns-in-Err c =
+    λ setting. leads_as setting _ _ _ _ (λ k. and_then-assoc _ _ _)
+    (leads_off setting _ c.print_value-done.new.state c.in-Err.why _ c.in-Err.ensures)

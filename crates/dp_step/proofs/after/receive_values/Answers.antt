@@ -11,4 +11,8 @@ pub returns-in-Turns : goal.returns-in-Turns
 returns-in-Turns c = λ setting. record { by = λ k. rw c.in-Turns.is refl }
 
 pub returns-in-Tests : goal.returns-in-Tests
-returns-in-Tests c = λ setting. record { by = λ k. rw c.in-Tests.is (sym (rw c.test_holds.ensures at (c.tested.ensures setting k c.args.state.now))) }
+returns-in-Tests c =
+    λ setting. record {
+      by = λ k. rw c.in-Tests.is (sym (rw c.test_holds.ensures at
+          (c.tested.ensures setting k c.args.state.now)));
+    }

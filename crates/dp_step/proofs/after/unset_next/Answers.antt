@@ -8,4 +8,6 @@ returns-in-Ok c = λ setting. record {
 }
 
 pub returns-in-Err : goal.returns-in-Err
-returns-in-Err c = λ setting. leads_off setting _ c.unset_place-done.new.state c.in-Err.why _ (rw c.as_slice.ensures at c.in-Err.ensures)
+returns-in-Err c =
+    λ setting. leads_off setting _ c.unset_place-done.new.state c.in-Err.why _
+    (rw c.as_slice.ensures at c.in-Err.ensures)

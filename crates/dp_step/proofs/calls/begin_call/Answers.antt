@@ -11,12 +11,14 @@ unfolding and_then
 returns-in-None c = λ setting same.
     let found = sym c.look_up.ensures ∙ ap (option_map callee_of) c.in-None.is in
     rw c.fatal.ensures (record {
-      by = λ k. called-as setting k c.args.state.now c.args.bundle.now same c.args.name.now _ found c.args.arguments.now;
+      by = λ k. called-as setting k c.args.state.now c.args.bundle.now same c.args.name.now _ found
+          c.args.arguments.now;
     })
 
 pub returns-in-Some-BuiltIn : goal.returns-in-Some-BuiltIn
 returns-in-Some-BuiltIn c = λ setting same.
-    let found = rw c.in-Some-BuiltIn.field-0-is at (sym c.look_up.ensures ∙ ap (option_map callee_of) c.in-Some-BuiltIn.is) in
+    let found = rw c.in-Some-BuiltIn.field-0-is at (sym c.look_up.ensures
+    ∙ ap (option_map callee_of) c.in-Some-BuiltIn.is) in
     record {
       by = λ k. called-as setting k c.args.state.now c.args.bundle.now same c.args.name.now _ found c.args.arguments.now
           ∙ and_then-assoc _ _ _ ∙ sym (c.values_first.ensures setting k c.args.state.now);
@@ -24,7 +26,8 @@ returns-in-Some-BuiltIn c = λ setting same.
 
 pub returns-in-Some-Declared : goal.returns-in-Some-Declared
 returns-in-Some-Declared c = λ setting same.
-    let found = rw c.in-Some-Declared.field-0-is at (sym c.look_up.ensures ∙ ap (option_map callee_of) c.in-Some-Declared.is) in
+    let found = rw c.in-Some-Declared.field-0-is at (sym c.look_up.ensures
+    ∙ ap (option_map callee_of) c.in-Some-Declared.is) in
     record {
       by = λ k. called-as setting k c.args.state.now c.args.bundle.now same c.args.name.now _ found c.args.arguments.now
           ∙ and_then-assoc _ _ _ ∙ sym (c.values_first-in-Some-Declared.ensures setting k c.args.state.now);

@@ -5,7 +5,8 @@ use Rattle.dp_step.proofs.hands.evaluate.Goals as goal
 
 pub returns-in-Call : goal.returns-in-Call
 returns-in-Call c = λ setting same.
-    rw c.in-Call.is (c.moved.ensures setting _ _ (by_call setting c.args.state.now _ _ _ _ (c.begin_call.ensures setting same)))
+    rw c.in-Call.is (c.moved.ensures setting _ _ (by_call setting c.args.state.now _ _ _ _
+    (c.begin_call.ensures setting same)))
 
 pub returns-in-Include : goal.returns-in-Include
 returns-in-Include c = λ setting same. goes_as setting _ _ _ (λ k.

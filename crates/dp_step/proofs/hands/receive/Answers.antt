@@ -14,4 +14,5 @@ pub returns-in-ForValues : goal.returns-in-ForValues
 returns-in-ForValues c = λ setting same. rw c.in-ForValues.is (c.to_values.ensures setting)
 
 pub returns-in-ForSignal : goal.returns-in-ForSignal
-returns-in-ForSignal c = λ setting same. rw c.in-ForSignal.is (goes_as setting _ _ _ (λ k. c.to_signal.ensures setting k c.args.state.now))
+returns-in-ForSignal c =
+    λ setting same. rw c.in-ForSignal.is (goes_as setting _ _ _ (λ k. c.to_signal.ensures setting k c.args.state.now))

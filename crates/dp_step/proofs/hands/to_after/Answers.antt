@@ -7,4 +7,5 @@ returns-in-Value c = λ setting. rw c.in-Value.is (c.moved.ensures setting _ _ (
 
 pub returns-in_default : goal.returns-in_default
 returns-in_default c = λ setting. goes_as setting _ _ _ (λ k.
-    c.passed_on.ensures setting k c.args.state.now ∙ sym (passes-to_after setting c.args.work k c.args.given c.args.state.now c.in_default.not-Value))
+    c.passed_on.ensures setting k c.args.state.now
+    ∙ sym (passes-to_after setting c.args.work k c.args.given c.args.state.now c.in_default.not-Value))

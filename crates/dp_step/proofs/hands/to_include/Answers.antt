@@ -7,4 +7,5 @@ returns-in-Value c = λ setting same. rw c.in-Value.is (c.moved.ensures setting 
 
 pub returns-in_default : goal.returns-in_default
 returns-in_default c = λ setting same. goes_as setting _ _ _ (λ k.
-    c.passed_on.ensures setting k c.args.state.now ∙ sym (passes-to_include setting c.args.how k c.args.given c.args.state.now c.in_default.not-Value))
+    c.passed_on.ensures setting k c.args.state.now
+    ∙ sym (passes-to_include setting c.args.how k c.args.given c.args.state.now c.in_default.not-Value))

@@ -7,4 +7,5 @@ returns-in-Signal c = λ setting k s. rw c.in-Signal.is (c.receive_signal.ensure
 
 pub returns-in_default : goal.returns-in_default
 returns-in_default c = λ setting k s.
-    c.passed_on.ensures setting k s ∙ sym (passes-to_signal setting c.args.work k c.args.given s c.in_default.not-Signal)
+    c.passed_on.ensures setting k s
+    ∙ sym (passes-to_signal setting c.args.work k c.args.given s c.in_default.not-Signal)

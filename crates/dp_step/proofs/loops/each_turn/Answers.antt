@@ -8,8 +8,13 @@ use Rattle.dp_step.proofs.loops.each_turn.Goals as goal
 pub returns-then-at-entry_count : goal.returns-then-at-entry_count
 unfolding and_then
 returns-then-at-entry_count c = λ setting k s.
-    rw (c.signal.ensures, drop_of_length-le (entries c.args.subject) {i = c.args.at} (omega (arith, c.if-at-entry_count.true, c.entry_count.ensures))) refl
+    rw (
+      c.signal.ensures,
+      drop_of_length-le (entries c.args.subject) {i = c.args.at}
+          (omega (arith, c.if-at-entry_count.true, c.entry_count.ensures)),
+    ) refl
 
 pub returns-else-at-entry_count : goal.returns-else-at-entry_count
 returns-else-at-entry_count c = λ setting k s.
-    (each-first setting k s c.args.turns c.args.subject c.args.at (omega (arith, c.if-at-entry_count.false, c.entry_count.ensures)))
+    (each-first setting k s c.args.turns c.args.subject c.args.at
+    (omega (arith, c.if-at-entry_count.false, c.entry_count.ensures)))

@@ -10,7 +10,8 @@ returns-in-Next c = λ setting k s. rw (c.in-Rest.is, c.in-Next.is) refl
 pub returns-in_default : goal.returns-in_default
 unfolding and_then
 returns-in_default c = λ setting k s.
-    rw (c.in-Rest.is, c.signal.ensures) (sym (ap (λ r. and_then r (to_signal k)) (goes-off _ _ s c.in_default.not-Next)))
+    rw (c.in-Rest.is, c.signal.ensures) (sym (ap (λ r. and_then r (to_signal k))
+    (goes-off _ _ s c.in_default.not-Next)))
 
 pub returns-in-Body : goal.returns-in-Body
 returns-in-Body c = λ setting k s. rw c.in-Body.is (c.body_over.ensures setting k s)

@@ -9,4 +9,5 @@ returns-then-left-eq0 c = λ setting k s. rw c.if-left-eq0.true refl
 
 pub returns-else-left-eq0 : goal.returns-else-left-eq0
 returns-else-left-eq0 c = λ setting k s.
-    (at-same _ s _ _ (λ t. c.tests_first.ensures setting k t) ∙ turn-first setting k s c.args.turns c.args.left (omega (arith, c.if-left-eq0.false)))
+    (at-same _ s _ _ (λ t. c.tests_first.ensures setting k t)
+    ∙ turn-first setting k s c.args.turns c.args.left (omega (arith, c.if-left-eq0.false)))

@@ -8,4 +8,5 @@ unfolding and_then
 returns-in-While c = λ setting k s. (next-by setting k s c.args.turns c.args.left _ c.in-While.is)
 
 pub returns-in-For : goal.returns-in-For
-returns-in-For c = λ setting k s. c.values_first.ensures setting k s ∙ next-by setting k s c.args.turns c.args.left _ c.in-For.is
+returns-in-For c =
+    λ setting k s. c.values_first.ensures setting k s ∙ next-by setting k s c.args.turns c.args.left _ c.in-For.is

@@ -17,7 +17,8 @@ pub returns-in-Number : goal.returns-in-Number
 returns-in-Number c = λ setting. record {
   by = λ k.
       let fits : SFits w64 c.in-Number.n = search rules in
-      rw (c.in-Number.is, c.give-in-Number.ensures, to_z-of_z w64 c.in-Number.n fits) (begins.begins-Number setting k c.args.state.now _);
+      rw (c.in-Number.is, c.give-in-Number.ensures, to_z-of_z w64 c.in-Number.n fits)
+      (begins.begins-Number setting k c.args.state.now _);
 }
 
 pub returns-in-Text : goal.returns-in-Text

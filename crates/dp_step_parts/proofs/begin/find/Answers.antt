@@ -11,4 +11,5 @@ returns-in-Index c = λ setting k s.
 
 pub returns-in_default : goal.returns-in_default
 returns-in_default c = λ setting k s.
-    rw c.as_ref.ensures (ap (λ part. and_then (part setting s) (to_value k)) (sym (found-plain c.args.e.now (rw c.as_ref.ensures at c.in_default.not-Index))))
+    rw c.as_ref.ensures (ap (λ part. and_then (part setting s) (to_value k))
+    (sym (found-plain c.args.e.now (rw c.as_ref.ensures at c.in_default.not-Index))))

@@ -5,11 +5,13 @@ use Rattle.dp_step_parts.proofs.lists.link.Goals as goal
 
 pub returns-in-Or : goal.returns-in-Or
 returns-in-Or c = λ setting k s.
-    (rw c.holds.ensures at (c.or.ensures setting k s)) ∙ or-either setting k s _ c.args.first.now c.args.left c.in-Or.is (holds c.args.left) refl
+    (rw c.holds.ensures at (c.or.ensures setting k s))
+    ∙ or-either setting k s _ c.args.first.now c.args.left c.in-Or.is (holds c.args.left) refl
 
 pub returns-in-And : goal.returns-in-And
 returns-in-And c = λ setting k s.
-    (rw c.holds-in-And.ensures at (c.and.ensures setting k s)) ∙ and-either setting k s _ c.args.first.now c.args.left c.in-And.is (holds c.args.left) refl
+    (rw c.holds-in-And.ensures at (c.and.ensures setting k s))
+    ∙ and-either setting k s _ c.args.first.now c.args.left c.in-And.is (holds c.args.left) refl
 
 pub returns-in-Of : goal.returns-in-Of
 returns-in-Of c = λ setting k s.

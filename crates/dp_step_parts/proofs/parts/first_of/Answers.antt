@@ -11,7 +11,8 @@ pub returns-in-Find : goal.returns-in-Find
 returns-in-Find c = λ setting. record { by = λ k. rw c.in-Find.is (sym (c.find.ensures setting k c.args.state.now)) }
 
 pub returns-in-Values : goal.returns-in-Values
-returns-in-Values c = λ setting. record { by = λ k. rw c.in-Values.is (sym (c.values.ensures setting k c.args.state.now)) }
+returns-in-Values c =
+    λ setting. record { by = λ k. rw c.in-Values.is (sym (c.values.ensures setting k c.args.state.now)) }
 
 pub returns-in-Items : goal.returns-in-Items
 returns-in-Items c = λ setting. record { by = λ k. rw c.in-Items.is (sym (c.items.ensures setting k c.args.state.now)) }

@@ -7,7 +7,8 @@ use Rattle.dp_step_parts.proofs.receive.coalesce_assign.Goals as goal
 pub returns-in-Ok : goal.returns-in-Ok
 returns-in-Ok c = λ setting. record {
   by = λ k.
-      coalesces setting k c.args.state.now c.args.name.now c.args.indices c.args.right.now c.in-Ok.old (rw c.as_slice.ensures at c.in-Ok.ensures)
+      coalesces setting k c.args.state.now c.args.name.now c.args.indices c.args.right.now c.in-Ok.old
+      (rw c.as_slice.ensures at c.in-Ok.ensures)
       ∙ sym (c.or_assign.ensures setting k c.args.state.now);
 }
 

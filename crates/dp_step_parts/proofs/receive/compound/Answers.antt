@@ -7,7 +7,8 @@ pub returns-in-Ok : goal.returns-in-Ok
 returns-in-Ok c = λ setting. record {
   by = λ k.
       rw c.as_ref.ensures
-      (compounds setting k c.args.state.now c.args.op c.args.name.now c.args.indices c.args.right.now c.in-Ok.old (rw c.as_slice.ensures at c.in-Ok.ensures));
+      (compounds setting k c.args.state.now c.args.op c.args.name.now c.args.indices c.args.right.now c.in-Ok.old
+      (rw c.as_slice.ensures at c.in-Ok.ensures));
 }
 
 pub returns-in-Err : goal.returns-in-Err

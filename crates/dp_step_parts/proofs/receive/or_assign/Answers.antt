@@ -6,7 +6,8 @@ use Rattle.dp_step_parts.proofs.receive.or_assign.Goals as goal
 pub returns-in-Some : goal.returns-in-Some
 returns-in-Some c = λ setting k s.
     let p = present-some c.args.old c.in-Some.old (sym c.present.ensures ∙ c.in-Some.is) in
-    rw c.give.ensures (or_assign-there setting k s c.args.name.now c.args.indices c.args.right.now c.args.old c.in-Some.old p.0 p.1)
+    rw c.give.ensures (or_assign-there setting k s c.args.name.now c.args.indices c.args.right.now c.args.old
+    c.in-Some.old p.0 p.1)
 
 pub returns-in-None : goal.returns-in-None
 returns-in-None c = λ setting k s.

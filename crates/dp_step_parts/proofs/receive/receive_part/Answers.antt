@@ -8,7 +8,8 @@ pub returns-in-PushItem : goal.returns-in-PushItem
 returns-in-PushItem c = λ setting. rw c.in-PushItem.is (c.lengthened.ensures setting _ _ c.pushed.ensures)
 
 pub returns-in-KeyItem : goal.returns-in-KeyItem
-returns-in-KeyItem c = λ setting. record { by = λ k. rw c.in-KeyItem.is (sym (c.keyed_item.ensures setting k c.args.state.now)) }
+returns-in-KeyItem c =
+    λ setting. record { by = λ k. rw c.in-KeyItem.is (sym (c.keyed_item.ensures setting k c.args.state.now)) }
 
 pub returns-in-PutItem : goal.returns-in-PutItem
 returns-in-PutItem c = λ setting. rw c.in-PutItem.is (c.put_item.ensures setting)

@@ -1,6 +1,6 @@
 use Rattle.std.proofs.Common.{Ok, Err, refl}
 use Rattle.dp_tree.specs.declared.bundle.Bundle.{Bundle}
-use Rattle.dp_words.specs.Commands.{address_told, ask_told}
+use Rattle.dp_words.specs.Commands.{address_told, invocation_seen}
 use Rattle.dp_words.proofs.NameLaws.{names_of}
 use Rattle.dp_top.proofs.RunTold.{fetched, held_failure}
 use Rattle.dp_top.proofs.TalkLaws.{held_served}
@@ -13,7 +13,7 @@ fetch_program-requires g c = names_of c.args.request.talk.program.files.now c.re
 pub returns-in-Ok-clause-ends : goal.returns-in-Ok-clause-ends
 returns-in-Ok-clause-ends g c = rw (← c.objects.view_is)
     (program_engaged (address_told c.args.request.address) c.args.request.talk.key.now
-    (ask_told c.args.request.talk.program) _ _ (record { input = (refl, refl); err = (refl, refl) })
+    (invocation_seen c.args.request.talk.program) _ _ (record { input = (refl, refl); err = (refl, refl) })
     c.in-Ok.bundle c.in-Ok.ensures.made c.serve_over.result c.serve_over.ensures.ends)
 
 pub returns-in-Ok-clause-held : goal.returns-in-Ok-clause-held
@@ -26,7 +26,7 @@ returns-in-Ok-clause-held g c = rw (← c.objects.view_is) (record {
 pub returns-in-Err-clause-ends : goal.returns-in-Err-clause-ends
 returns-in-Err-clause-ends g c = rw (← c.objects.view_is)
     (none_engaged (address_told c.args.request.address) c.args.request.talk.key.now
-    (ask_told c.args.request.talk.program) _ _ (record { input = (refl, refl); err = (refl, refl) })
+    (invocation_seen c.args.request.talk.program) _ _ (record { input = (refl, refl); err = (refl, refl) })
     c.told_of_files.result c.in-Err.why c.in-Err.ensures.cause c.told_of_files.ensures
     (record { net = refl; out = (refl, refl); apart = record { input = (refl, refl); err = (refl, refl) } }))
 
@@ -40,9 +40,9 @@ returns-in-Err-clause-held g c = rw (← c.objects.view_is) (record {
 pub returns-in-Ok-clause-fetched : goal.returns-in-Ok-clause-fetched
 returns-in-Ok-clause-fetched g c =
     rw (← c.objects.view_is) (fetched Bundle (Ok c.in-Ok.bundle) _ _
-    (ask_told c.args.request.talk.program) c.in-Ok.ensures.asked)
+    (invocation_seen c.args.request.talk.program) c.in-Ok.ensures.asked)
 
 pub returns-in-Err-clause-fetched : goal.returns-in-Err-clause-fetched
 returns-in-Err-clause-fetched g c =
     rw (← c.objects.view_is) (fetched Bundle (Err c.in-Err.why) _ _
-    (ask_told c.args.request.talk.program) c.in-Err.ensures.asked)
+    (invocation_seen c.args.request.talk.program) c.in-Err.ensures.asked)

@@ -1,6 +1,6 @@
 use Rattle.std.proofs.Common.{refl, inl, inr}
 use Rattle.dp_outside.specs.Links.{Link, link}
-use Rattle.dp_words.specs.Commands.{address_told, ask_told}
+use Rattle.dp_words.specs.Commands.{address_told, invocation_seen}
 use Rattle.dp_top.specs.Seen.{net_seen}
 use Rattle.dp_top.proofs.EngineLaws.{not_given, served_over, taken_back}
 use Rattle.dp_top.proofs.engine.serve_linked.Goals as goal
@@ -22,7 +22,7 @@ returns-in-Ok-clause-ends g c =
     let given : Link = link g.N.In.Source g.N.Out.Sink c.in-Ok.source c.in-Ok.sink in
     let back : Link = link g.N.In.Source g.N.Out.Sink c.serve_program-done.new.input c.serve_program-done.new.out in
     served_over c.args.bundle.now (address_told c.args.request.address) c.args.request.talk.key.now
-    (ask_told c.args.request.talk.program) _ _ _ _ _
+    (invocation_seen c.args.request.talk.program) _ _ _ _ _
     (taken_back (address_told c.args.request.address) c.args.host.now given back _ _ _ _
     (net_seen g.N.Dialer g.N.Net.shut_doors c.args.net.now)
     (net_seen g.N.Dialer g.N.Net.shut_doors c.dial.new.self) (net_seen g.N.Dialer g.N.Net.shut_doors c.retire.new.self)

@@ -5,7 +5,7 @@ use Rattle.dp_outside.specs.Files.{Fetches}
 use Rattle.dp_run.specs.Programs.{AreFetched, Files, NoProgram}
 use Rattle.dp_run.proofs.RunLaws.{for_bundle, held_unfetched}
 use Rattle.dp_tree.specs.declared.bundle.Bundle.{Bundle}
-use Rattle.dp_words.specs.Commands.{ask_told}
+use Rattle.dp_words.specs.Commands.{invocation_seen}
 use Rattle.dp_words.proofs.NameLaws.{names_of}
 use Rattle.dp_top.proofs.ReplayLaws.{first_and, since, status_small, unfetched_fails, unlisted_fails, unlisted_held}
 use Rattle.dp_top.specs.Replay.{list_limit}
@@ -21,7 +21,7 @@ replay_fetched-requires g c =
 pub returns-in-Err-clause-ends : goal.returns-in-Err-clause-ends
 returns-in-Err-clause-ends g c =
     unlisted_fails c.in-Err.why.failure c.in-Err.why.name.now c.args.request.events.now
-    (ask_told c.args.request.program) (g.H.Shelf.files c.args.shelf.now)
+    (invocation_seen c.args.request.program) (g.H.Shelf.files c.args.shelf.now)
     (g.H.Shelf.faults c.args.shelf.now) (g.H.Shelf.faults c.fetch_list.new.shelf)
     (change g.K.Sink.taken g.K.Sink.faults c.args.out.now c.args.out.now)
     c.in-Err.ensures.unlisted (refl, refl)
@@ -38,7 +38,7 @@ returns-in-Ok-fetch_files-clause-ends g c =
 
 pub returns-in-Ok-fetch_files-clause-status : goal.returns-in-Ok-fetch_files-clause-status
 returns-in-Ok-fetch_files-clause-status g c =
-    status_small c.replay_fetched.result c.args.request.events.now (ask_told c.args.request.program)
+    status_small c.replay_fetched.result c.args.request.events.now (invocation_seen c.args.request.program)
     (g.H.Shelf.files c.args.shelf.now)
     (g.H.Shelf.faults c.args.shelf.now) (g.H.Shelf.faults c.fetch_files.new.shelf)
     (change g.K.Sink.taken g.K.Sink.faults c.args.out.now c.replay_fetched.new.out)
@@ -56,7 +56,7 @@ returns-in-Ok-fetch_files-clause-fetched g c =
     (g.H.Shelf.fetched c.fetch_files.new.shelf)
     c.args.request.events.now (map string_bytes c.args.request.program.files.now) c.in-Ok.ensures.fetched
     (fetched ⊤ (Ok tt) (g.H.Shelf.fetched c.fetch_list.new.shelf) (g.H.Shelf.fetched c.fetch_files.new.shelf)
-    (ask_told c.args.request.program)
+    (invocation_seen c.args.request.program)
     c.in-Ok-fetch_files.ensures.asked)
 
 pub returns-clause-ends : goal.returns-clause-ends
@@ -67,7 +67,7 @@ returns-clause-ends g c =
     let first = g.H.Shelf.faults c.fetch_list.new.shelf in
     let after = g.H.Shelf.faults c.fetch_files.new.shelf in
     unfetched_fails files (g.H.Shelf.faults c.args.shelf.now) after c.args.request.events.now
-    (ask_told c.args.request.program)
+    (invocation_seen c.args.request.program)
     (change g.K.Sink.taken g.K.Sink.faults c.args.out.now c.args.out.now) why c.told_of_files.result.failure
     c.told_of_files.result.name.now
     first c.in-Ok.ensures.later
@@ -80,7 +80,7 @@ returns-clause-fetched g c =
     (g.H.Shelf.fetched c.fetch_files.new.shelf)
     c.args.request.events.now (map string_bytes c.args.request.program.files.now) c.in-Ok.ensures.fetched
     (fetched ⊤ (Err c.in-Err-fetch_files.why) (g.H.Shelf.fetched c.fetch_list.new.shelf)
-    (g.H.Shelf.fetched c.fetch_files.new.shelf) (ask_told c.args.request.program)
+    (g.H.Shelf.fetched c.fetch_files.new.shelf) (invocation_seen c.args.request.program)
     c.in-Err-fetch_files.ensures.asked)
 
 pub returns-in-Err-clause-held : goal.returns-in-Err-clause-held
@@ -110,7 +110,7 @@ returns-clause-held g c = λ asked holds list held.
     let out = change g.K.Sink.taken g.K.Sink.faults c.args.out.now c.args.out.now in
     held_failure Bundle asked why c.told_of_files.result before after c.told_of_files.ensures.0
     (held_unfetched Bundle files names before after asked why
-    (since files before after c.args.request.events.now (ask_told c.args.request.program) out first
+    (since files before after c.args.request.events.now (invocation_seen c.args.request.program) out first
     c.in-Ok.ensures.later why
     (subst (λ (f : Files). NoProgram why f first after names) c.in-Ok.ensures.files c.in-Err-fetch_files.ensures.err))
     c.in-Err-fetch_files.ensures.unread holds)

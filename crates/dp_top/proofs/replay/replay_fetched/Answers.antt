@@ -3,7 +3,7 @@ use Rattle.dp_run.proofs.RunLaws.{held_fetched}
 use Rattle.dp_tree.specs.declared.bundle.Bundle.{Bundle}
 use Rattle.dp_top.proofs.RunTold.{held_failure}
 use Rattle.dp_outside.specs.Changes.{change}
-use Rattle.dp_words.specs.Commands.{ask_told}
+use Rattle.dp_words.specs.Commands.{invocation_seen}
 use Rattle.dp_top.proofs.ReplayLaws.{bad_held, bad_list, held_list, over_ends, over_held, unlisted_fails, unmade_fails}
 use Rattle.dp_top.proofs.replay.replay_fetched.Goals as goal
 
@@ -12,7 +12,7 @@ returns-in-Err-clause-ends g c = λ files before after fetched are.
     let why = c.in-Err.why in
     let name = c.args.request.events.now in
     let out = change g.K.Sink.taken g.K.Sink.faults c.args.out.now c.args.out.now in
-    unlisted_fails why.failure why.name.now name (ask_told c.args.request.program) files before after out
+    unlisted_fails why.failure why.name.now name (invocation_seen c.args.request.program) files before after out
     (bad_list why.failure why.name.now name c.args.content.now files before after fetched c.in-Err.ensures.bad)
     (refl, refl)
 
@@ -20,7 +20,7 @@ pub returns-in-Ok-make_program-clause-ends : goal.returns-in-Ok-make_program-cla
 returns-in-Ok-make_program-clause-ends g c = λ files before after fetched are.
     let name = c.args.request.events.now in
     let out = change g.K.Sink.taken g.K.Sink.faults c.args.out.now c.replay_over.new.out in
-    over_ends files before after name (ask_told c.args.request.program) out c.in-Ok.events
+    over_ends files before after name (invocation_seen c.args.request.program) out c.in-Ok.events
     (held_list files name c.args.content.now c.in-Ok.events fetched c.in-Ok.ensures.list) c.args.fetched are
     c.replay_over.result c.in-Ok-make_program.bundle c.in-Ok-make_program.ensures.ok c.replay_over.ensures.ends
 
@@ -28,7 +28,7 @@ pub returns-clause-ends : goal.returns-clause-ends
 returns-clause-ends g c = λ files before after fetched are.
     let name = c.args.request.events.now in
     let out = change g.K.Sink.taken g.K.Sink.faults c.args.out.now c.args.out.now in
-    unmade_fails files before after name (ask_told c.args.request.program) out c.in-Ok.events
+    unmade_fails files before after name (invocation_seen c.args.request.program) out c.in-Ok.events
     (held_list files name c.args.content.now c.in-Ok.events fetched c.in-Ok.ensures.list) c.args.fetched are
     c.in-Err-make_program.why c.told_of_files.result.failure c.told_of_files.result.name.now
     c.in-Err-make_program.ensures.err c.told_of_files.ensures (refl, refl)
@@ -43,13 +43,13 @@ returns-in-Ok-make_program-clause-held g c = λ files before after fetched are a
     over_held asked c.in-Ok-make_program.bundle c.replay_over.result c.in-Ok.events c.args.request.program.bound before
     after
     (change g.K.Sink.taken g.K.Sink.faults c.args.out.now c.replay_over.new.out)
-    (held_fetched files (ask_told c.args.request.program).names c.args.fetched before after asked
+    (held_fetched files (invocation_seen c.args.request.program).names c.args.fetched before after asked
     (Ok c.in-Ok-make_program.bundle) are
     c.in-Ok-make_program.ensures.only holds) c.replay_over.ensures.ends
 
 pub returns-clause-held : goal.returns-clause-held
 returns-clause-held g c = λ files before after fetched are asked holds list held.
     held_failure Bundle asked c.in-Err-make_program.why c.told_of_files.result before after c.told_of_files.ensures.0
-    (held_fetched {A = Bundle} files (ask_told c.args.request.program).names c.args.fetched before after asked
+    (held_fetched {A = Bundle} files (invocation_seen c.args.request.program).names c.args.fetched before after asked
     (Err c.in-Err-make_program.why) are
     c.in-Err-make_program.ensures.only holds)

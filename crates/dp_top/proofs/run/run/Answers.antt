@@ -1,7 +1,7 @@
 use Rattle.std.proofs.Common.{ℕ, Ok, Err, inl}
 use Rattle.std.specs.Prelude.{⊤}
 use Rattle.dp_run.specs.Runs.{of_program}
-use Rattle.dp_words.specs.Commands.{ask_told}
+use Rattle.dp_words.specs.Commands.{invocation_seen}
 use Rattle.dp_words.proofs.NameLaws.{names_of}
 use Rattle.dp_top.proofs.RunTold.{fetched, held_run, held_status}
 use Rattle.dp_top.proofs.run.run.Goals as goal
@@ -27,9 +27,9 @@ returns-in-Err-clause-ends g c =
 pub returns-in-Ok-clause-fetched : goal.returns-in-Ok-clause-fetched
 returns-in-Ok-clause-fetched g c =
     fetched ⊤ (Ok tt) (g.H.Shelf.fetched c.args.shelf.now) (g.H.Shelf.fetched c.run.new.shelf)
-    (ask_told c.args.program) c.in-Ok.ensures.asked
+    (invocation_seen c.args.program) c.in-Ok.ensures.asked
 
 pub returns-in-Err-clause-fetched : goal.returns-in-Err-clause-fetched
 returns-in-Err-clause-fetched g c =
     fetched ⊤ (of_program {A = ℕ} (Err c.in-Err.why)) (g.H.Shelf.fetched c.args.shelf.now)
-    (g.H.Shelf.fetched c.run.new.shelf) (ask_told c.args.program) c.in-Err.ensures.asked
+    (g.H.Shelf.fetched c.run.new.shelf) (invocation_seen c.args.program) c.in-Err.ensures.asked

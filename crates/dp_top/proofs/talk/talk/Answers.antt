@@ -1,6 +1,6 @@
 use Rattle.std.proofs.Common.{Ok, Err, refl}
 use Rattle.dp_tree.specs.declared.bundle.Bundle.{Bundle}
-use Rattle.dp_words.specs.Commands.{ask_told}
+use Rattle.dp_words.specs.Commands.{invocation_seen}
 use Rattle.dp_words.proofs.NameLaws.{names_of}
 use Rattle.dp_top.proofs.RunTold.{fetched, held_failure}
 use Rattle.dp_top.proofs.TalkLaws.{held_served, none_served, program_served}
@@ -11,7 +11,8 @@ fetch_program-requires g c = names_of c.args.request.program.files.now c.require
 
 pub returns-in-Ok-clause-ends : goal.returns-in-Ok-clause-ends
 returns-in-Ok-clause-ends g c = rw (← c.objects.view_is)
-    (program_served c.args.request.key.now (ask_told c.args.request.program) _ _ c.in-Ok.bundle c.in-Ok.ensures.made
+    (program_served c.args.request.key.now (invocation_seen c.args.request.program) _ _ c.in-Ok.bundle
+    c.in-Ok.ensures.made
     c.serve_program.result c.serve_program.ensures.ends)
 
 pub returns-in-Ok-clause-held : goal.returns-in-Ok-clause-held
@@ -23,7 +24,7 @@ returns-in-Ok-clause-held g c = rw (← c.objects.view_is) (record {
 
 pub returns-in-Err-clause-ends : goal.returns-in-Err-clause-ends
 returns-in-Err-clause-ends g c = rw (← c.objects.view_is)
-    (none_served c.args.request.key.now (ask_told c.args.request.program) _ _ c.told_of_files.result c.in-Err.why
+    (none_served c.args.request.key.now (invocation_seen c.args.request.program) _ _ c.told_of_files.result c.in-Err.why
     c.in-Err.ensures.cause c.told_of_files.ensures
     (record { input_stays = (refl, refl); out_stays = (refl, refl); err_stays = (refl, refl) }))
 
@@ -37,9 +38,9 @@ returns-in-Err-clause-held g c = rw (← c.objects.view_is) (record {
 pub returns-in-Ok-clause-fetched : goal.returns-in-Ok-clause-fetched
 returns-in-Ok-clause-fetched g c =
     rw (← c.objects.view_is) (fetched Bundle (Ok c.in-Ok.bundle) _ _
-    (ask_told c.args.request.program) c.in-Ok.ensures.asked)
+    (invocation_seen c.args.request.program) c.in-Ok.ensures.asked)
 
 pub returns-in-Err-clause-fetched : goal.returns-in-Err-clause-fetched
 returns-in-Err-clause-fetched g c =
     rw (← c.objects.view_is) (fetched Bundle (Err c.in-Err.why) _ _
-    (ask_told c.args.request.program) c.in-Err.ensures.asked)
+    (invocation_seen c.args.request.program) c.in-Err.ensures.asked)

@@ -3,13 +3,14 @@ use Rattle.dp_top.proofs.TaskLaws.{asks_fetched, fails_told, told_above, complet
 use Rattle.dp_top.proofs.IdeLaws.{complete_ide_told, plays_well, script_held_told, script_refused_done, script_refused_told}
 use Rattle.dp_top.proofs.ReplayTold.{asks_replay, complete_replay_told, list_held_told, list_refused_done}
 use Rattle.dp_top.proofs.ReplayTold.{list_refused_told, replays_well}
-use Rattle.dp_words.specs.CommandLine.{run, talk, engine, ide, replay, show, Asks}
+use Rattle.dp_words.specs.CommandLine.{run, talk, engine, ide, replay, show, IsInvocation}
 use Rattle.dp_words.specs.Commands.{task_of}
 use Rattle.dp_top.proofs.top_call.top.Goals as goal
 
 pub carry_out_on-requires-clause-asked : goal.carry_out_on-requires-clause-asked
 carry_out_on-requires-clause-asked g c =
-    let found : Asks (map string_bytes c.args.words.now) (task_of c.in-Ok-Some.command) = rw c.in-Ok-Some.field-0-is at
+    let found : IsInvocation (map string_bytes c.args.words.now)
+    (task_of c.in-Ok-Some.command) = rw c.in-Ok-Some.field-0-is at
     c.in-Ok-Some.ensures.found in
     search (rules, found)
 

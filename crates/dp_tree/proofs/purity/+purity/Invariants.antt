@@ -14,4 +14,5 @@ abbrev pub invariant-links_are_pure-loop-link : goal.invariant-links_are_pure-lo
 invariant-links_are_pure-loop-link l = list_all link_is_pure l.all ≡ list_all link_is_pure (drop l.link-index l.all)
 
 abbrev pub invariant-places_are_pure-loop-place : goal.invariant-places_are_pure-loop-place
-invariant-places_are_pure-loop-place l = list_all place_is_pure l.all ≡ list_all place_is_pure (drop l.place-index l.all)
+invariant-places_are_pure-loop-place l =
+    list_all place_is_pure l.all ≡ list_all place_is_pure (drop l.place-index l.all)

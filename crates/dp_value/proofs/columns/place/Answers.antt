@@ -8,7 +8,9 @@ use Rattle.dp_value.proofs.columns.place.Goals as goal
 
 pub returns-clause-place : goal.returns-clause-place
 returns-clause-place c =
-    let derived : MatchOption c.get_index_of.result (IsAbsent (ghosts.eq c.args.key.now) c.args.keys.now.keys) (IsFirst (ghosts.eq c.args.key.now) c.args.keys.now.keys) =
+    let derived : MatchOption c.get_index_of.result (IsAbsent (ghosts.eq c.args.key.now) c.args.keys.now.keys)
+    (IsFirst (ghosts.eq c.args.key.now) c.args.keys.now.keys) =
     rw c.get_index_of.ensures.index (placed (ghosts.eq c.args.key.now) c.args.keys.now.keys) in
-    subst (λ (test : Key → Bool). MatchOption c.get_index_of.result (IsAbsent test c.args.keys.now.keys) (IsFirst test c.args.keys.now.keys))
+    subst (λ (test : Key → Bool). MatchOption c.get_index_of.result (IsAbsent test c.args.keys.now.keys)
+    (IsFirst test c.args.keys.now.keys))
     (λ i key. derived_eq c.args.key.now key i) derived

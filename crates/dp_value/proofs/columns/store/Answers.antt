@@ -11,7 +11,8 @@ use Rattle.dp_value.proofs.columns.store.Goals as goal
 pub returns-in-Some-clause-ok : goal.returns-in-Some-clause-ok
 returns-in-Some-clause-ok c =
     ap (zip c.args.keys.now.keys) (map-set data_of c.args.values.now.items c.in-Some.at c.args.value)
-    ∙ sym (put-first c.args.key c.args.keys.now.keys (map data_of c.args.values.now.items) c.in-Some.at (data_of c.args.value) c.in-Some.ensures.place
+    ∙ sym (put-first c.args.key c.args.keys.now.keys (map data_of c.args.values.now.items) c.in-Some.at
+    (data_of c.args.value) c.in-Some.ensures.place
     (length-map c.args.values.now.items data_of ∙ c.requires))
 
 pub returns-clause-ok : goal.returns-clause-ok
@@ -23,7 +24,8 @@ returns-clause-ok c =
     ap (λ (ks : List Key). pairs_in ks c.push_reserved.new.self.items) keys
     ∙ ap (λ (vs : List Value). pairs_in (c.args.keys.now.keys ++ c.args.key ∷ []) vs) values
     ∙ ap (zip (c.args.keys.now.keys ++ c.args.key ∷ [])) (map_push data_of c.args.values.now.items c.args.value)
-    ∙ sym (put-absent c.args.key c.args.keys.now.keys (map data_of c.args.values.now.items) (data_of c.args.value) c.in_default.ensures.place
+    ∙ sym (put-absent c.args.key c.args.keys.now.keys (map data_of c.args.values.now.items)
+    (data_of c.args.value) c.in_default.ensures.place
     (length-map c.args.values.now.items data_of ∙ c.requires))
 
 pub returns-clause-same_length : goal.returns-clause-same_length
@@ -32,4 +34,11 @@ returns-clause-same_length c =
     c.in_ok-insert.ensures.keys ∙ inserted c.args.keys.now.keys c.args.key c.in_default.ensures.place in
     let values : c.push_reserved.new.self.items ≡ c.args.values.now.items ++ c.args.value ∷ [] =
     c.push_reserved.ensures.items ∙ ap (λ (vs : List Value). vs ++ c.args.value ∷ []) c.reserve.ensures.items in
-    omega (arith, ap length keys, ap length values, length_push c.args.keys.now.keys c.args.key, length_push c.args.values.now.items c.args.value, c.requires)
+    omega (
+      arith,
+      ap length keys,
+      ap length values,
+      length_push c.args.keys.now.keys c.args.key,
+      length_push c.args.values.now.items c.args.value,
+      c.requires,
+    )

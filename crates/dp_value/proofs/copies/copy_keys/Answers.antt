@@ -12,7 +12,8 @@ loop-key-preserved c =
     let items : c.as_slice-key-items.result.now ≡ c.args.keys.now.keys = c.as_slice-key-items.ensures.keys in
     let distinct = subst (λ (ks : List Key). IsDistinct ghosts.eq ks) (sym items) c.as_slice-key-items.ensures.unique in
     let within : c.loop-key.key-index < length c.as_slice-key-items.result.now = omega arith in
-    let lacks = fresh c.as_slice-key-items.result.now c.loop-key.key-index c.key-item.result (distinct_keys c.as_slice-key-items.result.now distinct) within c.key-item.is in
+    let lacks = fresh c.as_slice-key-items.result.now c.loop-key.key-index c.key-item.result
+    (distinct_keys c.as_slice-key-items.result.now distinct) within c.key-item.is in
     c.in_ok-insert.ensures.keys
     ∙ ap (λ (k : Key). insert_key ghosts.eq c.loop-key.copy.keys k) c.in_ok-try_clone.ensures
     ∙ ap (λ (ks : List Key). insert_key ghosts.eq ks c.key-item.result) c.loop-key.invariant

@@ -20,46 +20,79 @@ same_columns-returns-then-len-n t c =
     let a = ap (λ (x : Table). length x.pairs) c.a.view_is in
     let b = ap (λ (x : Table). length x.pairs) c.b.view_is in
     sym (identical-lengths c.args.a.now.pairs c.args.b.now.pairs
-    (λ e. c.if-len-n.true (omega (arith, a, b, e, c.len.ensures, c.len-n.ensures, kept_length c.a.inside c.a.invariant, kept_length c.b.inside c.b.invariant))))
+    (λ e. c.if-len-n.true (omega (
+      arith,
+      a,
+      b,
+      e,
+      c.len.ensures,
+      c.len-n.ensures,
+      kept_length c.a.inside c.a.invariant,
+      kept_length c.b.inside c.b.invariant,
+    ))))
 
 pub same_columns-returns-then-not-is : goal.same_columns-returns-then-not-is
 same_columns-returns-then-not-is t c =
-    let n : c.loop-at.at < length c.a.inside.keys.keys = omega (arith, c.len-n.ensures, c.a.invariant.same_length, c.a.inside.values.ok.0) in
-    let m : c.loop-at.at < length c.b.inside.keys.keys = omega (arith, c.len-n.ensures, c.len.ensures, c.b.invariant.same_length, c.b.inside.values.ok.0) in
+    let n : c.loop-at.at < length c.a.inside.keys.keys = omega
+    (arith, c.len-n.ensures, c.a.invariant.same_length, c.a.inside.values.ok.0) in
+    let m : c.loop-at.at < length c.b.inside.keys.keys = omega
+    (arith, c.len-n.ensures, c.len.ensures, c.b.invariant.same_length, c.b.inside.values.ok.0) in
     let left = rw c.as_slice-left.ensures.keys at c.index-left-at.is in
     let right = rw c.as_slice-right.ensures.keys at c.index-right-at.is in
     sym (c.loop-at.invariant
     ∙ differ-by_key c.args.a.now.pairs c.args.b.now.pairs c.loop-at.at
     (c.index-left-at.result, get_or (map data_of c.a.inside.values.items) c.loop-at.at null)
     (c.index-right-at.result, get_or (map data_of c.b.inside.values.items) c.loop-at.at null)
-    (ap (λ (x : Table). slice_get x.pairs c.loop-at.at) (sym c.a.view_is) ∙ row_of_key c.a.inside.keys.keys c.a.inside.values.items c.loop-at.at c.index-left-at.result n c.a.invariant.same_length left)
-    (ap (λ (x : Table). slice_get x.pairs c.loop-at.at) (sym c.b.view_is) ∙ row_of_key c.b.inside.keys.keys c.b.inside.values.items c.loop-at.at c.index-right-at.result m c.b.invariant.same_length right)
+    (ap (λ (x : Table). slice_get x.pairs c.loop-at.at) (sym c.a.view_is)
+    ∙ row_of_key c.a.inside.keys.keys c.a.inside.values.items c.loop-at.at c.index-left-at.result n
+    c.a.invariant.same_length left)
+    (ap (λ (x : Table). slice_get x.pairs c.loop-at.at) (sym c.b.view_is)
+    ∙ row_of_key c.b.inside.keys.keys c.b.inside.values.items c.loop-at.at c.index-right-at.result m
+    c.b.invariant.same_length right)
     c.if-not-is.ensures)
 
 pub same_columns-returns-then-not-same : goal.same_columns-returns-then-not-same
 same_columns-returns-then-not-same t c =
-    let n : c.loop-at.at < length c.a.inside.keys.keys = omega (arith, c.len-n.ensures, c.a.invariant.same_length, c.a.inside.values.ok.0) in
-    let m : c.loop-at.at < length c.b.inside.keys.keys = omega (arith, c.len-n.ensures, c.len.ensures, c.b.invariant.same_length, c.b.inside.values.ok.0) in
+    let n : c.loop-at.at < length c.a.inside.keys.keys = omega
+    (arith, c.len-n.ensures, c.a.invariant.same_length, c.a.inside.values.ok.0) in
+    let m : c.loop-at.at < length c.b.inside.keys.keys = omega
+    (arith, c.len-n.ensures, c.len.ensures, c.b.invariant.same_length, c.b.inside.values.ok.0) in
     let left = rw c.as_slice-left.ensures.keys at c.index-left-at.is in
     let right = rw c.as_slice-right.ensures.keys at c.index-right-at.is in
     sym (c.loop-at.invariant
     ∙ differ-by_value c.args.a.now.pairs c.args.b.now.pairs c.loop-at.at
-    (c.index-left-at.result, data_of c.index.result.now) (c.index-right-at.result, data_of c.index-in-loop-at.result.now)
-    (ap (λ (x : Table). slice_get x.pairs c.loop-at.at) (sym c.a.view_is) ∙ row c.a.inside.keys.keys c.a.inside.values.items c.loop-at.at c.index-left-at.result c.index.result.now n c.a.invariant.same_length left c.index.ensures)
-    (ap (λ (x : Table). slice_get x.pairs c.loop-at.at) (sym c.b.view_is) ∙ row c.b.inside.keys.keys c.b.inside.values.items c.loop-at.at c.index-right-at.result c.index-in-loop-at.result.now m c.b.invariant.same_length right c.index-in-loop-at.ensures)
+    (c.index-left-at.result, data_of c.index.result.now) (
+      c.index-right-at.result,
+      data_of c.index-in-loop-at.result.now,
+    )
+    (ap (λ (x : Table). slice_get x.pairs c.loop-at.at) (sym c.a.view_is)
+    ∙ row c.a.inside.keys.keys c.a.inside.values.items c.loop-at.at c.index-left-at.result c.index.result.now n
+    c.a.invariant.same_length left c.index.ensures)
+    (ap (λ (x : Table). slice_get x.pairs c.loop-at.at) (sym c.b.view_is)
+    ∙ row c.b.inside.keys.keys c.b.inside.values.items c.loop-at.at c.index-right-at.result
+    c.index-in-loop-at.result.now m c.b.invariant.same_length right c.index-in-loop-at.ensures)
     c.if-not-is.ensures c.if-not-same.ensures)
 
 pub same_columns-loop-at-preserved : goal.same_columns-loop-at-preserved
 same_columns-loop-at-preserved t c =
-    let n : c.loop-at.at < length c.a.inside.keys.keys = omega (arith, c.len-n.ensures, c.a.invariant.same_length, c.a.inside.values.ok.0) in
-    let m : c.loop-at.at < length c.b.inside.keys.keys = omega (arith, c.len-n.ensures, c.len.ensures, c.b.invariant.same_length, c.b.inside.values.ok.0) in
+    let n : c.loop-at.at < length c.a.inside.keys.keys = omega
+    (arith, c.len-n.ensures, c.a.invariant.same_length, c.a.inside.values.ok.0) in
+    let m : c.loop-at.at < length c.b.inside.keys.keys = omega
+    (arith, c.len-n.ensures, c.len.ensures, c.b.invariant.same_length, c.b.inside.values.ok.0) in
     let left = rw c.as_slice-left.ensures.keys at c.index-left-at.is in
     let right = rw c.as_slice-right.ensures.keys at c.index-right-at.is in
     c.loop-at.invariant
     ∙ same-so_far c.args.a.now.pairs c.args.b.now.pairs c.loop-at.at
-    (c.index-left-at.result, data_of c.index.result.now) (c.index-right-at.result, data_of c.index-in-loop-at.result.now)
-    (ap (λ (x : Table). slice_get x.pairs c.loop-at.at) (sym c.a.view_is) ∙ row c.a.inside.keys.keys c.a.inside.values.items c.loop-at.at c.index-left-at.result c.index.result.now n c.a.invariant.same_length left c.index.ensures)
-    (ap (λ (x : Table). slice_get x.pairs c.loop-at.at) (sym c.b.view_is) ∙ row c.b.inside.keys.keys c.b.inside.values.items c.loop-at.at c.index-right-at.result c.index-in-loop-at.result.now m c.b.invariant.same_length right c.index-in-loop-at.ensures)
+    (c.index-left-at.result, data_of c.index.result.now) (
+      c.index-right-at.result,
+      data_of c.index-in-loop-at.result.now,
+    )
+    (ap (λ (x : Table). slice_get x.pairs c.loop-at.at) (sym c.a.view_is)
+    ∙ row c.a.inside.keys.keys c.a.inside.values.items c.loop-at.at c.index-left-at.result c.index.result.now n
+    c.a.invariant.same_length left c.index.ensures)
+    (ap (λ (x : Table). slice_get x.pairs c.loop-at.at) (sym c.b.view_is)
+    ∙ row c.b.inside.keys.keys c.b.inside.values.items c.loop-at.at c.index-right-at.result
+    c.index-in-loop-at.result.now m c.b.invariant.same_length right c.index-in-loop-at.ensures)
     c.if-not-is.ensures c.if-not-same.ensures
 
 pub same_columns-returns : goal.same_columns-returns

@@ -8,11 +8,13 @@ use Rattle.dp_value.proofs.IntTextLemmas.{form-IsAscii, parsed_int}
 use Rattle.dp_value.proofs.keys_of.int_of_text.Goals as goal
 
 -- bytes that are text are read as text
-never : {E : Type 0} (P : E → Type 0) {bs : List ℕ} (r : Result (Bor (List ℕ)) E) → MatchResult r (λ s. (s.now ≡ bs) × IsUtf8 bs) (λ e. ¬ (IsUtf8 bs) × P e) → false ≡ is_ok r → IsUtf8 bs → ⊥
+never : {E : Type 0} (P : E → Type 0) {bs : List ℕ} (r : Result (Bor (List ℕ)) E)
+    → MatchResult r (λ s. (s.now ≡ bs) × IsUtf8 bs) (λ e. ¬ (IsUtf8 bs) × P e) → false ≡ is_ok r → IsUtf8 bs → ⊥
 never P (Ok s) says h utf8 = cc
 never P (Err e) says h utf8 = says.0 utf8
 
-same_text : {E : Type 0} (P : E → Type 0) {bs : List ℕ} (r : Result (Bor (List ℕ)) E) (t : Bor (List ℕ)) → MatchResult r (λ s. (s.now ≡ bs) × IsUtf8 bs) (λ e. ¬ (IsUtf8 bs) × P e) → Some t ≡ result_ok r → t.now ≡ bs
+same_text : {E : Type 0} (P : E → Type 0) {bs : List ℕ} (r : Result (Bor (List ℕ)) E) (t : Bor (List ℕ))
+    → MatchResult r (λ s. (s.now ≡ bs) × IsUtf8 bs) (λ e. ¬ (IsUtf8 bs) × P e) → Some t ≡ result_ok r → t.now ≡ bs
 same_text P (Ok s) t says h = ap (λ (x : Bor (List ℕ)). x.now) (same_Some t s h) ∙ says.0
 same_text P (Err e) t says h = cc
 
@@ -24,4 +26,6 @@ returns-in_err-text c =
 pub returns : goal.returns
 returns c =
     let text = same_text _ c.from_utf8.result c.in_ok-text.text c.from_utf8.ensures.cases c.in_ok-text.ensures.value in
-    c.ok-2.ensures.value ∙ parsed_int c.args.bytes.now c.parse.result (sym c.if-not-has_int_form.ensures) (rw text at c.parse.ensures.value.0)
+    c.ok-2.ensures.value
+    ∙ parsed_int c.args.bytes.now c.parse.result (sym c.if-not-has_int_form.ensures)
+    (rw text at c.parse.ensures.value.0)

@@ -4,4 +4,5 @@ use Rattle.dp_value.specs.Quoting.{in_quotes}
 use Rattle.dp_value.proofs.quotes.put_in_quotes.Given as goal
 
 abbrev pub invariant-loop-b : goal.invariant-loop-b
-invariant-loop-b l = l.fn.out.items ++ flat_map in_quotes l.bytes ≡ l.out.items ++ flat_map in_quotes (drop l.b-index l.bytes)
+invariant-loop-b l =
+    l.fn.out.items ++ flat_map in_quotes l.bytes ≡ l.out.items ++ flat_map in_quotes (drop l.b-index l.bytes)

@@ -7,12 +7,14 @@ use Rattle.dp_view.proofs.name_reader.keys.Goals as goal
 
 pub returns-in_default : goal.returns-in_default
 returns-in_default c =
-    sym (takes_none index_at (length c.args.bytes.now) c.loop.counter c.loop.rest.now c.loop.keys.items c.loop-test.true (sym c.in_default.ensures)) ∙ c.loop.invariant
+    sym (takes_none index_at (length c.args.bytes.now) c.loop.counter c.loop.rest.now c.loop.keys.items c.loop-test.true
+    (sym c.in_default.ensures)) ∙ c.loop.invariant
 
 pub returns-in_default-found : goal.returns-in_default-found
 returns-in_default-found c =
     let after = c.in-Some.after.now in
-    sym (takes_to index_at (length c.args.bytes.now) c.loop.counter c.loop.rest.now c.loop.keys.items after c.loop-test.true
+    sym (takes_to index_at (length c.args.bytes.now) c.loop.counter c.loop.rest.now c.loop.keys.items after
+    c.loop-test.true
     (sym c.in-Some.ensures ∙ ap (λ o. Some (option_map key_meant o, after)) c.in_default-found.is)) ∙ c.loop.invariant
 
 pub loop-preserved : goal.loop-preserved
@@ -24,4 +26,5 @@ loop-preserved c =
 
 pub returns : goal.returns
 returns c =
-    sym (takes_all index_at (length c.args.bytes.now) c.loop.counter c.loop.rest.now c.loop.keys.items c.loop-test.false) ∙ c.loop.invariant
+    sym (takes_all index_at (length c.args.bytes.now) c.loop.counter c.loop.rest.now c.loop.keys.items
+    c.loop-test.false) ∙ c.loop.invariant

@@ -4,4 +4,5 @@ use Rattle.dp_view.specs.inner.Taking.{items_taken, text_taken}
 use Rattle.dp_view.proofs.name_reader.text.Given as goal
 
 abbrev pub invariant-loop : goal.invariant-loop
-invariant-loop l = l.text.items ++ items_taken (byte_at l.quote) (length l.bytes - l.counter) l.rest ≡ text_taken l.quote l.bytes
+invariant-loop l =
+    l.text.items ++ items_taken (byte_at l.quote) (length l.bytes - l.counter) l.rest ≡ text_taken l.quote l.bytes

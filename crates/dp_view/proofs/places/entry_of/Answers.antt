@@ -10,4 +10,5 @@ use Rattle.dp_view.proofs.places.entry_of.Goals as goal
 pub returns-in-Array : goal.returns-in-Array
 returns-in-Array c =
     let key = c.args.key.now in
-    c.get.ensures ∙ ap (find_value (key_eq key)) (sym (pairs_of-entries_of c.in-Array.array.pairs)) ∙ ap (λ (v : Value). entry_of key (data_of v)) (sym c.in-Array.is)
+    c.get.ensures ∙ ap (find_value (key_eq key)) (sym (pairs_of-entries_of c.in-Array.array.pairs))
+    ∙ ap (λ (v : Value). entry_of key (data_of v)) (sym c.in-Array.is)

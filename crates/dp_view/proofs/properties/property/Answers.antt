@@ -9,4 +9,5 @@ returns-clause-paths c =
     let path = c.args.path.now in
     let p = c.args.p.now in
     subst (HasPaths c.args.state.now c.args.level c.args.id path p) (sym c.in_ok-property_at.ensures.made)
-    (has_paths c.args.state.now c.args.level c.args.id path p (data_of c.in_ok-value.value.now) c.in_ok-value.ensures c.in_ok-property_at.ensures.keyed)
+    (has_paths c.args.state.now c.args.level c.args.id path p
+    (data_of c.in_ok-value.value.now) c.in_ok-value.ensures c.in_ok-property_at.ensures.keyed)

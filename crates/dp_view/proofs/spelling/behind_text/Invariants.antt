@@ -4,4 +4,6 @@ use Rattle.dp_view.specs.inner.Taking.{behind_items}
 use Rattle.dp_view.proofs.spelling.behind_text.Given as goal
 
 abbrev pub invariant-loop : goal.invariant-loop
-invariant-loop l = behind_items (byte_at l.quote) (length l.bytes - l.counter) l.rest ≡ behind_items (byte_at l.quote) (length l.bytes) l.bytes
+invariant-loop l =
+    behind_items (byte_at l.quote) (length l.bytes - l.counter) l.rest ≡ behind_items (byte_at l.quote)
+    (length l.bytes) l.bytes

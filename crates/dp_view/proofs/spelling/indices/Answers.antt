@@ -9,7 +9,8 @@ use Rattle.dp_view.proofs.spelling.indices.Goals as goal
 pub returns-in_default : goal.returns-in_default
 returns-in_default c =
     let all = c.args.bytes.now in
-    sym (keys_none all (sym c.loop.invariant ∙ skips_none index_at (length all) c.loop.counter c.loop.rest.now c.loop-test.true (sym c.in_default.ensures)))
+    sym (keys_none all (sym c.loop.invariant
+    ∙ skips_none index_at (length all) c.loop.counter c.loop.rest.now c.loop-test.true (sym c.in_default.ensures)))
 
 pub returns-in_default-found : goal.returns-in_default-found
 returns-in_default-found c =
@@ -18,7 +19,8 @@ returns-in_default-found c =
     let none : Option (List Key) = None in
     ap (λ b. cond b (Some (keys_taken all)) none) c.is_empty.ensures
     ∙ sym (keys_end all after (sym c.loop.invariant
-    ∙ skips_to index_at (length all) c.loop.counter c.loop.rest.now after c.loop-test.true (sym c.in-Some.ensures ∙ ap (λ o. Some (option_map key_meant o, after)) c.in_default-found.is)))
+    ∙ skips_to index_at (length all) c.loop.counter c.loop.rest.now after c.loop-test.true
+    (sym c.in-Some.ensures ∙ ap (λ o. Some (option_map key_meant o, after)) c.in_default-found.is)))
 
 pub loop-preserved : goal.loop-preserved
 loop-preserved c =
@@ -32,4 +34,5 @@ returns c =
     let all = c.args.bytes.now in
     let none : Option (List Key) = None in
     ap (λ b. cond b (Some (keys_taken all)) none) c.is_empty-2.ensures
-    ∙ sym (keys_end all c.loop.rest.now (sym c.loop.invariant ∙ skips_all index_at (length all) c.loop.counter c.loop.rest.now c.loop-test.false))
+    ∙ sym (keys_end all c.loop.rest.now (sym c.loop.invariant
+    ∙ skips_all index_at (length all) c.loop.counter c.loop.rest.now c.loop-test.false))

@@ -4,4 +4,5 @@ use Rattle.dp_view.specs.inner.Taking.{behind_items}
 use Rattle.dp_view.proofs.spelling.indices.Given as goal
 
 abbrev pub invariant-loop : goal.invariant-loop
-invariant-loop l = behind_items index_at (length l.bytes - l.counter) l.rest ≡ behind_items index_at (length l.bytes) l.bytes
+invariant-loop l =
+    behind_items index_at (length l.bytes - l.counter) l.rest ≡ behind_items index_at (length l.bytes) l.bytes

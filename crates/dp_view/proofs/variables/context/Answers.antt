@@ -8,4 +8,5 @@ returns-clause-paths c =
     let state = c.args.state.now in
     let p = c.args.p.now in
     subst (AreOfVariables state c.args.level c.args.id p) (sym c.in_ok-all_variables.ensures.made)
-    (of_variables state c.args.level c.args.id p c.in_ok-variables.variables.now c.in_ok-variables.ensures c.all_variables.ensures.distinct c.in_ok-all_variables.ensures.keyed)
+    (of_variables state c.args.level c.args.id p c.in_ok-variables.variables.now c.in_ok-variables.ensures
+    c.all_variables.ensures.distinct c.in_ok-all_variables.ensures.keyed)

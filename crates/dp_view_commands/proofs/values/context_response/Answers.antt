@@ -23,9 +23,13 @@ returns-in-Ok c =
     let number = c.args.to.now.id in
     let room = c.context_room-room.result in
     let made : limited_context state c.args.level id (paging c.args.features.now None 0) room ≡ Ok c.in-Ok.shown =
-    subst (λ (p : Paging). limited_context state c.args.level id p room ≡ Ok c.in-Ok.shown) c.paging-p.ensures c.in-Ok.ensures.answer in
-    made_answers properties_size (part id) command number room (around command number (context_attributes id)) c.context_room-room.ensures (filled_is command number (context_attributes id))
-    (context_at state c.args.level id (paging c.args.features.now None 0)) c.in-Ok.shown c.context_filled.result made c.context_filled.ensures
+    subst (λ (p : Paging). limited_context state c.args.level id p room ≡ Ok c.in-Ok.shown) c.paging-p.ensures
+    c.in-Ok.ensures.answer in
+    made_answers properties_size (part id) command number room
+    (around command number (context_attributes id)) c.context_room-room.ensures
+    (filled_is command number (context_attributes id))
+    (context_at state c.args.level id (paging c.args.features.now None 0)) c.in-Ok.shown c.context_filled.result made
+    c.context_filled.ensures
 
 pub returns-in-Err : goal.returns-in-Err
 returns-in-Err c =
@@ -34,7 +38,11 @@ returns-in-Err c =
     let command = c.args.to.now.command in
     let number = c.args.to.now.id in
     let room = c.context_room-room.result in
-    let refused : Refuses c.in-Err.why (limited_context state c.args.level id (paging c.args.features.now None 0) room) =
-    subst (λ (p : Paging). Refuses c.in-Err.why (limited_context state c.args.level id p room)) c.paging-p.ensures c.in-Err.ensures.answer in
-    refused_answers properties_size (part id) command number room (around command number (context_attributes id)) c.context_room-room.ensures (filled_is command number (context_attributes id))
+    let refused : Refuses c.in-Err.why (limited_context state c.args.level id (paging c.args.features.now None 0) room)
+    =
+    subst (λ (p : Paging). Refuses c.in-Err.why (limited_context state c.args.level id p room)) c.paging-p.ensures
+    c.in-Err.ensures.answer in
+    refused_answers properties_size (part id) command number room
+    (around command number (context_attributes id)) c.context_room-room.ensures
+    (filled_is command number (context_attributes id))
     (context_at state c.args.level id (paging c.args.features.now None 0)) c.in-Err.why refused

@@ -5,4 +5,5 @@ use Rattle.dp_view_limits.proofs.measures.after_variables.Given as goal
 
 abbrev pub invariant-loop-at : goal.invariant-loop-at
 invariant-loop-at l =
-    l.rest + sum_by (variable_size l.p l.globals) l.variables ≡ l.left + sum_by (variable_size l.p l.globals) (drop l.at l.variables)
+    l.rest + sum_by (variable_size l.p l.globals) l.variables ≡ l.left + sum_by (variable_size l.p l.globals)
+    (drop l.at l.variables)

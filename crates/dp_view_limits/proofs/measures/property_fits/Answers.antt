@@ -9,4 +9,5 @@ pub returns : goal.returns
 returns c =
     let rest = c.after_path.result in
     c.is_some.ensures
-    ∙ fits_is c.args.most _ rest (subst (λ n. Leaves c.args.most n rest) (sym (path_is c.args.path.now c.args.p.now (data_of c.args.value.now))) c.after_path.ensures)
+    ∙ fits_is c.args.most _ rest (subst (λ n. Leaves c.args.most n rest)
+    (sym (path_is c.args.path.now c.args.p.now (data_of c.args.value.now))) c.after_path.ensures)

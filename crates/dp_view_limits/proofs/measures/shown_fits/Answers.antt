@@ -9,4 +9,5 @@ pub returns : goal.returns
 returns c =
     let rest = c.after_shown.result in
     c.is_some.ensures
-    ∙ fits_is c.args.most _ rest (subst (λ n. Leaves c.args.most n rest) (sym (shown_is c.args.p.now (data_of c.args.value.now))) c.after_shown.ensures)
+    ∙ fits_is c.args.most _ rest (subst (λ n. Leaves c.args.most n rest)
+    (sym (shown_is c.args.p.now (data_of c.args.value.now))) c.after_shown.ensures)

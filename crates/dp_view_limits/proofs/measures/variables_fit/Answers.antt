@@ -8,4 +8,5 @@ pub returns : goal.returns
 returns c =
     let rest = c.after_variables.result in
     c.is_some.ensures
-    ∙ fits_is c.args.most _ rest (subst (λ n. Leaves c.args.most n rest) (sym (variables_are c.args.p.now c.args.globals.now c.args.variables.now)) c.after_variables.ensures)
+    ∙ fits_is c.args.most _ rest (subst (λ n. Leaves c.args.most n rest)
+    (sym (variables_are c.args.p.now c.args.globals.now c.args.variables.now)) c.after_variables.ensures)

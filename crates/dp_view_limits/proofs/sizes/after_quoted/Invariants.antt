@@ -5,4 +5,5 @@ use Rattle.dp_view_limits.specs.inner.Sizes.{text_size}
 use Rattle.dp_view_limits.proofs.sizes.after_quoted.Given as goal
 
 abbrev pub invariant-loop-b : goal.invariant-loop-b
-invariant-loop-b l = l.rest + text_size (flat_map in_quotes l.bytes) ≡ l.left + text_size (flat_map in_quotes (drop l.b-index l.bytes))
+invariant-loop-b l =
+    l.rest + text_size (flat_map in_quotes l.bytes) ≡ l.left + text_size (flat_map in_quotes (drop l.b-index l.bytes))

@@ -16,6 +16,7 @@ invariant_of-self-2 c =
     let longer = ap length pushed in
     let sum = length-append held (c.args.breakpoint ∷ []) in
     let free = c.in_ok-make_room.ensures.room in (
-      subst (λ (l : List Breakpoint). IsTable (table l (next + 1))) (sym pushed) (new_table held next c.args.breakpoint c.self.invariant.0 room below numbered c.requires.sound),
+      subst (λ (l : List Breakpoint). IsTable (table l (next + 1))) (sym pushed)
+          (new_table held next c.args.breakpoint c.self.invariant.0 room below numbered c.requires.sound),
       omega arith,
     )

@@ -19,10 +19,12 @@ invariant_of-self-2 c =
     in
     let same = with_items_is c.self.inside.marks c.mark.new.marks (c.mark.auto.marks ∙ c.as_mut_slice.ensures.len) in
     let room : length held ≤ length c.mark.new.marks =
-    subst (λ (n : ℕ). length held ≤ n) (sym (c.mark.auto.marks ∙ ap length c.as_mut_slice.ensures.value)) c.self.invariant.1
+    subst (λ (n : ℕ). length held ≤ n) (sym (c.mark.auto.marks ∙ ap length c.as_mut_slice.ensures.value))
+    c.self.invariant.1
     in
     let long = ap length same in (
-      subst (λ (l : List Breakpoint). IsTable (table l c.self.inside.next)) (sym c.settle.ensures.left) (settled_table marks held c.self.inside.next c.self.invariant.0),
+      subst (λ (l : List Breakpoint). IsTable (table l c.self.inside.next)) (sym c.settle.ensures.left)
+          (settled_table marks held c.self.inside.next c.self.invariant.0),
       omega arith,
     )
 
@@ -32,9 +34,11 @@ returns-clause-held c =
     let at : Moment × State = (c.args.moment.now, c.args.state.now) in
     let same = with_items_is c.self.inside.marks c.mark.new.marks (c.mark.auto.marks ∙ c.as_mut_slice.ensures.len) in
     let are = ap (take (length held)) (c.as_slice-2.ensures.value ∙ same)
-    ∙ subst (λ (l : List Breakpoint). take (length l) c.mark.new.marks ≡ map (hits c.args.bundle.now at) l) c.as_slice.ensures.value c.in_ok-mark.ensures.marked in
+    ∙ subst (λ (l : List Breakpoint). take (length l) c.mark.new.marks ≡ map (hits c.args.bundle.now at) l)
+    c.as_slice.ensures.value c.in_ok-mark.ensures.marked in
     let left = c.settle.ensures.left ∙ settled-is c.args.bundle.now at c.as_slice-2.result.now held are in
-    subst (λ (t : Table). table c.settle.new.held.items c.self.inside.next ≡ table (held_after c.args.bundle.now (at ∷ []) t.held) t.next) c.self.view_is
+    subst (λ (t : Table). table c.settle.new.held.items c.self.inside.next ≡ table
+    (held_after c.args.bundle.now (at ∷ []) t.held) t.next) c.self.view_is
     (ap (λ (l : List Breakpoint). table l c.self.inside.next) left)
 
 pub returns-clause-stop : goal.returns-clause-stop
@@ -43,6 +47,7 @@ returns-clause-stop c =
     let at : Moment × State = (c.args.moment.now, c.args.state.now) in
     let same = with_items_is c.self.inside.marks c.mark.new.marks (c.mark.auto.marks ∙ c.as_mut_slice.ensures.len) in
     let are = ap (take (length held)) (c.as_slice-2.ensures.value ∙ same)
-    ∙ subst (λ (l : List Breakpoint). take (length l) c.mark.new.marks ≡ map (hits c.args.bundle.now at) l) c.as_slice.ensures.value c.in_ok-mark.ensures.marked in
+    ∙ subst (λ (l : List Breakpoint). take (length l) c.mark.new.marks ≡ map (hits c.args.bundle.now at) l)
+    c.as_slice.ensures.value c.in_ok-mark.ensures.marked in
     subst (λ (t : Table). c.settle.result ≡ one_stops c.args.bundle.now t.held [] at) c.self.view_is
     (c.settle.ensures.stops ∙ some-is c.args.bundle.now at c.as_slice-2.result.now held are)

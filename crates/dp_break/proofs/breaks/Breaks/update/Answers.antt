@@ -13,43 +13,59 @@ use Rattle.dp_break.proofs.breaks.Breaks.update.Goals as goal
 pub returns-in-None-clause-answer : goal.returns-in-None-clause-answer
 returns-in-None-clause-answer c =
     let held = c.self.inside.held.items in
-    let none = sym (c.place_of.ensures ∙ ap (λ (l : List Breakpoint). position (λ b. b.id == c.args.id) l) c.as_slice.ensures.value) ∙ c.in-None.is in
-    subst (λ (t : Table). Err (error.Code 205) ≡ answer_of (update_refusal c.args.bundle.now c.args.change (held_as t.held c.args.id))) c.self.view_is
+    let none = sym (c.place_of.ensures
+    ∙ ap (λ (l : List Breakpoint). position (λ b. b.id == c.args.id) l) c.as_slice.ensures.value) ∙ c.in-None.is in
+    subst (λ (t : Table). Err (error.Code 205) ≡ answer_of (update_refusal c.args.bundle.now c.args.change
+    (held_as t.held c.args.id))) c.self.view_is
     (missing_answer c.args.id held c.self.inside.next c.args.bundle.now c.args.change none)
 
 pub returns-in-Some-refused_change-clause-answer : goal.returns-in-Some-refused_change-clause-answer
 returns-in-Some-refused_change-clause-answer c =
     let held = c.self.inside.held.items in
-    let there = sym (c.place_of.ensures ∙ ap (λ (l : List Breakpoint). position (λ b. b.id == c.args.id) l) c.as_slice.ensures.value) ∙ c.in-Some.is in
+    let there = sym (c.place_of.ensures
+    ∙ ap (λ (l : List Breakpoint). position (λ b. b.id == c.args.id) l) c.as_slice.ensures.value) ∙ c.in-Some.is in
     ap answer_of (sym c.in-Some-refused_change.is ∙ c.refused_change.ensures)
-    ∙ subst (λ (t : Table). answer_of (change_refusal c.args.bundle.now c.args.change c.index_mut-breakpoint.result.now) ≡ answer_of (update_refusal c.args.bundle.now c.args.change (held_as t.held c.args.id))) c.self.view_is
-    (change_answer c.args.id held c.self.inside.next c.in-Some.at c.self.invariant.0 there c.args.bundle.now c.args.change c.index_mut-breakpoint.result.now c.index_mut-breakpoint.ensures.value)
+    ∙ subst (λ (t : Table). answer_of (change_refusal c.args.bundle.now c.args.change c.index_mut-breakpoint.result.now)
+    ≡ answer_of (update_refusal c.args.bundle.now c.args.change (held_as t.held c.args.id))) c.self.view_is
+    (change_answer c.args.id held c.self.inside.next c.in-Some.at c.self.invariant.0 there c.args.bundle.now
+    c.args.change c.index_mut-breakpoint.result.now c.index_mut-breakpoint.ensures.value)
 
 pub invariant_of-self-2 : goal.invariant_of-self-2
 invariant_of-self-2 c =
     let held = c.self.inside.held.items in
-    let there = sym (c.place_of.ensures ∙ ap (λ (l : List Breakpoint). position (λ b. b.id == c.args.id) l) c.as_slice.ensures.value) ∙ c.in-Some.is in
+    let there = sym (c.place_of.ensures
+    ∙ ap (λ (l : List Breakpoint). position (λ b. b.id == c.args.id) l) c.as_slice.ensures.value) ∙ c.in-Some.is in
     let b = c.index_mut-breakpoint.result.now in
-    let sound = changed_sound c.args.bundle.now c.args.change b (sym c.refused_change.ensures ∙ c.in-None-refused_change.is)
-    (sound_here c.args.id held c.self.inside.next c.in-Some.at c.self.invariant.0 there c.args.bundle.now c.args.change b c.index_mut-breakpoint.ensures.value) in
-    let long : length (set held c.in-Some.at c.change.new.self) ≡ length held = length-set held c.in-Some.at c.change.new.self in (
+    let sound = changed_sound c.args.bundle.now c.args.change b
+    (sym c.refused_change.ensures ∙ c.in-None-refused_change.is)
+    (sound_here c.args.id held c.self.inside.next c.in-Some.at c.self.invariant.0 there c.args.bundle.now c.args.change
+    b c.index_mut-breakpoint.ensures.value) in
+    let long : length (set held c.in-Some.at c.change.new.self) ≡ length held = length-set held c.in-Some.at
+    c.change.new.self in (
       subst (λ (x : Breakpoint). IsTable (table (set held c.in-Some.at x) c.self.inside.next)) (sym c.change.ensures)
-          (change_table c.args.id held c.self.inside.next c.in-Some.at c.self.invariant.0 there c.args.bundle.now c.args.change b c.index_mut-breakpoint.ensures.value sound),
+          (change_table c.args.id held c.self.inside.next c.in-Some.at c.self.invariant.0 there c.args.bundle.now
+          c.args.change b c.index_mut-breakpoint.ensures.value sound),
       (let most = c.self.invariant.1 in omega arith),
     )
 
 pub returns-clause-answer : goal.returns-clause-answer
 returns-clause-answer c =
     let held = c.self.inside.held.items in
-    let there = sym (c.place_of.ensures ∙ ap (λ (l : List Breakpoint). position (λ b. b.id == c.args.id) l) c.as_slice.ensures.value) ∙ c.in-Some.is in
+    let there = sym (c.place_of.ensures
+    ∙ ap (λ (l : List Breakpoint). position (λ b. b.id == c.args.id) l) c.as_slice.ensures.value) ∙ c.in-Some.is in
     ap answer_of (sym c.in-None-refused_change.is ∙ c.refused_change.ensures)
-    ∙ subst (λ (t : Table). answer_of (change_refusal c.args.bundle.now c.args.change c.index_mut-breakpoint.result.now) ≡ answer_of (update_refusal c.args.bundle.now c.args.change (held_as t.held c.args.id))) c.self.view_is
-    (change_answer c.args.id held c.self.inside.next c.in-Some.at c.self.invariant.0 there c.args.bundle.now c.args.change c.index_mut-breakpoint.result.now c.index_mut-breakpoint.ensures.value)
+    ∙ subst (λ (t : Table). answer_of (change_refusal c.args.bundle.now c.args.change c.index_mut-breakpoint.result.now)
+    ≡ answer_of (update_refusal c.args.bundle.now c.args.change (held_as t.held c.args.id))) c.self.view_is
+    (change_answer c.args.id held c.self.inside.next c.in-Some.at c.self.invariant.0 there c.args.bundle.now
+    c.args.change c.index_mut-breakpoint.result.now c.index_mut-breakpoint.ensures.value)
 
 pub returns-clause-changed : goal.returns-clause-changed
 returns-clause-changed c =
     let held = c.self.inside.held.items in
-    let there = sym (c.place_of.ensures ∙ ap (λ (l : List Breakpoint). position (λ b. b.id == c.args.id) l) c.as_slice.ensures.value) ∙ c.in-Some.is in
+    let there = sym (c.place_of.ensures
+    ∙ ap (λ (l : List Breakpoint). position (λ b. b.id == c.args.id) l) c.as_slice.ensures.value) ∙ c.in-Some.is in
     ap (λ (x : Breakpoint). table (set held c.in-Some.at x) c.self.inside.next) c.change.ensures
-    ∙ subst (λ (t : Table). table (set held c.in-Some.at (changed c.args.change c.index_mut-breakpoint.result.now)) c.self.inside.next ≡ with_change c.args.id c.args.change t) c.self.view_is
-    (change_left c.args.id held c.self.inside.next c.in-Some.at c.self.invariant.0 there c.args.bundle.now c.args.change c.index_mut-breakpoint.result.now c.index_mut-breakpoint.ensures.value)
+    ∙ subst (λ (t : Table). table (set held c.in-Some.at (changed c.args.change c.index_mut-breakpoint.result.now))
+    c.self.inside.next ≡ with_change c.args.id c.args.change t) c.self.view_is
+    (change_left c.args.id held c.self.inside.next c.in-Some.at c.self.invariant.0 there c.args.bundle.now c.args.change
+    c.index_mut-breakpoint.result.now c.index_mut-breakpoint.ensures.value)

@@ -14,8 +14,10 @@ returns-in-Ok c =
     let state = known s.bundle.now s.bound s.writes.items s.moment s.standing s.features s.stdout s.breaks in
     let command = c.args.to.now.command in
     let id = c.args.to.now.id in
-    let is = view_is state c.in_ok-program.program.now c.file.result command id c.args.request.now (c.in_ok-program.ensures.state ∙ ap program_of (sym c.self.view_is)) c.file.ensures in
-    rw (← c.self.view_is) (view_told state command id c.args.request.now c.in-Ok.response c.tell.result c.requires (is ∙ c.in-Ok.ensures.answer) c.tell.ensures)
+    let is = view_is state c.in_ok-program.program.now c.file.result command id c.args.request.now
+    (c.in_ok-program.ensures.state ∙ ap program_of (sym c.self.view_is)) c.file.ensures in
+    rw (← c.self.view_is) (view_told state command id c.args.request.now c.in-Ok.response c.tell.result c.requires
+    (is ∙ c.in-Ok.ensures.answer) c.tell.ensures)
 
 pub returns-in-Err-Code : goal.returns-in-Err-Code
 returns-in-Err-Code c =
@@ -24,7 +26,9 @@ returns-in-Err-Code c =
     let command = c.args.to.now.command in
     let id = c.args.to.now.id in
     let request = c.args.request.now in
-    let is = view_is state c.in_ok-program.program.now c.file.result command id request (c.in_ok-program.ensures.state ∙ ap program_of (sym c.self.view_is)) c.file.ensures in
-    let answer : view_response s.bundle.now c.file.result s.features c.in_ok-program.program.now command id request ≡ Err c.in-Err-Code.code = search rules in
+    let is = view_is state c.in_ok-program.program.now c.file.result command id request
+    (c.in_ok-program.ensures.state ∙ ap program_of (sym c.self.view_is)) c.file.ensures in
+    let answer : view_response s.bundle.now c.file.result s.features c.in_ok-program.program.now command id request ≡
+    Err c.in-Err-Code.code = search rules in
     rw (← c.self.view_is) (own_refused state state command id request c.in-Err-Code.code c.refuse.result
     (view_refused state command id request c.in-Err-Code.code c.requires (is ∙ answer)) refl c.refuse.ensures)

@@ -4,7 +4,9 @@ use Rattle.dp_expressions.specs.inner.Reading.{links_of, links_step, ladder, alo
 use Rattle.dp_expressions.proofs.grammar.Grammar.+ladder.Given as goal
 
 abbrev pub invariant-links_of-loop-turn : goal.invariant-links_of-loop-turn
-invariant-links_of-loop-turn g l = links_of (ladder l.more (alone l.self (below l.self))) l.rank l.fn.tokens ≡ until (links_step (ladder l.more (alone l.self (below l.self))) l.rank) (l._turn-end - l._turn) l.state l.tokens
+invariant-links_of-loop-turn g l =
+    links_of (ladder l.more (alone l.self (below l.self))) l.rank l.fn.tokens ≡ until
+    (links_step (ladder l.more (alone l.self (below l.self))) l.rank) (l._turn-end - l._turn) l.state l.tokens
 
 abbrev pub decreases-ladder : goal.decreases-ladder
 decreases-ladder g l = 4 * length l.ranks.now + 0

@@ -37,7 +37,11 @@ expression-returns-in-Bool g t c = rw (c.in-Bool.is, run-Bool) gives
 
 pub expression-returns-in-Number : goal.expression-returns-in-Number
 expression-returns-in-Number g t c =
-    let fits : SFits w64 c.in-Number.n = search rules in rw (c.in-Number.is, run-Number, to_z-of_z w64 c.in-Number.n fits) gives
+    let fits : SFits w64 c.in-Number.n = search rules in rw (
+      c.in-Number.is,
+      run-Number,
+      to_z-of_z w64 c.in-Number.n fits,
+    ) gives
 
 pub expression-returns-in-Text : goal.expression-returns-in-Text
 expression-returns-in-Text g t c = rw (c.in-Text.is, run-Text) (at_once (c.text_value.ensures _))
@@ -61,7 +65,8 @@ pub expression-returns-in-Isset : goal.expression-returns-in-Isset
 expression-returns-in-Isset g t c = rw (c.in-Isset.is, run-Isset) (rw c.as_slice-in-Isset.ensures at c.isset.ensures)
 
 pub expression-returns-in-Index : goal.expression-returns-in-Index
-expression-returns-in-Index g t c = rw (c.in-Index.is, run-Index) (rw (c.as_ref.ensures, c.as_slice-in-Index.ensures) at c.index.ensures)
+expression-returns-in-Index g t c =
+    rw (c.in-Index.is, run-Index) (rw (c.as_ref.ensures, c.as_slice-in-Index.ensures) at c.index.ensures)
 
 pub expression-returns-in-Unary : goal.expression-returns-in-Unary
 expression-returns-in-Unary g t c =
@@ -71,24 +76,29 @@ pub expression-returns-in-Step : goal.expression-returns-in-Step
 expression-returns-in-Step g t c = rw (c.in-Step.is, run-Step) c.step.ensures
 
 pub expression-returns-in-Chain : goal.expression-returns-in-Chain
-expression-returns-in-Chain g t c = rw (c.in-Chain.is, run-Chain) (rw (c.as_ref-in-Chain.ensures, c.as_slice-in-Chain.ensures) at c.chain.ensures)
+expression-returns-in-Chain g t c =
+    rw (c.in-Chain.is, run-Chain) (rw (c.as_ref-in-Chain.ensures, c.as_slice-in-Chain.ensures) at c.chain.ensures)
 
 pub expression-returns-in-Coalesce : goal.expression-returns-in-Coalesce
 expression-returns-in-Coalesce g t c =
-    rw (c.in-Coalesce.is, run-Coalesce) (rw (c.as_ref-in-Coalesce.ensures, c.as_ref-in-Coalesce-2.ensures) at c.coalesce.ensures)
+    rw (c.in-Coalesce.is, run-Coalesce) (rw (c.as_ref-in-Coalesce.ensures, c.as_ref-in-Coalesce-2.ensures) at
+    c.coalesce.ensures)
 
 pub expression-returns-in-Conditional : goal.expression-returns-in-Conditional
 expression-returns-in-Conditional g t c =
-    rw (c.in-Conditional.is, run-Conditional) (rw (c.as_ref-in-Conditional.ensures, c.as_ref-in-Conditional-2.ensures) at c.conditional.ensures)
+    rw (c.in-Conditional.is, run-Conditional) (rw (c.as_ref-in-Conditional.ensures, c.as_ref-in-Conditional-2.ensures)
+    at c.conditional.ensures)
 
 pub expression-returns-in-Include : goal.expression-returns-in-Include
-expression-returns-in-Include g t c = rw (c.in-Include.is, run-Include) (rw c.as_ref-in-Include.ensures at c.inclusion.ensures)
+expression-returns-in-Include g t c =
+    rw (c.in-Include.is, run-Include) (rw c.as_ref-in-Include.ensures at c.inclusion.ensures)
 
 pub expression-returns-in-Assign : goal.expression-returns-in-Assign
 expression-returns-in-Assign g t c = rw (c.in-Assign.is, run-Assign) (rw c.as_ref-in-Assign.ensures at c.assign.ensures)
 
 pub expression-returns-in-Compound : goal.expression-returns-in-Compound
-expression-returns-in-Compound g t c = rw (c.in-Compound.is, run-Compound) (rw c.as_ref-in-Compound.ensures at c.compound.ensures)
+expression-returns-in-Compound g t c =
+    rw (c.in-Compound.is, run-Compound) (rw c.as_ref-in-Compound.ensures at c.compound.ensures)
 
 pub expression-returns-in-CoalesceAssign : goal.expression-returns-in-CoalesceAssign
 expression-returns-in-CoalesceAssign g t c =
@@ -98,7 +108,8 @@ pub expression-returns-in-Push : goal.expression-returns-in-Push
 expression-returns-in-Push g t c = rw (c.in-Push.is, run-Push) (rw c.as_ref-in-Push.ensures at c.assign-in-Push.ensures)
 
 pub found-returns-in-Index : goal.found-returns-in-Index
-found-returns-in-Index g t c = rw (c.in-Index.is, run-Index) (rw (c.as_ref.ensures, c.as_slice.ensures) at c.index.ensures)
+found-returns-in-Index g t c =
+    rw (c.in-Index.is, run-Index) (rw (c.as_ref.ensures, c.as_slice.ensures) at c.index.ensures)
 
 pub found-returns-in_default : goal.found-returns-in_default
 found-returns-in_default g t c = rw (found-plain c.args.e.now c.in_default.not-Index) c.expression.ensures
@@ -108,7 +119,8 @@ values-loop-e-init g t c = λ x u e. values-first _ _ _ _ x u (rw c.new-values.e
 
 pub values-returns-in_err-expression : goal.values-returns-in_err-expression
 values-returns-in_err-expression g t c =
-    exits _ _ c.from_residual.ensures.1 (c.loop-e.invariant _ _ (rw (front _ c.loop-e.e-index c.e-item.result c.loop-e-test.true c.e-item.is)
+    exits _ _ c.from_residual.ensures.1 (c.loop-e.invariant _ _
+    (rw (front _ c.loop-e.e-index c.e-item.result c.loop-e-test.true c.e-item.is)
     (values-break _ _ _ _ _ _ _ _ c.in_err-expression.ensures)))
 
 pub values-loop-e-preserved : goal.values-loop-e-preserved
@@ -118,7 +130,8 @@ values-loop-e-preserved g t c =
 
 pub values-returns : goal.values-returns
 values-returns g t c =
-    c.loop-e.invariant _ _ (rw (drop_of_length-le c.args.all.now c.loop-e-test.false, c.of.ensures) (values-all _ (goes_by c.args.self.now) _ _))
+    c.loop-e.invariant _ _ (rw (drop_of_length-le c.args.all.now c.loop-e-test.false, c.of.ensures)
+    (values-all _ (goes_by c.args.self.now) _ _))
 
 pub inclusion-returns-in_err-value : goal.inclusion-returns-in_err-value
 inclusion-returns-in_err-value g t c = exits _ _ c.from_residual.ensures.1 (breaks_off _ c.in_err-value.ensures)
@@ -128,7 +141,12 @@ inclusion-returns g t c = goes_on _ c.in_ok-value.ensures c.include-answer.ensur
 
 pub index-returns-in_err-value-in-Some : goal.index-returns-in_err-value-in-Some
 index-returns-in_err-value-in-Some g t c =
-    exits _ _ c.from_residual.ensures.1 (rw (c.in-Some.ensures.base_is, c.in-Some.ensures.indices_are, run-Variable, base-plain) (goes_on _ gives
+    exits _ _ c.from_residual.ensures.1 (rw (
+      c.in-Some.ensures.base_is,
+      c.in-Some.ensures.indices_are,
+      run-Variable,
+      base-plain,
+    ) (goes_on _ gives
     (joined_off _ _ _ c.in_err-value-in-Some.ensures)))
 
 pub index-returns-in_ok-value-in-Some : goal.index-returns-in_ok-value-in-Some
@@ -137,7 +155,8 @@ index-returns-in_ok-value-in-Some g t c =
     (joined_on _ _ _ c.in_ok-value-in-Some.ensures c.under.ensures))
 
 pub index-returns-in_err-value-in-None : goal.index-returns-in_err-value-in-None
-index-returns-in_err-value-in-None g t c = exits _ _ c.from_residual-in_err-value-in-None.ensures.1 (breaks_off _ c.in_err-value-in-None.ensures)
+index-returns-in_err-value-in-None g t c =
+    exits _ _ c.from_residual-in_err-value-in-None.ensures.1 (breaks_off _ c.in_err-value-in-None.ensures)
 
 pub index-returns-in_ok-value-in-None : goal.index-returns-in_ok-value-in-None
 index-returns-in_ok-value-in-None g t c = goes_on _ c.in_ok-value-in-None.ensures c.under-in-None.ensures
@@ -150,7 +169,11 @@ index-variable_entry-requires g t c =
     )
 
 pub index-under-requires : goal.index-under-requires
-index-under-requires g t c = λ κs h. (omega (arith, ap (λ (es : List Expression). most nesting es) c.in-Some.ensures.indices_are, c.decreases), h)
+index-under-requires g t c =
+    λ κs h. (
+      omega (arith, ap (λ (es : List Expression). most nesting es) c.in-Some.ensures.indices_are, c.decreases),
+      h,
+    )
 
 pub variable_entry-returns-in_err-at : goal.variable_entry-returns-in_err-at
 variable_entry-returns-in_err-at g t c = exits _ _ c.from_residual.ensures.1 (breaks_off _ c.in_err-at.ensures)
@@ -158,7 +181,8 @@ variable_entry-returns-in_err-at g t c = exits _ _ c.from_residual.ensures.1 (br
 pub variable_entry-returns : goal.variable_entry-returns
 variable_entry-returns g t c =
     reads-in-place (g.O.Outside.rules c.args.self.now.outside.now)
-    (goes_by c.args.self.now) (entries_by c.args.reading) c.args.name.now c.args.e.now c.requires c.args.state.now _ _ _ c.in_ok-at.ensures
+    (goes_by c.args.self.now) (entries_by c.args.reading) c.args.name.now c.args.e.now c.requires c.args.state.now _ _ _
+    c.in_ok-at.ensures
     (at_once c.entry_in_place-answer.ensures)
 
 pub base-returns-in-Plain : goal.base-returns-in-Plain
@@ -169,8 +193,10 @@ base-returns-in-Found g t c = rw c.in-Found.is c.found.ensures
 
 pub under-returns-in_err-value : goal.under-returns-in_err-value
 under-returns-in_err-value g t c =
-    exits _ _ c.from_residual.ensures.1 (c.loop-e.invariant _ _ (rw (front _ c.loop-e.e-index c.e-item.result c.loop-e-test.true c.e-item.is)
-    (joined_off _ _ _ (then_on c.expression-at.ensures (rw (sym c.in_err-value.ensures) at c.then_entry-next.ensures)))))
+    exits _ _ c.from_residual.ensures.1 (c.loop-e.invariant _ _
+    (rw (front _ c.loop-e.e-index c.e-item.result c.loop-e-test.true c.e-item.is)
+    (joined_off _ _ _ (then_on c.expression-at.ensures (rw (sym c.in_err-value.ensures) at
+    c.then_entry-next.ensures)))))
 
 pub under-loop-e-preserved : goal.under-loop-e-preserved
 under-loop-e-preserved g t c =
@@ -183,18 +209,21 @@ under-returns g t c = c.loop-e.invariant _ _ (rw (drop_of_length-le c.args.indic
 pub array-returns-in_err-array : goal.array-returns-in_err-array
 array-returns-in_err-array g t c =
     exits _ _ c.from_residual.ensures.1 (c.loop-item.invariant _ _ (rw
-    (front _ c.loop-item.item-index c.item-item.result c.loop-item-test.true c.item-item.is) (breaks_off _ c.in_err-array.ensures)))
+    (front _ c.loop-item.item-index c.item-item.result c.loop-item-test.true c.item-item.is)
+    (breaks_off _ c.in_err-array.ensures)))
 
 pub array-loop-item-preserved : goal.array-loop-item-preserved
 array-loop-item-preserved g t c =
-    λ x u e. c.loop-item.invariant x u (rw (front _ c.loop-item.item-index c.item-item.result c.loop-item-test.true c.item-item.is)
+    λ x u e. c.loop-item.invariant x u (rw (front _ c.loop-item.item-index c.item-item.result c.loop-item-test.true
+    c.item-item.is)
     (goes_on _ c.in_ok-array.ensures e))
 
 pub array-returns : goal.array-returns
 array-returns g t c = c.loop-item.invariant _ _ (rw (drop_of_length-le c.args.items.now c.loop-item-test.false) gives)
 
 pub item-returns-in-None : goal.item-returns-in-None
-item-returns-in-None g t c = rw (run-item-None c.args.item.now c.in-None.is) (then_on c.expression.ensures c.then_pushed.ensures)
+item-returns-in-None g t c =
+    rw (run-item-None c.args.item.now c.in-None.is) (then_on c.expression.ensures c.then_pushed.ensures)
 
 pub item-returns-in-Some : goal.item-returns-in-Some
 item-returns-in-Some g t c = rw (run-item-Some c.args.item.now _ c.in-Some.is) c.keyed.ensures
@@ -215,11 +244,13 @@ chain-returns g t c = goes_on _ c.in_ok-value.ensures c.links.ensures
 pub links-returns-in_err-value : goal.links-returns-in_err-value
 links-returns-in_err-value g t c =
     exits _ _ c.from_residual.ensures.1 (c.loop-link.invariant _ _ (rw
-    (front _ c.loop-link.link-index c.link-item.result c.loop-link-test.true c.link-item.is) (breaks_off _ (rw (sym c.in_err-value.ensures) at c.link-next.ensures))))
+    (front _ c.loop-link.link-index c.link-item.result c.loop-link-test.true c.link-item.is)
+    (breaks_off _ (rw (sym c.in_err-value.ensures) at c.link-next.ensures))))
 
 pub links-loop-link-preserved : goal.links-loop-link-preserved
 links-loop-link-preserved g t c =
-    λ x u e. c.loop-link.invariant x u (rw (front _ c.loop-link.link-index c.link-item.result c.loop-link-test.true c.link-item.is)
+    λ x u e. c.loop-link.invariant x u (rw (front _ c.loop-link.link-index c.link-item.result c.loop-link-test.true
+    c.link-item.is)
     (goes_on _ (rw (sym c.in_ok-value.ensures) at c.link-next.ensures) e))
 
 pub links-returns : goal.links-returns
@@ -230,10 +261,12 @@ link-returns-then-truthy g t c = rw (run-link, c.in-Or.is, sym c.truthy.ensures 
 
 pub link-returns-else-truthy : goal.link-returns-else-truthy
 link-returns-else-truthy g t c =
-    rw (run-link, c.in-Or.is, sym c.truthy.ensures ∙ c.if-truthy.false) (then_on c.expression.ensures (c.then_truth.ensures _))
+    rw (run-link, c.in-Or.is, sym c.truthy.ensures ∙ c.if-truthy.false)
+    (then_on c.expression.ensures (c.then_truth.ensures _))
 
 pub link-returns-then-not-truthy : goal.link-returns-then-not-truthy
-link-returns-then-not-truthy g t c = rw (run-link, c.in-And.is, sym c.truthy-in-And.ensures ∙ c.if-not-truthy.true) gives
+link-returns-then-not-truthy g t c =
+    rw (run-link, c.in-And.is, sym c.truthy-in-And.ensures ∙ c.if-not-truthy.true) gives
 
 pub link-returns-else-not-truthy : goal.link-returns-else-not-truthy
 link-returns-else-not-truthy g t c =
@@ -248,21 +281,25 @@ coalesce-returns-in_err-value g t c = exits _ _ c.from_residual.ensures.1 (break
 
 pub coalesce-returns-in-Some : goal.coalesce-returns-in-Some
 coalesce-returns-in-Some g t c =
-    let k = present-some _ _ (sym c.present.ensures ∙ c.in-Some.is) in goes_on _ c.in_ok-value.ensures (rw (k.0, k.1) gives)
+    let k = present-some _ _ (sym c.present.ensures ∙ c.in-Some.is) in goes_on _ c.in_ok-value.ensures
+    (rw (k.0, k.1) gives)
 
 pub coalesce-returns-in-None : goal.coalesce-returns-in-None
-coalesce-returns-in-None g t c = goes_on _ c.in_ok-value.ensures (rw (present-none _ (sym c.present.ensures ∙ c.in-None.is)) c.expression.ensures)
+coalesce-returns-in-None g t c =
+    goes_on _ c.in_ok-value.ensures (rw (present-none _ (sym c.present.ensures ∙ c.in-None.is)) c.expression.ensures)
 
 pub conditional-returns-in_err-value : goal.conditional-returns-in_err-value
 conditional-returns-in_err-value g t c = exits _ _ c.from_residual.ensures.1 (breaks_off _ c.in_err-value.ensures)
 
 pub conditional-returns-in-Some : goal.conditional-returns-in-Some
 conditional-returns-in-Some g t c =
-    let k = kept-some c.in_ok-value.value _ (sym c.kept.ensures ∙ c.in-Some.is) in goes_on _ c.in_ok-value.ensures (rw (k.0, k.1) c.chosen.ensures)
+    let k = kept-some c.in_ok-value.value _ (sym c.kept.ensures ∙ c.in-Some.is) in goes_on _ c.in_ok-value.ensures
+    (rw (k.0, k.1) c.chosen.ensures)
 
 pub conditional-returns-in-None : goal.conditional-returns-in-None
 conditional-returns-in-None g t c =
-    goes_on _ c.in_ok-value.ensures (rw (kept-none c.in_ok-value.value (sym c.kept.ensures ∙ c.in-None.is)) c.expression-in-None.ensures)
+    goes_on _ c.in_ok-value.ensures (rw (kept-none c.in_ok-value.value (sym c.kept.ensures ∙ c.in-None.is))
+    c.expression-in-None.ensures)
 
 pub chosen-returns-in-None : goal.chosen-returns-in-None
 chosen-returns-in-None g t c = rw c.in-None.is gives
@@ -272,7 +309,8 @@ chosen-returns-in-Some g t c = rw c.in-Some.is (rw c.as_ref.ensures at c.express
 
 pub assign-returns-in_err-indices : goal.assign-returns-in_err-indices
 assign-returns-in_err-indices g t c =
-    exits _ _ c.from_residual.ensures.1 (rw run-place (breaks_off _ (rw c.as_slice.ensures at c.in_err-indices.ensures)))
+    exits _ _ c.from_residual.ensures.1 (rw run-place (breaks_off _
+    (rw c.as_slice.ensures at c.in_err-indices.ensures)))
 
 pub assign-returns : goal.assign-returns
 assign-returns g t c =
@@ -281,19 +319,23 @@ assign-returns g t c =
 
 pub compound-returns-in_err-indices : goal.compound-returns-in_err-indices
 compound-returns-in_err-indices g t c =
-    exits _ _ c.from_residual.ensures.1 (rw run-place (breaks_off _ (rw c.as_slice.ensures at c.in_err-indices.ensures)))
+    exits _ _ c.from_residual.ensures.1 (rw run-place (breaks_off _
+    (rw c.as_slice.ensures at c.in_err-indices.ensures)))
 
 pub compound-returns : goal.compound-returns
 compound-returns g t c =
-    rw run-place (goes_on _ (rw c.as_slice.ensures at c.in_ok-indices.ensures) (rw c.as_slice-2.ensures at c.compound_under.ensures))
+    rw run-place (goes_on _ (rw c.as_slice.ensures at c.in_ok-indices.ensures)
+    (rw c.as_slice-2.ensures at c.compound_under.ensures))
 
 pub coalesce_assign-returns-in_err-indices : goal.coalesce_assign-returns-in_err-indices
 coalesce_assign-returns-in_err-indices g t c =
-    exits _ _ c.from_residual.ensures.1 (rw run-place (breaks_off _ (rw c.as_slice.ensures at c.in_err-indices.ensures)))
+    exits _ _ c.from_residual.ensures.1 (rw run-place (breaks_off _
+    (rw c.as_slice.ensures at c.in_err-indices.ensures)))
 
 pub coalesce_assign-returns : goal.coalesce_assign-returns
 coalesce_assign-returns g t c =
-    rw run-place (goes_on _ (rw c.as_slice.ensures at c.in_ok-indices.ensures) (rw c.as_slice-2.ensures at c.coalesce_under.ensures))
+    rw run-place (goes_on _ (rw c.as_slice.ensures at c.in_ok-indices.ensures)
+    (rw c.as_slice-2.ensures at c.coalesce_under.ensures))
 
 pub step-returns : goal.step-returns
 step-returns g t c = rw run-place (then_on (rw c.as_slice.ensures at c.values.ensures) c.then_step.ensures)
@@ -302,17 +344,21 @@ pub found_at-returns : goal.found_at-returns
 found_at-returns g t c = rw run-place (then_on (rw c.as_slice.ensures at c.values.ensures) c.then_found.ensures)
 
 pub compound_under-returns-in_err-old : goal.compound_under-returns-in_err-old
-compound_under-returns-in_err-old g t c = exits _ _ c.from_residual.ensures.1 (breaks_off _ (at_once c.in_err-old.ensures))
+compound_under-returns-in_err-old g t c =
+    exits _ _ c.from_residual.ensures.1 (breaks_off _ (at_once c.in_err-old.ensures))
 
 pub compound_under-returns : goal.compound_under-returns
-compound_under-returns g t c = goes_on _ (at_once c.in_ok-old.ensures) (then_on c.expression-value.ensures c.then_combine-answer.ensures)
+compound_under-returns g t c =
+    goes_on _ (at_once c.in_ok-old.ensures) (then_on c.expression-value.ensures c.then_combine-answer.ensures)
 
 pub coalesce_under-returns-in_err-old : goal.coalesce_under-returns-in_err-old
-coalesce_under-returns-in_err-old g t c = exits _ _ c.from_residual.ensures.1 (breaks_off _ (at_once c.in_err-old.ensures))
+coalesce_under-returns-in_err-old g t c =
+    exits _ _ c.from_residual.ensures.1 (breaks_off _ (at_once c.in_err-old.ensures))
 
 pub coalesce_under-returns-in-Some : goal.coalesce_under-returns-in-Some
 coalesce_under-returns-in-Some g t c =
-    let k = present-some _ _ (sym c.present.ensures ∙ c.in-Some.is) in goes_on _ (at_once c.in_ok-old.ensures) (rw (k.0, k.1) gives)
+    let k = present-some _ _ (sym c.present.ensures ∙ c.in-Some.is) in goes_on _ (at_once c.in_ok-old.ensures)
+    (rw (k.0, k.1) gives)
 
 pub coalesce_under-returns-in-None : goal.coalesce_under-returns-in-None
 coalesce_under-returns-in-None g t c =
@@ -322,49 +368,58 @@ coalesce_under-returns-in-None g t c =
 pub isset-returns-in_err-found : goal.isset-returns-in_err-found
 isset-returns-in_err-found g t c =
     exits _ _ c.from_residual.ensures.1 (c.loop-place.invariant _ _ (rw
-    (front _ c.loop-place.place-index c.place-item.result c.loop-place-test.true c.place-item.is) (joined_off _ _ _ c.in_err-found.ensures)))
+    (front _ c.loop-place.place-index c.place-item.result c.loop-place-test.true c.place-item.is)
+    (joined_off _ _ _ c.in_err-found.ensures)))
 
 pub isset-returns-then-missing : goal.isset-returns-then-missing
 isset-returns-then-missing g t c =
-    c.loop-place.invariant _ _ (rw (front _ c.loop-place.place-index c.place-item.result c.loop-place-test.true c.place-item.is)
+    c.loop-place.invariant _ _ (rw (front _ c.loop-place.place-index c.place-item.result c.loop-place-test.true
+    c.place-item.is)
     (joined_on _ _ _ c.in_ok-found.ensures (rw (sym c.is_missing-missing.ensures ∙ c.if-missing.true) gives)))
 
 pub isset-loop-place-preserved : goal.isset-loop-place-preserved
 isset-loop-place-preserved g t c =
-    λ x u e. c.loop-place.invariant x u (rw (front _ c.loop-place.place-index c.place-item.result c.loop-place-test.true c.place-item.is)
+    λ x u e. c.loop-place.invariant x u (rw (front _ c.loop-place.place-index c.place-item.result c.loop-place-test.true
+    c.place-item.is)
     (joined_on _ _ _ c.in_ok-found.ensures (rw (sym c.is_missing-missing.ensures ∙ c.if-missing.false) e)))
 
 pub isset-returns : goal.isset-returns
-isset-returns g t c = c.loop-place.invariant _ _ (rw (drop_of_length-le c.args.places.now c.loop-place-test.false) gives)
+isset-returns g t c =
+    c.loop-place.invariant _ _ (rw (drop_of_length-le c.args.places.now c.loop-place-test.false) gives)
 
 pub unset-returns-in_err-indices : goal.unset-returns-in_err-indices
 unset-returns-in_err-indices g t c =
     exits _ _ c.from_residual.ensures.1 (c.loop-place.invariant _ _ (rw
-    (front _ c.loop-place.place-index c.place-item.result c.loop-place-test.true c.place-item.is, run-place) (breaks_off _
+    (front _ c.loop-place.place-index c.place-item.result c.loop-place-test.true c.place-item.is, run-place)
+    (breaks_off _
     (rw c.as_slice.ensures at c.in_err-indices.ensures))))
 
 pub unset-returns-in_err-unset_place : goal.unset-returns-in_err-unset_place
 unset-returns-in_err-unset_place g t c =
     exits _ _ c.from_residual-in_err-unset_place.ensures.1 (c.loop-place.invariant _ _ (rw
     (front _ c.loop-place.place-index c.place-item.result c.loop-place-test.true c.place-item.is, run-place) (goes_on _
-    (rw c.as_slice.ensures at c.in_ok-indices.ensures) (breaks_off _ (at_once (rw c.as_slice-in-loop-place.ensures at c.in_err-unset_place.ensures))))))
+    (rw c.as_slice.ensures at c.in_ok-indices.ensures) (breaks_off _
+    (at_once (rw c.as_slice-in-loop-place.ensures at c.in_err-unset_place.ensures))))))
 
 pub unset-loop-place-preserved : goal.unset-loop-place-preserved
 unset-loop-place-preserved g t c =
     λ x u e. c.loop-place.invariant x u (rw (
       front _ c.loop-place.place-index c.place-item.result c.loop-place-test.true c.place-item.is,
       run-place,
-    ) (goes_on _ (rw c.as_slice.ensures at c.in_ok-indices.ensures) (goes_on _ (at_once (rw c.as_slice-in-loop-place.ensures at c.in_ok-unset_place.ensures)) e)))
+    ) (goes_on _ (rw c.as_slice.ensures at c.in_ok-indices.ensures)
+    (goes_on _ (at_once (rw c.as_slice-in-loop-place.ensures at c.in_ok-unset_place.ensures)) e)))
 
 pub unset-returns : goal.unset-returns
-unset-returns g t c = c.loop-place.invariant _ _ (rw (drop_of_length-le c.args.places.now c.loop-place-test.false) gives)
+unset-returns g t c =
+    c.loop-place.invariant _ _ (rw (drop_of_length-le c.args.places.now c.loop-place-test.false) gives)
 
 pub named-returns-in-None : goal.named-returns-in-None
 named-returns-in-None g t c = rw (sym c.look_up.ensures ∙ ap (option_map callee_of) c.in-None.is, c.fatal.ensures) ends
 
 pub named-returns-in-Some-BuiltIn : goal.named-returns-in-Some-BuiltIn
 named-returns-in-Some-BuiltIn g t c =
-    rw (sym c.look_up.ensures ∙ ap (option_map callee_of) c.in-Some-BuiltIn.is, c.in-Some-BuiltIn.field-0-is) c.call_builtin.ensures
+    rw (sym c.look_up.ensures ∙ ap (option_map callee_of) c.in-Some-BuiltIn.is, c.in-Some-BuiltIn.field-0-is)
+    c.call_builtin.ensures
 
 pub call_builtin-returns-in-Some : goal.call_builtin-returns-in-Some
 call_builtin-returns-in-Some g t c =
@@ -372,11 +427,13 @@ call_builtin-returns-in-Some g t c =
     (goes_by c.args.self.now) c.in-Some.name.now c.args.state.now) (at_once c.builtin_in_place.ensures))
 
 pub call_builtin-returns-in_err-values-in-None : goal.call_builtin-returns-in_err-values-in-None
-call_builtin-returns-in_err-values-in-None g t c = exits _ _ c.from_residual.ensures.1 (breaks_off _ c.in_err-values-in-None.ensures)
+call_builtin-returns-in_err-values-in-None g t c =
+    exits _ _ c.from_residual.ensures.1 (breaks_off _ c.in_err-values-in-None.ensures)
 
 pub call_builtin-returns-in_ok-values-in-None : goal.call_builtin-returns-in_ok-values-in-None
 call_builtin-returns-in_ok-values-in-None g t c =
-    goes_on _ c.in_ok-values-in-None.ensures (at_once (rw c.as_slice.ensures at (c.builtin_value.ensures _ c.builtin.ensures)))
+    goes_on _ c.in_ok-values-in-None.ensures (at_once (rw c.as_slice.ensures at
+    (c.builtin_value.ensures _ c.builtin.ensures)))
 
 pub named-returns-in_err-values-in-Some-Declared : goal.named-returns-in_err-values-in-Some-Declared
 named-returns-in_err-values-in-Some-Declared g t c =
@@ -390,7 +447,8 @@ named-returns-in_ok-values-in-Some-Declared g t c =
 
 pub named-call-requires : goal.named-call-requires
 named-call-requires g t c =
-    let found = rw c.in-Some-Declared.field-0-is at (sym c.look_up.ensures ∙ ap (option_map callee_of) c.in-Some-Declared.is) in
+    let found = rw c.in-Some-Declared.field-0-is at (sym c.look_up.ensures
+    ∙ ap (option_map callee_of) c.in-Some-Declared.is) in
     λ κs h. (
       omega (arith, c.decreases),
       (
@@ -407,33 +465,44 @@ pub call-returns : goal.call-returns
 call-returns g t c = rw (suc-call _ _ _ c.if-self-eq0.false) c.function.ensures
 
 pub call-function-requires : goal.call-function-requires
-call-function-requires g t c = λ κs h. (omega (arith, frame_less c.args.self.now.depth _ _ c.if-self-eq0.false c.requires, c.decreases), h)
+call-function-requires g t c =
+    λ κs h. (omega (arith, frame_less c.args.self.now.depth _ _ c.if-self-eq0.false c.requires, c.decreases), h)
 
 pub function-returns-in_err-enter_call : goal.function-returns-in_err-enter_call
-function-returns-in_err-enter_call g t c = exits _ _ c.from_residual.ensures.1 (breaks_off _ (at_once c.in_err-enter_call.ensures))
+function-returns-in_err-enter_call g t c =
+    exits _ _ c.from_residual.ensures.1 (breaks_off _ (at_once c.in_err-enter_call.ensures))
 
 pub function-returns-in_err-at_moment : goal.function-returns-in_err-at_moment
 function-returns-in_err-at_moment g t c =
-    exits _ _ c.from_residual-in_err-at_moment.ensures.1 (goes_on _ (at_once c.in_ok-enter_call.ensures) (stops_at c.in_err-at_moment.ensures))
+    exits _ _ c.from_residual-in_err-at_moment.ensures.1 (goes_on _ (at_once c.in_ok-enter_call.ensures)
+    (stops_at c.in_err-at_moment.ensures))
 
 pub function-returns-in_err-signal : goal.function-returns-in_err-signal
 function-returns-in_err-signal g t c =
-    exits _ _ c.from_residual-in_err-signal.ensures.1 (goes_on _ (at_once c.in_ok-enter_call.ensures) (passes c.in_ok-at_moment.ensures (breaks_off _
+    exits _ _ c.from_residual-in_err-signal.ensures.1 (goes_on _ (at_once c.in_ok-enter_call.ensures)
+    (passes c.in_ok-at_moment.ensures (breaks_off _
     (rw c.as_slice.ensures at c.in_err-signal.ensures))))
 
 pub function-returns : goal.function-returns
 function-returns g t c =
-    goes_on _ (at_once c.in_ok-enter_call.ensures) (passes c.in_ok-at_moment.ensures (goes_on _ (rw c.as_slice.ensures at c.in_ok-signal.ensures)
+    goes_on _ (at_once c.in_ok-enter_call.ensures) (passes c.in_ok-at_moment.ensures
+    (goes_on _ (rw c.as_slice.ensures at c.in_ok-signal.ensures)
     c.leave.ensures))
 
 pub include-returns-in-None : goal.include-returns-in-None
 include-returns-in-None g t c =
-    rw (setting-bundle c.args.self.now.bundle.now c.args.self.now.bound c.args.self.now.depth, sym c.in_ok-file_named_by.ensures ∙ c.in-None.is)
+    rw (
+      setting-bundle c.args.self.now.bundle.now c.args.self.now.bound c.args.self.now.depth,
+      sym c.in_ok-file_named_by.ensures ∙ c.in-None.is,
+    )
     (at_once (c.not_included.ensures _))
 
 pub include-returns-in-Some : goal.include-returns-in-Some
 include-returns-in-Some g t c =
-    rw (setting-bundle c.args.self.now.bundle.now c.args.self.now.bound c.args.self.now.depth, sym c.in_ok-file_named_by.ensures ∙ c.in-Some.is)
+    rw (
+      setting-bundle c.args.self.now.bundle.now c.args.self.now.bound c.args.self.now.depth,
+      sym c.in_ok-file_named_by.ensures ∙ c.in-Some.is,
+    )
     c.file.ensures
 
 pub file-returns-then-self-eq0 : goal.file-returns-then-self-eq0
@@ -456,18 +525,21 @@ file-included-requires g t c =
 
 pub included-returns-in_err-enter_file : goal.included-returns-in_err-enter_file
 included-returns-in_err-enter_file g t c =
-    exits _ _ c.from_residual.ensures.1 (rw (file-is c.args.self.now.bundle.now c.args.self.now.bound c.args.self.now.depth c.args.file
+    exits _ _ c.from_residual.ensures.1 (rw (file-is c.args.self.now.bundle.now c.args.self.now.bound
+    c.args.self.now.depth c.args.file
     c.args.state.now) (breaks_off _ (at_once c.in_err-enter_file.ensures)))
 
 pub included-returns-in_err-signal : goal.included-returns-in_err-signal
 included-returns-in_err-signal g t c =
-    exits _ _ c.from_residual-in_err-signal.ensures.1 (rw (file-is c.args.self.now.bundle.now c.args.self.now.bound c.args.self.now.depth
+    exits _ _ c.from_residual-in_err-signal.ensures.1 (rw (file-is c.args.self.now.bundle.now c.args.self.now.bound
+    c.args.self.now.depth
     c.args.file c.args.state.now) (goes_on _ (at_once c.in_ok-enter_file.ensures) (breaks_off _
     (rw c.statements_of.ensures at c.in_err-signal.ensures))))
 
 pub included-returns : goal.included-returns
 included-returns g t c =
-    rw (file-is c.args.self.now.bundle.now c.args.self.now.bound c.args.self.now.depth c.args.file c.args.state.now) (goes_on _
+    rw (file-is c.args.self.now.bundle.now c.args.self.now.bound c.args.self.now.depth c.args.file c.args.state.now)
+    (goes_on _
     (at_once c.in_ok-enter_file.ensures) (goes_on _ (rw c.statements_of.ensures at c.in_ok-signal.ensures) (rw
     (c.leave.ensures, c.returned.ensures) gives)))
 
@@ -479,45 +551,55 @@ body-returns-in_err-statement g t c =
 
 pub body-loop-statement-preserved : goal.body-loop-statement-preserved
 body-loop-statement-preserved g t c =
-    λ x u e. c.loop-statement.invariant x u (rw (front _ c.loop-statement.statement-index c.statement-item.result c.loop-statement-test.true
+    λ x u e. c.loop-statement.invariant x u (rw (front _ c.loop-statement.statement-index c.statement-item.result
+    c.loop-statement-test.true
     c.statement-item.is) (goes_on _ (rw c.in-Next.is at c.in_ok-statement.ensures) e))
 
 pub body-returns-in-Break : goal.body-returns-in-Break
 body-returns-in-Break g t c =
-    c.loop-statement.invariant _ _ (rw (front _ c.loop-statement.statement-index c.statement-item.result c.loop-statement-test.true
+    c.loop-statement.invariant _ _ (rw (front _ c.loop-statement.statement-index c.statement-item.result
+    c.loop-statement-test.true
     c.statement-item.is) (goes_on _ (rw c.in-Break.is at c.in_ok-statement.ensures) gives))
 
 pub body-returns-in-Continue : goal.body-returns-in-Continue
 body-returns-in-Continue g t c =
-    c.loop-statement.invariant _ _ (rw (front _ c.loop-statement.statement-index c.statement-item.result c.loop-statement-test.true
+    c.loop-statement.invariant _ _ (rw (front _ c.loop-statement.statement-index c.statement-item.result
+    c.loop-statement-test.true
     c.statement-item.is) (goes_on _ (rw c.in-Continue.is at c.in_ok-statement.ensures) gives))
 
 pub body-returns-in-Return : goal.body-returns-in-Return
 body-returns-in-Return g t c =
-    c.loop-statement.invariant _ _ (rw (front _ c.loop-statement.statement-index c.statement-item.result c.loop-statement-test.true
+    c.loop-statement.invariant _ _ (rw (front _ c.loop-statement.statement-index c.statement-item.result
+    c.loop-statement-test.true
     c.statement-item.is) (goes_on _ (rw c.in-Return.is at c.in_ok-statement.ensures) gives))
 
 pub body-returns : goal.body-returns
-body-returns g t c = c.loop-statement.invariant _ _ (rw (drop_of_length-le c.args.statements.now c.loop-statement-test.false) gives)
+body-returns g t c =
+    c.loop-statement.invariant _ _ (rw (drop_of_length-le c.args.statements.now c.loop-statement-test.false) gives)
 
 pub statement-returns-in_err-place-in-Expression : goal.statement-returns-in_err-place-in-Expression
 statement-returns-in_err-place-in-Expression g t c =
-    exits _ _ c.from_residual.ensures.1 (rw (run-statement, c.in-Expression.is, kind-Expression) (stops_at c.in_err-place-in-Expression.ensures))
+    exits _ _ c.from_residual.ensures.1 (rw (run-statement, c.in-Expression.is, kind-Expression)
+    (stops_at c.in_err-place-in-Expression.ensures))
 
 pub statement-returns-in_ok-place-in-Expression : goal.statement-returns-in_ok-place-in-Expression
 statement-returns-in_ok-place-in-Expression g t c =
-    rw (run-statement, c.in-Expression.is, kind-Expression) (passes c.in_ok-place-in-Expression.ensures (then_on c.expression.ensures (c.then_next.ensures _)))
+    rw (run-statement, c.in-Expression.is, kind-Expression) (passes c.in_ok-place-in-Expression.ensures
+    (then_on c.expression.ensures (c.then_next.ensures _)))
 
 pub statement-returns-in_err-place-in-Echo : goal.statement-returns-in_err-place-in-Echo
 statement-returns-in_err-place-in-Echo g t c =
-    exits _ _ c.from_residual-in_err-place-in-Echo.ensures.1 (rw (run-statement, c.in-Echo.is, kind-Echo) (stops_at c.in_err-place-in-Echo.ensures))
+    exits _ _ c.from_residual-in_err-place-in-Echo.ensures.1 (rw (run-statement, c.in-Echo.is, kind-Echo)
+    (stops_at c.in_err-place-in-Echo.ensures))
 
 pub statement-returns-in_ok-place-in-Echo : goal.statement-returns-in_ok-place-in-Echo
 statement-returns-in_ok-place-in-Echo g t c =
-    rw (run-statement, c.in-Echo.is, kind-Echo) (passes c.in_ok-place-in-Echo.ensures (rw c.as_slice.ensures at c.echo.ensures))
+    rw (run-statement, c.in-Echo.is, kind-Echo) (passes c.in_ok-place-in-Echo.ensures
+    (rw c.as_slice.ensures at c.echo.ensures))
 
 pub statement-returns-in-Block : goal.statement-returns-in-Block
-statement-returns-in-Block g t c = rw (run-statement, c.in-Block.is, kind-Block) (rw c.as_slice-in-Block.ensures at c.body.ensures)
+statement-returns-in-Block g t c =
+    rw (run-statement, c.in-Block.is, kind-Block) (rw c.as_slice-in-Block.ensures at c.body.ensures)
 
 pub statement-returns-in-Empty : goal.statement-returns-in-Empty
 statement-returns-in-Empty g t c = rw (run-statement, c.in-Empty.is, kind-Empty) gives
@@ -532,7 +614,8 @@ statement-returns-in-While g t c =
       c.in-While.is,
       kind-While,
       bounded-turns c.args.self.now.bundle.now c.args.self.now.bound c.args.self.now.depth c.args.statement.now.line
-          (statement_run c.in-While.body (goes_by c.args.self.now)) c.args.state.now (evaluations (c.in-While.test ∷ []) (goes_by c.args.self.now))
+          (statement_run c.in-While.body (goes_by c.args.self.now)) c.args.state.now
+          (evaluations (c.in-While.test ∷ []) (goes_by c.args.self.now))
           (evaluations [] (goes_by c.args.self.now)),
     ) (rw (c.from_ref.ensures.value, c.as_ref.ensures) at c.turns.ensures)
 
@@ -543,26 +626,31 @@ statement-returns-in-DoWhile g t c =
       c.in-DoWhile.is,
       kind-DoWhile,
       bounded-do c.args.self.now.bundle.now c.args.self.now.bound c.args.self.now.depth c.in-DoWhile.end
-          (statement_run c.in-DoWhile.body (goes_by c.args.self.now)) c.args.state.now (evaluation c.in-DoWhile.test (goes_by c.args.self.now)),
+          (statement_run c.in-DoWhile.body (goes_by c.args.self.now)) c.args.state.now
+          (evaluation c.in-DoWhile.test (goes_by c.args.self.now)),
     )
     (rw c.as_ref-in-DoWhile.ensures at c.do_turns.ensures)
 
 pub statement-returns-in_err-place-in-For : goal.statement-returns-in_err-place-in-For
 statement-returns-in_err-place-in-For g t c =
-    exits _ _ c.from_residual-in_err-place-in-For.ensures.1 (rw (run-statement, c.in-For.is, kind-For) (stops_at c.in_err-place-in-For.ensures))
+    exits _ _ c.from_residual-in_err-place-in-For.ensures.1 (rw (run-statement, c.in-For.is, kind-For)
+    (stops_at c.in_err-place-in-For.ensures))
 
 pub statement-returns-in_ok-place-in-For : goal.statement-returns-in_ok-place-in-For
 statement-returns-in_ok-place-in-For g t c =
     rw (run-statement, c.in-For.is, kind-For) (passes c.in_ok-place-in-For.ensures
-    (rw (c.as_slice-in-For.ensures, c.as_slice-in-For-2.ensures, c.as_slice-in-For-3.ensures, c.as_ref-in-For.ensures) at c.for_turns.ensures))
+    (rw (c.as_slice-in-For.ensures, c.as_slice-in-For-2.ensures, c.as_slice-in-For-3.ensures, c.as_ref-in-For.ensures)
+    at c.for_turns.ensures))
 
 pub statement-returns-in_err-place-in-Foreach : goal.statement-returns-in_err-place-in-Foreach
 statement-returns-in_err-place-in-Foreach g t c =
-    exits _ _ c.from_residual-in_err-place-in-Foreach.ensures.1 (rw (run-statement, c.in-Foreach.is, kind-Foreach) (stops_at c.in_err-place-in-Foreach.ensures))
+    exits _ _ c.from_residual-in_err-place-in-Foreach.ensures.1
+    (rw (run-statement, c.in-Foreach.is, kind-Foreach) (stops_at c.in_err-place-in-Foreach.ensures))
 
 pub statement-returns-in_ok-place-in-Foreach : goal.statement-returns-in_ok-place-in-Foreach
 statement-returns-in_ok-place-in-Foreach g t c =
-    rw (run-statement, c.in-Foreach.is, kind-Foreach) (passes c.in_ok-place-in-Foreach.ensures (rw c.as_ref-in-Foreach.ensures at c.foreach.ensures))
+    rw (run-statement, c.in-Foreach.is, kind-Foreach) (passes c.in_ok-place-in-Foreach.ensures
+    (rw c.as_ref-in-Foreach.ensures at c.foreach.ensures))
 
 pub statement-returns-in-Break : goal.statement-returns-in-Break
 statement-returns-in-Break g t c =
@@ -570,18 +658,22 @@ statement-returns-in-Break g t c =
 
 pub statement-returns-in-Continue : goal.statement-returns-in-Continue
 statement-returns-in-Continue g t c =
-    rw (run-statement, c.in-Continue.is, kind-Continue) (then_at c.place-in-Continue.ensures (c.then_signal-in-Continue.ensures _))
+    rw (run-statement, c.in-Continue.is, kind-Continue) (then_at c.place-in-Continue.ensures
+    (c.then_signal-in-Continue.ensures _))
 
 pub statement-returns-in_err-place-in-Return : goal.statement-returns-in_err-place-in-Return
 statement-returns-in_err-place-in-Return g t c =
-    exits _ _ c.from_residual-in_err-place-in-Return.ensures.1 (rw (run-statement, c.in-Return.is, kind-Return) (stops_at c.in_err-place-in-Return.ensures))
+    exits _ _ c.from_residual-in_err-place-in-Return.ensures.1
+    (rw (run-statement, c.in-Return.is, kind-Return) (stops_at c.in_err-place-in-Return.ensures))
 
 pub statement-returns-in_ok-place-in-Return : goal.statement-returns-in_ok-place-in-Return
-statement-returns-in_ok-place-in-Return g t c = rw (run-statement, c.in-Return.is, kind-Return) (passes c.in_ok-place-in-Return.ensures c.return_value.ensures)
+statement-returns-in_ok-place-in-Return g t c =
+    rw (run-statement, c.in-Return.is, kind-Return) (passes c.in_ok-place-in-Return.ensures c.return_value.ensures)
 
 pub statement-returns-in_err-place-in-Global : goal.statement-returns-in_err-place-in-Global
 statement-returns-in_err-place-in-Global g t c =
-    exits _ _ c.from_residual-in_err-place-in-Global.ensures.1 (rw (run-statement, c.in-Global.is, kind-Global) (stops_at c.in_err-place-in-Global.ensures))
+    exits _ _ c.from_residual-in_err-place-in-Global.ensures.1
+    (rw (run-statement, c.in-Global.is, kind-Global) (stops_at c.in_err-place-in-Global.ensures))
 
 pub statement-returns-in_ok-place-in-Global : goal.statement-returns-in_ok-place-in-Global
 statement-returns-in_ok-place-in-Global g t c =
@@ -590,7 +682,8 @@ statement-returns-in_ok-place-in-Global g t c =
 
 pub statement-returns-in_err-place-in-Unset : goal.statement-returns-in_err-place-in-Unset
 statement-returns-in_err-place-in-Unset g t c =
-    exits _ _ c.from_residual-in_err-place-in-Unset.ensures.1 (rw (run-statement, c.in-Unset.is, kind-Unset) (stops_at c.in_err-place-in-Unset.ensures))
+    exits _ _ c.from_residual-in_err-place-in-Unset.ensures.1
+    (rw (run-statement, c.in-Unset.is, kind-Unset) (stops_at c.in_err-place-in-Unset.ensures))
 
 pub statement-returns-in_ok-place-in-Unset : goal.statement-returns-in_ok-place-in-Unset
 statement-returns-in_ok-place-in-Unset g t c =
@@ -599,18 +692,22 @@ statement-returns-in_ok-place-in-Unset g t c =
 
 pub statement-returns-in_err-place-in-Exit : goal.statement-returns-in_err-place-in-Exit
 statement-returns-in_err-place-in-Exit g t c =
-    exits _ _ c.from_residual-in_err-place-in-Exit.ensures.1 (rw (run-statement, c.in-Exit.is, kind-Exit) (stops_at c.in_err-place-in-Exit.ensures))
+    exits _ _ c.from_residual-in_err-place-in-Exit.ensures.1 (rw (run-statement, c.in-Exit.is, kind-Exit)
+    (stops_at c.in_err-place-in-Exit.ensures))
 
 pub statement-returns-in_ok-place-in-Exit : goal.statement-returns-in_ok-place-in-Exit
-statement-returns-in_ok-place-in-Exit g t c = rw (run-statement, c.in-Exit.is, kind-Exit) (passes c.in_ok-place-in-Exit.ensures c.exit.ensures)
+statement-returns-in_ok-place-in-Exit g t c =
+    rw (run-statement, c.in-Exit.is, kind-Exit) (passes c.in_ok-place-in-Exit.ensures c.exit.ensures)
 
 pub for_turns-returns-in_err-done : goal.for_turns-returns-in_err-done
 for_turns-returns-in_err-done g t c = exits _ _ c.from_residual.ensures.1 (breaks_off _ c.in_err-done.ensures)
 
 pub for_turns-returns : goal.for_turns-returns
 for_turns-returns g t c =
-    goes_on _ c.in_ok-done.ensures (runs-for c.args.self.now.bundle.now c.args.self.now.bound c.args.self.now.depth c.args.line
-    (statement_run c.args.body.now (goes_by c.args.self.now)) c.values.new.state c.args.tests.now c.args.after.now (statement_run c.args.body.now) []
+    goes_on _ c.in_ok-done.ensures (runs-for c.args.self.now.bundle.now c.args.self.now.bound c.args.self.now.depth
+    c.args.line
+    (statement_run c.args.body.now (goes_by c.args.self.now)) c.values.new.state c.args.tests.now c.args.after.now
+    (statement_run c.args.body.now) []
     c.turns.ensures)
 
 pub foreach-returns-in_err-subject : goal.foreach-returns-in_err-subject
@@ -627,38 +724,56 @@ echo-returns-in_err-then_print g t c =
 
 pub echo-loop-operand-preserved : goal.echo-loop-operand-preserved
 echo-loop-operand-preserved g t c =
-    λ x u e. c.loop-operand.invariant x u (rw (front _ c.loop-operand.operand-index c.operand-item.result c.loop-operand-test.true
+    λ x u e. c.loop-operand.invariant x u (rw (front _ c.loop-operand.operand-index c.operand-item.result
+    c.loop-operand-test.true
     c.operand-item.is) (joined_on _ print_run _ (then_on c.expression.ensures c.in_ok-then_print.ensures) e))
 
 pub echo-returns : goal.echo-returns
-echo-returns g t c = c.loop-operand.invariant _ _ (rw (drop_of_length-le c.args.operands.now c.loop-operand-test.false) gives)
+echo-returns g t c =
+    c.loop-operand.invariant _ _ (rw (drop_of_length-le c.args.operands.now c.loop-operand-test.false) gives)
 
 pub arms-returns-in_err-place : goal.arms-returns-in_err-place
 arms-returns-in_err-place g t c =
     exits _ _ c.from_residual.ensures.1 (c.loop-arm.invariant _ _ (rw
-    (front _ c.loop-arm.arm-index c.arm-item.result c.loop-arm-test.true c.arm-item.is, run-arm) (stops_at c.in_err-place.ensures)))
+    (front _ c.loop-arm.arm-index c.arm-item.result c.loop-arm-test.true c.arm-item.is, run-arm)
+    (stops_at c.in_err-place.ensures)))
 
 pub arms-returns-in_err-holds : goal.arms-returns-in_err-holds
 arms-returns-in_err-holds g t c =
     exits _ _ c.from_residual-in_err-holds.ensures.1 (c.loop-arm.invariant _ _ (rw
-    (front _ c.loop-arm.arm-index c.arm-item.result c.loop-arm-test.true c.arm-item.is, run-arm) (passes c.in_ok-place.ensures
+    (front _ c.loop-arm.arm-index c.arm-item.result c.loop-arm-test.true c.arm-item.is, run-arm)
+    (passes c.in_ok-place.ensures
     (tested_off _ (λ b u. if b then statement_run c.arm-item.result.body (goes_by c.args.self.now) u else arms_run
-    (map arm_run (drop (c.loop-arm.arm-index + 1) c.args.arms.now)) (option_map statement_run c.args.otherwise.now) (goes_by c.args.self.now) u) (then_on c.expression.ensures (c.in_err-holds.ensures _))))))
+    (map arm_run (drop (c.loop-arm.arm-index + 1) c.args.arms.now)) (option_map statement_run c.args.otherwise.now)
+    (goes_by c.args.self.now) u) (then_on c.expression.ensures (c.in_err-holds.ensures _))))))
 
 pub arms-returns-then-holds : goal.arms-returns-then-holds
 arms-returns-then-holds g t c =
-    c.loop-arm.invariant _ _ (rw (front _ c.loop-arm.arm-index c.arm-item.result c.loop-arm-test.true c.arm-item.is, run-arm)
-    (passes c.in_ok-place.ensures (tested_on _ (λ b u. if b then statement_run c.arm-item.result.body (goes_by c.args.self.now) u else arms_run
-    (map arm_run (drop (c.loop-arm.arm-index + 1) c.args.arms.now)) (option_map statement_run c.args.otherwise.now) (goes_by c.args.self.now) u) (then_on c.expression.ensures (c.in_ok-holds.ensures _)) (rw c.if-holds.true c.statement.ensures))))
+    c.loop-arm.invariant _ _ (rw (
+      front _ c.loop-arm.arm-index c.arm-item.result c.loop-arm-test.true c.arm-item.is,
+      run-arm,
+    )
+    (passes c.in_ok-place.ensures (tested_on _ (λ b u. if b
+    then statement_run c.arm-item.result.body (goes_by c.args.self.now) u else arms_run
+    (map arm_run (drop (c.loop-arm.arm-index + 1) c.args.arms.now)) (option_map statement_run c.args.otherwise.now)
+    (goes_by c.args.self.now) u) (then_on c.expression.ensures (c.in_ok-holds.ensures _))
+    (rw c.if-holds.true c.statement.ensures))))
 
 pub arms-loop-arm-preserved : goal.arms-loop-arm-preserved
 arms-loop-arm-preserved g t c =
-    λ x u e. c.loop-arm.invariant x u (rw (front _ c.loop-arm.arm-index c.arm-item.result c.loop-arm-test.true c.arm-item.is, run-arm)
-    (passes c.in_ok-place.ensures (tested_on _ (λ b u. if b then statement_run c.arm-item.result.body (goes_by c.args.self.now) u else arms_run
-    (map arm_run (drop (c.loop-arm.arm-index + 1) c.args.arms.now)) (option_map statement_run c.args.otherwise.now) (goes_by c.args.self.now) u) (then_on c.expression.ensures (c.in_ok-holds.ensures _)) (rw c.if-holds.false e))))
+    λ x u e. c.loop-arm.invariant x u (rw (
+      front _ c.loop-arm.arm-index c.arm-item.result c.loop-arm-test.true
+          c.arm-item.is,
+      run-arm,
+    )
+    (passes c.in_ok-place.ensures (tested_on _ (λ b u. if b
+    then statement_run c.arm-item.result.body (goes_by c.args.self.now) u else arms_run
+    (map arm_run (drop (c.loop-arm.arm-index + 1) c.args.arms.now)) (option_map statement_run c.args.otherwise.now)
+    (goes_by c.args.self.now) u) (then_on c.expression.ensures (c.in_ok-holds.ensures _)) (rw c.if-holds.false e))))
 
 pub arms-returns-in-None : goal.arms-returns-in-None
-arms-returns-in-None g t c = c.loop-arm.invariant _ _ (rw (drop_of_length-le c.args.arms.now c.loop-arm-test.false, c.in-None.is) gives)
+arms-returns-in-None g t c =
+    c.loop-arm.invariant _ _ (rw (drop_of_length-le c.args.arms.now c.loop-arm-test.false, c.in-None.is) gives)
 
 pub arms-returns-in-Some : goal.arms-returns-in-Some
 arms-returns-in-Some g t c =
@@ -679,7 +794,8 @@ exit-returns-in-Some g t c = rw c.in-Some.is (then_on c.expression.ensures c.the
 
 pub turns-returns-in_err-place : goal.turns-returns-in_err-place
 turns-returns-in_err-place g t c =
-    exits _ _ c.from_residual.ensures.1 (c.loop-turn.invariant _ _ (turn-stops _ (c.args.left - c.loop-turn._turn) c.args.line
+    exits _ _ c.from_residual.ensures.1 (c.loop-turn.invariant _ _
+    (turn-stops _ (c.args.left - c.loop-turn._turn) c.args.line
     (evaluations c.args.tests.now (goes_by c.args.self.now)) (evaluations c.args.after.now (goes_by c.args.self.now))
     (statement_run c.args.body.now (goes_by c.args.self.now)) (omega arith) _ _ _ c.in_err-place.ensures))
 
@@ -694,7 +810,8 @@ pub turns-returns-then-not-on : goal.turns-returns-then-not-on
 turns-returns-then-not-on g t c =
     c.loop-turn.invariant _ _ (turns-end _ (c.args.left - c.loop-turn._turn) c.args.line (evaluations c.args.tests.now
     (goes_by c.args.self.now)) (evaluations c.args.after.now (goes_by c.args.self.now)) (statement_run c.args.body.now
-    (goes_by c.args.self.now)) (omega arith) _ _ c.in_ok-place.ensures _ _ c.in_ok-values.ensures (rw c.as_slice.ensures at
+    (goes_by c.args.self.now)) (omega arith) _ _ c.in_ok-place.ensures _ _ c.in_ok-values.ensures
+    (rw c.as_slice.ensures at
     (sym c.last_holds-on.ensures ∙ c.if-not-on.true)))
 
 pub turns-returns-in_err-statement : goal.turns-returns-in_err-statement
@@ -709,8 +826,10 @@ pub turns-returns-in-Out : goal.turns-returns-in-Out
 turns-returns-in-Out g t c =
     c.loop-turn.invariant _ _ (body-out _ (c.args.left - c.loop-turn._turn) c.args.line (evaluations c.args.tests.now
     (goes_by c.args.self.now)) (evaluations c.args.after.now (goes_by c.args.self.now)) (statement_run c.args.body.now
-    (goes_by c.args.self.now)) (omega arith) _ _ c.in_ok-place.ensures _ _ c.in_ok-values.ensures (rw c.as_slice.ensures at
-    (sym c.last_holds-on.ensures ∙ c.if-not-on.false)) _ _ c.in_ok-statement.ensures _ (sym c.turn_over.ensures ∙ c.in-Out.is))
+    (goes_by c.args.self.now)) (omega arith) _ _ c.in_ok-place.ensures _ _ c.in_ok-values.ensures
+    (rw c.as_slice.ensures at
+    (sym c.last_holds-on.ensures ∙ c.if-not-on.false)) _ _ c.in_ok-statement.ensures _
+    (sym c.turn_over.ensures ∙ c.in-Out.is))
 
 pub turns-returns-in_err-done : goal.turns-returns-in_err-done
 turns-returns-in_err-done g t c =
@@ -724,9 +843,11 @@ turns-returns-in_err-done g t c =
 pub turns-loop-turn-preserved : goal.turns-loop-turn-preserved
 turns-loop-turn-preserved g t c =
     λ x u e. let n : c.args.left - (c.loop-turn._turn + 1) ≡ c.args.left - c.loop-turn._turn - 1 = omega arith in
-    c.loop-turn.invariant x u (turn-goes-on _ (c.args.left - c.loop-turn._turn) c.args.line (evaluations c.args.tests.now
+    c.loop-turn.invariant x u (turn-goes-on _ (c.args.left - c.loop-turn._turn) c.args.line
+    (evaluations c.args.tests.now
     (goes_by c.args.self.now)) (evaluations c.args.after.now (goes_by c.args.self.now)) (statement_run c.args.body.now
-    (goes_by c.args.self.now)) (omega arith) _ _ c.in_ok-place.ensures _ _ c.in_ok-values.ensures (rw c.as_slice.ensures at
+    (goes_by c.args.self.now)) (omega arith) _ _ c.in_ok-place.ensures _ _ c.in_ok-values.ensures
+    (rw c.as_slice.ensures at
     (sym c.last_holds-on.ensures ∙ c.if-not-on.false)) _ _ c.in_ok-statement.ensures
     (sym c.turn_over.ensures ∙ c.in-On.is) _ _ x u c.in_ok-done.ensures (rw n at e))
 
@@ -735,14 +856,16 @@ turns-returns g t c = let n : c.args.left - c.loop-turn._turn ≡ 0 = omega arit
 
 pub do_turns-returns-in_err-statement : goal.do_turns-returns-in_err-statement
 do_turns-returns-in_err-statement g t c =
-    exits _ _ c.from_residual.ensures.1 (c.loop-turn.invariant _ _ (do-body-breaks _ (c.args.left - c.loop-turn._turn) c.args.line
+    exits _ _ c.from_residual.ensures.1 (c.loop-turn.invariant _ _
+    (do-body-breaks _ (c.args.left - c.loop-turn._turn) c.args.line
     (evaluation c.args.test.now (goes_by c.args.self.now)) (statement_run c.args.body.now (goes_by c.args.self.now))
     (omega arith) _ _ _ c.in_err-statement.ensures))
 
 pub do_turns-returns-in-Out : goal.do_turns-returns-in-Out
 do_turns-returns-in-Out g t c =
     c.loop-turn.invariant _ _ (do-body-out _ (c.args.left - c.loop-turn._turn) c.args.line (evaluation c.args.test.now
-    (goes_by c.args.self.now)) (statement_run c.args.body.now (goes_by c.args.self.now)) (omega arith) _ _ _ c.in_ok-statement.ensures _
+    (goes_by c.args.self.now)) (statement_run c.args.body.now (goes_by c.args.self.now))
+    (omega arith) _ _ _ c.in_ok-statement.ensures _
     (sym c.turn_over.ensures ∙ c.in-Out.is))
 
 pub do_turns-returns-in_err-place : goal.do_turns-returns-in_err-place
@@ -757,74 +880,123 @@ do_turns-returns-in_err-holds g t c =
     exits _ _ c.from_residual-in_err-holds.ensures.1 (c.loop-turn.invariant _ _ (do-test-breaks _
     (c.args.left - c.loop-turn._turn) c.args.line (evaluation c.args.test.now (goes_by c.args.self.now))
     (statement_run c.args.body.now (goes_by c.args.self.now)) (omega arith) _ _ _ c.in_ok-statement.ensures
-    (sym c.turn_over.ensures ∙ c.in-On.is) _ c.in_ok-place.ensures _ _ (then_on c.expression.ensures (c.in_err-holds.ensures _))))
+    (sym c.turn_over.ensures ∙ c.in-On.is) _ c.in_ok-place.ensures _ _
+    (then_on c.expression.ensures (c.in_err-holds.ensures _))))
 
 pub do_turns-returns-then-not-holds : goal.do_turns-returns-then-not-holds
 do_turns-returns-then-not-holds g t c =
     c.loop-turn.invariant _ _ (do-end _ (c.args.left - c.loop-turn._turn) c.args.line (evaluation c.args.test.now
-    (goes_by c.args.self.now)) (statement_run c.args.body.now (goes_by c.args.self.now)) (omega arith) _ _ _ c.in_ok-statement.ensures
-    (sym c.turn_over.ensures ∙ c.in-On.is) _ c.in_ok-place.ensures _ _ (then_on c.expression.ensures (c.in_ok-holds.ensures _)) c.if-not-holds.true)
+    (goes_by c.args.self.now)) (statement_run c.args.body.now (goes_by c.args.self.now))
+    (omega arith) _ _ _ c.in_ok-statement.ensures
+    (sym c.turn_over.ensures ∙ c.in-On.is) _ c.in_ok-place.ensures _ _
+    (then_on c.expression.ensures (c.in_ok-holds.ensures _)) c.if-not-holds.true)
 
 pub do_turns-loop-turn-preserved : goal.do_turns-loop-turn-preserved
 do_turns-loop-turn-preserved g t c =
     λ x u e. let n : c.args.left - (c.loop-turn._turn + 1) ≡ c.args.left - c.loop-turn._turn - 1 = omega arith in
     c.loop-turn.invariant x u (do-goes-on _ (c.args.left - c.loop-turn._turn) c.args.line (evaluation c.args.test.now
-    (goes_by c.args.self.now)) (statement_run c.args.body.now (goes_by c.args.self.now)) (omega arith) _ _ _ c.in_ok-statement.ensures
-    (sym c.turn_over.ensures ∙ c.in-On.is) _ c.in_ok-place.ensures _ _ (then_on c.expression.ensures (c.in_ok-holds.ensures _))
+    (goes_by c.args.self.now)) (statement_run c.args.body.now (goes_by c.args.self.now))
+    (omega arith) _ _ _ c.in_ok-statement.ensures
+    (sym c.turn_over.ensures ∙ c.in-On.is) _ c.in_ok-place.ensures _ _
+    (then_on c.expression.ensures (c.in_ok-holds.ensures _))
     c.if-not-holds.false x u (rw n at e))
 
 pub do_turns-returns : goal.do_turns-returns
-do_turns-returns g t c = let n : c.args.left - c.loop-turn._turn ≡ 0 = omega arith in c.loop-turn.invariant _ _ (rw n ends)
+do_turns-returns g t c =
+    let n : c.args.left - c.loop-turn._turn ≡ 0 = omega arith in c.loop-turn.invariant _ _ (rw n ends)
 
 pub each-loop-at-init : goal.each-loop-at-init
 each-loop-at-init g t c = λ x u e. rw c.in-Array.is e
 
 pub each-returns-in_err-place : goal.each-returns-in_err-place
 each-returns-in_err-place g t c =
-    let r = front-at c.in-Array.array.pairs c.loop-at.at (omega (arith, c.len-at-end.ensures.len)) in exits _ _ c.from_residual.ensures.1
+    let r = front-at c.in-Array.array.pairs c.loop-at.at (omega (arith, c.len-at-end.ensures.len)) in exits _ _
+    c.from_residual.ensures.1
     (c.loop-at.invariant _ _ (rw r.2 (each-stops _ c.args.line c.args.binding.now r.0 _ (statement_run c.args.body.now
     (goes_by c.args.self.now)) _ _ _ c.in_err-place.ensures)))
 
 pub each-returns-in_err-bind_entry : goal.each-returns-in_err-bind_entry
 each-returns-in_err-bind_entry g t c =
     let r = front-at c.in-Array.array.pairs c.loop-at.at (omega
-    (arith, c.len-at-end.ensures.len)) in exits _ _ c.from_residual-in_err-bind_entry.ensures.1 (c.loop-at.invariant _ _ (rw r.2
+    (arith, c.len-at-end.ensures.len)) in exits _ _ c.from_residual-in_err-bind_entry.ensures.1
+    (c.loop-at.invariant _ _ (rw r.2
     (bind-breaks _ c.args.line c.args.binding.now r.0 _ (statement_run c.args.body.now
     (goes_by c.args.self.now)) _ _ c.in_ok-place.ensures _ _ (at_once (c.in_err-bind_entry.ensures r.0 r.1)))))
 
 pub each-returns-in_err-statement : goal.each-returns-in_err-statement
 each-returns-in_err-statement g t c =
     let r = front-at c.in-Array.array.pairs c.loop-at.at (omega
-    (arith, c.len-at-end.ensures.len)) in exits _ _ c.from_residual-in_err-statement.ensures.1 (c.loop-at.invariant _ _ (rw r.2
+    (arith, c.len-at-end.ensures.len)) in exits _ _ c.from_residual-in_err-statement.ensures.1
+    (c.loop-at.invariant _ _ (rw r.2
     (each-body-breaks _ c.args.line c.args.binding.now r.0 _ (statement_run c.args.body.now
-    (goes_by c.args.self.now)) _ _ c.in_ok-place.ensures _ (at_once (c.in_ok-bind_entry.ensures r.0 r.1)) _ _ c.in_err-statement.ensures)))
+    (goes_by c.args.self.now)) _ _ c.in_ok-place.ensures _ (at_once (c.in_ok-bind_entry.ensures r.0 r.1)) _ _
+    c.in_err-statement.ensures)))
 
 pub each-returns-in-Out : goal.each-returns-in-Out
 each-returns-in-Out g t c =
-    let r = front-at c.in-Array.array.pairs c.loop-at.at (omega (arith, c.len-at-end.ensures.len)) in c.loop-at.invariant _ _ (rw r.2
-    (each-out _ c.args.line c.args.binding.now r.0 _ (statement_run c.args.body.now (goes_by c.args.self.now)) _ _ c.in_ok-place.ensures _
-    (at_once (c.in_ok-bind_entry.ensures r.0 r.1)) _ _ c.in_ok-statement.ensures _ (sym c.turn_over.ensures ∙ c.in-Out.is)))
+    let r = front-at c.in-Array.array.pairs c.loop-at.at (omega (arith, c.len-at-end.ensures.len)) in
+    c.loop-at.invariant _ _ (rw r.2
+    (each-out _ c.args.line c.args.binding.now r.0 _ (statement_run c.args.body.now (goes_by c.args.self.now)) _ _
+    c.in_ok-place.ensures _
+    (at_once (c.in_ok-bind_entry.ensures r.0 r.1)) _ _ c.in_ok-statement.ensures _
+    (sym c.turn_over.ensures ∙ c.in-Out.is)))
 
 pub each-loop-at-preserved : goal.each-loop-at-preserved
 each-loop-at-preserved g t c =
-    λ x u e. let r = front-at c.in-Array.array.pairs c.loop-at.at (omega (arith, c.len-at-end.ensures.len)) in c.loop-at.invariant x u (rw r.2
-    (each-goes-on _ c.args.line c.args.binding.now r.0 _ (statement_run c.args.body.now (goes_by c.args.self.now)) _ _ c.in_ok-place.ensures _
-    (at_once (c.in_ok-bind_entry.ensures r.0 r.1)) _ _ c.in_ok-statement.ensures (sym c.turn_over.ensures ∙ c.in-On.is) x u (rw add-one at e)))
+    λ x u e. let r =
+    front-at c.in-Array.array.pairs c.loop-at.at (omega (arith, c.len-at-end.ensures.len)) in c.loop-at.invariant x
+    u (rw r.2
+    (each-goes-on _ c.args.line c.args.binding.now r.0 _ (statement_run c.args.body.now (goes_by c.args.self.now)) _ _
+    c.in_ok-place.ensures _
+    (at_once (c.in_ok-bind_entry.ensures r.0 r.1)) _ _ c.in_ok-statement.ensures
+    (sym c.turn_over.ensures ∙ c.in-On.is) x u (rw add-one at e)))
 
 pub each-returns : goal.each-returns
 each-returns g t c =
-    let h : length c.in-Array.array.pairs ≤ c.loop-at.at = omega (arith, c.len-at-end.ensures.len) in c.loop-at.invariant _ _ (rw
+    let h : length c.in-Array.array.pairs ≤ c.loop-at.at = omega
+    (arith, c.len-at-end.ensures.len) in c.loop-at.invariant _ _ (rw
     (drop_of_length-le c.in-Array.array.pairs h) gives)
 
 pub statement-expression-requires : goal.statement-expression-requires
-statement-expression-requires g t c = λ κs h. (omega (arith, size-statement c.args.statement.now, ap kind_size c.in-Expression.is ∙ size-Expression _, c.decreases), h)
+statement-expression-requires g t c =
+    λ κs h. (
+      omega (
+        arith,
+        size-statement c.args.statement.now,
+        ap kind_size c.in-Expression.is
+            ∙ size-Expression _,
+        c.decreases,
+      ),
+      h,
+    )
 
 pub statement-echo-requires : goal.statement-echo-requires
-statement-echo-requires g t c = λ κs h. (omega (arith, size-statement c.args.statement.now, ap kind_size c.in-Echo.is ∙ size-Echo _, ap expressions_size c.as_slice.ensures, c.decreases), h)
+statement-echo-requires g t c =
+    λ κs h. (
+      omega (
+        arith,
+        size-statement c.args.statement.now,
+        ap kind_size c.in-Echo.is
+            ∙ size-Echo _,
+        ap expressions_size c.as_slice.ensures,
+        c.decreases,
+      ),
+      h,
+    )
 
 pub statement-body-requires : goal.statement-body-requires
 statement-body-requires g t c =
-    λ κs h. (omega (arith, size-statement c.args.statement.now, ap kind_size c.in-Block.is ∙ size-Block _, ap body_size c.as_slice-in-Block.ensures, c.decreases), h)
+    λ κs h. (
+      omega (
+        arith,
+        size-statement c.args.statement.now,
+        ap kind_size c.in-Block.is
+            ∙ size-Block _,
+        ap body_size c.as_slice-in-Block.ensures,
+        c.decreases,
+      ),
+      h,
+    )
 
 pub statement-arms-requires : goal.statement-arms-requires
 statement-arms-requires g t c =
@@ -898,7 +1070,17 @@ statement-foreach-requires g t c =
     )
 
 pub statement-return_value-requires : goal.statement-return_value-requires
-statement-return_value-requires g t c = λ κs h. (omega (arith, size-statement c.args.statement.now, ap kind_size c.in-Return.is ∙ size-Return _, c.decreases), h)
+statement-return_value-requires g t c =
+    λ κs h. (
+      omega (
+        arith,
+        size-statement c.args.statement.now,
+        ap kind_size c.in-Return.is
+            ∙ size-Return _,
+        c.decreases,
+      ),
+      h,
+    )
 
 pub statement-unset-requires : goal.statement-unset-requires
 statement-unset-requires g t c =
@@ -915,7 +1097,11 @@ statement-unset-requires g t c =
     )
 
 pub statement-exit-requires : goal.statement-exit-requires
-statement-exit-requires g t c = λ κs h. (omega (arith, size-statement c.args.statement.now, ap kind_size c.in-Exit.is ∙ size-Exit _, c.decreases), h)
+statement-exit-requires g t c =
+    λ κs h. (
+      omega (arith, size-statement c.args.statement.now, ap kind_size c.in-Exit.is ∙ size-Exit _, c.decreases),
+      h,
+    )
 
 pub body-statement-requires : goal.body-statement-requires
 body-statement-requires g t c =
@@ -957,4 +1143,7 @@ arms-statement-requires g t c =
 
 pub arms-statement-requires-in-Some : goal.arms-statement-requires-in-Some
 arms-statement-requires-in-Some g t c =
-    λ κs h. (omega (arith, size-some statement_size _ _ c.in-Some.is, ap statement_size c.as_ref.ensures, c.decreases), h)
+    λ κs h. (
+      omega (arith, size-some statement_size _ _ c.in-Some.is, ap statement_size c.as_ref.ensures, c.decreases),
+      h,
+    )

@@ -1,4 +1,5 @@
--- The measures of the evaluator's recursion, and what its loops keep: what the rest of a list gives, the whole list gives.
+-- The measures of the evaluator's recursion, and what its loops keep: what the rest of a list gives, the whole list
+-- gives.
 use Rattle.std.proofs.Common.{◌+◌, ◌-◌, ◌*◌, max, List, map, drop, Result}
 use Rattle.std.specs.Prelude.{option_map}
 use Rattle.std.specs.Option.{option_map_or}
@@ -35,7 +36,9 @@ abbrev pub decreases-array : goal.decreases-array
 decreases-array g l = l.self.now.depth * frame_size l.self.now.bundle.now + (4 * most size-Item l.items.now + 2)
 
 abbrev pub decreases-assign : goal.decreases-assign
-decreases-assign g l = l.self.now.depth * frame_size l.self.now.bundle.now + (4 * max (size-Place l.place.now) (size-Expression l.right.now) + 3)
+decreases-assign g l =
+    l.self.now.depth * frame_size l.self.now.bundle.now + (4 * max (size-Place l.place.now)
+    (size-Expression l.right.now) + 3)
 
 abbrev pub decreases-base : goal.decreases-base
 decreases-base g l = l.self.now.depth * frame_size l.self.now.bundle.now + (expression_size l.e.now + 2)
@@ -47,13 +50,17 @@ abbrev pub decreases-call : goal.decreases-call
 decreases-call g l = l.self.now.depth * frame_size l.self.now.bundle.now
 
 abbrev pub decreases-chain : goal.decreases-chain
-decreases-chain g l = l.self.now.depth * frame_size l.self.now.bundle.now + (4 * max (size-Expression l.first.now) (most size-Link l.links.now) + 3)
+decreases-chain g l =
+    l.self.now.depth * frame_size l.self.now.bundle.now + (4 * max (size-Expression l.first.now)
+    (most size-Link l.links.now) + 3)
 
 abbrev pub decreases-chosen : goal.decreases-chosen
-decreases-chosen g l = l.self.now.depth * frame_size l.self.now.bundle.now + (4 * option_map_or size-Expression l.middle.now 0 + 1)
+decreases-chosen g l =
+    l.self.now.depth * frame_size l.self.now.bundle.now + (4 * option_map_or size-Expression l.middle.now 0 + 1)
 
 abbrev pub decreases-call_builtin : goal.decreases-call_builtin
-decreases-call_builtin g l = l.self.now.depth * frame_size l.self.now.bundle.now + (4 * most size-Expression l.arguments.now + 2)
+decreases-call_builtin g l =
+    l.self.now.depth * frame_size l.self.now.bundle.now + (4 * most size-Expression l.arguments.now + 2)
 
 abbrev pub decreases-coalesce : goal.decreases-coalesce
 decreases-coalesce g l = l.self.now.depth * frame_size l.self.now.bundle.now + (4 * max (size-Expression l.left.now)
@@ -64,20 +71,26 @@ decreases-coalesce_assign g l = l.self.now.depth * frame_size l.self.now.bundle.
     (size-Expression l.right.now) + 3)
 
 abbrev pub decreases-coalesce_under : goal.decreases-coalesce_under
-decreases-coalesce_under g l = l.self.now.depth * frame_size l.self.now.bundle.now + (4 * size-Expression l.right.now + 2)
+decreases-coalesce_under g l =
+    l.self.now.depth * frame_size l.self.now.bundle.now + (4 * size-Expression l.right.now + 2)
 
 abbrev pub decreases-compound : goal.decreases-compound
-decreases-compound g l = l.self.now.depth * frame_size l.self.now.bundle.now + (4 * max (size-Place l.place.now) (size-Expression l.right.now) + 3)
+decreases-compound g l =
+    l.self.now.depth * frame_size l.self.now.bundle.now + (4 * max (size-Place l.place.now)
+    (size-Expression l.right.now) + 3)
 
 abbrev pub decreases-compound_under : goal.decreases-compound_under
-decreases-compound_under g l = l.self.now.depth * frame_size l.self.now.bundle.now + (4 * size-Expression l.right.now + 2)
+decreases-compound_under g l =
+    l.self.now.depth * frame_size l.self.now.bundle.now + (4 * size-Expression l.right.now + 2)
 
 abbrev pub decreases-conditional : goal.decreases-conditional
-decreases-conditional g l = l.self.now.depth * frame_size l.self.now.bundle.now + (4 * max (size-Expression l.test.now) (max
+decreases-conditional g l =
+    l.self.now.depth * frame_size l.self.now.bundle.now + (4 * max (size-Expression l.test.now) (max
     (option_map_or size-Expression l.middle.now 0) (size-Expression l.otherwise.now)) + 3)
 
 abbrev pub decreases-do_turns : goal.decreases-do_turns
-decreases-do_turns g l = l.self.now.depth * frame_size l.self.now.bundle.now + (expression_size l.test.now + statement_size l.body.now + 2)
+decreases-do_turns g l =
+    l.self.now.depth * frame_size l.self.now.bundle.now + (expression_size l.test.now + statement_size l.body.now + 2)
 
 abbrev pub decreases-each : goal.decreases-each
 decreases-each g l = l.self.now.depth * frame_size l.self.now.bundle.now + (statement_size l.body.now + 1)
@@ -87,10 +100,13 @@ decreases-echo g l = l.self.now.depth * frame_size l.self.now.bundle.now + (expr
 
 abbrev pub decreases-for_turns : goal.decreases-for_turns
 decreases-for_turns g l = l.self.now.depth * frame_size l.self.now.bundle.now +
-    (expressions_size l.before.now + expressions_size l.tests.now + expressions_size l.after.now + statement_size l.body.now + 2)
+    (expressions_size l.before.now + expressions_size l.tests.now + expressions_size l.after.now + statement_size
+    l.body.now + 2)
 
 abbrev pub decreases-foreach : goal.decreases-foreach
-decreases-foreach g l = l.self.now.depth * frame_size l.self.now.bundle.now + (expression_size l.subject.now + statement_size l.body.now + 2)
+decreases-foreach g l =
+    l.self.now.depth * frame_size l.self.now.bundle.now + (expression_size l.subject.now + statement_size l.body.now +
+    2)
 
 abbrev pub decreases-exit : goal.decreases-exit
 decreases-exit g l = l.self.now.depth * frame_size l.self.now.bundle.now + (optional_size l.value.now + 3)
@@ -114,7 +130,8 @@ abbrev pub decreases-include : goal.decreases-include
 decreases-include g l = l.self.now.depth * frame_size l.self.now.bundle.now + 1
 
 abbrev pub decreases-included : goal.decreases-included
-decreases-included g l = l.self.now.depth * frame_size l.self.now.bundle.now + (body_size (statements_of l.self.now.bundle.now l.file) + 1)
+decreases-included g l =
+    l.self.now.depth * frame_size l.self.now.bundle.now + (body_size (statements_of l.self.now.bundle.now l.file) + 1)
 
 abbrev pub decreases-inclusion : goal.decreases-inclusion
 decreases-inclusion g l = l.self.now.depth * frame_size l.self.now.bundle.now + (4 * size-Expression l.file.now + 2)
@@ -130,7 +147,9 @@ abbrev pub decreases-item : goal.decreases-item
 decreases-item g l = l.self.now.depth * frame_size l.self.now.bundle.now + (4 * size-Item l.item.now + 1)
 
 abbrev pub decreases-keyed : goal.decreases-keyed
-decreases-keyed g l = l.self.now.depth * frame_size l.self.now.bundle.now + (4 * max (size-Expression l.key.now) (size-Expression l.item.now) + 2)
+decreases-keyed g l =
+    l.self.now.depth * frame_size l.self.now.bundle.now + (4 * max (size-Expression l.key.now)
+    (size-Expression l.item.now) + 2)
 
 abbrev pub decreases-link : goal.decreases-link
 decreases-link g l = l.self.now.depth * frame_size l.self.now.bundle.now + (4 * size-Link l.link.now + 1)
@@ -168,71 +187,89 @@ decreases-variable_entry g l = l.self.now.depth * frame_size l.self.now.bundle.n
 
 abbrev pub invariant-values-loop-e : goal.invariant-values-loop-e
 invariant-values-loop-e g l = (x : Result (List Value) Halt) (t : State)
-    → Evaluates (g.O.Outside.rules l.self.outside.now) (more_values (drop l.e-index l.all) l.values.items (goes_by l.self) l.state) x t
+    → Evaluates (g.O.Outside.rules l.self.outside.now) (more_values (drop l.e-index l.all) l.values.items
+    (goes_by l.self) l.state) x t
     → Evaluates (g.O.Outside.rules l.self.outside.now) (evaluations l.all (goes_by l.self) l.fn.state) x t
 
 abbrev pub invariant-array-loop-item : goal.invariant-array-loop-item
 invariant-array-loop-item g l = (x : Result Value Halt) (t : State)
     → Evaluates (g.O.Outside.rules l.self.outside.now) (items_run (map item_run_of (drop l.item-index l.items)) l.array
-    (goes_by l.self) l.state) x t → Evaluates (g.O.Outside.rules l.self.outside.now) (items_run (map item_run_of l.items)
+    (goes_by l.self) l.state) x t
+    → Evaluates (g.O.Outside.rules l.self.outside.now) (items_run (map item_run_of l.items)
     (variant.Array empty) (goes_by l.self) l.fn.state) x t
 
 abbrev pub invariant-links-loop-link : goal.invariant-links-loop-link
 invariant-links-loop-link g l = (x : Result Value Halt) (t : State)
     → Evaluates (g.O.Outside.rules l.self.outside.now) (links_run (map link_run (drop l.link-index l.links)) l.value
-    (goes_by l.self) l.state) x t → Evaluates (g.O.Outside.rules l.self.outside.now) (links_run (map link_run l.links) l.fn.first
+    (goes_by l.self) l.state) x t
+    → Evaluates (g.O.Outside.rules l.self.outside.now) (links_run (map link_run l.links) l.fn.first
     (goes_by l.self) l.fn.state) x t
 
 abbrev pub invariant-isset-loop-place : goal.invariant-isset-loop-place
 invariant-isset-loop-place g l = (x : Result Value Halt) (t : State)
-    → Evaluates (g.O.Outside.rules l.self.outside.now) (isset_run (map place_run (drop l.place-index l.places)) (goes_by l.self) l.state) x t
-    → Evaluates (g.O.Outside.rules l.self.outside.now) (isset_run (map place_run l.places) (goes_by l.self) l.fn.state) x t
+    → Evaluates (g.O.Outside.rules l.self.outside.now) (isset_run (map place_run (drop l.place-index l.places))
+    (goes_by l.self) l.state) x t
+    → Evaluates (g.O.Outside.rules l.self.outside.now) (isset_run (map place_run l.places) (goes_by l.self) l.fn.state)
+    x t
 
 abbrev pub invariant-unset-loop-place : goal.invariant-unset-loop-place
 invariant-unset-loop-place g l = (x : Result Unit Halt) (t : State)
-    → Evaluates (g.O.Outside.rules l.self.outside.now) (unset_run (map place_run (drop l.place-index l.places)) (goes_by l.self) l.state) x t
-    → Evaluates (g.O.Outside.rules l.self.outside.now) (unset_run (map place_run l.places) (goes_by l.self) l.fn.state) x t
+    → Evaluates (g.O.Outside.rules l.self.outside.now) (unset_run (map place_run (drop l.place-index l.places))
+    (goes_by l.self) l.state) x t
+    → Evaluates (g.O.Outside.rules l.self.outside.now) (unset_run (map place_run l.places) (goes_by l.self) l.fn.state)
+    x t
 
 abbrev pub invariant-body-loop-statement : goal.invariant-body-loop-statement
 invariant-body-loop-statement g l = (x : Result Signal Halt) (t : State)
-    → Evaluates (g.O.Outside.rules l.self.outside.now) (body_run (drop l.statement-index l.statements) (goes_by l.self) l.state) x t
+    → Evaluates (g.O.Outside.rules l.self.outside.now) (body_run (drop l.statement-index l.statements)
+    (goes_by l.self) l.state) x t
     → Evaluates (g.O.Outside.rules l.self.outside.now) (body_run l.statements (goes_by l.self) l.fn.state) x t
 
 abbrev pub invariant-echo-loop-operand : goal.invariant-echo-loop-operand
 invariant-echo-loop-operand g l = (x : Result Signal Halt) (t : State)
     → Evaluates (g.O.Outside.rules l.self.outside.now) (echoes (map expression_run (drop l.operand-index l.operands))
-    (goes_by l.self) l.state) x t → Evaluates (g.O.Outside.rules l.self.outside.now) (echoes (map expression_run l.operands)
+    (goes_by l.self) l.state) x t
+    → Evaluates (g.O.Outside.rules l.self.outside.now) (echoes (map expression_run l.operands)
     (goes_by l.self) l.fn.state) x t
 
 abbrev pub invariant-arms-loop-arm : goal.invariant-arms-loop-arm
 invariant-arms-loop-arm g l = (x : Result Signal Halt) (t : State)
-    → Evaluates (g.O.Outside.rules l.self.outside.now) (arms_run (map arm_run (drop l.arm-index l.arms)) (option_map statement_run l.otherwise)
+    → Evaluates (g.O.Outside.rules l.self.outside.now) (arms_run (map arm_run (drop l.arm-index l.arms))
+    (option_map statement_run l.otherwise)
     (goes_by l.self) l.state) x t → Evaluates (g.O.Outside.rules l.self.outside.now) (arms_run (map arm_run l.arms)
     (option_map statement_run l.otherwise) (goes_by l.self) l.fn.state) x t
 
 abbrev pub invariant-turns-loop-turn : goal.invariant-turns-loop-turn
 invariant-turns-loop-turn g l = (x : Result Signal Halt) (t : State)
-    → Evaluates (g.O.Outside.rules l.self.outside.now) (turns (l.left - l._turn) l.line (evaluations l.tests (goes_by l.self))
+    → Evaluates (g.O.Outside.rules l.self.outside.now) (turns (l.left - l._turn) l.line
+    (evaluations l.tests (goes_by l.self))
     (evaluations l.after (goes_by l.self)) (statement_run l.body (goes_by l.self)) l.state) x t
-    → Evaluates (g.O.Outside.rules l.self.outside.now) (turns l.left l.line (evaluations l.tests (goes_by l.self)) (evaluations l.after
+    → Evaluates (g.O.Outside.rules l.self.outside.now) (turns l.left l.line (evaluations l.tests (goes_by l.self))
+    (evaluations l.after
     (goes_by l.self)) (statement_run l.body (goes_by l.self)) l.fn.state) x t
 
 abbrev pub invariant-do_turns-loop-turn : goal.invariant-do_turns-loop-turn
 invariant-do_turns-loop-turn g l = (x : Result Signal Halt) (t : State)
-    → Evaluates (g.O.Outside.rules l.self.outside.now) (do_turns (l.left - l._turn) l.line (evaluation l.test (goes_by l.self))
+    → Evaluates (g.O.Outside.rules l.self.outside.now) (do_turns (l.left - l._turn) l.line
+    (evaluation l.test (goes_by l.self))
     (statement_run l.body (goes_by l.self)) l.state) x t
-    → Evaluates (g.O.Outside.rules l.self.outside.now) (do_turns l.left l.line (evaluation l.test (goes_by l.self)) (statement_run l.body
+    → Evaluates (g.O.Outside.rules l.self.outside.now) (do_turns l.left l.line (evaluation l.test (goes_by l.self))
+    (statement_run l.body
     (goes_by l.self)) l.fn.state) x t
 
 abbrev pub invariant-each-loop-at : goal.invariant-each-loop-at
 invariant-each-loop-at g l = (x : Result Signal Halt) (t : State)
-    → Evaluates (g.O.Outside.rules l.self.outside.now) (each_run l.line l.binding (drop l.at l.array.pairs) (statement_run l.body
+    → Evaluates (g.O.Outside.rules l.self.outside.now) (each_run l.line l.binding (drop l.at l.array.pairs)
+    (statement_run l.body
     (goes_by l.self)) l.state) x t
-    → Evaluates (g.O.Outside.rules l.self.outside.now) (each_run l.line l.binding (drop l.from (entries l.fn.subject)) (statement_run l.body
+    → Evaluates (g.O.Outside.rules l.self.outside.now) (each_run l.line l.binding (drop l.from (entries l.fn.subject))
+    (statement_run l.body
     (goes_by l.self)) l.fn.state) x t
 
 abbrev pub invariant-under-loop-e : goal.invariant-under-loop-e
 invariant-under-loop-e g l = (x : Result Value Halt) (t : State)
-    → Evaluates (g.O.Outside.rules l.self.outside.now) (indices_run (entries_by l.reading) (map expression_run (drop l.e-index l.indices)) l.value
+    → Evaluates (g.O.Outside.rules l.self.outside.now) (indices_run (entries_by l.reading)
+    (map expression_run (drop l.e-index l.indices)) l.value
     (goes_by l.self) l.state) x t
-    → Evaluates (g.O.Outside.rules l.self.outside.now) (indices_run (entries_by l.reading) (map expression_run l.indices) l.fn.base (goes_by l.self) l.fn.state) x t
+    → Evaluates (g.O.Outside.rules l.self.outside.now) (indices_run (entries_by l.reading)
+    (map expression_run l.indices) l.fn.base (goes_by l.self) l.fn.state) x t

@@ -11,5 +11,6 @@ returns c =
     let by = c.evaluator.ensures.by in
     runs-whole c.args.self.now (λ setting s. do_turns c.args.left c.args.line (evaluation c.args.test.now setting)
     (statement_run c.args.body.now setting) s)
-    c.do_turns.result c.args.state.now c.do_turns.new.state _ _ _ _ (ap (λ (q : Quiet). q.bound) c.evaluator.ensures.quiet) by.0 by.1 by.2
+    c.do_turns.result c.args.state.now c.do_turns.new.state _ _ _ _
+    (ap (λ (q : Quiet). q.bound) c.evaluator.ensures.quiet) by.0 by.1 by.2
     c.do_turns.ensures.meets

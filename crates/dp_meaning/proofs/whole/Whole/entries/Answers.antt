@@ -8,7 +8,9 @@ use Rattle.dp_meaning.proofs.whole.Whole.entries.Goals as goal
 pub returns : goal.returns
 returns c =
     let by = c.evaluator.ensures.by in
-    runs-whole c.args.self.now (λ setting s. each_run c.args.line c.args.binding.now (drop c.args.from (entries c.args.subject.now))
+    runs-whole c.args.self.now (λ setting s. each_run c.args.line c.args.binding.now
+    (drop c.args.from (entries c.args.subject.now))
     (statement_run c.args.body.now setting) s)
-    c.each.result c.args.state.now c.each.new.state _ _ _ _ (ap (λ (q : Quiet). q.bound) c.evaluator.ensures.quiet) by.0 by.1 by.2
+    c.each.result c.args.state.now c.each.new.state _ _ _ _ (ap (λ (q : Quiet). q.bound) c.evaluator.ensures.quiet) by.0
+    by.1 by.2
     c.each.ensures.meets

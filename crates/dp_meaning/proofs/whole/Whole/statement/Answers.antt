@@ -8,5 +8,6 @@ pub returns : goal.returns
 returns c =
     let by = c.evaluator.ensures.by in
     runs-whole c.args.self.now (statement_run c.args.statement.now)
-    c.statement.result c.args.state.now c.statement.new.state _ _ _ _ (ap (λ (q : Quiet). q.bound) c.evaluator.ensures.quiet) by.0 by.1 by.2
+    c.statement.result c.args.state.now c.statement.new.state _ _ _ _
+    (ap (λ (q : Quiet). q.bound) c.evaluator.ensures.quiet) by.0 by.1 by.2
     c.statement.ensures.meets

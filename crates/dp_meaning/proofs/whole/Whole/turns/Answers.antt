@@ -11,5 +11,6 @@ returns c =
     let by = c.evaluator.ensures.by in
     runs-whole c.args.self.now (λ setting s. turns c.args.left c.args.line (evaluations c.args.tests.now setting)
     (evaluations c.args.after.now setting) (statement_run c.args.body.now setting) s)
-    c.turns.result c.args.state.now c.turns.new.state _ _ _ _ (ap (λ (q : Quiet). q.bound) c.evaluator.ensures.quiet) by.0 by.1 by.2
+    c.turns.result c.args.state.now c.turns.new.state _ _ _ _
+    (ap (λ (q : Quiet). q.bound) c.evaluator.ensures.quiet) by.0 by.1 by.2
     c.turns.ensures.meets

@@ -24,5 +24,6 @@ pub returns-clause-granted : goal.returns-clause-granted
 returns-clause-granted g c =
     let asked = c.in_ok-asked.asked.items in
     let answers = c.in_ok-answers.answers.items in
-    let fewer : count_by (λ one. not one.granted) asked ≤ count_by is_err answers = fewer_refused g.J.Job.may_give (λ one. one.job) (λ one. one.granted) asked answers c.in_ok-answers.ensures in
+    let fewer : count_by (λ one. not one.granted) asked ≤ count_by is_err answers = fewer_refused g.J.Job.may_give
+    (λ one. one.job) (λ one. one.granted) asked answers c.in_ok-answers.ensures in
     search (rules, fewer)

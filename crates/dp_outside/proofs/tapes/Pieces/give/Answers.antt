@@ -10,4 +10,5 @@ returns-then-self-len-clause-after c =
 pub returns-else-self-len-clause-after : goal.returns-else-self-len-clause-after
 returns-else-self-len-clause-after c =
     let p = c.self.inside in
-    rw (← c.self.view_is) (used_none p.bytes.items p.cuts.items p.at p.used c.min-count.result (search (rules, c.if-self-len.false)))
+    rw (← c.self.view_is) (used_none p.bytes.items p.cuts.items p.at p.used c.min-count.result
+    (search (rules, c.if-self-len.false)))

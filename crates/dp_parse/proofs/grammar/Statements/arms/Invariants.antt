@@ -5,4 +5,6 @@ use Rattle.dp_parse.specs.inner.ReadingStatements.{arms_step}
 use Rattle.dp_parse.proofs.grammar.Statements.arms.Given as goal
 
 abbrev pub invariant-loop-turn : goal.invariant-loop-turn
-invariant-loop-turn g l = closed (within arms_step l.self) l.fn.first l.fn.tokens ≡ until (within arms_step l.self) (l._turn-end - l._turn) l.state l.tokens
+invariant-loop-turn g l =
+    closed (within arms_step l.self) l.fn.first l.fn.tokens ≡ until (within arms_step l.self)
+    (l._turn-end - l._turn) l.state l.tokens

@@ -9,23 +9,27 @@ use Rattle.dp_parse.proofs.grammar.Statements.bodies.Goals as goal
 pub returns-in_err-more : goal.returns-in_err-more
 unfolding until bodies
 returns-in_err-more g c =
-    let e = one_turn (λ n. until (bodies_step (body c.args.self.now.0 c.args.loops)) n c.loop-turn.state c.loop-turn.tokens) _ c.loop-turn._turn c.loop-turn-test.true c.loop-turn.invariant in
+    let e = one_turn (λ n. until (bodies_step (body c.args.self.now.0 c.args.loops)) n c.loop-turn.state
+    c.loop-turn.tokens) _ c.loop-turn._turn c.loop-turn-test.true c.loop-turn.invariant in
     first_of (search rules, grind (arith, common_steps))
 
 pub returns-in-Break : goal.returns-in-Break
 unfolding until bodies
 returns-in-Break g c =
-    let e = one_turn (λ n. until (bodies_step (body c.args.self.now.0 c.args.loops)) n c.loop-turn.state c.loop-turn.tokens) _ c.loop-turn._turn c.loop-turn-test.true c.loop-turn.invariant in
+    let e = one_turn (λ n. until (bodies_step (body c.args.self.now.0 c.args.loops)) n c.loop-turn.state
+    c.loop-turn.tokens) _ c.loop-turn._turn c.loop-turn-test.true c.loop-turn.invariant in
     first_of (search rules, grind (arith, common_steps))
 
 pub loop-turn-preserved : goal.loop-turn-preserved
 unfolding until bodies
 loop-turn-preserved g c =
-    let e = one_turn (λ n. until (bodies_step (body c.args.self.now.0 c.args.loops)) n c.loop-turn.state c.loop-turn.tokens) _ c.loop-turn._turn c.loop-turn-test.true c.loop-turn.invariant in
+    let e = one_turn (λ n. until (bodies_step (body c.args.self.now.0 c.args.loops)) n c.loop-turn.state
+    c.loop-turn.tokens) _ c.loop-turn._turn c.loop-turn-test.true c.loop-turn.invariant in
     first_of (search rules, grind (arith, common_steps))
 
 pub returns : goal.returns
 unfolding until bodies
 returns g c =
-    let e = no_turn (λ n. until (bodies_step (body c.args.self.now.0 c.args.loops)) n c.loop-turn.state c.loop-turn.tokens) _ c.loop-turn._turn c.loop-turn-test.false c.loop-turn.invariant in
+    let e = no_turn (λ n. until (bodies_step (body c.args.self.now.0 c.args.loops)) n c.loop-turn.state
+    c.loop-turn.tokens) _ c.loop-turn._turn c.loop-turn-test.false c.loop-turn.invariant in
     first_of (search rules, grind (arith, common_steps))

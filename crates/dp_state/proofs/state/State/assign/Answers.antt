@@ -6,23 +6,36 @@ use Rattle.dp_state.proofs.Writing.{assigned-home, on_ok, on_refused, on_err, wi
 use Rattle.dp_state.proofs.state.State.assign.Goals as goal
 
 pub exchange_own-requires : goal.exchange_own-requires
-exchange_own-requires c = within-still c.home-at.result c.args.self.now c.take_own-vars.new.self c.take_own-vars.ensures.left c.home-at.ensures.within
+exchange_own-requires c =
+    within-still c.home-at.result c.args.self.now c.take_own-vars.new.self c.take_own-vars.ensures.left
+    c.home-at.ensures.within
 
 pub returns-clause-ok : goal.returns-clause-ok
 returns-clause-ok c =
-    on_ok c.home-at.result c.args.self.now c.take_own-vars.new.self c.exchange_own.new.self c.take_own-vars.result c.assign_in-done.new.vars c.take_own-vars.ensures.taken c.take_own-vars.ensures.left c.exchange_own.ensures.given
-    (assigned c.args.level c.args.name.now c.args.keys.now c.args.push c.args.value c.args.self.now) (assigned_in c.args.name.now c.args.keys.now c.args.push c.args.value)
+    on_ok c.home-at.result c.args.self.now c.take_own-vars.new.self c.exchange_own.new.self c.take_own-vars.result
+    c.assign_in-done.new.vars c.take_own-vars.ensures.taken c.take_own-vars.ensures.left
+    c.exchange_own.ensures.given
+    (assigned c.args.level c.args.name.now c.args.keys.now c.args.push c.args.value c.args.self.now)
+    (assigned_in c.args.name.now c.args.keys.now c.args.push c.args.value)
     (assigned-home c.args.self.now c.args.level c.args.name.now c.args.keys.now c.args.push c.args.value
-    ∙ ap (λ (at : ℕ). with_result at c.args.self.now (assigned_in c.args.name.now c.args.keys.now c.args.push c.args.value (own_variables c.args.self.now at))) (sym c.home-at.ensures.home))
+    ∙ ap (λ (at : ℕ). with_result at c.args.self.now (assigned_in c.args.name.now c.args.keys.now c.args.push
+    c.args.value (own_variables c.args.self.now at))) (sym c.home-at.ensures.home))
     c.assign_in-done.result c.assign_in-done.ensures.ok
 
 pub returns-clause-refused : goal.returns-clause-refused
 returns-clause-refused c =
-    on_refused c.home-at.result c.args.self.now c.take_own-vars.new.self c.exchange_own.new.self c.take_own-vars.result c.assign_in-done.new.vars c.take_own-vars.ensures.taken c.take_own-vars.ensures.left c.exchange_own.ensures.given
-    (assigned c.args.level c.args.name.now c.args.keys.now c.args.push c.args.value c.args.self.now) (assigned_in c.args.name.now c.args.keys.now c.args.push c.args.value)
+    on_refused c.home-at.result c.args.self.now c.take_own-vars.new.self c.exchange_own.new.self c.take_own-vars.result
+    c.assign_in-done.new.vars c.take_own-vars.ensures.taken c.take_own-vars.ensures.left
+    c.exchange_own.ensures.given
+    (assigned c.args.level c.args.name.now c.args.keys.now c.args.push c.args.value c.args.self.now)
+    (assigned_in c.args.name.now c.args.keys.now c.args.push c.args.value)
     (assigned-home c.args.self.now c.args.level c.args.name.now c.args.keys.now c.args.push c.args.value
-    ∙ ap (λ (at : ℕ). with_result at c.args.self.now (assigned_in c.args.name.now c.args.keys.now c.args.push c.args.value (own_variables c.args.self.now at))) (sym c.home-at.ensures.home))
+    ∙ ap (λ (at : ℕ). with_result at c.args.self.now (assigned_in c.args.name.now c.args.keys.now c.args.push
+    c.args.value (own_variables c.args.self.now at))) (sym c.home-at.ensures.home))
     c.assign_in-done.result c.assign_in-done.ensures.refused
 
 pub returns-clause-err : goal.returns-clause-err
-returns-clause-err c = on_err c.home-at.result c.args.self.now c.take_own-vars.new.self c.exchange_own.new.self c.take_own-vars.result c.assign_in-done.new.vars c.take_own-vars.ensures.taken c.take_own-vars.ensures.left c.exchange_own.ensures.given c.assign_in-done.result c.home-at.ensures.within c.assign_in-done.ensures.err
+returns-clause-err c =
+    on_err c.home-at.result c.args.self.now c.take_own-vars.new.self c.exchange_own.new.self c.take_own-vars.result
+    c.assign_in-done.new.vars c.take_own-vars.ensures.taken c.take_own-vars.ensures.left c.exchange_own.ensures.given
+    c.assign_in-done.result c.home-at.ensures.within c.assign_in-done.ensures.err

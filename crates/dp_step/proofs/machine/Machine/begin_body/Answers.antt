@@ -8,7 +8,9 @@ pub returns-in-Ok : goal.returns-in-Ok
 returns-in-Ok c =
     let m = c.args.self.now in
     let kept = c.hold_both.ensures.kept in record {
-      by = body-held m m.state _ c.args.function.now.body kept.0 kept.1 (ap (λ n. n - 1) kept.2) kept.3 (λ setting k t. ap (λ (h : Hand). hand_rest setting h k t) c.in-Ok.ensures.held.0) c.args.function.now refl c.in-Ok.ensures.held.1;
+      by = body-held m m.state _ c.args.function.now.body kept.0 kept.1 (ap (λ n. n - 1) kept.2) kept.3
+          (λ setting k t. ap (λ (h : Hand). hand_rest setting h k t) c.in-Ok.ensures.held.0) c.args.function.now refl
+          c.in-Ok.ensures.held.1;
       same_bundle = kept.0;
       same_bound = kept.1;
     }

@@ -7,7 +7,8 @@ use Rattle.dp_step.proofs.machine.Machine.call.Goals as goal
 pub returns-then-self-eq0 : goal.returns-then-self-eq0
 returns-then-self-eq0 c =
     let m = c.args.self.now in record {
-      by = rw c.fatal.ensures (over-is _ _ m.state (too_deep-call m m.state c.if-self-eq0.true c.args.file c.args.function.now c.args.values));
+      by = rw c.fatal.ensures (over-is _ _ m.state (too_deep-call m m.state c.if-self-eq0.true c.args.file
+          c.args.function.now c.args.values));
       same_bundle = refl;
       same_bound = refl;
     }
@@ -16,9 +17,12 @@ pub returns-in-Ok : goal.returns-in-Ok
 returns-in-Ok c =
     let m = c.args.self.now in
     moves_as m _ _ _ _ _ (call-first m m.state c.if-self-eq0.false c.args.file c.args.function.now c.args.values
-    ∙ then_done _ (tt {0}) c.enter_call.new.state (λ _ t. body_with m c.args.function.now t) c.in-Ok.ensures) refl refl c.begin_body.ensures
+    ∙ then_done _ (tt {0}) c.enter_call.new.state (λ _ t. body_with m c.args.function.now t) c.in-Ok.ensures) refl refl
+    c.begin_body.ensures
 
 pub returns-in-Err : goal.returns-in-Err
 returns-in-Err c =
     let m = c.args.self.now in
-    taken-moves m _ _ _ (λ _ t. body_with m c.args.function.now t) c.in-Err.why c.enter_call.new.state (call-first m m.state c.if-self-eq0.false c.args.file c.args.function.now c.args.values) refl refl refl c.in-Err.ensures
+    taken-moves m _ _ _ (λ _ t. body_with m c.args.function.now t) c.in-Err.why c.enter_call.new.state
+    (call-first m m.state c.if-self-eq0.false c.args.file c.args.function.now c.args.values) refl refl refl
+    c.in-Err.ensures

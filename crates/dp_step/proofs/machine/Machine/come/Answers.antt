@@ -6,7 +6,12 @@ use Rattle.dp_step.proofs.Ends.{over-left}
 use Rattle.dp_step.proofs.machine.Machine.come.Goals as goal
 
 pub returns-then-self : goal.returns-then-self
-returns-then-self c = record { by = (omega (arith, c.if-self.true), refl, refl, over-left _ _ c.put_hand.ensures); same_bundle = refl; same_bound = refl }
+returns-then-self c =
+    record {
+      by = (omega (arith, c.if-self.true), refl, refl, over-left _ _ c.put_hand.ensures);
+      same_bundle = refl;
+      same_bound = refl;
+    }
 
 pub returns-in-Ok : goal.returns-in-Ok
 unfolding rest_of

@@ -5,7 +5,9 @@ use Rattle.dp_step.proofs.machine.Machine.end_file.Goals as goal
 pub returns : goal.returns
 returns c =
     let m = c.args.self.now in record {
-      by = c.file_left.ensures _ c.args.depth _ m.state ∙ sym (rest-by _ m.bundle.now m.bound c.args.depth _ m.pending.items refl refl refl c.put_hand.ensures refl m.state);
+      by = c.file_left.ensures _ c.args.depth _ m.state
+          ∙ sym (rest-by _ m.bundle.now m.bound c.args.depth _ m.pending.items refl refl refl c.put_hand.ensures refl
+          m.state);
       same_bundle = refl;
       same_bound = refl;
     }

@@ -17,13 +17,16 @@ pub returns-in-Ok-Some : goal.returns-in-Ok-Some
 unfolding and_then
 returns-in-Ok-Some c =
     let m = c.args.self.now in
-    let value_is = pure-same c.args.e.now (sym c.is_pure.ensures ∙ c.if-not-is_pure.false) (setting_at m) (evaluation_setting m.bundle.now) m.state ∙ (rw c.in-Ok-Some.field-0-is at c.in-Ok-Some.ensures).value in
+    let value_is = pure-same c.args.e.now (sym c.is_pure.ensures ∙ c.if-not-is_pure.false) (setting_at m)
+    (evaluation_setting m.bundle.now) m.state ∙ (rw c.in-Ok-Some.field-0-is at c.in-Ok-Some.ensures).value in
     moves_as m _ c.take.new.self _ _ c.take.result
-    (ap (λ (r : Run Value). and_then r (to_value (follows_of m))) value_is ∙ ap (λ (s : State). follows_of m (given.Value c.in-Ok-Some.value) s) (sym c.in-Ok-Some.ensures.same))
+    (ap (λ (r : Run Value). and_then r (to_value (follows_of m))) value_is
+    ∙ ap (λ (s : State). follows_of m (given.Value c.in-Ok-Some.value) s) (sym c.in-Ok-Some.ensures.same))
     refl refl c.take.ensures
 
 pub returns-in-Ok-None : goal.returns-in-Ok-None
 returns-in-Ok-None c =
     let m = c.args.self.now in
     moves_as m _ c.first-in-Ok-None.new.self _ _ c.first-in-Ok-None.result
-    (ap (λ (s : State). rest_with m (hand.Part (part.Evaluate c.args.e)) s) (sym c.in-Ok-None.ensures.same)) refl refl c.first-in-Ok-None.ensures
+    (ap (λ (s : State). rest_with m (hand.Part (part.Evaluate c.args.e)) s) (sym c.in-Ok-None.ensures.same)) refl refl
+    c.first-in-Ok-None.ensures

@@ -8,13 +8,15 @@ pub returns-in-Ok : goal.returns-in-Ok
 returns-in-Ok c =
     let m = c.args.self.now in
     moves_on (setting_at m) _ c.in-Ok.small c.first_of.new.state (follows_of m) m _ _ _ _ refl refl refl
-    (rw c.in-Ok.is at (c.first_of.ensures (setting_at m) (setting-bundle m.bundle.now m.bound m.depth) (setting-bound m.bundle.now m.bound m.depth))) c.keep.ensures
+    (rw c.in-Ok.is at (c.first_of.ensures (setting_at m) (setting-bundle m.bundle.now m.bound m.depth)
+    (setting-bound m.bundle.now m.bound m.depth))) c.keep.ensures
 
 pub returns-in-Err : goal.returns-in-Err
 returns-in-Err c =
     let m = c.args.self.now in record {
       by = moves_off (setting_at m) _ c.in-Err.why c.first_of.new.state (follows_of m) _ refl
-          (rw c.in-Err.is at (c.first_of.ensures (setting_at m) (setting-bundle m.bundle.now m.bound m.depth) (setting-bound m.bundle.now m.bound m.depth)));
+          (rw c.in-Err.is at (c.first_of.ensures (setting_at m) (setting-bundle m.bundle.now m.bound m.depth)
+          (setting-bound m.bundle.now m.bound m.depth)));
       same_bundle = refl;
       same_bound = refl;
     }

@@ -16,9 +16,11 @@ pub returns-in-Ok : goal.returns-in-Ok
 returns-in-Ok c =
     let m = c.args.self.now in
     moves_as m _ _ _ _ _ (file-first m m.state c.if-self-eq0.false c.args.file
-    ∙ then_done _ (tt {0}) c.enter_file.new.state (λ _ t. file_with m c.args.file t) c.in-Ok.ensures) refl refl c.begin_file.ensures
+    ∙ then_done _ (tt {0}) c.enter_file.new.state (λ _ t. file_with m c.args.file t) c.in-Ok.ensures) refl refl
+    c.begin_file.ensures
 
 pub returns-in-Err : goal.returns-in-Err
 returns-in-Err c =
     let m = c.args.self.now in
-    taken-moves m _ _ _ (λ _ t. file_with m c.args.file t) c.in-Err.why c.enter_file.new.state (file-first m m.state c.if-self-eq0.false c.args.file) refl refl refl c.in-Err.ensures
+    taken-moves m _ _ _ (λ _ t. file_with m c.args.file t) c.in-Err.why c.enter_file.new.state
+    (file-first m m.state c.if-self-eq0.false c.args.file) refl refl refl c.in-Err.ensures

@@ -7,4 +7,5 @@ use Rattle.dp_step.proofs.machine.Machine.start.Goals as goal
 pub returns : goal.returns
 unfolding rest_of
 returns c = starts c.args.bundle.now c.args.bound _ refl refl c.in_ok-state.ensures
-    (λ s. rw c.new.ensures.items (sym (c.file_hand.ensures _ _ s ∙ all-done c.args.bundle.now c.args.bound frame_limit _)))
+    (λ s. rw c.new.ensures.items (sym (c.file_hand.ensures _ _ s
+    ∙ all-done c.args.bundle.now c.args.bound frame_limit _)))

@@ -8,4 +8,5 @@ pub returns-in-None : goal.returns-in-None
 returns-in-None c = (rw c.in-None.is at c.in-Ok.ensures, refl)
 
 pub returns-in-Some : goal.returns-in-Some
-returns-in-Some c = (rw c.in-Some.is at c.in-Ok.ensures ∙ ap (λ s. Some (c.in-Some.value, s)) (sym c.put_state.ensures), refl)
+returns-in-Some c =
+    (rw c.in-Some.is at c.in-Ok.ensures ∙ ap (λ s. Some (c.in-Some.value, s)) (sym c.put_state.ensures), refl)

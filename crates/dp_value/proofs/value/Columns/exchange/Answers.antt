@@ -17,22 +17,27 @@ use Rattle.dp_value.proofs.value.Columns.exchange.Goals as goal
 pub returns-in_err-at-clause-value : goal.returns-in_err-at-clause-value
 returns-in_err-at-clause-value c =
     rw c.from_residual.ensures
-    (sym (absent-find_value (key_eq c.args.key.now) c.self.inside.keys.keys (map data_of c.self.inside.values.items) c.in_err-at.ensures.place)
+    (sym (absent-find_value (key_eq c.args.key.now) c.self.inside.keys.keys
+    (map data_of c.self.inside.values.items) c.in_err-at.ensures.place)
     ∙ ap (λ (t : Table). value_at t c.args.key.now) c.self.view_is)
 
 pub returns-in_err-at-clause-exchanged : goal.returns-in_err-at-clause-exchanged
 returns-in_err-at-clause-exchanged c =
     let d = data_of c.args.value in
-    let absent = swapped-absent c.args.key.now c.self.inside.keys.keys (map data_of c.self.inside.values.items) d c.in_err-at.ensures.place in
-    let stays : table_of c.self.inside ≡ table_exchange (table_of c.self.inside) c.args.key.now d = λ i. record { pairs = sym absent i; largest = c.self.inside.largest } in
+    let absent = swapped-absent c.args.key.now c.self.inside.keys.keys
+    (map data_of c.self.inside.values.items) d c.in_err-at.ensures.place in
+    let stays : table_of c.self.inside ≡ table_exchange (table_of c.self.inside) c.args.key.now d = λ i. record
+    { pairs = sym absent i; largest = c.self.inside.largest } in
     sym c.self.view_is ∙ stays ∙ ap (λ (t : Table). table_exchange t c.args.key.now d) c.self.view_is
 
 -- the row that was exchanged
-old_row : (vs : List Value) (n : ℕ) (v w : Value) → n < length vs → v ≡ get_or vs n v → w ≡ v → slice_get (map data_of vs) n ≡ Some (data_of w)
+old_row : (vs : List Value) (n : ℕ) (v w : Value) → n < length vs → v ≡ get_or vs n v → w ≡ v
+    → slice_get (map data_of vs) n ≡ Some (data_of w)
 old_row vs n v w within read same = row_value vs n v within read ∙ ap (λ (x : Value). Some (data_of x)) (sym same)
 
 -- the columns with a value in a row are the exchanged pairs
-exchanged : (ks : List Key) (vs : List Value) (n : ℕ) (key : Key) (v w : Value) → IsFirst (key_eq key) ks n → length vs ≡ length ks → w ≡ v →
+exchanged : (ks : List Key) (vs : List Value) (n : ℕ) (key : Key) (v w : Value) → IsFirst (key_eq key) ks n
+    → length vs ≡ length ks → w ≡ v →
     swapped (pairs_in ks vs) key (data_of v) ≡ pairs_in ks (set vs n w)
 exchanged ks vs n key v w first same after =
     swapped-first key ks (map data_of vs) n (data_of v) first (length-map vs data_of ∙ same)
@@ -41,13 +46,16 @@ exchanged ks vs n key v w first same after =
 
 pub overflow_sub-self : goal.overflow_sub-self
 overflow_sub-self c =
-    let within : c.in_ok-at.at < length c.self.inside.values.items = omega (arith, c.in_ok-at.ensures.within, c.self.invariant.same_length) in
-    let row = old_row c.self.inside.values.items c.in_ok-at.at c.index_mut.result.now c.replace-old.result within c.index_mut.ensures.value c.replace-old.ensures.value in
+    let within : c.in_ok-at.at < length c.self.inside.values.items = omega
+    (arith, c.in_ok-at.ensures.within, c.self.invariant.same_length) in
+    let row = old_row c.self.inside.values.items c.in_ok-at.at c.index_mut.result.now c.replace-old.result within
+    c.index_mut.ensures.value c.replace-old.ensures.value in
     omega (
       arith,
       c.weight.ensures,
       c.self.invariant.weight,
-      weight-at c.self.inside.keys.keys (map data_of c.self.inside.values.items) c.in_ok-at.at (data_of c.replace-old.result)
+      weight-at c.self.inside.keys.keys (map data_of c.self.inside.values.items) c.in_ok-at.at
+          (data_of c.replace-old.result)
           (length-map c.self.inside.values.items data_of ∙ c.self.invariant.same_length) row,
     )
 
@@ -69,30 +77,56 @@ overflow_add-self c =
 pub invariant_of-self : goal.invariant_of-self
 invariant_of-self c =
     let d = data_of c.args.value in
-    let within : c.in_ok-at.at < length c.self.inside.values.items = omega (arith, c.in_ok-at.ensures.within, c.self.invariant.same_length) in
-    let row = old_row c.self.inside.values.items c.in_ok-at.at c.index_mut.result.now c.replace-old.result within c.index_mut.ensures.value c.replace-old.ensures.value in
-    let lighter = weight-at c.self.inside.keys.keys (map data_of c.self.inside.values.items) c.in_ok-at.at (data_of c.replace-old.result)
+    let within : c.in_ok-at.at < length c.self.inside.values.items = omega
+    (arith, c.in_ok-at.ensures.within, c.self.invariant.same_length) in
+    let row = old_row c.self.inside.values.items c.in_ok-at.at c.index_mut.result.now c.replace-old.result within
+    c.index_mut.ensures.value c.replace-old.ensures.value in
+    let lighter = weight-at c.self.inside.keys.keys (map data_of c.self.inside.values.items) c.in_ok-at.at
+    (data_of c.replace-old.result)
     (length-map c.self.inside.values.items data_of ∙ c.self.invariant.same_length) row in
-    let weighs = weight-swapped-first c.args.key.now c.self.inside.keys.keys (map data_of c.self.inside.values.items) c.in_ok-at.at (data_of c.replace-old.result) d c.in_ok-at.ensures.place row in
-    let pairs = exchanged c.self.inside.keys.keys c.self.inside.values.items c.in_ok-at.at c.args.key.now c.args.value c.replace-old.new.dest
+    let weighs = weight-swapped-first c.args.key.now c.self.inside.keys.keys
+    (map data_of c.self.inside.values.items) c.in_ok-at.at
+    (data_of c.replace-old.result) d c.in_ok-at.ensures.place row in
+    let pairs = exchanged c.self.inside.keys.keys c.self.inside.values.items c.in_ok-at.at c.args.key.now c.args.value
+    c.replace-old.new.dest
     c.in_ok-at.ensures.place c.self.invariant.same_length c.replace-old.ensures.after in
     let seen = ap (λ (t : Table). pairs_weight (swapped t.pairs c.args.key.now d)) c.self.view_is in
     let allowed = c.requires (subst (λ (t : Table). IsTable t) c.self.view_is c.self.invariant.table) in
-    let light : pairs_weight (swapped (table_of c.self.inside).pairs c.args.key.now d) ≤ weight_limit = omega (arith, seen, allowed) in
+    let light : pairs_weight (swapped (table_of c.self.inside).pairs c.args.key.now d) ≤ weight_limit = omega
+    (arith, seen, allowed) in
     let same : table_exchange (table_of c.self.inside) c.args.key.now d
-    ≡ record { pairs = pairs_in c.self.inside.keys.keys (set c.self.inside.values.items c.in_ok-at.at c.replace-old.new.dest); largest = c.self.inside.largest } =
+    ≡ record {
+      pairs = pairs_in c.self.inside.keys.keys (set c.self.inside.values.items c.in_ok-at.at
+          c.replace-old.new.dest);
+      largest = c.self.inside.largest;
+    } =
     λ i. record { pairs = pairs i; largest = c.self.inside.largest } in
     record {
-      same_length = length-set c.self.inside.values.items c.in_ok-at.at c.replace-old.new.dest ∙ c.self.invariant.same_length;
-      table = subst (λ (t : Table). IsTable t) same (IsTable-exchange (table_of c.self.inside) c.args.key.now d c.self.invariant.table light);
-      weight = omega (arith, lighter, weighs, ap pairs_weight pairs, c.weight.ensures, c.weight-added.ensures, c.self.invariant.weight);
+      same_length =
+          length-set c.self.inside.values.items c.in_ok-at.at c.replace-old.new.dest ∙ c.self.invariant.same_length;
+      table =
+          subst (λ (t : Table). IsTable t) same (IsTable-exchange
+          (table_of c.self.inside) c.args.key.now d c.self.invariant.table light);
+      weight =
+          omega (
+            arith,
+            lighter,
+            weighs,
+            ap pairs_weight pairs,
+            c.weight.ensures,
+            c.weight-added.ensures,
+            c.self.invariant.weight,
+          );
     }
 
 pub returns-clause-value : goal.returns-clause-value
 returns-clause-value c =
-    let within : c.in_ok-at.at < length c.self.inside.values.items = omega (arith, c.in_ok-at.ensures.within, c.self.invariant.same_length) in
-    let row = old_row c.self.inside.values.items c.in_ok-at.at c.index_mut.result.now c.replace-old.result within c.index_mut.ensures.value c.replace-old.ensures.value in
-    sym (first-find_value (key_eq c.args.key.now) c.self.inside.keys.keys (map data_of c.self.inside.values.items) c.in_ok-at.at c.in_ok-at.ensures.place
+    let within : c.in_ok-at.at < length c.self.inside.values.items = omega
+    (arith, c.in_ok-at.ensures.within, c.self.invariant.same_length) in
+    let row = old_row c.self.inside.values.items c.in_ok-at.at c.index_mut.result.now c.replace-old.result within
+    c.index_mut.ensures.value c.replace-old.ensures.value in
+    sym (first-find_value (key_eq c.args.key.now) c.self.inside.keys.keys
+    (map data_of c.self.inside.values.items) c.in_ok-at.at c.in_ok-at.ensures.place
     (length-map c.self.inside.values.items data_of ∙ c.self.invariant.same_length)
     ∙ row)
     ∙ ap (λ (t : Table). value_at t c.args.key.now) c.self.view_is
@@ -100,9 +134,14 @@ returns-clause-value c =
 pub returns-clause-exchanged : goal.returns-clause-exchanged
 returns-clause-exchanged c =
     let d = data_of c.args.value in
-    let pairs = exchanged c.self.inside.keys.keys c.self.inside.values.items c.in_ok-at.at c.args.key.now c.args.value c.replace-old.new.dest
+    let pairs = exchanged c.self.inside.keys.keys c.self.inside.values.items c.in_ok-at.at c.args.key.now c.args.value
+    c.replace-old.new.dest
     c.in_ok-at.ensures.place c.self.invariant.same_length c.replace-old.ensures.after in
-    let same : record { pairs = pairs_in c.self.inside.keys.keys (set c.self.inside.values.items c.in_ok-at.at c.replace-old.new.dest); largest = c.self.inside.largest }
+    let same : record {
+      pairs = pairs_in c.self.inside.keys.keys
+          (set c.self.inside.values.items c.in_ok-at.at c.replace-old.new.dest);
+      largest = c.self.inside.largest;
+    }
     ≡ table_exchange (table_of c.self.inside) c.args.key.now d =
     λ i. record { pairs = sym pairs i; largest = c.self.inside.largest } in
     same ∙ ap (λ (t : Table). table_exchange t c.args.key.now d) c.self.view_is

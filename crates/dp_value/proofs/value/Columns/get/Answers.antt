@@ -11,13 +11,16 @@ use Rattle.dp_value.proofs.value.Columns.get.Goals as goal
 pub returns-in_err-at : goal.returns-in_err-at
 returns-in_err-at c =
     rw c.from_residual.ensures
-    (sym (absent-find_value (key_eq c.args.key.now) c.self.inside.keys.keys (map data_of c.self.inside.values.items) c.in_err-at.ensures.place)
+    (sym (absent-find_value (key_eq c.args.key.now) c.self.inside.keys.keys
+    (map data_of c.self.inside.values.items) c.in_err-at.ensures.place)
     ∙ ap (λ (t : Table). value_at t c.args.key.now) c.self.view_is)
 
 pub returns : goal.returns
 returns c =
-    let within : c.in_ok-at.at < length c.self.inside.values.items = omega (arith, c.in_ok-at.ensures.within, c.self.invariant.same_length) in
-    sym (first-find_value (key_eq c.args.key.now) c.self.inside.keys.keys (map data_of c.self.inside.values.items) c.in_ok-at.at c.in_ok-at.ensures.place
+    let within : c.in_ok-at.at < length c.self.inside.values.items = omega
+    (arith, c.in_ok-at.ensures.within, c.self.invariant.same_length) in
+    sym (first-find_value (key_eq c.args.key.now) c.self.inside.keys.keys
+    (map data_of c.self.inside.values.items) c.in_ok-at.at c.in_ok-at.ensures.place
     (length-map c.self.inside.values.items data_of ∙ c.self.invariant.same_length)
     ∙ row_value c.self.inside.values.items c.in_ok-at.at c.index.result.now within c.index.ensures)
     ∙ ap (λ (t : Table). value_at t c.args.key.now) c.self.view_is

@@ -4,4 +4,5 @@ use Rattle.dp_value.proofs.ArrayLemmas.{kept_length}
 use Rattle.dp_value.proofs.value.Columns.len.Goals as goal
 
 pub returns-clause-len : goal.returns-clause-len
-returns-clause-len c = c.len.ensures ∙ kept_length c.self.inside c.self.invariant ∙ ap (λ (t : Table). length t.pairs) c.self.view_is
+returns-clause-len c =
+    c.len.ensures ∙ kept_length c.self.inside c.self.invariant ∙ ap (λ (t : Table). length t.pairs) c.self.view_is

@@ -9,31 +9,57 @@ use Rattle.dp_value.proofs.value.Columns.weight_with.Goals as goal
 
 pub overflow_sub-self-inside : goal.overflow_sub-self-inside
 overflow_sub-self-inside c =
-    let within : c.in-Some.at < length c.self.inside.values.items = omega (arith, c.in-Some.ensures.within, c.self.invariant.same_length) in
+    let within : c.in-Some.at < length c.self.inside.values.items = omega
+    (arith, c.in-Some.ensures.within, c.self.invariant.same_length) in
     let row = row_value c.self.inside.values.items c.in-Some.at c.index.result.now within c.index.ensures in
     omega (
       arith,
       c.weight-old.ensures,
       c.self.invariant.weight,
-      weight-at c.self.inside.keys.keys (map data_of c.self.inside.values.items) c.in-Some.at (data_of c.index.result.now)
+      weight-at c.self.inside.keys.keys (map data_of c.self.inside.values.items) c.in-Some.at
+          (data_of c.index.result.now)
           (length-map c.self.inside.values.items data_of ∙ c.self.invariant.same_length) row,
     )
 
 pub returns-in-Some : goal.returns-in-Some
 returns-in-Some c =
     let d = data_of c.args.value.now in
-    let within : c.in-Some.at < length c.self.inside.values.items = omega (arith, c.in-Some.ensures.within, c.self.invariant.same_length) in
+    let within : c.in-Some.at < length c.self.inside.values.items = omega
+    (arith, c.in-Some.ensures.within, c.self.invariant.same_length) in
     let row = row_value c.self.inside.values.items c.in-Some.at c.index.result.now within c.index.ensures in
     let seen = ap (λ (t : Table). pairs_weight (put t.pairs c.args.key.now d)) c.self.view_is in
-    let lighter = weight-at c.self.inside.keys.keys (map data_of c.self.inside.values.items) c.in-Some.at (data_of c.index.result.now)
+    let lighter = weight-at c.self.inside.keys.keys (map data_of c.self.inside.values.items) c.in-Some.at
+    (data_of c.index.result.now)
     (length-map c.self.inside.values.items data_of ∙ c.self.invariant.same_length) row in
-    let written = weight-put-first c.args.key.now c.self.inside.keys.keys (map data_of c.self.inside.values.items) c.in-Some.at (data_of c.index.result.now) d c.in-Some.ensures.place row in
-    omega (arith, seen, lighter, written, c.weight-old.ensures, c.weight-added.ensures, c.saturating_add.ensures, c.self.invariant.weight)
+    let written = weight-put-first c.args.key.now c.self.inside.keys.keys
+    (map data_of c.self.inside.values.items) c.in-Some.at
+    (data_of c.index.result.now) d c.in-Some.ensures.place row in
+    omega (
+      arith,
+      seen,
+      lighter,
+      written,
+      c.weight-old.ensures,
+      c.weight-added.ensures,
+      c.saturating_add.ensures,
+      c.self.invariant.weight,
+    )
 
 pub returns-in-None : goal.returns-in-None
 returns-in-None c =
     let d = data_of c.args.value.now in
     let seen = ap (λ (t : Table). pairs_weight (put t.pairs c.args.key.now d)) c.self.view_is in
-    let written = weight-put-absent c.args.key.now c.self.inside.keys.keys (map data_of c.self.inside.values.items) d c.in-None.ensures.place
+    let written = weight-put-absent c.args.key.now c.self.inside.keys.keys
+    (map data_of c.self.inside.values.items) d c.in-None.ensures.place
     (length-map c.self.inside.values.items data_of ∙ c.self.invariant.same_length) in
-    omega (arith, seen, written, c.weight-added.ensures, c.weight.ensures, c.saturating_add-in-None.ensures, c.saturating_add-in-None-2.ensures, c.saturating_add-in-None-3.ensures, c.self.invariant.weight)
+    omega (
+      arith,
+      seen,
+      written,
+      c.weight-added.ensures,
+      c.weight.ensures,
+      c.saturating_add-in-None.ensures,
+      c.saturating_add-in-None-2.ensures,
+      c.saturating_add-in-None-3.ensures,
+      c.self.invariant.weight,
+    )

@@ -7,8 +7,10 @@ use Rattle.dp_wire.proofs.FrameLaws.{commands-partial}
 use Rattle.dp_wire.proofs.commands.Commands.next.Goals as goal
 
 -- what is held, and the place of its first NUL
-held_first : (items now : List ℕ) (from : ℕ) (first place : Option ℕ) → drop from items ≡ now → first ≡ place → FirstNul (drop from items) first → FirstNul now place
-held_first items now from first place same is h = subst (λ (l : List ℕ). FirstNul l place) same (subst (λ (o : Option ℕ). FirstNul (drop from items) o) is h)
+held_first : (items now : List ℕ) (from : ℕ) (first place : Option ℕ) → drop from items ≡ now → first ≡ place
+    → FirstNul (drop from items) first → FirstNul now place
+held_first items now from first place same is h =
+    subst (λ (l : List ℕ). FirstNul l place) same (subst (λ (o : Option ℕ). FirstNul (drop from items) o) is h)
 
 -- what is held, of what contracts see
 viewed : {seen now : Received} → seen ≡ now → seen.held ≡ now.held
@@ -16,65 +18,83 @@ viewed same = ap (λ (r : Received). r.held) same
 
 pub returns-in-Some-clause-partial : goal.returns-in-Some-clause-partial
 returns-in-Some-clause-partial c =
-    let found = held_first _ _ c.self.inside.from c.self.inside.first (Some c.in-Some.length) (viewed c.self.view_is) c.in-Some.is c.self.invariant.1 in
+    let found = held_first _ _ c.self.inside.from c.self.inside.first (Some c.in-Some.length)
+    (viewed c.self.view_is) c.in-Some.is c.self.invariant.1 in
     (λ e. cc, λ p. absurd (some_partial c.args.self.now.held c.in-Some.length found p))
 
 pub returns-in-Some-clause-refused : goal.returns-in-Some-clause-refused
 returns-in-Some-clause-refused c =
-    let found = held_first _ _ c.self.inside.from c.self.inside.first (Some c.in-Some.length) (viewed c.self.view_is) c.in-Some.is c.self.invariant.1 in
-    (λ e. cc, λ p. absurd (some_refused c.args.self.now.held c.in-Some.length found c.if-length-le-COMMAND_LIMIT.true p))
+    let found = held_first _ _ c.self.inside.from c.self.inside.first (Some c.in-Some.length)
+    (viewed c.self.view_is) c.in-Some.is c.self.invariant.1 in (
+      λ e. cc,
+      λ p. absurd (some_refused c.args.self.now.held c.in-Some.length found c.if-length-le-COMMAND_LIMIT.true
+          p),
+    )
 
 pub returns-in-Some-clause-first : goal.returns-in-Some-clause-first
 returns-in-Some-clause-first c =
-    let found = held_first _ _ c.self.inside.from c.self.inside.first (Some c.in-Some.length) (viewed c.self.view_is) c.in-Some.is c.self.invariant.1 in
+    let found = held_first _ _ c.self.inside.from c.self.inside.first (Some c.in-Some.length)
+    (viewed c.self.view_is) c.in-Some.is c.self.invariant.1 in
     some_first c.args.self.now.held c.in-Some.length found c.if-length-le-COMMAND_LIMIT.true
 
 pub returns-in-None-clause-partial : goal.returns-in-None-clause-partial
 returns-in-None-clause-partial c =
-    let none = held_first _ _ c.self.inside.from c.self.inside.first None (viewed c.self.view_is) c.in-None.is c.self.invariant.1 in
+    let none = held_first _ _ c.self.inside.from c.self.inside.first None
+    (viewed c.self.view_is) c.in-None.is c.self.invariant.1 in
     let fits : length c.args.self.now.held ≤ command_limit = rw (← viewed c.self.view_is, length-drop) (omega arith) in
     (λ e. none_partial c.args.self.now.held none fits, λ p. search rules)
 
 pub returns-in-None-clause-refused : goal.returns-in-None-clause-refused
 returns-in-None-clause-refused c =
-    let none = held_first _ _ c.self.inside.from c.self.inside.first None (viewed c.self.view_is) c.in-None.is c.self.invariant.1 in
+    let none = held_first _ _ c.self.inside.from c.self.inside.first None
+    (viewed c.self.view_is) c.in-None.is c.self.invariant.1 in
     let fits : length c.args.self.now.held ≤ command_limit = rw (← viewed c.self.view_is, length-drop) (omega arith) in
     (λ e. cc, λ p. absurd (none_refused c.args.self.now.held none fits p))
 
 pub returns-in-None-clause-none : goal.returns-in-None-clause-none
 returns-in-None-clause-none c =
-    let none = held_first _ _ c.self.inside.from c.self.inside.first None (viewed c.self.view_is) c.in-None.is c.self.invariant.1 in
+    let none = held_first _ _ c.self.inside.from c.self.inside.first None
+    (viewed c.self.view_is) c.in-None.is c.self.invariant.1 in
     λ e. commands-partial c.args.self.now.held none
 
 pub returns-in-Some-2-clause-refused : goal.returns-in-Some-2-clause-refused
 returns-in-Some-2-clause-refused c =
-    let found = held_first _ _ c.self.inside.from c.self.inside.first (Some c.in-Some.length) (viewed c.self.view_is) c.in-Some.is c.self.invariant.1 in
+    let found = held_first _ _ c.self.inside.from c.self.inside.first (Some c.in-Some.length)
+    (viewed c.self.view_is) c.in-Some.is c.self.invariant.1 in
     (λ e. long_refused c.args.self.now.held (long_some _ _ found c.if-length-le-COMMAND_LIMIT.false), λ p. refl)
 
 pub returns-in-Some-2-clause-never : goal.returns-in-Some-2-clause-never
 returns-in-Some-2-clause-never c =
-    let found = held_first _ _ c.self.inside.from c.self.inside.first (Some c.in-Some.length) (viewed c.self.view_is) c.in-Some.is c.self.invariant.1 in
+    let found = held_first _ _ c.self.inside.from c.self.inside.first (Some c.in-Some.length)
+    (viewed c.self.view_is) c.in-Some.is c.self.invariant.1 in
     λ e. long_never c.args.self.now.held (long_some _ _ found c.if-length-le-COMMAND_LIMIT.false)
 
 pub returns-in-Some-2-clause-partial : goal.returns-in-Some-2-clause-partial
 returns-in-Some-2-clause-partial c =
-    let found = held_first _ _ c.self.inside.from c.self.inside.first (Some c.in-Some.length) (viewed c.self.view_is) c.in-Some.is c.self.invariant.1 in
-    (λ e. cc, λ p. absurd (long_partial c.args.self.now.held (long_some _ _ found c.if-length-le-COMMAND_LIMIT.false) p))
+    let found = held_first _ _ c.self.inside.from c.self.inside.first (Some c.in-Some.length)
+    (viewed c.self.view_is) c.in-Some.is c.self.invariant.1 in (
+      λ e. cc,
+      λ p. absurd (long_partial c.args.self.now.held (long_some _ _ found c.if-length-le-COMMAND_LIMIT.false)
+          p),
+    )
 
 pub returns-in-None-2-clause-refused : goal.returns-in-None-2-clause-refused
 returns-in-None-2-clause-refused c =
-    let none = held_first _ _ c.self.inside.from c.self.inside.first None (viewed c.self.view_is) c.in-None.is c.self.invariant.1 in
+    let none = held_first _ _ c.self.inside.from c.self.inside.first None
+    (viewed c.self.view_is) c.in-None.is c.self.invariant.1 in
     let long : command_limit < length c.args.self.now.held = rw (← viewed c.self.view_is, length-drop) (omega arith) in
     (λ e. long_refused c.args.self.now.held (long_none _ none long), λ p. refl)
 
 pub returns-in-None-2-clause-never : goal.returns-in-None-2-clause-never
 returns-in-None-2-clause-never c =
-    let none = held_first _ _ c.self.inside.from c.self.inside.first None (viewed c.self.view_is) c.in-None.is c.self.invariant.1 in
+    let none = held_first _ _ c.self.inside.from c.self.inside.first None
+    (viewed c.self.view_is) c.in-None.is c.self.invariant.1 in
     let long : command_limit < length c.args.self.now.held = rw (← viewed c.self.view_is, length-drop) (omega arith) in
     λ e. long_never c.args.self.now.held (long_none _ none long)
 
 pub returns-in-None-2-clause-partial : goal.returns-in-None-2-clause-partial
 returns-in-None-2-clause-partial c =
-    let none = held_first _ _ c.self.inside.from c.self.inside.first None (viewed c.self.view_is) c.in-None.is c.self.invariant.1 in
+    let none = held_first _ _ c.self.inside.from c.self.inside.first None
+    (viewed c.self.view_is) c.in-None.is c.self.invariant.1 in
     let long : command_limit < length c.args.self.now.held = rw (← viewed c.self.view_is, length-drop) (omega arith) in
     (λ e. cc, λ p. absurd (long_partial c.args.self.now.held (long_none _ none long) p))

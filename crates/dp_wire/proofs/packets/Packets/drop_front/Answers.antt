@@ -9,7 +9,8 @@ returns-clause-held c = λ text rest begins.
     let end = c.in-Ok-Some.range.end in
     let within = rw c.in-Ok-Some.field-0-is at c.in-Ok-Some.ensures.within in
     let whole = rw c.in-Ok-Some.field-0-is at c.in-Ok-Some.ensures.whole in
-    sym (drop-drop (end + 1) c.self.inside.from c.self.inside.bytes.items) ∙ ap (λ (r : Received). drop (end + 1) r.held) c.self.view_is
+    sym (drop-drop (end + 1) c.self.inside.from c.self.inside.bytes.items)
+    ∙ ap (λ (r : Received). drop (end + 1) r.held) c.self.view_is
     ∙ (dropped_is c.args.self.now.held _ text rest end within.1 whole begins).0
 
 pub returns-clause-dropped : goal.returns-clause-dropped
@@ -21,7 +22,10 @@ returns-clause-dropped c = λ text rest begins.
     c.saturating_add-self-inside.ensures ∙ (λ i. min ((c.self.view_is i).dropped + sym long i) last_place)
 
 pub unreachable-requires : goal.unreachable-requires
-unreachable-requires c = begins_partial c.args.self.now.held c.requires.0 c.requires.1 c.requires.2 (c.in-Ok-None.ensures.partial.0 (ap Ok c.in-Ok-None.field-0-is))
+unreachable-requires c =
+    begins_partial c.args.self.now.held c.requires.0 c.requires.1 c.requires.2
+    (c.in-Ok-None.ensures.partial.0 (ap Ok c.in-Ok-None.field-0-is))
 
 pub unreachable-requires-in-Err : goal.unreachable-requires-in-Err
-unreachable-requires-in-Err c = begins_refused c.args.self.now.held c.requires.0 c.requires.1 c.requires.2 (c.in-Err.ensures.refused.0 refl)
+unreachable-requires-in-Err c =
+    begins_refused c.args.self.now.held c.requires.0 c.requires.1 c.requires.2 (c.in-Err.ensures.refused.0 refl)
