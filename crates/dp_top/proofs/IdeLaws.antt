@@ -18,7 +18,8 @@ use Rattle.dp_top.specs.declared.failures.Failure.TheVariants as failure
 use Rattle.dp_top.specs.declared.failures.Refused.{Refused}
 use Rattle.dp_top.specs.Engine.{IsApart, IsIdle}
 use Rattle.dp_top.specs.Failures.{status_of}
-use Rattle.dp_top.specs.Ide.{IdeFails, IsBadAt, IsHeldScript, IsNoScript, IsPlayed, Plays, Unread, failure_of, script_limit}
+use Rattle.dp_top.specs.Ide.{IdeFails, IsBadAt, IsHeldScript, IsNoScript, IsPlayed, Plays, Unread, failure_of}
+use Rattle.dp_top.specs.Lines.{lines_limit}
 use Rattle.dp_top.specs.Links.{IsAccepted, IsGated, IsUncalled, Tells}
 use Rattle.dp_top.specs.Seen.{Net, NoneRose, Seen, changed}
 use Rattle.dp_top.specs.Tasks.{Caused, Does}
@@ -190,7 +191,7 @@ unread_told port script old new why name (inr unread) idle = inr (inl (unread, i
 
 -- why bytes of a file are no script
 pub bad_script : (why : Failure) (name script bytes : List ℕ) (files : Files) (before after : ℕ)
-    → Fetches files script script_limit bytes → IsBadScript why name bytes
+    → Fetches files script lines_limit bytes → IsBadScript why name bytes
     → UnreadSo why name script files before after
 bad_script (failure.Script line) name script bytes files before after fetched bad =
     inr (bad.0, record { content = bytes; fetched = fetched; bad = bad.1 })
@@ -210,7 +211,8 @@ bad_script failure.Stopped name script bytes files before after fetched bad = ab
 
 -- ---- a script, or none
 
-same_content : (files : Files) (name : List ℕ) (limit : ℕ) (one other : List ℕ) → IsSome files
+-- a told file has one content
+pub same_content : (files : Files) (name : List ℕ) (limit : ℕ) (one other : List ℕ) → IsSome files
     → Fetches files name limit one → Fetches files name limit other → one ≡ other
 same_content None name limit one other told p q = absurd (cc)
 same_content (Some files) name limit one other told p q =
@@ -222,7 +224,7 @@ held_or_bad : (files : Files) (name : List ℕ) (line : ℕ) (instructions : Lis
     → IsHeldScript files name instructions → IsNoScript files name line → ⊥
 held_or_bad files name line instructions told held none = by none.bad where
   same : none.content ≡ held.content
-  same = same_content files name script_limit none.content held.content told none.fetched held.fetched
+  same = same_content files name lines_limit none.content held.content told none.fetched held.fetched
 
   by : IsBadAt none.content line → ⊥
   by (inl long) = omega (arith, long.1, ap length same, held.fits)
@@ -230,7 +232,7 @@ held_or_bad files name line instructions told held none = by none.bad where
       no_bad held.content line instructions (subst (λ (l : List ℕ). IsFirstBad l line) same bad.1) held.is_script
 
 held_or_lacking : (files : Files) (name : List ℕ) (content : List ℕ) → IsSome files
-    → Fetches files name script_limit content → Lacks files name → ⊥
+    → Fetches files name lines_limit content → Lacks files name → ⊥
 held_or_lacking None name content told p lacks = absurd (cc)
 held_or_lacking (Some files) name content told p lacks = let both : Some p.0 ≡ None = sym p.1 ∙ lacks in cc
 

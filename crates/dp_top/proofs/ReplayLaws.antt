@@ -1,5 +1,5 @@
 -- What a replay came to decides the end of `replay`.
-use Rattle.std.proofs.Common.{◌≡◌, ◌⊎◌, inl, inr, ℕ, suc, ◌+◌, false, true, ◌<◌, ◌≤◌, List, [], ◌∷◌, ◌++◌, length, map, take, Option, None, Some, IsSome, Result, Ok, Err, refl, sym, ap, ◌∙◌, subst, arith, append_assoc}
+use Rattle.std.proofs.Common.{◌≡◌, ◌⊎◌, inl, inr, ℕ, suc, ◌+◌, false, true, ◌<◌, ◌≤◌, List, [], ◌∷◌, ◌++◌, length, map, Option, None, Some, IsSome, Result, Ok, Err, refl, sym, ap, ◌∙◌, subst, arith, append_assoc}
 use Rattle.std.specs.Prelude.{MatchResult, IfOk, IfErr}
 use Rattle.dp_outside.specs.Causes.{Rose}
 use Rattle.dp_outside.specs.Changes.{Change, IsUntouched}
@@ -8,7 +8,6 @@ use Rattle.dp_outside.specs.Telling.{grown}
 use Rattle.dp_bundle.specs.Bundles.{Given, Makes}
 use Rattle.dp_tree.specs.declared.bundle.Bundle.{Bundle}
 use Rattle.dp_bundle.specs.declared.errors.BundleError.{BundleError}
-use Rattle.std.proofs.lemmas.Option.{same_Some}
 use Rattle.dp_lists.specs.declared.event.Event.{Event}
 use Rattle.dp_lists.specs.Lists.{IsFirstBad}
 use Rattle.dp_lists.proofs.ListLaws.{bad_excludes}
@@ -23,16 +22,18 @@ use Rattle.dp_top.specs.declared.failures.Failure.TheVariants as failure
 use Rattle.dp_top.specs.declared.failures.Refused.{Refused}
 use Rattle.dp_top.specs.Failures.{status_of}
 use Rattle.dp_top.specs.inner.Held.{IsHeld}
-use Rattle.dp_top.specs.Replay.{IsBadAt, IsHeldList, IsReplayed, ReadBefore, ReplayFails, Unlisted, list_limit}
+use Rattle.dp_top.specs.Replay.{IsBadAt, IsHeldList, IsReplayed, ReadBefore, ReplayFails, Unlisted}
+use Rattle.dp_top.specs.Lines.{lines_limit}
 use Rattle.dp_top.specs.Runs.{AreFetched as OnlyFetched, IsProgramTold}
 use Rattle.dp_top.specs.inner.Replaying.{EndsFetched, EndsOver, EndsReplay, IsBadList, IsWholeList, UnlistedSo}
+use Rattle.dp_top.proofs.IdeLaws.{same_content}
 use Rattle.dp_words.specs.CommandLine.{Invocation}
 
 -- ---- the list
 
 -- why bytes of a file are no list
 pub bad_list : (why : Failure) (name events bytes : List ℕ) (files : Files) (before after : ℕ)
-    → Fetches files events list_limit bytes → IsBadList why name bytes
+    → Fetches files events lines_limit bytes → IsBadList why name bytes
     → UnlistedSo why name events files before after
 bad_list (failure.Script line) name events bytes files before after fetched bad =
     inr (bad.0, record { content = bytes; fetched = fetched; bad = bad.1 })
@@ -57,33 +58,25 @@ pub unlisted_fails : (why : Failure) (name events : List ℕ) (ask : Invocation)
 unlisted_fails why name events ask files before after out (inl memory) idle = inl (memory, inl idle)
 unlisted_fails why name events ask files before after out (inr unlisted) idle = inr (inl (unlisted, idle))
 
-pub held_list : (files : Files) (name content : List ℕ) (events : List Event) → Fetches files name list_limit content
+pub held_list : (files : Files) (name content : List ℕ) (events : List Event) → Fetches files name lines_limit content
     → IsWholeList content events → IsHeldList files name events
 held_list files name content events fetched whole =
     record { content = content; fetched = fetched; fits = whole.fits; is_list = whole.is_list }
 
--- a told file has one content
-one_content : (files : Files) (name first other : List ℕ) → IsSome files → Fetches files name list_limit first
-    → Fetches files name list_limit other → first ≡ other
-one_content None name first other told p q = absurd cc
-one_content (Some files) name first other told p q =
-    let same : Some p.0 ≡ Some q.0 = sym p.1 ∙ q.1 in
-    p.2 ∙ ap (take (list_limit + 1)) (same_Some p.0 q.0 same) ∙ sym q.2
-
 -- a list is not bad, and not lacking
 pub held_or_bad : (files : Files) (name content : List ℕ) (events : List Event) (line : ℕ) → IsSome files
-    → IsHeldList files name events → Fetches files name list_limit content
+    → IsHeldList files name events → Fetches files name lines_limit content
     → IsBadAt content line → ⊥
 held_or_bad files name content events line told held fetched bad = by bad where
   same : content ≡ held.content
-  same = one_content files name content held.content told fetched held.fetched
+  same = same_content files name lines_limit content held.content told fetched held.fetched
 
   by : IsBadAt content line → ⊥
   by (inl long) = omega (arith, long.1, ap length same, held.fits)
   by (inr first) =
       bad_excludes held.content line events (subst (λ (l : List ℕ). IsFirstBad l line) same first.1) held.is_list
 
-pub held_or_lacking : (files : Files) (name content : List ℕ) → IsSome files → Fetches files name list_limit content
+pub held_or_lacking : (files : Files) (name content : List ℕ) → IsSome files → Fetches files name lines_limit content
     → Lacks files name → ⊥
 held_or_lacking None name content told p lacks = absurd cc
 held_or_lacking (Some files) name content told p lacks = let both : Some p.0 ≡ None = sym p.1 ∙ lacks in cc
@@ -102,7 +95,7 @@ module _ (files : Files) (before after : ℕ) (events : List ℕ) (list : List E
     (told : IsSome files) (asked : Result Bundle BundleError)
     (refused : Refused) where
   -- bytes that are no list
-  pub bad_held : (content : List ℕ) → Fetches files events list_limit content
+  pub bad_held : (content : List ℕ) → Fetches files events lines_limit content
       → IsBadList refused.failure refused.name.now content → IsHeld {A = ℕ} asked (Err refused) before after
   bad_held content fetched bad = by refused.failure refl bad where
     by : (why : Failure) → refused.failure ≡ why → IsBadList why refused.name.now content

@@ -13,31 +13,28 @@ use Rattle.dp_top.specs.declared.failures.Failure.{Failure}
 use Rattle.dp_top.specs.declared.failures.Failure.TheVariants as failure
 use Rattle.dp_top.specs.Engine.{IsApart, IsIdle}
 use Rattle.dp_top.specs.Links.{IsAccepted, IsUncalled}
+use Rattle.dp_top.specs.Lines.{lines_limit}
 use Rattle.dp_top.specs.Seen.{Seen, changed}
 
 -- ---- the script
-
--- the most bytes of a script
-abbrev pub script_limit : ℕ
-script_limit = 1048576
 
 -- the file is a script of these instructions
 pub record IsHeldScript (files : Files) (name : List ℕ) (instructions : List Instruction) : Type 0
   where
     pub content : List ℕ
-    pub fetched : Fetches files name script_limit content
-    pub fits : length content ≤ script_limit
+    pub fetched : Fetches files name lines_limit content
+    pub fits : length content ≤ lines_limit
     pub is_script : IsScript content instructions
 
 -- Where a file is no script: the first line that is none of a script, or 0 where it is too long.
 abbrev pub IsBadAt : List ℕ → ℕ → Type 0
 IsBadAt content line =
-    ((line ≡ 0) × (script_limit < length content))
-    ⊎ ((length content ≤ script_limit) × IsFirstBad content line)
+    ((line ≡ 0) × (lines_limit < length content))
+    ⊎ ((length content ≤ lines_limit) × IsFirstBad content line)
 
 pub record IsNoScript (files : Files) (name : List ℕ) (line : ℕ) : Type 0 where
   pub content : List ℕ
-  pub fetched : Fetches files name script_limit content
+  pub fetched : Fetches files name lines_limit content
   pub bad : IsBadAt content line
 
 -- ---- what it does

@@ -1,3 +1,4 @@
+pub mod Lines
 pub mod Engine
 pub mod Failures
 pub mod Ide

@@ -15,31 +15,28 @@ use Rattle.dp_world.specs.Replays.{Replays}
 use Rattle.dp_top.specs.declared.failures.Failure.{Failure}
 use Rattle.dp_top.specs.declared.failures.Failure.TheVariants as failure
 use Rattle.dp_words.specs.CommandLine.{Invocation}
+use Rattle.dp_top.specs.Lines.{lines_limit}
 use Rattle.dp_top.specs.Runs.{IsProgramTold}
 
 -- ---- the list of events
 
--- the most bytes of a list
-abbrev pub list_limit : ℕ
-list_limit = 1048576
-
 -- the file is a list of these events
 pub record IsHeldList (files : Files) (name : List ℕ) (events : List Event) : Type 0 where
   pub content : List ℕ
-  pub fetched : Fetches files name list_limit content
-  pub fits : length content ≤ list_limit
+  pub fetched : Fetches files name lines_limit content
+  pub fits : length content ≤ lines_limit
   pub is_list : IsList content events
 
 -- Where a file is no list: the first line that adds nothing to those before it, or 0 where it is
 -- too long.
 abbrev pub IsBadAt : List ℕ → ℕ → Type 0
 IsBadAt content line =
-    ((line ≡ 0) × (list_limit < length content))
-    ⊎ ((length content ≤ list_limit) × IsFirstBad content line)
+    ((line ≡ 0) × (lines_limit < length content))
+    ⊎ ((length content ≤ lines_limit) × IsFirstBad content line)
 
 pub record IsNoList (files : Files) (name : List ℕ) (line : ℕ) : Type 0 where
   pub content : List ℕ
-  pub fetched : Fetches files name list_limit content
+  pub fetched : Fetches files name lines_limit content
   pub bad : IsBadAt content line
 
 -- ---- what it does

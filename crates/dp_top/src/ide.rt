@@ -8,15 +8,13 @@ ghost use Rattle.dp_top.specs.inner.Gated.{GatedSo, IsBadScript, IsToldBy, IsWho
 ghost use Rattle.dp_top.specs.inner.Kept.{GoesOn};
 
 use crate::failures::{Failure, Refused};
+use crate::lines::{LINES_LIMIT, unfetched};
 use crate::objects::Objects;
 use dp_ide::{IdeError, Script, play};
-use dp_outside::{Gate, Net, Shelf, ShelfError, Sink, Source};
+use dp_outside::{Gate, Net, Shelf, Sink, Source};
 use dp_words::Ide;
 use std::alloc::Global;
 use std::sync::Wait;
-
-// The most bytes of a script.
-const SCRIPT_LIMIT: usize = 1_048_576;
 
 // The failure that an end of playing is.
 fn failure_of(why: IdeError) -> Failure
@@ -42,31 +40,12 @@ fn failure_of(why: IdeError) -> Failure
     }
 }
 
-// The failure that it is that a script was not fetched.
-fn unfetched<'a>(script: &'a str, why: ShelfError) -> Refused<'a>
-    ensures failed { why ≡ ShelfError.Failed → (result.failure ≡ Failure.ShelfFailed) × (result.name.now ≡ script.now) }
-    ensures missing { why ≡ ShelfError.Missing → (result.failure ≡ Failure.NoFile) × (result.name.now ≡ script.now) }
-    ensures memory { why ≡ ShelfError.Memory → result.failure ≡ Failure.Memory }
-{
-    match why {
-        ShelfError::Failed => Refused {
-            failure: Failure::ShelfFailed,
-            name: script.as_bytes(),
-        },
-        ShelfError::Missing => Refused {
-            failure: Failure::NoFile,
-            name: script.as_bytes(),
-        },
-        ShelfError::Memory => Refused::unnamed(Failure::Memory),
-    }
-}
-
 // The script that bytes are.
 fn script_in<'a>(alloc: Global, bytes: &[u8]) -> Result<Script, Refused<'a>>
     ensures script { IfOk result (IsWholeScript bytes.now) }
     ensures bad { IfErr result (λ why. IsBadScript why.failure why.name.now bytes.now) }
 {
-    if bytes.len() > SCRIPT_LIMIT {
+    if bytes.len() > LINES_LIMIT {
         return Err(Refused::unnamed(Failure::Script { line: 0 }));
     }
     match Script::read(alloc, bytes) {
@@ -88,7 +67,7 @@ fn fetch_script<'a, H: Shelf>(
     ensures files { H.files shelf.new ≡ H.files shelf.old }
     ensures later { H.faults shelf.old ≤ H.faults shelf.new }
 {
-    match shelf.fetch(alloc, script, SCRIPT_LIMIT) {
+    match shelf.fetch(alloc, script, LINES_LIMIT) {
         Ok(bytes) => script_in(alloc, bytes.as_slice()),
         Err(why) => Err(unfetched(script, why)),
     }

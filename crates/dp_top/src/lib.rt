@@ -5,6 +5,7 @@ mod commands;
 mod engine;
 mod failures;
 mod ide;
+mod lines;
 mod objects;
 mod replay;
 mod run;

@@ -11,17 +11,19 @@ ghost use Rattle.dp_tree.specs.declared.bundle.Bundle.{Bundle as Made};
 ghost use Rattle.dp_tree.specs.FileNames.{AreFileNames};
 ghost use Rattle.dp_words.specs.CommandLine.{AreFileWords};
 ghost use Rattle.dp_words.specs.Commands.{invocation_seen};
-ghost use Rattle.dp_top.specs.Replay.{IsHeldList, list_limit};
+ghost use Rattle.dp_top.specs.Lines.{lines_limit};
+ghost use Rattle.dp_top.specs.Replay.{IsHeldList};
 ghost use Rattle.dp_top.specs.Runs.{AreFetched};
 ghost use Rattle.dp_top.specs.inner.Held.{IsHeld};
 ghost use Rattle.dp_top.specs.inner.Replaying.{EndsFetched, EndsOver, EndsReplay, HeldFetched, IsBadList};
 ghost use Rattle.dp_top.specs.inner.Replaying.{IsWholeList, UnlistedSo};
 
 use crate::failures::{Failure, Refused};
+use crate::lines::{LINES_LIMIT, unfetched};
 use crate::run::told_of_files;
 use dp_engine::Steps;
 use dp_lists::{Events, ListError};
-use dp_outside::{Bytes1, Shelf, ShelfError, Sink};
+use dp_outside::{Bytes1, Shelf, Sink};
 use dp_run::{fetch_files, make_program};
 use dp_tree::Bundle;
 use dp_value::{Bytes, Items};
@@ -31,42 +33,20 @@ use std::alloc::Global;
 use std::marker::Brand;
 use std::sync::ledger::{Blank, Ledger};
 
-// The most bytes of a list of events.
-const LIST_LIMIT: usize = 1_048_576;
-
-// The failure that it is that a list was not fetched.
-fn unfetched<'a>(events: &'a str, why: ShelfError) -> Refused<'a>
-    ensures failed { why ≡ ShelfError.Failed → (result.failure ≡ Failure.ShelfFailed) × (result.name.now ≡ events.now) }
-    ensures missing { why ≡ ShelfError.Missing → (result.failure ≡ Failure.NoFile) × (result.name.now ≡ events.now) }
-    ensures memory { why ≡ ShelfError.Memory → result.failure ≡ Failure.Memory }
-{
-    match why {
-        ShelfError::Failed => Refused {
-            failure: Failure::ShelfFailed,
-            name: events.as_bytes(),
-        },
-        ShelfError::Missing => Refused {
-            failure: Failure::NoFile,
-            name: events.as_bytes(),
-        },
-        ShelfError::Memory => Refused::unnamed(Failure::Memory),
-    }
-}
-
 // What the file of this name has.
 fn fetch_list<'a, H: Shelf>(
     alloc: Global,
     events: &'a str,
     shelf: &mut H,
 ) -> Result<Bytes1, Refused<'a>>
-    ensures held { IfOk result (Fetches (H.files shelf.old) events.now list_limit) }
+    ensures held { IfOk result (Fetches (H.files shelf.old) events.now lines_limit) }
     ensures unlisted { IfErr result (λ why. UnlistedSo why.failure why.name.now events.now (H.files shelf.old)
         (H.faults shelf.old) (H.faults shelf.new)) }
     ensures fetched { H.fetched shelf.new ≡ grown (H.fetched shelf.old) (events.now ∷ []) }
     ensures files { H.files shelf.new ≡ H.files shelf.old }
     ensures later { H.faults shelf.old ≤ H.faults shelf.new }
 {
-    match shelf.fetch(alloc, events, LIST_LIMIT) {
+    match shelf.fetch(alloc, events, LINES_LIMIT) {
         Ok(content) => Ok(content),
         Err(why) => Err(unfetched(events, why)),
     }
@@ -77,7 +57,7 @@ fn list_in<'a>(alloc: Global, bytes: &[u8]) -> Result<Events, Refused<'a>>
     ensures list { IfOk result (IsWholeList bytes.now) }
     ensures bad { IfErr result (λ why. IsBadList why.failure why.name.now bytes.now) }
 {
-    if bytes.len() > LIST_LIMIT {
+    if bytes.len() > LINES_LIMIT {
         return Err(Refused::unnamed(Failure::Script { line: 0 }));
     }
     match Events::read(alloc, bytes) {

@@ -8,6 +8,7 @@ ghost use Rattle.dp_bundle.specs.declared.errors.BundleError.{BundleError};
 ghost use Rattle.dp_words.specs.CommandLine.{Address, Invocation, IsEngine, IsIde, IsReplay, IsRun, IsTalk, Task};
 ghost use Rattle.dp_words.specs.CommandLine.{IsInvocation};
 ghost use Rattle.dp_words.specs.CommandLine.{invocation_in, uses_net};
+ghost use Rattle.dp_words.specs.Plain.{are_plain};
 ghost use Rattle.dp_top.specs.Failures.{Says};
 ghost use Rattle.dp_run.specs.Programs.{Holds};
 ghost use Rattle.dp_ide.specs.declared.instruction.Instruction.{Instruction};
@@ -68,6 +69,8 @@ pub fn top<R: Wait + Sync, H: Shelf, S: Source, K: Sink, E: Sink, N: Net, P: Spa
     // Words that ask for nothing are reported, unless memory ran out as they were read.
     ensures usage_only { ((task : Task) → IsInvocation (map string_bytes words.now) task → ⊥)
         → (result ≡ 200) ⊎ (result ≡ 209) }
+    // An empty word, or one that begins with `-` where no `--bound` stands, is reported without any memory.
+    ensures usage_plain { are_plain (map string_bytes words.now) ≡ false → result ≡ 200 }
     ensures usage_told { result ≡ 200 → Says (change E.taken E.faults err.old err.new) (codes "usage\n") }
     ensures usage_input { result ≡ 200 → IsUntouched (change S.left S.faults input.old input.new) }
     ensures usage_out { result ≡ 200 → IsUntouched (change K.taken K.faults out.old out.new) }

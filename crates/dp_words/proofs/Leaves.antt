@@ -17,7 +17,7 @@ use Rattle.clap.specs.Walk.{Held, Row, Rule, Text, Waiting, Walk, Step, idle, op
 use Rattle.clap.specs.declared.parser.matches.ValueSource.TheVariants.{CommandLine}
 use Rattle.clap.specs.declared.builder.value_parser.Reading.TheVariants as reading
 use Rattle.clap.proofs.OnLiterals.{clap_on_literals}
-use Rattle.dp_words.specs.inner.Plain.{is_plain}
+use Rattle.dp_words.specs.Plain.{is_plain}
 use Rattle.dp_words.specs.inner.Rows.{bound_row, words_row}
 use Rattle.dp_words.specs.inner.Shapes.{bounded, unbounded, wordless, program, bound_rule, words_rule, top}
 

@@ -11,7 +11,7 @@ use Rattle.dp_value.specs.Names.{without_slash}
 use Rattle.dp_tree.specs.FileNames.{AreFileNames}
 use Rattle.dp_wire.specs.Frames.{has_no_nul}
 use Rattle.dp_words.specs.CommandLine.{AreFileWords, IsFileWord, are_apart}
-use Rattle.dp_words.specs.inner.Plain.{is_plain}
+use Rattle.dp_words.specs.Plain.{is_plain}
 
 -- a name and others
 pub apart_cons : (name : String Global) (others : List (String Global)) →

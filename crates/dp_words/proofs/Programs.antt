@@ -9,7 +9,7 @@ use Rattle.clap.specs.Walk.{Held, Names, Row, Rule, Text, Walk, Step, idle, walk
 use Rattle.clap.proofs.OnLiterals.{clap_on_literals}
 use Rattle.dp_words.specs.inner.Shapes.{bounded, unbounded, wordless, program}
 use Rattle.dp_words.proofs.Leaves.{S, above, alone, at, fault, start, by_met, met, plain_is, no_flag, fault_met, Plain}
-use Rattle.dp_words.specs.inner.Plain.{is_plain}
+use Rattle.dp_words.specs.Plain.{is_plain}
 use Rattle.clap.specs.declared.error.kind.ErrorKind.TheVariants as kind
 
 abbrev pub names : Names

@@ -10,11 +10,11 @@ use Rattle.clap.specs.Faults.{fault_of}
 use Rattle.clap.specs.Lexer.{usize_max}
 use Rattle.clap.specs.Simple.{Shape, subcommand_of}
 use Rattle.clap.specs.Walk.{Row, Text, answers_to}
-use Rattle.dp_words.specs.CommandLine.{Ask, Asks, Task, Address, Dials, IsFileWord, IsKey, Replays, run, talk, engine, ide, replay, show, IsIde, ask_of, bound_limit, bound_of, default_bound, is_option, not_zero, port_limit, port_of, with_bound}
+use Rattle.dp_words.specs.CommandLine.{Invocation, IsInvocation, Task, Address, Dials, IsFileWord, IsKey, Replays, run, talk, engine, ide, replay, show, IsIde, invocation_of, bound_limit, bound_of, default_bound, is_option, not_zero, port_limit, port_of, with_bound}
 use Rattle.dp_value.specs.Decimals.{decimal_in}
 use Rattle.std.proofs.lemmas.Bool.Decides.{nat_tests}
-use Rattle.dp_words.specs.inner.Parsed.{IsParsed, Parsed, ask_in}
-use Rattle.dp_words.specs.inner.Plain.{are_bounded, are_plain, has_bound, is_plain}
+use Rattle.dp_words.specs.inner.Parsed.{IsParsed, Parsed, invocation_in}
+use Rattle.dp_words.specs.Plain.{are_bounded, are_plain, has_bound, is_plain}
 use Rattle.dp_words.specs.inner.Rows.{rows_with}
 use Rattle.dp_words.specs.inner.Shapes.{program}
 use Rattle.dp_words.proofs.Leaves.{S, alone, alone_fine, alone_refused, both, bound_alone, bound_level, bound_rows, fault, no_words as no_words_behind, plain_level, plain_rows}
@@ -31,7 +31,7 @@ name_of (replay events ask) = codes "replay"
 name_of show = codes "show"
 
 -- the first of the words names the task
-abbrev named : (words : List Text) (task : Task) → Asks words task
+abbrev named : (words : List Text) (task : Task) → IsInvocation words task
     → (behind : List Text) × (words ≡ name_of task ∷ behind)
 named words (run ask) h = (h.behind, h.words_are)
 named words (talk key ask) h = (h.behind, h.words_are)
@@ -42,7 +42,7 @@ named words show h = ([], h)
 
 -- a program has a file
 abbrev IsFiled : List Text → Type 0
-IsFiled behind = (ask : Ask) × (ask_of behind ≡ Some ask) × (1 ≤ length ask.names)
+IsFiled behind = (ask : Invocation) × (invocation_of behind ≡ Some ask) × (1 ≤ length ask.names)
 
 abbrev WantsFiles : Task → List Text → Type 0
 WantsFiles (run ask) behind = IsFiled behind
@@ -52,7 +52,7 @@ WantsFiles (replay events ask) behind = IsFiled behind
 WantsFiles (ide port script) behind = (number : Text) × (behind ≡ number ∷ script ∷ [])
 WantsFiles show behind = behind ≡ []
 
-wants : (words : List Text) (task : Task) (h : Asks words task) → WantsFiles task (named words task h).0
+wants : (words : List Text) (task : Task) (h : IsInvocation words task) → WantsFiles task (named words task h).0
 wants words (run ask) h = (ask, h.follows.asked, h.follows.files.some)
 wants words (talk key ask) h = (_, h.speaks.asked, omega (arith))
 wants words (engine address key ask) h = (_, h.dials.asked, omega (arith))
@@ -70,7 +70,7 @@ needs_files (ide port script) behind e h = absurd cc
 needs_files show behind e h = absurd cc
 
 -- the name and the words behind it
-module _ (name : Text) (behind : List Text) (task : Task) (asks : Asks (name ∷ behind) task) where
+module _ (name : Text) (behind : List Text) (task : Task) (asks : IsInvocation (name ∷ behind) task) where
   whole : name ∷ behind ≡ name_of task ∷ (named (name ∷ behind) task asks).0
   whole = (named (name ∷ behind) task asks).1
 
@@ -92,7 +92,7 @@ HasFault [] = ⊥
 HasFault (k ∷ ks) = ⊤
 
 abbrev pub IsUnread : List Text → Type 0
-IsUnread words = HasFault (fault_of program words) × ((task : Task) → Asks words task → ⊥)
+IsUnread words = HasFault (fault_of program words) × ((task : Task) → IsInvocation words task → ⊥)
 
 abbrev pub Reading : List Text → Type 0
 Reading words = IsRead words ⊎ IsUnread words
@@ -104,13 +104,14 @@ faulty name s known behind k has is =
 
 -- no task is asked for where no file can be
 no_files : (name : Text) → has_bound name ≡ true → (behind : List Text)
-    → ((ask : Ask) → ask_of behind ≡ Some ask → 1 ≤ length ask.names → ⊥) → (task : Task) → Asks (name ∷ behind) task
+    → ((ask : Invocation) → invocation_of behind ≡ Some ask → 1 ≤ length ask.names → ⊥) → (task : Task)
+    → IsInvocation (name ∷ behind) task
     → ⊥
 no_files name has behind none task asks =
     let filed = needs_files task (named (name ∷ behind) task asks).0
     (subst (λ (n : Text). has_bound n ≡ true) (same_name name behind task asks) has)
     (wants (name ∷ behind) task asks) in
-    none filed.0 (ap ask_of (same_behind name behind task asks) ∙ filed.1) filed.2
+    none filed.0 (ap invocation_of (same_behind name behind task asks) ∙ filed.1) filed.2
 
 not_bound : (v : Text) → is_plain v ≡ true → bytes_eq v (codes "--bound") ≡ false
 not_bound [] h = absurd cc
@@ -121,7 +122,7 @@ not_bound (b ∷ bs) h = by (b == 45) refl h where
 
 module _ (b : Bool) (name : Text) (known : Known name (S b name)) (v : Text) (vs : List Text)
     (h : is_plain v ≡ true) (hs : list_all is_plain vs ≡ true) (small : suc (length vs) ≤ usize_max) where
-  plain_asked : ask_of (v ∷ vs) ≡ Some (record { bound = default_bound; names = v ∷ vs })
+  plain_asked : invocation_of (v ∷ vs) ≡ Some (record { bound = default_bound; names = v ∷ vs })
   plain_asked =
       ap (λ (t : Bool). if t then with_bound vs else Some (record { bound = default_bound; names = v ∷ vs }))
       (not_bound v h)
@@ -144,7 +145,7 @@ module _ (name : Text) (has : has_bound name ≡ true) (known : Known name (S tr
       arith,
       some,
       ap
-          (λ (o : Option Ask). option_map_or (λ (a : Ask). length a.names) o 0) e,
+          (λ (o : Option Invocation). option_map_or (λ (a : Invocation). length a.names) o 0) e,
     ))),
   )
 
@@ -155,11 +156,17 @@ module _ (name : Text) (has : has_bound name ≡ true) (known : Known name (S tr
     faulty name (S true name) known (codes "--bound" ∷ number ∷ []) _ tt (bound_alone name number hn),
     no_files name has (codes "--bound" ∷ number ∷ []) (λ ask e some. without (bound_of number) ask e some),
   ) where
-    without : (bound : Option ℕ) (ask : Ask) → option_map (λ n. record { bound = n; names = [] }) bound ≡ Some ask
+    without : (bound : Option ℕ) (ask : Invocation)
+        → option_map (λ n. record { bound = n; names = [] }) bound ≡ Some ask
         → 1 ≤ length ask.names → ⊥
     without None ask e some = absurd cc
     without (Some n) ask e some =
-        absurd (omega (arith, some, ap (λ (o : Option Ask). option_map_or (λ (a : Ask). length a.names) o 0) e))
+        absurd (omega (
+          arith,
+          some,
+          ap (λ (o : Option Invocation). option_map_or
+              (λ (a : Invocation). length a.names) o 0) e,
+        ))
   bound_read number (v ∷ vs) hn hs small =
       let parts = both (is_plain v) (list_all is_plain vs) hs in inl (
         fault_known name (S true name) known (codes "--bound" ∷ number ∷ v ∷ vs)
@@ -351,7 +358,8 @@ files_plain (n ∷ names) all =
     (files_plain names (λ k d below. all (suc k) d (omega (arith, below))))
 
 -- the words that give a program's names are plain where the names are
-behind_plain : (behind : List Text) (ask : Ask) → ask_of behind ≡ Some ask → list_all is_plain ask.names ≡ true
+behind_plain : (behind : List Text) (ask : Invocation) → invocation_of behind ≡ Some ask
+    → list_all is_plain ask.names ≡ true
     → are_bounded behind ≡ true
 behind_plain [] ask e h = refl
 behind_plain (word ∷ []) ask e h = by (bytes_eq word (codes "--bound")) refl e where
@@ -360,7 +368,8 @@ behind_plain (word ∷ []) ask e h = by (bytes_eq word (codes "--bound")) refl e
       → is_plain word ≡ true
   by true is none = absurd cc
   by false is some =
-      let same : word ∷ [] ≡ ask.names = ap (λ (o : Option Ask). option_map_or (λ (a : Ask). a.names) o []) some in
+      let same : word ∷ [] ≡ ask.names = ap (λ (o : Option Invocation). option_map_or (λ (a : Invocation). a.names) o
+      []) some in
       (both (is_plain word) true (ap (list_all is_plain) same ∙ h)).0
 behind_plain (word ∷ number ∷ words) ask e h = by (bytes_eq word (codes "--bound")) refl e where
   bounded_so : (bound : Option ℕ) → bound_of number ≡ bound
@@ -368,7 +377,8 @@ behind_plain (word ∷ number ∷ words) ask e h = by (bytes_eq word (codes "--b
       → (is_plain number && list_all is_plain words) ≡ true
   bounded_so None is none = absurd cc
   bounded_so (Some n) is some =
-      let same : words ≡ ask.names = ap (λ (o : Option Ask). option_map_or (λ (a : Ask). a.names) o []) some in
+      let same : words ≡ ask.names = ap (λ (o : Option Invocation). option_map_or (λ (a : Invocation). a.names) o [])
+      some in
       ap₂ (λ (a b : Bool). a && b) (bound_plain number n is) (ap (list_all is_plain) same ∙ h)
 
   by : (t : Bool) → bytes_eq word (codes "--bound") ≡ t
@@ -382,7 +392,7 @@ behind_plain (word ∷ number ∷ words) ask e h = by (bytes_eq word (codes "--b
       ∙ bounded_so (bound_of number) refl some
   by false is some =
       let same : word ∷ number
-      ∷ words ≡ ask.names = ap (λ (o : Option Ask). option_map_or (λ (a : Ask). a.names) o []) some in
+      ∷ words ≡ ask.names = ap (λ (o : Option Invocation). option_map_or (λ (a : Invocation). a.names) o []) some in
       ap (λ (t : Bool). if t then (is_plain number && list_all is_plain words)
       else (is_plain word && (is_plain number && list_all is_plain words))) is
       ∙ ap (list_all is_plain) same ∙ h
@@ -394,7 +404,7 @@ more_plain : (word : Text) (words : List Text) → is_plain word ≡ true → li
     → list_all is_plain (word ∷ words) ≡ true
 more_plain word words h hs = ap₂ (λ (a b : Bool). a && b) h hs
 
-asks_behind : (task : Task) (words : List Text) (h : Asks words task) → has_bound (name_of task) ≡ true
+asks_behind : (task : Task) (words : List Text) (h : IsInvocation words task) → has_bound (name_of task) ≡ true
     → are_bounded (named words task h).0 ≡ true
 asks_behind (run ask) words h b =
     behind_plain h.behind ask h.follows.asked (files_plain ask.names h.follows.files.named)
@@ -416,7 +426,7 @@ asks_behind (replay events ask) words h b =
 asks_behind (ide port script) words h b = absurd cc
 asks_behind show words h b = absurd cc
 
-pub asks_plain : (words : List Text) (task : Task) → Asks words task → are_plain words ≡ true
+pub asks_plain : (words : List Text) (task : Task) → IsInvocation words task → are_plain words ≡ true
 asks_plain words (run ask) h = ap are_plain h.words_are ∙ asks_behind (run ask) words h refl
 asks_plain words (talk key ask) h = ap are_plain h.words_are ∙ asks_behind (talk key ask) words h refl
 asks_plain words (engine address key ask) h =
@@ -430,10 +440,11 @@ asks_plain words show h = ap are_plain h
 
 -- ---- what is read asks for something
 
-name_read : (words : List Text) (task : Task) (p : Parsed) → IsParsed words p → Asks words task → p.name ≡ name_of task
+name_read : (words : List Text) (task : Task) (p : Parsed) → IsParsed words p → IsInvocation words task
+    → p.name ≡ name_of task
 name_read words task p is asks = ap (λ (l : List Text). get_or l 0 []) (sym is.words_are ∙ (named words task asks).1)
 
-behind_read : (words : List Text) (task : Task) (p : Parsed) (is : IsParsed words p) (asks : Asks words task)
+behind_read : (words : List Text) (task : Task) (p : Parsed) (is : IsParsed words p) (asks : IsInvocation words task)
     → is.behind ≡ (named words task asks).0
 behind_read words task p is asks = ap (λ (l : List Text). drop 1 l) (sym is.words_are ∙ (named words task asks).1)
 
@@ -443,10 +454,12 @@ not_named name task e n =
     let t : true ≡ false = sym yes_it ∙ n in absurd cc
 
 pub no_engine_read : (words : List Text) (task : Task) (p : Parsed) → IsParsed words p → p.name ≡ codes "engine"
-    → ((behind : List Text) (address : Address) (key : List ℕ) (ask : Ask) → ask_of behind ≡ ask_in p
-    → Dials behind address key ask → ⊥) → Asks words task → ⊥
+    → ((behind : List Text) (address : Address) (key : List ℕ) (ask : Invocation)
+    → invocation_of behind ≡ invocation_in p
+    → Dials behind address key ask → ⊥) → IsInvocation words task → ⊥
 no_engine_read words (engine address key ask) p is name none asks =
-    none asks.behind address key ask (ap ask_of (sym (behind_read words (engine address key ask) p is asks)) ∙ is.asked)
+    none asks.behind address key ask (ap invocation_of (sym (behind_read words (engine address key ask) p is asks))
+    ∙ is.asked)
     asks.dials
 no_engine_read words (run ask) p is name none asks =
     not_named (codes "engine") (run ask) (sym name ∙ name_read words (run ask) p is asks) refl
@@ -460,7 +473,7 @@ no_engine_read words show p is name none asks =
     not_named (codes "engine") show (sym name ∙ name_read words show p is asks) refl
 
 pub no_ide_read : (words : List Text) (task : Task) (p : Parsed) → IsParsed words p → p.name ≡ codes "ide"
-    → ((port : ℕ) (script : List ℕ) → IsIde words port script → ⊥) → Asks words task → ⊥
+    → ((port : ℕ) (script : List ℕ) → IsIde words port script → ⊥) → IsInvocation words task → ⊥
 no_ide_read words (ide port script) p is name none asks = none port script asks
 no_ide_read words (run ask) p is name none asks =
     not_named (codes "ide") (run ask) (sym name ∙ name_read words (run ask) p is asks) refl
@@ -475,10 +488,11 @@ no_ide_read words show p is name none asks =
     not_named (codes "ide") show (sym name ∙ name_read words show p is asks) refl
 
 pub no_replay_read : (words : List Text) (task : Task) (p : Parsed) → IsParsed words p → p.name ≡ codes "replay"
-    → ((behind : List Text) (events : List ℕ) (ask : Ask) → ask_of behind ≡ ask_in p → Replays behind events ask → ⊥)
-    → Asks words task → ⊥
+    → ((behind : List Text) (events : List ℕ) (ask : Invocation) → invocation_of behind ≡ invocation_in p
+    → Replays behind events ask → ⊥)
+    → IsInvocation words task → ⊥
 no_replay_read words (replay events ask) p is name none asks =
-    none asks.behind events ask (ap ask_of (sym (behind_read words (replay events ask) p is asks)) ∙ is.asked)
+    none asks.behind events ask (ap invocation_of (sym (behind_read words (replay events ask) p is asks)) ∙ is.asked)
     asks.replays
 no_replay_read words (run ask) p is name none asks =
     not_named (codes "replay") (run ask) (sym name ∙ name_read words (run ask) p is asks) refl
@@ -493,7 +507,7 @@ no_replay_read words show p is name none asks =
     not_named (codes "replay") show (sym name ∙ name_read words show p is asks) refl
 
 pub no_show_read : (words : List Text) (task : Task) (p : Parsed) → IsParsed words p → p.name ≡ codes "show"
-    → (Asks words show → ⊥) → Asks words task → ⊥
+    → (IsInvocation words show → ⊥) → IsInvocation words task → ⊥
 no_show_read words show p is name none asks = none asks
 no_show_read words (ide port script) p is name none asks =
     not_named (codes "show") (ide port script) (sym name ∙ name_read words (ide port script) p is asks) refl
@@ -509,7 +523,8 @@ no_show_read words (engine address key ask) p is name none asks =
 
 pub no_name_read : (words : List Text) (task : Task) (p : Parsed) → IsParsed words p → (p.name ≡ codes "run" → ⊥)
     → (p.name ≡ codes "talk" → ⊥) → (p.name ≡ codes "engine" → ⊥)
-    → (p.name ≡ codes "ide" → ⊥) → (p.name ≡ codes "replay" → ⊥) → (p.name ≡ codes "show" → ⊥) → Asks words task → ⊥
+    → (p.name ≡ codes "ide" → ⊥) → (p.name ≡ codes "replay" → ⊥) → (p.name ≡ codes "show" → ⊥) → IsInvocation words task
+    → ⊥
 no_name_read words (run ask) p is a b c i r d asks = a (name_read words (run ask) p is asks)
 no_name_read words (talk key ask) p is a b c i r d asks = b (name_read words (talk key ask) p is asks)
 no_name_read words (engine address key ask) p is a b c i r d asks =

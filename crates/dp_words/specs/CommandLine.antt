@@ -53,19 +53,19 @@ abbrev pub bound_of : List ℕ → Option ℕ
 bound_of word = not_zero (decimal_in bound_limit word)
 
 -- a program that is asked for: how many moments it may have, and the names of its files
-pub record Ask : Type 0 where
+pub record Invocation : Type 0 where
   pub bound : ℕ
   pub names : List (List ℕ)
 
-abbrev pub with_bound : List (List ℕ) → Option Ask
+abbrev pub with_bound : List (List ℕ) → Option Invocation
 with_bound [] = None
 with_bound (number ∷ names) =
     option_map (λ bound. record { bound = bound; names = names }) (bound_of number)
 
 -- the words are the names, behind `--bound N` or without it
-abbrev pub ask_of : List (List ℕ) → Option Ask
-ask_of [] = Some (record { bound = default_bound; names = [] })
-ask_of (word ∷ words) =
+abbrev pub invocation_of : List (List ℕ) → Option Invocation
+invocation_of [] = Some (record { bound = default_bound; names = [] })
+invocation_of (word ∷ words) =
     if bytes_eq word (codes "--bound") then with_bound words
     else Some (record { bound = default_bound; names = word ∷ words })
 
@@ -84,29 +84,29 @@ pub record AreFileWords (names : List (List ℕ)) : Type 0 where
   pub apart : are_apart names ≡ true
 
 -- what stands behind `run`
-pub record Follows (words : List (List ℕ)) (ask : Ask) : Type 0 where
-  pub asked : ask_of words ≡ Some ask
+pub record Follows (words : List (List ℕ)) (ask : Invocation) : Type 0 where
+  pub asked : invocation_of words ≡ Some ask
   pub files : AreFileWords ask.names
 
 -- the words are `run [--bound N] FILE..`
-pub record IsRun (words : List (List ℕ)) (ask : Ask) : Type 0 where
+pub record IsRun (words : List (List ℕ)) (ask : Invocation) : Type 0 where
   pub behind : List (List ℕ)
   pub words_are : words ≡ codes "run" ∷ behind
   pub follows : Follows behind ask
 
 -- the session of a key over a program
-pub record IsSession (key : List ℕ) (ask : Ask) : Type 0 where
+pub record IsSession (key : List ℕ) (ask : Invocation) : Type 0 where
   pub is_key : IsKey key
   pub is_none : is_option key ≡ false
   pub files : AreFileWords ask.names
 
 -- what stands behind `talk`
-pub record Speaks (words : List (List ℕ)) (key : List ℕ) (ask : Ask) : Type 0 where
-  pub asked : ask_of words ≡ Some (record { bound = ask.bound; names = key ∷ ask.names })
+pub record Speaks (words : List (List ℕ)) (key : List ℕ) (ask : Invocation) : Type 0 where
+  pub asked : invocation_of words ≡ Some (record { bound = ask.bound; names = key ∷ ask.names })
   pub session : IsSession key ask
 
 -- the words are `talk [--bound N] KEY FILE..`
-pub record IsTalk (words : List (List ℕ)) (key : List ℕ) (ask : Ask) : Type 0 where
+pub record IsTalk (words : List (List ℕ)) (key : List ℕ) (ask : Invocation) : Type 0 where
   pub behind : List (List ℕ)
   pub words_are : words ≡ codes "talk" ∷ behind
   pub speaks : Speaks behind key ask
@@ -129,17 +129,17 @@ pub record Address : Type 0 where
   pub port : ℕ
 
 -- what stands behind `engine`
-pub record Dials (words : List (List ℕ)) (address : Address) (key : List ℕ) (ask : Ask)
+pub record Dials (words : List (List ℕ)) (address : Address) (key : List ℕ) (ask : Invocation)
     : Type 0 where
   pub number : List ℕ
-  pub asked : ask_of words
+  pub asked : invocation_of words
       ≡ Some (record { bound = ask.bound; names = address.host ∷ number ∷ key ∷ ask.names })
   pub host : IsHostWord address.host
   pub port : port_of number ≡ Some address.port
   pub session : IsSession key ask
 
 -- the words are `engine [--bound N] HOST PORT KEY FILE..`
-pub record IsEngine (words : List (List ℕ)) (address : Address) (key : List ℕ) (ask : Ask)
+pub record IsEngine (words : List (List ℕ)) (address : Address) (key : List ℕ) (ask : Invocation)
     : Type 0 where
   pub behind : List (List ℕ)
   pub words_are : words ≡ codes "engine" ∷ behind
@@ -153,13 +153,13 @@ pub record IsIde (words : List (List ℕ)) (port : ℕ) (script : List ℕ) : Ty
   pub is_script : IsFileWord script
 
 -- what stands behind `replay`
-pub record Replays (words : List (List ℕ)) (events : List ℕ) (ask : Ask) : Type 0 where
-  pub asked : ask_of words ≡ Some (record { bound = ask.bound; names = events ∷ ask.names })
+pub record Replays (words : List (List ℕ)) (events : List ℕ) (ask : Invocation) : Type 0 where
+  pub asked : invocation_of words ≡ Some (record { bound = ask.bound; names = events ∷ ask.names })
   pub is_events : IsFileWord events
   pub files : AreFileWords ask.names
 
 -- the words are `replay [--bound N] EVENTS FILE..`
-pub record IsReplay (words : List (List ℕ)) (events : List ℕ) (ask : Ask) : Type 0 where
+pub record IsReplay (words : List (List ℕ)) (events : List ℕ) (ask : Invocation) : Type 0 where
   pub behind : List (List ℕ)
   pub words_are : words ≡ codes "replay" ∷ behind
   pub replays : Replays behind events ask
@@ -167,32 +167,32 @@ pub record IsReplay (words : List (List ℕ)) (events : List ℕ) (ask : Ask) : 
 -- ---- what is asked for
 
 pub data Task : Type 0 where
-  run : Ask → Task
-  talk : (key : List ℕ) → Ask → Task
-  engine : Address → (key : List ℕ) → Ask → Task
+  run : Invocation → Task
+  talk : (key : List ℕ) → Invocation → Task
+  engine : Address → (key : List ℕ) → Invocation → Task
   ide : (port : ℕ) → (script : List ℕ) → Task
-  replay : (events : List ℕ) → Ask → Task
+  replay : (events : List ℕ) → Invocation → Task
   show : Task
 
 -- the words ask for this
-abbrev pub Asks : List (List ℕ) → Task → Type 0
-Asks words (run ask) = IsRun words ask
-Asks words (talk key ask) = IsTalk words key ask
-Asks words (engine address key ask) = IsEngine words address key ask
-Asks words (ide port script) = IsIde words port script
-Asks words (replay events ask) = IsReplay words events ask
-Asks words show = words ≡ codes "show" ∷ []
+abbrev pub IsInvocation : List (List ℕ) → Task → Type 0
+IsInvocation words (run ask) = IsRun words ask
+IsInvocation words (talk key ask) = IsTalk words key ask
+IsInvocation words (engine address key ask) = IsEngine words address key ask
+IsInvocation words (ide port script) = IsIde words port script
+IsInvocation words (replay events ask) = IsReplay words events ask
+IsInvocation words show = words ≡ codes "show" ∷ []
 
 -- the program that all its files make, where they are those of one
-abbrev pub ask_in : Task → Option Ask
-ask_in (run ask) = Some ask
-ask_in (talk key ask) = Some ask
-ask_in (engine address key ask) = Some ask
-ask_in (ide port script) = None
-ask_in (replay events ask) = None
-ask_in show = None
+abbrev pub invocation_in : Task → Option Invocation
+invocation_in (run ask) = Some ask
+invocation_in (talk key ask) = Some ask
+invocation_in (engine address key ask) = Some ask
+invocation_in (ide port script) = None
+invocation_in (replay events ask) = None
+invocation_in show = None
 
-abbrev pub names_asked : Option Ask → List (List ℕ)
+abbrev pub names_asked : Option Invocation → List (List ℕ)
 names_asked None = []
 names_asked (Some ask) = ask.names
 
@@ -200,7 +200,7 @@ names_asked (Some ask) = ask.names
 abbrev pub files_in : Task → List (List ℕ)
 files_in (ide port script) = script ∷ []
 files_in (replay events ask) = events ∷ ask.names
-files_in task = names_asked (ask_in task)
+files_in task = names_asked (invocation_in task)
 
 -- whether it is done over the network
 abbrev pub uses_net : Task → Bool

@@ -4,11 +4,12 @@ use Rattle.dp_words.specs.declared.command_line.Address.{Address as CodeAddress}
 use Rattle.dp_words.specs.declared.command_line.Command.{Command}
 use Rattle.dp_words.specs.declared.command_line.Program.{Program}
 use Rattle.dp_words.specs.declared.command_line.Command.TheVariants as told
-use Rattle.dp_words.specs.CommandLine.{Address, Ask, Task, run, talk, engine, ide, replay, show}
+use Rattle.dp_words.specs.CommandLine.{Address, Invocation, Task, run, talk, engine, ide, replay, show}
 
 -- a program that is asked for
-abbrev pub ask_told : Program → Ask
-ask_told program = record { bound = program.bound; names = map string_bytes program.files.now }
+abbrev pub invocation_seen : Program → Invocation
+invocation_seen program =
+    record { bound = program.bound; names = map string_bytes program.files.now }
 
 -- the address of an IDE
 abbrev pub address_told : CodeAddress → Address
@@ -16,10 +17,11 @@ address_told address = record { host = address.host.now; port = address.port }
 
 -- a command
 abbrev pub task_of : Command → Task
-task_of (told.Run program) = run (ask_told program)
-task_of (told.Talk request) = talk request.key.now (ask_told request.program)
+task_of (told.Run program) = run (invocation_seen program)
+task_of (told.Talk request) = talk request.key.now (invocation_seen request.program)
 task_of (told.Engine request) =
-    engine (address_told request.address) request.talk.key.now (ask_told request.talk.program)
+    engine (address_told request.address) request.talk.key.now
+    (invocation_seen request.talk.program)
 task_of (told.Ide request) = ide request.port request.script.now
-task_of (told.Replay request) = replay request.events.now (ask_told request.program)
+task_of (told.Replay request) = replay request.events.now (invocation_seen request.program)
 task_of told.Show = show

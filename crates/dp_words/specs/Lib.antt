@@ -1,3 +1,4 @@
 pub mod CommandLine
+pub mod Plain
 pub mod Commands
 pub mod inner

@@ -1,14 +1,17 @@
 //! The words of a command line.
-ghost use Rattle.std.specs.Prelude.{◌≡◌, ◌↔◌, ◌∷◌, [], ℕ, List, Option, Some, None, IsTrue, IfOk, IfSome, IfNone};
+ghost use Rattle.std.specs.Prelude.{◌≡◌, ◌↔◌, ◌∷◌, [], ℕ, false, List, Option, Some, None, IsTrue, IfOk, IfSome};
+ghost use Rattle.std.specs.Prelude.{IfNone};
 ghost use Rattle.std.specs.Prelude.{Ok, codes, map, string_bytes};
 ghost use Rattle.std.specs.List.{list_all};
 ghost use Rattle.std.specs.Option.{option_map};
-ghost use Rattle.dp_words.specs.CommandLine.{Address as AnyAddress, AreFileWords, Ask, Asks, Dials, Follows};
+ghost use Rattle.dp_words.specs.CommandLine.{Address as AnyAddress, AreFileWords, Invocation, IsInvocation, Dials};
+ghost use Rattle.dp_words.specs.CommandLine.{Follows};
 ghost use Rattle.dp_words.specs.CommandLine.{IsFileWord, IsHostWord, IsIde, IsKey, IsSession, Replays, Speaks, Task};
-ghost use Rattle.dp_words.specs.CommandLine.{ask_of, between, bound_of, port_of};
-ghost use Rattle.dp_words.specs.Commands.{address_told, ask_told, task_of};
+ghost use Rattle.dp_words.specs.CommandLine.{invocation_of, between, bound_of, port_of};
+ghost use Rattle.dp_words.specs.Commands.{address_told, invocation_seen, task_of};
+ghost use Rattle.dp_words.specs.Plain.{are_plain};
 ghost use Rattle.dp_words.specs.inner.Commands.{parsed_told};
-ghost use Rattle.dp_words.specs.inner.Parsed.{IsParsed, ask_in, bound_in};
+ghost use Rattle.dp_words.specs.inner.Parsed.{IsParsed, invocation_in, bound_in};
 
 use crate::names::{are_files, is_file, is_option};
 use crate::parser::{Parsed, parse};
@@ -124,8 +127,9 @@ fn read_bound(word: &str) -> Option<u64>
 
 // The program of these files, where they are names of files.
 fn program_of(program: Program<'_>) -> Option<Program<'_>>
-    ensures found { IfSome result (λ p. (ask_told p ≡ ask_told program.entry) × AreFileWords (ask_told p).names) }
-    ensures none { IfNone result (AreFileWords (ask_told program.entry).names → ⊥) }
+    ensures found { IfSome result (λ p. (invocation_seen p ≡ invocation_seen program.entry)
+        × AreFileWords (invocation_seen p).names) }
+    ensures none { IfNone result (AreFileWords (invocation_seen program.entry).names → ⊥) }
 {
     if are_files(program.files) {
         return Some(program);
@@ -145,7 +149,7 @@ fn bound_given(word: Option<&str>) -> Option<u64>
 
 // The program of the words, as names, with their bound.
 fn program_in<'a>(parsed: Parsed<'a>) -> Option<Program<'a>>
-    ensures { option_map ask_told result ≡ ask_in (parsed_told parsed.entry) }
+    ensures { option_map invocation_seen result ≡ invocation_in (parsed_told parsed.entry) }
 {
     let bound = bound_given(parsed.bound)?;
     Some(Program {
@@ -156,10 +160,11 @@ fn program_in<'a>(parsed: Parsed<'a>) -> Option<Program<'a>>
 
 // What the words behind `run` ask for.
 fn read_run<'a>(parsed: Parsed<'a>) -> Option<Program<'a>>
-    ensures found { IfSome result (λ p. (behind : List (List ℕ)) → ask_of behind ≡ ask_in (parsed_told parsed.entry)
-        → Follows behind (ask_told p)) }
-    ensures none { IfNone result ((behind : List (List ℕ)) (ask : Ask)
-        → ask_of behind ≡ ask_in (parsed_told parsed.entry) → Follows behind ask → ⊥) }
+    ensures found { IfSome result (λ p. (behind : List (List ℕ))
+        → invocation_of behind ≡ invocation_in (parsed_told parsed.entry)
+        → Follows behind (invocation_seen p)) }
+    ensures none { IfNone result ((behind : List (List ℕ)) (ask : Invocation)
+        → invocation_of behind ≡ invocation_in (parsed_told parsed.entry) → Follows behind ask → ⊥) }
 {
     match program_in(parsed) {
         None => None,
@@ -169,9 +174,10 @@ fn read_run<'a>(parsed: Parsed<'a>) -> Option<Program<'a>>
 
 // The session of this key over the program of these files.
 fn talk_of<'a>(key: &'a str, program: Program<'a>) -> Option<Talk<'a>>
-    ensures found { IfSome result (λ t. (t.key.now ≡ key.now) × (ask_told t.program ≡ ask_told program.entry)
-        × IsSession key.now (ask_told program.entry)) }
-    ensures none { IfNone result (IsSession key.now (ask_told program.entry) → ⊥) }
+    ensures found { IfSome result (λ t. (t.key.now ≡ key.now)
+        × (invocation_seen t.program ≡ invocation_seen program.entry)
+        × IsSession key.now (invocation_seen program.entry)) }
+    ensures none { IfNone result (IsSession key.now (invocation_seen program.entry) → ⊥) }
 {
     if !is_key(key.as_bytes()) {
         return None;
@@ -187,9 +193,11 @@ fn talk_of<'a>(key: &'a str, program: Program<'a>) -> Option<Talk<'a>>
 
 // What the words behind `talk` ask for.
 fn read_talk<'a>(parsed: Parsed<'a>) -> Option<Talk<'a>>
-    ensures found { IfSome result (λ t. (behind : List (List ℕ)) → ask_of behind ≡ ask_in (parsed_told parsed.entry)
-        → Speaks behind t.key.now (ask_told t.program)) }
-    ensures none { IfNone result ((behind key : _) (ask : Ask) → ask_of behind ≡ ask_in (parsed_told parsed.entry)
+    ensures found { IfSome result (λ t. (behind : List (List ℕ))
+        → invocation_of behind ≡ invocation_in (parsed_told parsed.entry)
+        → Speaks behind t.key.now (invocation_seen t.program)) }
+    ensures none { IfNone result ((behind key : _) (ask : Invocation)
+        → invocation_of behind ≡ invocation_in (parsed_told parsed.entry)
         → Speaks behind key ask → ⊥) }
 {
     match program_in(parsed) {
@@ -246,10 +254,10 @@ fn engine_of<'a>(
 ) -> Option<Engine<'a>>
     ensures found { IfSome result (λ e. (e.address.host.now ≡ host.now) × IsHostWord host.now
         × (port_of port.now ≡ Some e.address.port)
-        × (e.talk.key.now ≡ key.now) × (ask_told e.talk.program ≡ ask_told program.entry)
-        × IsSession key.now (ask_told program.entry)) }
+        × (e.talk.key.now ≡ key.now) × (invocation_seen e.talk.program ≡ invocation_seen program.entry)
+        × IsSession key.now (invocation_seen program.entry)) }
     ensures none { IfNone result (IsHostWord host.now → (n : ℕ) → port_of port.now ≡ Some n
-        → IsSession key.now (ask_told program.entry) → ⊥) }
+        → IsSession key.now (invocation_seen program.entry) → ⊥) }
 {
     match address_of(host, port) {
         None => None,
@@ -262,10 +270,11 @@ fn engine_of<'a>(
 
 // What the words behind `engine` ask for.
 fn read_engine<'a>(parsed: Parsed<'a>) -> Option<Engine<'a>>
-    ensures found { IfSome result (λ e. (behind : List (List ℕ)) → ask_of behind ≡ ask_in (parsed_told parsed.entry)
-        → Dials behind (address_told e.address) e.talk.key.now (ask_told e.talk.program)) }
-    ensures none { IfNone result ((behind : List (List ℕ)) (address : AnyAddress) (key : List ℕ) (ask : Ask)
-        → ask_of behind ≡ ask_in (parsed_told parsed.entry) → Dials behind address key ask → ⊥) }
+    ensures found { IfSome result (λ e. (behind : List (List ℕ))
+        → invocation_of behind ≡ invocation_in (parsed_told parsed.entry)
+        → Dials behind (address_told e.address) e.talk.key.now (invocation_seen e.talk.program)) }
+    ensures none { IfNone result ((behind : List (List ℕ)) (address : AnyAddress) (key : List ℕ) (ask : Invocation)
+        → invocation_of behind ≡ invocation_in (parsed_told parsed.entry) → Dials behind address key ask → ⊥) }
 {
     match program_in(parsed) {
         None => None,
@@ -326,9 +335,10 @@ fn read_ide<'a>(parsed: Parsed<'a>) -> Option<Ide<'a>>
 
 // The events of a list over the program of these files.
 fn replay_of<'a>(events: &'a str, program: Program<'a>) -> Option<Replay<'a>>
-    ensures found { IfSome result (λ r. (r.events.now ≡ events.now) × (ask_told r.program ≡ ask_told program.entry)
-        × IsFileWord events.now × AreFileWords (ask_told program.entry).names) }
-    ensures none { IfNone result (IsFileWord events.now → AreFileWords (ask_told program.entry).names → ⊥) }
+    ensures found { IfSome result (λ r. (r.events.now ≡ events.now)
+        × (invocation_seen r.program ≡ invocation_seen program.entry)
+        × IsFileWord events.now × AreFileWords (invocation_seen program.entry).names) }
+    ensures none { IfNone result (IsFileWord events.now → AreFileWords (invocation_seen program.entry).names → ⊥) }
 {
     if !is_file(events) {
         return None;
@@ -341,10 +351,11 @@ fn replay_of<'a>(events: &'a str, program: Program<'a>) -> Option<Replay<'a>>
 
 // What the words behind `replay` ask for.
 fn read_replay<'a>(parsed: Parsed<'a>) -> Option<Replay<'a>>
-    ensures found { IfSome result (λ r. (behind : List (List ℕ)) → ask_of behind ≡ ask_in (parsed_told parsed.entry)
-        → Replays behind r.events.now (ask_told r.program)) }
-    ensures none { IfNone result ((behind : List (List ℕ)) (events : List ℕ) (ask : Ask)
-        → ask_of behind ≡ ask_in (parsed_told parsed.entry) → Replays behind events ask → ⊥) }
+    ensures found { IfSome result (λ r. (behind : List (List ℕ))
+        → invocation_of behind ≡ invocation_in (parsed_told parsed.entry)
+        → Replays behind r.events.now (invocation_seen r.program)) }
+    ensures none { IfNone result ((behind : List (List ℕ)) (events : List ℕ) (ask : Invocation)
+        → invocation_of behind ≡ invocation_in (parsed_told parsed.entry) → Replays behind events ask → ⊥) }
 {
     match program_in(parsed) {
         None => None,
@@ -366,9 +377,9 @@ fn is_alone(parsed: Parsed<'_>) -> bool
 fn read_show<'a>(parsed: Parsed<'a>) -> Option<Command<'a>>
     ensures found { IfSome result (λ command. (words : List (List ℕ)) → IsParsed words (parsed_told parsed.entry)
         → parsed.entry.name.now ≡ codes "show"
-        → Asks words (task_of command)) }
+        → IsInvocation words (task_of command)) }
     ensures none { IfNone result ((words : List (List ℕ)) → IsParsed words (parsed_told parsed.entry)
-        → Asks words Task.show → ⊥) }
+        → IsInvocation words Task.show → ⊥) }
 {
     if is_alone(parsed) {
         Some(Command::Show)
@@ -380,9 +391,9 @@ fn read_show<'a>(parsed: Parsed<'a>) -> Option<Command<'a>>
 // What is asked for that is read so.
 fn command_of<'a>(parsed: Parsed<'a>) -> Option<Command<'a>>
     ensures found { IfSome result (λ command. (words : List (List ℕ)) → IsParsed words (parsed_told parsed.entry)
-        → Asks words (task_of command)) }
+        → IsInvocation words (task_of command)) }
     ensures none { IfNone result ((words : List (List ℕ)) (task : Task) → IsParsed words (parsed_told parsed.entry)
-        → Asks words task → ⊥) }
+        → IsInvocation words task → ⊥) }
 {
     if parsed.name == "run" {
         return match read_run(parsed) {
@@ -424,8 +435,11 @@ fn command_of<'a>(parsed: Parsed<'a>) -> Option<Command<'a>>
 /// tested first: none is empty, and none begins with `-` but a `--bound` directly behind a command that may have
 /// one, and before a word.
 pub fn read_words<'a>(alloc: Global, words: &'a [String]) -> Result<Option<Command<'a>>, Memory>
-    ensures found { IfOk result (λ read. IfSome read (λ command. Asks (map string_bytes words.now) (task_of command))) }
-    ensures none { result ≡ Ok None → (task : Task) → Asks (map string_bytes words.now) task → ⊥ }
+    ensures found { IfOk result (λ read. IfSome read (λ command. IsInvocation (map string_bytes words.now)
+        (task_of command))) }
+    ensures none { result ≡ Ok None → (task : Task) → IsInvocation (map string_bytes words.now) task → ⊥ }
+    // Such words are told without any memory.
+    ensures plain { are_plain (map string_bytes words.now) ≡ false → result ≡ Ok None }
 {
     if !are_plain(words) {
         return Ok(None);

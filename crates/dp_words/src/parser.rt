@@ -4,10 +4,10 @@ ghost use Rattle.std.specs.Prelude.{◌≡◌, ◌≢◌, ◌≤◌, ◌-◌, dr
 ghost use Rattle.std.specs.Prelude.{MatchResult, Ok, None, codes, map, option_map, string_bytes};
 ghost use Rattle.clap.specs.Words.{app_of, first_of, found_of, kind_of, rows_of, rule_of, shape_of};
 ghost use Rattle.clap.specs.declared.error.kind.ErrorKind.TheVariants.{OutOfMemory};
-ghost use Rattle.dp_words.specs.CommandLine.{Asks, Task};
+ghost use Rattle.dp_words.specs.CommandLine.{IsInvocation, Task};
 ghost use Rattle.dp_words.specs.inner.Parsed.{IsParsed};
 ghost use Rattle.dp_words.specs.inner.Commands.{parsed_told};
-ghost use Rattle.dp_words.specs.inner.Plain as plain;
+ghost use Rattle.dp_words.specs.Plain as plain;
 ghost use Rattle.dp_words.specs.inner.Rows.{AreRows, count_in};
 ghost use Rattle.dp_words.specs.inner.Shapes as shape;
 
@@ -133,7 +133,7 @@ pub(crate) fn parse<'a>(alloc: Global, words: &'a [String]) -> Result<Option<Par
     requires plain { plain.are_plain (map string_bytes words.now) ≡ true }
     ensures found { IfOk result (λ read. IfSome read (λ p.
         IsParsed (map string_bytes words.entry.now) (parsed_told p))) }
-    ensures none { result ≡ Ok None → (task : Task) → Asks (map string_bytes words.now) task → ⊥ }
+    ensures none { result ≡ Ok None → (task : Task) → IsInvocation (map string_bytes words.now) task → ⊥ }
 {
     match program(alloc)?.try_get_matches_from(words) {
         Ok(matches) => Ok(parsed_in(words, &matches)),

@@ -3,7 +3,7 @@
 ghost use Rattle.std.specs.Prelude.{◌≡◌, ◌&&◌, if◌then◌else◌, codes, map, string_bytes};
 ghost use Rattle.std.specs.Str.{bytes_eq};
 ghost use Rattle.std.specs.List.{list_all};
-ghost use Rattle.dp_words.specs.inner.Plain as spec;
+ghost use Rattle.dp_words.specs.Plain as spec;
 
 use crate::names::is_option;
 

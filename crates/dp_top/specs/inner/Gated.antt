@@ -9,7 +9,8 @@ use Rattle.dp_top.specs.declared.failures.Failure.{Failure}
 use Rattle.dp_top.specs.declared.failures.Failure.TheVariants as failure
 use Rattle.dp_run.specs.Programs.{Files}
 use Rattle.dp_ide.specs.Scripts.{IsScript}
-use Rattle.dp_top.specs.Ide.{IsBadAt, Unread, failure_of, script_limit}
+use Rattle.dp_top.specs.Ide.{IsBadAt, Unread, failure_of}
+use Rattle.dp_top.specs.Lines.{lines_limit}
 use Rattle.dp_top.specs.Links.{IsAccepted, IsUncalled, IsUsed, Tells}
 use Rattle.dp_top.specs.Seen.{Net}
 
@@ -17,7 +18,7 @@ use Rattle.dp_top.specs.Seen.{Net}
 
 -- the bytes are a script, and not too many
 pub record IsWholeScript (bytes : List ℕ) (instructions : List Instruction) : Type 0 where
-  pub fits : length bytes ≤ script_limit
+  pub fits : length bytes ≤ lines_limit
   pub is_script : IsScript bytes instructions
 
 -- why they are none, or memory ran out

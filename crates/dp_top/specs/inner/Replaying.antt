@@ -14,13 +14,13 @@ use Rattle.dp_top.specs.declared.failures.Failure.{Failure}
 use Rattle.dp_top.specs.declared.failures.Failure.TheVariants as failure
 use Rattle.dp_top.specs.declared.failures.Refused.{Refused}
 use Rattle.dp_top.specs.Replay.{DoesReplay, IsBadAt, IsHeldList, ReplayFails, Unlisted}
-use Rattle.dp_top.specs.Replay.{list_limit}
+use Rattle.dp_top.specs.Lines.{lines_limit}
 use Rattle.dp_top.specs.inner.Held.{IsHeld}
 use Rattle.dp_words.specs.CommandLine.{Invocation}
 
 -- the bytes are a list of events, and not too many
 pub record IsWholeList (bytes : List ℕ) (events : List Event) : Type 0 where
-  pub fits : length bytes ≤ list_limit
+  pub fits : length bytes ≤ lines_limit
   pub is_list : IsList bytes events
 
 -- why they are none, or memory ran out
@@ -52,7 +52,7 @@ EndsReplay result events ask files before after out =
 -- and one if they make none
 abbrev pub HeldFetched : Result ℕ Refused → List ℕ → List ℕ → List Given → Invocation → Type 0
 HeldFetched result events content fetched ask =
-    (files : Files) (before after : ℕ) → Fetches files events list_limit content
+    (files : Files) (before after : ℕ) → Fetches files events lines_limit content
     → AreFetched files ask.names fetched → (asked : Result Bundle BundleError)
     → Holds files ask.names asked → (list : List Event) → IsHeldList files events list
     → IsHeld asked result before after
@@ -61,5 +61,5 @@ HeldFetched result events content fetched ask =
 abbrev pub EndsFetched : Result ℕ Refused → List ℕ → List ℕ → List Given → Invocation → Change
     → Type 0
 EndsFetched result events content fetched ask out =
-    (files : Files) (before after : ℕ) → Fetches files events list_limit content
+    (files : Files) (before after : ℕ) → Fetches files events lines_limit content
     → AreFetched files ask.names fetched → EndsReplay result events ask files before after out

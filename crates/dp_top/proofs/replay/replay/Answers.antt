@@ -8,7 +8,7 @@ use Rattle.dp_tree.specs.declared.bundle.Bundle.{Bundle}
 use Rattle.dp_words.specs.Commands.{invocation_seen}
 use Rattle.dp_words.proofs.NameLaws.{names_of}
 use Rattle.dp_top.proofs.ReplayLaws.{first_and, since, status_small, unfetched_fails, unlisted_fails, unlisted_held}
-use Rattle.dp_top.specs.Replay.{list_limit}
+use Rattle.dp_top.specs.Lines.{lines_limit}
 use Rattle.dp_top.proofs.RunTold.{fetched, held_failure}
 use Rattle.dp_top.proofs.replay.replay.Goals as goal
 
@@ -31,7 +31,7 @@ returns-in-Ok-fetch_files-clause-ends g c =
     let files = g.H.Shelf.files c.args.shelf.now in
     let names = map string_bytes c.args.request.program.files.now in
     c.replay_fetched.ensures.ends files (g.H.Shelf.faults c.args.shelf.now) (g.H.Shelf.faults c.fetch_files.new.shelf)
-    (subst (λ (bytes : List ℕ). Fetches files c.args.request.events.now list_limit bytes)
+    (subst (λ (bytes : List ℕ). Fetches files c.args.request.events.now lines_limit bytes)
     (sym c.as_slice.ensures) c.in-Ok.ensures.held)
     (subst (λ (f : Files). AreFetched f names c.in-Ok-fetch_files.fetched) c.in-Ok.ensures.files
     c.in-Ok-fetch_files.ensures.ok)
@@ -45,7 +45,7 @@ returns-in-Ok-fetch_files-clause-status g c =
     (let files = g.H.Shelf.files c.args.shelf.now in
     let names = map string_bytes c.args.request.program.files.now in
     c.replay_fetched.ensures.ends files (g.H.Shelf.faults c.args.shelf.now) (g.H.Shelf.faults c.fetch_files.new.shelf)
-    (subst (λ (bytes : List ℕ). Fetches files c.args.request.events.now list_limit bytes)
+    (subst (λ (bytes : List ℕ). Fetches files c.args.request.events.now lines_limit bytes)
     (sym c.as_slice.ensures) c.in-Ok.ensures.held)
     (subst (λ (f : Files). AreFetched f names c.in-Ok-fetch_files.fetched) c.in-Ok.ensures.files
     c.in-Ok-fetch_files.ensures.ok))
@@ -94,7 +94,7 @@ returns-in-Ok-fetch_files-clause-held g c =
     let files = g.H.Shelf.files c.args.shelf.now in
     let names = map string_bytes c.args.request.program.files.now in
     c.replay_fetched.ensures.held files (g.H.Shelf.faults c.args.shelf.now) (g.H.Shelf.faults c.fetch_files.new.shelf)
-    (subst (λ (bytes : List ℕ). Fetches files c.args.request.events.now list_limit bytes)
+    (subst (λ (bytes : List ℕ). Fetches files c.args.request.events.now lines_limit bytes)
     (sym c.as_slice.ensures) c.in-Ok.ensures.held)
     (subst (λ (f : Files). AreFetched f names c.in-Ok-fetch_files.fetched) c.in-Ok.ensures.files
     c.in-Ok-fetch_files.ensures.ok)
