@@ -21,10 +21,10 @@ use Rattle.dp_step.specs.declared.machine.Machine.{Machine}
 use Rattle.dp_step.specs.Stands.{StandsFor, rest_of}
 use Rattle.dp_step.proofs.WritesMade.{all-made, number-is}
 use Rattle.dp_engine.specs.declared.states.Phase.TheVariants as phase
-use Rattle.dp_engine.specs.declared.states.Standing.{Standing}
-use Rattle.dp_engine.specs.declared.states.Standing.TheVariants.{Starting, Break, Stopping}
+use Rattle.dp_engine.specs.declared.states.Position.{Position}
+use Rattle.dp_engine.specs.declared.states.Position.TheVariants.{Starting, Break, Stopping}
 use Rattle.dp_engine.specs.inner.Accepting.{IsMade, with_one}
-use Rattle.dp_engine.specs.inner.Standing.{IsAt, IsDeep, phase_of}
+use Rattle.dp_engine.specs.inner.Position.{IsAt, IsDeep, phase_of}
 
 -- ---- lists
 
@@ -99,9 +99,9 @@ module _ (bundle : Bundle) (bound : ℕ) (features : Features) (machine : Machin
     (ws kept : List NumberedWrite) (moment : ℕ) (command id : Text) (r : Request) (response : Response)
     (made : IsMade bundle features machine.state after ws kept moment command id r response) where
   -- in a break
-  pub stands_kept : (failed : Bool) (standing : Standing) → phase_of standing ≡ phase.Break
-      → IsAt failed standing bundle bound ws moment machine
-      → IsAt failed standing bundle bound kept moment (left_with after machine)
+  pub stands_kept : (failed : Bool) (position : Position) → phase_of position ≡ phase.Break
+      → IsAt failed position bundle bound ws moment machine
+      → IsAt failed position bundle bound kept moment (left_with after machine)
   stands_kept failed Starting e h = absurd cc
   stands_kept failed Break e h = (
     h.0,

@@ -7,8 +7,8 @@ use Rattle.dp_outside.specs.Changes.{Change, change}
 use Rattle.dp_outside.specs.Streams.{AppendsFront}
 use Rattle.dp_serving.specs.declared.link.Fault.{Fault}
 use Rattle.dp_serving.specs.declared.link.Fault.TheVariants as fault
-use Rattle.dp_serving.specs.declared.link.Over.{Over}
-use Rattle.dp_serving.specs.declared.link.Over.TheVariants as over
+use Rattle.dp_serving.specs.declared.link.SessionOver.{SessionOver}
+use Rattle.dp_serving.specs.declared.link.SessionOver.TheVariants as over
 use Rattle.dp_serving.specs.Folds.{Reply}
 use Rattle.dp_serving.specs.Serving.{IsServed as IsConversed, IsCut as IsBrokenOff}
 use Rattle.dp_serving.proofs.FrontLaws.{front_after, front_all, front_of_more}
@@ -103,21 +103,21 @@ module _ {W X Y : Type 0} (left : W → Option (List ℕ)) (breaks : W → ℕ) 
   -- ---- a session that no fault has cut short
 
   -- the conversation of the session served alone
-  abbrev Alone : Over SessionEnd → Type 0
+  abbrev Alone : SessionOver SessionEnd → Type 0
   Alone o =
       IsConversed answer (opening bundle bound) state (init_text bundle key) o source sink (change prints fails y0 y1)
 
-  alone_is : (o : Over SessionEnd) → start ≡ opening bundle bound → init ≡ init_text bundle key
+  alone_is : (o : SessionOver SessionEnd) → start ≡ opening bundle bound → init ≡ init_text bundle key
       → IsConversed answer start state init o source sink (change prints fails y0 y1) → Alone o
   alone_is o first begun c =
       subst (λ (l : List ℕ). IsConversed answer (opening bundle bound) state l o source sink
       (change prints fails y0 y1)) begun
       (subst (λ (s : State). IsConversed answer s state init o source sink (change prints fails y0 y1)) first c)
 
-  abbrev ended_by : (o : Over SessionEnd) → Alone o → Option SessionEnd
+  abbrev ended_by : (o : SessionOver SessionEnd) → Alone o → Option SessionEnd
   ended_by o c = (answers bundle bound c.read).ended
 
-  abbrev all_printed : (o : Over SessionEnd) → Alone o → HasPrinted
+  abbrev all_printed : (o : SessionOver SessionEnd) → Alone o → HasPrinted
   all_printed o c = record {
     read = c.read;
     consumed = c.consumed;
@@ -130,7 +130,7 @@ module _ {W X Y : Type 0} (left : W → Option (List ℕ)) (breaks : W → ℕ) 
   }
 
   -- the program ran on to its end
-  served_to : (o : Over SessionEnd) (c : Alone o) (served : Served) (asked e : ServeEnd) → served.end ≡ e
+  served_to : (o : SessionOver SessionEnd) (c : Alone o) (served : Served) (asked e : ServeEnd) → served.end ≡ e
       → EndsBy asked (ended_by o c) (rest_of c.read) c.read source
       → rest_after (ended_by o c) state ≡ unwritten state → ending_after (ended_by o c) state ≡ Some (outcome_of state)
       → fails y0 ≤ fails y1 → RanOnTo e asked served state (change prints fails y1 y2)
@@ -189,7 +189,7 @@ module _ {W X Y : Type 0} (left : W → Option (List ℕ)) (breaks : W → ℕ) 
         there : Appends (prints y0) (prints y2) reply.program
         there = subst (λ (t : Option (List ℕ)). Appends (prints y0) t reply.program) (sym k.told) c.printed
 
-  ran_from : (o : Over SessionEnd) (c : Alone o) (served : Served) (asked : ServeEnd) (ended : Option SessionEnd)
+  ran_from : (o : SessionOver SessionEnd) (c : Alone o) (served : Served) (asked : ServeEnd) (ended : Option SessionEnd)
       → ended_by o c ≡ ended → rest_after ended state ≡ unwritten state
       → ending_after ended state ≡ Some (outcome_of state)
       → EndsBy asked (ended_by o c) (rest_of c.read) c.read source → fails y0 ≤ fails y1
@@ -199,7 +199,8 @@ module _ {W X Y : Type 0} (left : W → Option (List ℕ)) (breaks : W → ℕ) 
       served_to o c served asked served.end refl ends (ap (λ (e : Option SessionEnd). rest_after e state) same ∙ rest)
       (ap (λ (e : Option SessionEnd). ending_after e state) same ∙ ending_is) later ran
 
-  closed_to : (o : Over SessionEnd) (c : Alone o) (served : Served) → Closes o served state (change prints fails y1 y2)
+  closed_to : (o : SessionOver SessionEnd) (c : Alone o) (served : Served)
+      → Closes o served state (change prints fails y1 y2)
       → fails y0 ≤ fails y1 → Serves served bundle bound key source sink (change prints fails y0 y2)
   closed_to (over.Ended end.Killed) c served closes later = killed_to c served closes
   closed_to (over.Ended end.Detached) c served closes later =
@@ -217,7 +218,7 @@ module _ {W X Y : Type 0} (left : W → Option (List ℕ)) (breaks : W → ℕ) 
   closed_to over.ByteLimit c served closes later =
       ran_from over.ByteLimit c served ByteLimit None c.ends.0 refl refl c.ends later closes
 
-  pub serves_closed : (o : Over SessionEnd) (served : Served) → start ≡ opening bundle bound
+  pub serves_closed : (o : SessionOver SessionEnd) (served : Served) → start ≡ opening bundle bound
       → init ≡ init_text bundle key → IsConversed answer start state init o source sink (change prints fails y0 y1)
       → Closes o served state (change prints fails y1 y2) → fails y0 ≤ fails y1
       → Serves served bundle bound key source sink (change prints fails y0 y2)

@@ -53,8 +53,8 @@ use Rattle.dp_engine.specs.declared.sides.Side.{Side}
 use Rattle.dp_engine.specs.declared.sides.Side.TheVariants.{Breakpoints, Program, Writes}
 use Rattle.dp_engine.specs.declared.states.Phase.{Phase}
 use Rattle.dp_engine.specs.declared.states.Phase.TheVariants as phase
-use Rattle.dp_engine.specs.declared.states.Standing.{Standing}
-use Rattle.dp_engine.specs.declared.states.Standing.TheVariants.{Starting, Break, Stopping}
+use Rattle.dp_engine.specs.declared.states.Position.{Position}
+use Rattle.dp_engine.specs.declared.states.Position.TheVariants.{Starting, Break, Stopping}
 use Rattle.dp_engine.specs.declared.replies.Turn.{Turn as Made}
 use Rattle.dp_engine.specs.Answers.{Turn, asked, breakpoints_done, done_on, end_by_stop, gone_on, in_packet, kept_if, moved, performed, refused, response_in, shown, turn_of, with_write, written}
 use Rattle.dp_engine.specs.Refusals.{of_command, own_tests, refusal_of_line, row_tests, tests, tests_on}
@@ -64,7 +64,7 @@ use Rattle.dp_engine.specs.Sides.{side_of}
 use Rattle.dp_engine.specs.States.{allows}
 use Rattle.dp_engine.specs.inner.Accepting.{IsMade}
 use Rattle.dp_engine.specs.inner.Sizes.{Fits}
-use Rattle.dp_engine.specs.inner.Standing.{IsAt, IsDeep, end_of, known, phase_of}
+use Rattle.dp_engine.specs.inner.Position.{IsAt, IsDeep, end_of, known, phase_of}
 use Rattle.dp_engine.specs.inner.Turns.{Asks, AsksIn, IsTurn, Tells, answered, answered_by}
 use Rattle.dp_engine.proofs.Refusing.{first_for, writes_at_break}
 
@@ -358,53 +358,53 @@ within bundle bound writes (suc k) m stands =
 
 -- ---- what a session keeps
 
-module _ (bundle : Bundle) (bound : ℕ) (writes : List NumberedWrite) (moment : ℕ) (standing : Standing)
+module _ (bundle : Bundle) (bound : ℕ) (writes : List NumberedWrite) (moment : ℕ) (position : Position)
     (features : Features) (stdout : StreamMode) (breaks : Table) (machine : Machine) where
   abbrev state : State
-  state = known bundle bound writes moment standing features stdout breaks
+  state = known bundle bound writes moment position features stdout breaks
 
   abbrev Kept : Bool → Type 0
-  Kept failed = IsAt failed standing bundle bound writes moment machine
+  Kept failed = IsAt failed position bundle bound writes moment machine
 
   -- its program is the one of the machine
   pub program_is : (failed : Bool) → failed ≡ false → Kept failed → machine.state ≡ program_of state
-  program_is failed whole h = by standing h where
-    by : (s : Standing) → IsAt failed s bundle bound writes moment machine
+  program_is failed whole h = by position h where
+    by : (s : Position) → IsAt failed s bundle bound writes moment machine
         → machine.state ≡ program_of (known bundle bound writes moment s features stdout breaks)
     by Starting h = sym (ap (λ (o : Option Program_state). unwrap_or o (first_state bundle)) (h whole).state)
     by Break h = sym (ap (λ (o : Option Program_state). unwrap_or o (first_state bundle)) (h.1 whole).state)
     by (Stopping end) h = h.1
 
   pub program_can : (failed : Bool) → failed ≡ false → 0 < length bundle.files → Kept failed → IsOf bundle machine.state
-  program_can failed whole some h = by standing h where
-    by : (s : Standing) → IsAt failed s bundle bound writes moment machine → IsOf bundle machine.state
+  program_can failed whole some h = by position h where
+    by : (s : Position) → IsAt failed s bundle bound writes moment machine → IsOf bundle machine.state
     by Starting h = (now-can bundle bound writes some moment machine.state (h whole).state).0
     by Break h = (now-can bundle bound writes some moment machine.state (h.1 whole).state).0
     by (Stopping end) h = subst (IsOf bundle) (sym h.1) (end-can bundle bound writes some).0
 
   -- before the end it stands at the moment
-  pub stands_there : (failed : Bool) → failed ≡ false → phase_of standing ≢ phase.Stopping → Kept failed
+  pub stands_there : (failed : Bool) → failed ≡ false → phase_of position ≢ phase.Stopping → Kept failed
       → StandsFor bundle bound writes moment machine
-  stands_there failed whole before h = by standing before h where
-    by : (s : Standing) → phase_of s ≢ phase.Stopping → IsAt failed s bundle bound writes moment machine
+  stands_there failed whole before h = by position before h where
+    by : (s : Position) → phase_of s ≢ phase.Stopping → IsAt failed s bundle bound writes moment machine
         → StandsFor bundle bound writes moment machine
     by Starting n h = h whole
     by Break n h = h.1 whole
     by (Stopping end) n h = absurd (n refl)
 
   -- that is as many moments as have come
-  moments_are : phase_of standing ≢ phase.Stopping → moments_so_far state ≡ moment
-  moments_are before = by standing before where
-    by : (s : Standing) → phase_of s ≢ phase.Stopping → moments_by (phase_of s) bundle bound writes moment ≡ moment
+  moments_are : phase_of position ≢ phase.Stopping → moments_so_far state ≡ moment
+  moments_are before = by position before where
+    by : (s : Position) → phase_of s ≢ phase.Stopping → moments_by (phase_of s) bundle bound writes moment ≡ moment
     by Starting n = refl
     by Break n = refl
     by (Stopping end) n = absurd (n refl)
 
   -- once it has failed, nothing is said of the machine
-  pub nothing_kept : (failed : Bool) (left : Machine) → phase_of standing ≢ phase.Stopping → Kept failed
-      → IsAt true standing bundle bound writes moment left
-  nothing_kept failed left before h = by standing before h where
-    by : (s : Standing) → phase_of s ≢ phase.Stopping → IsAt failed s bundle bound writes moment machine
+  pub nothing_kept : (failed : Bool) (left : Machine) → phase_of position ≢ phase.Stopping → Kept failed
+      → IsAt true position bundle bound writes moment left
+  nothing_kept failed left before h = by position before h where
+    by : (s : Position) → phase_of s ≢ phase.Stopping → IsAt failed s bundle bound writes moment machine
         → IsAt true s bundle bound writes moment left
     by Starting n h = λ e. absurd cc
     by Break n h = (h.0, λ e. absurd cc)
@@ -440,19 +440,19 @@ module _ (bundle : Bundle) (bound : ℕ) (writes : List NumberedWrite) (moment :
         (program_trace bundle bound writes).moments number stop in omega (arith, there.2, there.3)
 
   -- the steps on the way
-  pub counts_to : (before after number : ℕ) (left : Table) → phase_of standing ≢ phase.Stopping → moment < number
+  pub counts_to : (before after number : ℕ) (left : Table) → phase_of position ≢ phase.Stopping → moment < number
       → after + moment ≡ before + number
       → after ≡ before + steps_between state (known bundle bound writes number Break features stdout left)
   counts_to before after number left n later counted = omega (arith, moments_are n, later, counted)
 
-  pub counts_out : (before after : ℕ) (end : Outcome) (left : Table) → phase_of standing ≢ phase.Stopping
+  pub counts_out : (before after : ℕ) (end : Outcome) (left : Table) → phase_of position ≢ phase.Stopping
       → StandsFor bundle bound writes moment machine
       → after + moment ≡ before + length (program_trace bundle bound writes).moments
       → after ≡ before + steps_between state (known bundle bound writes moment (Stopping end) features stdout left)
   counts_out before after end left n stands counted =
       omega (arith, moments_are n, within bundle bound writes moment machine stands, counted)
 
-  pub counts_left : (before after : ℕ) → phase_of standing ≢ phase.Stopping
+  pub counts_left : (before after : ℕ) → phase_of position ≢ phase.Stopping
       → StandsFor bundle bound writes moment machine
       → after + moment ≡ before + length (program_trace bundle bound writes).moments → after ≡ before + steps_left state
   counts_left before after n stands counted =
@@ -461,7 +461,7 @@ module _ (bundle : Bundle) (bound : ℕ) (writes : List NumberedWrite) (moment :
   -- ---- a write is kept
 
   abbrev with_kept : List NumberedWrite → State
-  with_kept kept = known bundle bound kept moment standing features stdout breaks
+  with_kept kept = known bundle bound kept moment position features stdout breaks
 
   pub write_is_told : {E : Type 0} (after : Program_state) (kept : List NumberedWrite) (command id : Text) (r : Request)
       (response : Response) (made : Result Made E)
@@ -483,17 +483,17 @@ module _ (bundle : Bundle) (bound : ℕ) (writes : List NumberedWrite) (moment :
       r) (sym same) ∙ e)
 
   -- in a break no moment has come by that
-  pub write_stays : (kept : List NumberedWrite) → phase_of standing ≡ phase.Break
+  pub write_stays : (kept : List NumberedWrite) → phase_of position ≡ phase.Break
       → moments_so_far (with_kept kept) ≡ moments_so_far state
   write_stays kept at =
       ap (λ (p : Phase). moments_by p bundle bound kept moment) at
       ∙ sym (ap (λ (p : Phase). moments_by p bundle bound writes moment) at)
 
 -- how a session ends that is stopped
-pub stops_so : (failed : Bool) (standing : Standing) (bundle : Bundle) (bound : ℕ) (writes : List NumberedWrite)
+pub stops_so : (failed : Bool) (position : Position) (bundle : Bundle) (bound : ℕ) (writes : List NumberedWrite)
     (moment : ℕ) (machine : Machine) (features : Features) (stdout : StreamMode) (breaks : Table)
-    → IsAt failed standing bundle bound writes moment machine
-    → end_of standing ≡ end_by_stop (phase_of standing) (known bundle bound writes moment standing features stdout
+    → IsAt failed position bundle bound writes moment machine
+    → end_of position ≡ end_by_stop (phase_of position) (known bundle bound writes moment position features stdout
     breaks)
 stops_so failed Starting bundle bound writes moment machine features stdout breaks h = refl
 stops_so failed Break bundle bound writes moment machine features stdout breaks h = refl

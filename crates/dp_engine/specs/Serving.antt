@@ -5,7 +5,7 @@ use Rattle.dp_tree.specs.declared.bundle.Bundle.{Bundle}
 use Rattle.dp_outside.specs.Causes.{Rose}
 use Rattle.dp_outside.specs.Changes.{Change}
 use Rattle.dp_outside.specs.Streams.{AppendsFront}
-use Rattle.dp_serving.specs.declared.link.Over.TheVariants as over
+use Rattle.dp_serving.specs.declared.link.SessionOver.TheVariants as over
 use Rattle.dp_serving.specs.Serving.{EndsBy as IsOverBy, IsReadUpTo}
 use Rattle.dp_state.specs.declared.moments.Outcome.{Outcome}
 use Rattle.dp_wire.specs.Frames.{commands_in, rest_of}

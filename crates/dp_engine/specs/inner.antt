@@ -1,7 +1,7 @@
 -- What only proofs speak of: how the code keeps a session's program, turns before they are made,
 -- what is short enough for a packet, what becomes of a program once its session is over, and of the
 -- writes that are kept. No public clause cites these.
-pub mod Standing
+pub mod Position
 pub mod Turns
 pub mod Sizes
 pub mod Closing

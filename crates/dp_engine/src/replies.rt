@@ -7,12 +7,12 @@ ghost use Rattle.dp_engine.specs.Answers as spec;
 ghost use Rattle.dp_engine.specs.Responses.{fault_response, status_response};
 ghost use Rattle.dp_engine.specs.States.{phase_name, reason_name};
 ghost use Rattle.dp_engine.specs.inner.Sizes.{Fits, IsCode};
-ghost use Rattle.dp_engine.specs.inner.Standing.{phase_of, reason_at};
+ghost use Rattle.dp_engine.specs.inner.Position.{phase_of, reason_at};
 ghost use Rattle.dp_engine.specs.inner.Turns.{Tells};
 
 use crate::responses;
 use crate::session::SessionEnd;
-use crate::states::Standing;
+use crate::states::Position;
 use dp_command::{Addressee, CommandName};
 use dp_features::{Feature, Features};
 use dp_packet::Response;
@@ -54,12 +54,12 @@ pub(crate) fn refuse(alloc: Global, to: &Addressee, code: u16) -> Result<Turn, M
 }
 
 /// The state and the reason of a session that stands so.
-pub(crate) fn tell_status(alloc: Global, to: &Addressee, standing: Standing) -> Result<Turn, Memory>
+pub(crate) fn tell_status(alloc: Global, to: &Addressee, position: Position) -> Result<Turn, Memory>
     ensures { IfOk result (Tells (status_response to.now.command to.now.id
-        (phase_name (phase_of standing)) (reason_name (reason_at standing))) None) }
+        (phase_name (phase_of position)) (reason_name (reason_at position))) None) }
 {
-    let status = standing.phase().name();
-    let reason = standing.reason().name();
+    let status = position.phase().name();
+    let reason = position.reason().name();
     let response = responses::status(alloc, to, status, reason)?;
     tell(alloc, response)
 }

@@ -10,7 +10,7 @@ ghost use Rattle.dp_engine.specs.Session.{opening};
 
 use crate::session::{Answer, Session, SessionEnd};
 use dp_outside::{Sink, Source};
-use dp_serving::{Fault, Over, Responder, converse, put_some};
+use dp_serving::{Fault, Responder, SessionOver, converse, put_unless_empty};
 use dp_state::Outcome;
 use dp_step::Steps;
 use dp_value::{Bytes, Memory};
@@ -112,7 +112,7 @@ fn run_on<E: Sink, L: Ledger>(
     let Ok((rest, outcome)) = session.finish(steps) else {
         return cut_short(ServeEnd::Memory);
     };
-    match put_some(out, rest.as_slice()) {
+    match put_unless_empty(out, rest.as_slice()) {
         Ok(()) => Served {
             end,
             outcome: Some(outcome),
@@ -124,7 +124,7 @@ fn run_on<E: Sink, L: Ledger>(
 // What becomes of the program once the session is over.
 fn close<E: Sink, L: Ledger>(
     session: Session<'_>,
-    over: Over<SessionEnd>,
+    over: SessionOver<SessionEnd>,
     out: &mut E,
     steps: &mut Steps<L>,
 ) -> Served
@@ -132,15 +132,20 @@ fn close<E: Sink, L: Ledger>(
     ensures out_later { E.faults out.old ≤ E.faults out.new }
 {
     match over {
-        Over::Ended(SessionEnd::Killed) => left(session, ServeEnd::Stopped),
-        Over::Ended(SessionEnd::Detached) => run_on(session, ServeEnd::Detached, out, steps),
-        Over::Ended(SessionEnd::Finished(_)) => run_on(session, ServeEnd::Stopped, out, steps),
-        Over::LinkEnd => run_on(session, ServeEnd::LinkEnd, out, steps),
-        Over::ReadFault => run_on(session, ServeEnd::ReadFault, out, steps),
-        Over::BadCommandFrame { offset } => {
+        SessionOver::Ended(SessionEnd::Killed) => left(session, ServeEnd::Stopped),
+        SessionOver::Ended(SessionEnd::Detached) => run_on(session, ServeEnd::Detached, out, steps),
+        SessionOver::Ended(SessionEnd::Finished(_)) => run_on(
+            session,
+            ServeEnd::Stopped,
+            out,
+            steps,
+        ),
+        SessionOver::LinkEnd => run_on(session, ServeEnd::LinkEnd, out, steps),
+        SessionOver::ReadFault => run_on(session, ServeEnd::ReadFault, out, steps),
+        SessionOver::BadCommandFrame { offset } => {
             run_on(session, ServeEnd::BadCommandFrame { offset }, out, steps)
         }
-        Over::ByteLimit => run_on(session, ServeEnd::ByteLimit, out, steps),
+        SessionOver::ByteLimit => run_on(session, ServeEnd::ByteLimit, out, steps),
     }
 }
 

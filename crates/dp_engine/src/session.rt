@@ -9,7 +9,7 @@ ghost use Rattle.dp_command.specs.Lines.{line_of};
 ghost use Rattle.dp_tree.specs.FileNames.{AreFileNames};
 
 use crate::replies::Turn;
-use crate::states::{Phase, Standing};
+use crate::states::{Phase, Position};
 use crate::streams::{to_ide, to_program};
 use dp_break::Breaks;
 use dp_command::{Continuation, Line, LineError, StreamMode, read_line};
@@ -49,7 +49,7 @@ pub struct Session<'a> {
     /// The number of the current moment, 0 before the first, and the depth there.
     pub(crate) moment: u64,
     pub(crate) depth: u32,
-    pub(crate) standing: Standing,
+    pub(crate) position: Position,
     pub(crate) features: Features,
     pub(crate) stdout: StreamMode,
     /// The program, which stands at the moment or has ended.
@@ -73,11 +73,11 @@ impl<'a> Model for Session<'a> {
 
     ghost coded = { Prim.hlevel (codes, bundle_type.the_row.coded, write_type.the_row.coded, table_code) };
 
-    ghost use Rattle.dp_engine.specs.inner.Standing.{known, IsAt, IsDeep};
+    ghost use Rattle.dp_engine.specs.inner.Position.{known, IsAt, IsDeep};
 
-    ghost view = { λ s. known s.bundle.now s.bound s.writes.items s.moment s.standing s.features s.stdout s.breaks };
+    ghost view = { λ s. known s.bundle.now s.bound s.writes.items s.moment s.position s.features s.stdout s.breaks };
 
-    ghost invariant = { λ s. IsAt s.failed s.standing s.bundle.now s.bound s.writes.items s.moment s.machine
+    ghost invariant = { λ s. IsAt s.failed s.position s.bundle.now s.bound s.writes.items s.moment s.machine
         × IsDeep s.bundle.now s.bound s.writes.items s.moment s.depth
         × AreFileNames (map (λ f. f.name) s.bundle.now.files) };
 }
@@ -155,7 +155,7 @@ impl<'a> Session<'a> {
             writes: Vec::new(alloc),
             moment: 0,
             depth: 1,
-            standing: Standing::Starting,
+            position: Position::Starting,
             features: Features::new(),
             stdout: StreamMode::Disable,
             machine,
@@ -229,11 +229,11 @@ impl<'a> Session<'a> {
             Reached::Moment { number, depth } => {
                 self.moment = number;
                 self.depth = depth;
-                self.standing = Standing::Break;
+                self.position = Position::Break;
                 Ok(())
             }
             Reached::End(outcome) => {
-                self.standing = Standing::Stopping(outcome);
+                self.position = Position::Stopping(outcome);
                 Ok(())
             }
         }
@@ -258,10 +258,10 @@ impl<'a> Session<'a> {
         ensures outcome { IfOk result (λ rest. rest.1 ≡ outcome_of self.old) }
         ensures steps { IfOk result (λ rest. steps.new ≡ steps.old + steps_left self.old) }
     {
-        match self.standing {
-            Standing::Starting => self.run_rest(steps),
-            Standing::Break => self.run_rest(steps),
-            Standing::Stopping(outcome) => Ok((Bytes::of(Vec::new(self.alloc)), outcome)),
+        match self.position {
+            Position::Starting => self.run_rest(steps),
+            Position::Break => self.run_rest(steps),
+            Position::Stopping(outcome) => Ok((Bytes::of(Vec::new(self.alloc)), outcome)),
         }
     }
 
@@ -278,7 +278,7 @@ impl<'a> Session<'a> {
         let shown = self.machine.state().output.len();
         match self.machine.run_out(steps) {
             Ok(outcome) => {
-                self.standing = Standing::Stopping(outcome);
+                self.position = Position::Stopping(outcome);
                 let written = tail(self.machine.state().output.as_slice(), shown);
                 let rest = Bytes::from_slice(self.alloc, written)?;
                 Ok((rest, outcome))

@@ -1,6 +1,6 @@
 //! The states of a session, their reasons, and which commands they allow.
 ghost use Rattle.std.specs.Prelude.{◌≡◌, ◌≤◌, length};
-ghost use Rattle.dp_engine.specs.inner.Standing.{end_of, phase_of, reason_at};
+ghost use Rattle.dp_engine.specs.inner.Position.{end_of, phase_of, reason_at};
 ghost use Rattle.dp_engine.specs.States as spec;
 
 use crate::session::SessionEnd;
@@ -30,20 +30,20 @@ pub(crate) enum Reason {
 
 /// Where a session stands: its state, and how its program has ended, if it has.
 #[derive(Clone, Copy, Debug, PartialEq, Eq)]
-pub(crate) enum Standing {
+pub(crate) enum Position {
     Starting,
     Break,
     Stopping(Outcome),
 }
 
-impl Standing {
+impl Position {
     pub(crate) fn phase(self) -> Phase
         ensures { result ≡ phase_of self }
     {
         match self {
-            Standing::Starting => Phase::Starting,
-            Standing::Break => Phase::Break,
-            Standing::Stopping(_) => Phase::Stopping,
+            Position::Starting => Phase::Starting,
+            Position::Break => Phase::Break,
+            Position::Stopping(_) => Phase::Stopping,
         }
     }
 
@@ -51,9 +51,9 @@ impl Standing {
         ensures { result ≡ reason_at self }
     {
         match self {
-            Standing::Starting => Reason::Ok,
-            Standing::Break => Reason::Ok,
-            Standing::Stopping(outcome) => Reason::of(outcome),
+            Position::Starting => Reason::Ok,
+            Position::Break => Reason::Ok,
+            Position::Stopping(outcome) => Reason::of(outcome),
         }
     }
 
@@ -62,9 +62,9 @@ impl Standing {
         ensures { result ≡ end_of self }
     {
         match self {
-            Standing::Starting => SessionEnd::Killed,
-            Standing::Break => SessionEnd::Killed,
-            Standing::Stopping(outcome) => SessionEnd::Finished(outcome),
+            Position::Starting => SessionEnd::Killed,
+            Position::Break => SessionEnd::Killed,
+            Position::Stopping(outcome) => SessionEnd::Finished(outcome),
         }
     }
 }

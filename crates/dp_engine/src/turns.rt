@@ -10,7 +10,7 @@ use crate::replies::{Turn, detach, refuse, stop, tell, tell_feature, tell_status
 use crate::responses;
 use crate::session::{Session, SessionEnd};
 use crate::sides::Side;
-use crate::states::{Phase, Standing};
+use crate::states::{Phase, Position};
 use crate::writes::accept;
 use dp_breakpoint_commands::{BreakpointError, answer_breakpoints};
 use dp_command::{
@@ -58,7 +58,7 @@ impl<'a> Session<'a> {
         ensures steps { IfOk result (λ turn. steps.new ≡ steps.old + steps_between self.old self.new) }
     {
         let to = Addressee::of(alloc, line)?;
-        match ask(alloc, self.standing.phase(), line) {
+        match ask(alloc, self.position.phase(), line) {
             Ok(command) => self.perform(alloc, &to, command.request, steps),
             Err(CommandError::Code(code)) => refuse(alloc, &to, code),
             Err(CommandError::Memory) => Err(Memory),
@@ -100,7 +100,7 @@ impl<'a> Session<'a> {
         ensures steps { IfOk result (λ turn. steps.new ≡ steps.old + steps_between self.old self.new) }
     {
         match request {
-            Request::Status => tell_status(alloc, to, self.standing),
+            Request::Status => tell_status(alloc, to, self.position),
             Request::FeatureGet { name: feature } => {
                 tell_feature(alloc, to, &self.features, feature.as_slice())
             }
@@ -109,7 +109,7 @@ impl<'a> Session<'a> {
                 value,
             } => self.put_feature(alloc, to, feature.as_slice(), value.as_slice()),
             Request::Continue(mode) => self.go_on(alloc, to, *mode, steps),
-            Request::Finish(Finish::Stop) => stop(alloc, to, self.standing.end_by_stop()),
+            Request::Finish(Finish::Stop) => stop(alloc, to, self.position.end_by_stop()),
             Request::Finish(Finish::Detach) => detach(alloc, to),
             Request::Redirect { stream, mode } => self.redirect(alloc, to, *stream, *mode),
             _ => refuse(alloc, to, 4),
@@ -253,10 +253,10 @@ impl<'a> Session<'a> {
             self.new) }
         ensures steps { IfOk result (λ turn. steps.new ≡ steps.old + steps_between self.old self.new) }
     {
-        match self.standing {
-            Standing::Starting => self.advance(alloc, to, mode, steps),
-            Standing::Break => self.advance(alloc, to, mode, steps),
-            Standing::Stopping(outcome) => stop(alloc, to, SessionEnd::Finished(outcome)),
+        match self.position {
+            Position::Starting => self.advance(alloc, to, mode, steps),
+            Position::Break => self.advance(alloc, to, mode, steps),
+            Position::Stopping(outcome) => stop(alloc, to, SessionEnd::Finished(outcome)),
         }
     }
 
@@ -273,6 +273,6 @@ impl<'a> Session<'a> {
         ensures steps { IfOk result (λ turn. steps.new ≡ steps.old + steps_between self.old self.new) }
     {
         self.run_on(mode, steps)?;
-        tell_status(alloc, to, self.standing)
+        tell_status(alloc, to, self.position)
     }
 }

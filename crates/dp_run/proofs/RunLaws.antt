@@ -25,7 +25,7 @@ use Rattle.dp_run.specs.declared.errors.ProgramError.{ProgramError}
 use Rattle.dp_run.specs.declared.errors.ProgramError.TheVariants as none
 use Rattle.dp_run.specs.declared.errors.RunError.{RunError}
 use Rattle.dp_run.specs.declared.errors.RunError.TheVariants as run
-use Rattle.dp_run.specs.Programs.{AreFetched, Asks, Comes, Files, Holds, IsHeld, Make, NoProgram, Told, is_bad_file, IsMade, IsRefused, IsUnread}
+use Rattle.dp_run.specs.Programs.{AreFetched, Asks, Comes, Files, Holds, IsHeld, NamesMake, NoProgram, Told, is_bad_file, IsMade, IsRefused, IsUnread}
 use Rattle.dp_run.specs.Programs.{refusal}
 use Rattle.dp_run.specs.Runs.{Ends, RunCaused, Runs, judged, of_program}
 use Rattle.dp_run.specs.inner.Steps.{FetchCaused, IsNext, IsPlainPut, IsPlainUnput}
@@ -206,7 +206,7 @@ names_made number (g ∷ more) (f ∷ rest) h = λ i. h.0.named i ∷ names_made
 
 module _ (files : Files) (before after : ℕ) (names : List (List ℕ)) where
   module _ (fetched : List Given) (are : AreFetched files names fetched) where
-    made_of : (made : Result Bundle BundleError) → Makes fetched made → Make files names made
+    made_of : (made : Result Bundle BundleError) → Makes fetched made → NamesMake files names made
     made_of made h = record { fetched = fetched; are = are; makes = h }
 
     refused_none : (e : BundleError) → Makes fetched (Err e) → NoProgram (refusal e) files before after names
@@ -221,7 +221,7 @@ module _ (files : Files) (before after : ℕ) (names : List (List ℕ)) where
         (sym same) (refused_none e makes)
 
     pub program_made : (result : Result Bundle ProgramError) → IfOk result (λ program. Makes fetched (Ok program))
-        → IfOk result (λ program. Make files names (Ok program))
+        → IfOk result (λ program. NamesMake files names (Ok program))
     program_made (Ok program) h = made_of _ h
     program_made (Err why) h = tt
 
@@ -238,7 +238,7 @@ module _ (files : Files) (before after : ℕ) (names : List (List ℕ)) where
 -- ---- what the end of a program is
 
 module _ (files : Files) (before after : ℕ) (names : List (List ℕ)) (bound : ℕ) (out : Change) where
-  module _ (program : Bundle) (made : Make files names (Ok program)) where
+  module _ (program : Bundle) (made : NamesMake files names (Ok program)) where
     ended : (outcome : Outcome) → outcome ≡ outcome_of (plain program bound).end
         → Appends out.told_before out.told (plain program bound).state.output
         → Ends outcome files names bound out

@@ -28,7 +28,8 @@ pub record AreFetched (files : Files) (names : List (List ℕ)) (fetched : List 
   pub contents : All (λ file. Fetches files file.0 file_limit file.1) fetched
 
 -- what the files of these names make: a program, or the refusal of the first that is refused
-pub record Make (files : Files) (names : List (List ℕ)) (made : Result Bundle BundleError) : Type 0
+pub record NamesMake (files : Files) (names : List (List ℕ))
+    (made : Result Bundle BundleError) : Type 0
   where
     pub fetched : List Given
     pub are : AreFetched files names fetched
@@ -38,7 +39,7 @@ pub record Make (files : Files) (names : List (List ℕ)) (made : Result Bundle 
 pub record Holds (files : Files) (names : List (List ℕ)) (made : Result Bundle BundleError) : Type 0
   where
     pub tells : IsSome files
-    pub make : Make files names made
+    pub make : NamesMake files names made
 
 -- ---- why there is none
 
@@ -53,9 +54,10 @@ abbrev pub NoProgram : ProgramError → Files → ℕ → ℕ → List (List ℕ
 NoProgram (Shelf file) files before after names = Comes files names file × Rose before after
 NoProgram (Missing file) files before after names =
     Comes files names file × Lacks files (get_or names file [])
-NoProgram (TooLong file) files before after names = Make files names (Err (unmade.TooLong file))
+NoProgram (TooLong file) files before after names =
+    NamesMake files names (Err (unmade.TooLong file))
 NoProgram (Source file why) files before after names =
-    Make files names (Err (unmade.Source file why))
+    NamesMake files names (Err (unmade.Source file why))
 NoProgram Memory files before after names = ⊤
 
 -- ---- which files are asked for

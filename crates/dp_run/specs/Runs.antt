@@ -12,20 +12,20 @@ use Rattle.dp_run.specs.declared.errors.ProgramError.{ProgramError}
 use Rattle.dp_run.specs.declared.errors.RunError.{RunError}
 use Rattle.dp_run.specs.declared.errors.RunError.TheVariants.{Program, Fatal, Bound, OutFault}
 use Rattle.dp_run.specs.declared.errors.RunError.TheVariants.{Memory}
-use Rattle.dp_run.specs.Programs.{Files, Make, NoProgram}
+use Rattle.dp_run.specs.Programs.{Files, NamesMake, NoProgram}
 
 -- the program of these files ended so, and all that it wrote was put
 pub record Ends (outcome : Outcome) (files : Files) (names : List (List ℕ)) (bound : ℕ)
     (out : Change) : Type 0 where
   pub program : Bundle
-  pub made : Make files names (Ok program)
+  pub made : NamesMake files names (Ok program)
   pub is_end : outcome ≡ outcome_of (plain program bound).end
   pub wrote : Appends out.told_before out.told (plain program bound).state.output
 
 -- the program of these files was run, and a front of what it wrote was put
 pub record IsCut (files : Files) (names : List (List ℕ)) (bound : ℕ) (out : Change) : Type 0 where
   pub program : Bundle
-  pub made : Make files names (Ok program)
+  pub made : NamesMake files names (Ok program)
   pub wrote : AppendsFront out.told_before out.told (plain program bound).state.output
 
 -- what an end comes to: a status, or why there is none

@@ -5,7 +5,7 @@ ghost use Rattle.dp_bundle.specs.Bundles.{AreForBundle, Makes};
 ghost use Rattle.dp_tree.specs.FileNames.{AreFileNames};
 ghost use Rattle.dp_tree.specs.declared.bundle.Bundle.{Bundle as Program};
 ghost use Rattle.dp_bundle.specs.declared.errors.BundleError.{BundleError as Unmade};
-ghost use Rattle.dp_run.specs.Programs.{Asks, Holds, IsHeld, IsMade, IsRefused, Make, NoProgram};
+ghost use Rattle.dp_run.specs.Programs.{Asks, Holds, IsHeld, IsMade, IsRefused, NamesMake, NoProgram};
 
 use crate::errors::ProgramError;
 use crate::fetches::fetch_files;
@@ -39,7 +39,7 @@ pub fn fetch_program<H: Shelf>(
     shelf: &mut H,
 ) -> Result<Bundle, ProgramError>
     requires { AreFileNames (map string_bytes names.now) }
-    ensures made { IfOk result (λ program. Make (H.files shelf.old) (map string_bytes names.now) (Ok program)) }
+    ensures made { IfOk result (λ program. NamesMake (H.files shelf.old) (map string_bytes names.now) (Ok program)) }
     ensures named { IfOk result (λ program. map (λ file. file.name) program.files ≡ map string_bytes names.now) }
     ensures cause { IfErr result (λ why. NoProgram why (H.files shelf.old) (H.faults shelf.old) (H.faults shelf.new)
         (map string_bytes names.now)) }

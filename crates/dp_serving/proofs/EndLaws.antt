@@ -5,8 +5,8 @@ use Rattle.std.specs.Io.KnownBytes.{Appends}
 use Rattle.dp_outside.specs.Changes.{Change}
 use Rattle.dp_wire.specs.Frames.{IsCommand, command_frame, commands_in, rest_of, packet_frame, IsPartialCommand, BeginsNoCommand}
 use Rattle.dp_wire.proofs.SplitLaws.{no_frame_begins, one_split_lem, commands_split}
-use Rattle.dp_serving.specs.declared.link.Over.{Over}
-use Rattle.dp_serving.specs.declared.link.Over.TheVariants.{Ended, LinkEnd, ReadFault, BadCommandFrame, ByteLimit}
+use Rattle.dp_serving.specs.declared.link.SessionOver.{SessionOver}
+use Rattle.dp_serving.specs.declared.link.SessionOver.TheVariants.{Ended, LinkEnd, ReadFault, BadCommandFrame, ByteLimit}
 use Rattle.dp_serving.specs.inner.Exchanges.{Stands, Converses}
 use Rattle.dp_serving.specs.Folds.{Reply, replies}
 use Rattle.dp_serving.specs.Growth.{served}
@@ -33,7 +33,7 @@ no_more_refused held refused text more is e = refused text more [] is (append-ni
 abbrev IsOver : {E : Type 0} → Option E → List ℕ → Type 0
 IsOver ended held = ((e : _) × (ended ≡ Some e)) ⊎ ((ended ≡ None) × NoMore held)
 
-no_more : {E : Type 0} (over : Over E) (ended : Option E) (held read : List ℕ) (source : Change)
+no_more : {E : Type 0} (over : SessionOver E) (ended : Option E) (held read : List ℕ) (source : Change)
     → EndsBy over ended held read source → IsOver ended held
 no_more (Ended end) ended held read source h = inl (end, h)
 no_more LinkEnd ended held read source h = inr (h.0, no_more_partial held h.1)
@@ -78,7 +78,7 @@ module _ {S E : Type 0} (step : S → List ℕ → Reply S E) (start : S) (read 
   left_over ended same none partial =
       (sym same ∙ none, subst IsPartialCommand (rest_is (no_more_partial held partial)) partial)
 
-  ends_over_all : (over : Over E) (source : Change) (ended : Option E) → (replies step start taken).ended ≡ ended
+  ends_over_all : (over : SessionOver E) (source : Change) (ended : Option E) → (replies step start taken).ended ≡ ended
       → EndsBy over (replies step start taken).ended held read source → EndsBy over ended (rest_of read) read source
   ends_over_all (Ended end) source ended same h = sym same ∙ h
   ends_over_all LinkEnd source ended same h = let left = left_over ended same h.0 h.1 in (left.0, left.1, h.2)
@@ -89,7 +89,7 @@ module _ {S E : Type 0} (step : S → List ℕ → Reply S E) (start : S) (read 
   ends_over_all ByteLimit source ended same h = let left = left_over ended same h.0 h.1 in (left.0, left.1, h.2)
 
 -- a conversation that is over has served the session
-pub is_served : {S E : Type 0} (step : S → List ℕ → Reply S E) (start state : S) (init : List ℕ) (over : Over E)
+pub is_served : {S E : Type 0} (step : S → List ℕ → Reply S E) (start state : S) (init : List ℕ) (over : SessionOver E)
     (source sink out : Change)
     → Converses step start state init over source sink out → IsServed step start state init over source sink out
 is_served {S} {E} step start state init over source sink out c =

@@ -8,8 +8,8 @@ use Rattle.dp_outside.specs.Streams.{AppendsFront}
 use Rattle.dp_wire.specs.Frames.{commands_in, packet_frame, rest_of, IsPartialCommand, BeginsNoCommand}
 use Rattle.dp_serving.specs.declared.link.Fault.{Fault}
 use Rattle.dp_serving.specs.declared.link.Fault.TheVariants.{Write, Out, Memory}
-use Rattle.dp_serving.specs.declared.link.Over.{Over}
-use Rattle.dp_serving.specs.declared.link.Over.TheVariants.{Ended, LinkEnd, ReadFault, BadCommandFrame, ByteLimit}
+use Rattle.dp_serving.specs.declared.link.SessionOver.{SessionOver}
+use Rattle.dp_serving.specs.declared.link.SessionOver.TheVariants.{Ended, LinkEnd, ReadFault, BadCommandFrame, ByteLimit}
 use Rattle.dp_serving.specs.Folds.{Reply, replies}
 use Rattle.dp_serving.specs.Growth.{served}
 
@@ -19,7 +19,7 @@ byte_limit = 4294967295
 
 -- why a session that no fault of a put cut short ended here: whether a command has ended it, what
 -- of the bytes read is no whole command, and what became of the source
-abbrev pub EndsBy : {E : Type 0} → Over E → Option E → List ℕ → List ℕ → Change → Type 0
+abbrev pub EndsBy : {E : Type 0} → SessionOver E → Option E → List ℕ → List ℕ → Change → Type 0
 EndsBy (Ended end) ended rest read source = ended ≡ Some end
 EndsBy LinkEnd ended rest read source = (ended ≡ None) × IsPartialCommand rest × IsAtEnd source.told
 EndsBy ReadFault ended rest read source =
@@ -46,7 +46,7 @@ pub record IsReadUpTo {S E : Type 0} (step : S → List ℕ → Reply S E) (star
 -- Read from the source, written on the link and to the program's own output is what the first
 -- packet and the commands among the bytes read lead to.
 pub record IsServed {S E : Type 0} (step : S → List ℕ → Reply S E) (start state : S) (init : List ℕ)
-    (over : Over E) (source sink out : Change) : Type 0 where
+    (over : SessionOver E) (source sink out : Change) : Type 0 where
   pub read : List ℕ
   pub up_to : IsReadUpTo step start read
   pub consumed : Consumes source.told_before source.told read

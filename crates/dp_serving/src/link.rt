@@ -10,7 +10,7 @@ ghost use Rattle.dp_serving.specs.inner.Exchanges.{ReadsPiece};
 ghost use Rattle.dp_serving.specs.Serving.{IsServed, IsCut};
 
 use crate::conversation::{Conversation, Next};
-use crate::puts::{Unsent, put_some, send, send_all};
+use crate::puts::{Unsent, put_unless_empty, send, send_all};
 use crate::responder::{Answer, Responder};
 use dp_outside::{Sink, Source};
 use dp_value::Memory;
@@ -24,7 +24,7 @@ const PIECE: usize = 8192;
 
 /// Why a session that no sink has failed is over.
 #[derive(Debug, Drop)]
-pub enum Over<E> {
+pub enum SessionOver<E> {
     /// A command ended it.
     Ended(E),
     /// The source gave its end.
@@ -102,7 +102,7 @@ fn deliver<T: Drop, K: Sink, E: Sink>(
         program,
         ended,
     } = answer;
-    if put_some(out, program.as_slice()).is_err() {
+    if put_unless_empty(out, program.as_slice()).is_err() {
         return Err(Fault::Out);
     }
     match send_all(alloc, packets.as_slice(), sink) {
@@ -185,7 +185,7 @@ fn exchange<A: Responder, S: Source, K: Sink, E: Sink>(
     source: &mut S,
     sink: &mut K,
     out: &mut E,
-) -> Result<Over<A::End>, Fault<A::End>>
+) -> Result<SessionOver<A::End>, Fault<A::End>>
     requires text { IsPacketText init.now }
     requires fed { talk.old.held.held ≡ [] }
     ensures ok { IfOk result (λ over. IsServed A.step talk.old.session talk.new.session init.now over
@@ -204,21 +204,21 @@ fn exchange<A: Responder, S: Source, K: Sink, E: Sink>(
     'pieces: while count < BYTE_LIMIT {
         let room = PIECE.min(BYTE_LIMIT - count);
         let more = match read_piece(source, talk, &mut buffer[..room])? {
-            Piece::Failed => return Ok(Over::ReadFault),
-            Piece::End => return Ok(Over::LinkEnd),
+            Piece::Failed => return Ok(SessionOver::ReadFault),
+            Piece::End => return Ok(SessionOver::LinkEnd),
             Piece::Came(more) => more,
         };
         count += more;
         match answer_held(alloc, talk, sink, out)? {
-            Pause::Ended(end) => return Ok(Over::Ended(end)),
+            Pause::Ended(end) => return Ok(SessionOver::Ended(end)),
             Pause::TooLong => {
                 let offset = (count - talk.held.bytes().len()) as u64;
-                return Ok(Over::BadCommandFrame { offset });
+                return Ok(SessionOver::BadCommandFrame { offset });
             }
             Pause::Partial => {}
         }
     }
-    Ok(Over::ByteLimit)
+    Ok(SessionOver::ByteLimit)
 }
 
 /// Sends the first packet of a session and answers each command that comes, until the session is over or a fault of a
@@ -231,7 +231,7 @@ pub fn converse<A: Responder + Drop, S: Source, K: Sink, E: Sink>(
     source: &mut S,
     sink: &mut K,
     out: &mut E,
-) -> (Result<Over<A::End>, Fault<A::End>>, A)
+) -> (Result<SessionOver<A::End>, Fault<A::End>>, A)
     requires { IsPacketText init.now }
     ensures ok { IfOk result.0 (λ over. IsServed A.step session result.1 init.now over
         (change S.left S.faults source.old source.new) (change K.taken K.faults sink.old sink.new)

@@ -31,7 +31,7 @@ impl From<AllocError> for Unsent {
 }
 
 /// Puts the bytes, if there are any, or answers `Failed` after a front of them was taken.
-pub fn put_some<E: Sink>(out: &mut E, bytes: &[u8]) -> Result<(), Failed>
+pub fn put_unless_empty<E: Sink>(out: &mut E, bytes: &[u8]) -> Result<(), Failed>
     ensures taken { PutAppends (E.taken out.old) (E.taken out.new) result bytes.now }
     ensures cause { HasCause (E.faults out.old) (E.faults out.new) result }
 {

@@ -7,7 +7,7 @@ use Rattle.dp_outside.specs.Links.{CountsReturned, Link}
 use Rattle.dp_outside.specs.Telling.{grown}
 use Rattle.dp_tree.specs.declared.bundle.Bundle.{Bundle}
 use Rattle.dp_run.specs.declared.errors.ProgramError.{ProgramError}
-use Rattle.dp_run.specs.Programs.{Make, NoProgram}
+use Rattle.dp_run.specs.Programs.{NamesMake, NoProgram}
 use Rattle.dp_top.specs.declared.failures.Failure.TheVariants as failure
 use Rattle.dp_top.specs.declared.failures.Refused.{Refused}
 use Rattle.dp_words.specs.CommandLine.{Address, Invocation}
@@ -93,7 +93,8 @@ served_over program address key ask source sink out old new dialled (Err why) (i
     }))
 
 module _ (address : Address) (key : List ℕ) (ask : Invocation) (old new : Seen) (apart : IsApart old new) where
-  pub program_engaged : (program : Bundle) → Make old.shelf.files ask.names (Ok program) → (result : Result ℕ Refused)
+  pub program_engaged : (program : Bundle) → NamesMake old.shelf.files ask.names (Ok program)
+      → (result : Result ℕ Refused)
       → MatchResult result (λ status. EngagedSo status program address key ask
       (changed old.out new.out) old.net new.net)
       (λ why. UnengagedSo why.failure why.name.now program address key ask (changed old.out new.out) old.net new.net)

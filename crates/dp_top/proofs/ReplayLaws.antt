@@ -13,7 +13,7 @@ use Rattle.dp_lists.specs.Lists.{IsFirstBad}
 use Rattle.dp_lists.proofs.ListLaws.{bad_excludes}
 use Rattle.dp_run.specs.declared.errors.ProgramError.{ProgramError}
 use Rattle.dp_run.specs.declared.errors.ProgramError.TheVariants as none
-use Rattle.dp_run.specs.Programs.{AreFetched, Files, IsHeld as IsRunHeld, IsMade, IsUnread, Make, NoProgram, Told}
+use Rattle.dp_run.specs.Programs.{AreFetched, Files, IsHeld as IsRunHeld, IsMade, IsUnread, NamesMake, NoProgram, Told}
 use Rattle.dp_run.proofs.RunLaws.{program_caused, program_made}
 use Rattle.dp_world.specs.declared.errors.ReplayError.TheVariants as ends
 use Rattle.dp_world.specs.Replays.{Replays}
@@ -207,7 +207,7 @@ module _ (files : Files) (before after : ℕ) (events : List ℕ) (ask : Invocat
         },
       )
       over_ends (Err why) program makes h = by h.1 where
-        made : Make files ask.names (Ok program)
+        made : NamesMake files ask.names (Ok program)
         made = program_made files before after ask.names fetched are (Ok program) makes
 
         by : ((why.failure ≡ failure.Output) × Replays (Err ends.OutFault) program ask.bound list out)

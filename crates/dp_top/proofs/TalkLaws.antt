@@ -17,7 +17,7 @@ use Rattle.dp_engine.specs.Session.{State, outcome_of}
 use Rattle.dp_meaning.proofs.Exits.{exit_small}
 use Rattle.dp_run.specs.declared.errors.RunError.{RunError}
 use Rattle.dp_run.specs.declared.errors.ProgramError.{ProgramError}
-use Rattle.dp_run.specs.Programs.{IsHeld as IsRunHeld, Make, NoProgram}
+use Rattle.dp_run.specs.Programs.{IsHeld as IsRunHeld, NamesMake, NoProgram}
 use Rattle.dp_run.specs.Runs.{judged as judged_end}
 use Rattle.dp_state.specs.declared.moments.Outcome.{Outcome}
 use Rattle.dp_state.specs.declared.moments.Outcome.TheVariants as way
@@ -134,7 +134,8 @@ module _ (unsent : Failure) (ask : Invocation) (served : Served) (program : Bund
 -- ---- a session over the program of the files
 
 module _ (key : List ℕ) (ask : Invocation) (old new : Seen) where
-  pub program_served : (program : Bundle) → Make old.shelf.files ask.names (Ok program) → (result : Result ℕ Refused)
+  pub program_served : (program : Bundle) → NamesMake old.shelf.files ask.names (Ok program)
+      → (result : Result ℕ Refused)
       → MatchResult result (λ status. ServedSo failure.Output status program key ask (changed old.input new.input)
       (changed old.out new.out) (changed old.err new.err))
       (λ why. UnservedSo failure.Output why.failure why.name.now program key ask (changed old.input new.input)

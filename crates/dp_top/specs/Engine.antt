@@ -5,7 +5,7 @@ use Rattle.dp_tree.specs.declared.bundle.Bundle.{Bundle}
 use Rattle.dp_engine.specs.declared.service.Served.{Served}
 use Rattle.dp_engine.specs.Serving.{Serves}
 use Rattle.dp_run.specs.declared.errors.ProgramError.{ProgramError}
-use Rattle.dp_run.specs.Programs.{Make, NoProgram}
+use Rattle.dp_run.specs.Programs.{NamesMake, NoProgram}
 use Rattle.dp_top.specs.declared.failures.Failure.{Failure}
 use Rattle.dp_top.specs.declared.failures.Failure.TheVariants as failure
 use Rattle.dp_words.specs.CommandLine.{Address, Invocation}
@@ -28,7 +28,7 @@ pub record IsApart (old new : Seen) : Type 0 where
 pub record IsServed (served : Served) (address : Address) (key : List ℕ) (ask : Invocation)
     (old new : Seen) : Type 0 where
   pub program : Bundle
-  pub made : Make old.shelf.files ask.names (Ok program)
+  pub made : NamesMake old.shelf.files ask.names (Ok program)
   pub source : Change
   pub sink : Change
   pub dialled : IsDialled address source sink old.net new.net
@@ -60,7 +60,7 @@ pub record IsUnserved (why : Failure) (name : List ℕ) (ask : Invocation)
 -- the dial failed: the program did not run
 pub record IsUnlinked (address : Address) (ask : Invocation) (old new : Seen) : Type 0 where
   pub program : Bundle
-  pub made : Make old.shelf.files ask.names (Ok program)
+  pub made : NamesMake old.shelf.files ask.names (Ok program)
   pub undialled : IsUndialled address old.net new.net
   pub out : IsUntouched (changed old.out new.out)
   pub apart : IsApart old new

@@ -8,7 +8,7 @@ use Rattle.dp_lists.specs.declared.event.Event.{Event}
 use Rattle.dp_lists.specs.Lists.{IsFirstBad, IsList}
 use Rattle.dp_run.specs.declared.errors.ProgramError.{ProgramError}
 use Rattle.dp_run.specs.declared.errors.ProgramError.TheVariants as none
-use Rattle.dp_run.specs.Programs.{Files, Make, NoProgram}
+use Rattle.dp_run.specs.Programs.{Files, NamesMake, NoProgram}
 use Rattle.dp_world.specs.declared.errors.ReplayError.{ReplayError}
 use Rattle.dp_world.specs.declared.errors.ReplayError.TheVariants as ends
 use Rattle.dp_world.specs.Replays.{Replays}
@@ -47,7 +47,7 @@ pub record IsReplayed (end : Result (Unit {0}) ReplayError) (name : List ℕ) (a
   pub events : List Event
   pub held : IsHeldList files name events
   pub program : Bundle
-  pub made : Make files ask.names (Ok program)
+  pub made : NamesMake files ask.names (Ok program)
   pub replays : Replays end program ask.bound events out
 
 abbrev pub DoesReplay : ℕ → List ℕ → Invocation → Files → Change → Type 0

@@ -8,7 +8,7 @@ use Rattle.dp_engine.specs.declared.service.Served.{Served}
 use Rattle.dp_engine.specs.Serving.{Serves}
 use Rattle.dp_run.specs.declared.errors.RunError.{RunError}
 use Rattle.dp_run.specs.declared.errors.ProgramError.{ProgramError}
-use Rattle.dp_run.specs.Programs.{Make, NoProgram}
+use Rattle.dp_run.specs.Programs.{NamesMake, NoProgram}
 use Rattle.dp_run.specs.Runs.{judged as judged_end}
 use Rattle.dp_serving.specs.Serving.{byte_limit}
 use Rattle.dp_state.specs.declared.moments.Outcome.{Outcome}
@@ -59,7 +59,7 @@ judged ask served = judged_by failure.Output ask served.outcome served.end
 pub record IsServed (served : Served) (key : List ℕ) (ask : Invocation)
     (old new : Seen) : Type 0 where
   pub program : Bundle
-  pub made : Make old.shelf.files ask.names (Ok program)
+  pub made : NamesMake old.shelf.files ask.names (Ok program)
   pub serves : Serves served program ask.bound key
       (changed old.input new.input) (changed old.out new.out) (changed old.err new.err)
 

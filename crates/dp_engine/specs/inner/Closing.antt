@@ -6,8 +6,8 @@ use Rattle.dp_outside.specs.Changes.{Change}
 use Rattle.dp_outside.specs.Streams.{AppendsFront}
 use Rattle.dp_serving.specs.declared.link.Fault.{Fault}
 use Rattle.dp_serving.specs.declared.link.Fault.TheVariants as fault
-use Rattle.dp_serving.specs.declared.link.Over.{Over}
-use Rattle.dp_serving.specs.declared.link.Over.TheVariants as over
+use Rattle.dp_serving.specs.declared.link.SessionOver.{SessionOver}
+use Rattle.dp_serving.specs.declared.link.SessionOver.TheVariants as over
 use Rattle.dp_engine.specs.declared.service.ServeEnd.{ServeEnd}
 use Rattle.dp_engine.specs.declared.service.ServeEnd.TheVariants.{Stopped, Detached, LinkEnd, ReadFault, WriteFault, OutFault, BadCommandFrame, ByteLimit, Memory}
 use Rattle.dp_engine.specs.declared.service.Served.{Served}
@@ -45,7 +45,7 @@ pub record IsLeft (end : ServeEnd) (served : Served) (out : Change) : Type 0 whe
   pub told : out.told ≡ out.told_before
 
 -- what becomes of it, by how the session came to be over
-abbrev pub Closes : Over SessionEnd → Served → State → Change → Type 0
+abbrev pub Closes : SessionOver SessionEnd → Served → State → Change → Type 0
 Closes (over.Ended end.Killed) served state out = IsLeft Stopped served out
 Closes (over.Ended end.Detached) served state out = RanOn Detached served state out
 Closes (over.Ended (end.Finished o)) served state out = RanOn Stopped served state out

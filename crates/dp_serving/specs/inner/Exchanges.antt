@@ -11,7 +11,7 @@ use Rattle.dp_serving.specs.declared.link.Fault.{Fault}
 use Rattle.dp_serving.specs.declared.link.Fault.TheVariants.{Write, Out, Memory}
 use Rattle.dp_serving.specs.declared.link.Pause.{Pause}
 use Rattle.dp_serving.specs.declared.link.Pause.TheVariants.{Ended, Partial, TooLong}
-use Rattle.dp_serving.specs.declared.link.Over.{Over}
+use Rattle.dp_serving.specs.declared.link.SessionOver.{SessionOver}
 use Rattle.dp_serving.specs.declared.link.Piece.{Piece}
 use Rattle.dp_serving.specs.declared.link.Piece.TheVariants.{Came, End, Failed}
 use Rattle.dp_serving.specs.declared.responder.Answer.{Answer}
@@ -103,7 +103,7 @@ pub record Conversation {S E : Type 0} (step : S → List ℕ → Reply S E) (st
 
 -- and it is over
 pub record Converses {S E : Type 0} (step : S → List ℕ → Reply S E) (start state : S)
-    (init : List ℕ) (over : Over E) (source sink out : Change) : Type 0 where
+    (init : List ℕ) (over : SessionOver E) (source sink out : Change) : Type 0 where
   pub read : List ℕ
   pub held : List ℕ
   pub up_to : IsReadUpTo step start read

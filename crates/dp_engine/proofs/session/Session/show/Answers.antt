@@ -1,7 +1,7 @@
 use Rattle.std.proofs.Common.{rules, ◌≡◌, Err, ap, refl, sym, ◌∙◌}
 use Rattle.dp_view_commands.specs.Views.{view_response}
 use Rattle.dp_engine.specs.Session.{program_of}
-use Rattle.dp_engine.specs.inner.Standing.{known}
+use Rattle.dp_engine.specs.inner.Position.{known}
 use Rattle.dp_engine.proofs.Turning.{fits_known, own_refused, view_is, view_refused, view_told}
 use Rattle.dp_engine.proofs.session.Session.show.Goals as goal
 
@@ -11,7 +11,7 @@ tell-requires c = let sent = c.in-Ok.ensures.is_sent in fits_known c.in-Ok.respo
 pub returns-in-Ok : goal.returns-in-Ok
 returns-in-Ok c =
     let s = c.self.inside in
-    let state = known s.bundle.now s.bound s.writes.items s.moment s.standing s.features s.stdout s.breaks in
+    let state = known s.bundle.now s.bound s.writes.items s.moment s.position s.features s.stdout s.breaks in
     let command = c.args.to.now.command in
     let id = c.args.to.now.id in
     let is = view_is state c.in_ok-program.program.now c.file.result command id c.args.request.now
@@ -22,7 +22,7 @@ returns-in-Ok c =
 pub returns-in-Err-Code : goal.returns-in-Err-Code
 returns-in-Err-Code c =
     let s = c.self.inside in
-    let state = known s.bundle.now s.bound s.writes.items s.moment s.standing s.features s.stdout s.breaks in
+    let state = known s.bundle.now s.bound s.writes.items s.moment s.position s.features s.stdout s.breaks in
     let command = c.args.to.now.command in
     let id = c.args.to.now.id in
     let request = c.args.request.now in

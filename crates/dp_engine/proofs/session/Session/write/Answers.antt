@@ -2,7 +2,7 @@ use Rattle.std.proofs.Common.{rules, ◌≡◌, Err, ap, subst, ◌∙◌}
 use Rattle.dp_state.specs.declared.state.State.{State}
 use Rattle.dp_write_commands.specs.Writing.{write_response}
 use Rattle.dp_engine.specs.inner.Accepting.{IsMade}
-use Rattle.dp_engine.specs.inner.Standing.{known}
+use Rattle.dp_engine.specs.inner.Position.{known}
 use Rattle.dp_engine.proofs.Accepting.{deep_kept, stands_kept}
 use Rattle.dp_engine.proofs.Turning.{fits_known, own_refused, program_is, write_is_refused, write_is_told, write_stays}
 use Rattle.dp_engine.proofs.session.Session.write.Goals as goal
@@ -22,7 +22,7 @@ invariant_of-self c =
     c.accept-made.new.writes.items s.moment c.args.to.now.command c.args.to.now.id
     c.args.request.now c.in-Ok.response) c.state_mut.ensures.state c.in-Ok.ensures.answer in (
       stands_kept s.bundle.now s.bound s.features s.machine after s.writes.items kept s.moment command id
-          c.args.request.now c.in-Ok.response made s.failed s.standing at c.self.invariant.0,
+          c.args.request.now c.in-Ok.response made s.failed s.position at c.self.invariant.0,
       deep_kept s.bundle.now s.bound s.features s.machine after s.writes.items kept s.moment command id
           c.args.request.now c.in-Ok.response made s.depth c.self.invariant.1,
       c.self.invariant.2,
@@ -31,9 +31,9 @@ invariant_of-self c =
 pub returns-in-Ok-clause-turn : goal.returns-in-Ok-clause-turn
 returns-in-Ok-clause-turn c =
     let s = c.self.inside in
-    let same = program_is s.bundle.now s.bound s.writes.items s.moment s.standing s.features s.stdout s.breaks s.machine
+    let same = program_is s.bundle.now s.bound s.writes.items s.moment s.position s.features s.stdout s.breaks s.machine
     s.failed c.if-self.false c.self.invariant.0 in
-    rw (← c.self.view_is) (write_is_told s.bundle.now s.bound s.writes.items s.moment s.standing s.features s.stdout
+    rw (← c.self.view_is) (write_is_told s.bundle.now s.bound s.writes.items s.moment s.position s.features s.stdout
     s.breaks s.machine c.accept-made.new.program c.accept-made.new.writes.items
     c.args.to.now.command c.args.to.now.id c.args.request.now c.in-Ok.response c.tell.result same c.requires.side
     (subst (λ (p : State). IsMade s.bundle.now s.features p c.accept-made.new.program s.writes.items
@@ -50,18 +50,18 @@ returns-in-Err-Code-clause-turn c =
     let code = c.in-Err-Code.code in
     let told : write_response s.bundle.now s.features s.machine.state command id request ≡ Err code = search rules in
     let same : kept ≡ s.writes.items = search rules in
-    let is = program_is s.bundle.now s.bound s.writes.items s.moment s.standing s.features s.stdout s.breaks s.machine
+    let is = program_is s.bundle.now s.bound s.writes.items s.moment s.position s.features s.stdout s.breaks s.machine
     s.failed c.if-self.false c.self.invariant.0 in
-    rw (← c.self.view_is) (own_refused (known s.bundle.now s.bound s.writes.items s.moment s.standing s.features
+    rw (← c.self.view_is) (own_refused (known s.bundle.now s.bound s.writes.items s.moment s.position s.features
     s.stdout s.breaks)
-    (known s.bundle.now s.bound kept s.moment s.standing s.features s.stdout s.breaks) command id request code
+    (known s.bundle.now s.bound kept s.moment s.position s.features s.stdout s.breaks) command id request code
     c.refuse.result
-    (write_is_refused s.bundle.now s.bound s.writes.items s.moment s.standing s.features s.stdout s.breaks s.machine
+    (write_is_refused s.bundle.now s.bound s.writes.items s.moment s.position s.features s.stdout s.breaks s.machine
     command id request code is c.requires.side told)
-    (ap (λ l. known s.bundle.now s.bound l s.moment s.standing s.features s.stdout s.breaks) same) c.refuse.ensures)
+    (ap (λ l. known s.bundle.now s.bound l s.moment s.position s.features s.stdout s.breaks) same) c.refuse.ensures)
 
 pub returns-in-Ok-clause-stays : goal.returns-in-Ok-clause-stays
 returns-in-Ok-clause-stays c =
     let s = c.self.inside in
-    rw (← c.self.view_is) (write_stays s.bundle.now s.bound s.writes.items s.moment s.standing s.features s.stdout
+    rw (← c.self.view_is) (write_stays s.bundle.now s.bound s.writes.items s.moment s.position s.features s.stdout
     s.breaks s.machine c.accept-made.new.writes.items (ap (λ k. k.phase) c.self.view_is ∙ c.requires.stands))

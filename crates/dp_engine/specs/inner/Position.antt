@@ -15,45 +15,45 @@ use Rattle.dp_engine.specs.declared.states.Phase.{Phase}
 use Rattle.dp_engine.specs.declared.states.Phase.TheVariants as phase
 use Rattle.dp_engine.specs.declared.states.Reason.{Reason}
 use Rattle.dp_engine.specs.declared.states.Reason.TheVariants as reason
-use Rattle.dp_engine.specs.declared.states.Standing.{Standing}
-use Rattle.dp_engine.specs.declared.states.Standing.TheVariants.{Starting, Break, Stopping}
+use Rattle.dp_engine.specs.declared.states.Position.{Position}
+use Rattle.dp_engine.specs.declared.states.Position.TheVariants.{Starting, Break, Stopping}
 use Rattle.dp_engine.specs.Session.{State}
 use Rattle.dp_engine.specs.States.{reason_of}
 
-abbrev pub phase_of : Standing → Phase
+abbrev pub phase_of : Position → Phase
 phase_of Starting = phase.Starting
 phase_of Break = phase.Break
 phase_of (Stopping end) = phase.Stopping
 
-abbrev pub reason_at : Standing → Reason
+abbrev pub reason_at : Position → Reason
 reason_at Starting = reason.Ok
 reason_at Break = reason.Ok
 reason_at (Stopping end) = reason_of end
 
 -- what a session knows
-abbrev pub known : Bundle → ℕ → List NumberedWrite → ℕ → Standing → Features → StreamMode → Table
+abbrev pub known : Bundle → ℕ → List NumberedWrite → ℕ → Position → Features → StreamMode → Table
     → State
-known bundle bound writes moment standing features stdout breaks = record {
+known bundle bound writes moment position features stdout breaks = record {
   bundle = bundle;
   bound = bound;
   writes = writes;
   moment = moment;
-  phase = phase_of standing;
-  reason = reason_at standing;
+  phase = phase_of position;
+  reason = reason_at position;
   features = features;
   stdout = stdout;
   breaks = breaks;
 }
 
 -- how it ends where it is stopped
-abbrev pub end_of : Standing → SessionEnd
+abbrev pub end_of : Position → SessionEnd
 end_of Starting = Killed
 end_of Break = Killed
 end_of (Stopping end) = Finished end
 
 -- Unless it has failed, the machine stands at the moment; once the program has ended, it has the
 -- last state.
-abbrev pub IsAt : Bool → Standing → Bundle → ℕ → List NumberedWrite → ℕ → Machine → Type 0
+abbrev pub IsAt : Bool → Position → Bundle → ℕ → List NumberedWrite → ℕ → Machine → Type 0
 IsAt failed Starting bundle bound writes moment machine =
     failed ≡ false → StandsFor bundle bound writes moment machine
 IsAt failed Break bundle bound writes moment machine =
