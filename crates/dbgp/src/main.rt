@@ -18,6 +18,9 @@ use std::{env, thread};
 /// each level weighs 1; copying it takes the most stack a level, less than 4 KiB.
 const STACK_SIZE: usize = 8 << 30;
 
+/// How many sizes of a stack are tried: each is half of the one before.
+const STACK_SIZES: u32 = 8;
+
 /// The words of the command line, without the program's name. Where the system does not give them as text there are
 /// none, and none ask for anything.
 fn words(rt: &(impl Env + AllocGlobal)) -> Result<Vec<String>, AllocError> {
@@ -71,17 +74,19 @@ fn call<
     )
 }
 
-/// The answer of the top call, in a thread of its own with a large stack. Where the system gives no such thread, the
-/// call is made on the stack that there is.
+/// The answer of the top call, in a thread of its own with a large stack: the largest that the system gives, of
+/// `STACK_SIZE` and the halves of it down to 64 MiB. Where it gives none of them, the program is out of memory.
 fn main(rt: HostRuntime) -> ExitCode {
     let status = thread::scope(thread::scope_env(), &rt, |scope| {
-        match Builder::new()
-            .stack_size(STACK_SIZE)
-            .spawn_scoped(scope, || call(&rt, rt.stdin(), rt.stdout(), rt.stderr()))
-        {
-            Ok(thread) => thread.join(&rt),
-            Err(_) => call(&rt, rt.stdin(), rt.stdout(), rt.stderr()),
+        for halvings in 0..STACK_SIZES {
+            let spawned = Builder::new()
+                .stack_size(STACK_SIZE >> halvings)
+                .spawn_scoped(scope, || call(&rt, rt.stdin(), rt.stdout(), rt.stderr()));
+            if let Ok(thread) = spawned {
+                return thread.join(&rt);
+            }
         }
+        209
     });
     ExitCode::from(status)
 }

@@ -46,7 +46,7 @@ pub no_more : {A B : Type 0} (piece : A → Rule A) (end : A → Rule B) (a : A)
     → Closed piece end a text b
 no_more piece end a text b h = record { count = 0; chain = h }
 
-pub gives_it : {A : Type 0} (a : A) → Gives a [] a
+pub gives_it : {A : Type 0} (a : A) → Gives {T = Token} a [] a
 gives_it a = record { empty = refl; same = refl }
 
 pub least_operand : (level : ℕ) (i : Inner) → OperandRule level i zero_text zero_tree

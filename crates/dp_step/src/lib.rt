@@ -3,7 +3,7 @@
 
 mod after;
 mod calls;
-mod ends;
+mod finish;
 mod hands;
 mod loops;
 mod machine;

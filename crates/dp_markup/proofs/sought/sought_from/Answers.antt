@@ -9,31 +9,38 @@ use Rattle.dp_markup.proofs.sought.sought_from.Goals as goal
 pub returns-then-sees_end : goal.returns-then-sees_end
 returns-then-sees_end c =
     let l = c.loop-turn in
-    let turn = one_turn (λ n. until (sought_step l.is_root l.wanted) n l.state l.input) _ l._turn c.loop-turn-test.true
+    let turn = one_turn (λ n. until (sought_step c.args.is_root c.args.wanted.now) n l.state l.input) _ l._turn
+    c.loop-turn-test.true
     l.invariant in
-    let e = turn ∙ sought_stops l.is_root l.wanted l.state l.input _ (sym c.sees_end.ensures ∙ c.if-sees_end.true) in
+    let e = turn ∙ sought_stops c.args.is_root c.args.wanted.now l.state l.input _
+    (sym c.sees_end.ensures ∙ c.if-sees_end.true) in
     subst (λ o. Reads o c.sought_end.result c.sought_end.new.input) (sym e) c.sought_end.ensures
 
 pub returns-in_err-state : goal.returns-in_err-state
 returns-in_err-state c =
     let l = c.loop-turn in
-    let turn = one_turn (λ n. until (sought_step l.is_root l.wanted) n l.state l.input) _ l._turn c.loop-turn-test.true
+    let turn = one_turn (λ n. until (sought_step c.args.is_root c.args.wanted.now) n l.state l.input) _ l._turn
+    c.loop-turn-test.true
     l.invariant in
-    let e = turn ∙ sought_goes_on l.is_root l.wanted l.state l.input _ (sym c.sees_end.ensures ∙ c.if-sees_end.false) in
+    let e = turn ∙ sought_goes_on c.args.is_root c.args.wanted.now l.state l.input _
+    (sym c.sees_end.ensures ∙ c.if-sees_end.false) in
     first_of (search rules, grind (arith, common_steps))
 
 pub loop-turn-preserved : goal.loop-turn-preserved
 loop-turn-preserved c =
     let l = c.loop-turn in
-    let turn = one_turn (λ n. until (sought_step l.is_root l.wanted) n l.state l.input) _ l._turn c.loop-turn-test.true
+    let turn = one_turn (λ n. until (sought_step c.args.is_root c.args.wanted.now) n l.state l.input) _ l._turn
+    c.loop-turn-test.true
     l.invariant in
-    let e = turn ∙ sought_goes_on l.is_root l.wanted l.state l.input _ (sym c.sees_end.ensures ∙ c.if-sees_end.false) in
+    let e = turn ∙ sought_goes_on c.args.is_root c.args.wanted.now l.state l.input _
+    (sym c.sees_end.ensures ∙ c.if-sees_end.false) in
     first_of (search rules, grind (arith, common_steps))
 
 pub returns : goal.returns
 unfolding until
 returns c =
     let l = c.loop-turn in
-    let e = no_turn (λ n. until (sought_step l.is_root l.wanted) n l.state l.input) _ l._turn c.loop-turn-test.false
+    let e = no_turn (λ n. until (sought_step c.args.is_root c.args.wanted.now) n l.state l.input) _ l._turn
+    c.loop-turn-test.false
     l.invariant in
     first_of (search rules, grind (arith, common_steps))
