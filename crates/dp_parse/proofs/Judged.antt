@@ -7,8 +7,10 @@ use Rattle.dp_grammar.specs.declared.refusal.Refusal.{Refusal}
 use Rattle.dp_grammar.specs.declared.refusal.Refusal.TheVariants as refusal
 use Rattle.dp_rules.specs.inner.Input.{Reader}
 use Rattle.dp_parse.specs.Programs.{AreWrong, told}
-use Rattle.dp_rules.proofs.Answers.{Rules, Stop}
-use Rattle.dp_rules.proofs.Verdicts.{ReadsAll, found, only, unexpected, too_deep, unexpected_spelled, too_deep_spelled, one_unexpected, one_too_deep, not_both}
+use Rattle.dp_rules.proofs.Answers.{Rules}
+use Rattle.dp_grammar.proofs.Answers.{Stop}
+use Rattle.dp_grammar.proofs.Verdicts.{ReadsAll}
+use Rattle.dp_rules.proofs.Verdicts.{found, only, unexpected, too_deep, unexpected_spelled, too_deep_spelled, one_unexpected, one_too_deep, not_both}
 
 -- Tokens are wrong for one reason at most.
 pub one_reason : {L A : Type 0} (rule : Rules L A) (limits : L) (ts : List Token) (e why : ParseError)
@@ -37,8 +39,8 @@ wrong_spelled rule limits ts (error.Lex w) some h a g = h
 wrong_spelled rule limits ts (error.DoubleFunction name) some h a g = h
 wrong_spelled rule limits ts error.Memory some h a g = some refl
 
-module _ {L A : Type 0} {Above : L → L → Type 0} {rule : Rules L A} {stop : Stop A} {limits : L} {p : Reader A}
-    (reader : ReadsAll Above rule stop limits p) (ts : List Token) where
+module _ {L A : Type 0} {Above : L → L → Type 0} {rule : Rules L A} {stop : Stop Token A} {limits : L}
+    {p : Reader A} (reader : ReadsAll Above rule stop limits p) (ts : List Token) where
   -- ---- where a value is read
 
   module _ (a : A) (r : List Token) (is : p ts ≡ Ok (a, r)) where
