@@ -2,3 +2,4 @@ pub mod Runs
 pub mod Acting
 pub mod Tails
 pub mod Layers
+pub mod Joining

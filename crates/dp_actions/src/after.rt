@@ -8,7 +8,6 @@ ghost use Rattle.dp_operations.specs.Unary.{unary_of};
 ghost use Rattle.dp_actions.specs.declared.signal.Signal.TheVariants as way;
 ghost use Rattle.dp_actions.specs.After.{Then};
 ghost use Rattle.dp_actions.specs.Effects.{exit_run, print_run};
-ghost use Rattle.dp_actions.specs.InPlace.{entries_by};
 ghost use Rattle.dp_actions.specs.Places.{assign_run, combined, found_run, step_under};
 ghost use Rattle.dp_actions.specs.Run.{Done};
 ghost use Rattle.dp_actions.specs.Values.{holds, value_run};
@@ -16,22 +15,23 @@ ghost use Rattle.dp_actions.specs.Values.{holds, value_run};
 use crate::answers::{exit_value, print_value, value_of};
 use crate::changes::{combine, step_place};
 use crate::halt::Halt;
-use crate::in_place::{Reading, look};
+use crate::joining::operated;
 use crate::places::{assign_place, found_place};
 use crate::signal::Signal;
-use dp_operations::{binary, unary};
+use dp_operations::unary;
+use dp_shared::Shared;
 use dp_state::State;
 use dp_tree::Order;
 use dp_value::{BinaryOp, Bytes, Items, UnaryOp, Value, truthy};
 use std::alloc::Global;
 
 /// The value of an operator with one operand.
-pub fn then_unary(op: UnaryOp, operand: Result<Value, Halt>, state: &State) -> Result<Value, Halt>
+pub fn then_unary(op: UnaryOp, operand: Result<Shared, Halt>, state: &State) -> Result<Shared, Halt>
     ensures { Then operand (λ v s. value_run (unary_of op (data_of v)) s) state.now result state.now }
 {
     match operand {
         Ok(value) => {
-            let answer = value_of(unary(op, &value), state);
+            let answer = value_of(unary(op, value.value()), state);
             drop(value);
             answer
         }
@@ -43,50 +43,32 @@ pub fn then_unary(op: UnaryOp, operand: Result<Value, Halt>, state: &State) -> R
 pub fn then_binary(
     alloc: Global,
     op: BinaryOp,
-    left: &Value,
-    right: Result<Value, Halt>,
+    left: Shared,
+    right: Result<Shared, Halt>,
     state: &State,
-) -> Result<Value, Halt>
-    ensures { Then right (λ v s. value_run (binary_of op (data_of left.now) (data_of v)) s) state.now result state.now }
+) -> Result<Shared, Halt>
+    ensures { Then right (λ v s. value_run (binary_of op (data_of left) (data_of v)) s) state.now result state.now }
 {
     match right {
         Ok(value) => {
-            let answer = value_of(binary(alloc, op, left, &value), state);
+            let answer = operated(alloc, op, left, value.value(), state);
             drop(value);
             answer
         }
-        Err(halt) => Err(halt),
-    }
-}
-
-/// The entry of a value under an index.
-pub fn then_entry(
-    alloc: Global,
-    reading: Reading,
-    value: &Value,
-    at: Result<Value, Halt>,
-    state: &State,
-) -> Result<Value, Halt>
-    ensures { Then at (λ i s. value_run (entries_by reading (data_of value.now) (data_of i)) s) state.now result
-        state.now }
-{
-    match at {
-        Ok(at) => {
-            let answer = value_of(look(alloc, reading, value, &at), state);
-            drop(at);
-            answer
+        Err(halt) => {
+            drop(left);
+            Err(halt)
         }
-        Err(halt) => Err(halt),
     }
 }
 
 /// Whether a value holds.
-pub fn then_holds(value: Result<Value, Halt>) -> Result<bool, Halt>
+pub fn then_holds(value: Result<Shared, Halt>) -> Result<bool, Halt>
     ensures { (s : AnyState) → Then value (λ v t. Done (holds v) t) s result s }
 {
     match value {
         Ok(value) => {
-            let holds = truthy(&value);
+            let holds = truthy(value.value());
             drop(value);
             Ok(holds)
         }
@@ -95,26 +77,26 @@ pub fn then_holds(value: Result<Value, Halt>) -> Result<bool, Halt>
 }
 
 /// Whether a value holds, as a value.
-pub fn then_truth(value: Result<Value, Halt>) -> Result<Value, Halt>
+pub fn then_truth(value: Result<Shared, Halt>) -> Result<Shared, Halt>
     ensures { (s : AnyState) → Then value (λ v t. Done (variant.Bool (holds v)) t) s result s }
 {
     match value {
         Ok(value) => {
-            let holds = truthy(&value);
+            let holds = truthy(value.value());
             drop(value);
-            Ok(Value::Bool(holds))
+            Ok(Shared::of(Value::Bool(holds)))
         }
         Err(halt) => Err(halt),
     }
 }
 
 /// Writes the text of a value.
-pub fn then_print(alloc: Global, value: Result<Value, Halt>, state: &mut State) -> Result<(), Halt>
+pub fn then_print(alloc: Global, value: Result<Shared, Halt>, state: &mut State) -> Result<(), Halt>
     ensures { Then value print_run state.old result state.new }
 {
     match value {
         Ok(value) => {
-            let answer = print_value(alloc, &value, state);
+            let answer = print_value(alloc, value.value(), state);
             drop(value);
             answer
         }
@@ -123,12 +105,12 @@ pub fn then_print(alloc: Global, value: Result<Value, Halt>, state: &mut State) 
 }
 
 /// Ends the program with a value.
-pub fn then_exit(value: Result<Value, Halt>, state: &mut State) -> Result<Signal, Halt>
+pub fn then_exit(value: Result<Shared, Halt>, state: &mut State) -> Result<Signal, Halt>
     ensures { Then value exit_run state.old result state.new }
 {
     match value {
         Ok(value) => {
-            let answer = exit_value(&value, state);
+            let answer = exit_value(value.value(), state);
             drop(value);
             answer
         }
@@ -137,7 +119,7 @@ pub fn then_exit(value: Result<Value, Halt>, state: &mut State) -> Result<Signal
 }
 
 /// On with the next statement.
-pub fn then_next(value: Result<Value, Halt>) -> Result<Signal, Halt>
+pub fn then_next(value: Result<Shared, Halt>) -> Result<Signal, Halt>
     ensures { (s : AnyState) → Then value (λ _ t. Done way.Next t) s result s }
 {
     match value {
@@ -150,7 +132,7 @@ pub fn then_next(value: Result<Value, Halt>) -> Result<Signal, Halt>
 }
 
 /// Out of the function or the file, with a value.
-pub fn then_return(value: Result<Value, Halt>) -> Result<Signal, Halt>
+pub fn then_return(value: Result<Shared, Halt>) -> Result<Signal, Halt>
     ensures { (s : AnyState) → Then value (λ v t. Done (way.Return v) t) s result s }
 {
     match value {
@@ -176,9 +158,9 @@ pub fn then_signal(done: Result<(), Halt>, signal: Signal) -> Result<Signal, Hal
 pub fn then_found(
     alloc: Global,
     name: &Bytes,
-    indices: Result<Items<Value>, Halt>,
+    indices: Result<Items<Shared>, Halt>,
     state: &State,
-) -> Result<Value, Halt>
+) -> Result<Shared, Halt>
     ensures { Then indices (λ values s. found_run name.now values s) state.now result state.now }
 {
     match indices {
@@ -197,9 +179,9 @@ pub fn then_step(
     op: UnaryOp,
     order: Order,
     name: &Bytes,
-    indices: Result<Items<Value>, Halt>,
+    indices: Result<Items<Shared>, Halt>,
     state: &mut State,
-) -> Result<Value, Halt>
+) -> Result<Shared, Halt>
     ensures { Then indices (λ values s. step_under op order name.now values s) state.old result state.new }
 {
     match indices {
@@ -216,11 +198,11 @@ pub fn then_step(
 pub fn then_assign(
     alloc: Global,
     name: &Bytes,
-    indices: &[Value],
+    indices: &[Shared],
     push: bool,
-    value: Result<Value, Halt>,
+    value: Result<Shared, Halt>,
     state: &mut State,
-) -> Result<Value, Halt>
+) -> Result<Shared, Halt>
     ensures { Then value (λ v s. assign_run name.now indices.now push v s) state.old result state.new }
 {
     match value {
@@ -234,19 +216,22 @@ pub fn then_combine(
     alloc: Global,
     op: BinaryOp,
     name: &Bytes,
-    indices: &[Value],
-    old: &Value,
-    value: Result<Value, Halt>,
+    indices: &[Shared],
+    old: Shared,
+    value: Result<Shared, Halt>,
     state: &mut State,
-) -> Result<Value, Halt>
-    ensures { Then value (λ v s. combined op name.now indices.now old.now v s) state.old result state.new }
+) -> Result<Shared, Halt>
+    ensures { Then value (λ v s. combined op name.now indices.now old v s) state.old result state.new }
 {
     match value {
         Ok(value) => {
-            let answer = combine(alloc, op, name, indices, old, &value, state);
+            let answer = combine(alloc, op, name, indices, old, value.value(), state);
             drop(value);
             answer
         }
-        Err(halt) => Err(halt),
+        Err(halt) => {
+            drop(old);
+            Err(halt)
+        }
     }
 }

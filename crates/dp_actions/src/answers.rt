@@ -14,28 +14,29 @@ use crate::faults::{fatal, fault, settled};
 use crate::halt::Halt;
 use crate::signal::Signal;
 use dp_operations::text;
+use dp_shared::Shared;
 use dp_state::{FatalKind, Fault, Outcome, State};
 use dp_value::{CallError, Value, ValueError};
 use std::alloc::Global;
 
 /// The value of an operation.
-pub fn value_of(answer: Result<Value, ValueError>, state: &State) -> Result<Value, Halt>
+pub fn value_of(answer: Result<Value, ValueError>, state: &State) -> Result<Shared, Halt>
     ensures { (table : Result Data Refusal) → Answers answer table
         → AtOnce (value_run table state.now) result state.now }
 {
     match answer {
-        Ok(value) => Ok(value),
+        Ok(value) => Ok(Shared::of(value)),
         Err(why) => Err(fault(Fault::from(why), state)),
     }
 }
 
 /// The value of a built-in function.
-pub fn builtin_value(answer: Result<Value, CallError>, state: &State) -> Result<Value, Halt>
+pub fn builtin_value(answer: Result<Value, CallError>, state: &State) -> Result<Shared, Halt>
     ensures { (table : Result Data CallRefusal) → CallAnswers answer table
         → AtOnce (builtin_run table state.now) result state.now }
 {
     match answer {
-        Ok(value) => Ok(value),
+        Ok(value) => Ok(Shared::of(value)),
         Err(why) => Err(fault(Fault::from(why), state)),
     }
 }

@@ -2,14 +2,17 @@
 
 #![tactic(auto, using(crate::proofs::Acting::acting))]
 
-ghost use Rattle.std.specs.Prelude.{◌≡◌};
+ghost use Rattle.std.specs.Prelude.{◌≡◌, [], IsTrue};
+ghost use Rattle.dp_value.specs.declared.operators.BinaryOp.TheVariants as operator;
 ghost use Rattle.dp_actions.specs.AtOnce.{AtOnce};
 ghost use Rattle.dp_actions.specs.Places.{combined, step_from as from_old, step_under, step_written, stepped};
 
 use crate::answers::value_of;
 use crate::halt::Halt;
+use crate::joining::{grown, operated};
 use crate::places::{assign_place, read_place};
-use dp_operations::{binary, unary};
+use dp_operations::unary;
+use dp_shared::Shared;
 use dp_state::State;
 use dp_tree::Order;
 use dp_value::{BinaryOp, Bytes, UnaryOp, Value};
@@ -20,15 +23,28 @@ pub fn combine(
     alloc: Global,
     op: BinaryOp,
     name: &Bytes,
-    indices: &[Value],
-    old: &Value,
+    indices: &[Shared],
+    old: Shared,
     value: &Value,
     state: &mut State,
-) -> Result<Value, Halt>
-    ensures { AtOnce (combined op name.now indices.now old.now value.now state.old) result state.new }
+) -> Result<Shared, Halt>
+    ensures { AtOnce (combined op name.now indices.now old value.now state.old) result state.new }
 {
-    let new = value_of(binary(alloc, op, old, value), state)?;
+    if is_growth(op, indices) {
+        return grown(alloc, name, old, value, state);
+    }
+    let new = operated(alloc, op, old, value, state)?;
     assign_place(alloc, name, indices, false, new, state)
+}
+
+// Whether a text is put behind what a whole variable holds.
+fn is_growth(op: BinaryOp, indices: &[Shared]) -> bool
+    ensures { IsTrue result → (op ≡ operator.Concat) × (indices.now ≡ []) }
+{
+    match op {
+        BinaryOp::Concat => indices.is_empty(),
+        _ => false,
+    }
 }
 
 /// `++` and `--`
@@ -37,9 +53,9 @@ pub fn step_place(
     op: UnaryOp,
     order: Order,
     name: &Bytes,
-    indices: &[Value],
+    indices: &[Shared],
     state: &mut State,
-) -> Result<Value, Halt>
+) -> Result<Shared, Halt>
     ensures { AtOnce (step_under op order name.now indices.now state.old) result state.new }
 {
     let old = read_place(alloc, name, indices, state)?;
@@ -52,13 +68,13 @@ fn step_from(
     op: UnaryOp,
     order: Order,
     name: &Bytes,
-    indices: &[Value],
-    old: Value,
+    indices: &[Shared],
+    old: Shared,
     state: &mut State,
-) -> Result<Value, Halt>
+) -> Result<Shared, Halt>
     ensures { AtOnce (from_old op order name.now indices.now old state.old) result state.new }
 {
-    let new = value_of(unary(op, &old), state)?;
+    let new = value_of(unary(op, old.value()), state)?;
     write_step(alloc, order, name, indices, old, new, state)
 }
 
@@ -67,11 +83,11 @@ fn write_step(
     alloc: Global,
     order: Order,
     name: &Bytes,
-    indices: &[Value],
-    old: Value,
-    new: Value,
+    indices: &[Shared],
+    old: Shared,
+    new: Shared,
     state: &mut State,
-) -> Result<Value, Halt>
+) -> Result<Shared, Halt>
     ensures { AtOnce (step_written order name.now indices.now old new state.old) result state.new }
 {
     let new = assign_place(alloc, name, indices, false, new, state)?;
@@ -79,7 +95,7 @@ fn write_step(
 }
 
 // The value of a `++` or `--`.
-fn ordered(order: Order, old: Value, new: Value) -> Value
+fn ordered(order: Order, old: Shared, new: Shared) -> Shared
     ensures { result ≡ stepped order old new }
 {
     match order {

@@ -15,6 +15,7 @@ use crate::faults::{fatal, settled};
 use crate::halt::Halt;
 use crate::signal::Signal;
 use dp_operations::text;
+use dp_shared::Shared;
 use dp_state::{FatalKind, State};
 use dp_tree::{Bundle, Function, Inclusion, Statement};
 use dp_value::{Items, Memory, Value};
@@ -24,7 +25,7 @@ use std::alloc::Global;
 pub fn enter_call(
     file: u32,
     function: &Function,
-    values: Items<Value>,
+    values: Items<Shared>,
     state: &mut State,
 ) -> Result<(), Halt>
     ensures { AtOnce (taken (called file function.now values state.old) state.old) result state.new }
@@ -52,17 +53,17 @@ pub fn file_named_by(alloc: Global, bundle: &Bundle, name: &Value) -> Result<Opt
 }
 
 /// What the inclusion of a missing file gives.
-pub fn not_included(how: Inclusion, state: &State) -> Result<Value, Halt>
+pub fn not_included(how: Inclusion, state: &State) -> Result<Shared, Halt>
     ensures { (setting : Setting) → AtOnce (inclusion_run how None setting state.now) result state.now }
 {
     match how {
-        Inclusion::Include => Ok(Value::Bool(false)),
+        Inclusion::Include => Ok(Shared::of(Value::Bool(false))),
         Inclusion::Require => Err(fatal(FatalKind::NoFile, state)),
     }
 }
 
 /// What a body gives: its return value, or this where it has none.
-pub fn returned(none: Value, signal: Signal) -> Value
+pub fn returned(none: Shared, signal: Signal) -> Shared
     ensures { result ≡ value_returned none signal }
 {
     match signal {

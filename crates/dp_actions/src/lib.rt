@@ -11,15 +11,17 @@ mod faults;
 mod frames;
 mod halt;
 mod in_place;
+mod inside;
 mod items;
+mod joining;
 mod operands;
 mod places;
 mod signal;
 mod turns;
 
 pub use after::{
-    then_assign, then_binary, then_combine, then_entry, then_exit, then_found, then_holds,
-    then_next, then_print, then_return, then_signal, then_step, then_truth, then_unary,
+    then_assign, then_binary, then_combine, then_exit, then_found, then_holds, then_next,
+    then_print, then_return, then_signal, then_step, then_truth, then_unary,
 };
 pub use answers::{builtin_value, exit_value, is_missing, print_value, value_of};
 pub use bindings::{bind_all, bind_entry};
@@ -29,11 +31,11 @@ pub use entries::{then_pushed, then_put};
 pub use faults::{fatal, fault, settled};
 pub use frames::{enter_call, enter_file, file_named_by, not_included, returned, statements_of};
 pub use halt::Halt;
-pub use in_place::{
-    Entry, Reading, builtin_in_place, entry_in_place, entry_of, look, only_variable,
-};
+pub use in_place::{Reading, builtin_call, entry_by, is_plain, look};
+pub use inside::{inside_at, then_inside};
 pub use items::{pushed, put};
-pub use operands::{kept, present, renewed, text_value, variable_value};
+pub use joining::operated;
+pub use operands::{holds, kept, present, text_value, variable_value};
 pub use places::{
     assign_place, assign_variable, found_place, given_keys, key_at, read_place, unset_place,
     variable,

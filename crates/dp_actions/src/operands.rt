@@ -8,33 +8,34 @@ ghost use Rattle.dp_value.specs.declared.value.Value.TheVariants as variant;
 ghost use Rattle.dp_actions.specs.AtOnce.{AtOnce};
 ghost use Rattle.dp_actions.specs.Places.{variable as value_named};
 ghost use Rattle.dp_actions.specs.Run.{Done};
-ghost use Rattle.dp_actions.specs.Values.{kept_of, present_of};
+ghost use Rattle.dp_actions.specs.Values.{holds as value_holds, kept_of, present_of};
 
 use crate::answers::is_missing;
 use crate::halt::Halt;
 use crate::places::variable;
+use dp_shared::Shared;
 use dp_state::State;
 use dp_value::{Bytes, Value, truthy};
 
 /// The value of a text literal.
-pub fn text_value(bytes: &Bytes) -> Result<Value, Halt>
+pub fn text_value(bytes: &Bytes) -> Result<Shared, Halt>
     ensures { (s : AnyState) → AtOnce (Done (variant.Text bytes.now) s) result s }
 {
-    Ok(Value::Text(bytes.try_clone()?))
+    Ok(Shared::of(Value::Text(bytes.try_clone()?)))
 }
 
 /// The value of a variable.
-pub fn variable_value(name: &Bytes, state: &State) -> Result<Value, Halt>
+pub fn variable_value(name: &Bytes, state: &State) -> Result<Shared, Halt>
     ensures { AtOnce (Done (value_named name.now state.now) state.now) result state.now }
 {
     Ok(variable(name, state)?)
 }
 
 /// A value that is not null.
-pub fn present(value: Value) -> Option<Value>
+pub fn present(value: Shared) -> Option<Shared>
     ensures { result ≡ present_of value }
 {
-    if is_missing(&value) {
+    if is_missing(value.value()) {
         drop(value);
         return None;
     }
@@ -42,20 +43,21 @@ pub fn present(value: Value) -> Option<Value>
 }
 
 /// A value that holds.
-pub fn kept(value: Value) -> Option<Value>
+pub fn kept(value: Shared) -> Option<Shared>
     ensures { result ≡ kept_of value }
 {
-    if truthy(&value) {
+    if truthy(value.value()) {
         return Some(value);
     }
     drop(value);
     None
 }
 
-/// A value or a halt in the place of an old value.
-pub fn renewed(old: Value, next: Result<Value, Halt>) -> Result<Value, Halt>
-    ensures { result ≡ next }
+/// Whether a value holds, which is given up.
+pub fn holds(value: Shared) -> bool
+    ensures { result ≡ value_holds value }
 {
-    drop(old);
-    next
+    let holds = truthy(value.value());
+    drop(value);
+    holds
 }

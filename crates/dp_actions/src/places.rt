@@ -1,30 +1,35 @@
 //! What is done with places whose indices are evaluated.
 
-ghost use Rattle.std.specs.Prelude.{◌≡◌, IfOk};
+ghost use Rattle.std.specs.Prelude.{◌≡◌, map, IfOk};
 ghost use Rattle.dp_value.specs.KeyOf.{key_of_data};
 ghost use Rattle.dp_value.specs.Value.{data_of};
 ghost use Rattle.dp_state.specs.Places.{assigned, given_keys as all_given, keys_of_indices, unset};
 ghost use Rattle.dp_actions.specs.AtOnce.{AtOnce};
 ghost use Rattle.dp_actions.specs.Places.{assign_run, found_run, read_run, variable as value_named};
 ghost use Rattle.dp_actions.specs.inner.Keyed.{keyed_write};
+ghost use Rattle.dp_operations.specs.Indexing.{read_by as read_under};
+ghost use Rattle.dp_actions.specs.InPlace.{entries_by};
 ghost use Rattle.dp_actions.specs.Loops.{bind_name};
+ghost use Rattle.dp_actions.specs.Values.{value_run};
 ghost use Rattle.dp_actions.specs.Run.{taken};
 
 use crate::answers::value_of;
 use crate::faults::settled;
 use crate::halt::Halt;
-use dp_operations::{find_by, index_by};
+use crate::in_place::{Reading, entry_by};
+use crate::operands::variable_value;
+use dp_shared::Shared;
 use dp_state::State;
 use dp_value::{Bytes, Key, Memory, Value, ValueError, key_of};
 use std::alloc::Global;
 
 /// The value of a variable of the top frame, null where it is missing.
-pub fn variable(name: &Bytes, state: &State) -> Result<Value, Memory>
+pub fn variable(name: &Bytes, state: &State) -> Result<Shared, Memory>
     ensures { IfOk result (λ value. value ≡ value_named name.now state.now) }
 {
     match state.read(name) {
         Some(value) => value.try_clone(),
-        None => Ok(Value::Null),
+        None => Ok(Shared::of(Value::Null)),
     }
 }
 
@@ -32,29 +37,43 @@ pub fn variable(name: &Bytes, state: &State) -> Result<Value, Memory>
 pub fn read_place(
     alloc: Global,
     name: &Bytes,
-    indices: &[Value],
+    indices: &[Shared],
     state: &State,
-) -> Result<Value, Halt>
+) -> Result<Shared, Halt>
     ensures { AtOnce (read_run name.now indices.now state.now) result state.now }
 {
-    match state.read(name) {
-        Some(value) => value_of(index_by(alloc, value, indices), state),
-        None => value_of(index_by(alloc, &Value::Null, indices), state),
-    }
+    place_by(alloc, Reading::Plain, name, indices, state)
 }
 
 /// The value of a place as isset finds it.
 pub fn found_place(
     alloc: Global,
     name: &Bytes,
-    indices: &[Value],
+    indices: &[Shared],
     state: &State,
-) -> Result<Value, Halt>
+) -> Result<Shared, Halt>
     ensures { AtOnce (found_run name.now indices.now state.now) result state.now }
 {
+    place_by(alloc, Reading::Found, name, indices, state)
+}
+
+// The value of a place by a reading. A whole variable is not copied, nor what stands on the way to an entry.
+fn place_by(
+    alloc: Global,
+    reading: Reading,
+    name: &Bytes,
+    indices: &[Shared],
+    state: &State,
+) -> Result<Shared, Halt>
+    ensures { AtOnce (value_run (read_under (entries_by reading) (map data_of indices.now)
+        (data_of (value_named name.now state.now))) state.now) result state.now }
+{
+    if indices.is_empty() {
+        return variable_value(name, state);
+    }
     match state.read(name) {
-        Some(value) => value_of(find_by(alloc, value, indices), state),
-        None => value_of(find_by(alloc, &Value::Null, indices), state),
+        Some(value) => value_of(entry_by(alloc, reading, value.value(), indices), state),
+        None => value_of(entry_by(alloc, reading, &Value::Null, indices), state),
     }
 }
 
@@ -62,27 +81,29 @@ pub fn found_place(
 pub fn assign_place(
     alloc: Global,
     name: &Bytes,
-    indices: &[Value],
+    indices: &[Shared],
     push: bool,
-    value: Value,
+    value: Shared,
     state: &mut State,
-) -> Result<Value, Halt>
+) -> Result<Shared, Halt>
     ensures { AtOnce (assign_run name.now indices.now push value state.old) result state.new }
 {
     let keys = keys_of(alloc, indices)?;
-    assign_keyed(name, keys.as_slice(), push, value, state)
+    assign_keyed(alloc, name, keys.as_slice(), push, value, state)
 }
 
 // The same under keys.
 fn assign_keyed(
+    alloc: Global,
     name: &Bytes,
     keys: &[Option<Key>],
     push: bool,
-    value: Value,
+    value: Shared,
     state: &mut State,
-) -> Result<Value, Halt>
+) -> Result<Shared, Halt>
     ensures { AtOnce (keyed_write name.now keys.now push value state.old) result state.new }
 {
+    let value = value.settled(alloc)?;
     let copy = value.try_clone()?;
     write_keyed(name, keys, push, value, state)?;
     Ok(copy)
@@ -93,7 +114,7 @@ fn write_keyed(
     name: &Bytes,
     keys: &[Option<Key>],
     push: bool,
-    value: Value,
+    value: Shared,
     state: &mut State,
 ) -> Result<(), Halt>
     ensures { AtOnce (taken (assigned 0 name.now keys.now push value state.old) state.old) result state.new }
@@ -103,7 +124,7 @@ fn write_keyed(
 }
 
 /// Gives a variable a value.
-pub fn assign_variable(name: &Bytes, value: Value, state: &mut State) -> Result<(), Halt>
+pub fn assign_variable(name: &Bytes, value: Shared, state: &mut State) -> Result<(), Halt>
     ensures { AtOnce (bind_name name.now value state.old) result state.new }
 {
     write_keyed(name, &[], false, value, state)
@@ -113,7 +134,7 @@ pub fn assign_variable(name: &Bytes, value: Value, state: &mut State) -> Result<
 pub fn unset_place(
     alloc: Global,
     name: &Bytes,
-    indices: &[Value],
+    indices: &[Shared],
     state: &mut State,
 ) -> Result<(), Halt>
     ensures { AtOnce (taken (unset name.now (keys_of_indices indices.now) state.old) state.old) result state.new }
@@ -124,12 +145,12 @@ pub fn unset_place(
 }
 
 // The keys that indices become. One that is an array becomes none.
-fn keys_of(alloc: Global, indices: &[Value]) -> Result<Vec<Option<Key>>, Memory>
+fn keys_of(alloc: Global, indices: &[Shared]) -> Result<Vec<Option<Key>>, Memory>
     ensures { IfOk result (λ keys. keys.items ≡ keys_of_indices indices.now) }
 {
     let mut keys = Vec::with_capacity(alloc, indices.len())?;
     for index in indices {
-        keys.push(key_at(alloc, index)?)?;
+        keys.push(key_at(alloc, index.value())?)?;
     }
     Ok(keys)
 }

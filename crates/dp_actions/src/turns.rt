@@ -4,7 +4,8 @@ ghost use Rattle.std.specs.Prelude.{◌≡◌};
 ghost use Rattle.dp_actions.specs.Loops.{turn_of, last_holds as ends_true};
 
 use crate::signal::Signal;
-use dp_value::{Value, truthy};
+use dp_shared::Shared;
+use dp_value::truthy;
 
 /// What comes after the body of a loop.
 #[derive(Drop)]
@@ -38,11 +39,11 @@ pub fn turn_over(signal: Signal) -> Turn
 }
 
 /// Whether the last of the values of a test holds; without one there is no end.
-pub fn last_holds(values: &[Value]) -> bool
+pub fn last_holds(values: &[Shared]) -> bool
     ensures { result ≡ ends_true values.now }
 {
     match values.last() {
-        Some(value) => truthy(value),
+        Some(value) => truthy(value.value()),
         None => true,
     }
 }

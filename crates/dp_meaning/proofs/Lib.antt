@@ -21,5 +21,4 @@ pub mod OfBundle
 pub mod PureLaws
 pub mod Exits
 pub mod ValueLaws
-pub mod InPlace
 pub mod Wholes

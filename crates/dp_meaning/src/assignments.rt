@@ -8,6 +8,7 @@ use dp_actions::{
     Halt, found_place, is_missing, present, read_place, then_assign, then_combine, then_found,
     then_step,
 };
+use dp_shared::Shared;
 use dp_state::State;
 use dp_tree::{Expression, Order, Place};
 use dp_value::{BinaryOp, Bytes, UnaryOp, Value};
@@ -28,7 +29,7 @@ impl<O: Outside> Evaluator<'_, O> {
         right: &Expression,
         push: bool,
         state: &mut State,
-    ) -> Result<Value, Halt>
+    ) -> Result<Shared, Halt>
         ensures { Evaluates (O.rules self.now.outside.now) (assignment push (place_run place.now)
             (evaluation right.now) (goes_by self.now) state.old) result state.new }
     {
@@ -51,7 +52,7 @@ impl<O: Outside> Evaluator<'_, O> {
         place: &Place,
         right: &Expression,
         state: &mut State,
-    ) -> Result<Value, Halt>
+    ) -> Result<Shared, Halt>
         ensures { Evaluates (O.rules self.now.outside.now) (compound op (place_run place.now) (evaluation right.now)
             (goes_by self.now) state.old) result state.new }
     {
@@ -65,18 +66,16 @@ impl<O: Outside> Evaluator<'_, O> {
         &self,
         op: BinaryOp,
         name: &Bytes,
-        indices: &[Value],
+        indices: &[Shared],
         right: &Expression,
         state: &mut State,
-    ) -> Result<Value, Halt>
+    ) -> Result<Shared, Halt>
         ensures { Evaluates (O.rules self.now.outside.now) (compound_under op name.now
             (evaluation right.now) indices.now (goes_by self.now) state.old) result state.new }
     {
         let old = read_place(self.alloc, name, indices, state)?;
         let value = self.expression(right, state);
-        let answer = then_combine(self.alloc, op, name, indices, &old, value, state);
-        drop(old);
-        answer
+        then_combine(self.alloc, op, name, indices, old, value, state)
     }
 
     /// `place ??= right`
@@ -86,7 +85,7 @@ impl<O: Outside> Evaluator<'_, O> {
         place: &Place,
         right: &Expression,
         state: &mut State,
-    ) -> Result<Value, Halt>
+    ) -> Result<Shared, Halt>
         ensures { Evaluates (O.rules self.now.outside.now) (coalescing (place_run place.now) (evaluation right.now)
             (goes_by self.now) state.old) result state.new }
     {
@@ -99,10 +98,10 @@ impl<O: Outside> Evaluator<'_, O> {
     fn coalesce_under(
         &self,
         name: &Bytes,
-        indices: &[Value],
+        indices: &[Shared],
         right: &Expression,
         state: &mut State,
-    ) -> Result<Value, Halt>
+    ) -> Result<Shared, Halt>
         ensures { Evaluates (O.rules self.now.outside.now) (coalescing_under name.now
             (evaluation right.now) indices.now (goes_by self.now) state.old) result state.new }
     {
@@ -128,7 +127,7 @@ impl<O: Outside> Evaluator<'_, O> {
         order: Order,
         place: &Place,
         state: &mut State,
-    ) -> Result<Value, Halt>
+    ) -> Result<Shared, Halt>
         ensures { Evaluates (O.rules self.now.outside.now) (step op order (place_run place.now)
             (goes_by self.now) state.old) result state.new }
     {
@@ -144,24 +143,24 @@ impl<O: Outside> Evaluator<'_, O> {
 
     /// `isset`
     #[cycle(evaluate)]
-    pub(crate) fn isset(&self, places: &[Place], state: &mut State) -> Result<Value, Halt>
+    pub(crate) fn isset(&self, places: &[Place], state: &mut State) -> Result<Shared, Halt>
         ensures { Evaluates (O.rules self.now.outside.now) (isset_run (map place_run places.now)
             (goes_by self.now) state.old) result state.new }
     {
         for place in places {
             let found = self.found_at(place, state)?;
-            let missing = is_missing(&found);
+            let missing = is_missing(found.value());
             drop(found);
             if missing {
-                return Ok(Value::Bool(false));
+                return Ok(Shared::of(Value::Bool(false)));
             }
         }
-        Ok(Value::Bool(true))
+        Ok(Shared::of(Value::Bool(true)))
     }
 
     // The value of a place as isset finds it.
     #[cycle(evaluate)]
-    fn found_at(&self, place: &Place, state: &mut State) -> Result<Value, Halt>
+    fn found_at(&self, place: &Place, state: &mut State) -> Result<Shared, Halt>
         ensures { Evaluates (O.rules self.now.outside.now) (found_at (place_run place.now)
             (goes_by self.now) state.old) result state.new }
     {

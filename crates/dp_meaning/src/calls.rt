@@ -5,10 +5,10 @@
 use crate::evaluator::Evaluator;
 use crate::outside::Outside;
 use dp_actions::{
-    Callee, Halt, Signal, builtin_in_place, builtin_value, enter_call, enter_file, fatal,
-    file_named_by, look_up, not_included, only_variable, returned, statements_of,
+    Callee, Halt, Signal, builtin_call, enter_call, enter_file, fatal, file_named_by, look_up,
+    not_included, returned, statements_of,
 };
-use dp_operations::builtin;
+use dp_shared::Shared;
 use dp_state::{FatalKind, MomentKind, State};
 use dp_tree::{Expression, Function, Inclusion};
 use dp_value::{Builtin, Bytes, Items, Value};
@@ -29,7 +29,7 @@ impl<O: Outside> Evaluator<'_, O> {
         name: &Bytes,
         arguments: &[Expression],
         state: &mut State,
-    ) -> Result<Value, Halt>
+    ) -> Result<Shared, Halt>
         ensures { Evaluates (O.rules self.now.outside.now) (call_run
             (callee_named self.now.bundle.now name.now state.old) (evaluations arguments.now)
             (goes_by self.now) state.old) result state.new }
@@ -44,24 +44,19 @@ impl<O: Outside> Evaluator<'_, O> {
         }
     }
 
-    // A call of a built-in function. A variable that is its only argument is read in its place.
+    // A call of a built-in function. Its arguments are lent to it.
     #[cycle(evaluate)]
     fn call_builtin(
         &self,
         function: Builtin,
         arguments: &[Expression],
         state: &mut State,
-    ) -> Result<Value, Halt>
+    ) -> Result<Shared, Halt>
         ensures { Evaluates (O.rules self.now.outside.now) (call_run (Some (BuiltIn function))
             (evaluations arguments.now) (goes_by self.now) state.old) result state.new }
     {
-        match only_variable(arguments) {
-            Some(name) => builtin_in_place(self.alloc, function, name, state),
-            None => {
-                let values = self.values(arguments, state)?;
-                builtin_value(builtin(self.alloc, function, values.as_slice()), state)
-            }
-        }
+        let values = self.values(arguments, state)?;
+        builtin_call(self.alloc, function, values.as_slice(), state)
     }
 
     // A call of a function of a file.
@@ -70,9 +65,9 @@ impl<O: Outside> Evaluator<'_, O> {
         &self,
         file: u32,
         function: &Function,
-        values: Items<Value>,
+        values: Items<Shared>,
         state: &mut State,
-    ) -> Result<Value, Halt>
+    ) -> Result<Shared, Halt>
         requires { body_size function.now.body + 1 < frame_size self.now.bundle.now }
         ensures { Evaluates (O.rules self.now.outside.now) ((goes_by self.now).call file function.now values
             state.old) result state.new }
@@ -96,9 +91,9 @@ impl<O: Outside> Evaluator<'_, O> {
         &self,
         file: u32,
         function: &Function,
-        values: Items<Value>,
+        values: Items<Shared>,
         state: &mut State,
-    ) -> Result<Value, Halt>
+    ) -> Result<Shared, Halt>
         ensures { Evaluates (O.rules self.now.outside.now) (function_run file function.now values
             (goes_by self.now) state.old) result state.new }
     {
@@ -110,14 +105,14 @@ impl<O: Outside> Evaluator<'_, O> {
     }
 
     // The end of a call whose body is done.
-    fn leave(&self, signal: Signal, state: &mut State) -> Result<Value, Halt>
+    fn leave(&self, signal: Signal, state: &mut State) -> Result<Shared, Halt>
         ensures { Evaluates (O.rules self.now.outside.now) (leaving signal state.old) result state.new }
     {
         let line = state.line();
         match self.outside.at_moment(MomentKind::Leave, line, state) {
             Ok(()) => {
                 state.leave();
-                Ok(returned(Value::Null, signal))
+                Ok(returned(Shared::of(Value::Null), signal))
             }
             Err(halt) => {
                 drop(signal);
@@ -133,7 +128,7 @@ impl<O: Outside> Evaluator<'_, O> {
         how: Inclusion,
         name: &Value,
         state: &mut State,
-    ) -> Result<Value, Halt>
+    ) -> Result<Shared, Halt>
         ensures { Evaluates (O.rules self.now.outside.now) (include_run how name.now (goes_by self.now) state.old)
             result state.new }
     {
@@ -145,7 +140,7 @@ impl<O: Outside> Evaluator<'_, O> {
 
     // The run of the file of this number.
     #[cycle(evaluate)]
-    fn file(&self, file: u32, state: &mut State) -> Result<Value, Halt>
+    fn file(&self, file: u32, state: &mut State) -> Result<Shared, Halt>
         ensures { Evaluates (O.rules self.now.outside.now) ((goes_by self.now).include file state.old) result
             state.new }
     {
@@ -164,13 +159,13 @@ impl<O: Outside> Evaluator<'_, O> {
 
     // The run of the file of this number, where one frame more can be on the stack.
     #[cycle(evaluate)]
-    fn included(&self, file: u32, state: &mut State) -> Result<Value, Halt>
+    fn included(&self, file: u32, state: &mut State) -> Result<Shared, Halt>
         ensures { Evaluates (O.rules self.now.outside.now) (file_run file (goes_by self.now) state.old) result
             state.new }
     {
         enter_file(self.bundle, file, state)?;
         let signal = self.body(statements_of(self.bundle, file), state)?;
         state.leave();
-        Ok(returned(Value::Int(1), signal))
+        Ok(returned(Shared::of(Value::Int(1)), signal))
     }
 }

@@ -4,10 +4,11 @@
 
 use crate::evaluator::Evaluator;
 use crate::outside::Outside;
-use dp_actions::{Halt, kept, present, renewed, then_binary, then_truth};
+use dp_actions::{Halt, holds, kept, present, then_binary, then_truth};
+use dp_shared::Shared;
 use dp_state::State;
 use dp_tree::{Boxed, Expression, Link, Operator};
-use dp_value::{Value, truthy};
+use dp_value::Value;
 
 impl<O: Outside> Evaluator<'_, O> {
     ghost use Rattle.std.specs.Prelude.{map, option_map};
@@ -23,7 +24,7 @@ impl<O: Outside> Evaluator<'_, O> {
         first: &Expression,
         links: &[Link],
         state: &mut State,
-    ) -> Result<Value, Halt>
+    ) -> Result<Shared, Halt>
         ensures { Evaluates (O.rules self.now.outside.now) (chained (expression_run first.now)
             (map link_run links.now) (goes_by self.now) state.old) result state.new }
     {
@@ -33,34 +34,33 @@ impl<O: Outside> Evaluator<'_, O> {
 
     // The value of operands that are joined to a first one.
     #[cycle(evaluate)]
-    fn links(&self, first: Value, links: &[Link], state: &mut State) -> Result<Value, Halt>
+    fn links(&self, first: Shared, links: &[Link], state: &mut State) -> Result<Shared, Halt>
         ensures { Evaluates (O.rules self.now.outside.now) (links_run (map link_run links.now) first
             (goes_by self.now) state.old) result state.new }
     {
         let mut value = first;
         for link in links {
-            let next = self.link(&value, link, state);
-            value = renewed(value, next)?;
+            value = self.link(value, link, state)?;
         }
         Ok(value)
     }
 
     // The value of two operands that are joined.
     #[cycle(evaluate)]
-    fn link(&self, left: &Value, link: &Link, state: &mut State) -> Result<Value, Halt>
-        ensures { Evaluates (O.rules self.now.outside.now) (link_run link.now left.now (goes_by self.now) state.old)
+    fn link(&self, left: Shared, link: &Link, state: &mut State) -> Result<Shared, Halt>
+        ensures { Evaluates (O.rules self.now.outside.now) (link_run link.now left (goes_by self.now) state.old)
             result state.new }
     {
         match link.operator {
             Operator::Or => {
-                if truthy(left) {
-                    return Ok(Value::Bool(true));
+                if holds(left) {
+                    return Ok(Shared::of(Value::Bool(true)));
                 }
                 then_truth(self.expression(&link.operand, state))
             }
             Operator::And => {
-                if !truthy(left) {
-                    return Ok(Value::Bool(false));
+                if !holds(left) {
+                    return Ok(Shared::of(Value::Bool(false)));
                 }
                 then_truth(self.expression(&link.operand, state))
             }
@@ -81,7 +81,7 @@ impl<O: Outside> Evaluator<'_, O> {
         left: &Expression,
         right: &Expression,
         state: &mut State,
-    ) -> Result<Value, Halt>
+    ) -> Result<Shared, Halt>
         ensures { Evaluates (O.rules self.now.outside.now) (coalesced (expression_run left.now)
             (expression_run right.now) (goes_by self.now) state.old) result state.new }
     {
@@ -100,7 +100,7 @@ impl<O: Outside> Evaluator<'_, O> {
         middle: &Option<Boxed<Expression>>,
         otherwise: &Expression,
         state: &mut State,
-    ) -> Result<Value, Halt>
+    ) -> Result<Shared, Halt>
         ensures { Evaluates (O.rules self.now.outside.now) (conditional (expression_run test.now)
             (option_map expression_run middle.now) (expression_run otherwise.now) (goes_by self.now) state.old) result
             state.new }
@@ -117,9 +117,9 @@ impl<O: Outside> Evaluator<'_, O> {
     fn chosen(
         &self,
         middle: &Option<Boxed<Expression>>,
-        test: Value,
+        test: Shared,
         state: &mut State,
-    ) -> Result<Value, Halt>
+    ) -> Result<Shared, Halt>
         ensures { Evaluates (O.rules self.now.outside.now) (choice (option_map expression_run middle.now) test
             (goes_by self.now) state.old) result state.new }
     {

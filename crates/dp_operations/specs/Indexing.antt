@@ -64,7 +64,7 @@ indexed_by indices d = read_by indexed indices d
 abbrev pub found_by : List Data → Data → Result Data ValueError
 found_by indices d = read_by looked_up indices d
 
--- ---- inside the crate
+-- ---- one reading or the other
 -- a reading: a plain one, or as isset finds
 abbrev pub reading : Bool → Data → Data → Result Data ValueError
 reading plain holder index = if plain then indexed holder index else looked_up holder index

@@ -8,4 +8,4 @@ pub mod Lists
 pub mod Parts
 pub mod Builtins
 pub mod Indexing
-pub mod inner
+pub mod Found

@@ -13,8 +13,8 @@ use dp_value::{CallError, Key, PhpArray, Value, ValueError};
 use std::alloc::Global;
 
 /// The number of entries of an array.
-pub(crate) fn count(args: &[Value]) -> Result<Value, CallError>
-    ensures { CallGives result (on_one count_of (one_of (map data_of args.now))) }
+pub(crate) fn count(args: &[&Value]) -> Result<Value, CallError>
+    ensures { CallGives result (on_one count_of (one_of (map (λ a. data_of a.now) args.now))) }
 {
     let Some(a) = single(args) else {
         return Err(CallError::Arguments);
@@ -35,8 +35,8 @@ fn entries(array: &PhpArray) -> i64
 }
 
 /// The keys of an array, as a list.
-pub(crate) fn key_list(alloc: Global, args: &[Value]) -> Result<Value, CallError>
-    ensures { CallAnswers result (on_one table.key_list (one_of (map data_of args.now))) }
+pub(crate) fn key_list(alloc: Global, args: &[&Value]) -> Result<Value, CallError>
+    ensures { CallAnswers result (on_one table.key_list (one_of (map (λ a. data_of a.now) args.now))) }
 {
     let Some(a) = single(args) else {
         return Err(CallError::Arguments);
@@ -50,8 +50,8 @@ pub(crate) fn key_list(alloc: Global, args: &[Value]) -> Result<Value, CallError
 }
 
 /// The values of an array, as a list.
-pub(crate) fn value_list(alloc: Global, args: &[Value]) -> Result<Value, CallError>
-    ensures { CallAnswers result (on_one table.value_list (one_of (map data_of args.now))) }
+pub(crate) fn value_list(alloc: Global, args: &[&Value]) -> Result<Value, CallError>
+    ensures { CallAnswers result (on_one table.value_list (one_of (map (λ a. data_of a.now) args.now))) }
 {
     let Some(a) = single(args) else {
         return Err(CallError::Arguments);

@@ -11,10 +11,10 @@ use crate::types::{is_array, is_bool, is_int, is_null, is_string};
 use dp_value::{Builtin, CallError, Value};
 use std::alloc::Global;
 
-/// What a built-in function gives. `Arguments` comes where the number of arguments is not the
-/// function's, or a count to repeat is negative. Source: the PHP manual, "Function Reference".
-pub fn builtin(alloc: Global, function: Builtin, args: &[Value]) -> Result<Value, CallError>
-    ensures { CallAnswers result (builtin_of function (map data_of args.now)) }
+/// What a built-in function gives of arguments that are lent. `Arguments` comes where the number of arguments is not
+/// the function's, or a count to repeat is negative. Source: the PHP manual, "Function Reference".
+pub fn builtin(alloc: Global, function: Builtin, args: &[&Value]) -> Result<Value, CallError>
+    ensures { CallAnswers result (builtin_of function (map (λ a. data_of a.now) args.now)) }
 {
     match function {
         Builtin::StrLen => length(args),

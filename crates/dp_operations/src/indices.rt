@@ -6,7 +6,7 @@ ghost use Rattle.dp_value.specs.Value.{data_of};
 ghost use Rattle.dp_operations.specs.Answers.{Answers};
 ghost use Rattle.dp_operations.specs.Indexing.{byte_at as byte_of, found_by, indexed, indexed_by};
 ghost use Rattle.dp_operations.specs.Indexing.{letter_at as letter_of, looked_up, read_by as read_under, reading};
-ghost use Rattle.dp_operations.specs.inner.Found.{data_of_found};
+ghost use Rattle.dp_operations.specs.Found.{data_of_found};
 
 use dp_value::{Bytes, Memory, Value, ValueError, key_of};
 use std::alloc::Global;
@@ -53,9 +53,9 @@ pub fn find_by(alloc: Global, holder: &Value, indices: &[Value]) -> Result<Value
     read_by(alloc, holder, indices, false)
 }
 
-/// What stands under an index.
+/// What stands under an index: nothing, a byte of a text, or an entry of an array, which is lent.
 #[derive(Clone, Copy)]
-pub(crate) enum Found<'a> {
+pub enum Found<'a> {
     Nothing,
     Letter(u8),
     Entry(&'a Value),
@@ -83,8 +83,8 @@ fn read_by(
     }
 }
 
-// What a reading gives under an index.
-fn under<'a>(
+/// What a reading finds under an index: [`index`], where it is plain, else [`find`]. Copies nothing.
+pub fn under<'a>(
     alloc: Global,
     holder: &'a Value,
     index: &Value,
@@ -138,8 +138,8 @@ fn byte_at(bytes: &[u8], position: i64) -> Option<u8>
     bytes.get(position as usize).copied()
 }
 
-// A copy of what stands under an index; null where nothing does.
-fn copy(alloc: Global, found: Found) -> Result<Value, Memory>
+/// A copy of what stands under an index; null where nothing does.
+pub fn copy(alloc: Global, found: Found) -> Result<Value, Memory>
     ensures { IfOk result (λ value. data_of value ≡ data_of_found found.entry) }
 {
     match found {

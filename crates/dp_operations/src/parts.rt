@@ -16,8 +16,8 @@ use dp_value::{Bytes, CallError, Memory, Value, WEIGHT_LIMIT};
 use std::alloc::Global;
 
 /// A part of a text: from an offset on, a count of bytes or all.
-pub(crate) fn part(alloc: Global, args: &[Value]) -> Result<Value, CallError>
-    ensures { CallAnswers result (on_three table.part (three_of (map data_of args.now))) }
+pub(crate) fn part(alloc: Global, args: &[&Value]) -> Result<Value, CallError>
+    ensures { CallAnswers result (on_three table.part (three_of (map (λ a. data_of a.now) args.now))) }
 {
     match args {
         [a, b] => part_from(alloc, a, b, &Value::Null),
@@ -77,8 +77,8 @@ fn end(len: usize, start: usize, count: Option<i64>) -> usize
 }
 
 /// A text repeated.
-pub(crate) fn repetition(alloc: Global, args: &[Value]) -> Result<Value, CallError>
-    ensures { CallAnswers result (on_two table.repetition (two_of (map data_of args.now))) }
+pub(crate) fn repetition(alloc: Global, args: &[&Value]) -> Result<Value, CallError>
+    ensures { CallAnswers result (on_two table.repetition (two_of (map (λ a. data_of a.now) args.now))) }
 {
     let Some((a, b)) = double(args) else {
         return Err(CallError::Arguments);
@@ -118,8 +118,8 @@ fn copies(alloc: Global, bytes: &[u8], count: u64) -> Result<Vec<u8>, Memory>
 }
 
 /// The values of an array as texts, with a text between them.
-pub(crate) fn joining(alloc: Global, args: &[Value]) -> Result<Value, CallError>
-    ensures { CallAnswers result (on_two table.joining (two_of (map data_of args.now))) }
+pub(crate) fn joining(alloc: Global, args: &[&Value]) -> Result<Value, CallError>
+    ensures { CallAnswers result (on_two table.joining (two_of (map (λ a. data_of a.now) args.now))) }
 {
     let Some((a, b)) = double(args) else {
         return Err(CallError::Arguments);

@@ -11,8 +11,8 @@ use dp_value::{Bytes, CallError, Value};
 use std::alloc::Global;
 
 /// The length of a text.
-pub(crate) fn length(args: &[Value]) -> Result<Value, CallError>
-    ensures { CallGives result (on_one length_of (one_of (map data_of args.now))) }
+pub(crate) fn length(args: &[&Value]) -> Result<Value, CallError>
+    ensures { CallGives result (on_one length_of (one_of (map (λ a. data_of a.now) args.now))) }
 {
     let Some(a) = single(args) else {
         return Err(CallError::Arguments);
@@ -26,8 +26,8 @@ pub(crate) fn length(args: &[Value]) -> Result<Value, CallError>
 }
 
 /// The first byte of a text, or 0.
-pub(crate) fn first_byte(args: &[Value]) -> Result<Value, CallError>
-    ensures { CallGives result (on_one first_byte_of (one_of (map data_of args.now))) }
+pub(crate) fn first_byte(args: &[&Value]) -> Result<Value, CallError>
+    ensures { CallGives result (on_one first_byte_of (one_of (map (λ a. data_of a.now) args.now))) }
 {
     let Some(a) = single(args) else {
         return Err(CallError::Arguments);
@@ -51,8 +51,8 @@ fn first(bytes: &[u8]) -> u8
 }
 
 /// The byte of an integer modulo 256, as a text.
-pub(crate) fn byte(alloc: Global, args: &[Value]) -> Result<Value, CallError>
-    ensures { CallAnswers result (on_one byte_of (one_of (map data_of args.now))) }
+pub(crate) fn byte(alloc: Global, args: &[&Value]) -> Result<Value, CallError>
+    ensures { CallAnswers result (on_one byte_of (one_of (map (λ a. data_of a.now) args.now))) }
 {
     let Some(a) = single(args) else {
         return Err(CallError::Arguments);
@@ -69,8 +69,8 @@ pub(crate) fn byte(alloc: Global, args: &[Value]) -> Result<Value, CallError>
 }
 
 /// The quotient of two integers, toward zero.
-pub(crate) fn quotient(args: &[Value]) -> Result<Value, CallError>
-    ensures { CallGives result (on_two table.quotient (two_of (map data_of args.now))) }
+pub(crate) fn quotient(args: &[&Value]) -> Result<Value, CallError>
+    ensures { CallGives result (on_two table.quotient (two_of (map (λ a. data_of a.now) args.now))) }
 {
     let Some((a, b)) = double(args) else {
         return Err(CallError::Arguments);

@@ -9,8 +9,8 @@ use crate::arguments::single;
 use dp_value::{CallError, Value};
 
 /// Whether the argument is an integer.
-pub(crate) fn is_int(args: &[Value]) -> Result<Value, CallError>
-    ensures { CallGives result (on_one (told table.is_int) (one_of (map data_of args.now))) }
+pub(crate) fn is_int(args: &[&Value]) -> Result<Value, CallError>
+    ensures { CallGives result (on_one (told table.is_int) (one_of (map (λ a. data_of a.now) args.now))) }
 {
     let Some(a) = single(args) else {
         return Err(CallError::Arguments);
@@ -22,8 +22,8 @@ pub(crate) fn is_int(args: &[Value]) -> Result<Value, CallError>
 }
 
 /// Whether the argument is a text.
-pub(crate) fn is_string(args: &[Value]) -> Result<Value, CallError>
-    ensures { CallGives result (on_one (told table.is_string) (one_of (map data_of args.now))) }
+pub(crate) fn is_string(args: &[&Value]) -> Result<Value, CallError>
+    ensures { CallGives result (on_one (told table.is_string) (one_of (map (λ a. data_of a.now) args.now))) }
 {
     let Some(a) = single(args) else {
         return Err(CallError::Arguments);
@@ -35,8 +35,8 @@ pub(crate) fn is_string(args: &[Value]) -> Result<Value, CallError>
 }
 
 /// Whether the argument is a bool.
-pub(crate) fn is_bool(args: &[Value]) -> Result<Value, CallError>
-    ensures { CallGives result (on_one (told table.is_bool) (one_of (map data_of args.now))) }
+pub(crate) fn is_bool(args: &[&Value]) -> Result<Value, CallError>
+    ensures { CallGives result (on_one (told table.is_bool) (one_of (map (λ a. data_of a.now) args.now))) }
 {
     let Some(a) = single(args) else {
         return Err(CallError::Arguments);
@@ -48,8 +48,8 @@ pub(crate) fn is_bool(args: &[Value]) -> Result<Value, CallError>
 }
 
 /// Whether the argument is null.
-pub(crate) fn is_null(args: &[Value]) -> Result<Value, CallError>
-    ensures { CallGives result (on_one (told table.is_null) (one_of (map data_of args.now))) }
+pub(crate) fn is_null(args: &[&Value]) -> Result<Value, CallError>
+    ensures { CallGives result (on_one (told table.is_null) (one_of (map (λ a. data_of a.now) args.now))) }
 {
     let Some(a) = single(args) else {
         return Err(CallError::Arguments);
@@ -61,8 +61,8 @@ pub(crate) fn is_null(args: &[Value]) -> Result<Value, CallError>
 }
 
 /// Whether the argument is an array.
-pub(crate) fn is_array(args: &[Value]) -> Result<Value, CallError>
-    ensures { CallGives result (on_one (told table.is_array) (one_of (map data_of args.now))) }
+pub(crate) fn is_array(args: &[&Value]) -> Result<Value, CallError>
+    ensures { CallGives result (on_one (told table.is_array) (one_of (map (λ a. data_of a.now) args.now))) }
 {
     let Some(a) = single(args) else {
         return Err(CallError::Arguments);

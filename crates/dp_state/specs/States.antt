@@ -145,3 +145,9 @@ IsCause asked (fault.Fatal kind) = asked ≡ Err kind
 -- a step that is refused by what is asked is refused so, whatever memory there is
 abbrev pub IsSure : {A : Type 0} → Result State FatalKind → Result A Fault → Type 0
 IsSure asked result = (kind : FatalKind) → asked ≡ Err kind → result ≡ Err (fault.Fatal kind)
+
+-- refused, and not for lack of memory
+abbrev pub IsFatal : {A : Type 0} → Result A Fault → Type 0
+IsFatal (Ok done) = ⊥
+IsFatal (Err fault.Memory) = ⊥
+IsFatal (Err (fault.Fatal kind)) = ⊤

@@ -12,8 +12,9 @@ use crate::moments::FatalKind;
 use crate::state::{Fault, Frame, FrameKind, State};
 use crate::steps::FRAME_LIMIT;
 use crate::vars::{Slot, Vars};
+use dp_shared::Shared;
 use dp_tree::{Bundle, Function, FunctionRef};
-use dp_value::{Bytes, Items, Memory, Value};
+use dp_value::{Bytes, Items, Memory};
 use std::alloc::Global;
 use std::mem;
 
@@ -27,7 +28,7 @@ impl State {
         &mut self,
         file: u32,
         function: &Function,
-        values: Items<Value>,
+        values: Items<Shared>,
     ) -> Result<(), Fault>
         ensures ok { OnOk result (called file function.now values self.old ≡ Ok self.new) }
         ensures refused { IfErr result (IsCause (called file function.now values self.old)) }
@@ -108,12 +109,12 @@ fn functions_in(bundle: &Bundle, file: u32) -> &[Function]
 }
 
 // Parameters with their values.
-fn parameters(alloc: Global, names: &[Bytes], values: Items<Value>) -> Result<Vars, Memory>
+fn parameters(alloc: Global, names: &[Bytes], values: Items<Shared>) -> Result<Vars, Memory>
     ensures { IfOk result (λ vars. vars ≡ with_parameters names.now values []) }
 {
     let mut vars = Vars::new(alloc);
     for (name, value) in names.iter().zip(values.into_vec()) {
-        vars.set(name.try_clone()?, Slot::Held(value))?;
+        vars.set(name.try_clone()?, Slot::Held(value.settled(alloc)?))?;
     }
     Ok(vars)
 }

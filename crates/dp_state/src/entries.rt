@@ -1,15 +1,18 @@
 //! Writes and removals among variables.
 
-ghost use Rattle.std.specs.Prelude.{◌≡◌, ◌≢◌, not, is_some, None, Ok, Err, IfOk, IfErr, OnOk, OnErr};
+ghost use Rattle.std.specs.Prelude.{◌≡◌, [], false, not, is_some, None, Ok, Err, IfOk, IfErr, OnOk, OnErr};
 ghost use Rattle.dp_state.specs.Variables.{slot_of, value_held, with_slot};
 ghost use Rattle.dp_state.specs.Places.{with_null};
 ghost use Rattle.dp_state.specs.inner.Parts.{assigned_in, removed_in, IsCauseIn};
-ghost use Rattle.dp_state.specs.declared.state.Fault.TheVariants as fault;
+ghost use Rattle.dp_state.specs.States.{IsFatal};
+ghost use Rattle.dp_shared.specs.Pieces.{with_piece};
 ghost use Rattle.dp_state.specs.declared.vars.Slot.TheVariants as variable;
 
+use crate::moments::FatalKind;
 use crate::state::Fault;
 use crate::vars::{Slot, Vars};
-use dp_value::{Bytes, Key, Memory, Value, remove_at, write_at};
+use dp_shared::Shared;
+use dp_value::{Bytes, Key, Memory, Value};
 use std::alloc::Global;
 
 /// Gives a variable a value, or gives it to the entry of the variable under `keys`, or pushes it there.
@@ -18,17 +21,17 @@ pub(crate) fn assign_in(
     name: &Bytes,
     keys: &[Option<Key>],
     push: bool,
-    value: Value,
+    value: Shared,
 ) -> Result<(), Fault>
     ensures ok { OnOk result (assigned_in name.now keys.now push value vars.old ≡ Ok vars.new) }
     ensures refused { IfErr result (IsCauseIn (assigned_in name.now keys.now push value vars.old)) }
     ensures err { OnErr result (vars.new ≡ vars.old) }
 {
     let alloc = vars.allocator();
-    let Some(mut held) = vars.exchange(name, Value::Null) else {
+    let Some(mut held) = vars.exchange(name, Shared::of(Value::Null)) else {
         return assign_new(alloc, vars, name, keys, push, value);
     };
-    let done = write_at(alloc, &mut held, keys, push, value);
+    let done = held.write(alloc, keys, push, value);
     let _ = vars.exchange(name, held);
     match done {
         Ok(()) => Ok(()),
@@ -43,15 +46,15 @@ fn assign_new(
     name: &Bytes,
     keys: &[Option<Key>],
     push: bool,
-    value: Value,
+    value: Shared,
 ) -> Result<(), Fault>
     requires { value_held (slot_of vars.old name.now) ≡ None }
     ensures ok { OnOk result (assigned_in name.now keys.now push value vars.old ≡ Ok vars.new) }
     ensures refused { IfErr result (IsCauseIn (assigned_in name.now keys.now push value vars.old)) }
     ensures err { OnErr result (vars.new ≡ vars.old) }
 {
-    let mut made = Value::Null;
-    match write_at(alloc, &mut made, keys, push, value) {
+    let mut made = Shared::of(Value::Null);
+    match made.write(alloc, keys, push, value) {
         Ok(()) => {
             vars.set(name.try_clone()?, Slot::Held(made))?;
             Ok(())
@@ -60,17 +63,54 @@ fn assign_new(
     }
 }
 
+/// Gives a variable a text with a piece behind it. What it holds goes first, so that a text that has no owner beside it
+/// grows in its place.
+pub(crate) fn append_in(
+    vars: &mut Vars,
+    name: &Bytes,
+    text: Shared,
+    piece: &[u8],
+) -> Result<Shared, Fault>
+    ensures longer { IfOk result (λ longer. longer ≡ with_piece text piece.now) }
+    ensures ok { OnOk result (assigned_in name.now [] false (with_piece text piece.now) vars.old ≡ Ok vars.new) }
+    ensures refused { IfErr result (IsCauseIn (assigned_in name.now [] false (with_piece text piece.now) vars.old)) }
+    ensures err { IsFatal result → vars.new ≡ vars.old }
+{
+    if text.is_beyond(piece) {
+        return Err(Fault::Fatal(FatalKind::TooHeavy));
+    }
+    let alloc = vars.allocator();
+    let Some(held) = vars.exchange(name, Shared::of(Value::Null)) else {
+        let (longer, copy) = twice(alloc, text, piece)?;
+        assign_new(alloc, vars, name, &[], false, longer)?;
+        return Ok(copy);
+    };
+    drop(held);
+    let (longer, copy) = twice(alloc, text, piece)?;
+    let _ = vars.exchange(name, longer);
+    Ok(copy)
+}
+
+// A text with a piece behind it, for two owners.
+fn twice(alloc: Global, text: Shared, piece: &[u8]) -> Result<(Shared, Shared), Memory>
+    ensures { IfOk result (λ both. (both.0 ≡ with_piece text piece.now) × (both.1 ≡ with_piece text piece.now)) }
+{
+    let longer = text.append(alloc, piece)?.settled(alloc)?;
+    let copy = longer.try_clone()?;
+    Ok((longer, copy))
+}
+
 /// Takes the entry of a variable under `keys` away. Where the name holds no value, nothing changes.
 pub(crate) fn remove_in(vars: &mut Vars, name: &Bytes, keys: &[Option<Key>]) -> Result<(), Fault>
     ensures ok { OnOk result (removed_in name.now keys.now vars.old ≡ Ok vars.new) }
     ensures refused { IfErr result (IsCauseIn (removed_in name.now keys.now vars.old)) }
-    ensures memory { result ≢ Err fault.Memory }
     ensures err { OnErr result (vars.new ≡ vars.old) }
 {
-    let Some(mut held) = vars.exchange(name, Value::Null) else {
+    let alloc = vars.allocator();
+    let Some(mut held) = vars.exchange(name, Shared::of(Value::Null)) else {
         return Ok(());
     };
-    let done = remove_at(&mut held, keys);
+    let done = held.remove(alloc, keys);
     let _ = vars.exchange(name, held);
     match done {
         Ok(()) => Ok(()),
@@ -87,7 +127,7 @@ pub(crate) fn make_null(vars: &mut Vars, name: &Bytes) -> Result<bool, Memory>
     if vars.get(name).is_some() {
         return Ok(false);
     }
-    vars.set(name.try_clone()?, Slot::Held(Value::Null))?;
+    vars.set(name.try_clone()?, Slot::Held(Shared::of(Value::Null)))?;
     Ok(true)
 }
 

@@ -7,7 +7,8 @@ ghost use Rattle.dp_state.specs.States.{read, read_at, shares_at, top_frame, var
 
 use crate::state::{Frame, State};
 use crate::vars::{Slot, Vars};
-use dp_value::{Bytes, Value};
+use dp_shared::Shared;
+use dp_value::Bytes;
 
 // Whether the frame at this position uses the variables of the frame below it.
 fn shares(frames: &[Frame], at: usize) -> bool
@@ -66,7 +67,7 @@ impl State {
     }
 
     // The value of a global variable.
-    fn global(&self, name: &Bytes) -> Option<&Value>
+    fn global(&self, name: &Bytes) -> Option<&Shared>
         ensures { option_map (λ value. value.now) result ≡ value_held (slot_of self.now.globals name.now) }
     {
         match self.globals.get(name) {
@@ -77,7 +78,7 @@ impl State {
     }
 
     /// The value of a variable at a level; that of the global variable where the name is bound. Takes no memory.
-    pub fn read_at(&self, level: usize, name: &Bytes) -> Option<&Value>
+    pub fn read_at(&self, level: usize, name: &Bytes) -> Option<&Shared>
         ensures { option_map (λ value. value.now) result ≡ read_at self.now level name.now }
     {
         match self.variables(level).get(name) {
@@ -88,7 +89,7 @@ impl State {
     }
 
     /// The value of a variable of the top frame, as [`State::read_at`] reads it. Takes no memory.
-    pub fn read(&self, name: &Bytes) -> Option<&Value>
+    pub fn read(&self, name: &Bytes) -> Option<&Shared>
         ensures { option_map (λ value. value.now) result ≡ read self.now name.now }
     {
         self.read_at(0, name)

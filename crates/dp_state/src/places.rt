@@ -1,18 +1,19 @@
 //! Writes of variables and of their entries, and `unset` and `global`.
 
-ghost use Rattle.std.specs.Prelude.{◌≡◌, ◌≢◌, ◌≤◌, ◌<◌, ◌-◌, [], Ok, Err, Some, length, option_map, slice_get, IfErr};
-ghost use Rattle.std.specs.Prelude.{OnOk, OnErr};
-ghost use Rattle.dp_state.specs.States.{own_variables, IsCause, IsSure};
-ghost use Rattle.dp_state.specs.declared.state.Fault.TheVariants as fault;
+ghost use Rattle.std.specs.Prelude.{◌≡◌, ◌≤◌, false, ◌<◌, ◌-◌, [], Ok, Err, Some, length, option_map, slice_get, IfOk};
+ghost use Rattle.std.specs.Prelude.{IfErr, OnOk, OnErr};
+ghost use Rattle.dp_state.specs.States.{own_variables, IsCause, IsFatal};
+ghost use Rattle.dp_shared.specs.Pieces.{with_piece};
 ghost use Rattle.dp_state.specs.Variables.{slot_of};
 ghost use Rattle.dp_state.specs.Places.{assigned, is_bound as is_mark, unset, with_global, with_own, with_vars};
 ghost use Rattle.dp_state.specs.Places.{without_variable};
 ghost use Rattle.dp_state.specs.inner.Parts.{home as home_of};
 
-use crate::entries::{assign_in, bind_in, make_null, remove_in};
+use crate::entries::{append_in, assign_in, bind_in, make_null, remove_in};
 use crate::state::{Fault, Frame, State};
 use crate::vars::{Slot, Vars};
-use dp_value::{Bytes, Items, Key, Memory, Value};
+use dp_shared::Shared;
+use dp_value::{Bytes, Items, Key, Memory};
 use std::mem;
 
 impl State {
@@ -29,7 +30,7 @@ impl State {
         name: &Bytes,
         keys: &[Option<Key>],
         push: bool,
-        value: Value,
+        value: Shared,
     ) -> Result<(), Fault>
         ensures ok { OnOk result (assigned level name.now keys.now push value self.old ≡ Ok self.new) }
         ensures refused { IfErr result (IsCause (assigned level name.now keys.now push value self.old)) }
@@ -42,18 +43,35 @@ impl State {
         done
     }
 
+    /// Gives a variable of the top frame a text with a piece behind it, and gives it; what is no text counts as the
+    /// empty one. Where the text has no owner but the one that is given here and the variable itself, it grows in its
+    /// place.
+    ///
+    /// `TooHeavy` comes exactly where the text would weigh more than a value may, and then the state is as before.
+    /// After out of memory the variable may be null.
+    pub fn append(&mut self, name: &Bytes, text: Shared, piece: &[u8]) -> Result<Shared, Fault>
+        ensures longer { IfOk result (λ longer. longer ≡ with_piece text piece.now) }
+        ensures ok { OnOk result (assigned 0 name.now [] false (with_piece text piece.now) self.old ≡ Ok self.new) }
+        ensures refused { IfErr result (IsCause (assigned 0 name.now [] false (with_piece text piece.now) self.old)) }
+        ensures err { IsFatal result → self.new ≡ self.old }
+    {
+        let at = self.home(0, name);
+        let mut vars = self.take_own(at);
+        let done = append_in(&mut vars, name, text, piece);
+        let _ = self.exchange_own(at, vars);
+        done
+    }
+
     /// Takes a variable of the top frame away, or its entry under `keys` where there are any. A key that is `None`
     /// stands for an index that is no key. A name that is bound is bound no more, and the global variable stays; an
     /// entry of it is an entry of the global variable. Where the variable or an entry on the way is missing, nothing
-    /// changes. Takes no memory.
+    /// changes. Takes memory only where the value of the variable has other owners too: then it is copied.
     ///
     /// The causes are tried key by key: `Scalar` and `Unsupported` by what holds the entry, then `BadKey`. After a
     /// refusal the state is as before.
     pub fn unset(&mut self, name: &Bytes, keys: &[Option<Key>]) -> Result<(), Fault>
         ensures ok { OnOk result (unset name.now keys.now self.old ≡ Ok self.new) }
         ensures refused { IfErr result (IsCause (unset name.now keys.now self.old)) }
-        ensures sure { IsSure (unset name.now keys.now self.old) result }
-        ensures memory { result ≢ Err fault.Memory }
         ensures err { OnErr result (self.new ≡ self.old) }
     {
         if keys.is_empty() {

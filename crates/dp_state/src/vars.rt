@@ -1,6 +1,7 @@
 //! The variables of a frame.
 
-use dp_value::{Bytes, Memory, Value};
+use dp_shared::Shared;
+use dp_value::{Bytes, Memory};
 use indexmap::IndexMap;
 use std::alloc::Global;
 use std::marker::Model;
@@ -9,7 +10,7 @@ use std::mem;
 /// What a name of a frame has: a value, or the mark that it is bound to the global variable of its name.
 #[derive(Debug, Drop)]
 pub enum Slot {
-    Held(Value),
+    Held(Shared),
     Bound,
 }
 
@@ -38,7 +39,7 @@ impl Slot {
     ghost use Rattle.dp_state.specs.inner.Parts.{with_held};
 
     // Puts a value in the place of the one that is held, and gives that one out.
-    fn exchange(&mut self, value: Value) -> Option<Value>
+    fn exchange(&mut self, value: Shared) -> Option<Shared>
         ensures value { result ≡ value_held (Some self.old) }
         ensures exchanged { self.new ≡ with_held value self.old }
     {
@@ -100,7 +101,7 @@ impl Vars {
 
     /// Puts a value in the place of the one that a name holds, and gives that one out. Where the name holds none,
     /// nothing changes. Takes no memory.
-    pub(crate) fn exchange(&mut self, name: &Bytes, value: Value) -> Option<Value>
+    pub(crate) fn exchange(&mut self, name: &Bytes, value: Shared) -> Option<Shared>
         ensures value { result ≡ value_held (slot_of self.old name.now) }
         ensures exchanged { self.new ≡ (if is_some (value_held (slot_of self.old name.now))
             then with_slot self.old name.now (variable.Held value) else self.old) }

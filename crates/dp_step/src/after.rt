@@ -18,7 +18,8 @@ use crate::loops::{do_tested, entry_count, test_holds, tested};
 use crate::next::signal;
 use crate::statements::branch;
 use crate::work::{AfterValue, EachTurns, ForSignal, ForValues, Hand, Next, Work};
-use dp_actions::{Halt, Signal, bind_all, bind_entry, exit_value, print_value, unset_place};
+use dp_actions::{Halt, Signal, bind_all, bind_entry, exit_value, holds, print_value, unset_place};
+use dp_shared::Shared;
 use dp_state::State;
 use dp_step_parts::holds;
 use dp_tree::{Binding, Expression, Place};
@@ -29,7 +30,7 @@ use std::alloc::Global;
 pub(crate) fn receive_after<'p>(
     alloc: Global,
     work: AfterValue<'p>,
-    value: Value,
+    value: Shared,
     state: &mut State,
 ) -> Result<Next<'p>, Halt>
     ensures { (setting : Setting)
@@ -83,7 +84,7 @@ pub(crate) fn receive_values<'p>(
 // An operand of an `echo` is written.
 fn echoed<'p>(
     alloc: Global,
-    value: Value,
+    value: Shared,
     rest: &'p Items<Expression>,
     at: usize,
     state: &mut State,
@@ -91,7 +92,7 @@ fn echoed<'p>(
     ensures { (setting : Setting)
         → Leads setting (λ k. after_rest setting (any_after.Echoed rest.entry at) value k state.old) result state.new }
 {
-    let done = print_value(alloc, &value, state);
+    let done = print_value(alloc, value.value(), state);
     drop(value);
     match done {
         Ok(()) => Ok(Next {
@@ -103,11 +104,11 @@ fn echoed<'p>(
 }
 
 // The program ends with a value.
-fn exit_with<'p>(value: Value, state: &mut State) -> Result<Next<'p>, Halt>
+fn exit_with<'p>(value: Shared, state: &mut State) -> Result<Next<'p>, Halt>
     ensures { (setting : Setting)
         → Leads setting (λ k. after_rest setting any_after.ExitWith value k state.old) result state.new }
 {
-    let done = exit_value(&value, state);
+    let done = exit_value(value.value(), state);
     drop(value);
     match done {
         Ok(given) => Ok(signal(given)),
@@ -119,7 +120,7 @@ fn exit_with<'p>(value: Value, state: &mut State) -> Result<Next<'p>, Halt>
 fn unset_next<'p>(
     alloc: Global,
     name: &Bytes,
-    indices: Items<Value>,
+    indices: Items<Shared>,
     rest: &'p [Place],
     state: &mut State,
 ) -> Result<Next<'p>, Halt>
@@ -153,7 +154,7 @@ pub(crate) fn global<'p>(names: &[Bytes], state: &mut State) -> Result<Next<'p>,
 /// The entry at a position is bound, and then comes its turn.
 pub(crate) fn bind<'p>(
     turns: EachTurns<'p>,
-    subject: Value,
+    subject: Shared,
     at: usize,
     state: &mut State,
 ) -> Result<Next<'p>, Halt>
@@ -161,11 +162,11 @@ pub(crate) fn bind<'p>(
         → Leads setting (λ k. and_then (each_turn setting turns.entry (drop at (entries subject)) state.old)
         (to_signal k)) result state.new }
 {
-    if at >= entry_count(&subject) {
+    if at >= entry_count(subject.value()) {
         drop(subject);
         Ok(signal(Signal::Next))
     } else {
-        match bind_at(turns.binding, &subject, at, state) {
+        match bind_at(turns.binding, subject.value(), at, state) {
             Ok(()) => Ok(Next {
                 hand: Hand::Run(turns.body),
                 waits: Some(Work::ForSignal(ForSignal::EachBody(turns, subject, at + 1))),

@@ -17,10 +17,11 @@ use crate::machine::Machine;
 use crate::work::{Hand, Next, Small, Waiting, Work};
 use dp_actions::{Halt, Signal, enter_call, enter_file, fatal};
 use dp_meaning::value_in_place;
+use dp_shared::Shared;
 use dp_state::{FatalKind, MomentKind, Outcome};
 use dp_step_parts::{Given, Hand as PartHand};
 use dp_tree::{Bundle, Expression, Function, is_pure};
-use dp_value::{Items, Memory, Value};
+use dp_value::{Items, Memory};
 use std::mem;
 
 impl<'p> Machine<'p> {
@@ -156,7 +157,7 @@ impl<'p> Machine<'p> {
         &mut self,
         file: u32,
         function: &'p Function,
-        values: Items<Value>,
+        values: Items<Shared>,
     ) -> Result<Option<(MomentKind, u32)>, Halt>
         ensures { Moves self.old (rest_with self.old (any_hand.Call file function.entry values) self.old.state) result
             self.new }

@@ -46,7 +46,7 @@ pub(crate) enum Hand<'p> {
     /// A part of an expression.
     Part(PartHand<'p>),
     /// A call of a function of the file of this number.
-    Call(u32, &'p Function, Items<Value>),
+    Call(u32, &'p Function, Items<Shared>),
     /// An inclusion of the file of this number.
     Include(u32),
     /// A statement.
@@ -70,9 +70,9 @@ pub(crate) enum Hand<'p> {
     /// At most so many turns.
     DoTurn(DoTurns<'p>, u64),
     /// The turns from the entry at a position on.
-    EachTurn(EachTurns<'p>, Value, usize),
+    EachTurn(EachTurns<'p>, Shared, usize),
     /// The entry at a position is bound, and then its turn comes.
-    Bind(EachTurns<'p>, Value, usize),
+    Bind(EachTurns<'p>, Shared, usize),
     /// A call whose body is done has left.
     Left(Signal),
     /// An included file is done.
@@ -127,7 +127,7 @@ pub(crate) enum ForSignal<'p> {
     /// The body of a turn of a `do`.
     DoBody(DoTurns<'p>, u64),
     /// The body of a turn of a `foreach`, the subject, and the position of the entry behind it.
-    EachBody(EachTurns<'p>, Value, usize),
+    EachBody(EachTurns<'p>, Shared, usize),
 }
 
 /// A part that waits for what is in hand.

@@ -56,9 +56,9 @@ pub(crate) fn begin<'p>(alloc: Global, e: &'p Expression, state: &State) -> Resu
         → Leads setting (λ k. and_then (evaluation e.now setting state.now) (to_value k)) result state.now }
 {
     match e {
-        Expression::Null => Ok(give(Value::Null)),
-        Expression::Bool(b) => Ok(give(Value::Bool(*b))),
-        Expression::Number(n) => Ok(give(Value::Int(*n))),
+        Expression::Null => Ok(give(Shared::of(Value::Null))),
+        Expression::Bool(b) => Ok(give(Shared::of(Value::Bool(*b)))),
+        Expression::Number(n) => Ok(give(Shared::of(Value::Int(*n)))),
         Expression::Text(bytes) => given(text_value(bytes)),
         Expression::Variable(name) => given(variable_value(name, state)),
         Expression::Array(items) => {

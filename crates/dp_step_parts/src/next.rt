@@ -16,11 +16,12 @@ ghost use Rattle.dp_step_parts.specs.declared.work.Hand.TheVariants as any_hand;
 
 use crate::work::{Given, Hand, Next};
 use dp_actions::{Halt, Reading};
+use dp_shared::Shared;
 use dp_tree::{Expression, Item, Link};
 use dp_value::{Items, Value};
 
 /// A value is given.
-pub(crate) fn give<'p>(value: Value) -> Next<'p>
+pub(crate) fn give<'p>(value: Shared) -> Next<'p>
     ensures { result ≡ record { hand = any_hand.Give (any_given.Value value); waits = None } }
 {
     Next {
@@ -30,7 +31,7 @@ pub(crate) fn give<'p>(value: Value) -> Next<'p>
 }
 
 /// A value that was made is given.
-pub(crate) fn given<'p>(made: Result<Value, Halt>) -> Result<Next<'p>, Halt>
+pub(crate) fn given<'p>(made: Result<Shared, Halt>) -> Result<Next<'p>, Halt>
     ensures { (setting : Setting) (run : Run AnyValue) (t : AnyState) → AtOnce run made t
         → Leads setting (λ k. and_then run (to_value k)) result t }
 {
@@ -42,7 +43,7 @@ pub(crate) fn given<'p>(made: Result<Value, Halt>) -> Result<Next<'p>, Halt>
 
 /// To a value that was made more is joined.
 pub(crate) fn linked<'p>(
-    made: Result<Value, Halt>,
+    made: Result<Shared, Halt>,
     links: &'p Items<Link>,
     at: usize,
 ) -> Result<Next<'p>, Halt>
@@ -80,7 +81,7 @@ pub(crate) fn lengthened<'p>(
 
 /// A value that was made is read under more indices.
 pub(crate) fn read_under<'p>(
-    made: Result<Value, Halt>,
+    made: Result<Shared, Halt>,
     how: Reading,
     indices: &'p Items<Expression>,
     at: usize,

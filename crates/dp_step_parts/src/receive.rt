@@ -22,7 +22,8 @@ use dp_actions::{
     Halt, Reading, assign_place, builtin_value, combine, found_place, is_missing, look, present,
     pushed, put, read_place, step_place, value_of,
 };
-use dp_operations::{binary, builtin, unary};
+use dp_operations::unary;
+use dp_shared::Shared;
 use dp_state::State;
 use dp_tree::{Boxed, Expression, Item, Link, Order, Place};
 use dp_value::{BinaryOp, Builtin, Bytes, Items, Memory, UnaryOp, Value, truthy};
@@ -32,7 +33,7 @@ use std::alloc::Global;
 pub(crate) fn receive_part<'p>(
     alloc: Global,
     work: ForPart<'p>,
-    value: Value,
+    value: Shared,
     state: &State,
 ) -> Result<Next<'p>, Halt>
     ensures { (setting : Setting)
@@ -53,7 +54,7 @@ pub(crate) fn receive_part<'p>(
         }),
         ForPart::Tested(links, at) => {
             Ok(Next {
-                hand: Hand::Links(Value::Bool(holds(value)), links, at),
+                hand: Hand::Links(Shared::of(Value::Bool(holds(value))), links, at),
                 waits: None,
             })
         }
@@ -74,8 +75,8 @@ pub(crate) fn receive_part<'p>(
 fn put_item<'p>(
     alloc: Global,
     array: Value,
-    key: Value,
-    value: Value,
+    key: Shared,
+    value: Shared,
     rest: &'p Items<Item>,
     at: usize,
     state: &State,
@@ -84,7 +85,7 @@ fn put_item<'p>(
         → Leads setting (λ k. part_rest setting (any_part.PutItem array key rest.entry at) value k state.now) result
         state.now }
 {
-    let made = put(alloc, array, &key, value, state);
+    let made = put(alloc, array, key.value(), value, state);
     drop(key);
     lengthened(made, rest, at)
 }
@@ -93,8 +94,8 @@ fn put_item<'p>(
 fn operate<'p>(
     alloc: Global,
     op: BinaryOp,
-    left: Value,
-    right: Value,
+    left: Shared,
+    right: Shared,
     links: &'p Items<Link>,
     at: usize,
     state: &State,
@@ -103,8 +104,7 @@ fn operate<'p>(
         → Leads setting (λ k. part_rest setting (any_part.Operate op left links.entry at) right k state.now) result
         state.now }
 {
-    let made = value_of(binary(alloc, op, &left, &right), state);
-    drop(left);
+    let made = operated(alloc, op, left, right.value(), state);
     drop(right);
     linked(made, links, at)
 }
@@ -113,8 +113,8 @@ fn operate<'p>(
 fn read_entry<'p>(
     alloc: Global,
     how: Reading,
-    holder: Value,
-    index: Value,
+    holder: Shared,
+    index: Shared,
     indices: &'p Items<Expression>,
     at: usize,
     state: &State,
@@ -123,7 +123,7 @@ fn read_entry<'p>(
         → Leads setting (λ k. part_rest setting (any_part.Entry how holder indices.entry at) index k state.now) result
         state.now }
 {
-    let made = value_of(look(alloc, how, &holder, &index), state);
+    let made = value_of(look(alloc, how, holder.value(), index.value()), state);
     drop(holder);
     drop(index);
     read_under(made, how, indices, at)
@@ -140,8 +140,8 @@ pub fn holds(value: Value) -> bool
 
 // Values and one more, and the expressions behind it.
 fn more<'p>(
-    before: Items<Value>,
-    value: Value,
+    before: Items<Shared>,
+    value: Shared,
     rest: &'p Items<Expression>,
     at: usize,
 ) -> Result<Next<'p>, Halt>
@@ -158,7 +158,7 @@ fn more<'p>(
 }
 
 // Values, and one more.
-fn longer(before: Items<Value>, value: Value) -> Result<Items<Value>, Memory>
+fn longer(before: Items<Shared>, value: Shared) -> Result<Items<Shared>, Memory>
     ensures { IfOk result (λ values. values ≡ before ++ value ∷ []) }
 {
     let mut values = before.into_vec();
@@ -170,7 +170,7 @@ fn longer(before: Items<Value>, value: Value) -> Result<Items<Value>, Memory>
 pub(crate) fn receive_value<'p>(
     alloc: Global,
     work: ForValue<'p>,
-    value: Value,
+    value: Shared,
     state: &mut State,
 ) -> Result<Next<'p>, Halt>
     ensures { (setting : Setting)
@@ -190,11 +190,11 @@ pub(crate) fn receive_value<'p>(
 }
 
 // An operator takes its only operand.
-fn operate_alone<'p>(op: UnaryOp, value: Value, state: &State) -> Result<Next<'p>, Halt>
+fn operate_alone<'p>(op: UnaryOp, value: Shared, state: &State) -> Result<Next<'p>, Halt>
     ensures { (setting : Setting)
         → Leads setting (λ k. value_rest setting (any_value.Unary op) value k state.now) result state.now }
 {
-    let made = value_of(unary(op, &value), state);
+    let made = value_of(unary(op, value.value()), state);
     drop(value);
     given(made)
 }
@@ -203,9 +203,9 @@ fn operate_alone<'p>(op: UnaryOp, value: Value, state: &State) -> Result<Next<'p
 fn assign<'p>(
     alloc: Global,
     name: &'p Bytes,
-    indices: Items<Value>,
+    indices: Items<Shared>,
     push: bool,
-    value: Value,
+    value: Shared,
     state: &mut State,
 ) -> Result<Next<'p>, Halt>
     ensures { (setting : Setting)
@@ -222,28 +222,35 @@ fn combine_with<'p>(
     alloc: Global,
     op: BinaryOp,
     name: &'p Bytes,
-    indices: Items<Value>,
-    old: Value,
-    value: Value,
+    indices: Items<Shared>,
+    old: Shared,
+    value: Shared,
     state: &mut State,
 ) -> Result<Next<'p>, Halt>
     ensures { (setting : Setting)
         → Leads setting (λ k. value_rest setting (any_value.Combine op name.entry indices old) value k state.old)
         result state.new }
 {
-    let made = combine(alloc, op, name, indices.as_slice(), &old, &value, state);
+    let made = combine(
+        alloc,
+        op,
+        name,
+        indices.as_slice(),
+        old,
+        value.value(),
+        state,
+    );
     drop(indices);
-    drop(old);
     drop(value);
     given(made)
 }
 
 // The left operand of `??`, or the right one where it is missing.
-fn coalesce<'p>(left: Value, right: &'p Boxed<Expression>) -> Next<'p>
+fn coalesce<'p>(left: Shared, right: &'p Boxed<Expression>) -> Next<'p>
     ensures { (setting : Setting) (k : Follows) (s : AnyState)
         → next_rest setting result k s ≡ value_rest setting (any_value.Coalesce right.entry) left k s }
 {
-    if is_missing(&left) {
+    if is_missing(left.value()) {
         drop(left);
         Next {
             hand: Hand::Evaluate(right.as_ref()),
@@ -258,12 +265,12 @@ fn coalesce<'p>(left: Value, right: &'p Boxed<Expression>) -> Next<'p>
 fn choose<'p>(
     middle: &'p Option<Boxed<Expression>>,
     otherwise: &'p Boxed<Expression>,
-    test: Value,
+    test: Shared,
 ) -> Next<'p>
     ensures { (setting : Setting) (k : Follows) (s : AnyState)
         → next_rest setting result k s ≡ value_rest setting (any_value.Choose middle.entry otherwise.entry) test k s }
 {
-    if truthy(&test) {
+    if truthy(test.value()) {
         chosen(middle, test)
     } else {
         drop(test);
@@ -275,7 +282,7 @@ fn choose<'p>(
 }
 
 // The middle part of a conditional, or the value of its test where it has none.
-fn chosen<'p>(middle: &'p Option<Boxed<Expression>>, test: Value) -> Next<'p>
+fn chosen<'p>(middle: &'p Option<Boxed<Expression>>, test: Shared) -> Next<'p>
     ensures { (setting : Setting) (k : Follows) (s : AnyState)
         → next_rest setting result k s ≡ and_then (choice (option_map expression_run middle.now) test setting s)
         (to_value k) }
@@ -296,7 +303,7 @@ fn chosen<'p>(middle: &'p Option<Boxed<Expression>>, test: Value) -> Next<'p>
 pub(crate) fn receive_values<'p>(
     alloc: Global,
     work: ForValues<'p>,
-    values: Items<Value>,
+    values: Items<Shared>,
     state: &mut State,
 ) -> Result<Next<'p>, Halt>
     ensures { (setting : Setting)
@@ -321,13 +328,13 @@ pub(crate) fn receive_values<'p>(
 fn call_builtin<'p>(
     alloc: Global,
     function: Builtin,
-    values: Items<Value>,
+    values: Items<Shared>,
     state: &State,
 ) -> Result<Next<'p>, Halt>
     ensures { (setting : Setting)
         → Leads setting (λ k. values_rest setting (any_values.Builtin function) values k state.now) result state.now }
 {
-    let made = builtin_value(builtin(alloc, function, values.as_slice()), state);
+    let made = builtin_call(alloc, function, values.as_slice(), state);
     drop(values);
     given(made)
 }
@@ -338,7 +345,7 @@ fn step<'p>(
     op: UnaryOp,
     order: Order,
     name: &'p Bytes,
-    indices: Items<Value>,
+    indices: Items<Shared>,
     state: &mut State,
 ) -> Result<Next<'p>, Halt>
     ensures { (setting : Setting)
@@ -355,7 +362,7 @@ fn compound<'p>(
     alloc: Global,
     op: BinaryOp,
     name: &'p Bytes,
-    indices: Items<Value>,
+    indices: Items<Shared>,
     right: &'p Boxed<Expression>,
     state: &State,
 ) -> Result<Next<'p>, Halt>
@@ -379,7 +386,7 @@ fn compound<'p>(
 fn coalesce_assign<'p>(
     alloc: Global,
     name: &'p Bytes,
-    indices: Items<Value>,
+    indices: Items<Shared>,
     right: &'p Boxed<Expression>,
     state: &State,
 ) -> Result<Next<'p>, Halt>
@@ -399,9 +406,9 @@ fn coalesce_assign<'p>(
 // A `??=` whose place was read.
 fn or_assign<'p>(
     name: &'p Bytes,
-    indices: Items<Value>,
+    indices: Items<Shared>,
     right: &'p Boxed<Expression>,
-    old: Value,
+    old: Shared,
 ) -> Next<'p>
     ensures { (setting : Setting) (k : Follows) (s : AnyState)
         → next_rest setting result k s ≡ and_then (if missing old
@@ -423,7 +430,7 @@ fn or_assign<'p>(
 fn isset_place<'p>(
     alloc: Global,
     name: &'p Bytes,
-    indices: Items<Value>,
+    indices: Items<Shared>,
     rest: &'p [Place],
     state: &State,
 ) -> Result<Next<'p>, Halt>
@@ -440,15 +447,15 @@ fn isset_place<'p>(
 }
 
 // The value of a place of an `isset` was found.
-fn isset_found<'p>(found: Value, rest: &'p [Place]) -> Next<'p>
+fn isset_found<'p>(found: Shared, rest: &'p [Place]) -> Next<'p>
     ensures { (setting : Setting) (k : Follows) (s : AnyState)
         → next_rest setting result k s ≡ if missing found then to_value k (any_kind.Bool false) s
         else isset_after setting rest.now k s }
 {
-    let missing = is_missing(&found);
+    let missing = is_missing(found.value());
     drop(found);
     if missing {
-        give(Value::Bool(false))
+        give(Shared::of(Value::Bool(false)))
     } else {
         Next {
             hand: Hand::Isset(rest),

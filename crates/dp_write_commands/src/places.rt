@@ -5,6 +5,7 @@ ghost use Rattle.dp_meaning.specs.Writes.{place_or_fault, with_place};
 ghost use Rattle.dp_state.specs.Places.{assigned, given_keys as all_given};
 ghost use Rattle.dp_write_commands.specs.inner.Making.{Puts};
 
+use dp_shared::Shared;
 use dp_state::{Fault, Path, State};
 use dp_value::{Key, Memory, Value};
 use dp_view::ViewError;
@@ -32,7 +33,7 @@ fn put_keyed(
     ensures { Puts (place_or_fault (assigned level path.now.name keys.now false value.now state.old))
         state.old state.new result }
 {
-    let value = value.try_clone()?;
+    let value = Shared::of(value.try_clone()?);
     match state.assign(level, &path.name, keys, false, value) {
         Ok(()) => Ok(()),
         Err(Fault::Fatal(_)) => Err(ViewError::Code(300)),

@@ -11,7 +11,6 @@ use Rattle.dp_tree.specs.declared.tree.Expression.{Expression, size-Expression a
 use Rattle.dp_tree.specs.declared.tree.Place.{Place, size-Place}
 use Rattle.dp_meaning.specs.inner.Evaluation.{goes_by}
 use Rattle.dp_actions.specs.Calls.{callee_of}
-use Rattle.dp_actions.specs.InPlace.{entries_by}
 use Rattle.dp_actions.specs.Expressions.{evaluation, evaluations}
 use Rattle.dp_meaning.specs.inner.Sizes.{arm_size, body_size, expressions_size, kind_size, sizes_sum, statement_size}
 use Rattle.dp_meaning.specs.Statements.{arms_run, statement_run}
@@ -20,7 +19,6 @@ use Rattle.dp_meaning.specs.Statements.{arm_run}
 use Rattle.dp_value.specs.declared.value.Value.TheVariants as variant
 use Rattle.dp_meaning.proofs.CallLaws.{bounded-do, bounded-turns, call-is, file-is, next-done, runs-for, setting-bundle, suc-call, suc-include, zero-call, zero-include}
 use Rattle.dp_meaning.proofs.Drives.{at_once, breaks_off, ends, exits, gives, goes_on, joined_off, joined_on, passes, stops_at, tested_off, tested_on, then_at, then_on}
-use Rattle.dp_meaning.proofs.InPlace.{base-plain, one-variable, reads-in-place}
 use Rattle.dp_actions.proofs.Layers.{found-plain, run-Array, run-Assign, run-Bool, run-Call, run-Chain, run-Coalesce, run-CoalesceAssign, run-Compound, run-Conditional, run-Include, run-Index, run-Isset, run-item-None, run-item-Some, run-link, run-Null, run-Number, run-place, run-Push, run-Step, run-Text, run-Unary, run-Variable}
 use Rattle.dp_meaning.proofs.Layers.{kind-Block, kind-Break, kind-Continue, kind-DoWhile, kind-Echo, kind-Empty, kind-Exit, kind-Expression, kind-For, kind-Foreach, kind-Global, kind-If, kind-Return, kind-Unset, kind-While, run-arm, run-statement}
 use Rattle.dp_meaning.proofs.ListLaws.{front, front-at, values-all, values-break, values-first, values-more}
@@ -30,16 +28,17 @@ use Rattle.dp_actions.proofs.Tails.{kept-none, kept-some, present-none, present-
 use Rattle.dp_meaning.proofs.evaluator.Evaluator.+evaluate.Goals as goal
 
 pub expression-returns-in-Null : goal.expression-returns-in-Null
-expression-returns-in-Null g t c = rw (c.in-Null.is, run-Null) gives
+expression-returns-in-Null g t c = rw (c.in-Null.is, run-Null, c.of.ensures) gives
 
 pub expression-returns-in-Bool : goal.expression-returns-in-Bool
-expression-returns-in-Bool g t c = rw (c.in-Bool.is, run-Bool) gives
+expression-returns-in-Bool g t c = rw (c.in-Bool.is, run-Bool, c.of-in-Bool.ensures) gives
 
 pub expression-returns-in-Number : goal.expression-returns-in-Number
 expression-returns-in-Number g t c =
     let fits : SFits w64 c.in-Number.n = search rules in rw (
       c.in-Number.is,
       run-Number,
+      c.of-in-Number.ensures,
       to_z-of_z w64 c.in-Number.n fits,
     ) gives
 
@@ -137,74 +136,38 @@ pub inclusion-returns-in_err-value : goal.inclusion-returns-in_err-value
 inclusion-returns-in_err-value g t c = exits _ _ c.from_residual.ensures.1 (breaks_off _ c.in_err-value.ensures)
 
 pub inclusion-returns : goal.inclusion-returns
-inclusion-returns g t c = goes_on _ c.in_ok-value.ensures c.include-answer.ensures
+inclusion-returns g t c = goes_on _ c.in_ok-value.ensures (rw c.value.ensures at c.include-answer.ensures)
 
-pub index-returns-in_err-value-in-Some : goal.index-returns-in_err-value-in-Some
-index-returns-in_err-value-in-Some g t c =
-    exits _ _ c.from_residual.ensures.1 (rw (
-      c.in-Some.ensures.base_is,
-      c.in-Some.ensures.indices_are,
-      run-Variable,
-      base-plain,
-    ) (goes_on _ gives
-    (joined_off _ _ _ c.in_err-value-in-Some.ensures)))
+pub index-returns-in_err-value : goal.index-returns-in_err-value
+index-returns-in_err-value g t c = exits _ _ c.from_residual.ensures.1 (breaks_off _ c.in_err-value.ensures)
 
-pub index-returns-in_ok-value-in-Some : goal.index-returns-in_ok-value-in-Some
-index-returns-in_ok-value-in-Some g t c =
-    rw (c.in-Some.ensures.base_is, c.in-Some.ensures.indices_are, run-Variable, base-plain) (goes_on _ gives
-    (joined_on _ _ _ c.in_ok-value-in-Some.ensures c.under.ensures))
+pub index-returns : goal.index-returns
+index-returns g t c = goes_on _ c.in_ok-value.ensures c.under.ensures
 
-pub index-returns-in_err-value-in-None : goal.index-returns-in_err-value-in-None
-index-returns-in_err-value-in-None g t c =
-    exits _ _ c.from_residual-in_err-value-in-None.ensures.1 (breaks_off _ c.in_err-value-in-None.ensures)
+pub under-loop-e-init : goal.under-loop-e-init
+under-loop-e-init g t c = λ x u e. rw c.of-inside.ensures at e
 
-pub index-returns-in_ok-value-in-None : goal.index-returns-in_ok-value-in-None
-index-returns-in_ok-value-in-None g t c = goes_on _ c.in_ok-value-in-None.ensures c.under-in-None.ensures
+pub under-returns-in_err-inside : goal.under-returns-in_err-inside
+under-returns-in_err-inside g t c =
+    exits _ _ c.from_residual.ensures.1 (c.loop-e.invariant _ _
+    (rw (front _ c.loop-e.e-index c.e-item.result c.loop-e-test.true c.e-item.is)
+    (joined_off _ _ _ (then_on c.expression-at.ensures c.in_err-inside.ensures))))
 
-pub index-variable_entry-requires : goal.index-variable_entry-requires
-index-variable_entry-requires g t c =
-    λ κs h. (
-      omega (arith, ap (λ (es : List Expression). most nesting es) c.in-Some.ensures.indices_are, c.decreases),
-      (h, c.in-Some.ensures.index_is_pure),
-    )
+pub under-loop-e-preserved : goal.under-loop-e-preserved
+under-loop-e-preserved g t c =
+    λ x u e. c.loop-e.invariant x u (rw (front _ c.loop-e.e-index c.e-item.result c.loop-e-test.true c.e-item.is)
+    (joined_on _ _ _ (then_on c.expression-at.ensures c.in_ok-inside.ensures) e))
 
-pub index-under-requires : goal.index-under-requires
-index-under-requires g t c =
-    λ κs h. (
-      omega (arith, ap (λ (es : List Expression). most nesting es) c.in-Some.ensures.indices_are, c.decreases),
-      h,
-    )
-
-pub variable_entry-returns-in_err-at : goal.variable_entry-returns-in_err-at
-variable_entry-returns-in_err-at g t c = exits _ _ c.from_residual.ensures.1 (breaks_off _ c.in_err-at.ensures)
-
-pub variable_entry-returns : goal.variable_entry-returns
-variable_entry-returns g t c =
-    reads-in-place (g.O.Outside.rules c.args.self.now.outside.now)
-    (goes_by c.args.self.now) (entries_by c.args.reading) c.args.name.now c.args.e.now c.requires c.args.state.now _ _ _
-    c.in_ok-at.ensures
-    (at_once c.entry_in_place-answer.ensures)
+pub under-returns : goal.under-returns
+under-returns g t c =
+    c.loop-e.invariant _ _ (rw (drop_of_length-le c.args.indices.now c.loop-e-test.false, c.in_ok-into_shared.ensures)
+    gives)
 
 pub base-returns-in-Plain : goal.base-returns-in-Plain
 base-returns-in-Plain g t c = rw c.in-Plain.is c.expression.ensures
 
 pub base-returns-in-Found : goal.base-returns-in-Found
 base-returns-in-Found g t c = rw c.in-Found.is c.found.ensures
-
-pub under-returns-in_err-value : goal.under-returns-in_err-value
-under-returns-in_err-value g t c =
-    exits _ _ c.from_residual.ensures.1 (c.loop-e.invariant _ _
-    (rw (front _ c.loop-e.e-index c.e-item.result c.loop-e-test.true c.e-item.is)
-    (joined_off _ _ _ (then_on c.expression-at.ensures (rw (sym c.in_err-value.ensures) at
-    c.then_entry-next.ensures)))))
-
-pub under-loop-e-preserved : goal.under-loop-e-preserved
-under-loop-e-preserved g t c =
-    λ x u e. c.loop-e.invariant x u (rw (front _ c.loop-e.e-index c.e-item.result c.loop-e-test.true c.e-item.is)
-    (joined_on _ _ _ (then_on c.expression-at.ensures (rw (sym c.in_ok-value.ensures) at c.then_entry-next.ensures)) e))
-
-pub under-returns : goal.under-returns
-under-returns g t c = c.loop-e.invariant _ _ (rw (drop_of_length-le c.args.indices.now c.loop-e-test.false) gives)
 
 pub array-returns-in_err-array : goal.array-returns-in_err-array
 array-returns-in_err-array g t c =
@@ -219,7 +182,8 @@ array-loop-item-preserved g t c =
     (goes_on _ c.in_ok-array.ensures e))
 
 pub array-returns : goal.array-returns
-array-returns g t c = c.loop-item.invariant _ _ (rw (drop_of_length-le c.args.items.now c.loop-item-test.false) gives)
+array-returns g t c =
+    c.loop-item.invariant _ _ (rw (drop_of_length-le c.args.items.now c.loop-item-test.false, c.of.ensures) gives)
 
 pub item-returns-in-None : goal.item-returns-in-None
 item-returns-in-None g t c =
@@ -230,7 +194,8 @@ item-returns-in-Some g t c = rw (run-item-Some c.args.item.now _ c.in-Some.is) c
 
 pub keyed-returns-in-Ok : goal.keyed-returns-in-Ok
 keyed-returns-in-Ok g t c =
-    goes_on _ (rw c.in-Ok.is at c.expression.ensures) (then_on c.expression-in-Ok.ensures c.then_put-answer.ensures)
+    goes_on _ (rw c.in-Ok.is at c.expression.ensures) (then_on c.expression-in-Ok.ensures
+    (rw c.value.ensures at c.then_put-answer.ensures))
 
 pub keyed-returns-in-Err : goal.keyed-returns-in-Err
 keyed-returns-in-Err g t c = breaks_off _ (rw c.in-Err.is at c.expression.ensures)
@@ -245,32 +210,32 @@ pub links-returns-in_err-value : goal.links-returns-in_err-value
 links-returns-in_err-value g t c =
     exits _ _ c.from_residual.ensures.1 (c.loop-link.invariant _ _ (rw
     (front _ c.loop-link.link-index c.link-item.result c.loop-link-test.true c.link-item.is)
-    (breaks_off _ (rw (sym c.in_err-value.ensures) at c.link-next.ensures))))
+    (breaks_off _ c.in_err-value.ensures)))
 
 pub links-loop-link-preserved : goal.links-loop-link-preserved
 links-loop-link-preserved g t c =
     λ x u e. c.loop-link.invariant x u (rw (front _ c.loop-link.link-index c.link-item.result c.loop-link-test.true
     c.link-item.is)
-    (goes_on _ (rw (sym c.in_ok-value.ensures) at c.link-next.ensures) e))
+    (goes_on _ c.in_ok-value.ensures e))
 
 pub links-returns : goal.links-returns
 links-returns g t c = c.loop-link.invariant _ _ (rw (drop_of_length-le c.args.links.now c.loop-link-test.false) gives)
 
-pub link-returns-then-truthy : goal.link-returns-then-truthy
-link-returns-then-truthy g t c = rw (run-link, c.in-Or.is, sym c.truthy.ensures ∙ c.if-truthy.true) gives
+pub link-returns-then-holds : goal.link-returns-then-holds
+link-returns-then-holds g t c = rw (run-link, c.in-Or.is, sym c.holds.ensures ∙ c.if-holds.true, c.of.ensures) gives
 
-pub link-returns-else-truthy : goal.link-returns-else-truthy
-link-returns-else-truthy g t c =
-    rw (run-link, c.in-Or.is, sym c.truthy.ensures ∙ c.if-truthy.false)
+pub link-returns-else-holds : goal.link-returns-else-holds
+link-returns-else-holds g t c =
+    rw (run-link, c.in-Or.is, sym c.holds.ensures ∙ c.if-holds.false)
     (then_on c.expression.ensures (c.then_truth.ensures _))
 
-pub link-returns-then-not-truthy : goal.link-returns-then-not-truthy
-link-returns-then-not-truthy g t c =
-    rw (run-link, c.in-And.is, sym c.truthy-in-And.ensures ∙ c.if-not-truthy.true) gives
+pub link-returns-then-not-holds : goal.link-returns-then-not-holds
+link-returns-then-not-holds g t c =
+    rw (run-link, c.in-And.is, sym c.holds-in-And.ensures ∙ c.if-not-holds.true, c.of-in-And.ensures) gives
 
-pub link-returns-else-not-truthy : goal.link-returns-else-not-truthy
-link-returns-else-not-truthy g t c =
-    rw (run-link, c.in-And.is, sym c.truthy-in-And.ensures ∙ c.if-not-truthy.false) (then_on c.expression-in-And.ensures
+pub link-returns-else-not-holds : goal.link-returns-else-not-holds
+link-returns-else-not-holds g t c =
+    rw (run-link, c.in-And.is, sym c.holds-in-And.ensures ∙ c.if-not-holds.false) (then_on c.expression-in-And.ensures
     (c.then_truth-in-And.ensures _))
 
 pub link-returns-in-Of : goal.link-returns-in-Of
@@ -349,7 +314,7 @@ compound_under-returns-in_err-old g t c =
 
 pub compound_under-returns : goal.compound_under-returns
 compound_under-returns g t c =
-    goes_on _ (at_once c.in_ok-old.ensures) (then_on c.expression-value.ensures c.then_combine-answer.ensures)
+    goes_on _ (at_once c.in_ok-old.ensures) (then_on c.expression-value.ensures c.then_combine.ensures)
 
 pub coalesce_under-returns-in_err-old : goal.coalesce_under-returns-in_err-old
 coalesce_under-returns-in_err-old g t c =
@@ -375,17 +340,22 @@ pub isset-returns-then-missing : goal.isset-returns-then-missing
 isset-returns-then-missing g t c =
     c.loop-place.invariant _ _ (rw (front _ c.loop-place.place-index c.place-item.result c.loop-place-test.true
     c.place-item.is)
-    (joined_on _ _ _ c.in_ok-found.ensures (rw (sym c.is_missing-missing.ensures ∙ c.if-missing.true) gives)))
+    (joined_on _ _ _ c.in_ok-found.ensures (rw (
+      sym (rw c.value.ensures at c.is_missing-missing.ensures)
+          ∙ c.if-missing.true,
+      c.of.ensures,
+    ) gives)))
 
 pub isset-loop-place-preserved : goal.isset-loop-place-preserved
 isset-loop-place-preserved g t c =
     λ x u e. c.loop-place.invariant x u (rw (front _ c.loop-place.place-index c.place-item.result c.loop-place-test.true
     c.place-item.is)
-    (joined_on _ _ _ c.in_ok-found.ensures (rw (sym c.is_missing-missing.ensures ∙ c.if-missing.false) e)))
+    (joined_on _ _ _ c.in_ok-found.ensures (rw (sym (rw c.value.ensures at c.is_missing-missing.ensures)
+    ∙ c.if-missing.false) e)))
 
 pub isset-returns : goal.isset-returns
 isset-returns g t c =
-    c.loop-place.invariant _ _ (rw (drop_of_length-le c.args.places.now c.loop-place-test.false) gives)
+    c.loop-place.invariant _ _ (rw (drop_of_length-le c.args.places.now c.loop-place-test.false, c.of-2.ensures) gives)
 
 pub unset-returns-in_err-indices : goal.unset-returns-in_err-indices
 unset-returns-in_err-indices g t c =
@@ -421,19 +391,12 @@ named-returns-in-Some-BuiltIn g t c =
     rw (sym c.look_up.ensures ∙ ap (option_map callee_of) c.in-Some-BuiltIn.is, c.in-Some-BuiltIn.field-0-is)
     c.call_builtin.ensures
 
-pub call_builtin-returns-in-Some : goal.call_builtin-returns-in-Some
-call_builtin-returns-in-Some g t c =
-    rw c.in-Some.ensures (goes_on _ (one-variable (g.O.Outside.rules c.args.self.now.outside.now)
-    (goes_by c.args.self.now) c.in-Some.name.now c.args.state.now) (at_once c.builtin_in_place.ensures))
+pub call_builtin-returns-in_err-values : goal.call_builtin-returns-in_err-values
+call_builtin-returns-in_err-values g t c = exits _ _ c.from_residual.ensures.1 (breaks_off _ c.in_err-values.ensures)
 
-pub call_builtin-returns-in_err-values-in-None : goal.call_builtin-returns-in_err-values-in-None
-call_builtin-returns-in_err-values-in-None g t c =
-    exits _ _ c.from_residual.ensures.1 (breaks_off _ c.in_err-values-in-None.ensures)
-
-pub call_builtin-returns-in_ok-values-in-None : goal.call_builtin-returns-in_ok-values-in-None
-call_builtin-returns-in_ok-values-in-None g t c =
-    goes_on _ c.in_ok-values-in-None.ensures (at_once (rw c.as_slice.ensures at
-    (c.builtin_value.ensures _ c.builtin.ensures)))
+pub call_builtin-returns : goal.call_builtin-returns
+call_builtin-returns g t c =
+    goes_on _ c.in_ok-values.ensures (at_once (rw c.as_slice.ensures at c.builtin_call.ensures))
 
 pub named-returns-in_err-values-in-Some-Declared : goal.named-returns-in_err-values-in-Some-Declared
 named-returns-in_err-values-in-Some-Declared g t c =
@@ -541,7 +504,7 @@ included-returns g t c =
     rw (file-is c.args.self.now.bundle.now c.args.self.now.bound c.args.self.now.depth c.args.file c.args.state.now)
     (goes_on _
     (at_once c.in_ok-enter_file.ensures) (goes_on _ (rw c.statements_of.ensures at c.in_ok-signal.ensures) (rw
-    (c.leave.ensures, c.returned.ensures) gives)))
+    (c.leave.ensures, c.returned.ensures, c.of.ensures) gives)))
 
 pub body-returns-in_err-statement : goal.body-returns-in_err-statement
 body-returns-in_err-statement g t c =
@@ -713,9 +676,6 @@ for_turns-returns g t c =
 pub foreach-returns-in_err-subject : goal.foreach-returns-in_err-subject
 foreach-returns-in_err-subject g t c = exits _ _ c.from_residual.ensures.1 (breaks_off _ c.in_err-subject.ensures)
 
-pub foreach-returns : goal.foreach-returns
-foreach-returns g t c = goes_on _ c.in_ok-subject.ensures c.each-answer.ensures
-
 pub echo-returns-in_err-then_print : goal.echo-returns-in_err-then_print
 echo-returns-in_err-then_print g t c =
     exits _ _ c.from_residual.ensures.1 (c.loop-operand.invariant _ _ (rw
@@ -781,7 +741,7 @@ arms-returns-in-Some g t c =
     (rw c.as_ref.ensures at c.statement-in-Some.ensures))
 
 pub return_value-returns-in-None : goal.return_value-returns-in-None
-return_value-returns-in-None g t c = rw c.in-None.is gives
+return_value-returns-in-None g t c = rw (c.in-None.is, c.of.ensures) gives
 
 pub return_value-returns-in-Some : goal.return_value-returns-in-Some
 return_value-returns-in-Some g t c = rw c.in-Some.is (then_on c.expression.ensures (c.then_return.ensures _))
@@ -904,6 +864,9 @@ do_turns-loop-turn-preserved g t c =
 pub do_turns-returns : goal.do_turns-returns
 do_turns-returns g t c =
     let n : c.args.left - c.loop-turn._turn ≡ 0 = omega arith in c.loop-turn.invariant _ _ (rw n ends)
+
+pub foreach-returns : goal.foreach-returns
+foreach-returns g t c = goes_on _ c.in_ok-subject.ensures (rw c.value.ensures at c.each-answer.ensures)
 
 pub each-loop-at-init : goal.each-loop-at-init
 each-loop-at-init g t c = λ x u e. rw c.in-Array.is e

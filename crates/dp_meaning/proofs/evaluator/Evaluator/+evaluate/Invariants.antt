@@ -182,9 +182,6 @@ decreases-unset g l = l.self.now.depth * frame_size l.self.now.bundle.now + (4 *
 abbrev pub decreases-values : goal.decreases-values
 decreases-values g l = l.self.now.depth * frame_size l.self.now.bundle.now + (4 * most size-Expression l.all.now + 1)
 
-abbrev pub decreases-variable_entry : goal.decreases-variable_entry
-decreases-variable_entry g l = l.self.now.depth * frame_size l.self.now.bundle.now + (4 * size-Expression l.e.now + 1)
-
 abbrev pub invariant-values-loop-e : goal.invariant-values-loop-e
 invariant-values-loop-e g l = (x : Result (List Value) Halt) (t : State)
     → Evaluates (g.O.Outside.rules l.self.outside.now) (more_values (drop l.e-index l.all) l.values.items
@@ -269,7 +266,7 @@ invariant-each-loop-at g l = (x : Result Signal Halt) (t : State)
 abbrev pub invariant-under-loop-e : goal.invariant-under-loop-e
 invariant-under-loop-e g l = (x : Result Value Halt) (t : State)
     → Evaluates (g.O.Outside.rules l.self.outside.now) (indices_run (entries_by l.reading)
-    (map expression_run (drop l.e-index l.indices)) l.value
+    (map expression_run (drop l.e-index l.indices)) l.inside
     (goes_by l.self) l.state) x t
     → Evaluates (g.O.Outside.rules l.self.outside.now) (indices_run (entries_by l.reading)
     (map expression_run l.indices) l.fn.base (goes_by l.self) l.fn.state) x t

@@ -2,7 +2,6 @@ use Rattle.std.proofs.Common.{◌-◌, ◌≤◌, ◌≡◌, ℕ, Ok, Result, le
 use Rattle.dp_state.specs.Places.{unset}
 use Rattle.dp_state.specs.inner.Parts.{removed_in}
 use Rattle.dp_state.specs.States.{own_variables}
-use Rattle.dp_state.proofs.Removals.{sure_by}
 use Rattle.dp_state.proofs.Writing.{on_ok, on_refused, on_err, unset-home, with_result, within-still}
 use Rattle.dp_state.proofs.state.State.unset.Goals as goal
 
@@ -40,9 +39,3 @@ returns-clause-err c =
     on_err c.home-at.result c.args.self.now c.take_own-vars.new.self c.exchange_own.new.self c.take_own-vars.result
     c.remove_in-done.new.vars c.take_own-vars.ensures.taken c.take_own-vars.ensures.left c.exchange_own.ensures.given
     c.remove_in-done.result c.home-at.ensures.within c.remove_in-done.ensures.err
-
-pub returns-clause-sure : goal.returns-clause-sure
-returns-clause-sure c =
-    sure_by (unset c.args.name.now c.args.keys.now c.args.self.now) c.remove_in-done.result c.exchange_own.new.self
-    (returns-clause-ok c)
-    (returns-clause-refused c) c.remove_in-done.ensures.memory

@@ -1,0 +1,15 @@
+use Rattle.std.proofs.Common.{◌≡◌, List, [], arith}
+use Rattle.std.proofs.lemmas.Bool.Decides.{nat_tests}
+use Rattle.std.proofs.lemmas.List.{nil_from_length}
+use Rattle.dp_value.specs.declared.value.Value.{Value}
+use Rattle.dp_state.proofs.ValueLemmas.{value_of-data_of}
+use Rattle.dp_actions.proofs.places.place_by.Goals as goal
+
+pub returns-then-is_empty : goal.returns-then-is_empty
+returns-then-is_empty c =
+    let none : c.args.indices.now ≡ [] = nil_from_length c.args.indices.now
+    (grind (arith, nat_tests, c.is_empty.ensures, c.if-is_empty.true)) in
+    rw (none, value_of-data_of) c.variable_value.ensures
+
+pub returns-in-Some : goal.returns-in-Some
+returns-in-Some c = rw c.value.ensures at (c.value_of.ensures _ c.entry_by.ensures)

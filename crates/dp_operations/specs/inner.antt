@@ -1,2 +1,0 @@
--- What only proofs speak of. No public clause cites these.
-pub mod Found

@@ -1,0 +1,20 @@
+-- What keys lead to, with one key more, and values by what they stand for.
+use Rattle.std.proofs.Common.{◌≡◌, List, [], ◌∷◌, ◌++◌, refl, ap}
+use Rattle.dp_value.specs.declared.key.Key.{Key}
+use Rattle.dp_value.specs.declared.value.Value.{Value}
+use Rattle.dp_value.specs.declared.value.Value.TheVariants.{Null, Bool, Int, Text, Array}
+use Rattle.dp_value.specs.inner.Codes.{table_from-data_of_table}
+use Rattle.dp_value.specs.Value.{data_of, value_of}
+use Rattle.dp_shared.specs.Inside.{inside_of, stepped}
+
+pub value_of-data_of : (v : Value) → value_of (data_of v) ≡ v
+value_of-data_of Null = refl
+value_of-data_of (Bool b) = refl
+value_of-data_of (Int n) = refl
+value_of-data_of (Text bytes) = refl
+value_of-data_of (Array t) = ap Array (table_from-data_of_table t)
+
+pub inside-more : (v : Value) (keys : List Key) (key : Key)
+    → inside_of v (keys ++ key ∷ []) ≡ stepped (inside_of v keys) key
+inside-more v [] key = refl
+inside-more v (k ∷ keys) key = inside-more (stepped v k) keys key
