@@ -5,6 +5,7 @@ pub mod Declared
 pub mod Slots
 pub mod Homes
 pub mod Writing
+pub mod Removals
 pub mod Parameters
 pub mod Kept
 pub mod Growing

@@ -1,11 +1,13 @@
 //! Writes and removals among variables.
 
-ghost use Rattle.std.specs.Prelude.{◌≡◌, [], false, not, is_some, None, Ok, Err, IfOk, IfErr, OnOk, OnErr};
+ghost use Rattle.std.specs.Prelude.{◌≡◌, ◌⊎◌, [], false, not, is_some, None, Ok, Err, IfOk, IfErr, OnOk, OnErr};
 ghost use Rattle.dp_state.specs.Variables.{slot_of, value_held, with_slot};
 ghost use Rattle.dp_state.specs.Places.{with_null};
-ghost use Rattle.dp_state.specs.inner.Parts.{assigned_in, removed_in, IsCauseIn};
+ghost use Rattle.dp_state.specs.inner.Parts.{assigned_in, removed_in, IsCauseIn, IsSureIn};
 ghost use Rattle.dp_state.specs.States.{IsFatal};
+ghost use Rattle.dp_state.specs.declared.state.Fault.TheVariants as fault;
 ghost use Rattle.dp_shared.specs.Pieces.{with_piece};
+ghost use Rattle.dp_value.specs.declared.value.Value.TheVariants as variant;
 ghost use Rattle.dp_state.specs.declared.vars.Slot.TheVariants as variable;
 
 use crate::moments::FatalKind;
@@ -74,7 +76,10 @@ pub(crate) fn append_in(
     ensures longer { IfOk result (λ longer. longer ≡ with_piece text piece.now) }
     ensures ok { OnOk result (assigned_in name.now [] false (with_piece text piece.now) vars.old ≡ Ok vars.new) }
     ensures refused { IfErr result (IsCauseIn (assigned_in name.now [] false (with_piece text piece.now) vars.old)) }
+    ensures sure { IsSureIn (assigned_in name.now [] false (with_piece text piece.now) vars.old) result }
     ensures err { IsFatal result → vars.new ≡ vars.old }
+    ensures memory { result ≡ Err fault.Memory
+        → (vars.new ≡ vars.old) ⊎ (assigned_in name.now [] false variant.Null vars.old ≡ Ok vars.new) }
 {
     if text.is_beyond(piece) {
         return Err(Fault::Fatal(FatalKind::TooHeavy));
@@ -104,6 +109,7 @@ fn twice(alloc: Global, text: Shared, piece: &[u8]) -> Result<(Shared, Shared), 
 pub(crate) fn remove_in(vars: &mut Vars, name: &Bytes, keys: &[Option<Key>]) -> Result<(), Fault>
     ensures ok { OnOk result (removed_in name.now keys.now vars.old ≡ Ok vars.new) }
     ensures refused { IfErr result (IsCauseIn (removed_in name.now keys.now vars.old)) }
+    ensures sure { IsSureIn (removed_in name.now keys.now vars.old) result }
     ensures err { OnErr result (vars.new ≡ vars.old) }
 {
     let alloc = vars.allocator();

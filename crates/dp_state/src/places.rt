@@ -1,9 +1,11 @@
 //! Writes of variables and of their entries, and `unset` and `global`.
 
-ghost use Rattle.std.specs.Prelude.{◌≡◌, ◌≤◌, false, ◌<◌, ◌-◌, [], Ok, Err, Some, length, option_map, slice_get, IfOk};
+ghost use Rattle.std.specs.Prelude.{◌≡◌, ◌⊎◌, ◌≤◌, ◌<◌, ◌-◌, false, [], Ok, Err, Some, length, option_map, slice_get, IfOk};
 ghost use Rattle.std.specs.Prelude.{IfErr, OnOk, OnErr};
-ghost use Rattle.dp_state.specs.States.{own_variables, IsCause, IsFatal};
+ghost use Rattle.dp_state.specs.States.{own_variables, IsCause, IsFatal, IsSure};
+ghost use Rattle.dp_state.specs.declared.state.Fault.TheVariants as fault;
 ghost use Rattle.dp_shared.specs.Pieces.{with_piece};
+ghost use Rattle.dp_value.specs.declared.value.Value.TheVariants as variant;
 ghost use Rattle.dp_state.specs.Variables.{slot_of};
 ghost use Rattle.dp_state.specs.Places.{assigned, is_bound as is_mark, unset, with_global, with_own, with_vars};
 ghost use Rattle.dp_state.specs.Places.{without_variable};
@@ -47,13 +49,16 @@ impl State {
     /// empty one. Where the text has no owner but the one that is given here and the variable itself, it grows in its
     /// place.
     ///
-    /// `TooHeavy` comes exactly where the text would weigh more than a value may, and then the state is as before.
-    /// After out of memory the variable may be null.
+    /// `TooHeavy` comes exactly where the text would weigh more than a value may, also where there is no memory, and
+    /// then the state is as before. After out of memory it is as before, or the variable is null.
     pub fn append(&mut self, name: &Bytes, text: Shared, piece: &[u8]) -> Result<Shared, Fault>
         ensures longer { IfOk result (λ longer. longer ≡ with_piece text piece.now) }
         ensures ok { OnOk result (assigned 0 name.now [] false (with_piece text piece.now) self.old ≡ Ok self.new) }
         ensures refused { IfErr result (IsCause (assigned 0 name.now [] false (with_piece text piece.now) self.old)) }
+        ensures sure { IsSure (assigned 0 name.now [] false (with_piece text piece.now) self.old) result }
         ensures err { IsFatal result → self.new ≡ self.old }
+        ensures memory { result ≡ Err fault.Memory
+            → (self.new ≡ self.old) ⊎ (assigned 0 name.now [] false variant.Null self.old ≡ Ok self.new) }
     {
         let at = self.home(0, name);
         let mut vars = self.take_own(at);
@@ -67,11 +72,12 @@ impl State {
     /// entry of it is an entry of the global variable. Where the variable or an entry on the way is missing, nothing
     /// changes. Takes memory only where the value of the variable has other owners too: then it is copied.
     ///
-    /// The causes are tried key by key: `Scalar` and `Unsupported` by what holds the entry, then `BadKey`. After a
-    /// refusal the state is as before.
+    /// The causes are tried key by key: `Scalar` and `Unsupported` by what holds the entry, then `BadKey`, all also
+    /// where there is no memory. After a refusal, and after out of memory, the state is as before.
     pub fn unset(&mut self, name: &Bytes, keys: &[Option<Key>]) -> Result<(), Fault>
         ensures ok { OnOk result (unset name.now keys.now self.old ≡ Ok self.new) }
         ensures refused { IfErr result (IsCause (unset name.now keys.now self.old)) }
+        ensures sure { IsSure (unset name.now keys.now self.old) result }
         ensures err { OnErr result (self.new ≡ self.old) }
     {
         if keys.is_empty() {

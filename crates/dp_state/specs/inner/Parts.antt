@@ -59,3 +59,7 @@ removed_in name keys variables =
 abbrev pub IsCauseIn : Result Variables FatalKind → Fault → Type 0
 IsCauseIn asked fault.Memory = ⊤
 IsCauseIn asked (fault.Fatal kind) = asked ≡ Err kind
+
+-- what is refused by what is asked is refused so, whatever memory there is
+abbrev pub IsSureIn : {A : Type 0} → Result Variables FatalKind → Result A Fault → Type 0
+IsSureIn asked result = (kind : FatalKind) → asked ≡ Err kind → result ≡ Err (fault.Fatal kind)
