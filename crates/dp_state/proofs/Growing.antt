@@ -1,6 +1,5 @@
 -- A text that a variable gets, where it is light enough.
-use Rattle.std.proofs.Common.{◌≡◌, Bool, true, false, not, cond, nat_le, Result, Ok, Err, [], refl}
-use Rattle.dp_value.specs.declared.errors.WriteError.{WriteError}
+use Rattle.std.proofs.Common.{◌≡◌, Bool, true, false, not, cond, nat_le, Ok, Err, [], refl}
 use Rattle.dp_value.specs.declared.errors.WriteError.TheVariants.{TooHeavy}
 use Rattle.dp_value.specs.Data.{Data, weight_of}
 use Rattle.dp_value.specs.Entry.{write_result}
@@ -10,13 +9,6 @@ light-by : (b : Bool) (d : Data) → not b ≡ false → cond b (Ok d) (Err TooH
 light-by true d h = refl
 light-by false d h = absurd (cc)
 
-heavy-by : (b : Bool) (d : Data) → not b ≡ true → cond b (Ok d) (Err TooHeavy) ≡ Err TooHeavy
-heavy-by true d h = absurd (cc)
-heavy-by false d h = refl
-
 -- the whole variable is written
 pub light : (d old : Data) → not (nat_le (weight_of d) weight_limit) ≡ false → write_result [] false d old ≡ Ok d
 light d old h = light-by (nat_le (weight_of d) weight_limit) d h
-
-pub heavy : (d old : Data) → not (nat_le (weight_of d) weight_limit) ≡ true → write_result [] false d old ≡ Err TooHeavy
-heavy d old h = heavy-by (nat_le (weight_of d) weight_limit) d h

@@ -1,5 +1,5 @@
 -- Parameters that are set one after another.
-use Rattle.std.proofs.Common.{◌≡◌, ℕ, suc, ◌+◌, List, [], ◌∷◌, length, refl, ap, arith}
+use Rattle.std.proofs.Common.{◌≡◌, ℕ, List, [], ◌∷◌, length, refl, arith}
 use Rattle.dp_state.specs.Functions.{with_parameters}
 use Rattle.dp_state.specs.Variables.{Variables}
 use Rattle.dp_value.specs.declared.value.Value.{Value}

@@ -1,5 +1,5 @@
 -- A removal that is refused is refused for no want of memory, and surely.
-use Rattle.std.proofs.Common.{◌≡◌, ◌≢◌, ◌==◌, Bool, true, false, if◌then◌else◌, List, [], ◌∷◌, ℕ, length, Option, Some, None, Result, Ok, Err, refl, ap, sym, ◌∙◌}
+use Rattle.std.proofs.Common.{◌≡◌, ◌≢◌, ◌==◌, Bool, true, false, if◌then◌else◌, List, [], ◌∷◌, ℕ, length, Option, Some, None, Result, Ok, Err, refl, ap, ◌∙◌}
 use Rattle.dp_value.specs.declared.errors.WriteError.{WriteError}
 use Rattle.dp_value.specs.declared.errors.WriteError.TheVariants as write
 use Rattle.dp_value.specs.declared.key.Key.{Key}

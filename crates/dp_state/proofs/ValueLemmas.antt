@@ -1,9 +1,8 @@
 -- Values and what they stand for.
-use Rattle.std.proofs.Common.{◌≡◌, refl, sym, ap, ◌∙◌}
+use Rattle.std.proofs.Common.{◌≡◌, refl, ap}
 use Rattle.dp_value.specs.declared.value.Value.{Value}
 use Rattle.dp_value.specs.declared.value.Value.TheVariants.{Null, Bool, Int, Text, Array}
 use Rattle.dp_value.specs.inner.Codes.{table_from-data_of_table}
-use Rattle.dp_value.specs.Data.{Data}
 use Rattle.dp_value.specs.Value.{data_of, value_of}
 
 pub value_of-data_of : (v : Value) → value_of (data_of v) ≡ v

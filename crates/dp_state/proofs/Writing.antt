@@ -1,5 +1,5 @@
 -- A step on a variable, by the own variables of one frame: they are taken out, changed, and put back.
-use Rattle.std.proofs.Common.{◌≡◌, ◌≢◌, ℕ, zero, suc, ◌+◌, ◌-◌, ◌<◌, ◌≤◌, ◌==◌, Bool, true, false, not, if◌then◌else◌, List, [], ◌∷◌, length, Option, Some, None, is_some, unwrap_or, Result, Ok, Err, IfErr, OnOk, OnErr, refl, sym, ap, ◌∙◌, subst, arith}
+use Rattle.std.proofs.Common.{◌≡◌, ◌≢◌, ◌⊎◌, inl, inr, ℕ, ◌-◌, ◌≤◌, ◌==◌, Bool, true, false, not, if◌then◌else◌, List, [], ◌∷◌, length, Option, Some, None, is_some, unwrap_or, Result, Ok, Err, IfErr, OnOk, OnErr, refl, sym, ap, ◌∙◌, subst, arith}
 use Rattle.std.proofs.lemmas.Bool.Decides.{nat_tests}
 use Rattle.std.specs.Option.{option_map_or}
 use Rattle.dp_state.specs.declared.moments.FatalKind.{FatalKind}
@@ -9,8 +9,8 @@ use Rattle.dp_state.specs.declared.state.State.{State}
 use Rattle.dp_state.specs.declared.vars.Slot.{Slot}
 use Rattle.dp_state.specs.declared.vars.Slot.TheVariants.{Held, Bound}
 use Rattle.dp_state.specs.Places.{assigned, is_bound, then_state, unset, with_global, with_null, with_own, with_value, without_entry, without_variable}
-use Rattle.dp_state.specs.inner.Parts.{assigned_in, home, removed_in, then_variables, IsCauseIn}
-use Rattle.dp_state.specs.States.{own_variables, owner_at, read_at, variables_at, IsCause}
+use Rattle.dp_state.specs.inner.Parts.{assigned_in, home, removed_in, then_variables, IsCauseIn, IsSureIn}
+use Rattle.dp_state.specs.States.{own_variables, owner_at, read_at, variables_at, IsCause, IsSure}
 use Rattle.dp_state.specs.Variables.{Variables, slot_of, value_held, value_through, with_slot, without}
 use Rattle.dp_value.specs.declared.errors.WriteError.{WriteError}
 use Rattle.dp_value.specs.declared.key.Key.{Key}
@@ -32,6 +32,11 @@ cause-by : (at : ℕ) (s : State) (part : Result Variables FatalKind) (f : Fault
 cause-by at s part fault.Memory h = tt
 cause-by at s part (fault.Fatal kind) h = ap (with_result at s) h
 
+refused-by : (at : ℕ) (s : State) (part : Result Variables FatalKind) (kind : FatalKind)
+    → with_result at s part ≡ Err kind → part ≡ Err kind
+refused-by at s (Ok vs) kind h = absurd (cc)
+refused-by at s (Err other) kind h = cc
+
 -- the frame is still there once its variables were taken out
 pub within-still : (at : ℕ) (s s₁ : State) → s₁ ≡ with_own at [] s → at ≤ length s.frames - 1
     → at ≤ length s₁.frames - 1
@@ -42,14 +47,20 @@ module _ (at : ℕ) (s s₁ s₂ : State) (vs ws : Variables) (taken : vs ≡ ow
   pub put : s₂ ≡ with_own at ws s
   put = given ∙ ap (with_own at ws) left ∙ with_own-twice at [] ws s
 
+  pub put_same : at ≤ length s.frames - 1 → ws ≡ vs → s₂ ≡ s
+  put_same within same = put ∙ ap (λ (x : Variables). with_own at x s) (same ∙ taken) ∙ with_own-same at s within
+
   module _ (asked : Result State FatalKind) (part : Variables → Result Variables FatalKind)
       (is : asked ≡ with_result at s (part (own_variables s at))) where
     asked-by : asked ≡ with_result at s (part vs)
     asked-by = is ∙ ap (λ (x : Variables). with_result at s (part x)) (sym taken)
 
-    pub on_ok : {X : Type 0} (r : Result X Fault) → OnOk r (part vs ≡ Ok ws) → OnOk r (asked ≡ Ok s₂)
-    on_ok (Ok x) h =
+    done-by : part vs ≡ Ok ws → asked ≡ Ok s₂
+    done-by h =
         asked-by ∙ ap (with_result at s) h ∙ ap (λ (t : State). let r : Result State FatalKind = Ok t in r) (sym put)
+
+    pub on_ok : {X : Type 0} (r : Result X Fault) → OnOk r (part vs ≡ Ok ws) → OnOk r (asked ≡ Ok s₂)
+    on_ok (Ok x) h = done-by h
     on_ok (Err e) h = tt
 
     pub on_refused : {X : Type 0} (r : Result X Fault) → IfErr r (IsCauseIn (part vs)) → IfErr r (IsCause asked)
@@ -57,8 +68,13 @@ module _ (at : ℕ) (s s₁ s₂ : State) (vs ws : Variables) (taken : vs ≡ ow
     on_refused (Err e) h =
         subst (λ (a : Result State FatalKind). IsCause a e) (sym asked-by) (cause-by at s (part vs) e h)
 
-  pub put_same : at ≤ length s.frames - 1 → ws ≡ vs → s₂ ≡ s
-  put_same within same = put ∙ ap (λ (x : Variables). with_own at x s) (same ∙ taken) ∙ with_own-same at s within
+    -- what stands after want of memory
+    pub on_either : at ≤ length s.frames - 1 → (ws ≡ vs) ⊎ (part vs ≡ Ok ws) → (s₂ ≡ s) ⊎ (asked ≡ Ok s₂)
+    on_either within (inl same) = inl (put_same within same)
+    on_either within (inr done) = inr (done-by done)
+
+    pub on_sure : {X : Type 0} (r : Result X Fault) → IsSureIn (part vs) r → IsSure asked r
+    on_sure r h kind refused = h kind (refused-by at s (part vs) kind (sym asked-by ∙ refused))
 
   pub on_err : {X E : Type 0} (r : Result X E) → at ≤ length s.frames - 1 → OnErr r (ws ≡ vs) → OnErr r (s₂ ≡ s)
   on_err (Ok x) within h = tt

@@ -1,6 +1,4 @@
-use Rattle.std.proofs.Common.{Ok, Option, ap, sym, ◌∙◌}
-use Rattle.std.specs.Option.{option_map_or}
-use Rattle.dp_value.specs.declared.value.Value.{Value}
+use Rattle.std.proofs.Common.{ap, ◌∙◌}
 use Rattle.dp_value.specs.Data.{Data}
 use Rattle.dp_value.specs.Entry.{write_result}
 use Rattle.dp_value.specs.Value.{data_of}

@@ -1,4 +1,3 @@
-use Rattle.dp_value.specs.Data.{Data}
 use Rattle.dp_value.specs.Entry.{write_result}
 use Rattle.dp_value.specs.Value.{data_of}
 use Rattle.dp_state.proofs.Slots.{then_new}

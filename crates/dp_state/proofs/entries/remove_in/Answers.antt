@@ -1,10 +1,11 @@
-use Rattle.std.proofs.Common.{Ok, Option, ap, sym, ◌∙◌}
+use Rattle.std.proofs.Common.{Ok, Err, Result, Option, ap, sym, ◌∙◌}
 use Rattle.std.specs.Option.{option_map_or}
 use Rattle.dp_value.specs.declared.value.Value.{Value}
-use Rattle.dp_value.specs.Data.{Data}
 use Rattle.dp_value.specs.Entry.{removed}
 use Rattle.dp_value.specs.Value.{data_of}
 use Rattle.dp_state.specs.inner.Parts.{then_variables}
+use Rattle.dp_state.specs.declared.state.Fault.{Fault}
+use Rattle.dp_state.proofs.Removals.{removal-sure}
 use Rattle.dp_state.proofs.Slots.{then_put_back, put_same}
 use Rattle.dp_state.proofs.entries.remove_in.Goals as goal
 
@@ -22,3 +23,11 @@ returns-in-Err-clause-err c =
     put_same c.args.name.now c.args.vars.now c.in-Some.held c.in-Some.ensures.value c.of.result c.remove-done.new.self
     c.exchange.new.self c.exchange-2.new.self
     c.in-Some.ensures.exchanged c.exchange-2.ensures.exchanged c.in-Err.ensures.err
+
+pub returns-in-Err-clause-sure : goal.returns-in-Err-clause-sure
+returns-in-Err-clause-sure c = λ kind refused.
+    ap (λ (f : Fault). let r : Result Unit Fault = Err f in r) c.from.ensures
+    ∙ removal-sure {X = Unit} c.args.name.now c.args.vars.now c.args.keys.now (data_of c.in-Some.held)
+    (Err c.in-Err.why) c.in-Err.ensures.sure kind
+    (ap (λ (o : Option Value). option_map_or (λ value. then_variables c.args.name.now c.args.vars.now
+    (removed c.args.keys.now (data_of value))) o (Ok c.args.vars.now)) c.in-Some.ensures.value ∙ refused)

@@ -1,5 +1,4 @@
 use Rattle.std.proofs.Common.{ap, ◌∙◌}
-use Rattle.dp_state.specs.declared.state.Frame.{Frame}
 use Rattle.dp_state.specs.Variables.{Variables}
 use Rattle.std.proofs.Common.{slice_set}
 use Rattle.dp_state.proofs.Homes.{set-vars}

@@ -1,9 +1,10 @@
 use Rattle.std.proofs.Common.{ℕ, [], false, sym, ap, ◌∙◌}
 use Rattle.dp_shared.specs.Pieces.{with_piece}
+use Rattle.dp_value.specs.declared.value.Value.TheVariants.{Null}
 use Rattle.dp_state.specs.Places.{assigned}
 use Rattle.dp_state.specs.inner.Parts.{assigned_in}
 use Rattle.dp_state.specs.States.{own_variables}
-use Rattle.dp_state.proofs.Writing.{assigned-home, on_ok, on_refused, put_same, with_result, within-still}
+use Rattle.dp_state.proofs.Writing.{assigned-home, on_either, on_ok, on_refused, put_same, with_result, within-still}
 use Rattle.dp_state.proofs.state.State.append.Goals as goal
 
 pub exchange_own-requires : goal.exchange_own-requires
@@ -40,3 +41,14 @@ returns-clause-err c =
     λ fatal. put_same c.home-at.result c.args.self.now c.take_own-vars.new.self c.exchange_own.new.self
     c.take_own-vars.result c.append_in-done.new.vars c.take_own-vars.ensures.taken c.take_own-vars.ensures.left
     c.exchange_own.ensures.given c.home-at.ensures.within (c.append_in-done.ensures.err fatal)
+
+pub returns-clause-memory : goal.returns-clause-memory
+returns-clause-memory c =
+    λ want. on_either c.home-at.result c.args.self.now c.take_own-vars.new.self c.exchange_own.new.self
+    c.take_own-vars.result c.append_in-done.new.vars c.take_own-vars.ensures.taken c.take_own-vars.ensures.left
+    c.exchange_own.ensures.given
+    (assigned 0 c.args.name.now [] false Null c.args.self.now) (assigned_in c.args.name.now [] false Null)
+    (assigned-home c.args.self.now 0 c.args.name.now [] false Null
+    ∙ ap (λ (at : ℕ). with_result at c.args.self.now (assigned_in c.args.name.now [] false Null
+    (own_variables c.args.self.now at))) (sym c.home-at.ensures.home))
+    c.home-at.ensures.within (c.append_in-done.ensures.memory want)

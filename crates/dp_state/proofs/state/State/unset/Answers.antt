@@ -1,8 +1,8 @@
-use Rattle.std.proofs.Common.{◌-◌, ◌≤◌, ◌≡◌, ℕ, Ok, Result, length, sym, ap, ◌∙◌, subst}
+use Rattle.std.proofs.Common.{◌-◌, ◌≤◌, ℕ, length, sym, ap, ◌∙◌, subst}
 use Rattle.dp_state.specs.Places.{unset}
 use Rattle.dp_state.specs.inner.Parts.{removed_in}
 use Rattle.dp_state.specs.States.{own_variables}
-use Rattle.dp_state.proofs.Writing.{on_ok, on_refused, on_err, unset-home, with_result, within-still}
+use Rattle.dp_state.proofs.Writing.{on_ok, on_refused, on_sure, on_err, unset-home, with_result, within-still}
 use Rattle.dp_state.proofs.state.State.unset.Goals as goal
 
 pub exchange_own-requires : goal.exchange_own-requires
@@ -33,6 +33,18 @@ returns-clause-refused c =
     ∙ ap (λ (at : ℕ). with_result at c.args.self.now (removed_in c.args.name.now c.args.keys.now
     (own_variables c.args.self.now at))) (sym c.home-at.ensures.home))
     c.remove_in-done.result c.remove_in-done.ensures.refused
+
+pub returns-clause-sure : goal.returns-clause-sure
+returns-clause-sure c =
+    on_sure c.home-at.result c.args.self.now c.take_own-vars.new.self c.exchange_own.new.self c.take_own-vars.result
+    c.remove_in-done.new.vars c.take_own-vars.ensures.taken c.take_own-vars.ensures.left
+    c.exchange_own.ensures.given
+    (unset c.args.name.now c.args.keys.now c.args.self.now) (removed_in c.args.name.now c.args.keys.now)
+    (unset-home c.args.name.now c.args.keys.now c.args.self.now (sym c.is_empty.ensures ∙ c.if-is_empty.false)
+    (subst (λ (at : ℕ). at ≤ length c.args.self.now.frames - 1) c.home-at.ensures.home c.home-at.ensures.within)
+    ∙ ap (λ (at : ℕ). with_result at c.args.self.now (removed_in c.args.name.now c.args.keys.now
+    (own_variables c.args.self.now at))) (sym c.home-at.ensures.home))
+    c.remove_in-done.result c.remove_in-done.ensures.sure
 
 pub returns-clause-err : goal.returns-clause-err
 returns-clause-err c =
