@@ -12,6 +12,7 @@ ghost use Rattle.dp_step_parts.specs.Leads.{Leads};
 use crate::next::{give, given};
 use crate::work::{ForPart, ForValue, ForValues, Hand, Next, Work};
 use dp_actions::{Halt, Reading, text_value, variable_value};
+use dp_shared::Shared;
 use dp_state::State;
 use dp_tree::{Boxed, Expression};
 use dp_value::{Items, PhpArray, Value};

@@ -9,5 +9,4 @@ mod receive;
 mod work;
 
 pub use parts::{first_of, give_to};
-pub use receive::holds;
 pub use work::{ForPart, ForValue, ForValues, Given, Hand, Next, Work};

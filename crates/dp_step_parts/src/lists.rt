@@ -11,6 +11,7 @@ ghost use Rattle.dp_actions.specs.InPlace.{entries_by};
 ghost use Rattle.dp_actions.specs.Run.{and_then};
 ghost use Rattle.dp_actions.specs.Setting.{Setting};
 ghost use Rattle.dp_actions.specs.Values.{holds as value_holds};
+ghost use Rattle.dp_step_parts.specs.Leads.{Leads};
 ghost use Rattle.dp_step_parts.specs.Rest.{Follows, keyed_after, links_after, next_rest, to_value};
 ghost use Rattle.dp_value.specs.declared.value.Value.TheVariants as any_kind;
 ghost use Rattle.dp_step_parts.specs.declared.work.Given.TheVariants as any_given;
@@ -18,8 +19,8 @@ ghost use Rattle.dp_step_parts.specs.declared.work.Given.TheVariants as any_give
 use crate::begin::values_first;
 use crate::next::give;
 use crate::work::{ForPart, ForValues, Given, Hand, Next, Work};
-use dp_actions::{Reading, holds};
-use dp_shared::Shared;
+use dp_actions::{Halt, Reading, holds};
+use dp_shared::{Inside, Shared};
 use dp_tree::{Expression, Item, Link, Operator, Place};
 use dp_value::{Items, Value};
 use std::alloc::Global;
@@ -153,20 +154,30 @@ fn and<'p>(left: bool, right: &'p Expression, all: &'p Items<Link>, at: usize) -
 /// A value, and the indices under which it is read.
 pub(crate) fn under<'p>(
     how: Reading,
-    value: Shared,
+    inside: Inside,
     all: &'p Items<Expression>,
     at: usize,
-) -> Next<'p>
-    ensures { (setting : Setting) (k : Follows) (s : AnyState)
-        → next_rest setting result k s ≡ and_then (indices_run (entries_by how)
-        (map expression_run (members_from at all.now)) value setting s) (to_value k) }
+) -> Result<Next<'p>, Halt>
+    ensures { (setting : Setting) (s : AnyState)
+        → Leads setting (λ k. and_then (indices_run (entries_by how) (map expression_run (members_from at all.now))
+        inside setting s) (to_value k)) result s }
 {
     match all.as_slice().get(at) {
-        None => give(value),
-        Some(first) => Next {
+        None => taken_out(inside),
+        Some(first) => Ok(Next {
             hand: Hand::Evaluate(first),
-            waits: Some(Work::ForPart(ForPart::Entry(how, value, all, at + 1))),
-        },
+            waits: Some(Work::ForPart(ForPart::Entry(how, inside, all, at + 1))),
+        }),
+    }
+}
+
+// A value inside of another is given.
+fn taken_out<'p>(inside: Inside) -> Result<Next<'p>, Halt>
+    ensures { (setting : Setting) (s : AnyState) → Leads setting (λ k. to_value k inside s) result s }
+{
+    match inside.into_shared() {
+        Ok(value) => Ok(give(value)),
+        Err(_) => Err(Halt::Memory),
     }
 }
 

@@ -16,7 +16,7 @@ ghost use Rattle.dp_step_parts.specs.declared.work.Hand.TheVariants as any_hand;
 
 use crate::work::{Given, Hand, Next};
 use dp_actions::{Halt, Reading};
-use dp_shared::Shared;
+use dp_shared::{Inside, Shared};
 use dp_tree::{Expression, Item, Link};
 use dp_value::{Items, Value};
 
@@ -79,20 +79,20 @@ pub(crate) fn lengthened<'p>(
     }
 }
 
-/// A value that was made is read under more indices.
+/// A value that was found is read under more indices.
 pub(crate) fn read_under<'p>(
-    made: Result<Shared, Halt>,
+    found: Result<Inside, Halt>,
     how: Reading,
     indices: &'p Items<Expression>,
     at: usize,
 ) -> Result<Next<'p>, Halt>
-    ensures { (setting : Setting) (run : Run AnyValue) (t : AnyState) → AtOnce run made t
+    ensures { (setting : Setting) (run : Run AnyValue) (t : AnyState) → AtOnce run found t
         → Leads setting (λ k. and_then run (λ v u. and_then (indices_run (entries_by how)
         (map expression_run (members_from at indices.now)) v setting u) (to_value k))) result t }
 {
-    match made {
-        Ok(value) => Ok(Next {
-            hand: Hand::Under(how, value, indices, at),
+    match found {
+        Ok(inside) => Ok(Next {
+            hand: Hand::Under(how, inside, indices, at),
             waits: None,
         }),
         Err(why) => Err(why),

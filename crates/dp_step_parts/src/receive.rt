@@ -7,7 +7,7 @@ ghost use Rattle.dp_value.specs.declared.value.Value.TheVariants as any_kind;
 ghost use Rattle.dp_actions.specs.Places.{assigned_under, coalescing_under, compound_under};
 ghost use Rattle.dp_actions.specs.Run.{Done, and_then};
 ghost use Rattle.dp_actions.specs.Setting.{Setting};
-ghost use Rattle.dp_actions.specs.Values.{holds as value_holds, is_missing as missing};
+ghost use Rattle.dp_actions.specs.Values.{is_missing as missing};
 ghost use Rattle.dp_step_parts.specs.Rest.{Follows, isset_after, next_rest, part_rest, to_value, value_rest};
 ghost use Rattle.dp_step_parts.specs.Rest.{values_rest};
 ghost use Rattle.dp_step_parts.specs.declared.work.ForPart.TheVariants as any_part;
@@ -19,11 +19,11 @@ use crate::lists::keyed_item;
 use crate::next::{give, given, lengthened, linked, read_under};
 use crate::work::{ForPart, ForValue, ForValues, Hand, Next, Work};
 use dp_actions::{
-    Halt, Reading, assign_place, builtin_value, combine, found_place, is_missing, look, present,
-    pushed, put, read_place, step_place, value_of,
+    Halt, Reading, assign_place, builtin_call, combine, found_place, holds, inside_at, is_missing,
+    operated, present, pushed, put, read_place, step_place, value_of,
 };
 use dp_operations::unary;
-use dp_shared::Shared;
+use dp_shared::{Inside, Shared};
 use dp_state::State;
 use dp_tree::{Boxed, Expression, Item, Link, Order, Place};
 use dp_value::{BinaryOp, Builtin, Bytes, Items, Memory, UnaryOp, Value, truthy};
@@ -62,7 +62,7 @@ pub(crate) fn receive_part<'p>(
             operate(alloc, op, left, value, links, at, state)
         }
         ForPart::Under(how, indices) => Ok(Next {
-            hand: Hand::Under(how, value, indices, 0),
+            hand: Hand::Under(how, Inside::of(alloc, value), indices, 0),
             waits: None,
         }),
         ForPart::Entry(how, holder, indices, at) => {
@@ -113,7 +113,7 @@ fn operate<'p>(
 fn read_entry<'p>(
     alloc: Global,
     how: Reading,
-    holder: Shared,
+    holder: Inside,
     index: Shared,
     indices: &'p Items<Expression>,
     at: usize,
@@ -123,19 +123,9 @@ fn read_entry<'p>(
         → Leads setting (λ k. part_rest setting (any_part.Entry how holder indices.entry at) index k state.now) result
         state.now }
 {
-    let made = value_of(look(alloc, how, holder.value(), index.value()), state);
-    drop(holder);
+    let found = inside_at(alloc, how, holder, index.value(), state);
     drop(index);
-    read_under(made, how, indices, at)
-}
-
-/// Whether a value is true.
-pub fn holds(value: Value) -> bool
-    ensures { result ≡ value_holds value }
-{
-    let holds = truthy(&value);
-    drop(value);
-    holds
+    read_under(found, how, indices, at)
 }
 
 // Values and one more, and the expressions behind it.

@@ -2,7 +2,7 @@
 //! has read, and lends its tree.
 
 use dp_actions::{Reading, Signal};
-use dp_shared::Shared;
+use dp_shared::{Inside, Shared};
 use dp_tree::{Boxed, Expression, Item, Link, Order, Place};
 use dp_value::{BinaryOp, Builtin, Bytes, Items, UnaryOp, Value};
 
@@ -28,8 +28,8 @@ pub enum Hand<'p> {
     Items(Value, &'p Items<Item>, usize),
     /// The left operand, and what is joined to it.
     Links(Shared, &'p Items<Link>, usize),
-    /// A value, and the indices under which it is read.
-    Under(Reading, Shared, &'p Items<Expression>, usize),
+    /// A value, and the indices under which it is read. What stands on the way to an entry is not copied.
+    Under(Reading, Inside, &'p Items<Expression>, usize),
     /// Places that are set as far as the first of these.
     Isset(&'p [Place]),
 }
@@ -54,7 +54,7 @@ pub enum ForPart<'p> {
     /// What is read under indices is evaluated.
     Under(Reading, &'p Items<Expression>),
     /// A value whose index is evaluated, and the indices behind it.
-    Entry(Reading, Shared, &'p Items<Expression>, usize),
+    Entry(Reading, Inside, &'p Items<Expression>, usize),
 }
 
 /// An expression that waits for the value of a part.
