@@ -2,4 +2,5 @@ pub mod Runs
 pub mod Acting
 pub mod Tails
 pub mod Layers
-pub mod Joining
+pub mod Texts
+pub mod Entering

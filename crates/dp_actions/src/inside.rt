@@ -93,8 +93,8 @@ fn entry_key(alloc: Global, value: &Value, at: &Value) -> Result<Option<Key>, Me
     let Some(key) = key_at(alloc, at)? else {
         return Ok(None);
     };
-    if array.get(&key).is_some() {
-        return Ok(Some(key));
+    match array.get(&key) {
+        Some(_) => Ok(Some(key)),
+        None => Ok(None),
     }
-    Ok(None)
 }

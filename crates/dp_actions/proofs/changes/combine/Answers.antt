@@ -8,4 +8,4 @@ pub returns : goal.returns
 returns c = goes_on _ (c.in_ok-new.ensures) c.assign_place.ensures
 
 pub returns-then-is_growth : goal.returns-then-is_growth
-returns-then-is_growth c = let h = c.is_growth.ensures (rw c.if-is_growth.true tt) in rw (h.0, h.1) c.grown.ensures
+returns-then-is_growth c = let h = c.is_growth.ensures c.if-is_growth.true in rw (h.0, h.1) c.grown.ensures

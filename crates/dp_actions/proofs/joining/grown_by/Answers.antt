@@ -1,4 +1,4 @@
-use Rattle.dp_actions.proofs.Joining.{grows, grows-not}
+use Rattle.dp_actions.proofs.Texts.{grows, grows-not}
 use Rattle.dp_actions.proofs.joining.grown_by.Goals as goal
 
 pub returns-in-Ok : goal.returns-in-Ok

@@ -1,7 +1,8 @@
-use Rattle.std.proofs.Common.{◌≡◌, List, [], arith}
+use Rattle.std.proofs.Common.{◌≡◌, List, [], Option, unwrap_or, arith, sym, ap}
 use Rattle.std.proofs.lemmas.Bool.Decides.{nat_tests}
 use Rattle.std.proofs.lemmas.List.{nil_from_length}
 use Rattle.dp_value.specs.declared.value.Value.{Value}
+use Rattle.dp_value.specs.declared.value.Value.TheVariants.{Null}
 use Rattle.dp_state.proofs.ValueLemmas.{value_of-data_of}
 use Rattle.dp_actions.proofs.places.place_by.Goals as goal
 
@@ -12,4 +13,6 @@ returns-then-is_empty c =
     rw (none, value_of-data_of) c.variable_value.ensures
 
 pub returns-in-Some : goal.returns-in-Some
-returns-in-Some c = rw c.value.ensures at (c.value_of.ensures _ c.entry_by.ensures)
+returns-in-Some c =
+    let same = ap (λ (o : Option Value). unwrap_or o Null) c.in-Some.ensures in
+    rw (sym same, sym c.value.ensures) (c.value_of.ensures _ c.entry_by.ensures)

@@ -88,8 +88,8 @@ module _ (name : List ℕ) (t : Value) (piece bytes : List ℕ) (is : t ≡ Text
 
   fault-by : (b : Bool) (k : FatalKind) → nat_le (length (bytes ++ piece)) weight_limit ≡ b → written b ≡ Err k
       → AtOnce grown (Err (halt_of (fault.Fatal k) s)) s
-  fault-by true k h no = absurd (cc)
-  fault-by false k h no =
+  fault-by true k h refused = absurd (cc)
+  fault-by false k h refused =
       let same : kind.TooHeavy ≡ k = cc in
       rw (sym same) (breaks_off _ (heavy-by (bytes ++ piece) s (nat_le (length (bytes ++ piece)) weight_limit)
       (ap not h)))
@@ -97,6 +97,6 @@ module _ (name : List ℕ) (t : Value) (piece bytes : List ℕ) (is : t ≡ Text
   -- refused, and the state is as before where it is not for want of memory
   pub grows-not : (why : Fault) → IsCause (assigned 0 name [] false (with_piece t piece) s) why
       → (IsFatal {A = Value} (Err why) → u ≡ s) → AtOnce grown (Err (halt_of why u)) u
-  grows-not fault.Memory no same = wants_memory
-  grows-not (fault.Fatal k) no same =
-      rw (same tt) (fault-by (nat_le (length (bytes ++ piece)) weight_limit) k refl (sym assigned-is ∙ no))
+  grows-not fault.Memory refused same = wants_memory
+  grows-not (fault.Fatal k) refused same =
+      rw (same tt) (fault-by (nat_le (length (bytes ++ piece)) weight_limit) k refl (sym assigned-is ∙ refused))
