@@ -1,4 +1,3 @@
-use Rattle.std.proofs.Common.{refl, sym}
 use Rattle.std.proofs.Math.ListN.{drop_of_length-le}
 use Rattle.dp_actions.specs.Run.{and_then}
 use Rattle.dp_step_parts.proofs.FirstParts.{from-member}
@@ -8,11 +7,13 @@ use Rattle.dp_step_parts.proofs.lists.under.Goals as goal
 
 pub returns-in-None : goal.returns-in-None
 unfolding and_then
-returns-in-None c = λ setting k s.
+returns-in-None c = λ setting s.
     let read = rw c.as_slice.ensures at c.in-None.ensures.lookup in
-    rw (drop_of_length-le _ read.3, c.give.ensures) refl
+    rw (drop_of_length-le _ read.3) (c.taken_out.ensures setting s)
 
 pub returns-in-Some : goal.returns-in-Some
-returns-in-Some c = λ setting k s.
+returns-in-Some c = λ setting s.
     let read = rw c.as_slice.ensures at c.in-Some.ensures.lookup in
-    rw (from-member _ _ _ read.3.0 read.1) (sym (indices-first setting k s (entries_by c.args.how) _ _ c.args.value))
+    record {
+      by = λ k. rw (from-member _ _ _ read.3.0 read.1) (indices-first setting k s (entries_by c.args.how) _ _ c.args.inside);
+    }

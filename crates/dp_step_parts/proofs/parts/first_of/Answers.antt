@@ -21,7 +21,7 @@ pub returns-in-Links : goal.returns-in-Links
 returns-in-Links c = λ setting. record { by = λ k. rw c.in-Links.is (sym (c.links.ensures setting k c.args.state.now)) }
 
 pub returns-in-Under : goal.returns-in-Under
-returns-in-Under c = λ setting. record { by = λ k. rw c.in-Under.is (sym (c.under.ensures setting k c.args.state.now)) }
+returns-in-Under c = λ setting. rw c.in-Under.is (c.under.ensures setting c.args.state.now)
 
 pub returns-in-Isset : goal.returns-in-Isset
 returns-in-Isset c = λ setting. record { by = λ k. rw c.in-Isset.is (sym (c.isset.ensures setting k c.args.state.now)) }
