@@ -23,7 +23,11 @@ impl Outside for Written<'_> {
     ghost use Rattle.dp_meaning.specs.inner.Drive.{at_number};
     ghost use Rattle.dp_meaning.specs.Writes.{writes_of};
 
-    ghost rules = { λ w. record { bound = w.bound; halts = at_number w.stop; writes = writes_of w.bundle.now w.writes.now } };
+    ghost rules = { λ w. record {
+      bound = w.bound;
+      halts = at_number w.stop;
+      writes = writes_of w.bundle.now w.writes.now;
+    } };
 
     fn at_moment(&self, kind: MomentKind, line: u32, state: &mut State) -> Result<(), Halt> {
         if state.moments >= self.bound {
