@@ -231,7 +231,7 @@ link-returns-else-holds g t c =
 
 pub link-returns-then-not-holds : goal.link-returns-then-not-holds
 link-returns-then-not-holds g t c =
-    rw (run-link, c.in-And.is, sym c.holds-in-And.ensures ∙ c.if-not-holds.true, c.of-in-And.ensures) gives
+    rw (run-link, c.in-And.is, sym c.holds-in-And.ensures ∙ c.if-not-holds.true, c.of-then-not-holds.ensures) gives
 
 pub link-returns-else-not-holds : goal.link-returns-else-not-holds
 link-returns-else-not-holds g t c =
