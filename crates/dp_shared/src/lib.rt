@@ -2,6 +2,7 @@
 #![tactic(auto)]
 
 mod inside;
+mod removals;
 mod shared;
 
 pub use inside::Inside;

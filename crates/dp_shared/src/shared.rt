@@ -1,6 +1,7 @@
 //! A value with its owners.
 
-ghost use Rattle.std.specs.Prelude.{◌≡◌, ◌++◌, not, nat_le, Ok, IfOk, IfErr, OnOk, OnErr};
+ghost use Rattle.std.specs.Prelude.{◌≡◌, ◌++◌, not, nat_le, Ok, Err, IfOk, IfErr, OnOk, OnErr};
+ghost use Rattle.dp_value.specs.declared.errors.WriteError.{WriteError as AnyCause};
 ghost use Rattle.dp_value.specs.declared.value.Value.TheVariants as variant;
 ghost use Rattle.dp_value.specs.Data.{weight_of};
 ghost use Rattle.dp_value.specs.Table.{weight_limit};
@@ -8,6 +9,7 @@ ghost use Rattle.dp_value.specs.Value.{data_of};
 ghost use Rattle.dp_shared.specs.Pieces.{with_piece};
 ghost use Rattle.dp_value.specs.Entry.{light, removed, write_result, IsCause};
 
+use crate::removals::refusal;
 use dp_value::{Bytes, Key, Memory, Value, WEIGHT_LIMIT, WriteError, remove_at, weight, write_at};
 use std::alloc::Global;
 use std::marker::Model;
@@ -178,12 +180,14 @@ impl Shared {
     }
 
     /// Removes the entry under `keys`, however deep, as [`remove_at`] does; the other owners keep the value that they
-    /// have. It is copied first where there are others.
+    /// have. It is copied first where there are others and the removal is not refused.
     ///
-    /// The causes are those of [`remove_at`]. After a refusal the value is as before.
+    /// The causes are those of [`remove_at`], and what has one is refused for it also where there is no memory. After a
+    /// refusal the value is as before.
     pub fn remove(&mut self, alloc: Global, keys: &[Option<Key>]) -> Result<(), WriteError>
         ensures ok { OnOk result (removed keys.now (data_of self.old) ≡ Ok (data_of self.new)) }
         ensures refused { IfErr result (λ e. IsCause (removed keys.now (data_of self.old)) e) }
+        ensures sure { (why : AnyCause) → removed keys.now (data_of self.old) ≡ Err why → result ≡ Err why }
         ensures err { OnErr result (self.new ≡ self.old) }
     {
         if let Kept::Many(shared) = &mut self.kept {
@@ -198,8 +202,12 @@ impl Shared {
     fn remove_in_copy(&mut self, alloc: Global, keys: &[Option<Key>]) -> Result<(), WriteError>
         ensures ok { OnOk result (removed keys.now (data_of self.old) ≡ Ok (data_of self.new)) }
         ensures refused { IfErr result (λ e. IsCause (removed keys.now (data_of self.old)) e) }
+        ensures sure { (why : AnyCause) → removed keys.now (data_of self.old) ≡ Err why → result ≡ Err why }
         ensures err { OnErr result (self.new ≡ self.old) }
     {
+        if let Some(why) = refusal(self.value(), keys) {
+            return Err(why);
+        }
         let mut made = self.value().try_clone()?;
         remove_at(&mut made, keys)?;
         *self = settle(alloc, made)?;
