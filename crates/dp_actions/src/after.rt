@@ -15,7 +15,7 @@ ghost use Rattle.dp_actions.specs.Values.{holds, value_run};
 use crate::answers::{exit_value, print_value, value_of};
 use crate::changes::{combine, step_place};
 use crate::halt::Halt;
-use crate::joining::operated;
+use crate::joins::operated;
 use crate::places::{assign_place, found_place};
 use crate::signal::Signal;
 use dp_operations::unary;

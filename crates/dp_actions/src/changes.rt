@@ -9,7 +9,7 @@ ghost use Rattle.dp_actions.specs.Places.{combined, step_from as from_old, step_
 
 use crate::answers::value_of;
 use crate::halt::Halt;
-use crate::joining::{grown, operated};
+use crate::joins::{grown, operated};
 use crate::places::{assign_place, read_place};
 use dp_operations::unary;
 use dp_shared::Shared;

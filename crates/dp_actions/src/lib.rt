@@ -13,7 +13,7 @@ mod halt;
 mod in_place;
 mod inside;
 mod items;
-mod joining;
+mod joins;
 mod operands;
 mod places;
 mod signal;
@@ -34,7 +34,7 @@ pub use halt::Halt;
 pub use in_place::{Reading, builtin_call, entry_by, is_plain, look};
 pub use inside::{inside_at, then_inside};
 pub use items::{pushed, put};
-pub use joining::operated;
+pub use joins::operated;
 pub use operands::{holds, kept, present, text_value, variable_value};
 pub use places::{
     assign_place, assign_variable, found_place, given_keys, key_at, read_place, unset_place,

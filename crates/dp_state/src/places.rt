@@ -1,6 +1,7 @@
 //! Writes of variables and of their entries, and `unset` and `global`.
 
-ghost use Rattle.std.specs.Prelude.{◌≡◌, ◌⊎◌, ◌≤◌, ◌<◌, ◌-◌, false, [], Ok, Err, Some, length, option_map, slice_get, IfOk};
+ghost use Rattle.std.specs.Prelude.{◌≡◌, ◌⊎◌, ◌≤◌, ◌<◌, ◌-◌, false, [], Ok, Err, Some, length, option_map, slice_get};
+ghost use Rattle.std.specs.Prelude.{IfOk};
 ghost use Rattle.std.specs.Prelude.{IfErr, OnOk, OnErr};
 ghost use Rattle.dp_state.specs.States.{own_variables, IsCause, IsFatal, IsSure};
 ghost use Rattle.dp_state.specs.declared.state.Fault.TheVariants as fault;

@@ -14,7 +14,8 @@ pub returns-clause-ok : goal.returns-clause-ok
 returns-clause-ok c =
     then_put_back c.args.name.now c.args.vars.now c.in-Some.held c.in-Some.ensures.value c.of.result
     c.in_ok-longer-2.longer c.exchange.new.self c.exchange-2.new.self
-    (write_result [] false (data_of (with_piece c.args.text c.args.piece.now)) (data_in c.args.vars.now c.args.name.now))
+    (write_result [] false (data_of (with_piece c.args.text c.args.piece.now))
+    (data_in c.args.vars.now c.args.name.now))
     c.in-Some.ensures.exchanged c.exchange-2.ensures.exchanged
     (light (data_of (with_piece c.args.text c.args.piece.now)) (data_in c.args.vars.now c.args.name.now)
     (sym c.is_beyond.ensures ∙ c.if-is_beyond.false)

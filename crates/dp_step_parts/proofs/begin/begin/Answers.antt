@@ -10,7 +10,8 @@ returns-in-Null c = λ setting. record {
 
 pub returns-in-Bool : goal.returns-in-Bool
 returns-in-Bool c = λ setting. record {
-  by = λ k. rw (c.in-Bool.is, c.give-in-Bool.ensures, c.of-in-Bool.ensures) (begins.begins-Bool setting k c.args.state.now _);
+  by = λ k. rw (c.in-Bool.is, c.give-in-Bool.ensures, c.of-in-Bool.ensures)
+      (begins.begins-Bool setting k c.args.state.now _);
 }
 
 pub returns-in-Number : goal.returns-in-Number

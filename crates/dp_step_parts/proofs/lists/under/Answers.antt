@@ -15,5 +15,6 @@ pub returns-in-Some : goal.returns-in-Some
 returns-in-Some c = λ setting s.
     let read = rw c.as_slice.ensures at c.in-Some.ensures.lookup in
     record {
-      by = λ k. rw (from-member _ _ _ read.3.0 read.1) (indices-first setting k s (entries_by c.args.how) _ _ c.args.inside);
+      by = λ k. rw (from-member _ _ _ read.3.0 read.1) (indices-first setting k s
+          (entries_by c.args.how) _ _ c.args.inside);
     }

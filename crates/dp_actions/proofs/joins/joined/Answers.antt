@@ -1,4 +1,4 @@
-use Rattle.dp_actions.proofs.joining.joined.Goals as goal
+use Rattle.dp_actions.proofs.joins.joined.Goals as goal
 
 pub returns-in-Text : goal.returns-in-Text
 returns-in-Text c = rw c.in-Text.is (rw c.as_slice.ensures at c.joined_with.ensures)

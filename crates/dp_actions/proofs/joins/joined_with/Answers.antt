@@ -1,6 +1,6 @@
 use Rattle.std.proofs.Common.{sym, ◌∙◌}
 use Rattle.dp_actions.proofs.Texts.{joins, joins-not}
-use Rattle.dp_actions.proofs.joining.joined_with.Goals as goal
+use Rattle.dp_actions.proofs.joins.joined_with.Goals as goal
 
 pub returns-then-is_beyond : goal.returns-then-is_beyond
 returns-then-is_beyond c =

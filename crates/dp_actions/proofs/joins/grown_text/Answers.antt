@@ -1,4 +1,4 @@
-use Rattle.dp_actions.proofs.joining.grown_text.Goals as goal
+use Rattle.dp_actions.proofs.joins.grown_text.Goals as goal
 
 pub returns-in-Text : goal.returns-in-Text
 returns-in-Text c = λ bytes is. rw c.in-Text.is (rw c.as_slice.ensures at (c.grown_by.ensures bytes is))

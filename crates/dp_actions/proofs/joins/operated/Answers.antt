@@ -1,4 +1,4 @@
-use Rattle.dp_actions.proofs.joining.operated.Goals as goal
+use Rattle.dp_actions.proofs.joins.operated.Goals as goal
 
 pub returns-in-Concat : goal.returns-in-Concat
 returns-in-Concat c = rw c.in-Concat.is c.joined.ensures

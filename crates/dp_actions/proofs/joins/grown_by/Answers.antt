@@ -1,5 +1,5 @@
 use Rattle.dp_actions.proofs.Texts.{grows, grows-not}
-use Rattle.dp_actions.proofs.joining.grown_by.Goals as goal
+use Rattle.dp_actions.proofs.joins.grown_by.Goals as goal
 
 pub returns-in-Ok : goal.returns-in-Ok
 returns-in-Ok c = λ bytes is.
