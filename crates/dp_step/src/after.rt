@@ -21,7 +21,6 @@ use crate::work::{AfterValue, EachTurns, ForSignal, ForValues, Hand, Next, Work}
 use dp_actions::{Halt, Signal, bind_all, bind_entry, exit_value, holds, print_value, unset_place};
 use dp_shared::Shared;
 use dp_state::State;
-use dp_step_parts::holds;
 use dp_tree::{Binding, Expression, Place};
 use dp_value::{Bytes, Items, Value};
 use std::alloc::Global;
@@ -58,7 +57,7 @@ pub(crate) fn receive_after<'p>(
 pub(crate) fn receive_values<'p>(
     alloc: Global,
     work: ForValues<'p>,
-    values: Items<Value>,
+    values: Items<Shared>,
     state: &mut State,
 ) -> Result<Next<'p>, Halt>
     ensures { (setting : Setting)
@@ -162,11 +161,11 @@ pub(crate) fn bind<'p>(
         → Leads setting (λ k. and_then (each_turn setting turns.entry (drop at (entries subject)) state.old)
         (to_signal k)) result state.new }
 {
-    if at >= entry_count(subject.value()) {
+    if at >= entry_count(&subject) {
         drop(subject);
         Ok(signal(Signal::Next))
     } else {
-        match bind_at(turns.binding, subject.value(), at, state) {
+        match bind_at(turns.binding, &subject, at, state) {
             Ok(()) => Ok(Next {
                 hand: Hand::Run(turns.body),
                 waits: Some(Work::ForSignal(ForSignal::EachBody(turns, subject, at + 1))),
@@ -180,11 +179,11 @@ pub(crate) fn bind<'p>(
 }
 
 // The entry at a position is bound.
-fn bind_at(binding: &Binding, subject: &Value, at: usize, state: &mut State) -> Result<(), Halt>
+fn bind_at(binding: &Binding, subject: &Shared, at: usize, state: &mut State) -> Result<(), Halt>
     ensures { (entry : EntryKey × Data) → slice_get (entries subject.now) at ≡ Some entry
         → AtOnce (bind_run binding.now entry state.old) result state.new }
 {
-    match subject {
+    match subject.value() {
         Value::Array(array) => bind_entry(binding, array, at, state),
         _ => Ok(()),
     }

@@ -11,10 +11,11 @@ ghost use Rattle.dp_step_parts.specs.Rest.{to_value};
 use crate::next::{given, values_first};
 use crate::work::{ForValues, Hand, Next, Work};
 use dp_actions::{Callee, Halt, fatal, file_named_by, look_up, not_included};
+use dp_shared::Shared;
 use dp_state::{FatalKind, State};
 use dp_step_parts::{ForValues as PartValues, Work as PartWork};
 use dp_tree::{Bundle, Expression, Inclusion};
-use dp_value::{Bytes, Items, Value};
+use dp_value::{Bytes, Items};
 use std::alloc::Global;
 
 /// The call of a name.
@@ -47,13 +48,13 @@ pub(crate) fn include<'p>(
     alloc: Global,
     bundle: &'p Bundle,
     how: Inclusion,
-    name: Value,
+    name: Shared,
     state: &State,
 ) -> Result<Next<'p>, Halt>
     ensures { (setting : Setting) → setting.bundle ≡ bundle.now
         → Leads setting (λ k. and_then (include_run how name setting state.now) (to_value k)) result state.now }
 {
-    let found = file_named_by(alloc, bundle, &name);
+    let found = file_named_by(alloc, bundle, name.value());
     drop(name);
     match found {
         Ok(file) => included(how, file, state),

@@ -8,10 +8,11 @@ use crate::steps::Steps;
 use crate::work::{DoTurns, EachTurns, Hand, Head, Turns};
 use dp_actions::{Halt, Signal};
 use dp_meaning::Whole;
+use dp_shared::Shared;
 use dp_state::Outcome;
 use dp_step_parts::{Given, Hand as PartHand};
 use dp_tree::Statement;
-use dp_value::{Items, Memory, Value};
+use dp_value::{Items, Memory};
 use std::sync::ledger::Ledger;
 use std::{mem, slice};
 
@@ -139,7 +140,7 @@ impl<'p> Machine<'p> {
     fn entries(
         &mut self,
         turns: EachTurns<'p>,
-        subject: Value,
+        subject: Shared,
         at: usize,
     ) -> Result<Option<Outcome>, Memory>
         ensures { IfOk result (λ end. Leaps self.old
@@ -150,7 +151,7 @@ impl<'p> Machine<'p> {
             at,
             turns.line,
             turns.binding,
-            &subject,
+            subject.value(),
             body,
             &mut self.state,
         );

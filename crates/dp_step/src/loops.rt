@@ -123,7 +123,7 @@ pub(crate) fn each_turn<'p>(turns: EachTurns<'p>, subject: Shared, at: usize) ->
     ensures { (setting : Setting) (k : Follows) (s : AnyState)
         → small_rest setting result k s ≡ and_then (each_from setting turns.entry subject at s) (to_signal k) }
 {
-    if at >= entry_count(subject.value()) {
+    if at >= entry_count(&subject) {
         drop(subject);
         Small {
             moment: None,
@@ -141,10 +141,10 @@ pub(crate) fn each_turn<'p>(turns: EachTurns<'p>, subject: Shared, at: usize) ->
 }
 
 /// How many entries a `foreach` walks.
-pub(crate) fn entry_count(subject: &Value) -> usize
+pub(crate) fn entry_count(subject: &Shared) -> usize
     ensures { result ≡ length (entries subject.now) }
 {
-    match subject {
+    match subject.value() {
         Value::Array(array) => array.len(),
         _ => 0,
     }

@@ -19,7 +19,7 @@ use dp_actions::{Halt, Signal};
 use dp_shared::Shared;
 use dp_step_parts::{Given, Hand as PartHand};
 use dp_tree::Expression;
-use dp_value::{Items, Value};
+use dp_value::Items;
 use std::alloc::Global;
 
 /// A value is given.

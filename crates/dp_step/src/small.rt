@@ -66,7 +66,7 @@ impl<'p> Machine<'p> {
             return self.first(Hand::Part(PartHand::Evaluate(e)));
         }
         match value_in_place(self.alloc, &mut self.state, self.bundle, e) {
-            Ok(Some(value)) => self.take(Given::Value(value)),
+            Ok(Some(value)) => self.take(Given::Value(Shared::of(value))),
             Ok(None) => self.first(Hand::Part(PartHand::Evaluate(e))),
             Err(_) => Err(Halt::Memory),
         }

@@ -2,10 +2,11 @@
 //! with the values that it has read, and lends its tree.
 
 use dp_actions::Signal;
+use dp_shared::Shared;
 use dp_state::{MomentKind, Outcome};
 use dp_step_parts::{Hand as PartHand, Work as PartWork};
 use dp_tree::{Arm, Binding, Boxed, Expression, Function, Inclusion, Place, Statement};
-use dp_value::{Bytes, Items, Value};
+use dp_value::{Bytes, Items};
 
 /// What stands at the head of a loop of turns.
 #[derive(Clone, Copy)]

@@ -22,7 +22,7 @@ returns-in-Ok-Some c =
     moves_as m _ c.take.new.self _ _ c.take.result
     (ap (λ (r : Run Value). and_then r (to_value (follows_of m))) value_is
     ∙ ap (λ (s : State). follows_of m (given.Value c.in-Ok-Some.value) s) (sym c.in-Ok-Some.ensures.same))
-    refl refl c.take.ensures
+    refl refl (rw c.of.ensures at c.take.ensures)
 
 pub returns-in-Ok-None : goal.returns-in-Ok-None
 returns-in-Ok-None c =
