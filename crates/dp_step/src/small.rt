@@ -1,6 +1,7 @@
 //! The small steps of a machine: what is in hand is done as far as one of them goes, and what waits for it is pending.
 
-ghost use Rattle.std.specs.Prelude.{◌≡◌, ◌++◌, ◌∷◌, [], ℕ, OnOk};
+ghost use Rattle.std.specs.Prelude.{◌≡◌, ◌++◌, ◌∷◌, [], ℕ, true, OnOk};
+ghost use Rattle.dp_tree.specs.Purity.{is_pure as changes_nothing};
 ghost use Rattle.dp_state.specs.declared.state.State.{State as SomeState};
 ghost use Rattle.dp_actions.specs.Bodies.{statements_of as body_of};
 ghost use Rattle.dp_actions.specs.Run.{and_then};
@@ -57,12 +58,13 @@ impl<'p> Machine<'p> {
     }
 
     // A small step with an expression. One that changes nothing is evaluated whole, in the state as it is; where that
-    // is fatal it is done part by part, so that the end is that of its part.
+    // is fatal it is done part by part, so that the end is that of its part. One that may give what a variable shares
+    // is done part by part, too: nothing is copied then.
     fn evaluate_whole(&mut self, e: &'p Expression) -> Result<Option<(MomentKind, u32)>, Halt>
         ensures { Moves self.old (rest_with self.old (any_hand.Part (any_part.Evaluate e.entry)) self.old.state)
             result self.new }
     {
-        if !is_pure(e) {
+        if !is_whole(e) {
             return self.first(Hand::Part(PartHand::Evaluate(e)));
         }
         match value_in_place(self.alloc, &mut self.state, self.bundle, e) {
@@ -238,6 +240,18 @@ impl<'p> Machine<'p> {
         self.depth = depth;
         put_hand(&mut self.hand, file_left(given));
         None
+    }
+}
+
+// Whether an expression is evaluated whole: one that changes nothing, unless its value may be that of a variable.
+fn is_whole(e: &Expression) -> bool
+    ensures { result ≡ true → changes_nothing e.now ≡ true }
+{
+    match e {
+        Expression::Variable(_) => false,
+        Expression::Coalesce(_, _) => false,
+        Expression::Conditional(_, _, _) => false,
+        e => is_pure(e),
     }
 }
 

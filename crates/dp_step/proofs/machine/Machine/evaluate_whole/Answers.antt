@@ -17,7 +17,7 @@ pub returns-in-Ok-Some : goal.returns-in-Ok-Some
 unfolding and_then
 returns-in-Ok-Some c =
     let m = c.args.self.now in
-    let value_is = pure-same c.args.e.now (sym c.is_pure.ensures ∙ c.if-not-is_pure.false) (setting_at m)
+    let value_is = pure-same c.args.e.now (c.is_whole.ensures c.if-not-is_whole.false) (setting_at m)
     (evaluation_setting m.bundle.now) m.state ∙ (rw c.in-Ok-Some.field-0-is at c.in-Ok-Some.ensures).value in
     moves_as m _ c.take.new.self _ _ c.take.result
     (ap (λ (r : Run Value). and_then r (to_value (follows_of m))) value_is
