@@ -5,7 +5,8 @@ use Rattle.dp_step.proofs.after.echoed.Goals as goal
 
 pub returns-in-Ok : goal.returns-in-Ok
 returns-in-Ok c = λ setting. record {
-  by = λ k. and_then-assoc _ _ _ ∙ then_done _ (tt {0}) c.print_value-done.new.state _ (rw c.value.ensures at c.in-Ok.ensures) ∙ refl;
+  by = λ k. and_then-assoc _ _ _
+      ∙ then_done _ (tt {0}) c.print_value-done.new.state _ (rw c.value.ensures at c.in-Ok.ensures) ∙ refl;
 }
 
 pub returns-in-Err : goal.returns-in-Err
