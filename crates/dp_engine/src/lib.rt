@@ -16,3 +16,5 @@ pub use dp_step::Steps;
 pub use dp_value::Memory;
 pub use service::{ServeEnd, Served, serve};
 pub use session::{Answer, Session, SessionEnd};
+pub use sides::Side;
+pub use states::{Phase, Reason};

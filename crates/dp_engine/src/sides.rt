@@ -6,7 +6,7 @@ use dp_command::Request;
 
 /// What a request is answered from.
 #[derive(Clone, Copy, Debug, PartialEq, Eq)]
-pub(crate) enum Side {
+pub enum Side {
     /// What the session itself knows, and where its program goes on to.
     Session,
     /// The breakpoints that are held.

@@ -9,7 +9,7 @@ use dp_state::Outcome;
 
 /// The state of a session: DBGp 1.0, "status".
 #[derive(Clone, Copy, Debug, PartialEq, Eq)]
-pub(crate) enum Phase {
+pub enum Phase {
     /// Before the first continuation.
     Starting,
     /// At a moment.
@@ -20,7 +20,7 @@ pub(crate) enum Phase {
 
 /// Why a session came into its state: DBGp 1.0, "status".
 #[derive(Clone, Copy, Debug, PartialEq, Eq)]
-pub(crate) enum Reason {
+pub enum Reason {
     Ok,
     /// The program could not go on.
     Error,

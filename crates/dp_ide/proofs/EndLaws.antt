@@ -6,7 +6,7 @@ use Rattle.std.specs.List.{flat_map, list_all, AllByRecursion}
 use Rattle.std.specs.Io.KnownBytes.{Consumes}
 use Rattle.std.proofs.lemmas.Bool.{and_parts, false≢true, not-true}
 use Rattle.std.proofs.lemmas.List.{append_cancel_right}
-use Rattle.dp_markup.specs.declared.refusal.Refusal.TheVariants as refusal
+use Rattle.dp_grammar.specs.declared.refusal.Refusal.TheVariants as refusal
 use Rattle.dp_markup.specs.declared.tree.Element.{Element}
 use Rattle.dp_markup.specs.inner.Input.{Outcome}
 use Rattle.dp_markup.specs.inner.Reading.{document}

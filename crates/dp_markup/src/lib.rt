@@ -21,5 +21,6 @@ pub use attributes::same_text;
 pub use dp_value::Memory;
 pub use errors::MarkupError;
 pub use reader::{head_attribute, level_limit, read, reread};
+pub use states::StartTag;
 pub use tree::{Element, Node};
 pub use writer::write;

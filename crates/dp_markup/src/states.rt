@@ -14,7 +14,7 @@ pub(crate) struct Tag {
 
 /// A start tag: `is_empty` where it is the whole element, as `<a/>`.
 #[derive(Debug, Drop)]
-pub(crate) struct StartTag {
+pub struct StartTag {
     pub name: Bytes,
     pub attributes: Items<(Bytes, Bytes)>,
     pub is_empty: bool,
