@@ -1,6 +1,7 @@
 pub mod KeyLemmas
 pub mod PairLemmas
 pub mod ArrayLemmas
+pub mod RowLemmas
 pub mod TableLemmas
 pub mod BehindLemmas
 pub mod IntTextLemmas

@@ -7,22 +7,18 @@ use Rattle.std.specs.List.{zip, position, position_or_len, list_any}
 use Rattle.dp_value.specs.declared.key.Key.{Key}
 use Rattle.dp_value.specs.Key.{key_eq, key_weight}
 use Rattle.dp_value.specs.Data.{Data, weight_of, pairs_weight}
-use Rattle.dp_value.specs.Table.{find_value, put, swapped, take_away}
+use Rattle.dp_value.specs.Table.{find_value, keys_of, put, swapped, take_away, values_of}
 use Rattle.dp_value.specs.Place.{IsAbsent, IsFirst}
 
-pub zip_none : {X Y : Type 0} (xs : List X) (ys : List Y) (i : ℕ) → None ≡ slice_get xs i
-    → None ≡ slice_get (zip xs ys) i
-zip_none [] ys i h = refl
-zip_none (x ∷ xs) [] i h = refl
-zip_none (x ∷ xs) (y ∷ ys) zero h = cc
-zip_none (x ∷ xs) (y ∷ ys) (suc i) h = zip_none xs ys i h
-
-pub zip_some : {X Y : Type 0} (xs : List X) (ys : List Y) (i : ℕ) (x : X) (y : Y) → slice_get xs i ≡ Some x
-    → slice_get ys i ≡ Some y → slice_get (zip xs ys) i ≡ Some (x, y)
-zip_some [] ys i x y h g = cc
-zip_some (a ∷ xs) [] i x y h g = cc
-zip_some (a ∷ xs) (b ∷ ys) zero x y h g = cc
-zip_some (a ∷ xs) (b ∷ ys) (suc i) x y h g = zip_some xs ys i x y h g
+-- a pair, by its key and its value
+pub pair_some : (ps : List (Key × Data)) (i : ℕ) (k : Key) (d : Data) → slice_get (keys_of ps) i ≡ Some k
+    → slice_get (values_of ps) i ≡ Some d → slice_get ps i ≡ Some (k, d)
+pair_some [] i k d h g = cc
+pair_some (p ∷ ps) zero k d h g =
+    let key : p.0 ≡ k = same_Some p.0 k h in
+    let value : p.1 ≡ d = same_Some p.1 d g in
+    λ i. Some (key i, value i)
+pair_some (p ∷ ps) (suc i) k d h g = pair_some ps i k d h g
 
 -- the first place of an element that passes is within the list, or no element passes
 abbrev Places : {X : Type 0} → (X → Bool) → List X → Type 0

@@ -2,6 +2,7 @@
 pub mod Codes
 pub mod Sizes
 pub mod Behind
+pub mod Rows
 pub mod Inside
 pub mod Falls
 pub mod Writing

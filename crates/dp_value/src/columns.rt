@@ -1,17 +1,17 @@
 //! The keys and values of an array, side by side.
 
-ghost use Rattle.std.specs.Prelude.{◌≡◌, ◌==◌, ◌+◌, ◌<◌, ◌≤◌, ◌↔◌, ◌⊎◌, [], min, length, map, remove, slice_get};
+ghost use Rattle.std.specs.Prelude.{◌≡◌, ◌==◌, ◌+◌, ◌<◌, ◌≤◌, ◌↔◌, ◌⊎◌, [], min, length, map, drop, slice_get};
 ghost use Rattle.std.specs.Prelude.{is_some, option_map, IfSome, MatchOption, IfOk, OnOk, OnErr, IfErr, IsErrOf};
 ghost use Rattle.dp_value.specs.Key.{key_eq};
 ghost use Rattle.dp_value.specs.Data.{pairs_weight};
-ghost use Rattle.dp_value.specs.Place.{IsAbsent, IsFirst};
 ghost use Rattle.dp_value.specs.Table.{empty, keys_of, values_of, value_at, put, table_set, table_remove};
 ghost use Rattle.dp_value.specs.Table.{table_exchange, swapped, weight_limit, IsTable, raised as raised_by};
 ghost use Rattle.dp_value.specs.Value.{data_of, pairs_in};
 ghost use Rattle.dp_value.specs.inner.Writing.{IsTooMuch};
 
+use crate::rows::{forget, place, store, take_out};
 use crate::value::Columns;
-use crate::{Key, Memory, Value, ValueError, WEIGHT_LIMIT, weight};
+use crate::{Key, Value, ValueError, WEIGHT_LIMIT, weight};
 use indexmap::IndexSet;
 use std::alloc::Global;
 use std::mem;
@@ -24,46 +24,50 @@ impl Columns {
         Columns {
             keys: IndexSet::new(alloc),
             values: Vec::new(alloc),
+            gone: 0,
             largest: None,
             weight: 0,
         }
     }
 
     /// The number of entries. Takes no memory.
+    #[tactic(auto, using(crate::proofs::RowLemmas::nulls_within))]
     pub(crate) fn len(&self) -> usize
         ensures len { result ≡ length self.now.pairs }
         ensures table { IsTable self.now }
     {
-        self.values.len()
+        self.values.len() - self.gone
     }
 
     /// Whether there is no entry. Takes no memory.
     pub(crate) fn is_empty(&self) -> bool
         ensures { result ≡ (length self.now.pairs == 0) }
     {
-        self.values.is_empty()
+        self.len() == 0
     }
 
     /// The keys in the array's order. Takes no memory.
+    #[tactic(auto, using(crate::proofs::RowLemmas::nulls_within))]
     pub(crate) fn keys(&self) -> &[Key]
         ensures { result.now ≡ keys_of self.now.pairs }
     {
-        self.keys.as_slice()
+        &self.keys.as_slice()[self.gone..]
     }
 
     /// The values in the array's order. Takes no memory.
+    #[tactic(auto, using(crate::proofs::RowLemmas::nulls_within))]
     pub(crate) fn values(&self) -> &[Value]
         ensures { map data_of result.now ≡ values_of self.now.pairs }
     {
-        self.values.as_slice()
+        &self.values.as_slice()[self.gone..]
     }
 
     /// The entry at a position, counted from 0 in the array's order. Takes no memory.
     pub(crate) fn pair(&self, at: usize) -> Option<(&Key, &Value)>
         ensures { option_map (λ p. (p.0.now, data_of p.1.now)) result ≡ slice_get self.now.pairs at }
     {
-        let key = self.keys.get_index(at)?;
-        let value = self.values.get(at)?;
+        let key = self.keys().get(at)?;
+        let value = self.values().get(at)?;
         Some((key, value))
     }
 
@@ -71,8 +75,8 @@ impl Columns {
     pub(crate) fn get(&self, key: &Key) -> Option<&Value>
         ensures { option_map (λ v. data_of v.now) result ≡ value_at self.now key.now }
     {
-        let at = place(&self.keys, key)?;
-        Some(&self.values[at])
+        let at = place(&self.keys, self.gone, key)?;
+        Some(&self.values[self.gone + at])
     }
 
     /// The largest integer key ever used, if any.
@@ -94,9 +98,9 @@ impl Columns {
         ensures { result ≡ min (pairs_weight (put self.now.pairs key.now (data_of value.now))) u64.MAX }
     {
         let added = weight(value);
-        match place(&self.keys, key) {
+        match place(&self.keys, self.gone, key) {
             Some(at) => {
-                let old = weight(&self.values[at]);
+                let old = weight(&self.values[self.gone + at]);
                 (self.weight - old).saturating_add(added)
             }
             None => self
@@ -122,7 +126,8 @@ impl Columns {
             return Err(ValueError::TooHeavy);
         }
         let largest = raised(self.largest, &key);
-        store(&mut self.keys, &mut self.values, key, value)?;
+        forget(&mut self.keys, &mut self.values, &mut self.gone, &key);
+        store(&mut self.keys, &mut self.values, self.gone, key, value)?;
         self.largest = largest;
         self.weight = weight;
         Ok(())
@@ -137,9 +142,9 @@ impl Columns {
         ensures exchanged { self.new ≡ table_exchange self.old key.now (data_of value) }
         ensures table { IsTable self.old }
     {
-        let at = place(&self.keys, key)?;
+        let at = place(&self.keys, self.gone, key)?;
         let added = weight(&value);
-        let old = mem::replace(&mut self.values[at], value);
+        let old = mem::replace(&mut self.values[self.gone + at], value);
         self.weight = self.weight - weight(&old) + added;
         Some(old)
     }
@@ -150,11 +155,11 @@ impl Columns {
         ensures found { result ≡ is_some (value_at self.old key.now) }
         ensures removed { self.new ≡ table_remove self.old key.now }
     {
-        let Some(at) = place(&self.keys, key) else {
+        let Some(at) = place(&self.keys, self.gone, key) else {
             return false;
         };
-        let gone = take_out(&mut self.keys, &mut self.values, at);
-        self.weight -= gone;
+        let weight = take_out(&mut self.keys, &mut self.values, &mut self.gone, at);
+        self.weight -= weight;
         true
     }
 }
@@ -179,54 +184,4 @@ fn raised(largest: Option<i64>, key: &Key) -> Option<i64>
         (None, Key::Int(n)) => Some(*n),
         (Some(m), Key::Int(n)) => Some(m.max(*n)),
     }
-}
-
-/// The position of a key.
-pub(crate) fn place(keys: &IndexSet<Key>, key: &Key) -> Option<usize>
-    ensures place { MatchOption result (IsAbsent (key_eq key.now) keys.now.keys)
-        (IsFirst (key_eq key.now) keys.now.keys) }
-    ensures within { IfSome result (λ i. i < length keys.now.keys) }
-{
-    keys.get_index_of(key)
-}
-
-/// Puts a value under a key: in its place where the key is there, else behind all others.
-pub(crate) fn store(
-    keys: &mut IndexSet<Key>,
-    values: &mut Vec<Value>,
-    key: Key,
-    value: Value,
-) -> Result<(), Memory>
-    requires { length values.old.items ≡ length keys.old.keys }
-    ensures ok { OnOk result (pairs_in keys.new.keys values.new.items ≡ put
-        (pairs_in keys.old.keys values.old.items) key (data_of value)) }
-    ensures err { OnErr result (pairs_in keys.new.keys values.new.items ≡ pairs_in keys.old.keys values.old.items) }
-    ensures same_length { length values.new.items ≡ length keys.new.keys }
-{
-    if let Some(at) = place(keys, &key) {
-        values[at] = value;
-        return Ok(());
-    }
-    values.reserve(1)?;
-    keys.insert(key)?;
-    values.push_reserved(value);
-    Ok(())
-}
-
-/// Takes the pair at a position out, and gives what it weighed.
-pub(crate) fn take_out(keys: &mut IndexSet<Key>, values: &mut Vec<Value>, at: usize) -> u64
-    requires within { at < length keys.old.keys }
-    requires same_length { length values.old.items ≡ length keys.old.keys }
-    requires light { pairs_weight (pairs_in keys.old.keys values.old.items) ≤ weight_limit }
-    ensures keys { keys.new.keys ≡ remove keys.old.keys at }
-    ensures values { values.new.items ≡ remove values.old.items at }
-    ensures weight { result + pairs_weight (pairs_in keys.new.keys values.new.items) ≡ pairs_weight
-        (pairs_in keys.old.keys values.old.items) }
-{
-    let key = &keys.as_slice()[at];
-    let value = &values[at];
-    let weight = 1 + key.weight() + weight(value);
-    let _ = keys.shift_remove_index(at);
-    let _ = values.remove(at);
-    weight
 }

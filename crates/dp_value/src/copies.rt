@@ -1,10 +1,13 @@
 //! Copies of values.
 
 ghost use Rattle.std.specs.Prelude.{◌≡◌, IfOk};
+ghost use Rattle.std.specs.List.{IsDistinct};
+ghost use Rattle.dp_value.specs.Key.{key_eq};
 
 use crate::value::Columns;
 use crate::{Key, Memory, PhpArray, Value};
 use indexmap::IndexSet;
+use std::alloc::Global;
 
 impl Value {
     /// An equal value.
@@ -40,31 +43,36 @@ impl PhpArray {
 }
 
 impl Columns {
-    /// Equal columns.
+    /// Equal columns, of what is left alone.
     #[cycle(copying)]
+    #[tactic(auto, using(crate::proofs::RowLemmas::nulls_within))]
     pub(crate) fn try_clone(&self) -> Result<Columns, Memory>
         ensures { IfOk result (λ copy. copy ≡ self.now) }
     {
-        let keys = copy_keys(&self.keys)?;
-        let mut values = Vec::with_capacity(*self.values.allocator(), self.values.len())?;
-        for value in &self.values {
+        let alloc = *self.values.allocator();
+        let keys = copy_keys(alloc, &self.keys.as_slice()[self.gone..])?;
+        let left = &self.values.as_slice()[self.gone..];
+        let mut values = Vec::with_capacity(alloc, left.len())?;
+        for value in left {
             values.push(value.try_clone()?)?;
         }
         Ok(Columns {
             keys,
             values,
+            gone: 0,
             largest: self.largest,
             weight: self.weight,
         })
     }
 }
 
-// The same keys in the same order.
-fn copy_keys(keys: &IndexSet<Key>) -> Result<IndexSet<Key>, Memory>
-    ensures { IfOk result (λ copy. copy.keys ≡ keys.now.keys) }
+// A set of these keys, in the same order.
+fn copy_keys(alloc: Global, keys: &[Key]) -> Result<IndexSet<Key>, Memory>
+    requires { IsDistinct key_eq keys.now }
+    ensures { IfOk result (λ copy. copy.keys ≡ keys.now) }
 {
-    let mut copy = IndexSet::with_capacity(*keys.allocator(), keys.len())?;
-    for key in keys.as_slice() {
+    let mut copy = IndexSet::with_capacity(alloc, keys.len())?;
+    for key in keys {
         let _ = copy.insert(key.try_clone()?)?;
     }
     Ok(copy)

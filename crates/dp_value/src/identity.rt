@@ -43,17 +43,17 @@ fn same_entries(a: &PhpArray, b: &PhpArray) -> bool
 fn same_columns(a: &Columns, b: &Columns) -> bool
     ensures { result ≡ identical_entries (entries_of a.now.pairs) (entries_of b.now.pairs) }
 {
-    let n = a.values.len();
-    if b.values.len() != n {
+    let n = a.len();
+    if b.len() != n {
         return false;
     }
-    let left = a.keys.as_slice();
-    let right = b.keys.as_slice();
+    let left = a.keys();
+    let right = b.keys();
     for at in 0..n {
         if !left[at].is(&right[at]) {
             return false;
         }
-        if !same(&a.values[at], &b.values[at]) {
+        if !same(&a.values[a.gone + at], &b.values[b.gone + at]) {
             return false;
         }
     }

@@ -15,6 +15,7 @@ mod names;
 mod operators;
 mod quotes;
 mod removals;
+mod rows;
 mod value;
 mod weights;
 mod writes;

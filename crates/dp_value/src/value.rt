@@ -57,13 +57,15 @@ impl Model for PhpArray {
     ghost size_decreases = { λ a h. Prim.grind arith };
 }
 
-/// What an array keeps behind its pointer: its keys and its values side by side, the largest integer key ever used, and
-/// its weight.
+/// What an array keeps behind its pointer: its keys and its values side by side, how many rows at the front are removed
+/// already, the largest integer key ever used, and the weight of what is left. A removed row keeps its key, which is no
+/// key of the array, and its value is null.
 #[cycle(value)]
 #[derive(Debug, Drop)]
 pub(crate) struct Columns {
     pub(crate) keys: IndexSet<Key>,
     pub(crate) values: Vec<Value>,
+    pub(crate) gone: usize,
     pub(crate) largest: Option<i64>,
     pub(crate) weight: u64,
 }
@@ -88,7 +90,7 @@ impl Model for Columns {
 
     ghost use Rattle.dp_value.specs.inner.Falls.{most_le_depth};
 
-    ghost size_decreases = { λ a h. most_le_depth a.keys.keys a.values.items h.same_length };
+    ghost size_decreases = { λ a h. most_le_depth a.gone a.keys.keys a.values.items h.same_length h.nulls };
 }
 
 impl PhpArray {

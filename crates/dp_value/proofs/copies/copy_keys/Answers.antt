@@ -1,22 +1,18 @@
-use Rattle.std.proofs.Common.{◌≡◌, ◌++◌, ◌∷◌, [], List, ◌<◌, take, length, subst, ap, sym, ◌∙◌, arith}
+use Rattle.std.proofs.Common.{◌≡◌, ◌++◌, ◌∷◌, [], List, ◌<◌, take, length, ap, sym, ◌∙◌, arith}
 use Rattle.std.proofs.lemmas.List.{take_more}
-use Rattle.std.specs.List.{IsDistinct}
 use Rattle.indexmap.specs.IndexSet.{insert_key}
 use Rattle.dp_value.specs.declared.key.Key.{Key}
 use Rattle.dp_value.specs.contracts.key.KeyPartialEq.TheImpl.{ghosts}
-use Rattle.dp_value.proofs.KeyLemmas.{inserted_new, distinct_keys, fresh}
+use Rattle.dp_value.proofs.KeyLemmas.{inserted_new, fresh}
 use Rattle.dp_value.proofs.copies.copy_keys.Goals as goal
 
 pub loop-key-preserved : goal.loop-key-preserved
 loop-key-preserved c =
-    let items : c.as_slice-key-items.result.now ≡ c.args.keys.now.keys = c.as_slice-key-items.ensures.keys in
-    let distinct = subst (λ (ks : List Key). IsDistinct ghosts.eq ks) (sym items) c.as_slice-key-items.ensures.unique in
-    let within : c.loop-key.key-index < length c.as_slice-key-items.result.now = omega arith in
-    let lacks = fresh c.as_slice-key-items.result.now c.loop-key.key-index c.key-item.result
-    (distinct_keys c.as_slice-key-items.result.now distinct) within c.key-item.is in
+    let within : c.loop-key.key-index < length c.args.keys.now = omega arith in
+    let lacks = fresh c.args.keys.now c.loop-key.key-index c.key-item.result c.requires within c.key-item.is in
     c.in_ok-insert.ensures.keys
     ∙ ap (λ (k : Key). insert_key ghosts.eq c.loop-key.copy.keys k) c.in_ok-try_clone.ensures
     ∙ ap (λ (ks : List Key). insert_key ghosts.eq ks c.key-item.result) c.loop-key.invariant
-    ∙ inserted_new (take c.loop-key.key-index c.as_slice-key-items.result.now) c.key-item.result lacks
-    ∙ ap (λ (k : Key). take c.loop-key.key-index c.as_slice-key-items.result.now ++ k ∷ []) c.key-item.is
-    ∙ sym (take_more c.as_slice-key-items.result.now c.loop-key.key-index c.key-item.result within)
+    ∙ inserted_new (take c.loop-key.key-index c.args.keys.now) c.key-item.result lacks
+    ∙ ap (λ (k : Key). take c.loop-key.key-index c.args.keys.now ++ k ∷ []) c.key-item.is
+    ∙ sym (take_more c.args.keys.now c.loop-key.key-index c.key-item.result within)

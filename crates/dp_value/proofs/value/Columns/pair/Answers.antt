@@ -1,21 +1,19 @@
-use Rattle.std.proofs.Common.{map, slice_get, sym, ap, ◌∙◌}
-use Rattle.dp_value.specs.Data.{Table}
+use Rattle.std.proofs.Common.{List, length, slice_get, sym, ap, ◌∙◌}
+use Rattle.std.proofs.lemmas.Option.{slice_get_read}
+use Rattle.dp_value.specs.declared.key.Key.{Key}
+use Rattle.dp_value.specs.Data.{Data}
 use Rattle.dp_value.specs.Value.{data_of}
-use Rattle.dp_value.proofs.PairLemmas.{zip_none, zip_some}
+use Rattle.dp_value.proofs.PairLemmas.{pair_some}
 use Rattle.dp_value.proofs.ArrayLemmas.{row_value}
 use Rattle.dp_value.proofs.value.Columns.pair.Goals as goal
 
-pub returns-in_err-key : goal.returns-in_err-key
-returns-in_err-key c =
-    rw c.from_residual.ensures
-    (zip_none c.self.inside.keys.keys (map data_of c.self.inside.values.items) c.args.at c.in_err-key.ensures.key
-    ∙ ap (λ (t : Table). slice_get t.pairs c.args.at) c.self.view_is)
-
 pub returns : goal.returns
 returns c =
-    let read = rw c.deref.ensures.value at c.in_ok-value.ensures.lookup in
-    sym (zip_some c.self.inside.keys.keys (map data_of c.self.inside.values.items) c.args.at c.in_ok-key.key.now
-    (data_of c.in_ok-value.value.now)
-    (sym c.in_ok-key.ensures.key) (row_value c.self.inside.values.items c.args.at c.in_ok-value.value.now read.3.0
-    read.1))
-    ∙ ap (λ (t : Table). slice_get t.pairs c.args.at) c.self.view_is
+    let key = c.in_ok-key.ensures.lookup in
+    let value = c.in_ok-value.ensures.lookup in
+    sym (pair_some c.args.self.now.pairs c.args.at c.in_ok-key.key.now (data_of c.in_ok-value.value.now)
+    (ap (λ (ks : List Key). slice_get ks c.args.at) (sym c.keys.ensures)
+    ∙ slice_get_read c.keys.result.now (length c.keys.result.now) c.args.at c.in_ok-key.key.now
+    (λ _. length c.keys.result.now) key.3.0 key.1)
+    (ap (λ (ds : List Data). slice_get ds c.args.at) (sym c.values.ensures)
+    ∙ row_value c.values.result.now c.args.at c.in_ok-value.value.now value.3.0 value.1))

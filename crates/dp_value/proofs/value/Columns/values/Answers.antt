@@ -1,14 +1,11 @@
-use Rattle.std.proofs.Common.{map, sym, ap, ◌∙◌}
-use Rattle.std.proofs.lemmas.List.{length-map}
-use Rattle.std.proofs.lemmas.Slice.Zip.{seconds-zip}
-use Rattle.dp_value.specs.Data.{Table}
-use Rattle.dp_value.specs.Table.{values_of}
+use Rattle.std.proofs.Common.{List, map, drop, ap, ◌∙◌}
+use Rattle.dp_value.specs.declared.value.Value.{Value}
 use Rattle.dp_value.specs.Value.{data_of}
+use Rattle.dp_value.proofs.ArrayLemmas.{values_seen, slice_from}
 use Rattle.dp_value.proofs.value.Columns.values.Goals as goal
 
 pub returns : goal.returns
 returns c =
-    ap (map data_of) c.as_slice.ensures.value
-    ∙ sym (seconds-zip c.self.inside.keys.keys (map data_of c.self.inside.values.items)
-    (length-map c.self.inside.values.items data_of ∙ c.self.invariant.same_length))
-    ∙ ap (λ (t : Table). values_of t.pairs) c.self.view_is
+    ap (map data_of) (slice_from c.self.inside.gone c.as_slice.result.now)
+    ∙ ap (λ (vs : List Value). map data_of (drop c.self.inside.gone vs)) c.as_slice.ensures.value
+    ∙ values_seen c.self.inside c.self.invariant c.args.self.now c.self.view_is
