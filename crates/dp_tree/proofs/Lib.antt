@@ -1,3 +1,4 @@
 pub mod TreeLines
 pub mod TreePurity
 pub mod Taken
+pub mod Indexing

@@ -1,7 +1,7 @@
 -- The files of a bundle by their names, and their functions by their numbers.
 use Rattle.std.specs.Prelude.{ℕ, zero, suc, List, [], ◌∷◌, ◌++◌, length, Option, None, position, slice_get}
 use Rattle.std.specs.Option.{option_map_or}
-use Rattle.std.specs.Str.{bytes_eq}
+use Rattle.std.specs.Str.{bytes_eq, str_eq_ignore_ascii_case}
 use Rattle.dp_tree.specs.declared.tree.Function.{Function}
 use Rattle.dp_tree.specs.declared.bundle.Bundle.{Bundle}
 use Rattle.dp_tree.specs.declared.bundle.FunctionRef.{FunctionRef}
@@ -29,3 +29,9 @@ first_functions file (suc n) = first_functions file n ++ (record { file = file; 
 -- the functions of a file, in order
 abbrev pub functions_of : Bundle → ℕ → List FunctionRef
 functions_of bundle file = first_functions file (function_count bundle file)
+
+-- the number of the first function of this name in the file of this number, in any case of letters
+abbrev pub function_named : Bundle → ℕ → List ℕ → Option ℕ
+function_named bundle file name =
+    option_map_or (λ f. position (λ g. str_eq_ignore_ascii_case name g.name) f.tree.functions)
+    (slice_get bundle.files file) None

@@ -1,7 +1,8 @@
 //! The files of a program: data over trees.
 
+use crate::indexed::Files;
 use crate::tree::File;
-use dp_value::{Bytes, Items};
+use dp_value::Bytes;
 
 /// The most bytes that a file may have.
 pub const FILE_LIMIT: usize = 1_048_576;
@@ -15,7 +16,7 @@ pub const FILE_NAME_LIMIT: usize = 255;
 /// The files of a program. The first is the main file.
 #[derive(Debug, Drop)]
 pub struct Bundle {
-    pub files: Items<BundleFile>,
+    pub files: Files,
 }
 
 /// A file of a program: its name, its bytes and their tree.

@@ -2,22 +2,16 @@
 
 ghost use Rattle.std.specs.Prelude.{◌≡◌, ◌||◌, ◌++◌, ◌∷◌, [], false, is_some, IfOk, OnOk, MatchOption};
 ghost use Rattle.std.specs.List.{list_any};
-ghost use Rattle.std.specs.Str.{bytes_eq, str_to_ascii_lowercase};
+ghost use Rattle.std.specs.Str.{bytes_eq};
 ghost use Rattle.dp_tree.specs.Builtins as builtins;
 ghost use Rattle.dp_tree.specs.Doubles.{HasNoDouble, IsDouble};
 
 use crate::builtins::builtin_of;
+use crate::names::lowered;
 use crate::tree::Function;
 use dp_value::{Bytes, Memory};
 use indexmap::IndexSet;
 use std::alloc::Global;
-
-// The name in lower case.
-fn lowered(alloc: Global, name: &[u8]) -> Result<Bytes, Memory>
-    ensures { IfOk result (λ lower. lower ≡ str_to_ascii_lowercase name.now) }
-{
-    Ok(Bytes::of(name.to_ascii_lowercase(alloc)?))
-}
 
 // Whether a name is that of a built-in function, or is among these names, which are in lower case.
 fn is_taken(names: &IndexSet<Bytes>, name: &[u8], lower: &Bytes) -> bool

@@ -1,13 +1,14 @@
 //! The files of a bundle by their names, and their functions by their numbers.
 
-ghost use Rattle.std.specs.Prelude.{◌≡◌, ◌<◌, length, option_map, IfOk, OnErr};
-ghost use Rattle.dp_tree.specs.Files.{file_named, first_functions, function_at, function_count as count_of};
-ghost use Rattle.dp_tree.specs.Files.{functions_of};
+ghost use Rattle.std.specs.Prelude.{◌≡◌, ◌<◌, [], length, option_map, position, slice_get, IfOk, OnErr};
+ghost use Rattle.std.specs.Option.{option_map_or};
+ghost use Rattle.std.specs.Str.{str_eq_ignore_ascii_case};
+ghost use Rattle.dp_tree.specs.Files.{file_named, function_at, function_count as count_of, function_named};
 
 use crate::bundle::{Bundle, FunctionRef};
+use crate::names::AnyCase;
 use crate::tree::Function;
-use dp_value::{Items, Memory};
-use std::alloc::Global;
+use dp_value::Memory;
 
 impl Bundle {
     /// The number of the file of this name, by exact equality. Takes no memory: `Memory` comes only where there are
@@ -44,16 +45,47 @@ impl Bundle {
         }
     }
 
-    /// The functions of the file of this number, in order.
-    pub fn functions(&self, alloc: Global, file: u32) -> Result<Items<FunctionRef>, Memory>
-        ensures { IfOk result (λ functions. functions ≡ functions_of self.now file) }
+    /// How many functions the file of this number has. Takes no memory: `Memory` comes only where there are more than
+    /// can be numbered.
+    pub fn function_count(&self, file: u32) -> Result<u32, Memory>
+        ensures { IfOk result (λ count. count ≡ count_of self.now file) }
     {
-        let count = function_count(self, file)?;
-        first(alloc, file, count)
+        match self.files.as_slice().get(file as usize) {
+            Some(file) => numbered(file.tree.functions.len()),
+            None => Ok(0),
+        }
+    }
+
+    /// The number of the first function of this name in the file of this number, in any case of letters: found by the
+    /// hash of the name in lower case. Takes no memory.
+    pub fn function_named(&self, file: u32, name: &AnyCase<'_>) -> Option<usize>
+        ensures { result ≡ function_named self.now file name.now }
+    {
+        match &name.lower {
+            Some(lower) => self.files.first(file, lower),
+            None => self.walk(file, name.written),
+        }
+    }
+
+    // The same without the name in lower case: the functions of the file are walked.
+    fn walk(&self, file: u32, name: &[u8]) -> Option<usize>
+        ensures { result ≡ function_named self.now file name.now }
+    {
+        position_of(self.functions(file), name)
+    }
+
+    /// The functions of the file of this number, in order. Takes no memory.
+    pub fn functions(&self, file: u32) -> &[Function]
+        ensures { result.now ≡ option_map_or (λ f. f.tree.functions) (slice_get self.now.files file) [] }
+    {
+        match self.files.as_slice().get(file as usize) {
+            Some(file) => file.tree.functions.as_slice(),
+            None => &[],
+        }
     }
 }
 
-// A number of a file or a function. More than can be numbered do not fit into memory.
+// A number of a file, or how many functions there are. More than can be numbered do not fit into memory.
 fn numbered(number: usize) -> Result<u32, Memory>
     ensures number { IfOk result (λ n. n ≡ number) }
     ensures memory { OnErr result (u32.MAX < number) }
@@ -64,23 +96,10 @@ fn numbered(number: usize) -> Result<u32, Memory>
     }
 }
 
-// How many functions the file of this number has.
-fn function_count(bundle: &Bundle, file: u32) -> Result<u32, Memory>
-    ensures { IfOk result (λ count. count ≡ count_of bundle.now file) }
+// The number of the first of these functions that has this name, in any case of letters.
+fn position_of(functions: &[Function], name: &[u8]) -> Option<usize>
+    ensures { result ≡ position (λ f. str_eq_ignore_ascii_case name.now f.name) functions.now }
 {
-    match bundle.files.as_slice().get(file as usize) {
-        Some(file) => numbered(file.tree.functions.len()),
-        None => Ok(0),
-    }
-}
-
-// So many functions of a file, in order.
-fn first(alloc: Global, file: u32, count: u32) -> Result<Items<FunctionRef>, Memory>
-    ensures { IfOk result (λ functions. functions ≡ first_functions file count) }
-{
-    let mut functions = Vec::new(alloc);
-    for function in 0..count {
-        functions.push(FunctionRef { file, function })?;
-    }
-    Ok(Items::of(functions))
+    let mut functions = functions.iter();
+    functions.position(|function| name.eq_ignore_ascii_case(function.name.as_slice()))
 }

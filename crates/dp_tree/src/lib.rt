@@ -7,7 +7,9 @@ mod builtins;
 mod bundle;
 mod doubles;
 mod files;
+mod indexed;
 mod lines;
+mod names;
 mod purity;
 mod tree;
 
@@ -15,7 +17,9 @@ pub use boxed::Boxed;
 pub use builtins::builtin_of;
 pub use bundle::{Bundle, BundleFile, FILE_COUNT_LIMIT, FILE_LIMIT, FILE_NAME_LIMIT, FunctionRef};
 pub use doubles::first_double;
+pub use indexed::Files;
 pub use lines::has_code;
+pub use names::AnyCase;
 pub use purity::is_pure;
 pub use tree::{
     Arm, Binding, Expression, File, Function, Inclusion, Item, Link, Operator, Order, Place,
