@@ -1,7 +1,7 @@
 pub mod ValueLemmas
 pub mod Owners
 pub mod Pairs
-pub mod Declared
+pub mod Finding
 pub mod Slots
 pub mod Homes
 pub mod Writing

@@ -1,8 +1,7 @@
 //! The frames of calls and of included files.
 
-ghost use Rattle.std.specs.Prelude.{◌≡◌, ◌++◌, [], is_some, slice_get, Ok, IfOk, IfErr, OnOk, OnErr};
+ghost use Rattle.std.specs.Prelude.{◌≡◌, [], is_some, Ok, IfOk, IfErr, OnOk, OnErr};
 ghost use Rattle.std.specs.List.{list_any};
-ghost use Rattle.std.specs.Option.{option_map_or};
 ghost use Rattle.dp_state.specs.States.{IsCause, IsSure};
 ghost use Rattle.dp_tree.specs.Files.{functions_of};
 ghost use Rattle.dp_state.specs.Functions.{any_declared as has_declared, called, declared_function, included};
@@ -13,10 +12,9 @@ use crate::state::{Fault, Frame, FrameKind, State};
 use crate::steps::FRAME_LIMIT;
 use crate::vars::{Slot, Vars};
 use dp_shared::Shared;
-use dp_tree::{Bundle, Function, FunctionRef};
+use dp_tree::{Bundle, Function};
 use dp_value::{Bytes, Items, Memory};
 use std::alloc::Global;
-use std::mem;
 
 impl State {
     /// Puts a frame on top for a call of this function of a file, on the function's line, with its parameters set.
@@ -70,10 +68,9 @@ impl State {
         if self.any_declared(bundle, file) {
             return Err(Fault::Fatal(FatalKind::Redeclared));
         }
-        let alloc = self.allocator();
-        let functions = bundle.functions(alloc, file)?;
-        self.enter(included_frame(alloc, file))?;
-        match declare(alloc, &mut self.declared, functions.as_slice()) {
+        let count = bundle.function_count(file)?;
+        self.enter(included_frame(self.allocator(), file))?;
+        match self.declared.add(file, count) {
             Ok(()) => Ok(()),
             Err(Memory) => {
                 self.leave();
@@ -86,7 +83,7 @@ impl State {
     fn any_declared(&self, bundle: &Bundle, file: u32) -> bool
         ensures { result ≡ has_declared bundle.now self.now.declared (functions_of bundle.now file) }
     {
-        self.any_named(bundle, functions_in(bundle, file))
+        self.any_named(bundle, bundle.functions(file))
     }
 
     // Whether one of these functions has the name of one that is declared.
@@ -95,16 +92,6 @@ impl State {
             functions.now }
     {
         functions.iter().any(|function| self.function(bundle, function.name.as_slice()).is_some())
-    }
-}
-
-// The functions of the file of this number.
-fn functions_in(bundle: &Bundle, file: u32) -> &[Function]
-    ensures { result.now ≡ option_map_or (λ f. f.tree.functions) (slice_get bundle.now.files file) [] }
-{
-    match bundle.files.as_slice().get(file as usize) {
-        Some(file) => file.tree.functions.as_slice(),
-        None => &[],
     }
 }
 
@@ -130,19 +117,4 @@ fn included_frame(alloc: Global, file: u32) -> Frame
         shares: true,
         vars: Vars::new(alloc),
     }
-}
-
-// Puts functions behind those that are declared.
-fn declare(
-    alloc: Global,
-    declared: &mut Items<FunctionRef>,
-    functions: &[FunctionRef],
-) -> Result<(), Memory>
-    ensures ok { OnOk result (declared.new ≡ declared.old ++ functions.now) }
-    ensures err { OnErr result (declared.new ≡ declared.old) }
-{
-    let mut held = mem::replace(declared, Items::of(Vec::new(alloc))).into_vec();
-    let added = held.extend_from_slice(functions);
-    *declared = Items::of(held);
-    added
 }

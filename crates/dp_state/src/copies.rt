@@ -91,7 +91,7 @@ impl State {
         Ok(State {
             frames: copy_frames(alloc, self.frames.as_slice())?,
             globals: self.globals.try_clone()?,
-            declared: Items::of(Vec::from_slice(alloc, self.declared.as_slice())?),
+            declared: self.declared.try_clone(alloc)?,
             output: self.output.try_clone()?,
             moments: self.moments,
         })

@@ -3,6 +3,7 @@
 
 mod calls;
 mod copies;
+mod declarations;
 mod entries;
 mod faults;
 mod functions;
@@ -14,6 +15,7 @@ mod state;
 mod steps;
 mod vars;
 
+pub use declarations::Declared;
 pub use moments::{FatalKind, Moment, MomentKind, Outcome, Path};
 pub use state::{Fault, Frame, FrameKind, State};
 pub use steps::{FRAME_LIMIT, OUTPUT_LIMIT};

@@ -3,6 +3,7 @@
 ghost use Rattle.std.specs.Prelude.{◌≡◌, IfOk};
 ghost use Rattle.dp_state.specs.States.{first_frame, opening};
 
+use crate::declarations::Declared;
 use crate::state::{Frame, FrameKind, State};
 use crate::vars::Vars;
 use dp_tree::Bundle;
@@ -15,7 +16,8 @@ impl State {
     pub fn opening(alloc: Global, bundle: &Bundle) -> Result<State, Memory>
         ensures { IfOk result (λ state. state ≡ opening bundle.now) }
     {
-        let declared = bundle.functions(alloc, 0)?;
+        let mut declared = Declared::none(alloc);
+        declared.add(0, bundle.function_count(0)?)?;
         let mut frames = Vec::new(alloc);
         frames.push(main_frame(alloc))?;
         Ok(State {

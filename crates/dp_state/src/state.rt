@@ -1,8 +1,8 @@
 //! The state of a program that runs.
 
+use crate::declarations::Declared;
 use crate::moments::FatalKind;
 use crate::vars::Vars;
-use dp_tree::FunctionRef;
 use dp_value::{Bytes, Items};
 
 /// What a frame is of.
@@ -33,7 +33,7 @@ pub struct Frame {
 pub struct State {
     pub frames: Items<Frame>,
     pub globals: Vars,
-    pub declared: Items<FunctionRef>,
+    pub declared: Declared,
     pub output: Bytes,
     pub moments: u64,
 }

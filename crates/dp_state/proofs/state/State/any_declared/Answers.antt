@@ -1,8 +1,8 @@
 use Rattle.std.proofs.Common.{◌∙◌}
-use Rattle.dp_state.proofs.Declared.{names_declared}
+use Rattle.dp_state.proofs.Finding.{names_declared}
 use Rattle.dp_state.proofs.state.State.any_declared.Goals as goal
 
 pub returns : goal.returns
 returns c =
-    (rw c.functions_in.ensures at c.any_named.ensures)
+    (rw c.functions.ensures at c.any_named.ensures)
     ∙ names_declared c.args.bundle.now c.args.self.now.declared c.args.file
