@@ -11,7 +11,7 @@ ghost use Rattle.dp_tree.specs.declared.bundle.BundleFile.{BundleFile as MadeFil
 
 use crate::errors::BundleError;
 use dp_parse::{ParseError, parse_file};
-use dp_tree::{Bundle, BundleFile, FILE_LIMIT};
+use dp_tree::{Bundle, BundleFile, FILE_LIMIT, Files};
 use dp_value::{Bytes, Items};
 use std::alloc::Global;
 
@@ -83,7 +83,6 @@ fn bundle_of(alloc: Global, files: Items<(Bytes, Bytes)>) -> Result<Bundle, Bund
         };
         made.push(file)?;
     }
-    Ok(Bundle {
-        files: Items::of(made),
-    })
+    let files = Files::of(alloc, Items::of(made))?;
+    Ok(Bundle { files })
 }

@@ -15,7 +15,7 @@ use dp_meaning::{NumberedWrite, Stop, run_to};
 use dp_parse::parse_file;
 use dp_rows::{Field, Memory, Row, at_space, number_of, unescaped};
 use dp_state::State;
-use dp_tree::{Bundle, BundleFile};
+use dp_tree::{Bundle, BundleFile, Files};
 use dp_value::{Bytes, Items};
 use dp_view::Paging;
 use std::alloc::Global;
@@ -46,9 +46,8 @@ fn program(alloc: Global, row: &Row<'_>) -> Result<Option<Bundle>, Memory> {
             }
         }
     }
-    Ok(Some(Bundle {
-        files: Items::of(files),
-    }))
+    let files = Files::of(alloc, Items::of(files))?;
+    Ok(Some(Bundle { files }))
 }
 
 /// A file of this name and text, or nothing where the text is no program.

@@ -65,7 +65,7 @@ pub returns-clause-made : goal.returns-clause-made
 returns-clause-made c =
     let ended : c.loop-name.name-iterator.rest.items ≡ [] = nil_from_length _
     (sym c.loop-name.name-iterator.rest.ok.0 ∙ c.in-None.ensures.steps.0) in
-    subst (λ (files : List BundleFile). IsMade c.args.files (Ok (record { files = files }))) (sym c.of.ensures)
+    subst (λ (files : List BundleFile). IsMade c.args.files (Ok (record { files = files }))) (sym (c.in_ok-files.ensures ∙ c.of.ensures))
     (all_made c.args.files c.loop-name.made.items (subst (λ
     (rest : List Given). Stands c.args.files c.loop-name.made.items rest) ended c.loop-name.invariant.2))
 
@@ -74,6 +74,6 @@ returns-clause-only c =
     let ended : c.loop-name.name-iterator.rest.items ≡ [] = nil_from_length _
     (sym c.loop-name.name-iterator.rest.ok.0 ∙ c.in-None.ensures.steps.0) in
     subst (λ (files : List BundleFile). (asked : Result Bundle BundleError) → Makes c.args.files asked
-    → IsAnswer asked (Ok (record { files = files }))) (sym c.of.ensures)
+    → IsAnswer asked (Ok (record { files = files }))) (sym (c.in_ok-files.ensures ∙ c.of.ensures))
     (all_only c.args.files c.loop-name.made.items (subst (λ (rest : List Given). Stands c.args.files
     c.loop-name.made.items rest) ended c.loop-name.invariant.2))
