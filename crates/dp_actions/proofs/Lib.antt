@@ -4,3 +4,5 @@ pub mod Tails
 pub mod Layers
 pub mod Texts
 pub mod Entering
+pub mod PureParts
+pub mod Observing

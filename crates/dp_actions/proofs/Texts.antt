@@ -3,20 +3,19 @@ use Rattle.std.proofs.Common.{◌≡◌, ℕ, Bool, true, false, not, cond, nat_
 use Rattle.dp_value.specs.declared.errors.ValueError.TheVariants.{TooHeavy}
 use Rattle.dp_value.specs.declared.errors.WriteError.TheVariants as write
 use Rattle.dp_value.specs.declared.value.Value.{Value}
-use Rattle.dp_value.specs.declared.value.Value.TheVariants.{Null, Text}
-use Rattle.dp_value.specs.Data.{Data, text, weight_of}
+use Rattle.dp_value.specs.declared.value.Value.TheVariants.{Text}
+use Rattle.dp_value.specs.Data.{text, weight_of}
 use Rattle.dp_value.specs.Table.{weight_limit}
 use Rattle.dp_value.specs.Value.{data_of, value_of}
 use Rattle.dp_shared.specs.Pieces.{with_piece}
 use Rattle.dp_operations.specs.Text.{light_text, text_of}
-use Rattle.std.specs.Prelude.{unwrap_or}
 use Rattle.dp_state.specs.declared.moments.FatalKind.{FatalKind}
 use Rattle.dp_state.specs.declared.moments.FatalKind.TheVariants as kind
 use Rattle.dp_state.specs.declared.state.Fault.{Fault}
 use Rattle.dp_state.specs.declared.state.Fault.TheVariants as fault
 use Rattle.dp_state.specs.declared.state.State.{State}
 use Rattle.dp_state.specs.Places.{assigned, then_state, with_value}
-use Rattle.dp_state.specs.States.{read_at, IsCause, IsFatal}
+use Rattle.dp_state.specs.States.{IsCause, IsFatal}
 use Rattle.dp_actions.specs.AtOnce.{AtOnce, halt_of}
 use Rattle.dp_actions.specs.Places.{assign_run}
 use Rattle.dp_actions.specs.Run.{Run, and_then}

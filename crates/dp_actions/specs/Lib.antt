@@ -10,4 +10,5 @@ pub mod Bodies
 pub mod Loops
 pub mod Effects
 pub mod Expressions
+pub mod Observed
 pub mod inner

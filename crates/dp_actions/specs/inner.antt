@@ -1,2 +1,3 @@
 -- What only proofs speak of. No public clause cites these.
+pub mod Bases
 pub mod Keyed

@@ -14,6 +14,11 @@ mod in_place;
 mod inside;
 mod items;
 mod joins;
+mod observed_expressions;
+mod observed_indices;
+mod observed_literals;
+mod observed_operators;
+mod observer;
 mod operands;
 mod places;
 mod signal;
@@ -35,6 +40,7 @@ pub use in_place::{Reading, builtin_call, entry_by, is_plain, look};
 pub use inside::{inside_at, then_inside};
 pub use items::{pushed, put};
 pub use joins::operated;
+pub use observer::observe;
 pub use operands::{holds, kept, present, text_value, variable_value};
 pub use places::{
     assign_place, assign_variable, found_place, given_keys, key_at, read_place, unset_place,

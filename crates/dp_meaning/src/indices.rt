@@ -12,7 +12,8 @@ use dp_tree::Expression;
 impl<O: Outside> Evaluator<'_, O> {
     ghost use Rattle.std.specs.Prelude.{map};
     ghost use Rattle.dp_meaning.specs.inner.Drive.{Evaluates};
-    ghost use Rattle.dp_meaning.specs.inner.Evaluation.{base_run, entry_under, goes_by};
+    ghost use Rattle.dp_meaning.specs.inner.Evaluation.{goes_by};
+    ghost use Rattle.dp_actions.specs.inner.Bases.{base_run, entry_under};
     ghost use Rattle.dp_actions.specs.InPlace.{entries_by};
     ghost use Rattle.dp_actions.specs.Expressions.{entry_run, expression_run, indices_run};
     ghost use Rattle.dp_actions.specs.Places.{variable};

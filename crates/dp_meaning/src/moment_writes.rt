@@ -168,8 +168,8 @@ pub fn evaluation(
     }
 }
 
-/// The value of an expression, where it holds, with no writes at its moments.
-pub(crate) fn quietly(
+// The value of an expression, where it holds, with no writes at its moments.
+fn quietly(
     alloc: Global,
     bundle: &Bundle,
     e: &Expression,

@@ -4,28 +4,34 @@ ghost use Rattle.std.specs.Prelude.{◌≡◌, true, IfOk, OnOk};
 ghost use Rattle.dp_tree.specs.Purity.{is_pure};
 ghost use Rattle.dp_meaning.specs.Pure.{IsValueIn};
 
-use crate::moment_writes::quietly;
+use dp_actions::{Halt, observe};
+use dp_shared::Shared;
 use dp_state::State;
 use dp_tree::{Bundle, Expression};
 use dp_value::{Memory, Value};
 use std::alloc::Global;
 
 /// The value of an expression without calls, assignments, `++`, `--` and includes in the top frame of a state, and
-/// `None` exactly where its evaluation is fatal. Copies the state: see [`value_in_place`].
+/// `None` exactly where its evaluation is fatal. The state is lent, and a variable that is the value is not copied.
 pub fn value_in(
     alloc: Global,
     state: &State,
     bundle: &Bundle,
     e: &Expression,
-) -> Result<Option<Value>, Memory>
+) -> Result<Option<Shared>, Memory>
     requires { is_pure e.now ≡ true }
     ensures { IfOk result (λ value. IsValueIn bundle.now e.now state.now value) }
 {
-    let mut copy = state.try_clone()?;
-    value_in_place(alloc, &mut copy, bundle, e)
+    let _bundle = bundle;
+    match observe(alloc, state, e) {
+        Ok(value) => Ok(Some(value)),
+        Err(Halt::Memory) => Err(Memory),
+        Err(Halt::Finished(_)) => Ok(None),
+        Err(Halt::Stopped(_)) => unreachable!(),
+    }
 }
 
-/// The same without a copy: it is evaluated in the state itself, which is left as it was.
+/// The same as a value that has no other owner: a variable that is the value is copied.
 pub fn value_in_place(
     alloc: Global,
     state: &mut State,
@@ -36,5 +42,8 @@ pub fn value_in_place(
     ensures value { IfOk result (λ value. IsValueIn bundle.now e.now state.old value) }
     ensures same { OnOk result (state.new ≡ state.old) }
 {
-    quietly(alloc, bundle, e, state)
+    match value_in(alloc, state, bundle, e)? {
+        Some(value) => Ok(Some(value.into_value()?)),
+        None => Ok(None),
+    }
 }

@@ -5,7 +5,6 @@ use Rattle.dp_actions.specs.Run.{Run, Done, taken, ◌>>=◌}
 use Rattle.dp_state.specs.declared.state.State.{State}
 use Rattle.dp_state.specs.Places.{assigned}
 use Rattle.dp_value.specs.declared.value.Value.{Value}
-use Rattle.dp_actions.specs.Places.{variable}
 
 -- a write of a variable of the top frame under keys, which gives the value
 abbrev pub keyed_write : List ℕ → List (Option Key) → Bool → Value → State → Run Value

@@ -1,4 +1,4 @@
-use Rattle.std.proofs.Common.{◌≡◌, List, [], Option, unwrap_or, arith, sym, ap}
+use Rattle.std.proofs.Common.{◌≡◌, [], Option, unwrap_or, arith, sym, ap}
 use Rattle.std.proofs.lemmas.Bool.Decides.{nat_tests}
 use Rattle.std.proofs.lemmas.List.{nil_from_length}
 use Rattle.dp_value.specs.declared.value.Value.{Value}

@@ -1,0 +1,100 @@
+//! The values of entries and of `isset`, under indices that change nothing.
+
+#![tactic(auto, using(crate::proofs::Acting::acting))]
+
+use crate::after::then_found;
+use crate::answers::is_missing;
+use crate::halt::Halt;
+use crate::in_place::Reading;
+use crate::inside::then_inside;
+use crate::observer::Observer;
+use dp_shared::{Inside, Shared};
+use dp_tree::{Expression, Place};
+use dp_value::Value;
+
+impl Observer<'_> {
+    ghost use Rattle.std.specs.Prelude.{◌≡◌, true, map};
+    ghost use Rattle.std.specs.List.{list_all};
+    ghost use Rattle.dp_tree.specs.Purity.{is_pure};
+    ghost use Rattle.dp_tree.specs.inner.Parts.{place_is_pure};
+    ghost use Rattle.dp_actions.specs.Expressions.{expression_run, indices_run, place_run};
+    ghost use Rattle.dp_actions.specs.InPlace.{entries_by};
+    ghost use Rattle.dp_actions.specs.Observed.{Observed};
+    ghost use Rattle.dp_actions.specs.Places.{found_at, isset_run};
+    ghost use Rattle.dp_actions.specs.inner.Bases.{base_run, entry_under};
+
+    /// The value of an expression under indices.
+    #[cycle(observe)]
+    pub(crate) fn index(
+        &self,
+        reading: Reading,
+        base: &Expression,
+        indices: &[Expression],
+    ) -> Result<Shared, Halt>
+        requires base { is_pure base.now ≡ true }
+        requires indices { list_all is_pure indices.now ≡ true }
+        ensures { Observed (entry_under reading (expression_run base.now) (map expression_run indices.now)) result
+            self.now.state.now }
+    {
+        let value = self.base(reading, base)?;
+        self.under(reading, value, indices)
+    }
+
+    // The value of what indices stand behind.
+    #[cycle(observe)]
+    fn base(&self, reading: Reading, e: &Expression) -> Result<Shared, Halt>
+        requires { is_pure e.now ≡ true }
+        ensures { Observed (base_run reading (expression_run e.now)) result self.now.state.now }
+    {
+        match reading {
+            Reading::Plain => self.expression(e),
+            Reading::Found => self.found(e),
+        }
+    }
+
+    // A value under indices.
+    #[cycle(observe)]
+    fn under(&self, reading: Reading, base: Shared, indices: &[Expression]) -> Result<Shared, Halt>
+        requires { list_all is_pure indices.now ≡ true }
+        ensures { Observed (indices_run (entries_by reading) (map expression_run indices.now) base) result
+            self.now.state.now }
+    {
+        let mut inside = Inside::of(self.alloc, base);
+        for e in indices {
+            let at = self.expression(e);
+            inside = then_inside(self.alloc, reading, inside, at, self.state)?;
+        }
+        Ok(inside.into_shared()?)
+    }
+
+    /// `isset`
+    #[cycle(observe)]
+    pub(crate) fn isset(&self, places: &[Place]) -> Result<Shared, Halt>
+        requires { list_all place_is_pure places.now ≡ true }
+        ensures { Observed (isset_run (map place_run places.now)) result self.now.state.now }
+    {
+        for place in places {
+            let found = self.found_at(place)?;
+            let missing = is_missing(found.value());
+            drop(found);
+            if missing {
+                return Ok(Shared::of(Value::Bool(false)));
+            }
+        }
+        Ok(Shared::of(Value::Bool(true)))
+    }
+
+    // The value of a place as isset finds it.
+    #[cycle(observe)]
+    fn found_at(&self, place: &Place) -> Result<Shared, Halt>
+        requires { place_is_pure place.now ≡ true }
+        ensures { Observed (found_at (place_run place.now)) result self.now.state.now }
+    {
+        then_found(
+            self.alloc,
+            &place.name,
+            self.values(place.indices.as_slice()),
+            self.state,
+        )
+    }
+}
