@@ -23,8 +23,11 @@ module _ (bundle : Bundle) (e : Expression) (s : State) where
   value-given v at_once = at_once.leaves
 
   ended : (o : Outcome) → IsPlain s run → run ≡ Over o s → IsValueIn bundle e s None
-  ended o (Given v is) over = let none : Done v s ≡ Over {A = Value} o s = sym is ∙ over in absurd (cc)
+  ended o (Given v is) over = let none : Done v s ≡ Over o s = sym is ∙ over in absurd (cc)
   ended o (Faulty kind is) over = (kind, is)
 
   pub value-missing : (o : Outcome) → is_pure e ≡ true → AtOnce run (Err (Finished o)) s → IsValueIn bundle e s None
   value-missing o pure at_once = ended o (plain-pure e pure (evaluation_setting bundle) s) at_once.leaves
+
+  pub value-stops : (moment : Moment) → AtOnce run (Err (Stopped moment)) s → ⊥
+  value-stops moment at_once = at_once.leaves
