@@ -2,6 +2,9 @@
 
 ghost use Rattle.std.specs.Prelude.{◌≡◌, ◌-◌};
 
+use crate::callers::deep_names;
+use crate::deep_names::DeepNames;
+use crate::deep_turns::is_run_whole;
 use crate::machine::{Arrival, Machine, Progress};
 use crate::small::put_hand;
 use crate::steps::Steps;
@@ -30,8 +33,9 @@ impl<'p> Machine<'p> {
     ghost use Rattle.dp_step.specs.inner.Moves.{rest_with};
 
     /// Goes on to the end of the program, and answers its outcome; each moment that is left takes one step. Nothing
-    /// stops it, so it goes as fast as the evaluator: a statement, or the turns that are left of a loop, are run whole.
-    /// After out of memory nothing is said of the machine.
+    /// stops it, so a statement, or the turns that are left of a loop, go as fast as the evaluator, where the functions
+    /// that they may call do not call deep; all else goes by small steps, whose pending work lies on the heap. After
+    /// out of memory nothing is said of the machine.
     pub fn run_out<L: Ledger>(&mut self, steps: &mut Steps<L>) -> Result<Outcome, Memory>
         ensures end { (bundle : SomeBundle) (bound : ℕ) (writes : List NumberedWrite) (n : ℕ)
             → StandsFor bundle bound writes n self.old
@@ -42,17 +46,18 @@ impl<'p> Machine<'p> {
             → IfOk result (λ end. steps.new + n ≡ steps.old + length (program_trace bundle bound writes).moments) }
     {
         let before = self.state.moments;
-        let outcome = self.finish()?;
+        let deep = deep_names(self.alloc, self.bundle)?;
+        let outcome = self.finish(&deep)?;
         steps.tick_all(risen(before, self.state.moments));
         Ok(outcome)
     }
 
     // To the end.
-    fn finish(&mut self) -> Result<Outcome, Memory>
+    fn finish(&mut self, deep: &DeepNames<'p>) -> Result<Outcome, Memory>
         ensures { IfOk result (λ end. RunsOut self.old (rest_of self.old self.old.state) end self.new) }
     {
         for _ in 0..u64::MAX {
-            match self.leap()? {
+            match self.leap(deep)? {
                 None => {}
                 Some(outcome) => {
                     put_hand(&mut self.hand, Hand::Over(outcome));
@@ -64,10 +69,13 @@ impl<'p> Machine<'p> {
         Err(Memory)
     }
 
-    // A statement or the turns of a loop, where they are in hand, and else a small step and its moment.
-    fn leap(&mut self) -> Result<Option<Outcome>, Memory>
+    // A statement or the turns of a loop that is in hand, where no call in it is deep, and else a small step.
+    fn leap(&mut self, deep: &DeepNames<'p>) -> Result<Option<Outcome>, Memory>
         ensures { IfOk result (λ end. Leaps self.old (rest_of self.old self.old.state) end self.new) }
     {
+        if !is_run_whole(deep, &self.hand) {
+            return self.onward();
+        }
         match mem::replace(&mut self.hand, Hand::Failed) {
             Hand::Run(statement) => {
                 let done = self.whole().statement(statement.as_ref(), &mut self.state);
@@ -190,11 +198,18 @@ impl<'p> Machine<'p> {
         }
     }
 
-    // A small step with what was in hand, and the moment to which it comes.
+    // A small step with what was in hand.
     fn other(&mut self, hand: Hand<'p>) -> Result<Option<Outcome>, Memory>
         ensures { IfOk result (λ end. Leaps self.old (rest_with self.old hand.entry self.old.state) end self.new) }
     {
         put_hand(&mut self.hand, hand);
+        self.onward()
+    }
+
+    // A small step, and the moment to which it comes.
+    fn onward(&mut self) -> Result<Option<Outcome>, Memory>
+        ensures { IfOk result (λ end. Leaps self.old (rest_of self.old self.old.state) end self.new) }
+    {
         match self.go()? {
             None => Ok(None),
             Some(Arrival::End(outcome)) => Ok(Some(outcome)),

@@ -2,7 +2,11 @@
 #![tactic(auto)]
 
 mod after;
+mod callers;
 mod calls;
+mod deep_names;
+mod deep_turns;
+mod deep_walks;
 mod finish;
 mod hands;
 mod loops;

@@ -1,32 +1,10 @@
-use Rattle.std.proofs.Common.{Some, None, refl}
-use Rattle.dp_step.proofs.Leaping.{leaps_put, moment-on, moment-over, small-on, small-over}
+use Rattle.std.proofs.Common.{refl}
+use Rattle.std.proofs.lemmas.Result.{IfOk-weaker}
+use Rattle.dp_step.proofs.Leaping.{leaps_put}
 use Rattle.dp_step.proofs.machine.Machine.other.Goals as goal
 
-pub returns-in-None : goal.returns-in-None
-returns-in-None c =
-    leaps_put c.args.self.now _ c.go.new.self c.args.hand None refl refl refl
-    c.put_hand.ensures refl refl
-    (small-on _ c.go.new.self _ (rw c.in-None.is at c.in_ok-go.ensures))
-
-pub returns-in-Some-End : goal.returns-in-Some-End
-returns-in-Some-End c =
-    leaps_put c.args.self.now _ c.go.new.self c.args.hand (Some c.in-Some-End.outcome) refl refl refl
-    c.put_hand.ensures refl refl
-    (small-over _ c.go.new.self _ c.in-Some-End.outcome
-    (rw (c.in-Some-End.is, c.in-Some-End.field-0-is) at c.in_ok-go.ensures))
-
-pub returns-in-At : goal.returns-in-At
-returns-in-At c =
-    leaps_put c.args.self.now _ c.come.new.self c.args.hand None refl refl refl
-    c.put_hand.ensures refl refl
-    (moment-on _ c.go.new.self _ _ _ c.come.new.self
-    (rw (c.in-Some-Moment.is, c.in-Some-Moment.field-0-is) at c.in_ok-go.ensures)
-    c.in-At.moment (rw c.in-At.is at c.in_ok-moment-in-Some-Moment.ensures))
-
-pub returns-in-Ended : goal.returns-in-Ended
-returns-in-Ended c =
-    leaps_put c.args.self.now _ c.come.new.self c.args.hand (Some c.in-Ended.outcome) refl refl refl
-    c.put_hand.ensures refl refl
-    (moment-over _ c.go.new.self _ _ _ c.come.new.self
-    (rw (c.in-Some-Moment.is, c.in-Some-Moment.field-0-is) at c.in_ok-go.ensures)
-    c.in-Ended.outcome (rw c.in-Ended.is at c.in_ok-moment-in-Some-Moment.ensures))
+pub returns : goal.returns
+returns c =
+    IfOk-weaker c.onward.result _ _ (λ end leaps. leaps_put c.args.self.now _ c.onward.new.self c.args.hand end
+    refl refl refl c.put_hand.ensures refl refl leaps)
+    c.onward.ensures

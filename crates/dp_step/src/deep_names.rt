@@ -1,0 +1,117 @@
+//! The names of functions that may call deep, in any case of letters, each kept without a copy.
+
+ghost use Rattle.std.specs.Prelude.{◌≡◌, fold};
+ghost use Rattle.std.specs.Hash as fed;
+ghost use Rattle.std.specs.Str.{str_eq_ignore_ascii_case, str_to_ascii_lowercase};
+
+use dp_tree::Function;
+use dp_value::{Bytes, Memory};
+use indexmap::IndexSet;
+use std::alloc::Global;
+use std::hash::{Hash, Hasher};
+use std::marker::Model;
+
+// A name of a function, in any case of letters.
+#[derive(Drop)]
+struct CallName<'p> {
+    bytes: &'p [u8],
+}
+
+impl<'p> Model for CallName<'p> {
+    ghost use Rattle.std.specs.Prelude.{List, ℕ};
+
+    ghost Value = { List ℕ };
+
+    ghost view = { λ n. n.bytes.now };
+}
+
+impl<'p> PartialEq for CallName<'p> {
+    ghost use Rattle.std.specs.Ordering.{on};
+    ghost use Rattle.std.specs.Cmp.Lexicographic.{pointwise};
+    ghost use Rattle.std.specs.Cmp.Rules.{comparing};
+    ghost use Rattle.std.specs.Prelude.{nat_eq};
+    ghost use Rattle.std.specs.Str.{str_to_ascii_lowercase as lowered};
+    ghost use Rattle.std.proofs.Common.{rules};
+
+    ghost eq = { on lowered (pointwise nat_eq) };
+
+    ghost laws = { Prim.search (comparing, rules) };
+
+    fn eq(&self, other: &CallName<'p>) -> bool {
+        is_one_name(self.bytes, other.bytes)
+    }
+}
+
+impl<'p> Eq for CallName<'p> {
+    ghost use Rattle.std.specs.Cmp.Rules.{comparing};
+    ghost use Rattle.std.proofs.Common.{rules};
+
+    ghost laws = { Prim.search (comparing, rules) };
+}
+
+impl<'p> Hash for CallName<'p> {
+    ghost use Rattle.std.specs.Hash as fed;
+    ghost use Rattle.std.specs.Str.{str_to_ascii_lowercase as lowered};
+    ghost use Rattle.std.specs.Cmp.Rules.{hashing};
+    ghost use Rattle.std.proofs.Common.{rules};
+
+    ghost hash_input = { λ n. fed.slice fed.u8 (lowered n) };
+
+    ghost respects_eq = { Prim.search (hashing, rules) };
+
+    fn hash<H: Hasher>(&self, state: &mut H) {
+        feed_lowered(self.bytes, state);
+    }
+}
+
+// Whether two names are one, in any case of letters.
+fn is_one_name(name: &[u8], other: &[u8]) -> bool
+    ensures { result ≡ str_eq_ignore_ascii_case name.now other.now }
+{
+    name.eq_ignore_ascii_case(other)
+}
+
+// Feeds a hasher the name in lower case.
+fn feed_lowered<H: Hasher>(name: &[u8], state: &mut H)
+    ensures { state.new ≡ fold H.write state.old (fed.slice fed.u8 (str_to_ascii_lowercase name.now)) }
+{
+    state.write_usize(name.len());
+    for byte in name {
+        state.write_u8(byte.to_ascii_lowercase());
+    }
+}
+
+/// Names of functions that may call deep.
+#[derive(Drop)]
+pub(crate) struct DeepNames<'p> {
+    names: IndexSet<CallName<'p>>,
+}
+
+impl<'p> DeepNames<'p> {
+    /// No name yet.
+    pub(crate) fn new(alloc: Global) -> DeepNames<'p> {
+        DeepNames {
+            names: IndexSet::new(alloc),
+        }
+    }
+
+    /// Whether the name that a call has is one of them.
+    pub(crate) fn has(&self, name: &'p Bytes) -> bool {
+        self.names.contains(&CallName {
+            bytes: name.as_slice(),
+        })
+    }
+
+    /// Puts the name of a function with them.
+    pub(crate) fn add(&mut self, function: &'p Function) -> Result<(), Memory> {
+        self.names.insert(CallName {
+            bytes: function.name.as_slice(),
+        })?;
+        Ok(())
+    }
+
+    /// How many names there are.
+    pub(crate) fn len(&self) -> usize {
+        self.names.len()
+    }
+}

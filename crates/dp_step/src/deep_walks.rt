@@ -1,0 +1,179 @@
+//! Parts of a program that may come to a call of a function that calls deep, or include a file: found by a walk that
+//! ends at the first such call.
+
+use crate::deep_names::DeepNames;
+use dp_tree::{Arm, Boxed, Expression, Item, Link, Place, Statement, StatementKind};
+
+/// Whether a statement may come to a deep call.
+#[cycle(statements)]
+pub(crate) fn statement_is_deep<'p>(deep: &DeepNames<'p>, statement: &'p Statement) -> bool {
+    kind_is_deep(deep, &statement.kind)
+}
+
+#[cycle(statements)]
+fn kind_is_deep<'p>(deep: &DeepNames<'p>, kind: &'p StatementKind) -> bool {
+    match kind {
+        StatementKind::Expression(e) => is_deep(deep, e),
+        StatementKind::Echo(operands) => any_deep(deep, operands.as_slice()),
+        StatementKind::Block(all) => body_is_deep(deep, all.as_slice()),
+        StatementKind::If { arms, otherwise } => arms_are_deep(deep, arms.as_slice())
+            || otherwise_is_deep(deep, otherwise),
+        StatementKind::While { test, body } => is_deep(deep, test)
+            || statement_is_deep(deep, body.as_ref()),
+        StatementKind::DoWhile {
+            body,
+            line: _,
+            test,
+        } => { is_deep(deep, test) || statement_is_deep(deep, body.as_ref()) }
+        StatementKind::For {
+            before,
+            tests,
+            after,
+            body,
+        } => {
+            any_deep(deep, before.as_slice())
+                || any_deep(deep, tests.as_slice())
+                || any_deep(deep, after.as_slice())
+                || statement_is_deep(deep, body.as_ref())
+        }
+        StatementKind::Foreach {
+            subject,
+            binding: _,
+            body,
+        } => { is_deep(deep, subject) || statement_is_deep(deep, body.as_ref()) }
+        StatementKind::Return(value) => is_deep_if_any(deep, value),
+        StatementKind::Exit(value) => is_deep_if_any(deep, value),
+        StatementKind::Unset(places) => places_are_deep(deep, places.as_slice()),
+        StatementKind::Empty
+        | StatementKind::Break(_)
+        | StatementKind::Continue(_)
+        | StatementKind::Global(_) => false,
+    }
+}
+
+/// Whether one of these statements may come to a deep call.
+#[cycle(statements)]
+pub(crate) fn body_is_deep<'p>(deep: &DeepNames<'p>, all: &'p [Statement]) -> bool {
+    for statement in all {
+        if statement_is_deep(deep, statement) {
+            return true;
+        }
+    }
+    false
+}
+
+#[cycle(statements)]
+fn arms_are_deep<'p>(deep: &DeepNames<'p>, all: &'p [Arm]) -> bool {
+    for arm in all {
+        if is_deep(deep, &arm.test) || statement_is_deep(deep, &arm.body) {
+            return true;
+        }
+    }
+    false
+}
+
+#[cycle(statements)]
+fn otherwise_is_deep<'p>(deep: &DeepNames<'p>, otherwise: &'p Option<Boxed<Statement>>) -> bool {
+    match otherwise {
+        Some(statement) => statement_is_deep(deep, statement.as_ref()),
+        None => false,
+    }
+}
+
+fn is_deep_if_any<'p>(deep: &DeepNames<'p>, e: &'p Option<Expression>) -> bool {
+    match e {
+        Some(e) => is_deep(deep, e),
+        None => false,
+    }
+}
+
+/// Whether an expression may come to a deep call.
+#[cycle(expressions)]
+pub(crate) fn is_deep<'p>(deep: &DeepNames<'p>, e: &'p Expression) -> bool {
+    match e {
+        Expression::Null
+        | Expression::Bool(_)
+        | Expression::Number(_)
+        | Expression::Text(_)
+        | Expression::Variable(_) => false,
+        Expression::Call(name, arguments) => deep.has(name) || any_deep(deep, arguments.as_slice()),
+        Expression::Include(_, _) => true,
+        Expression::Array(items) => items_are_deep(deep, items.as_slice()),
+        Expression::Isset(places) => places_are_deep(deep, places.as_slice()),
+        Expression::Index(base, indices) => is_deep(deep, base.as_ref())
+            || any_deep(deep, indices.as_slice()),
+        Expression::Unary(_, of) => is_deep(deep, of.as_ref()),
+        Expression::Step(_, _, place) => any_deep(deep, place.indices.as_slice()),
+        Expression::Chain(first, links) => is_deep(deep, first.as_ref())
+            || links_are_deep(deep, links.as_slice()),
+        Expression::Coalesce(left, right) => is_deep(deep, left.as_ref())
+            || is_deep(deep, right.as_ref()),
+        Expression::Conditional(test, middle, otherwise) => {
+            is_deep(deep, test.as_ref())
+                || middle_is_deep(deep, middle)
+                || is_deep(deep, otherwise.as_ref())
+        }
+        Expression::Assign(place, from)
+        | Expression::Compound(_, place, from)
+        | Expression::CoalesceAssign(place, from)
+        | Expression::Push(place, from) => any_deep(deep, place.indices.as_slice())
+            || is_deep(deep, from.as_ref()),
+    }
+}
+
+/// Whether one of these expressions may come to a deep call.
+#[cycle(expressions)]
+pub(crate) fn any_deep<'p>(deep: &DeepNames<'p>, all: &'p [Expression]) -> bool {
+    for e in all {
+        if is_deep(deep, e) {
+            return true;
+        }
+    }
+    false
+}
+
+#[cycle(expressions)]
+fn middle_is_deep<'p>(deep: &DeepNames<'p>, middle: &'p Option<Boxed<Expression>>) -> bool {
+    match middle {
+        Some(e) => is_deep(deep, e.as_ref()),
+        None => false,
+    }
+}
+
+#[cycle(expressions)]
+fn items_are_deep<'p>(deep: &DeepNames<'p>, all: &'p [Item]) -> bool {
+    for item in all {
+        if item_is_deep(deep, item) {
+            return true;
+        }
+    }
+    false
+}
+
+#[cycle(expressions)]
+fn item_is_deep<'p>(deep: &DeepNames<'p>, item: &'p Item) -> bool {
+    match &item.key {
+        Some(key) => is_deep(deep, key) || is_deep(deep, &item.value),
+        None => is_deep(deep, &item.value),
+    }
+}
+
+#[cycle(expressions)]
+fn places_are_deep<'p>(deep: &DeepNames<'p>, all: &'p [Place]) -> bool {
+    for place in all {
+        if any_deep(deep, place.indices.as_slice()) {
+            return true;
+        }
+    }
+    false
+}
+
+#[cycle(expressions)]
+fn links_are_deep<'p>(deep: &DeepNames<'p>, all: &'p [Link]) -> bool {
+    for link in all {
+        if is_deep(deep, &link.operand) {
+            return true;
+        }
+    }
+    false
+}
