@@ -93,7 +93,7 @@ module _ (name : List ℕ) (t : Value) (piece bytes : List ℕ) (is : t ≡ Text
       rw (sym same) (breaks_off _ (heavy-by (bytes ++ piece) s (nat_le (length (bytes ++ piece)) weight_limit)
       (ap not h)))
 
-  -- refused, and the state is as before where it is not for want of memory
+  -- refused, and the state is as before where it is not that memory ran out
   pub grows-not : (why : Fault) → IsCause (assigned 0 name [] false (with_piece t piece) s) why
       → (IsFatal {A = Value} (Err why) → u ≡ s) → AtOnce grown (Err (halt_of why u)) u
   grows-not fault.Memory refused same = wants_memory

@@ -65,7 +65,7 @@ joined-one : (done : List BundleFile) (made : BundleFile) (r : Result (List Bund
 joined-one done made (Ok more) = ap Ok (sym (append_assoc done (made ∷ []) more))
 joined-one done made (Err why) = refl
 
--- made of these files, or want of memory
+-- made of these files, or out of memory
 abbrev pub IsMade : List Given → Result Bundle BundleError → Type 0
 IsMade files result = (result ≡ Err Memory) ⊎ Makes files result
 

@@ -42,7 +42,7 @@ spelled_told bytes e h =
 pub expression_told : Tells expression_in
 expression_told bytes e = (told_spelled bytes e, spelled_told bytes e)
 
--- where each tree that is spelled comes to want of memory, and it is none of that, no tree is told
+-- where each tree that is spelled comes to that memory ran out, and it is none of that, no tree is told
 pub none_told : (bytes : List ℕ) (why : ParseError) → ((e : Expression) → IsExpressionText bytes e → why ≡ error.Memory)
     → why ≢ error.Memory → expression_in bytes ≡ None
 none_told bytes why only some = go (expression_in bytes) refl
@@ -51,7 +51,7 @@ none_told bytes why only some = go (expression_in bytes) refl
     go None is = refl
     go (Some e) is = absurd (some (only e (told_spelled bytes e is)))
 
--- what a call answers that finds what these tokens of the bytes spell, and nothing else but want of memory
+-- what a call answers that finds what these tokens of the bytes spell, and nothing else but out of memory
 pub told_by : (bytes : List ℕ) (ts : List Token) → AreTokens bytes ts → (r : Result Expression ParseError)
     → IfOk r (λ e. SpellsExpression limits.expressions ts e)
     → ((e : Expression) → IsExpressionText bytes e → MatchResult r (λ other. other ≡ e) (λ why. why ≡ error.Memory))

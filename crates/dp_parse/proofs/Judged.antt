@@ -60,7 +60,7 @@ module _ {L A : Type 0} {Above : L → L → Type 0} {rule : Rules L A} {stop : 
   cause_of (refusal.TooDeep left) is = (too_deep reader ts left (is (λ h. cc))).1
   cause_of refusal.Memory is = tt
 
-  -- a reason is want of memory or none
+  -- a reason is out of memory or none
   memory_or_not : (e : ParseError) → (e ≡ error.Memory) ⊎ (e ≢ error.Memory)
   memory_or_not error.Memory = inl refl
   memory_or_not (error.Lex w) = inr (λ h. cc)

@@ -287,7 +287,7 @@ fresh_follows kind lane way held dropped = record { way = way; rest = by kind } 
   by Up = λ i. record { held = held i; dropped = dropped i }
   by Down = λ i. record { held = held i; dropped = dropped i }
 
--- an engine that was refused, or want of memory
+-- an engine that was refused, or out of memory
 pub refused_answer : {E : Type 0} (journal next : List Entry) (key : List ℕ) → IsKey key
     → (why : Refusal) (r : Result Step E) → IfOk r (λ step. why ≡ refusal.Memory → ⊥)
     → IfOk r (λ step. step ≡ record { kept = Some keep.Over; told = Ok (Turned why) })

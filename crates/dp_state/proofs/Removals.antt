@@ -1,4 +1,4 @@
--- A removal that is refused is refused for no want of memory, and surely.
+-- A removal that is refused is refused whatever memory there is.
 use Rattle.std.proofs.Common.{◌≡◌, ◌≢◌, ◌==◌, Bool, true, false, if◌then◌else◌, List, [], ◌∷◌, ℕ, length, Option, Some, None, Result, Ok, Err, refl, ap, ◌∙◌}
 use Rattle.dp_value.specs.declared.errors.WriteError.{WriteError}
 use Rattle.dp_value.specs.declared.errors.WriteError.TheVariants as write

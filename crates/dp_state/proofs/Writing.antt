@@ -68,7 +68,7 @@ module _ (at : ℕ) (s s₁ s₂ : State) (vs ws : Variables) (taken : vs ≡ ow
     on_refused (Err e) h =
         subst (λ (a : Result State FatalKind). IsCause a e) (sym asked-by) (cause-by at s (part vs) e h)
 
-    -- what stands after want of memory
+    -- what stands once memory ran out
     pub on_either : at ≤ length s.frames - 1 → (ws ≡ vs) ⊎ (part vs ≡ Ok ws) → (s₂ ≡ s) ⊎ (asked ≡ Ok s₂)
     on_either within (inl same) = inl (put_same within same)
     on_either within (inr done) = inr (done-by done)

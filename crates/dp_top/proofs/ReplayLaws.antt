@@ -81,7 +81,7 @@ pub held_or_lacking : (files : Files) (name content : List ℕ) → IsSome files
 held_or_lacking None name content told p lacks = absurd cc
 held_or_lacking (Some files) name content told p lacks = let both : Some p.0 ≡ None = sym p.1 ∙ lacks in cc
 
--- want of memory is no bad source, and told where there is one
+-- out of memory is no bad source, and told where there is one
 memory_held : (asked : Result Bundle BundleError) (refused : Refused) (before after : ℕ)
     → refused.failure ≡ failure.Memory → IsHeld {A = ℕ} asked (Err refused) before after
 memory_held (Ok program) refused before after is = (

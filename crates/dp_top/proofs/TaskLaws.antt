@@ -198,7 +198,7 @@ show_cut failure.NoFile input out h = absurd h
 show_cut (failure.Script line) input out h = absurd h
 show_cut (failure.Differs line wanted found) input out h = absurd h
 
--- the name that is told with want of memory
+-- the name that is told where memory ran out
 abbrev memory_name : Task → List ℕ → List ℕ
 memory_name (run ask) name = []
 memory_name (talk key ask) name = name
@@ -207,7 +207,7 @@ memory_name (ide port script) name = name
 memory_name (replay events ask) name = name
 memory_name show name = name
 
--- want of memory once a session was served, or there was none
+-- memory ran out once a session was served, or there was none
 talk_starved : (failed : Failure) (name key : List ℕ) (ask : Invocation) (old new : Seen)
     → TalkFails failed name key ask old new → TalkFails failure.Memory name key ask old new
 talk_starved failed name key ask old new (inl memory) = inl (refl, memory.1)
@@ -240,7 +240,7 @@ replay_starved failed name events ask files before after out (inr (inr (inl u)))
 replay_starved failed name events ask files before after out (inr (inr (inr h))) =
     inl (refl, inr (Err replayed.OutFault, h.replayed))
 
--- want of memory may come in place of any failure
+-- out of memory may come in place of any failure
 memory_instead : (failed : Failure) (name : List ℕ) (task : Task) (old new : Seen) → Caused failed name task old new
     → Caused failure.Memory (memory_name task name) task old new
 memory_instead failed name (run ask) old new h =
