@@ -18,7 +18,7 @@ use Rattle.dp_proxy.specs.declared.kept.Step.{Step}
 use Rattle.dp_proxy.specs.Pasts.{Link, New, Past, Turn, turn, came, start, past_of}
 use Rattle.dp_proxy.specs.Standing.{Keeps, kept_at, IsKept, Stands, StandsAfter, session_in, IsSound, AreSound}
 use Rattle.dp_proxy.specs.Steps.{Answers, AnswersAt, counted}
-use Rattle.dp_proxy.specs.inner.Turning.{Leads, Moves, LeavesOthers, IsOwn}
+use Rattle.dp_proxy.specs.inner.Acts.{Leads, Moves, LeavesOthers, IsOwn}
 
 -- ---- the events with one more
 

@@ -39,7 +39,7 @@ use Rattle.dp_proxy.specs.Replies.{entry_of, verdict_on, reply_frame, registered
 use Rattle.dp_proxy.specs.Standing.{IsOver, IsKept, session_in}
 use Rattle.dp_proxy.specs.Steps.{ComesWithKey}
 use Rattle.dp_proxy.specs.inner.Passing.{FollowBoth}
-use Rattle.dp_proxy.specs.inner.Turning.{Hears, Passes, Leads, Moves, LeavesOthers, IsOwn}
+use Rattle.dp_proxy.specs.inner.Acts.{Hears, Passes, Leads, Moves, LeavesOthers, IsOwn}
 
 -- ---- rows
 

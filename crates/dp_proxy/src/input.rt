@@ -1,11 +1,12 @@
 //! What an IDE asks, in whatever pieces it comes.
-ghost use Rattle.std.specs.Prelude.{◌≡◌, ◌<◌, length, true, IfOk, IfSome};
+ghost use Rattle.std.specs.Prelude.{◌≡◌, true, IfOk};
 ghost use Rattle.dp_wire.specs.Frames.{has_no_nul};
 ghost use Rattle.dp_proxy.specs.declared.events.Act.TheVariants as acted;
-ghost use Rattle.dp_proxy.specs.inner.Turning.{FirstNul, Hears};
+ghost use Rattle.dp_proxy.specs.inner.Acts.{Hears};
 
 use crate::events::Act;
 use dp_value::Memory;
+use dp_wire::first_nul;
 
 /// Whether a command is asked with an act.
 #[derive(Clone, Copy, Debug)]
@@ -16,19 +17,6 @@ pub(crate) enum Hearing {
     Silence,
     /// It is; what was heard is the command.
     Asked,
-}
-
-// The first place of a NUL.
-fn first_nul(bytes: &[u8]) -> Option<usize>
-    ensures first { FirstNul bytes.now result }
-    ensures within { IfSome result (λ at. at < length bytes.now) }
-{
-    for (at, byte) in bytes.iter().enumerate() {
-        if *byte == 0 {
-            return Some(at);
-        }
-    }
-    None
 }
 
 // Bytes come behind those that were heard, none of which is NUL.

@@ -15,7 +15,7 @@ ghost use Rattle.dp_proxy.specs.Replies.{reply_frame, registered};
 ghost use Rattle.dp_proxy.specs.Standing.{IsKept, IsSound};
 ghost use Rattle.dp_proxy.specs.Steps.{HasHost};
 ghost use Rattle.dp_proxy.specs.inner.Passing.{FollowBoth};
-ghost use Rattle.dp_proxy.specs.inner.Turning.{Leads, LeavesOthers, IsOwn, Welcomes};
+ghost use Rattle.dp_proxy.specs.inner.Acts.{Leads, LeavesOthers, IsOwn, Welcomes};
 
 use crate::calls::is_key;
 use crate::errors::ProxyError;

@@ -5,7 +5,7 @@ use Rattle.std.proofs.lemmas.List.Folds.{list_all-append}
 use Rattle.std.proofs.lemmas.List.{take-append-le, drop-append-le}
 use Rattle.std.proofs.Math.Seq.{drop-append-add, take-append-add}
 use Rattle.dp_wire.specs.Frames.{has_no_nul, IsCommand, command_frame, command_limit, commands_in, BeginsCommand, IsPartialCommand, BeginsNoCommand}
-use Rattle.dp_wire.specs.inner.Held.{FirstNul}
+use Rattle.dp_wire.specs.Frames.{FirstNul}
 use Rattle.dp_wire.proofs.FrameLaws.{no_nul-at, same_text, no_shorter, partial_front, commands-text, commands-long}
 use Rattle.dp_wire.proofs.SplitLaws.{framed}
 

@@ -1,6 +1,6 @@
 -- How messages are framed on a link: DBGp 1.0, "Message Packets". An IDE sends a command and a NUL.
 -- An engine sends the length of a text in decimal, a NUL, the text, and a NUL.
-use Rattle.std.specs.Prelude.{◌≡◌, ◌≢◌, ℕ, zero, suc, ◌+◌, ◌≤◌, Bool, true, false, not, ◌&&◌, List, [], ◌∷◌, ◌++◌, length, take, drop, if◌then◌else◌, ◌==◌, nat_le}
+use Rattle.std.specs.Prelude.{◌≡◌, ◌≢◌, ℕ, zero, suc, ◌+◌, ◌≤◌, Bool, true, false, not, ◌&&◌, List, [], ◌∷◌, ◌++◌, length, take, drop, Option, None, Some, if◌then◌else◌, ◌==◌, nat_le}
 use Rattle.std.specs.List.{list_all, flat_map, AllByRecursion}
 use Rattle.std.specs.Fmt.{decimal}
 use Rattle.std.specs.Str.Parse.{digits_value}
@@ -43,6 +43,13 @@ command_limit = 1048576
 -- no byte is NUL
 abbrev pub has_no_nul : List ℕ → Bool
 has_no_nul bytes = list_all (λ b. not (b == 0)) bytes
+
+-- the first NUL stands behind so many bytes; or there is none
+abbrev pub FirstNul : List ℕ → Option ℕ → Type 0
+FirstNul bytes None = has_no_nul bytes ≡ true
+FirstNul bytes (Some place) =
+    (has_no_nul (take place bytes) ≡ true)
+    × (bytes ≡ take place bytes ++ 0 ∷ drop (place + 1) bytes)
 
 pub record IsCommand (line : List ℕ) : Type 0 where
   pub no_nul : has_no_nul line ≡ true

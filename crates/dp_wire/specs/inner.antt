@@ -1,3 +1,2 @@
--- How a splitter keeps what it holds. No public clause cites these.
-pub mod Held
+-- How a splitter of packets reads a length. No public clause cites these.
 pub mod Lengths

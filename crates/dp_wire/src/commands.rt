@@ -3,11 +3,11 @@
 ghost use Rattle.std.specs.Prelude.{◌≡◌, ◌↔◌, ◌+◌, ◌≤◌, [], ◌∷◌, ◌++◌, List, ℕ, min, length, vec_len, take, drop};
 ghost use Rattle.std.specs.Prelude.{IsErr, IfOk, IfErr, IfSome, OnOk, OnErr};
 ghost use Rattle.dp_wire.specs.Frames.{command_frame, command_limit, BeginsCommand, IsPartialCommand, BeginsNoCommand};
-ghost use Rattle.dp_wire.specs.Frames.{commands_in};
-ghost use Rattle.dp_wire.specs.inner.Held.{FirstNul};
+ghost use Rattle.dp_wire.specs.Frames.{commands_in, FirstNul};
 ghost use Rattle.dp_wire.specs.Received.{last_place};
 
 use crate::WireError;
+use crate::nuls::first_nul;
 use dp_value::Memory;
 use std::alloc::Global;
 use std::marker::Model;
@@ -36,7 +36,7 @@ pub struct Commands {
 
 impl Model for Commands {
     ghost use Rattle.std.specs.Prelude.{◌≤◌, length, drop};
-    ghost use Rattle.dp_wire.specs.inner.Held.{FirstNul};
+    ghost use Rattle.dp_wire.specs.Frames.{FirstNul};
     ghost use Rattle.dp_wire.specs.Received.{Received};
 
     ghost Value = { Received };
@@ -164,16 +164,4 @@ fn first_with(first: Option<usize>, held: &[u8], piece: &[u8]) -> Option<usize>
             None => None,
         },
     }
-}
-
-// The place of the first NUL.
-fn first_nul(bytes: &[u8]) -> Option<usize>
-    ensures { FirstNul bytes.now result }
-{
-    for (at, byte) in bytes.iter().enumerate() {
-        if *byte == 0 {
-            return Some(at);
-        }
-    }
-    None
 }

@@ -6,6 +6,7 @@ mod commands;
 mod errors;
 mod laws;
 mod length;
+mod nuls;
 mod packet;
 mod packets;
 
@@ -17,5 +18,6 @@ pub use laws::{
     one_split_of_packets, packets_are_split,
 };
 pub use length::PACKET_LIMIT;
+pub use nuls::first_nul;
 pub use packet::packet_bytes;
 pub use packets::Packets;

@@ -1,6 +1,6 @@
 //! An engine in memory, with its session.
-ghost use Rattle.std.specs.Prelude.{◌≡◌, ◌≤◌, ◌<◌, ◌+◌, [], ◌∷◌, ◌++◌, ℕ, List, flat_map, length, map, take, drop};
-ghost use Rattle.std.specs.Prelude.{IfOk, IfSome, MatchOption, OnOk, OnErr};
+ghost use Rattle.std.specs.Prelude.{◌≡◌, ◌≤◌, ◌+◌, [], ◌∷◌, ◌++◌, ℕ, List, flat_map, length, map, take, drop};
+ghost use Rattle.std.specs.Prelude.{IfOk, MatchOption, OnOk, OnErr};
 ghost use Rattle.std.specs.List.{AllByRecursion};
 ghost use Rattle.dp_engine.specs.Served.{ending_after, rest_after};
 ghost use Rattle.dp_engine.specs.Session.{outcome_of, unwritten};
@@ -8,14 +8,13 @@ ghost use Rattle.dp_registry.specs.Names.{IsKey};
 ghost use Rattle.dp_tree.specs.FileNames.{AreFileNames};
 ghost use Rattle.dp_tree.specs.declared.bundle.Bundle.{Bundle as Program};
 ghost use Rattle.dp_wire.specs.Frames.{IsCommand, IsPacketText, commands_in, packet_frame, rest_of};
-ghost use Rattle.dp_wire.specs.inner.Held.{FirstNul};
 ghost use Rattle.dp_world.specs.inner.Standing.{GoesOn, IsFirst, Serves};
 
 use dp_engine::{Answer, Session, SessionEnd, Steps};
 use dp_state::Outcome;
 use dp_tree::Bundle;
 use dp_value::{Bytes, Memory};
-use dp_wire::packet_bytes;
+use dp_wire::{first_nul, packet_bytes};
 use std::alloc::Global;
 use std::sync::ledger::Ledger;
 
@@ -252,17 +251,4 @@ fn first_command(commands: &[u8]) -> Option<(&[u8], &[u8])>
         Some(at) => Some((&commands[..at], &commands[at + 1..])),
         None => None,
     }
-}
-
-// The place of the first NUL.
-fn first_nul(bytes: &[u8]) -> Option<usize>
-    ensures first { FirstNul bytes.now result }
-    ensures within { IfSome result (λ at. at < length bytes.now) }
-{
-    for (at, byte) in bytes.iter().enumerate() {
-        if *byte == 0 {
-            return Some(at);
-        }
-    }
-    None
 }

@@ -2,7 +2,7 @@ use Rattle.std.proofs.Common.{◌≡◌, [], ◌∷◌, ◌++◌, List, refl, sy
 use Rattle.dp_proxy.specs.declared.events.Act.{Act}
 use Rattle.dp_proxy.specs.declared.events.Act.TheVariants.{Closed}
 use Rattle.dp_proxy.specs.inner.Passing.{FollowBoth}
-use Rattle.dp_proxy.specs.inner.Turning.{Passes}
+use Rattle.dp_proxy.specs.inner.Acts.{Passes}
 use Rattle.dp_proxy.proofs.PassLaws.{follow_idle}
 use Rattle.dp_proxy.proofs.passes.pass.Goals as goal
 

@@ -2,7 +2,7 @@ use Rattle.std.proofs.Common.{◌≡◌, List, ℕ, Some, refl, sym, ap, subst, 
 use Rattle.dp_proxy.specs.declared.input.Hearing.{Hearing}
 use Rattle.dp_proxy.specs.declared.kept.Kept.TheVariants as keep
 use Rattle.dp_proxy.specs.Replies.{reply_frame, registered}
-use Rattle.dp_proxy.specs.inner.Turning.{Hears}
+use Rattle.dp_proxy.specs.inner.Acts.{Hears}
 use Rattle.dp_proxy.proofs.TurnLaws.{more_leads, silent_leads, asked_leads}
 use Rattle.dp_proxy.proofs.turns.ask.Goals as goal
 

@@ -3,7 +3,7 @@ use Rattle.dp_proxy.specs.declared.events.Act.{Act}
 use Rattle.dp_proxy.specs.declared.events.Act.TheVariants.{Given, Moved, Closed}
 use Rattle.dp_proxy.specs.declared.kept.Step.{Step}
 use Rattle.dp_proxy.specs.Pasts.{New}
-use Rattle.dp_proxy.specs.inner.Turning.{Leads}
+use Rattle.dp_proxy.specs.inner.Acts.{Leads}
 use Rattle.dp_proxy.proofs.TurnLaws.{quiet_leads, given_before, moved_before, closed_before}
 use Rattle.dp_proxy.proofs.turns.come.Goals as goal
 

@@ -1,6 +1,6 @@
 use Rattle.std.proofs.Common.{◌≡◌, refl, subst}
 use Rattle.dp_proxy.specs.declared.passes.Passing.{Passing}
-use Rattle.dp_proxy.specs.inner.Turning.{Passes}
+use Rattle.dp_proxy.specs.inner.Acts.{Passes}
 use Rattle.dp_proxy.proofs.TurnLaws.{on_leads, closed_leads, broken_leads, dismissed_leaves}
 use Rattle.dp_proxy.proofs.turns.go_on.Goals as goal
 

@@ -1,6 +1,6 @@
 use Rattle.std.proofs.Common.{◌≡◌, ◌<◌, ◌≤◌, ℕ, refl, ap, Option, None, Some, List, length, drop, subst, arith, rules, length-drop}
 use Rattle.dp_wire.specs.Frames.{command_limit}
-use Rattle.dp_wire.specs.inner.Held.{FirstNul}
+use Rattle.dp_wire.specs.Frames.{FirstNul}
 use Rattle.dp_wire.specs.Received.{Received}
 use Rattle.dp_wire.proofs.NextLaws.{some_partial, some_refused, some_first, none_partial, none_refused, long_some, long_none, long_refused, long_partial, long_never}
 use Rattle.dp_wire.proofs.FrameLaws.{commands-partial}

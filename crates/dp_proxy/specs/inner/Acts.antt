@@ -1,6 +1,6 @@
 -- What an act on a link leads to, as far as each function comes.
 use Rattle.std.specs.Prelude.{◌≡◌, ◌⊎◌, ℕ, true, false, List, [], ◌∷◌, ◌++◌, Option, Some, None, Result, Ok, Err}
-use Rattle.std.specs.Prelude.{Contains, ◌+◌, take, drop}
+use Rattle.std.specs.Prelude.{Contains}
 use Rattle.dp_registry.specs.declared.entry.Entry.{Entry}
 use Rattle.dp_registry.specs.Journal.{live}
 use Rattle.dp_wire.specs.Frames.{has_no_nul}
@@ -27,13 +27,6 @@ use Rattle.dp_proxy.specs.Standing.{IsKept, session_in}
 use Rattle.dp_proxy.specs.Steps.{AnswersAt}
 
 -- ---- an IDE that asks
-
--- the first place of a NUL; or none stands there
-abbrev pub FirstNul : List ℕ → Option ℕ → Type 0
-FirstNul bytes None = has_no_nul bytes ≡ true
-FirstNul bytes (Some place) =
-    (has_no_nul (take place bytes) ≡ true)
-    × (bytes ≡ take place bytes ++ 0 ∷ drop (place + 1) bytes)
 
 -- whether a command is asked with this act, after these bytes; what is kept then is it
 abbrev pub Hears : List ℕ → Act → Hearing → List ℕ → Type 0

@@ -1,6 +1,0 @@
-use Rattle.std.proofs.Common.{◌≡◌, true, take}
-use Rattle.dp_wire.specs.Frames.{has_no_nul}
-use Rattle.dp_world.proofs.engine.first_nul.Given as goal
-
-abbrev pub invariant-loop-at : goal.invariant-loop-at
-invariant-loop-at l = has_no_nul (take l.at l.bytes) ≡ true
