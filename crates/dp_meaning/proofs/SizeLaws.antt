@@ -14,6 +14,7 @@ use Rattle.dp_tree.specs.declared.tree.Expression.{Expression}
 use Rattle.dp_tree.specs.declared.tree.Function.{Function}
 use Rattle.dp_tree.specs.declared.tree.Place.{Place}
 use Rattle.dp_tree.specs.declared.tree.Statement.{Statement}
+use Rattle.dp_tree.specs.declared.tree.StatementKind.{StatementKind}
 use Rattle.dp_tree.specs.declared.tree.StatementKind.TheFolds.{fold-roll-StatementKind, fold_out-Arm, fold_out-Statement}
 use Rattle.dp_tree.specs.declared.tree.StatementKind.TheOpen.{StatementKind-F}
 use Rattle.dp_tree.specs.declared.tree.StatementKind.TheVariants as kind
@@ -104,6 +105,12 @@ size-If arms (Some otherwise) = size-If-Some arms otherwise
 pub size-statement : (statement : Statement) → statement_size statement ≡ kind_size statement.kind + 1
 unfolding kind_size arm_size statement_size
 size-statement statement = fold_out-Statement ℕ ℕ ℕ kind_layer arm_layer statement_layer statement
+
+-- a statement of a kind, where it is known how large the kind is
+pub sized : (statement : Statement) {k : StatementKind} → statement.kind ≡ k → {n : ℕ} → kind_size k ≡ n
+    → statement_size statement ≡ n + 1
+sized statement is size = size-statement statement ∙ ap (λ (k : StatementKind). kind_size k + 1) is
+    ∙ ap (λ (n : ℕ). n + 1) size
 
 pub size-arm : (arm : Arm) → arm_size arm ≡ expression_size arm.test + statement_size arm.body + 1
 unfolding kind_size arm_size statement_size

@@ -12,7 +12,7 @@ use Rattle.dp_tree.specs.declared.tree.Place.{Place, size-Place}
 use Rattle.dp_meaning.specs.inner.Evaluation.{goes_by}
 use Rattle.dp_actions.specs.Calls.{callee_of}
 use Rattle.dp_actions.specs.Expressions.{evaluation, evaluations}
-use Rattle.dp_meaning.specs.inner.Sizes.{arm_size, body_size, expressions_size, kind_size, sizes_sum, statement_size}
+use Rattle.dp_meaning.specs.inner.Sizes.{arm_size, body_size, expressions_size, sizes_sum, statement_size}
 use Rattle.dp_meaning.specs.Statements.{arms_run, statement_run}
 use Rattle.dp_actions.specs.Effects.{print_run}
 use Rattle.dp_meaning.specs.Statements.{arm_run}
@@ -23,7 +23,7 @@ use Rattle.dp_actions.proofs.Layers.{found-plain, run-Array, run-Assign, run-Boo
 use Rattle.dp_meaning.proofs.Layers.{kind-Block, kind-Break, kind-Continue, kind-DoWhile, kind-Echo, kind-Empty, kind-Exit, kind-Expression, kind-For, kind-Foreach, kind-Global, kind-If, kind-Return, kind-Unset, kind-While, run-arm, run-statement}
 use Rattle.dp_meaning.proofs.ListLaws.{front, front-at, values-all, values-break, values-first, values-more}
 use Rattle.dp_meaning.proofs.LoopLaws.{bind-breaks, body-breaks, body-out, do-body-breaks, do-body-out, do-end, do-goes-on, do-stops, do-test-breaks, each-body-breaks, each-goes-on, each-out, each-stops, next-breaks, test-breaks, turn-goes-on, turn-stops, turns-end}
-use Rattle.dp_meaning.proofs.SizeLaws.{frame-callee, frame-file, frame_less, size-arm, size-Block, size-DoWhile, size-Echo, size-Exit, size-Expression, size-For, size-Foreach, size-If, size-in, size-Return, size-some, size-statement, size-Unset, size-While}
+use Rattle.dp_meaning.proofs.SizeLaws.{frame-callee, frame-file, frame_less, size-arm, size-Block, size-DoWhile, size-Echo, size-Exit, size-Expression, size-For, size-Foreach, size-If, size-in, size-Return, size-some, size-Unset, size-While, sized}
 use Rattle.dp_actions.proofs.Tails.{kept-none, kept-some, present-none, present-some}
 use Rattle.dp_meaning.proofs.evaluator.Evaluator.+evaluate.Goals as goal
 
@@ -922,191 +922,89 @@ each-returns g t c =
 
 pub statement-expression-requires : goal.statement-expression-requires
 statement-expression-requires g t c =
-    λ κs h. (
-      omega (
-        arith,
-        size-statement c.args.statement.now,
-        ap kind_size c.in-Expression.is
-            ∙ size-Expression _,
-        c.decreases,
-      ),
-      h,
-    )
+    let size = sized c.args.statement.now c.in-Expression.is (size-Expression c.in-Expression.e) in
+    λ κs h. (omega (arith, size, c.decreases), h)
 
 pub statement-echo-requires : goal.statement-echo-requires
 statement-echo-requires g t c =
-    λ κs h. (
-      omega (
-        arith,
-        size-statement c.args.statement.now,
-        ap kind_size c.in-Echo.is
-            ∙ size-Echo _,
-        ap expressions_size c.as_slice.ensures,
-        c.decreases,
-      ),
-      h,
-    )
+    let size = sized c.args.statement.now c.in-Echo.is (size-Echo c.in-Echo.operands) in
+    λ κs h. (omega (arith, size, ap expressions_size c.as_slice.ensures, c.decreases), h)
 
 pub statement-body-requires : goal.statement-body-requires
 statement-body-requires g t c =
-    λ κs h. (
-      omega (
-        arith,
-        size-statement c.args.statement.now,
-        ap kind_size c.in-Block.is
-            ∙ size-Block _,
-        ap body_size c.as_slice-in-Block.ensures,
-        c.decreases,
-      ),
-      h,
-    )
+    let size = sized c.args.statement.now c.in-Block.is (size-Block c.in-Block.statements) in
+    λ κs h. (omega (arith, size, ap body_size c.as_slice-in-Block.ensures, c.decreases), h)
 
 pub statement-arms-requires : goal.statement-arms-requires
 statement-arms-requires g t c =
-    λ κs h. (
-      omega (
-        arith,
-        size-statement c.args.statement.now,
-        ap kind_size c.in-If.is ∙ size-If c.in-If.arms c.in-If.otherwise,
-        ap (λ (xs : List Arm). sizes_sum
-            (map arm_size xs)) c.as_slice-in-If.ensures,
-        c.decreases,
-      ),
-      h,
-    )
+    let size = sized c.args.statement.now c.in-If.is (size-If c.in-If.arms c.in-If.otherwise) in
+    let arms = ap (λ (xs : List Arm). sizes_sum (map arm_size xs)) c.as_slice-in-If.ensures in
+    λ κs h. (omega (arith, size, arms, c.decreases), h)
 
 pub statement-turns-requires : goal.statement-turns-requires
 statement-turns-requires g t c =
-    λ κs h. (
-      omega (
-        arith,
-        size-statement c.args.statement.now,
-        ap kind_size c.in-While.is ∙ size-While c.in-While.test c.in-While.body,
-        ap expressions_size c.from_ref.ensures.value,
-        ap statement_size c.as_ref.ensures,
-        c.decreases,
-      ),
-      h,
-    )
+    let size = sized c.args.statement.now c.in-While.is (size-While c.in-While.test c.in-While.body) in
+    let tests = ap expressions_size c.from_ref.ensures.value in
+    λ κs h. (omega (arith, size, tests, ap statement_size c.as_ref.ensures, c.decreases), h)
 
 pub statement-do_turns-requires : goal.statement-do_turns-requires
 statement-do_turns-requires g t c =
-    λ κs h. (
-      omega (
-        arith,
-        size-statement c.args.statement.now,
-        ap kind_size c.in-DoWhile.is ∙ size-DoWhile c.in-DoWhile.body c.in-DoWhile.end c.in-DoWhile.test,
-        ap statement_size
-            c.as_ref-in-DoWhile.ensures,
-        c.decreases,
-      ),
-      h,
-    )
+    let kind = size-DoWhile c.in-DoWhile.body c.in-DoWhile.end c.in-DoWhile.test in
+    let size = sized c.args.statement.now c.in-DoWhile.is kind in
+    λ κs h. (omega (arith, size, ap statement_size c.as_ref-in-DoWhile.ensures, c.decreases), h)
 
 pub statement-for_turns-requires : goal.statement-for_turns-requires
 statement-for_turns-requires g t c =
-    λ κs h. (
-      omega (
-        arith,
-        size-statement c.args.statement.now,
-        ap kind_size c.in-For.is ∙ size-For c.in-For.before c.in-For.tests c.in-For.after c.in-For.body,
-        ap expressions_size c.as_slice-in-For.ensures,
-        ap expressions_size c.as_slice-in-For-2.ensures,
-        ap expressions_size c.as_slice-in-For-3.ensures,
-        ap statement_size c.as_ref-in-For.ensures,
-        c.decreases,
-      ),
-      h,
-    )
+    let kind = size-For c.in-For.before c.in-For.tests c.in-For.after c.in-For.body in
+    let size = sized c.args.statement.now c.in-For.is kind in
+    let before = ap expressions_size c.as_slice-in-For.ensures in
+    let tests = ap expressions_size c.as_slice-in-For-2.ensures in
+    let after = ap expressions_size c.as_slice-in-For-3.ensures in
+    let body = ap statement_size c.as_ref-in-For.ensures in
+    λ κs h. (omega (arith, size, before, tests, after, body, c.decreases), h)
 
 pub statement-foreach-requires : goal.statement-foreach-requires
 statement-foreach-requires g t c =
-    λ κs h. (
-      omega (
-        arith,
-        size-statement c.args.statement.now,
-        ap kind_size c.in-Foreach.is ∙ size-Foreach c.in-Foreach.subject c.in-Foreach.binding c.in-Foreach.body,
-        ap statement_size c.as_ref-in-Foreach.ensures,
-        c.decreases,
-      ),
-      h,
-    )
+    let kind = size-Foreach c.in-Foreach.subject c.in-Foreach.binding c.in-Foreach.body in
+    let size = sized c.args.statement.now c.in-Foreach.is kind in
+    λ κs h. (omega (arith, size, ap statement_size c.as_ref-in-Foreach.ensures, c.decreases), h)
 
 pub statement-return_value-requires : goal.statement-return_value-requires
 statement-return_value-requires g t c =
-    λ κs h. (
-      omega (
-        arith,
-        size-statement c.args.statement.now,
-        ap kind_size c.in-Return.is
-            ∙ size-Return _,
-        c.decreases,
-      ),
-      h,
-    )
+    let size = sized c.args.statement.now c.in-Return.is (size-Return c.in-Return.value) in
+    λ κs h. (omega (arith, size, c.decreases), h)
 
 pub statement-unset-requires : goal.statement-unset-requires
 statement-unset-requires g t c =
-    λ κs h. (
-      omega (
-        arith,
-        size-statement c.args.statement.now,
-        ap kind_size c.in-Unset.is ∙ size-Unset _,
-        ap (λ
-            (ps : List Place). most size-Place ps) c.as_slice-in-Unset.ensures,
-        c.decreases,
-      ),
-      h,
-    )
+    let size = sized c.args.statement.now c.in-Unset.is (size-Unset c.in-Unset.places) in
+    let places = ap (λ (ps : List Place). most size-Place ps) c.as_slice-in-Unset.ensures in
+    λ κs h. (omega (arith, size, places, c.decreases), h)
 
 pub statement-exit-requires : goal.statement-exit-requires
 statement-exit-requires g t c =
-    λ κs h. (
-      omega (arith, size-statement c.args.statement.now, ap kind_size c.in-Exit.is ∙ size-Exit _, c.decreases),
-      h,
-    )
+    let size = sized c.args.statement.now c.in-Exit.is (size-Exit c.in-Exit.value) in
+    λ κs h. (omega (arith, size, c.decreases), h)
 
 pub body-statement-requires : goal.body-statement-requires
 body-statement-requires g t c =
-    λ κs h. (
-      omega (
-        arith,
-        size-in statement_size _ c.loop-statement.statement-index c.statement-item.result c.loop-statement-test.true
-            c.statement-item.is,
-        c.decreases,
-      ),
-      h,
-    )
+    let i = c.loop-statement.statement-index in
+    let size = size-in statement_size c.args.statements.now i c.statement-item.result c.loop-statement-test.true
+    c.statement-item.is in
+    λ κs h. (omega (arith, size, c.decreases), h)
 
 pub arms-expression-requires : goal.arms-expression-requires
 arms-expression-requires g t c =
-    λ κs h. (
-      omega (
-        arith,
-        size-in arm_size _ c.loop-arm.arm-index c.arm-item.result c.loop-arm-test.true c.arm-item.is,
-        size-arm
-            c.arm-item.result,
-        c.decreases,
-      ),
-      h,
-    )
+    let i = c.loop-arm.arm-index in
+    let size = size-in arm_size c.args.arms.now i c.arm-item.result c.loop-arm-test.true c.arm-item.is in
+    λ κs h. (omega (arith, size, size-arm c.arm-item.result, c.decreases), h)
 
 pub arms-statement-requires : goal.arms-statement-requires
 arms-statement-requires g t c =
-    λ κs h. (
-      omega (
-        arith,
-        size-in arm_size _ c.loop-arm.arm-index c.arm-item.result c.loop-arm-test.true c.arm-item.is,
-        size-arm
-            c.arm-item.result,
-        c.decreases,
-      ),
-      h,
-    )
+    let i = c.loop-arm.arm-index in
+    let size = size-in arm_size c.args.arms.now i c.arm-item.result c.loop-arm-test.true c.arm-item.is in
+    λ κs h. (omega (arith, size, size-arm c.arm-item.result, c.decreases), h)
 
 pub arms-statement-requires-in-Some : goal.arms-statement-requires-in-Some
 arms-statement-requires-in-Some g t c =
-    λ κs h. (
-      omega (arith, size-some statement_size _ _ c.in-Some.is, ap statement_size c.as_ref.ensures, c.decreases),
-      h,
-    )
+    let size = size-some statement_size c.args.otherwise.now _ c.in-Some.is in
+    λ κs h. (omega (arith, size, ap statement_size c.as_ref.ensures, c.decreases), h)
