@@ -1,4 +1,5 @@
 pub mod Truth
+pub mod Spellings
 pub mod Answers
 pub mod Loops
 pub mod Turns
