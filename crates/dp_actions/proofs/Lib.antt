@@ -1,8 +1,8 @@
 pub mod Runs
-pub mod Acting
+pub mod AtOnceLaws
 pub mod Tails
 pub mod Layers
 pub mod Texts
-pub mod Entering
+pub mod EntryReads
 pub mod PureParts
-pub mod Observing
+pub mod ObservedValues

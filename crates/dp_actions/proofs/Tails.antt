@@ -26,7 +26,7 @@ use Rattle.dp_actions.specs.Loops.{bind, bind_key, bind_name}
 use Rattle.dp_actions.specs.AtOnce.{AtOnce, halt_of, settled_of}
 use Rattle.dp_actions.specs.Run.{Done, and_then, fatal, taken}
 use Rattle.dp_actions.specs.Values.{builtin_run, holds, is_missing, value_run, write_run, kept_of, present_of}
-use Rattle.dp_actions.proofs.Acting.{gives, ends, wants_memory, breaks_off, goes_on}
+use Rattle.dp_actions.proofs.AtOnceLaws.{gives, ends, wants_memory, breaks_off, goes_on}
 
 module _ (s : State) where
   pub value-ok : (table : Result Data ValueError) (v : Value) → table ≡ Ok (data_of v)

@@ -20,7 +20,7 @@ use Rattle.dp_actions.specs.AtOnce.{AtOnce, halt_of}
 use Rattle.dp_actions.specs.Places.{assign_run}
 use Rattle.dp_actions.specs.Run.{Run, and_then}
 use Rattle.dp_actions.specs.Values.{value_run}
-use Rattle.dp_actions.proofs.Acting.{gives, ends, wants_memory, breaks_off, goes_on}
+use Rattle.dp_actions.proofs.AtOnceLaws.{gives, ends, wants_memory, breaks_off, goes_on}
 use Rattle.dp_actions.proofs.Tails.{step-ok}
 
 module _ (bytes : List ℕ) (s : State) where

@@ -2,7 +2,7 @@
 use Rattle.std.specs.Prelude.{Result}
 use Rattle.dp_value.specs.declared.errors.ValueError.{ValueError}
 use Rattle.dp_value.specs.Data.{Data}
-use Rattle.dp_operations.specs.Indexing.{indexed, looked_up}
+use Rattle.dp_operations.specs.Indices.{indexed, looked_up}
 use Rattle.dp_actions.specs.declared.in_place.Reading.{Reading}
 use Rattle.dp_actions.specs.declared.in_place.Reading.TheVariants.{Plain, Found}
 

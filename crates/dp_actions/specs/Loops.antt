@@ -14,8 +14,8 @@ use Rattle.dp_state.specs.declared.state.State.{State}
 use Rattle.dp_state.specs.Places.{assigned}
 use Rattle.dp_actions.specs.declared.signal.Signal.{Signal}
 use Rattle.dp_actions.specs.declared.signal.Signal.TheVariants.{Next, Break, Continue, Return}
-use Rattle.dp_actions.specs.declared.turns.Turn.{Turn}
-use Rattle.dp_actions.specs.declared.turns.Turn.TheVariants as turn
+use Rattle.dp_actions.specs.declared.turns.LoopStep.{LoopStep}
+use Rattle.dp_actions.specs.declared.turns.LoopStep.TheVariants as turn
 use Rattle.dp_actions.specs.Run.{Run, Done, Over, At, taken, ◌>>=◌}
 use Rattle.dp_actions.specs.Values.{holds}
 
@@ -27,7 +27,7 @@ turn_over (Continue loop) next s = if nat_le loop 1 then next s else Done (Conti
 turn_over (Return v) next s = Done (Return v) s
 
 -- the same as a value
-abbrev pub turn_of : Signal → Turn
+abbrev pub turn_of : Signal → LoopStep
 turn_of Next = turn.On
 turn_of (Break loops) = if nat_le loops 1 then turn.Out Next else turn.Out (Break (loops - 1))
 turn_of (Continue loop) = if nat_le loop 1 then turn.On else turn.Out (Continue (loop - 1))

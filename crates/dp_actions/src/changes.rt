@@ -1,6 +1,6 @@
 //! What is made of the old value of a place.
 
-#![tactic(auto, using(crate::proofs::Acting::acting))]
+#![tactic(auto, using(crate::proofs::AtOnceLaws::acting))]
 
 ghost use Rattle.std.specs.Prelude.{◌≡◌, [], IsTrue};
 ghost use Rattle.dp_value.specs.declared.operators.BinaryOp.TheVariants as operator;

@@ -4,7 +4,7 @@ ghost use Rattle.std.specs.Prelude.{◌≡◌, map, IfOk};
 ghost use Rattle.dp_value.specs.Value.{data_of};
 ghost use Rattle.dp_operations.specs.Answers.{Answers};
 ghost use Rattle.dp_operations.specs.Builtins.{builtin_of};
-ghost use Rattle.dp_operations.specs.Indexing.{read_by as read_under, reading as reading_of};
+ghost use Rattle.dp_operations.specs.Indices.{read_by as read_under, reading as reading_of};
 ghost use Rattle.dp_actions.specs.AtOnce.{AtOnce};
 ghost use Rattle.dp_actions.specs.InPlace.{entries_by};
 ghost use Rattle.dp_actions.specs.Values.{builtin_run};

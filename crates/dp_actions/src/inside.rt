@@ -1,6 +1,6 @@
 //! Values inside of others, which are read where they stand.
 
-#![tactic(auto, using(crate::proofs::Acting::acting))]
+#![tactic(auto, using(crate::proofs::AtOnceLaws::acting))]
 
 ghost use Rattle.std.specs.Prelude.{◌≡◌, ⊤, Ok, IfOk, MatchOption};
 ghost use Rattle.dp_value.specs.Value.{data_of};

@@ -47,4 +47,4 @@ pub use places::{
     variable,
 };
 pub use signal::Signal;
-pub use turns::{Turn, last_holds, turn_over};
+pub use turns::{LoopStep, last_holds, turn_over};

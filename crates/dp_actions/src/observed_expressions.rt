@@ -1,6 +1,6 @@
 //! The values of expressions that change nothing, kind by kind.
 
-#![tactic(auto, using(crate::proofs::Acting::acting))]
+#![tactic(auto, using(crate::proofs::AtOnceLaws::acting))]
 
 use crate::after::then_unary;
 use crate::halt::Halt;

@@ -1,6 +1,6 @@
 //! The values of entries and of `isset`, under indices that change nothing.
 
-#![tactic(auto, using(crate::proofs::Acting::acting))]
+#![tactic(auto, using(crate::proofs::AtOnceLaws::acting))]
 
 use crate::after::then_found;
 use crate::answers::is_missing;

@@ -1,6 +1,6 @@
 //! The values of array literals whose items change nothing.
 
-#![tactic(auto, using(crate::proofs::Acting::acting))]
+#![tactic(auto, using(crate::proofs::AtOnceLaws::acting))]
 
 use crate::entries::{then_pushed, then_put};
 use crate::halt::Halt;

@@ -1,6 +1,6 @@
 //! The values of operators whose operands change nothing, and may be left out.
 
-#![tactic(auto, using(crate::proofs::Acting::acting))]
+#![tactic(auto, using(crate::proofs::AtOnceLaws::acting))]
 
 use crate::after::{then_binary, then_truth};
 use crate::halt::Halt;

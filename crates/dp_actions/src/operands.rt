@@ -1,6 +1,6 @@
 //! The values of the smallest expressions, and tests of values.
 
-#![tactic(auto, using(crate::proofs::Acting::acting))]
+#![tactic(auto, using(crate::proofs::AtOnceLaws::acting))]
 
 ghost use Rattle.std.specs.Prelude.{◌≡◌};
 ghost use Rattle.dp_state.specs.declared.state.State.{State as AnyState};

@@ -7,7 +7,7 @@ ghost use Rattle.dp_state.specs.Places.{assigned, given_keys as all_given, keys_
 ghost use Rattle.dp_actions.specs.AtOnce.{AtOnce};
 ghost use Rattle.dp_actions.specs.Places.{assign_run, found_run, read_run, variable as value_named};
 ghost use Rattle.dp_actions.specs.inner.Keyed.{keyed_write};
-ghost use Rattle.dp_operations.specs.Indexing.{read_by as read_under};
+ghost use Rattle.dp_operations.specs.Indices.{read_by as read_under};
 ghost use Rattle.dp_actions.specs.InPlace.{entries_by};
 ghost use Rattle.dp_actions.specs.Loops.{bind_name};
 ghost use Rattle.dp_actions.specs.Values.{value_run};

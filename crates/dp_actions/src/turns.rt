@@ -9,7 +9,7 @@ use dp_value::truthy;
 
 /// What comes after the body of a loop.
 #[derive(Drop)]
-pub enum Turn {
+pub enum LoopStep {
     /// On with the loop.
     On,
     /// Out of it, with what the loop ends with.
@@ -17,24 +17,24 @@ pub enum Turn {
 }
 
 /// What comes after the body of a loop.
-pub fn turn_over(signal: Signal) -> Turn
+pub fn turn_over(signal: Signal) -> LoopStep
     ensures { result ≡ turn_of signal }
 {
     match signal {
-        Signal::Next => Turn::On,
+        Signal::Next => LoopStep::On,
         Signal::Break(loops) => {
             if loops <= 1 {
-                return Turn::Out(Signal::Next);
+                return LoopStep::Out(Signal::Next);
             }
-            Turn::Out(Signal::Break(loops - 1))
+            LoopStep::Out(Signal::Break(loops - 1))
         }
         Signal::Continue(number) => {
             if number <= 1 {
-                return Turn::On;
+                return LoopStep::On;
             }
-            Turn::Out(Signal::Continue(number - 1))
+            LoopStep::Out(Signal::Continue(number - 1))
         }
-        Signal::Return(value) => Turn::Out(Signal::Return(value)),
+        Signal::Return(value) => LoopStep::Out(Signal::Return(value)),
     }
 }
 

@@ -1,8 +1,8 @@
-pub mod Counting
-pub mod Finding
-pub mod Keeping
+pub mod CountLaws
+pub mod Lookups
 pub mod Requests
 pub mod Settled
 pub mod Steps
+pub mod TableLaws
 pub mod Truths
 pub mod Updates

@@ -18,7 +18,7 @@ use Rattle.dp_break.specs.declared.errors.BreakError.TheVariants as error
 use Rattle.dp_break.specs.Hits.{is_of_function}
 use Rattle.dp_break.specs.Refusals.{asked_line_refusal, cannot_be_held, code_if, place_refusal, plain_refusal}
 use Rattle.dp_break.specs.Tables.{IsSound, Table, breakpoint_limit, last_id, name_limit}
-use Rattle.dp_break.specs.inner.Refusing.{IsNoTree, error_of, pure_or_refused}
+use Rattle.dp_break.specs.inner.Causes.{IsNoTree, error_of, pure_or_refused}
 
 -- ---- expressions
 

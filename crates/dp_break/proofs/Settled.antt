@@ -8,9 +8,9 @@ use Rattle.dp_state.specs.declared.moments.Moment.{Moment}
 use Rattle.dp_state.specs.declared.state.State.{State}
 use Rattle.dp_break.specs.declared.breakpoint.Breakpoint.{Breakpoint}
 use Rattle.dp_break.specs.Hits.{hits, is_enough}
-use Rattle.dp_break.specs.Passing.{after, held_after, is_there_after, one_stops, with_more}
-use Rattle.dp_break.specs.inner.Settling.{one_settled, settled, some_settled_stops, stops_once_more}
-use Rattle.dp_break.proofs.Counting.{with_more-zero}
+use Rattle.dp_break.specs.StopRule.{after, held_after, is_there_after, one_stops, with_more}
+use Rattle.dp_break.specs.inner.Marks.{one_settled, settled, some_settled_stops, stops_once_more}
+use Rattle.dp_break.proofs.CountLaws.{with_more-zero}
 
 module _ (bundle : Bundle) (at : Moment × State) where
   abbrev AreMarks : List Bool → List Breakpoint → Type 0

@@ -2,8 +2,8 @@
 use Rattle.std.proofs.Common.{◌≡◌, ℕ, suc, ◌+◌, ◌-◌, ◌<◌, ◌≤◌, Bool, false, cond, ◌&&◌, ◌||◌, List, [], ◌∷◌, ◌++◌, length, get_or, set, take, drop, map, refl, sym, ap, ◌∙◌, append_assoc, arith, subst}
 use Rattle.std.proofs.lemmas.List.{drop_all, drop_at, drop_more, get_or_append_left, get_or_read, get_or-take, length-take-le, map_more, set_split, take-append-le, take-take, take_all, take_more_set}
 use Rattle.dp_break.specs.declared.breakpoint.Breakpoint.{Breakpoint}
-use Rattle.dp_break.specs.Passing.{with_more}
-use Rattle.dp_break.specs.inner.Settling.{one_settled, settled, settled_one, some_settled_stops, stops_once_more}
+use Rattle.dp_break.specs.StopRule.{with_more}
+use Rattle.dp_break.specs.inner.Marks.{one_settled, settled, settled_one, some_settled_stops, stops_once_more}
 
 -- ---- marks
 

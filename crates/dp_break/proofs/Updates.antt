@@ -15,8 +15,8 @@ use Rattle.dp_break.specs.Changes.{changed, held_as, line_given_or, with_change,
 use Rattle.dp_break.specs.Hits.{is_of_function}
 use Rattle.dp_break.specs.Refusals.{answer_of, asked_line_refusal, change_refusal, update_refusal}
 use Rattle.dp_break.specs.Tables.{Ascend, IsSound, IsTable, has_parts}
-use Rattle.dp_break.proofs.Finding.{StandsAt, kept, missing_from, stands_from, with_changed}
-use Rattle.dp_break.proofs.Keeping.{Ascend-map, filtered_table, table}
+use Rattle.dp_break.proofs.Lookups.{StandsAt, kept, missing_from, stands_from, with_changed}
+use Rattle.dp_break.proofs.TableLaws.{Ascend-map, filtered_table, table}
 
 module _ (id : ℕ) (held : List Breakpoint) (next : ℕ) where
   abbrev pub place : Option ℕ

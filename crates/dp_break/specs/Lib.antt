@@ -1,5 +1,5 @@
 pub mod Hits
-pub mod Passing
+pub mod StopRule
 pub mod Conditions
 pub mod Tables
 pub mod Refusals

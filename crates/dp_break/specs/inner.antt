@@ -1,4 +1,4 @@
 -- What the functions inside the crate do: what their own clauses say. No clause of a public call
 -- speaks of it.
-pub mod Settling
-pub mod Refusing
+pub mod Marks
+pub mod Causes

@@ -5,7 +5,7 @@ ghost use Rattle.std.specs.Prelude.{IfOk, IfSome, OnOk, OnErr, Err};
 ghost use Rattle.std.specs.List.{list_any};
 ghost use Rattle.dp_break.specs.Changes.{Adds, IsRequest, held_as, with_change, with_new, without};
 ghost use Rattle.dp_break.specs.Hits.{asks_expression, hits};
-ghost use Rattle.dp_break.specs.Passing.{held_after, one_stops};
+ghost use Rattle.dp_break.specs.StopRule.{held_after, one_stops};
 ghost use Rattle.dp_break.specs.Refusals.{IsCause, answer_of, change_refusal, place_refusal, plain_refusal};
 ghost use Rattle.dp_break.specs.Refusals.{request_refusal, update_refusal};
 ghost use Rattle.dp_break.specs.Tables.{IsSound, IsTable, breakpoint_limit, empty, last_id};

@@ -4,7 +4,7 @@ ghost use Rattle.std.specs.Prelude.{◌≡◌, false, true, Some, IfOk, IfErr, O
 ghost use Rattle.dp_break.specs.Conditions as spec;
 ghost use Rattle.dp_break.specs.Conditions.{has_no_tree};
 ghost use Rattle.dp_break.specs.Hits.{is_true_in};
-ghost use Rattle.dp_break.specs.inner.Refusing.{IsNoTree, error_of, pure_or_refused};
+ghost use Rattle.dp_break.specs.inner.Causes.{IsNoTree, error_of, pure_or_refused};
 ghost use Rattle.dp_tree.specs.Purity.{is_pure};
 
 use crate::errors::BreakError;

@@ -5,7 +5,7 @@ ghost use Rattle.std.specs.List.{list_any, position_from};
 ghost use Rattle.std.specs.Option.{option_map_or};
 ghost use Rattle.dp_break.specs.declared.breakpoint.Breakpoint.{Breakpoint};
 ghost use Rattle.dp_break.specs.Hits.{hits, is_true_in};
-ghost use Rattle.dp_break.specs.Passing.{Moments, found, held_after, one_stops, passed, stop_above};
+ghost use Rattle.dp_break.specs.StopRule.{Moments, found, held_after, one_stops, passed, stop_above};
 ghost use Rattle.dp_tree.specs.declared.bundle.Bundle.{Bundle};
 ghost use Rattle.dp_meaning.specs.Pure.{IsValueIn};
 ghost use Rattle.dp_actions.specs.Values.{holds};

@@ -4,7 +4,7 @@ ghost use Rattle.std.specs.Prelude.{◌≡◌, ◌+◌, ◌<◌, ◌≤◌, true
 ghost use Rattle.std.specs.Prelude.{IfOk, OnErr, OnOk};
 ghost use Rattle.std.specs.List.{list_any};
 ghost use Rattle.dp_break.specs.Hits.{asks_expression, hits};
-ghost use Rattle.dp_break.specs.inner.Settling.{one_settled, settled, settled_one, some_settled_stops, stops_once_more};
+ghost use Rattle.dp_break.specs.inner.Marks.{one_settled, settled, settled_one, some_settled_stops, stops_once_more};
 ghost use Rattle.dp_break.specs.Tables.{IsSound};
 
 use crate::breakpoint::Breakpoint;

@@ -16,8 +16,8 @@ use Rattle.dp_command.specs.Tests.{Test, first_code}
 use Rattle.dp_packet.specs.Messages.{is_some_text, message_of}
 use Rattle.dp_tree.specs.declared.bundle.Bundle.{Bundle}
 use Rattle.dp_breakpoint_commands.specs.Commands.{breakpoint_refusal, change_refused}
-use Rattle.dp_breakpoint_commands.specs.Changing.{change_tests}
-use Rattle.dp_breakpoint_commands.specs.Setting as setting
+use Rattle.dp_breakpoint_commands.specs.Updates.{change_tests}
+use Rattle.dp_breakpoint_commands.specs.Requests as setting
 
 abbrev pub IsKnown : ℕ → Type 0
 IsKnown code = (is_some_text (message_of code) ≡ true) × (code < 1000)

@@ -5,8 +5,8 @@ use Rattle.std.specs.List.{prefix_len}
 use Rattle.std.proofs.lemmas.Bool.{leb-true}
 use Rattle.std.proofs.lemmas.Bool.Decides.{nat_tests}
 use Rattle.std.proofs.lemmas.Fmt.{length-decimal-le}
-use Rattle.dp_break.specs.Passing.{Reached, each_from, reached}
-use Rattle.dp_markup.specs.Writing.{attribute_text, node_text, nodes_text}
+use Rattle.dp_break.specs.StopRule.{Reached, each_from, reached}
+use Rattle.dp_markup.specs.Texts.{attribute_text, node_text, nodes_text}
 use Rattle.dp_packet.specs.Breakpoints.{breakpoint_node, state_name}
 use Rattle.dp_packet.specs.declared.packet.Body.{Body}
 use Rattle.dp_packet.specs.declared.packet.BreakLine.{BreakLine}
@@ -22,7 +22,7 @@ use Rattle.dp_packet.proofs.LengthLaws.{attributes_short, bare_response_short}
 use Rattle.dp_packet.proofs.SizeLaws.{attribute_length, packet_length, written_length}
 use Rattle.dp_wire.specs.Frames.{packet_limit}
 use Rattle.dp_breakpoint_commands.specs.Commands.{bare_response, lines_fit, lines_response, listed, response, set_response}
-use Rattle.dp_breakpoint_commands.specs.inner.Listing.{fitting, line_size}
+use Rattle.dp_breakpoint_commands.specs.inner.LineSizes.{fitting, line_size}
 
 -- ---- sizes
 

@@ -1,4 +1,4 @@
-pub mod Refusing
+pub mod RequestTests
 pub mod Lengths
 pub mod Shown
 pub mod Codes

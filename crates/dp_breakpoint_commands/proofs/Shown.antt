@@ -11,7 +11,7 @@ use Rattle.dp_break.specs.Tables.{IsSound, Table, name_limit}
 use Rattle.dp_break.specs.Conditions.{expression_limit}
 use Rattle.dp_break.proofs.Requests.{formed_short}
 use Rattle.dp_markup.specs.declared.tree.Element.{Element}
-use Rattle.dp_markup.specs.Writing.{nodes_text}
+use Rattle.dp_markup.specs.Texts.{nodes_text}
 use Rattle.dp_packet.specs.Breakpoints.{expression_nodes, given_number, hit_attributes, kind_attributes, kind_name, place_attributes, rule_name, state_name}
 use Rattle.dp_packet.specs.declared.packet.BreakKind.{BreakKind}
 use Rattle.dp_packet.specs.declared.packet.BreakKind.TheVariants.{Line, Call, Return, Conditional}
@@ -25,7 +25,7 @@ use Rattle.dp_tree.specs.declared.bundle.Bundle.{Bundle}
 use Rattle.dp_tree.specs.declared.bundle.BundleFile.{BundleFile}
 use Rattle.dp_tree.specs.FileNames.{AreFileNames, IsFileName}
 use Rattle.dp_breakpoint_commands.specs.inner.Numbers.{HasNumbers}
-use Rattle.dp_breakpoint_commands.specs.Showing.{breakpoint_line, uri_of}
+use Rattle.dp_breakpoint_commands.specs.Lines.{breakpoint_line, uri_of}
 use Rattle.dp_breakpoint_commands.proofs.Lengths.{lines_size}
 
 -- ---- attributes

@@ -6,7 +6,7 @@ use Rattle.std.specs.Option.{option_map_or, option_or}
 use Rattle.dp_break.specs.declared.breakpoint.Breakpoint.{Breakpoint}
 use Rattle.dp_break.specs.Changes.{asked, held_as, with_change, with_new, without}
 use Rattle.dp_break.specs.Conditions.{tree_of}
-use Rattle.dp_break.specs.Passing.{each_in}
+use Rattle.dp_break.specs.StopRule.{each_in}
 use Rattle.dp_break.specs.Refusals.{change_refusal, code_if, plain_refusal, request_refusal}
 use Rattle.dp_break.specs.Tables.{Table}
 use Rattle.dp_command.specs.declared.command.BreakpointAction.{BreakpointAction}
@@ -26,10 +26,10 @@ use Rattle.dp_packet.specs.Parts.{Text, Attributes}
 use Rattle.dp_packet.specs.Text.{text}
 use Rattle.dp_tree.specs.declared.bundle.Bundle.{Bundle}
 use Rattle.dp_wire.specs.Frames.{packet_limit}
-use Rattle.dp_breakpoint_commands.specs.Changing.{change, change_tests}
+use Rattle.dp_breakpoint_commands.specs.Updates.{change, change_tests}
 use Rattle.dp_file_uris.specs.Files.{is_uri}
-use Rattle.dp_breakpoint_commands.specs.Setting as setting
-use Rattle.dp_breakpoint_commands.specs.Showing.{breakpoint_line}
+use Rattle.dp_breakpoint_commands.specs.Requests as setting
+use Rattle.dp_breakpoint_commands.specs.Lines.{breakpoint_line}
 use Rattle.dp_breakpoint_commands.specs.Words.{meant, state_named}
 
 -- ---- refusals

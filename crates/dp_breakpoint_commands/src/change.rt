@@ -1,7 +1,7 @@
 //! The change that a breakpoint_update command asks for.
 
 ghost use Rattle.std.specs.Prelude.{◌≡◌};
-ghost use Rattle.dp_breakpoint_commands.specs.Changing as spec;
+ghost use Rattle.dp_breakpoint_commands.specs.Updates as spec;
 ghost use Rattle.dp_breakpoint_commands.specs.Answers.{answer_of};
 ghost use Rattle.dp_command.specs.Tests.{first_code};
 

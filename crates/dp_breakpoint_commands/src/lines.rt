@@ -1,7 +1,7 @@
 //! Breakpoints as packets show them.
 
 ghost use Rattle.std.specs.Prelude.{◌≡◌, true, is_some, IfOk, OnErr, option_and_then};
-ghost use Rattle.dp_breakpoint_commands.specs.Showing as spec;
+ghost use Rattle.dp_breakpoint_commands.specs.Lines as spec;
 ghost use Rattle.dp_breakpoint_commands.specs.inner.Numbers.{HasNumbers};
 
 use dp_break::Breakpoint;

@@ -3,8 +3,8 @@
 ghost use Rattle.std.specs.Prelude.{◌≡◌, ◌+◌, ◌≤◌, ◌∷◌, [], length, map, IfOk};
 ghost use Rattle.dp_break.specs.Tables.{IsSound};
 ghost use Rattle.dp_breakpoint_commands.specs.Commands as spec;
-ghost use Rattle.dp_breakpoint_commands.specs.Showing as shown;
-ghost use Rattle.dp_breakpoint_commands.specs.inner.Listing.{fitting};
+ghost use Rattle.dp_breakpoint_commands.specs.Lines as shown;
+ghost use Rattle.dp_breakpoint_commands.specs.inner.LineSizes.{fitting};
 ghost use Rattle.dp_packet.specs.declared.packet.Packet.TheVariants as packet;
 ghost use Rattle.dp_packet.specs.Text.{text};
 ghost use Rattle.dp_tree.specs.FileNames.{AreFileNames};

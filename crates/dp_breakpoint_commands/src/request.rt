@@ -2,7 +2,7 @@
 
 ghost use Rattle.std.specs.Prelude.{◌≡◌, ◌<◌, ◌≤◌, Err, None, false, length, IfErr, IfOk, IfSome, OnOk};
 ghost use Rattle.std.specs.Option.{option_map_or};
-ghost use Rattle.dp_breakpoint_commands.specs.Setting as spec;
+ghost use Rattle.dp_breakpoint_commands.specs.Requests as spec;
 ghost use Rattle.dp_breakpoint_commands.specs.Answers.{IsCause, IsCode};
 ghost use Rattle.dp_breakpoint_commands.specs.inner.Meant as inner;
 ghost use Rattle.dp_command.specs.Tests.{first_code};
@@ -54,7 +54,7 @@ fn has_part_too_many(kind: BreakKind, set: &BreakpointSet) -> bool
 
 impl Words {
     // The words of a command, or the code of its first refusal but that of the file: 201, 3 or 204. Takes no memory.
-    #[tactic(auto, unfolding(crate::specs::Setting::word_tests))]
+    #[tactic(auto, unfolding(crate::specs::Requests::word_tests))]
     fn of(set: &BreakpointSet) -> Result<Words, BreakpointError>
         ensures words { IfOk result (λ words. words ≡ inner.words set.now) }
         ensures accepted { OnOk result (first_code (spec.word_tests set.now) ≡ None) }
@@ -125,7 +125,7 @@ fn request_in(words: Words, file: u32, set: BreakpointSet) -> BreakRequest
 /// and the codes 202, 203 and 207, are not tested here. A missing `-f` is the file of the moment, but for a call or
 /// return breakpoint, which is then for the functions of any file. The other defaults are enabled, `>=`, 0 for the hit
 /// value, and not temporary.
-#[tactic(auto, using(crate::proofs::Refusing::refusing))]
+#[tactic(auto, using(crate::proofs::RequestTests::refusing))]
 pub fn breakpoint_request(
     alloc: Global,
     bundle: &Bundle,

@@ -1,1 +1,1 @@
-pub mod Bundling
+pub mod MadeFiles

@@ -7,7 +7,7 @@ use Rattle.base64.specs.GeneralPurpose.{encode_of}
 use Rattle.base64.specs.Rfc4648.{encode_symbols}
 use Rattle.dp_command.specs.Sorts.{is_space, is_name_byte, is_bare, is_text, Each, begins}
 use Rattle.dp_command.specs.Grammar.{◌>>◌, Spaces, SomeSpaces, IsName, Name, InQuotes, Repeated, Value, Given, Ending}
-use Rattle.dp_command.specs.inner.Reading.{◌>>=◌, run_at, spaces_at, name_at, items_at, pair_at, byte_at, quoted_at, bare_at, value_at, letter_of, letter_at, argument_of, option_at, options_at, text_at, dashed, ending_at, parts_at}
+use Rattle.dp_command.specs.inner.Parts.{◌>>=◌, run_at, spaces_at, name_at, items_at, pair_at, byte_at, quoted_at, bare_at, value_at, letter_of, letter_at, argument_of, option_at, options_at, text_at, dashed, ending_at, parts_at}
 use Rattle.dp_grammar.proofs.Runs.{not_zero, run_exact, run_again, run_whole}
 use Rattle.dp_grammar.proofs.Sequences.{before_items, items_again, items_few}
 

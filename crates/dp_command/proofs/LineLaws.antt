@@ -8,7 +8,7 @@ use Rattle.dp_command.specs.declared.errors.LineError.{LineError}
 use Rattle.dp_command.specs.declared.errors.LineError.TheVariants as errors
 use Rattle.dp_command.specs.Grammar.{Ending, spelt}
 use Rattle.dp_command.specs.Lines.{Gives, line_with, with_text, line_of}
-use Rattle.dp_command.specs.inner.Reading.{◌>>=◌, parts_at}
+use Rattle.dp_command.specs.inner.Parts.{◌>>=◌, parts_at}
 use Rattle.dp_grammar.proofs.Runs.{some_is, bind_some}
 use Rattle.dp_command.proofs.Found.{parts_found, some_found, none_found}
 use Rattle.dp_command.proofs.Again.{parts_again, text_of}

@@ -3,7 +3,7 @@ use Rattle.std.proofs.Common.{◌≡◌, ℕ, suc, ◌-◌, ◌+◌, ◌≤◌, 
 use Rattle.std.proofs.lemmas.List.{append-nil}
 use Rattle.dp_command.specs.declared.errors.LineError.{LineError}
 use Rattle.dp_command.specs.declared.errors.LineError.TheVariants as errors
-use Rattle.dp_command.specs.inner.Reading.{◌>>=◌, items_at}
+use Rattle.dp_command.specs.inner.Parts.{◌>>=◌, items_at}
 use Rattle.dp_command.specs.Lines.{Fails}
 
 -- what was taken before, and what is still taken

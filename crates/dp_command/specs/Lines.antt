@@ -1,12 +1,12 @@
 -- The line that bytes spell, as a function. `line_of_is_spelt` says that it is the one line of the
--- grammar; how it is computed (inner/Reading) need not be read.
+-- grammar; how it is computed (inner/Parts) need not be read.
 use Rattle.std.specs.Prelude.{◌≡◌, ℕ, List, Option, Some, None, option_map, Result, Ok, Err}
 use Rattle.base64.specs.Engines.{standard}
 use Rattle.base64.specs.GeneralPurpose.{decoded_of}
 use Rattle.dp_command.specs.declared.errors.LineError.{LineError}
 use Rattle.dp_command.specs.declared.errors.LineError.TheVariants as errors
 use Rattle.dp_command.specs.declared.line.Line.{Line}
-use Rattle.dp_command.specs.inner.Reading.{◌>>=◌, parts_at}
+use Rattle.dp_command.specs.inner.Parts.{◌>>=◌, parts_at}
 
 abbrev pub line_with : List ℕ → List (ℕ × List ℕ) → Option (List ℕ) → Line
 line_with name options payload = record { name = name; options = options; payload = payload }

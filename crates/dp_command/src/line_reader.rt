@@ -3,7 +3,7 @@
 ghost use Rattle.std.specs.Prelude.{◌≡◌, ◌≤◌, length, Err, IfOk, MatchResult};
 ghost use Rattle.std.specs.List.{AllByRecursion};
 ghost use Rattle.dp_command.specs.Grammar.{spelt};
-ghost use Rattle.dp_command.specs.inner.Reading.{parts_at, seen_text};
+ghost use Rattle.dp_command.specs.inner.Parts.{parts_at, seen_text};
 ghost use Rattle.dp_command.specs.Lines.{Gives};
 ghost use Rattle.dp_command.specs.Canonical.{IsWellFormed};
 ghost use Rattle.dp_command.specs.Lines.{line_of};
@@ -17,7 +17,7 @@ use dp_value::{Bytes, Items};
 use std::alloc::Global;
 
 // The name, the options, and the text of the payload where there is one.
-#[tactic(auto, unfolding(crate::specs::inner::Reading::parts_at))]
+#[tactic(auto, unfolding(crate::specs::inner::Parts::parts_at))]
 fn parts(
     alloc: Global,
     bytes: &[u8],

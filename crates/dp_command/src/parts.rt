@@ -1,8 +1,8 @@
 //! The parts of a line that take no memory.
 
 ghost use Rattle.std.specs.Prelude.{◌≡◌, MatchOption, None, Some};
-ghost use Rattle.dp_command.specs.inner.Reading.{spaces_at, name_at, letter_at, letter_of, text_at, ending_at};
-ghost use Rattle.dp_command.specs.inner.Reading.{seen_text};
+ghost use Rattle.dp_command.specs.inner.Parts.{spaces_at, name_at, letter_at, letter_of, text_at, ending_at};
+ghost use Rattle.dp_command.specs.inner.Parts.{seen_text};
 ghost use Rattle.dp_command.specs.Lines.{Gives};
 
 use crate::errors::LineError;
@@ -12,7 +12,7 @@ use crate::sort::{Sort, is_letter, run};
 const LONGEST: usize = 64;
 
 // What stands behind one space or more.
-#[tactic(auto, unfolding(crate::specs::inner::Reading::spaces_at))]
+#[tactic(auto, unfolding(crate::specs::inner::Parts::spaces_at))]
 pub(crate) fn spaces(bytes: &[u8]) -> Result<&[u8], LineError>
     ensures { Gives (λ rest. rest.now) result (spaces_at bytes.now) }
 {
@@ -22,7 +22,7 @@ pub(crate) fn spaces(bytes: &[u8]) -> Result<&[u8], LineError>
     }
 }
 
-#[tactic(auto, unfolding(crate::specs::inner::Reading::name_at))]
+#[tactic(auto, unfolding(crate::specs::inner::Parts::name_at))]
 pub(crate) fn name(bytes: &[u8]) -> Result<(&[u8], &[u8]), LineError>
     ensures { Gives (λ found. (found.0.now, found.1.now)) result (name_at bytes.now) }
 {
@@ -50,7 +50,7 @@ fn dashed_letter(bytes: &[u8]) -> Option<(u8, &[u8])>
 }
 
 // The letter of the option that stands here.
-#[tactic(auto, unfolding(crate::specs::inner::Reading::letter_at, crate::specs::inner::Reading::spaces_at))]
+#[tactic(auto, unfolding(crate::specs::inner::Parts::letter_at, crate::specs::inner::Parts::spaces_at))]
 pub(crate) fn letter(bytes: &[u8]) -> Option<(u8, &[u8])>
     ensures { MatchOption result (letter_at bytes.now ≡ None)
         (λ found. letter_at bytes.now ≡ Some (found.0, found.1.now)) }
@@ -62,7 +62,7 @@ pub(crate) fn letter(bytes: &[u8]) -> Option<(u8, &[u8])>
 }
 
 // The text of a payload, with spaces before it and nothing but spaces behind it.
-#[tactic(auto, unfolding(crate::specs::inner::Reading::text_at))]
+#[tactic(auto, unfolding(crate::specs::inner::Parts::text_at))]
 fn text(bytes: &[u8]) -> Result<&[u8], LineError>
     ensures { Gives (λ text. text.now) result (text_at bytes.now) }
 {
@@ -74,7 +74,7 @@ fn text(bytes: &[u8]) -> Result<&[u8], LineError>
 }
 
 // The text of the payload where there is one, up to the end of the line.
-#[tactic(auto, unfolding(crate::specs::inner::Reading::ending_at))]
+#[tactic(auto, unfolding(crate::specs::inner::Parts::ending_at))]
 pub(crate) fn ending(bytes: &[u8]) -> Result<Option<&[u8]>, LineError>
     ensures { Gives (λ found. seen_text (λ t. t.now) found) result (ending_at bytes.now) }
 {

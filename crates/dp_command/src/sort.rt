@@ -3,7 +3,7 @@
 ghost use Rattle.std.specs.Prelude.{◌≡◌, ◌≤◌, length};
 ghost use Rattle.std.specs.List.{prefix_len};
 ghost use Rattle.dp_command.specs.Sorts as sorts;
-ghost use Rattle.dp_command.specs.inner.Reading.{test_of, run_at};
+ghost use Rattle.dp_command.specs.inner.Parts.{test_of, run_at};
 
 /// A sort of bytes of which a part of a line consists.
 #[derive(Clone, Copy, Debug)]

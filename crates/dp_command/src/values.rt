@@ -3,8 +3,8 @@
 ghost use Rattle.std.specs.Prelude.{length};
 ghost use Rattle.base64.specs.Engines.{standard};
 ghost use Rattle.base64.specs.GeneralPurpose.{decoded_of};
-ghost use Rattle.dp_command.specs.inner.Reading.{byte_at, items_at, quoted_at, bare_at, value_at, option_at};
-ghost use Rattle.dp_command.specs.inner.Reading.{options_at};
+ghost use Rattle.dp_command.specs.inner.Parts.{byte_at, items_at, quoted_at, bare_at, value_at, option_at};
+ghost use Rattle.dp_command.specs.inner.Parts.{options_at};
 ghost use Rattle.dp_command.specs.Lines.{Gives};
 
 use crate::errors::LineError;
@@ -16,7 +16,7 @@ use dp_value::{Bytes, Items};
 use std::alloc::Global;
 
 // The byte between quotes that stands here; none at the closing quote.
-#[tactic(auto, unfolding(crate::specs::inner::Reading::byte_at))]
+#[tactic(auto, unfolding(crate::specs::inner::Parts::byte_at))]
 fn byte(bytes: &[u8]) -> Result<(Option<u8>, &[u8]), LineError>
     ensures { Gives (λ found. (found.0, found.1.now)) result (byte_at bytes.now) }
 {
@@ -47,7 +47,7 @@ fn inner(alloc: Global, bytes: &[u8]) -> Result<(Vec<u8>, &[u8]), LineError>
 }
 
 // The value whose opening quote stands before these bytes.
-#[tactic(auto, unfolding(crate::specs::inner::Reading::quoted_at))]
+#[tactic(auto, unfolding(crate::specs::inner::Parts::quoted_at))]
 fn quoted(alloc: Global, bytes: &[u8]) -> Result<(Bytes, &[u8]), LineError>
     ensures { Gives (λ found. (found.0, found.1.now)) result (quoted_at bytes.now) }
 {
@@ -58,7 +58,7 @@ fn quoted(alloc: Global, bytes: &[u8]) -> Result<(Bytes, &[u8]), LineError>
     }
 }
 
-#[tactic(auto, unfolding(crate::specs::inner::Reading::bare_at))]
+#[tactic(auto, unfolding(crate::specs::inner::Parts::bare_at))]
 fn bare(alloc: Global, bytes: &[u8]) -> Result<(Bytes, &[u8]), LineError>
     ensures { Gives (λ found. (found.0, found.1.now)) result (bare_at bytes.now) }
 {
@@ -71,7 +71,7 @@ fn bare(alloc: Global, bytes: &[u8]) -> Result<(Bytes, &[u8]), LineError>
     }
 }
 
-#[tactic(auto, unfolding(crate::specs::inner::Reading::value_at))]
+#[tactic(auto, unfolding(crate::specs::inner::Parts::value_at))]
 fn value(alloc: Global, bytes: &[u8]) -> Result<(Bytes, &[u8]), LineError>
     ensures { Gives (λ found. (found.0, found.1.now)) result (value_at bytes.now) }
 {
@@ -82,7 +82,7 @@ fn value(alloc: Global, bytes: &[u8]) -> Result<(Bytes, &[u8]), LineError>
 }
 
 // The option that stands here; none where no space, dash and letter stand here.
-#[tactic(auto, unfolding(crate::specs::inner::Reading::option_at))]
+#[tactic(auto, unfolding(crate::specs::inner::Parts::option_at))]
 fn option(alloc: Global, bytes: &[u8]) -> Result<(Option<(u8, Bytes)>, &[u8]), LineError>
     ensures { Gives (λ found. (found.0, found.1.now)) result (option_at bytes.now) }
 {
@@ -109,7 +109,7 @@ fn given(alloc: Global, bytes: &[u8]) -> Result<(Vec<(u8, Bytes)>, &[u8]), LineE
     Ok((options, rest))
 }
 
-#[tactic(auto, unfolding(crate::specs::inner::Reading::options_at))]
+#[tactic(auto, unfolding(crate::specs::inner::Parts::options_at))]
 pub(crate) fn options(alloc: Global, bytes: &[u8]) -> Result<(Items<(u8, Bytes)>, &[u8]), LineError>
     ensures { Gives (λ found. (found.0, found.1.now)) result (options_at bytes.now) }
 {

@@ -4,9 +4,9 @@ use Rattle.std.proofs.Common.{Option, Some, None, Result, Ok, Err, refl, sym, ap
 use Rattle.std.specs.List.{position_from}
 use Rattle.std.specs.Prelude.{OnOk}
 use Rattle.dp_break.specs.declared.breakpoint.Breakpoint.{Breakpoint}
-use Rattle.dp_break.specs.Passing.{Moments}
+use Rattle.dp_break.specs.StopRule.{Moments}
 use Rattle.dp_break.specs.Tables.{Table}
-use Rattle.dp_break.proofs.Counting.{stop-none}
+use Rattle.dp_break.proofs.CountLaws.{stop-none}
 use Rattle.dp_tree.specs.declared.bundle.Bundle.{Bundle}
 use Rattle.dp_state.specs.declared.moments.Moment.{Moment}
 use Rattle.dp_state.specs.declared.state.State.{State}
@@ -16,7 +16,7 @@ use Rattle.dp_meaning.specs.Trace.{program_trace}
 use Rattle.dp_meaning_laws.proofs.Whole.{end-can}
 use Rattle.dp_step.specs.declared.machine.Machine.{Machine}
 use Rattle.dp_continuation.specs.declared.reached.Reached.{Reached}
-use Rattle.dp_continuation.specs.Going.{Reaches, stop_past, table_past}
+use Rattle.dp_continuation.specs.NextStop.{Reaches, stop_past, table_past}
 
 pub on_ok_always : {T E : Type 0} {P : Type 0} (r : Result T E) → P → OnOk r P
 on_ok_always (Ok a) p = p

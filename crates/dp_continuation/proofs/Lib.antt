@@ -1,4 +1,4 @@
 pub mod Free
 pub mod Lists
-pub mod Passing
-pub mod Stopping
+pub mod MachineStops
+pub mod StopMoments

@@ -1,3 +1,3 @@
 -- Where a program comes to when it goes on.
 pub mod Stops
-pub mod Going
+pub mod NextStop

@@ -2,7 +2,7 @@
 
 ghost use Rattle.std.specs.Prelude.{◌≡◌, ◌+◌, ◌≤◌, Bool, List, Some, ℕ, slice_get};
 ghost use Rattle.dp_break.specs.declared.breakpoint.Breakpoint.{Breakpoint};
-ghost use Rattle.dp_break.specs.Passing.{Moments, stop_above};
+ghost use Rattle.dp_break.specs.StopRule.{Moments, stop_above};
 ghost use Rattle.dp_state.specs.declared.moments.Moment.{Moment};
 ghost use Rattle.dp_state.specs.declared.state.State.{State};
 ghost use Rattle.dp_tree.specs.declared.bundle.Bundle.{Bundle};

@@ -1,8 +1,8 @@
 pub mod WriteAnswers
-pub mod Refusing
-pub mod Fitting
-pub mod Accepting
-pub mod Streaming
-pub mod ServingLaws
-pub mod Turning
-pub mod Answering
+pub mod RefusalLaws
+pub mod ResponseSizes
+pub mod NewWrites
+pub mod StreamPackets
+pub mod ServiceLaws
+pub mod TurnLaws
+pub mod SentPackets

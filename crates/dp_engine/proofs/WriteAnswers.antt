@@ -18,7 +18,7 @@ use Rattle.dp_value.specs.declared.value.Value.{Value}
 use Rattle.dp_view.specs.Answers.{and_then}
 use Rattle.dp_wire.specs.Frames.{packet_limit}
 use Rattle.dp_write_commands.specs.Asked.{write_asked}
-use Rattle.dp_write_commands.specs.Writing.{responding, response_to, value_response, within_limit, write_response}
+use Rattle.dp_write_commands.specs.Responses.{responding, response_to, value_response, within_limit, write_response}
 use Rattle.dp_write_commands.proofs.Sent.{code as short_code}
 use Rattle.dp_engine.specs.inner.Sizes.{IsCode}
 

@@ -27,7 +27,7 @@ use Rattle.dp_serving.specs.Folds.{Reply}
 use Rattle.dp_view_commands.specs.Views.{view_response}
 use Rattle.dp_wire.specs.Frames.{packet_limit}
 use Rattle.dp_write_commands.specs.Asked.{write_asked}
-use Rattle.dp_write_commands.specs.Writing.{write_response}
+use Rattle.dp_write_commands.specs.Responses.{write_response}
 use Rattle.dp_engine.specs.declared.session.SessionEnd.{SessionEnd}
 use Rattle.dp_engine.specs.declared.session.SessionEnd.TheVariants.{Finished, Killed, Detached}
 use Rattle.dp_engine.specs.declared.sides.Side.{Side}

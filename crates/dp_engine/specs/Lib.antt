@@ -6,5 +6,5 @@ pub mod Refusals
 pub mod Answers
 pub mod Refused
 pub mod Served
-pub mod Serving
+pub mod Service
 pub mod inner

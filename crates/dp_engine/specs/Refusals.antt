@@ -16,7 +16,7 @@ use Rattle.dp_command.specs.Tests.{Test, first_code}
 use Rattle.dp_features.specs.Features.{is_other_encoding, setting_named}
 use Rattle.dp_packet.specs.Parts.{Text}
 use Rattle.dp_view_commands.specs.Views.{view_refusal}
-use Rattle.dp_write_commands.specs.Writing.{write_refusal}
+use Rattle.dp_write_commands.specs.Responses.{write_refusal}
 use Rattle.dp_engine.specs.declared.sides.Side.{Side}
 use Rattle.dp_engine.specs.declared.sides.Side.TheVariants.{Session, Breakpoints, Program, Writes}
 use Rattle.dp_engine.specs.Session.{State, here, program_of}

@@ -4,5 +4,5 @@
 pub mod Position
 pub mod Turns
 pub mod Sizes
-pub mod Closing
-pub mod Accepting
+pub mod RestOfRun
+pub mod KeptWrites

@@ -25,7 +25,7 @@ pub(crate) fn feature_refusal(name: &[u8], value: &[u8]) -> Option<u16>
 
 /// What a line asks for in a state, or the code of the first refusal that is none of the command's own. What is tested
 /// before its row takes no memory.
-#[tactic(auto, using(crate::proofs::Turning::read_asks, crate::proofs::Turning::unadmitted))]
+#[tactic(auto, using(crate::proofs::TurnLaws::read_asks, crate::proofs::TurnLaws::unadmitted))]
 pub(crate) fn ask(alloc: Global, phase: Phase, line: &Line) -> Result<Command, CommandError>
     ensures { AsksIn phase line.now result }
 {

@@ -3,9 +3,9 @@ ghost use Rattle.std.specs.Prelude.{◌≡◌, ◌≤◌, ℕ, List, None, Some}
 ghost use Rattle.std.specs.Io.KnownBytes.{Appends};
 ghost use Rattle.dp_outside.specs.Changes.{change};
 ghost use Rattle.dp_wire.specs.Frames.{IsPacketText};
-ghost use Rattle.dp_engine.specs.inner.Closing.{CanRunOn, Closes, ClosesCut, RanOn};
+ghost use Rattle.dp_engine.specs.inner.RestOfRun.{CanRunOn, Closes, ClosesCut, RanOn};
 ghost use Rattle.dp_engine.specs.Responses.{init_text};
-ghost use Rattle.dp_engine.specs.Serving.{Serves};
+ghost use Rattle.dp_engine.specs.Service.{Serves};
 ghost use Rattle.dp_engine.specs.Session.{opening};
 
 use crate::session::{Answer, Session, SessionEnd};

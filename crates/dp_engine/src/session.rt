@@ -134,7 +134,7 @@ impl<'a> Session<'a> {
     /// A session over a program that may have so many moments, in the state starting, and the text of its first packet.
     ///
     /// The key has at most 128 bytes, and the files of the program have names of files.
-    #[tactic(auto, using(crate::proofs::Fitting::main_short))]
+    #[tactic(auto, using(crate::proofs::ResponseSizes::main_short))]
     pub fn begin(
         alloc: Global,
         bundle: &'a Bundle,

@@ -36,7 +36,7 @@ fn first_piece(output: &[u8]) -> (&[u8], &[u8])
 }
 
 // Puts the packets in which output goes to the IDE behind others.
-#[tactic(auto, using(crate::proofs::Streaming::streams_on))]
+#[tactic(auto, using(crate::proofs::StreamPackets::streams_on))]
 fn put_streams(alloc: Global, texts: &mut Vec<Bytes>, output: &[u8]) -> Result<(), Memory>
     ensures { OnOk result (texts.new.items ≡ texts.old.items ++ streams output.now) }
 {

@@ -15,7 +15,7 @@ use Rattle.dp_rules.specs.Terminals.{terminal_of, same_terminal, is, is_superglo
 use Rattle.dp_rules.specs.Rules.{Rule, Joined, Gives, Made, One, Mark, Closed, Perhaps}
 use Rattle.dp_rules.specs.Lists.{NextItem, SomeItems, AnyItems}
 use Rattle.dp_expressions.specs.Grammar.{prefix_in, step_in, inclusion_in, constant_in, place, value_of, Ladder, ranks, OperandRule, CoalesceRule, CoalesceRest, ConditionalRest, Primary, PlaceOf, PlaceRule, inner, Links, chained}
-use Rattle.dp_expressions.specs.inner.Reading.{begins_expression, tree_of}
+use Rattle.dp_expressions.specs.inner.Readers.{begins_expression, tree_of}
 use Rattle.dp_rules.proofs.Terminals.{placed, mark_passes, mark_alone, implied}
 use Rattle.dp_rules.proofs.Answers.{Rules, JoinedAt, OneAt, MadeAt, StartsIn, give, behind, joined_starts, made_starts, or_starts, starts_in_more}
 use Rattle.dp_rules.proofs.Readers.{marked}

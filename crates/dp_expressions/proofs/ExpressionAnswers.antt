@@ -17,7 +17,7 @@ use Rattle.dp_rules.specs.Terminals.{is, head}
 use Rattle.dp_rules.specs.inner.Input.{Reader, ◌>>=◌, ◌>>◌, made, mark, enter, sort}
 use Rattle.dp_rules.specs.Rules.{Joined, Made, Mark, One}
 use Rattle.dp_expressions.specs.Grammar.{inclusion_in, assignment_in, assigned, value_of, ranks, CoalesceRest, Branches, ConditionalRest, inner, IsExpression, IsPlace}
-use Rattle.dp_expressions.specs.inner.Reading.{begins_expression, ladder, ladder_from, alone, coalesce_rest, coalesce, middle, branches, conditional_rest, going_on, included, pushed, assignment, rest_of, opening, whole, reads_part, below, reading, reading_place}
+use Rattle.dp_expressions.specs.inner.Readers.{begins_expression, ladder, ladder_from, alone, coalesce_rest, coalesce, middle, branches, conditional_rest, going_on, included, pushed, assignment, rest_of, opening, whole, reads_part, below, reading, reading_place}
 use Rattle.dp_rules.proofs.Terminals.{placed, mark_passes, mark_fails, not_true, excluded, implied}
 use Rattle.dp_rules.proofs.Answers.{Rules, JoinedAt, EitherAt, GivesAt, OneAt, MarkAt, MadeAt, PerhapsAt, IsRead, Answers, Follows, Can, Apart, StartsIn, give, behind, mark_starts, joined_starts, made_starts, nests_starts, gives_apart, starts_follow, gives_follow, either_follows, joined_answers, made_answers, gives_answers, equal_answers, either_answers, perhaps_answers, within_answers}
 use Rattle.dp_rules.proofs.Readers.{marked, mark_then}

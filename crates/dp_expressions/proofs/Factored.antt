@@ -11,7 +11,7 @@ use Rattle.dp_tree.specs.declared.tree.Place.{Place}
 use Rattle.dp_tree.specs.declared.tree.Order.TheVariants.{ValueFirst}
 use Rattle.dp_rules.specs.Rules.{Rule, Joined, ◌or◌, Gives, Made, Mark, Nests, Chain, Closed, Many}
 use Rattle.dp_expressions.specs.Grammar.{Inner, step_in, assignment_in, place, indexed, value_of, chained, assigned, Links, Ladder, PlaceOf, Index, PlaceRule, Isset, Primary, Prefixed, SteppedFirst, SteppedLast, OperandRule, CoalesceRest, CoalesceRule, ConditionalRest, ConditionalRule, IncludeRule, PushRule, ExpressionRule, IsExpression, ranks}
-use Rattle.dp_expressions.specs.inner.Reading.{tree_of}
+use Rattle.dp_expressions.specs.inner.Readers.{tree_of}
 use Rattle.dp_rules.proofs.Answers.{give, given}
 use Rattle.dp_rules.proofs.ListAnswers.{behind_made, made_behind}
 use Rattle.dp_rules.specs.TokenValues.{number_in, Kind, Sort, Variable}

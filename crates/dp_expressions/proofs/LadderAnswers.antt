@@ -9,7 +9,7 @@ use Rattle.dp_tree.specs.declared.tree.Link.{Link}
 use Rattle.dp_rules.specs.Terminals.{head}
 use Rattle.dp_rules.specs.inner.Input.{Reader, ◌>>=◌, made, gives}
 use Rattle.dp_expressions.specs.Grammar.{operator_in, link, chained, may_go_on, LinkOf, NextLink, Links, Ladder, ranks}
-use Rattle.dp_expressions.specs.inner.Reading.{link_of, links_step, links_of, ladder, ladder_from}
+use Rattle.dp_expressions.specs.inner.Readers.{link_of, links_step, links_of, ladder, ladder_from}
 use Rattle.dp_rules.proofs.Terminals.{and_parts, both, excluded}
 use Rattle.dp_rules.proofs.Answers.{Rules, GivesAt, OneAt, MadeAt, StepAt, Answers, Follows, Can, GoesOn, StartsIn, give, joined_starts, made_starts, starts_in_more, gives_apart, gives_follow, made_answers, gives_answers, joined_answers, when_holds}
 use Rattle.dp_rules.proofs.Loops.{step_stop, closed_follows, closed_answers, piece_first}

@@ -17,7 +17,7 @@ use Rattle.dp_rules.proofs.Answers.{Rules, Stop, Begins, IsRead, IsRefused, Agre
 use Rattle.dp_rules.proofs.More.{level_self}
 use Rattle.dp_expressions.specs.Grammar.{inner, IsPlace}
 use Rattle.dp_expressions.specs.Longest.{IsLongest, IsReadBy, rule_of, may_read}
-use Rattle.dp_expressions.specs.inner.Reading.{reading, reading_place}
+use Rattle.dp_expressions.specs.inner.Readers.{reading, reading_place}
 use Rattle.dp_expressions.proofs.Heights.{stop_at}
 use Rattle.dp_expressions.proofs.Least.{zero_text, zero_tree, variable_text, variable_place, index_text, least_operand, least_coalesce, least_whole, least_expression, least_index, least_is_place}
 use Rattle.dp_expressions.proofs.ExpressionParts.{At, stop_of, index_starts}

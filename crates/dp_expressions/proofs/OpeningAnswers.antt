@@ -19,7 +19,7 @@ use Rattle.dp_rules.specs.Terminals.{is, head}
 use Rattle.dp_rules.specs.inner.Input.{Reader, ◌>>=◌, ◌>>◌, gives, made, mark, closed, variable}
 use Rattle.dp_rules.specs.Rules.{Mark}
 use Rattle.dp_expressions.specs.Grammar.{step_in, place, inner}
-use Rattle.dp_expressions.specs.inner.Reading.{begins_expression, other, step_last, index_or_push, opening_step, opening_place, opening}
+use Rattle.dp_expressions.specs.inner.Readers.{begins_expression, other, step_last, index_or_push, opening_step, opening_place, opening}
 use Rattle.dp_rules.proofs.Terminals.{placed, mark_of, excluded}
 use Rattle.dp_rules.proofs.Answers.{Rules, Anything, JoinedAt, EitherAt, GivesAt, OneAt, MarkAt, MadeAt, ClosedAt, StepAt, Answers, Apart, StartsIn, give, given, mark_starts, joined_starts, made_starts, nests_starts, or_starts, starts_in_more, starts_apart, gives_apart, either_apart, made_apart, anything_follows, mark_answers, made_answers, equal_answers, either_answers}
 use Rattle.dp_rules.proofs.Loops.{step_stop, closed_answers, closed_now}

@@ -19,9 +19,9 @@ use Rattle.dp_rules.specs.Terminals.{terminal_of, same_terminal, is, head}
 use Rattle.dp_rules.specs.inner.Input.{Reader, ◌>>=◌, ◌>>◌, gives, made, refuse, one, mark, enter, sort, variable}
 use Rattle.dp_rules.specs.Rules.{Rule, Joined, Made, Mark, One, Many, Closed, Perhaps}
 use Rattle.dp_rules.specs.Lists.{NextItem, AnyItems, SomeItems}
-use Rattle.dp_rules.specs.inner.ReadingLists.{some_items, any_items, many}
+use Rattle.dp_rules.specs.inner.ListReaders.{some_items, any_items, many}
 use Rattle.dp_expressions.specs.Grammar.{prefix_in, step_in, constant_in, place, item, indexed, PlaceOf, ItemRest, inner}
-use Rattle.dp_expressions.specs.inner.Reading.{begins_expression, tree_of, index, indices, place_rule, place_below, group, item_rest, item_rule, literal, array_call, call, isset, primary, prefixed, stepped_first, other, step_last, alone}
+use Rattle.dp_expressions.specs.inner.Readers.{begins_expression, tree_of, index, indices, place_rule, place_below, group, item_rest, item_rule, literal, array_call, call, isset, primary, prefixed, stepped_first, other, step_last, alone}
 use Rattle.dp_rules.proofs.Terminals.{and_parts, not_true, placed, mark_passes, mark_of, excluded, implied}
 use Rattle.dp_rules.proofs.Answers.{Rules, Anything, JoinedAt, EitherAt, GivesAt, OneAt, MarkAt, MadeAt, ManyAt, Answers, Follows, Can, StartsIn, give, behind, mark_starts, joined_starts, made_starts, gives_apart, starts_follow, gives_follow, either_follows, anything_follows, one_answers, made_answers, gives_answers, joined_answers, equal_answers, stricter_answers, either_answers, guarded_answers}
 use Rattle.dp_rules.proofs.Loops.{many_none, many_answers}

@@ -2,8 +2,8 @@
 
 ghost use Rattle.std.specs.Prelude.{◌≡◌, ◌<◌, ◌-◌};
 ghost use Rattle.dp_rules.specs.inner.Input.{Reads};
-ghost use Rattle.dp_expressions.specs.inner.Reading as spec;
-ghost use Rattle.dp_expressions.specs.inner.Reading.{within};
+ghost use Rattle.dp_expressions.specs.inner.Readers as spec;
+ghost use Rattle.dp_expressions.specs.inner.Readers.{within};
 
 use crate::grammar::Grammar;
 use crate::inside::{Called, Inside};
@@ -25,7 +25,7 @@ impl<R: Inside> Grammar<R> {
         self.inner(tokens, Part::Coalesce)
     }
 
-    #[tactic(auto, unfolding(crate::specs::inner::Reading::coalesce_rest))]
+    #[tactic(auto, unfolding(crate::specs::inner::Readers::coalesce_rest))]
     fn coalesce_rest(
         &self,
         tokens: &mut Tokens<'_>,
@@ -42,7 +42,7 @@ impl<R: Inside> Grammar<R> {
     }
 
     // What may stand right of a `??`.
-    #[tactic(auto, unfolding(crate::specs::inner::Reading::coalesce))]
+    #[tactic(auto, unfolding(crate::specs::inner::Readers::coalesce))]
     fn coalesce(&self, tokens: &mut Tokens<'_>) -> Result<Expression, Refusal>
         ensures { Reads (within spec.coalesce self.now tokens.old) result tokens.new }
     {
@@ -51,7 +51,7 @@ impl<R: Inside> Grammar<R> {
     }
 
     // The middle of a conditional, which may be missing.
-    #[tactic(auto, unfolding(crate::specs::inner::Reading::middle))]
+    #[tactic(auto, unfolding(crate::specs::inner::Readers::middle))]
     fn middle(&self, tokens: &mut Tokens<'_>) -> Result<Option<Boxed<Expression>>, Refusal>
         ensures { Reads (within spec.middle self.now tokens.old) result tokens.new }
     {
@@ -64,7 +64,7 @@ impl<R: Inside> Grammar<R> {
     }
 
     // The parts of a conditional behind its test.
-    #[tactic(auto, unfolding(crate::specs::inner::Reading::branches))]
+    #[tactic(auto, unfolding(crate::specs::inner::Readers::branches))]
     fn branches(&self, tokens: &mut Tokens<'_>, test: Expression) -> Result<Expression, Refusal>
         ensures { Reads (within spec.branches self.now test tokens.old) result tokens.new }
     {
@@ -76,7 +76,7 @@ impl<R: Inside> Grammar<R> {
         Ok(Expression::Conditional(test, middle, Boxed::new(self.alloc(), last)?))
     }
 
-    #[tactic(auto, unfolding(crate::specs::inner::Reading::conditional_rest))]
+    #[tactic(auto, unfolding(crate::specs::inner::Readers::conditional_rest))]
     fn conditional_rest(
         &self,
         tokens: &mut Tokens<'_>,
@@ -92,7 +92,7 @@ impl<R: Inside> Grammar<R> {
     }
 
     // An expression whose first operand was read before.
-    #[tactic(auto, unfolding(crate::specs::inner::Reading::going_on))]
+    #[tactic(auto, unfolding(crate::specs::inner::Readers::going_on))]
     fn going_on(&self, tokens: &mut Tokens<'_>, first: Expression) -> Result<Expression, Refusal>
         ensures { Reads (within spec.going_on self.now first tokens.old) result tokens.new }
     {
@@ -101,7 +101,7 @@ impl<R: Inside> Grammar<R> {
         self.conditional_rest(tokens, test)
     }
 
-    #[tactic(auto, unfolding(crate::specs::inner::Reading::included))]
+    #[tactic(auto, unfolding(crate::specs::inner::Readers::included))]
     fn included(&self, tokens: &mut Tokens<'_>) -> Result<Expression, Refusal>
         ensures { Reads (within spec.included self.now tokens.old) result tokens.new }
     {
@@ -111,7 +111,7 @@ impl<R: Inside> Grammar<R> {
         Ok(included(self.alloc(), how, of)?)
     }
 
-    #[tactic(auto, unfolding(crate::specs::inner::Reading::pushed))]
+    #[tactic(auto, unfolding(crate::specs::inner::Readers::pushed))]
     fn pushed(&self, tokens: &mut Tokens<'_>, to: Place) -> Result<Expression, Refusal>
         ensures { Reads (within spec.pushed self.now to tokens.old) result tokens.new }
     {
@@ -121,7 +121,7 @@ impl<R: Inside> Grammar<R> {
         Ok(pushed(self.alloc(), to, from)?)
     }
 
-    #[tactic(auto, unfolding(crate::specs::inner::Reading::assignment))]
+    #[tactic(auto, unfolding(crate::specs::inner::Readers::assignment))]
     fn assignment(&self, tokens: &mut Tokens<'_>, to: Place) -> Result<Expression, Refusal>
         ensures { Reads (within spec.assignment self.now to tokens.old) result tokens.new }
     {
@@ -131,7 +131,7 @@ impl<R: Inside> Grammar<R> {
         Ok(assigned(self.alloc(), to, how, from)?)
     }
 
-    #[tactic(auto, unfolding(crate::specs::inner::Reading::rest_of))]
+    #[tactic(auto, unfolding(crate::specs::inner::Readers::rest_of))]
     fn rest_of(&self, tokens: &mut Tokens<'_>, opening: Operand) -> Result<Expression, Refusal>
         ensures { Reads (within spec.rest_of self.now opening tokens.old) result tokens.new }
     {
@@ -145,7 +145,7 @@ impl<R: Inside> Grammar<R> {
         }
     }
 
-    #[tactic(auto, unfolding(crate::specs::inner::Reading::whole))]
+    #[tactic(auto, unfolding(crate::specs::inner::Readers::whole))]
     fn whole(&self, tokens: &mut Tokens<'_>) -> Result<Expression, Refusal>
         ensures { Reads (within spec.whole self.now tokens.old) result tokens.new }
     {
@@ -156,7 +156,7 @@ impl<R: Inside> Grammar<R> {
         self.rest_of(tokens, opening)
     }
 
-    #[tactic(auto, unfolding(crate::specs::inner::Reading::reading, crate::specs::inner::Reading::reads_part))]
+    #[tactic(auto, unfolding(crate::specs::inner::Readers::reading, crate::specs::inner::Readers::reads_part))]
     pub(crate) fn part(&self, tokens: &mut Tokens<'_>, part: Part) -> Result<Expression, Refusal>
         ensures { Reads (spec.reading self.now part tokens.old) result tokens.new }
     {
@@ -184,7 +184,7 @@ pub(crate) fn part_over<R: Inside + Drop>(
 }
 
 /// A place, where this reads one level down.
-#[tactic(auto, unfolding(crate::specs::inner::Reading::reading_place))]
+#[tactic(auto, unfolding(crate::specs::inner::Readers::reading_place))]
 pub(crate) fn place_over<R: Inside + Drop>(
     alloc: Global,
     tokens: &mut Tokens<'_>,

@@ -3,7 +3,7 @@
 
 ghost use Rattle.std.specs.Prelude.{◌≡◌, ◌<◌, OnOk};
 ghost use Rattle.dp_rules.specs.inner.Input.{Reads, enter};
-ghost use Rattle.dp_expressions.specs.inner.Reading.{below};
+ghost use Rattle.dp_expressions.specs.inner.Readers.{below};
 
 use crate::inside::Inside;
 use crate::operand::Part;

@@ -3,7 +3,7 @@
 ghost use Rattle.std.specs.Prelude.{ℕ, ◌<◌, ◌-◌};
 ghost use Rattle.dp_rules.specs.inner.Input.{Reads};
 ghost use Rattle.dp_expressions.specs.inner.NestedReader.{ReadsInside};
-ghost use Rattle.dp_expressions.specs.inner.Reading.{below};
+ghost use Rattle.dp_expressions.specs.inner.Readers.{below};
 
 use crate::operand::Part;
 use dp_rules::{Refusal, Tokens};

@@ -2,8 +2,8 @@
 
 ghost use Rattle.std.specs.Prelude.{◌≡◌, ◌<◌};
 ghost use Rattle.dp_rules.specs.inner.Input.{Reads};
-ghost use Rattle.dp_expressions.specs.inner.Reading as spec;
-ghost use Rattle.dp_expressions.specs.inner.Reading.{within};
+ghost use Rattle.dp_expressions.specs.inner.Readers as spec;
+ghost use Rattle.dp_expressions.specs.inner.Readers.{within};
 ghost use Rattle.dp_expressions.specs.Grammar as grammar;
 
 use crate::grammar::Grammar;
@@ -42,7 +42,7 @@ fn may_go_on(rank: Rank, links: &[Link]) -> bool
 
 impl<R: Inside> Grammar<R> {
     #[cycle(ladder)]
-    #[tactic(auto, unfolding(crate::specs::inner::Reading::link_of))]
+    #[tactic(auto, unfolding(crate::specs::inner::Readers::link_of))]
     fn link_of(&self, tokens: &mut Tokens<'_>, more: &[Rank], rank: Rank) -> Result<Link, Refusal>
         ensures { Reads (spec.link_of (spec.ladder more.now (within spec.alone self.now)) rank tokens.old) result
             tokens.new }
@@ -71,7 +71,7 @@ impl<R: Inside> Grammar<R> {
     }
 
     #[cycle(ladder)]
-    #[tactic(auto, unfolding(crate::specs::inner::Reading::links_of))]
+    #[tactic(auto, unfolding(crate::specs::inner::Readers::links_of))]
     fn links_of(
         &self,
         tokens: &mut Tokens<'_>,
@@ -93,7 +93,7 @@ impl<R: Inside> Grammar<R> {
 
     /// Operands joined by operators of these ranks, the loosest first.
     #[cycle(ladder)]
-    #[tactic(auto, unfolding(crate::specs::inner::Reading::ladder))]
+    #[tactic(auto, unfolding(crate::specs::inner::Readers::ladder))]
     pub(crate) fn ladder(
         &self,
         tokens: &mut Tokens<'_>,
@@ -110,7 +110,7 @@ impl<R: Inside> Grammar<R> {
     }
 
     /// The same, where the first operand was read before.
-    #[tactic(auto, unfolding(crate::specs::inner::Reading::ladder_from))]
+    #[tactic(auto, unfolding(crate::specs::inner::Readers::ladder_from))]
     pub(crate) fn ladder_from(
         &self,
         tokens: &mut Tokens<'_>,

@@ -5,7 +5,7 @@ ghost use Rattle.dp_lexer.specs.declared.token.Token.{Token};
 ghost use Rattle.dp_expressions.specs.declared.operand.Part.{Part};
 ghost use Rattle.dp_expressions.specs.Grammar.{IsPlace};
 ghost use Rattle.dp_expressions.specs.Longest.{IsReadBy, rule_of, may_read};
-ghost use Rattle.dp_expressions.specs.inner.Reading.{reading, reading_place};
+ghost use Rattle.dp_expressions.specs.inner.Readers.{reading, reading_place};
 
 /// What `expression` and `place` answer is the grammar's: the longest text that is spelled, or the first token with
 /// which nothing is.

@@ -2,7 +2,7 @@
 
 ghost use Rattle.std.specs.Prelude.{◌≡◌, ◌++◌, ◌∷◌, [], IfOk};
 ghost use Rattle.dp_expressions.specs.Grammar as grammar;
-ghost use Rattle.dp_expressions.specs.inner.Reading as spec;
+ghost use Rattle.dp_expressions.specs.inner.Readers as spec;
 
 use crate::operand::{Assignment, Operand};
 use dp_tree::{Boxed, Expression, Inclusion, Link, Place};

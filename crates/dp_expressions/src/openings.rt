@@ -2,8 +2,8 @@
 
 ghost use Rattle.std.specs.Prelude.{◌≡◌, ◌<◌, []};
 ghost use Rattle.dp_rules.specs.inner.Input.{Reads, closed};
-ghost use Rattle.dp_expressions.specs.inner.Reading as spec;
-ghost use Rattle.dp_expressions.specs.inner.Reading.{within};
+ghost use Rattle.dp_expressions.specs.inner.Readers as spec;
+ghost use Rattle.dp_expressions.specs.inner.Readers.{within};
 
 use crate::grammar::Grammar;
 use crate::inside::Inside;
@@ -18,7 +18,7 @@ use std::ops::ControlFlow;
 
 impl<R: Inside> Grammar<R> {
     // An index or, where an assignment may follow, `[]`.
-    #[tactic(auto, unfolding(crate::specs::inner::Reading::index_or_push))]
+    #[tactic(auto, unfolding(crate::specs::inner::Readers::index_or_push))]
     fn index_or_push(
         &self,
         tokens: &mut Tokens<'_>,
@@ -68,7 +68,7 @@ impl<R: Inside> Grammar<R> {
     }
 
     // What an expression begins with, where it is a variable.
-    #[tactic(auto, unfolding(crate::specs::inner::Reading::opening_place))]
+    #[tactic(auto, unfolding(crate::specs::inner::Readers::opening_place))]
     fn opening_place(&self, tokens: &mut Tokens<'_>) -> Result<Operand, Refusal>
         ensures { Reads (within spec.opening_place self.now tokens.old) result tokens.new }
     {
@@ -77,7 +77,7 @@ impl<R: Inside> Grammar<R> {
     }
 
     /// What an expression begins with.
-    #[tactic(auto, unfolding(crate::specs::inner::Reading::opening))]
+    #[tactic(auto, unfolding(crate::specs::inner::Readers::opening))]
     pub(crate) fn opening(&self, tokens: &mut Tokens<'_>) -> Result<Operand, Refusal>
         ensures { Reads (within spec.opening self.now tokens.old) result tokens.new }
     {

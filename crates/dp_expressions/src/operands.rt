@@ -2,8 +2,8 @@
 
 ghost use Rattle.std.specs.Prelude.{◌≡◌, ◌<◌};
 ghost use Rattle.dp_rules.specs.inner.Input.{Reads};
-ghost use Rattle.dp_expressions.specs.inner.Reading as spec;
-ghost use Rattle.dp_expressions.specs.inner.Reading.{within};
+ghost use Rattle.dp_expressions.specs.inner.Readers as spec;
+ghost use Rattle.dp_expressions.specs.inner.Readers.{within};
 
 use crate::grammar::Grammar;
 use crate::inside::Inside;
@@ -18,7 +18,7 @@ use std::alloc::Global;
 
 impl<R: Inside> Grammar<R> {
     // An expression in parentheses.
-    #[tactic(auto, unfolding(crate::specs::inner::Reading::group))]
+    #[tactic(auto, unfolding(crate::specs::inner::Readers::group))]
     fn group(&self, tokens: &mut Tokens<'_>) -> Result<Expression, Refusal>
         ensures { Reads (within spec.group self.now tokens.old) result tokens.new }
     {
@@ -29,7 +29,7 @@ impl<R: Inside> Grammar<R> {
         Ok(within)
     }
 
-    #[tactic(auto, unfolding(crate::specs::inner::Reading::item_rest))]
+    #[tactic(auto, unfolding(crate::specs::inner::Readers::item_rest))]
     fn item_rest(&self, tokens: &mut Tokens<'_>, first: Expression) -> Result<Item, Refusal>
         requires { 0 < self.now }
         ensures { Reads (within spec.item_rest self.now first tokens.old) result tokens.new }
@@ -49,7 +49,7 @@ impl<R: Inside> Grammar<R> {
     }
 
     /// An item of an array literal.
-    #[tactic(auto, unfolding(crate::specs::inner::Reading::item_rule))]
+    #[tactic(auto, unfolding(crate::specs::inner::Readers::item_rule))]
     pub(crate) fn item_rule(&self, tokens: &mut Tokens<'_>) -> Result<Item, Refusal>
         requires { 0 < self.now }
         ensures { Reads (within spec.item_rule self.now tokens.old) result tokens.new }
@@ -58,7 +58,7 @@ impl<R: Inside> Grammar<R> {
         self.item_rest(tokens, first)
     }
 
-    #[tactic(auto, unfolding(crate::specs::inner::Reading::literal))]
+    #[tactic(auto, unfolding(crate::specs::inner::Readers::literal))]
     fn literal(&self, tokens: &mut Tokens<'_>) -> Result<Expression, Refusal>
         ensures { Reads (within spec.literal self.now tokens.old) result tokens.new }
     {
@@ -69,7 +69,7 @@ impl<R: Inside> Grammar<R> {
         Ok(Expression::Array(items))
     }
 
-    #[tactic(auto, unfolding(crate::specs::inner::Reading::array_call))]
+    #[tactic(auto, unfolding(crate::specs::inner::Readers::array_call))]
     fn array_call(&self, tokens: &mut Tokens<'_>) -> Result<Expression, Refusal>
         ensures { Reads (within spec.array_call self.now tokens.old) result tokens.new }
     {
@@ -81,7 +81,7 @@ impl<R: Inside> Grammar<R> {
         Ok(Expression::Array(items))
     }
 
-    #[tactic(auto, unfolding(crate::specs::inner::Reading::call))]
+    #[tactic(auto, unfolding(crate::specs::inner::Readers::call))]
     fn call(&self, tokens: &mut Tokens<'_>) -> Result<Expression, Refusal>
         ensures { Reads (within spec.call self.now tokens.old) result tokens.new }
     {
@@ -96,7 +96,7 @@ impl<R: Inside> Grammar<R> {
         Ok(Expression::Call(name, arguments))
     }
 
-    #[tactic(auto, unfolding(crate::specs::inner::Reading::isset))]
+    #[tactic(auto, unfolding(crate::specs::inner::Readers::isset))]
     fn isset(&self, tokens: &mut Tokens<'_>) -> Result<Expression, Refusal>
         ensures { Reads (within spec.isset self.now tokens.old) result tokens.new }
     {
@@ -108,7 +108,7 @@ impl<R: Inside> Grammar<R> {
         Ok(Expression::Isset(places))
     }
 
-    #[tactic(auto, unfolding(crate::specs::inner::Reading::primary, dp_rules::specs::inner::Input::refuse))]
+    #[tactic(auto, unfolding(crate::specs::inner::Readers::primary, dp_rules::specs::inner::Input::refuse))]
     fn primary(&self, tokens: &mut Tokens<'_>) -> Result<Expression, Refusal>
         ensures { Reads (within spec.primary self.now tokens.old) result tokens.new }
     {
@@ -133,7 +133,7 @@ impl<R: Inside> Grammar<R> {
         Err(tokens.refuse())
     }
 
-    #[tactic(auto, unfolding(crate::specs::inner::Reading::prefixed))]
+    #[tactic(auto, unfolding(crate::specs::inner::Readers::prefixed))]
     fn prefixed(&self, tokens: &mut Tokens<'_>) -> Result<Expression, Refusal>
         ensures { Reads (within spec.prefixed self.now tokens.old) result tokens.new }
     {
@@ -143,7 +143,7 @@ impl<R: Inside> Grammar<R> {
         Ok(unary(self.alloc(), by, of)?)
     }
 
-    #[tactic(auto, unfolding(crate::specs::inner::Reading::stepped_first))]
+    #[tactic(auto, unfolding(crate::specs::inner::Readers::stepped_first))]
     fn stepped_first(&self, tokens: &mut Tokens<'_>) -> Result<Expression, Refusal>
         ensures { Reads (within spec.stepped_first self.now tokens.old) result tokens.new }
     {
@@ -154,7 +154,7 @@ impl<R: Inside> Grammar<R> {
     }
 
     /// An operand that begins with no variable.
-    #[tactic(auto, unfolding(crate::specs::inner::Reading::other))]
+    #[tactic(auto, unfolding(crate::specs::inner::Readers::other))]
     pub(crate) fn other(&self, tokens: &mut Tokens<'_>) -> Result<Expression, Refusal>
         ensures { Reads (within spec.other self.now tokens.old) result tokens.new }
     {
@@ -176,7 +176,7 @@ impl<R: Inside> Grammar<R> {
     }
 
     /// What may stand behind a place.
-    #[tactic(auto, unfolding(crate::specs::inner::Reading::step_last))]
+    #[tactic(auto, unfolding(crate::specs::inner::Readers::step_last))]
     pub(crate) fn step_last(
         &self,
         tokens: &mut Tokens<'_>,
@@ -192,7 +192,7 @@ impl<R: Inside> Grammar<R> {
     }
 
     /// One operand, with what stands before it.
-    #[tactic(auto, unfolding(crate::specs::inner::Reading::alone))]
+    #[tactic(auto, unfolding(crate::specs::inner::Readers::alone))]
     pub(crate) fn alone(&self, tokens: &mut Tokens<'_>) -> Result<Expression, Refusal>
         ensures { Reads (within spec.alone self.now tokens.old) result tokens.new }
     {

@@ -1,8 +1,8 @@
 //! Pieces of lists that are parts of expressions.
 
 ghost use Rattle.std.specs.Prelude.{◌<◌, ⊤};
-ghost use Rattle.dp_expressions.specs.inner.Reading as spec;
-ghost use Rattle.dp_expressions.specs.inner.Reading.{within};
+ghost use Rattle.dp_expressions.specs.inner.Readers as spec;
+ghost use Rattle.dp_expressions.specs.inner.Readers.{within};
 
 use crate::grammar::Grammar;
 use crate::inside::Inside;

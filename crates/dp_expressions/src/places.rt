@@ -2,8 +2,8 @@
 
 ghost use Rattle.std.specs.Prelude.{◌≡◌, ◌<◌};
 ghost use Rattle.dp_rules.specs.inner.Input.{Reads};
-ghost use Rattle.dp_expressions.specs.inner.Reading as spec;
-ghost use Rattle.dp_expressions.specs.inner.Reading.{within};
+ghost use Rattle.dp_expressions.specs.inner.Readers as spec;
+ghost use Rattle.dp_expressions.specs.inner.Readers.{within};
 
 use crate::grammar::Grammar;
 use crate::inside::Inside;
@@ -17,7 +17,7 @@ use std::alloc::Global;
 
 impl<R: Inside> Grammar<R> {
     /// An index in its brackets.
-    #[tactic(auto, unfolding(crate::specs::inner::Reading::index))]
+    #[tactic(auto, unfolding(crate::specs::inner::Readers::index))]
     pub(crate) fn index(&self, tokens: &mut Tokens<'_>) -> Result<Expression, Refusal>
         ensures { Reads (within spec.index self.now tokens.old) result tokens.new }
     {
@@ -28,7 +28,7 @@ impl<R: Inside> Grammar<R> {
         Ok(at)
     }
 
-    #[tactic(auto, unfolding(crate::specs::inner::Reading::indices))]
+    #[tactic(auto, unfolding(crate::specs::inner::Readers::indices))]
     pub(crate) fn indices(&self, tokens: &mut Tokens<'_>) -> Result<Items<Expression>, Refusal>
         ensures { Reads (within spec.indices self.now tokens.old) result tokens.new }
     {
@@ -40,7 +40,7 @@ impl<R: Inside> Grammar<R> {
         )
     }
 
-    #[tactic(auto, unfolding(crate::specs::inner::Reading::place_rule))]
+    #[tactic(auto, unfolding(crate::specs::inner::Readers::place_rule))]
     pub(crate) fn place_rule(&self, tokens: &mut Tokens<'_>) -> Result<Place, Refusal>
         ensures { Reads (within spec.place_rule self.now tokens.old) result tokens.new }
     {
@@ -50,7 +50,7 @@ impl<R: Inside> Grammar<R> {
     }
 
     /// A place one level down.
-    #[tactic(auto, unfolding(crate::specs::inner::Reading::place_below))]
+    #[tactic(auto, unfolding(crate::specs::inner::Readers::place_below))]
     pub(crate) fn place_below(&self, tokens: &mut Tokens<'_>) -> Result<Place, Refusal>
         requires { 0 < self.now }
         ensures { Reads (within spec.place_below self.now tokens.old) result tokens.new }

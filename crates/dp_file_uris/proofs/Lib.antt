@@ -1,2 +1,2 @@
-pub mod Finding
+pub mod FoundFiles
 pub mod Uris

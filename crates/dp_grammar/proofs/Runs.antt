@@ -4,7 +4,7 @@ use Rattle.std.specs.List.{prefix_len}
 use Rattle.std.proofs.lemmas.Bool.{eqb-true}
 use Rattle.std.proofs.Math.Seq.{drop-append_seam, take-append_seam}
 use Rattle.dp_grammar.specs.Parts.{Each, begins}
-use Rattle.dp_grammar.specs.Taking.{◌>>=◌, run_at}
+use Rattle.dp_grammar.specs.Prefixes.{◌>>=◌, run_at}
 
 -- ---- steps
 

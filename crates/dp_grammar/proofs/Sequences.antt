@@ -1,7 +1,7 @@
 -- Parts one behind the other: what was taken from the front, and what is taken again.
 use Rattle.std.proofs.Common.{◌≡◌, ℕ, zero, suc, ◌≤◌, List, [], ◌∷◌, ◌++◌, length, Option, Some, None, refl, sym, ap, subst, ◌∙◌, append_assoc, length-append, arith}
 use Rattle.dp_grammar.specs.Parts.{Joined, Repeated}
-use Rattle.dp_grammar.specs.Taking.{◌>>=◌, onward, items_at}
+use Rattle.dp_grammar.specs.Prefixes.{◌>>=◌, onward, items_at}
 use Rattle.dp_grammar.proofs.Runs.{some_is, bind_some}
 
 -- a part stands at the front, and this behind it

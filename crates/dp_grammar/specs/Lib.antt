@@ -2,5 +2,5 @@ pub mod Rules
 pub mod Refused
 pub mod Exact
 pub mod Parts
-pub mod Taking
+pub mod Prefixes
 pub mod inner

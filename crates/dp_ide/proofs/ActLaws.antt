@@ -14,7 +14,7 @@ use Rattle.dp_ide.specs.declared.instruction.Act.{Act}
 use Rattle.dp_ide.specs.declared.instruction.Act.TheVariants.{Send, Attr, Code, Prop, Out, Print}
 use Rattle.dp_ide.specs.declared.instruction.Instruction.{Instruction}
 use Rattle.dp_ide.specs.Scripts.{Asks, Behind, Command, Name, Number, Says, is_idle}
-use Rattle.dp_ide.specs.inner.Reading.{IsNamed, IsRun, Reads, is_attr, is_code, is_out, is_prop, is_send}
+use Rattle.dp_ide.specs.inner.Readers.{IsNamed, IsRun, Reads, is_attr, is_code, is_out, is_prop, is_send}
 use Rattle.dp_ide.proofs.LineLaws.{Lacks, lacks_head, lacks_tail}
 
 -- What is read by one rule is read by another, where the two fit at these bytes.

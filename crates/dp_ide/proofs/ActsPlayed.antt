@@ -5,7 +5,7 @@ use Rattle.std.specs.Str.Parse.{digits_value}
 use Rattle.std.specs.Io.KnownBytes.{Appends, Consumes}
 use Rattle.std.proofs.KnownBytes.{Appends-nil, Consumes-nil}
 use Rattle.dp_markup.specs.Grammar.{value_of}
-use Rattle.dp_markup.specs.Writing.{written}
+use Rattle.dp_markup.specs.Texts.{written}
 use Rattle.dp_outside.specs.Changes.{Change}
 use Rattle.dp_wire.specs.Frames.{command_frame, packet_limit}
 use Rattle.dp_wire.proofs.PacketLaws.{value-decimal}
@@ -16,7 +16,7 @@ use Rattle.dp_ide.specs.declared.instruction.Act.{Act}
 use Rattle.dp_ide.specs.declared.instruction.Act.TheVariants.{Send, Attr, Code, Prop, Out, Print}
 use Rattle.dp_ide.specs.declared.instruction.Instruction.{Instruction}
 use Rattle.dp_ide.specs.Messages.{code_in, content_in}
-use Rattle.dp_ide.specs.Playing.{Does, sent_by}
+use Rattle.dp_ide.specs.Instructions.{Does, sent_by}
 use Rattle.dp_ide.specs.inner.Progress.{heard_of, TakesAnswer, Performs, printed_line}
 use Rattle.dp_ide.proofs.AwaitLaws.{takes_none}
 use Rattle.dp_ide.proofs.PlayLaws.{performs_one, performs_quiet}

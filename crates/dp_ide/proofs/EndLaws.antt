@@ -9,7 +9,7 @@ use Rattle.std.proofs.lemmas.List.{append_cancel_right}
 use Rattle.dp_grammar.specs.declared.refusal.Refusal.TheVariants as refusal
 use Rattle.dp_markup.specs.declared.tree.Element.{Element}
 use Rattle.dp_markup.specs.inner.Input.{Outcome}
-use Rattle.dp_markup.specs.inner.Reading.{document}
+use Rattle.dp_markup.specs.inner.Readers.{document}
 use Rattle.dp_markup.specs.Grammar.{Document, IsMarkup, limit}
 use Rattle.dp_markup.proofs.Answers.{Answers}
 use Rattle.dp_markup.proofs.Verdicts.{is_bad, is_too_deep, not_deep, not_markup, one_markup}
@@ -26,7 +26,7 @@ use Rattle.dp_ide.specs.declared.instruction.Act.{Act}
 use Rattle.dp_ide.specs.declared.instruction.Act.TheVariants.{Send, Attr, Code, Prop, Out, Print}
 use Rattle.dp_ide.specs.declared.instruction.Instruction.{Instruction}
 use Rattle.dp_ide.specs.Messages.{IsMessage, AreMessages, is_init, answers, output_in}
-use Rattle.dp_ide.specs.Playing.{Heard, Expectation, Answered, Does, Goes, Holds, afterwards, expected, wants}
+use Rattle.dp_ide.specs.Instructions.{Heard, Expectation, Answered, Does, Goes, Holds, afterwards, expected, wants}
 use Rattle.dp_ide.specs.Plays.{Progress, Awaited, Waiting, AwaitsInit, Awaits, IsUnfit, IsBadAt, Lacks, StopsAt, EndsPlaying, EndsWaiting, Ends, init, response, is_verdict}
 use Rattle.dp_ide.proofs.PlaceLaws.{one_place}
 

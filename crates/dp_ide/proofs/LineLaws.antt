@@ -8,7 +8,7 @@ use Rattle.dp_ide.specs.declared.errors.IdeError.{IdeError}
 use Rattle.dp_ide.specs.declared.errors.IdeError.TheVariants as error
 use Rattle.dp_ide.specs.declared.instruction.Instruction.{Instruction}
 use Rattle.dp_ide.specs.Scripts.{AreSaid, IsFirstBad, IsScript, Says, lines_of}
-use Rattle.dp_ide.specs.inner.Reading.{HasSaid, IsRun, ReadFails, SaidBehind}
+use Rattle.dp_ide.specs.inner.Readers.{HasSaid, IsRun, ReadFails, SaidBehind}
 
 -- ---- where a line ends
 

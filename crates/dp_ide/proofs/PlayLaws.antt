@@ -7,7 +7,7 @@ use Rattle.std.proofs.KnownBytes.{Appends-nil, Appends-trans, Consumes-nil, Cons
 use Rattle.std.proofs.lemmas.List.{take-append-drop}
 use Rattle.std.proofs.lemmas.List.Concat.{flat_map-append}
 use Rattle.std.proofs.Math.Seq.{take-append-add}
-use Rattle.dp_markup.specs.Writing.{written}
+use Rattle.dp_markup.specs.Texts.{written}
 use Rattle.dp_outside.specs.Causes.{Rose}
 use Rattle.dp_outside.specs.Changes.{Change}
 use Rattle.dp_outside.specs.Streams.{AppendsFront}
@@ -24,7 +24,7 @@ use Rattle.dp_ide.specs.declared.instruction.Act.{Act}
 use Rattle.dp_ide.specs.declared.instruction.Act.TheVariants.{Send, Attr, Code, Prop, Out, Print}
 use Rattle.dp_ide.specs.declared.instruction.Instruction.{Instruction}
 use Rattle.dp_ide.specs.Messages.{IsMessage, AreMessages, is_init}
-use Rattle.dp_ide.specs.Playing.{Heard, Does, Goes, Played, expected, sent, sent_by}
+use Rattle.dp_ide.specs.Instructions.{Heard, Does, Goes, Played, expected, sent, sent_by}
 use Rattle.dp_ide.specs.Plays.{Progress, Comes, Waiting, IsUnfit, IsBadAt, Lacks, StopsAt, Ends, init, response}
 use Rattle.dp_ide.proofs.AwaitLaws.{each_append, are_append, frames_then, packets_are, rest_is, rose_since, takes_none}
 use Rattle.dp_ide.specs.inner.Progress.{heard_of, Takes, LacksNext, Stood, Performs, StopsHere, WaitsHere, PerformFails, EndsFrom, OpenFails, printed_line}

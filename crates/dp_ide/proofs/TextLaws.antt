@@ -2,7 +2,7 @@
 use Rattle.std.proofs.Common.{◌≡◌, ◌≢◌, inl, inr, ℕ, Bool, true, false, cond, eqb, List, [], ◌∷◌, ◌++◌, Option, Some, None, refl, sym, ap, ◌∙◌, subst, append_assoc, append-nil}
 use Rattle.std.proofs.lemmas.Bool.{eqb-true, eqb-false, ne_eqb}
 use Rattle.dp_ide.specs.Scripts.{Behind, InText, Text, byte_of}
-use Rattle.dp_ide.specs.inner.Reading.{Reads, ReadsOn, escaped, first_of, in_hexadecimal}
+use Rattle.dp_ide.specs.inner.Readers.{Reads, ReadsOn, escaped, first_of, in_hexadecimal}
 use Rattle.dp_reply.specs.Contents.{◌>>=◌}
 
 -- two pairs that are one

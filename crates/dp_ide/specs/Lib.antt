@@ -1,5 +1,5 @@
 pub mod Scripts
 pub mod Messages
-pub mod Playing
+pub mod Instructions
 pub mod Plays
 pub mod inner

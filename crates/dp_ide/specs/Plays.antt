@@ -13,7 +13,7 @@ use Rattle.dp_ide.specs.declared.instruction.Act.TheVariants.{Send, Print}
 use Rattle.dp_ide.specs.declared.instruction.Instruction.{Instruction}
 use Rattle.dp_ide.specs.Messages.{IsMessage, AreMessages, is_init, answers}
 use Rattle.dp_wire.specs.Places.{place_behind, IsRefusedAt}
-use Rattle.dp_ide.specs.Playing.{Heard, expected, afterwards, Played, sent}
+use Rattle.dp_ide.specs.Instructions.{Heard, expected, afterwards, Played, sent}
 
 -- ---- how far it was played
 

@@ -1,3 +1,3 @@
 -- What the functions inside the crate say of themselves. No clause of a public call speaks of it.
-pub mod Reading
+pub mod Readers
 pub mod Progress

@@ -2,7 +2,7 @@
 ghost use Rattle.std.specs.Prelude.{◌≡◌, ◌≢◌, ◌↔◌, ◌++◌, ℕ, List, IfOk, IsTrue, MatchOption, option_map};
 ghost use Rattle.dp_wire.specs.Frames.{IsCommand};
 ghost use Rattle.dp_ide.specs.Scripts.{Asks};
-ghost use Rattle.dp_ide.specs.inner.Reading.{IsNamed, Reads, is_attr, is_code, is_out, is_prop, is_send};
+ghost use Rattle.dp_ide.specs.inner.Readers.{IsNamed, Reads, is_attr, is_code, is_out, is_prop, is_send};
 
 use crate::instruction::Act;
 use crate::lines::{behind, run_before};

@@ -2,7 +2,7 @@
 ghost use Rattle.std.specs.Prelude.{◌≡◌, ◌≢◌, ◌<◌, ◌∷◌, ◌++◌, ℕ, List, length, MatchOption};
 ghost use Rattle.dp_ide.specs.Scripts as spec;
 ghost use Rattle.dp_ide.specs.Scripts.{lines_of};
-ghost use Rattle.dp_ide.specs.inner.Reading.{IsRun};
+ghost use Rattle.dp_ide.specs.inner.Readers.{IsRun};
 
 /// What stands behind the word that begins the bytes.
 pub(crate) fn behind<'a>(bytes: &'a [u8], word: &[u8]) -> Option<&'a [u8]>

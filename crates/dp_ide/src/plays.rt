@@ -7,7 +7,7 @@ ghost use Rattle.dp_outside.specs.Changes.{change};
 ghost use Rattle.dp_wire.specs.Frames.{IsCommand, command_frame};
 ghost use Rattle.dp_ide.specs.Messages as spec;
 ghost use Rattle.dp_ide.specs.Plays.{Ends};
-ghost use Rattle.dp_ide.specs.Playing.{wants};
+ghost use Rattle.dp_ide.specs.Instructions.{wants};
 ghost use Rattle.dp_ide.specs.inner.Progress.{EndsFrom, OpenFails, PerformFails, ExchangeFails, IsPlayable, Performs};
 ghost use Rattle.dp_ide.specs.inner.Progress.{PrintFails, Refuses, SendFails, Stood, TakesAnswer, printed_line};
 

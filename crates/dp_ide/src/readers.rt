@@ -2,7 +2,7 @@
 ghost use Rattle.std.specs.Prelude.{◌≡◌, ◌⊎◌, ◌++◌, ℕ, List, IfOk, IfErr, OnOk, MatchResult};
 ghost use Rattle.dp_ide.specs.Scripts.{IsFirstBad, IsScript};
 ghost use Rattle.dp_ide.specs.declared.instruction.Instruction.{Instruction as Told};
-ghost use Rattle.dp_ide.specs.inner.Reading.{ReadFails, SaidBehind};
+ghost use Rattle.dp_ide.specs.inner.Readers.{ReadFails, SaidBehind};
 
 use crate::acts::act_in;
 use crate::errors::IdeError;

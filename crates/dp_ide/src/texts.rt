@@ -4,8 +4,8 @@ ghost use Rattle.dp_reply.specs.Contents.{most_16};
 ghost use Rattle.dp_value.specs.Decimals.{decimal_in};
 ghost use Rattle.dp_ide.specs.Scripts.{Behind, Text};
 ghost use Rattle.dp_ide.specs.Scripts as script;
-ghost use Rattle.dp_ide.specs.inner.Reading as spec;
-ghost use Rattle.dp_ide.specs.inner.Reading.{Reads};
+ghost use Rattle.dp_ide.specs.inner.Readers as spec;
+ghost use Rattle.dp_ide.specs.inner.Readers.{Reads};
 
 use crate::lines::behind;
 use dp_value::{Bytes, Memory, decimal};

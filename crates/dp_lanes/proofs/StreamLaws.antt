@@ -19,7 +19,7 @@ use Rattle.dp_lanes.specs.declared.lane.LaneKind.TheVariants.{Up, Down}
 use Rattle.dp_lanes.specs.Lanes.{frame, texts_in, rest_in, is_bad}
 use Rattle.dp_lanes.specs.Places.{IsText, BeginsWith, IsPart, BeginsNone, kind_of, received_in, Causes, start_of_rest, left_of}
 use Rattle.dp_lanes.specs.Places.{IsBadAt, IsBadIn, Follows, handed_of, Carries}
-use Rattle.dp_lanes.specs.inner.Handing.{Hands, IsRest, HandsAll}
+use Rattle.dp_lanes.specs.inner.Deliveries.{Hands, IsRest, HandsAll}
 use Rattle.dp_lanes.proofs.RestLaws.{part_of_command, none_of_command, part_of_packet, none_of_packet}
 
 -- ---- one split

@@ -2,7 +2,7 @@
 ghost use Rattle.std.specs.Prelude.{◌≡◌, ℕ, List, IfOk, OnOk};
 ghost use Rattle.dp_lanes.specs.declared.lane.LaneKind.{LaneKind as Kind};
 ghost use Rattle.dp_lanes.specs.Places.{Carries, Follows, IsBadPlace};
-ghost use Rattle.dp_lanes.specs.inner.Handing.{HandsAll};
+ghost use Rattle.dp_lanes.specs.inner.Deliveries.{HandsAll};
 
 use crate::lane::Lane;
 use dp_value::Memory;

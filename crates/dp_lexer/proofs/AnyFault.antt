@@ -13,7 +13,7 @@ use Rattle.dp_lexer.specs.Quotes.{IsBody, enclosed}
 use Rattle.dp_lexer.specs.Operators.{one_byte, two_bytes, three_bytes}
 use Rattle.dp_lexer.specs.Pieces.{Piece, space, line_comment, name, variable, number, operator, IsName, IsNumber, Closes, OpensLine, StaysInLine, IsPiece, widest, longest_name}
 use Rattle.dp_lexer.specs.Tokens.{IsLongestNumber, IsBadByte, stray, attribute, closing_tag, point, behind_number, long_name, long_variable, comment_tag, inside_text, IsFault}
-use Rattle.dp_lexer.specs.inner.Lexing.{class_of, found, wrong, bad, name_len, dollar_at, ended, line_of, close_len, comment_of, slash_at, body_len, doubled_of, single_of, double_of, single_operator, double_operator, triple_operator, operator_at, piece_by, piece_at}
+use Rattle.dp_lexer.specs.inner.Lexer.{class_of, found, wrong, bad, name_len, dollar_at, ended, line_of, close_len, comment_of, slash_at, body_len, doubled_of, single_of, double_of, single_operator, double_operator, triple_operator, operator_at, piece_by, piece_at}
 use Rattle.dp_lexer.proofs.Runs.{or_left, run_at_least}
 use Rattle.dp_lexer.proofs.LineComments.{line_tagged}
 use Rattle.dp_lexer.proofs.FoundNumbers.{number_len, number_value, number_most}

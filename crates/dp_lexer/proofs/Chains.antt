@@ -11,7 +11,7 @@ use Rattle.dp_lexer.specs.Quotes.{enclosed}
 use Rattle.dp_lexer.specs.Pieces.{Piece, IsNext, Pieces}
 use Rattle.dp_lexer.specs.Tokens.{kind_of, feeds, token_at, tokens_of, AreTokensFrom, IsFault, IsBadByte, stray, attribute, closing_tag, point, behind_number, long_name, long_variable, comment_tag, inside_text, IsRefusedFrom}
 use Rattle.dp_lexer.specs.inner.Lexed.{IsLexed}
-use Rattle.dp_lexer.specs.inner.Lexing.{Found, found, wrong, bad, shown, piece_at}
+use Rattle.dp_lexer.specs.inner.Lexer.{Found, found, wrong, bad, shown, piece_at}
 use Rattle.dp_lexer.proofs.FoundPieces.{enclosed_len}
 use Rattle.dp_lexer.proofs.NextPiece.{piece_there, found_next, next_found}
 use Rattle.dp_lexer.proofs.FirstFault.{wrong_is}

@@ -10,7 +10,7 @@ use Rattle.dp_lexer.specs.Quotes.{IsBody, enclosed}
 use Rattle.dp_lexer.specs.Operators.{one_byte, two_bytes, three_bytes, operator_of}
 use Rattle.dp_lexer.specs.Pieces.{Piece, space, line_comment, block_comment, name, variable, number, text, operator, IsName, IsPiece, widest, longest_name}
 use Rattle.dp_lexer.specs.Tokens.{stray, attribute, closing_tag, point, behind_number, long_name, long_variable, comment_tag, inside_text, IsFault}
-use Rattle.dp_lexer.specs.inner.Lexing.{class_of, Found, found, wrong, bad, name_len, name_at, dollar_at, ended, number_at, line_len, line_of, close_len, comment_of, hash_at, slash_at, body_len, Doubled, doubled, doubled_of, single_of, double_of, quote_at, is_split, single_operator, double_operator, triple_operator, operator_at, piece_by, piece_at}
+use Rattle.dp_lexer.specs.inner.Lexer.{class_of, Found, found, wrong, bad, name_len, name_at, dollar_at, ended, number_at, line_len, line_of, close_len, comment_of, hash_at, slash_at, body_len, Doubled, doubled, doubled_of, single_of, double_of, quote_at, is_split, single_operator, double_operator, triple_operator, operator_at, piece_by, piece_at}
 use Rattle.dp_lexer.proofs.Runs.{and_parts, or_parts, equal_test, other_test, false_test, not_both, not_false, first_is, rest_is, run_within}
 use Rattle.dp_lexer.proofs.LineComments.{tag_there, line_len-front, line_len-within, OpensAt, hash_opens, slashes_open}
 use Rattle.dp_lexer.proofs.FoundNumbers.{number_len, number_value, number_ended, number_most}

@@ -7,7 +7,7 @@ use Rattle.std.proofs.lemmas.Bool.Decides.{nat_tests}
 use Rattle.std.specs.List.{prefix_len, fold}
 use Rattle.dp_lexer.specs.Bytes.{is_digit, is_hexadecimal, begins, Each, digit_value, value_in}
 use Rattle.dp_lexer.specs.Pieces.{IsDecimal, IsNumber}
-use Rattle.dp_lexer.specs.inner.Lexing.{digits_len, hexadecimal_len, ended, zero_at, number_at, hexadecimal_number}
+use Rattle.dp_lexer.specs.inner.Lexer.{digits_len, hexadecimal_len, ended, zero_at, number_at, hexadecimal_number}
 use Rattle.dp_lexer.proofs.Runs.{and_parts, other_test, false_test, two_more, run_at_least, run_within, run_passes, run_some, take_over}
 
 -- ---- values

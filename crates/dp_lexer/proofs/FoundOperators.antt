@@ -6,7 +6,7 @@ use Rattle.dp_lexer.specs.declared.class.Class.TheVariants as class
 use Rattle.dp_lexer.specs.declared.token.TokenKind.{TokenKind}
 use Rattle.dp_lexer.specs.Bytes.{is_space, is_digit, is_start}
 use Rattle.dp_lexer.specs.Operators.{look_up, look_up_two, look_up_three, one_byte_operators, two_byte_operators, three_byte_operators, one_byte, two_bytes, three_bytes, operator_of}
-use Rattle.dp_lexer.specs.inner.Lexing.{class_of}
+use Rattle.dp_lexer.specs.inner.Lexer.{class_of}
 use Rattle.dp_lexer.proofs.Runs.{and_parts, false_test}
 
 -- ---- classes

@@ -7,7 +7,7 @@ use Rattle.std.proofs.lemmas.Bool.Decides.{nat_tests}
 use Rattle.dp_lexer.specs.Bytes.{is_octal, is_hexadecimal, begins, Each}
 use Rattle.dp_lexer.specs.Chain.{texts, Come}
 use Rattle.dp_lexer.specs.Quotes.{Part, plain, letter, octal, hexadecimal, pair, letter_of, interpolates, stays, IsPart, meaning, Parts, meanings, IsDoubled, IsBadPart, IsBadInside}
-use Rattle.dp_lexer.specs.inner.Lexing.{up_to, part_found, octal_at, hexadecimal_at, number_or_pair, escape_by, escape_at, part_at, Doubled, ahead, skipped, joined, doubled, shown_part}
+use Rattle.dp_lexer.specs.inner.Lexer.{up_to, part_found, octal_at, hexadecimal_at, number_or_pair, escape_by, escape_at, part_at, Doubled, ahead, skipped, joined, doubled, shown_part}
 use Rattle.dp_lexer.specs.declared.quotes.Meant.{Meant}
 use Rattle.dp_lexer.proofs.FoundTexts.{whole_rest}
 use Rattle.dp_lexer.proofs.Runs.{and_parts, equal_test, other_test, false_test, one_more, two_more, up_to_within, up_to_most, up_to_passes, up_to_stops, up_to_exact}

@@ -9,7 +9,7 @@ use Rattle.dp_lexer.specs.Bytes.{is_digit, is_start, is_part, is_in_line, begins
 use Rattle.dp_lexer.specs.Quotes.{IsBody, enclosed, single_value, IsDoubled}
 use Rattle.dp_lexer.specs.Operators.{one_byte, two_bytes, three_bytes, operator_of}
 use Rattle.dp_lexer.specs.Pieces.{Piece, space, line_comment, block_comment, name, variable, number, text, operator, IsName, IsNumber, Closes, OpensLine, StaysInLine, IsPiece, widest, longest_name, IsNext}
-use Rattle.dp_lexer.specs.inner.Lexing.{class_of, Found, found, wrong, bad, longer, name_len, ended, line_len, line_of, close_len, comment_of, doubled, doubled_of, single_of, double_of, is_split, single_operator, double_operator, triple_operator, operator_at, piece_by, piece_at}
+use Rattle.dp_lexer.specs.inner.Lexer.{class_of, Found, found, wrong, bad, longer, name_len, ended, line_len, line_of, close_len, comment_of, doubled, doubled_of, single_of, double_of, is_split, single_operator, double_operator, triple_operator, operator_at, piece_by, piece_at}
 use Rattle.dp_lexer.proofs.Runs.{and_parts, or_parts, equal_test, false_test, not_false, one_more, run_at_least, run_within, run_front, run_passes, run_some}
 use Rattle.dp_lexer.proofs.LineComments.{tag_in_line, line_len-none, no_angle, line_len-exact, line_len-least}
 use Rattle.dp_lexer.proofs.FoundNumbers.{number_len, number_value, number_ended, number_there, number_most}

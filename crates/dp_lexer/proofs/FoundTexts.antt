@@ -2,7 +2,7 @@
 use Rattle.std.proofs.Common.{◌≡◌, ◌≢◌, ◌⊎◌, inl, inr, ℕ, zero, suc, ◌+◌, ◌-◌, ◌<◌, ◌≤◌, Bool, true, false, ◌&&◌, ◌||◌, ◌==◌, List, [], ◌∷◌, ◌++◌, length, take, drop, Option, Some, None, sym, refl, ap, ◌∙◌, subst, cond, arith, eqb-true, get_or, drop-cons, append_assoc, length-drop}
 use Rattle.std.proofs.lemmas.List.{drop-drop}
 use Rattle.dp_lexer.specs.Quotes.{IsBody, single_value}
-use Rattle.dp_lexer.specs.inner.Lexing.{longer, body_len, single_part, byte_taken}
+use Rattle.dp_lexer.specs.inner.Lexer.{longer, body_len, single_part, byte_taken}
 use Rattle.dp_lexer.proofs.Runs.{equal_test, other_test, false_test, one_more, two_more}
 
 -- ---- the first byte

@@ -5,7 +5,7 @@ use Rattle.std.proofs.Math.Seq.{drop-append_seam}
 use Rattle.dp_lexer.specs.declared.fault.Fault.TheVariants as fault
 use Rattle.dp_lexer.specs.Bytes.{is_in_line, begins_tag, begins}
 use Rattle.dp_lexer.specs.Pieces.{line_comment, OpensLine, StaysInLine}
-use Rattle.dp_lexer.specs.inner.Lexing.{Found, found, wrong, line_len, line_of}
+use Rattle.dp_lexer.specs.inner.Lexer.{Found, found, wrong, line_len, line_of}
 use Rattle.dp_lexer.proofs.Runs.{and_parts, and_false_behind, not_false, one_more, two_more}
 
 -- ---- closing tags

@@ -10,7 +10,7 @@ use Rattle.dp_lexer.specs.Bytes.{is_digit, is_start, is_part, is_in_line, begins
 use Rattle.dp_lexer.specs.Quotes.{enclosed, single_value}
 use Rattle.dp_lexer.specs.Operators.{one_byte, two_bytes, three_bytes}
 use Rattle.dp_lexer.specs.Pieces.{Piece, space, line_comment, block_comment, name, variable, number, text, operator, IsName, IsNumber, IsPiece, IsAllowed, widest, longest_name, IsNext}
-use Rattle.dp_lexer.specs.inner.Lexing.{class_of, Found, found, wrong, bad, name_len, name_at, dollar_at, ended, number_at, line_len, line_of, close_len, comment_of, hash_at, slash_at, body_len, Doubled, doubled, doubled_of, single_of, double_of, quote_at, is_split, single_operator, double_operator, triple_operator, operator_at, piece_by, piece_at}
+use Rattle.dp_lexer.specs.inner.Lexer.{class_of, Found, found, wrong, bad, name_len, name_at, dollar_at, ended, number_at, line_len, line_of, close_len, comment_of, hash_at, slash_at, body_len, Doubled, doubled, doubled_of, single_of, double_of, quote_at, is_split, single_operator, double_operator, triple_operator, operator_at, piece_by, piece_at}
 use Rattle.dp_lexer.proofs.Runs.{or_none, or_left, equal_test, other_test, not_both, first_is, one_more, two_more, run_within, run_some}
 use Rattle.dp_lexer.proofs.LineComments.{line_len-front, line_len-stops, line_len-within, take_two, OpensAt, hash_opens, slashes_open}
 use Rattle.dp_lexer.proofs.FoundNumbers.{number_len, number_value, number_ended, number_there}

@@ -2,7 +2,7 @@
 use Rattle.std.proofs.Common.{◌≡◌, ◌≢◌, ◌⊎◌, inl, inr, ℕ, zero, suc, ◌+◌, ◌-◌, ◌<◌, ◌≤◌, Bool, true, false, ◌&&◌, ◌||◌, ◌==◌, List, [], ◌∷◌, ◌++◌, length, take, drop, sym, refl, ap, ◌∙◌, subst, cond, arith, eqb-true, eq-eqb}
 use Rattle.std.specs.List.{prefix_len}
 use Rattle.dp_lexer.specs.Bytes.{begins, Each}
-use Rattle.dp_lexer.specs.inner.Lexing.{up_to}
+use Rattle.dp_lexer.specs.inner.Lexer.{up_to}
 
 -- ---- tests
 

@@ -6,7 +6,7 @@ use Rattle.dp_lexer.specs.Chain.{texts, Come}
 use Rattle.dp_lexer.specs.Pieces.{Piece, IsNext, Pieces}
 use Rattle.dp_lexer.specs.Tokens.{kind_of, feeds, token_at, tokens_of}
 use Rattle.dp_lexer.specs.ExpressionTokens.{before, on_with, tokens_within, expression_tokens, Tells}
-use Rattle.dp_lexer.specs.inner.Lexing.{Found, found, piece_at}
+use Rattle.dp_lexer.specs.inner.Lexer.{Found, found, piece_at}
 use Rattle.dp_lexer.proofs.NextPiece.{piece_there, found_next, next_found}
 
 -- pieces that come one after the other up to the end, and their tokens

@@ -3,7 +3,7 @@
 use Rattle.std.specs.Prelude.{◌≡◌, ◌↔◌, ℕ, zero, suc, ◌+◌, List, [], ◌∷◌, ◌++◌, length, take, drop, Option, Some, None, Ok, Err}
 use Rattle.dp_lexer.specs.declared.token.Token.{Token}
 use Rattle.dp_lexer.specs.Tokens.{kind_of, feeds, token_at, AreTokens}
-use Rattle.dp_lexer.specs.inner.Lexing.{Found, piece_at}
+use Rattle.dp_lexer.specs.inner.Lexer.{Found, piece_at}
 
 -- these tokens before those, if there are any
 abbrev pub before : List Token → Option (List Token) → Option (List Token)

@@ -1,3 +1,3 @@
 -- Definitions that only the steps of the proof use. No clause of what lib.rt gives out cites them.
-pub mod Lexing
+pub mod Lexer
 pub mod Lexed

@@ -2,7 +2,7 @@
 
 ghost use Rattle.std.specs.Prelude.{◌≡◌};
 ghost use Rattle.dp_lexer.specs.Bytes as sorts;
-ghost use Rattle.dp_lexer.specs.inner.Lexing as spec;
+ghost use Rattle.dp_lexer.specs.inner.Lexer as spec;
 
 /// What a byte may begin.
 #[derive(Clone, Copy, Debug, PartialEq, Eq)]

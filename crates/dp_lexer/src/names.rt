@@ -1,8 +1,8 @@
 //! Names and variables.
 
 ghost use Rattle.std.specs.Prelude.{◌≡◌, ◌≤◌, length};
-ghost use Rattle.dp_lexer.specs.inner.Lexing as spec;
-ghost use Rattle.dp_lexer.specs.inner.Lexing.{Finds};
+ghost use Rattle.dp_lexer.specs.inner.Lexer as spec;
+ghost use Rattle.dp_lexer.specs.inner.Lexer.{Finds};
 
 use crate::class::{is_part, is_start};
 use crate::fault::{Fault, Wrong};

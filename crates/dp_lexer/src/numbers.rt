@@ -4,8 +4,8 @@ ghost use Rattle.std.specs.Prelude.{◌≡◌, ◌≤◌, ◌<◌, ◌^◌, ◌*
 ghost use Rattle.dp_lexer.specs.Bytes as sorts;
 ghost use Rattle.dp_lexer.specs.Bytes.{Each, value_in, digit_value};
 ghost use Rattle.dp_lexer.specs.Pieces.{widest};
-ghost use Rattle.dp_lexer.specs.inner.Lexing as spec;
-ghost use Rattle.dp_lexer.specs.inner.Lexing.{Finds};
+ghost use Rattle.dp_lexer.specs.inner.Lexer as spec;
+ghost use Rattle.dp_lexer.specs.inner.Lexer.{Finds};
 
 use crate::class::{is_digit, is_hexadecimal, runs_on};
 use crate::fault::{Fault, Wrong};

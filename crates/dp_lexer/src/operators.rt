@@ -2,8 +2,8 @@
 
 ghost use Rattle.std.specs.Prelude.{◌≡◌};
 ghost use Rattle.dp_lexer.specs.Operators as operators;
-ghost use Rattle.dp_lexer.specs.inner.Lexing as spec;
-ghost use Rattle.dp_lexer.specs.inner.Lexing.{Finds};
+ghost use Rattle.dp_lexer.specs.inner.Lexer as spec;
+ghost use Rattle.dp_lexer.specs.inner.Lexer.{Finds};
 
 use crate::class::is_digit;
 use crate::fault::{Fault, Wrong};

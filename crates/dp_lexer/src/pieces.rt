@@ -1,8 +1,8 @@
 //! The next piece of a text.
 
 ghost use Rattle.std.specs.Prelude.{◌≡◌};
-ghost use Rattle.dp_lexer.specs.inner.Lexing as spec;
-ghost use Rattle.dp_lexer.specs.inner.Lexing.{Finds};
+ghost use Rattle.dp_lexer.specs.inner.Lexer as spec;
+ghost use Rattle.dp_lexer.specs.inner.Lexer.{Finds};
 
 use crate::class::{Class, class_of};
 use crate::comments::{behind_hash, behind_slash};
@@ -15,7 +15,7 @@ use crate::token::TokenKind;
 use std::alloc::Global;
 
 /// The piece that comes next, if it is a token its kind, and its length.
-#[tactic(auto, unfolding(crate::specs::inner::Lexing::piece_at))]
+#[tactic(auto, unfolding(crate::specs::inner::Lexer::piece_at))]
 pub(crate) fn piece(alloc: Global, z: &[u8]) -> Result<(Option<TokenKind>, usize), Wrong>
     ensures { Finds (spec.piece_at z.now) result }
 {

@@ -5,8 +5,8 @@ ghost use Rattle.std.specs.Prelude.{IfOk, OnOk};
 ghost use Rattle.dp_lexer.specs.Bytes as sorts;
 ghost use Rattle.dp_lexer.specs.Bytes.{Each, value_in};
 ghost use Rattle.dp_lexer.specs.Quotes as quotes;
-ghost use Rattle.dp_lexer.specs.inner.Lexing as spec;
-ghost use Rattle.dp_lexer.specs.inner.Lexing.{Finds, Decodes, IsFaultWithin, shown_part, shown_meant, meant_bytes};
+ghost use Rattle.dp_lexer.specs.inner.Lexer as spec;
+ghost use Rattle.dp_lexer.specs.inner.Lexer.{Finds, Decodes, IsFaultWithin, shown_part, shown_meant, meant_bytes};
 
 use crate::class::{is_hexadecimal, is_octal, is_start};
 use crate::fault::{Fault, Wrong};

@@ -5,7 +5,7 @@ use Rattle.std.proofs.lemmas.List.{take_rest}
 use Rattle.std.proofs.lemmas.List.Elements.{All-nil, All-cons}
 use Rattle.std.proofs.lemmas.List.Splits.{slice_split_at, slice_split_none}
 use Rattle.dp_lists.specs.Lists.{lines_of}
-use Rattle.dp_lists.specs.inner.Reading.{has_no, FirstOf}
+use Rattle.dp_lists.specs.inner.Progress.{has_no, FirstOf}
 use Rattle.dp_lists.specs.inner.Spelling.{word_of, part_of}
 use Rattle.dp_lists.proofs.WordLaws.{word_before, part_behind, word_alone, no_part}
 

@@ -12,7 +12,7 @@ use Rattle.dp_lists.specs.declared.event.Act.TheVariants.{Ide, Engine, Give, Mov
 use Rattle.dp_lists.specs.declared.event.Event.{Event}
 use Rattle.dp_lists.specs.Lists.{is_idle, Spells, Fits, AllFit, MayFollow, Adds, Come, IsList, IsFirstBad, lines_of, was, makes, is_engine}
 use Rattle.dp_lists.specs.inner.Spelling.{word_of, part_of, link_in, act_in, event_in, spelled}
-use Rattle.dp_lists.specs.inner.Reading.{IsTable, Marks, IsReading, Takes, lines_in, size_of, IsRead}
+use Rattle.dp_lists.specs.inner.Progress.{IsTable, Marks, IsReading, Takes, lines_in, size_of, IsRead}
 use Rattle.dp_lists.specs.declared.readers.Reading.{Reading}
 use Rattle.dp_lists.proofs.SpellingLaws.{spelled_again, spelled_is}
 

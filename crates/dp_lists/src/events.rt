@@ -1,7 +1,7 @@
 //! A list of events, and how it is read.
 ghost use Rattle.std.specs.Prelude.{◌≡◌, ◌+◌, ◌≤◌, ◌∷◌, [], length};
 ghost use Rattle.dp_lists.specs.Lists.{lines_of};
-ghost use Rattle.dp_lists.specs.inner.Reading.{lines_in, size_of};
+ghost use Rattle.dp_lists.specs.inner.Progress.{lines_in, size_of};
 ghost use Rattle.std.specs.Option.{option_copied};
 
 use crate::errors::ListError;

@@ -1,7 +1,7 @@
 //! The event that a line spells.
 ghost use Rattle.std.specs.Prelude.{◌≡◌, [], ◌∷◌, ◌++◌, ◌&&◌, ◌<◌, length, IfOk, IfSome, option_map, nat_le};
 ghost use Rattle.std.specs.List.{list_all};
-ghost use Rattle.dp_lists.specs.inner.Reading.{FirstOf};
+ghost use Rattle.dp_lists.specs.inner.Progress.{FirstOf};
 ghost use Rattle.dp_value.specs.Decimals.{decimal_in};
 ghost use Rattle.std.specs.Option.{option_copied};
 ghost use Rattle.dp_lists.specs.inner.Spelling as spec;

@@ -7,7 +7,7 @@ use Rattle.dp_markup.specs.inner.Input.{head, next, Reader, gives, made, â—Œ>>=â
 use Rattle.dp_markup.specs.Rules.{Rule, Joined, Gives, Made, One, passing, Mark, Word, Closed}
 use Rattle.dp_markup.specs.Classes.{is_white}
 use Rattle.dp_markup.specs.Grammar.{Named, White}
-use Rattle.dp_markup.specs.inner.Reading.{same}
+use Rattle.dp_markup.specs.inner.Readers.{same}
 use Rattle.dp_grammar.proofs.Answers.{one_answers, gives_answers, joined_answers}
 use Rattle.dp_markup.proofs.Answers.{Rules, Stop, Anything, JoinedAt, EitherAt, StepAt, Answers, StartsIn, GoesOn, either_answers, joined_starts, wider_starts, same_level, give, given}
 use Rattle.dp_markup.proofs.Loops.{step_stop, closed_answers}

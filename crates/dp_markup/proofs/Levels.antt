@@ -1,6 +1,6 @@
 -- The reader of elements, by the number of levels.
 use Rattle.std.proofs.Common.{◌≡◌, ℕ, suc, ◌-◌, ◌<◌, List, ap, arith}
-use Rattle.dp_markup.specs.inner.Reading.{opened, element_in, no_level}
+use Rattle.dp_markup.specs.inner.Readers.{opened, element_in, no_level}
 
 pub opened_none : (level : ℕ) (ts : List ℕ) → level ≡ 0 → opened level ts ≡ no_level ts
 unfolding opened

@@ -15,4 +15,4 @@ pub mod RoundTrip
 pub mod Spelled
 pub mod Trees
 pub mod Turns
-pub mod Seeking
+pub mod SearchLaws

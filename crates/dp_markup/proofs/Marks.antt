@@ -6,7 +6,7 @@ use Rattle.std.proofs.lemmas.List.{drop-append-le, take-append-drop}
 use Rattle.memchr.specs.Find.{OccursAt, FindsNeedle}
 use Rattle.memchr.proofs.lemmas.MatchLemmas.{OccursAt-from_part, OccursAt-split}
 use Rattle.dp_markup.specs.Grammar.{Text, stands, IsFree, UpTo}
-use Rattle.dp_markup.specs.inner.Reading.{mark_place, cut, up_to}
+use Rattle.dp_markup.specs.inner.Readers.{mark_place, cut, up_to}
 use Rattle.dp_markup.proofs.Answers.{Anything, IsRead, IsRefused, Answers}
 use Rattle.dp_markup.proofs.Basics.{IsReader}
 

@@ -5,7 +5,7 @@ use Rattle.dp_markup.specs.inner.Input.{head, next, refuse, ◌>>=◌, tested}
 use Rattle.dp_markup.specs.Rules.{Tested}
 use Rattle.dp_markup.specs.Classes.{is_name, is_name_start, is_name_byte, is_digit}
 use Rattle.dp_markup.specs.Grammar.{Name, Text, Attributes, same_text, is_new}
-use Rattle.dp_markup.specs.inner.Reading.{name}
+use Rattle.dp_markup.specs.inner.Readers.{name}
 use Rattle.dp_grammar.proofs.Answers.{tested_answers}
 use Rattle.dp_markup.proofs.Answers.{Rules, Stop, StartsIn, Follows, guarded_answers, same_level}
 use Rattle.dp_markup.proofs.Basics.{IsReader}

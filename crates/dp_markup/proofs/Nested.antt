@@ -11,7 +11,7 @@ use Rattle.dp_markup.specs.inner.Input.{head, next, Outcome, Reader, made, refus
 use Rattle.dp_markup.specs.Rules.{Rule, Joined, ◌or◌, Made, One, passing, Mark, Word, Closed}
 use Rattle.dp_markup.specs.Classes.{is_name_start, is_plain_in_text}
 use Rattle.dp_markup.specs.Grammar.{Text, Reference, Start, UpTo, CData, ContentPiece, EndTag, BehindStart, Opened, IsOpened, with_bytes, with_child, nodes_of, no_content, no_attribute, start_tag, element}
-use Rattle.dp_markup.specs.inner.Reading.{same, reference, start, end_tag, spaced_mark, cdata, bracket, content_byte, content_step, inside, behind_start, element_in, no_level, opened}
+use Rattle.dp_markup.specs.inner.Readers.{same, reference, start, end_tag, spaced_mark, cdata, bracket, content_byte, content_step, inside, behind_start, element_in, no_level, opened}
 use Rattle.dp_grammar.proofs.Answers.{one_answers, gives_answers, equal_answers, refused_here, under_answers, too_deep_answers}
 use Rattle.dp_markup.proofs.Answers.{Rules, Anything, JoinedAt, EitherAt, ClosedAt, StepAt, Answers, StartsIn, joined_starts, begun, same_level, give, given}
 use Rattle.dp_markup.proofs.Loops.{step_stop, closed_answers}

@@ -6,7 +6,7 @@ use Rattle.dp_markup.specs.inner.Input.{head, next, Reader, made, ◌>>◌, one,
 use Rattle.dp_markup.specs.Rules.{Rule, Joined, ◌or◌, Made, One, passing, Mark, Word, Chain, Closed}
 use Rattle.dp_markup.specs.Classes.{is_white, is_digit, is_plain_in_value, is_quote, within_byte, decimal_behind, hexadecimal_behind}
 use Rattle.dp_markup.specs.Grammar.{Text, White, Spaced, Number, Named, Reference, Value}
-use Rattle.dp_markup.specs.inner.Reading.{same, spaced_mark_step, spaced_mark, number_step, number, named, by_number, by_a, entity, reference, value_byte, value_step, quoted, value, spaced_value_step, spaced_value}
+use Rattle.dp_markup.specs.inner.Readers.{same, spaced_mark_step, spaced_mark, number_step, number, named, by_number, by_a, entity, reference, value_byte, value_step, quoted, value, spaced_value_step, spaced_value}
 use Rattle.dp_grammar.proofs.Answers.{one_answers, joined_answers, equal_answers}
 use Rattle.dp_markup.proofs.Answers.{Rules, Anything, JoinedAt, EitherAt, ClosedAt, StepAt, Answers, StartsIn, joined_starts, either_starts, wider_starts, same_level, give}
 use Rattle.dp_markup.proofs.Loops.{step_stop, closed_answers}

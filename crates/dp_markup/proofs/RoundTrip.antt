@@ -13,8 +13,8 @@ use Rattle.dp_markup.specs.declared.states.StartTag.{StartTag}
 use Rattle.dp_markup.specs.declared.states.Content.{Content}
 use Rattle.dp_markup.specs.Rules.{Rule, Joined, ◌or◌, Made, One, passing, Mark, Word, Closed}
 use Rattle.dp_markup.specs.Classes.{is_white, is_digit, is_name, is_plain_in_text, is_plain_in_value, within_byte, decimal_behind}
-use Rattle.dp_markup.specs.Escaping.{decimal, plain_or_number, escaped, escaped_all}
-use Rattle.dp_markup.specs.Writing.{attribute_text, node_layer, element_layer, written, node_text, nodes_text}
+use Rattle.dp_markup.specs.Escapes.{decimal, plain_or_number, escaped, escaped_all}
+use Rattle.dp_markup.specs.Texts.{attribute_text, node_layer, element_layer, written, node_text, nodes_text}
 use Rattle.dp_markup.specs.Grammar.{Text, Attributes, White, Spaced, Number, Reference, Value, Attribute, TagPiece, TagEnd, Start, ContentPiece, EndTag, IsOpened, Prolog, Document, limit, IsMarkup, is_new, attribute_in_tag, with_run, with_child, nodes_of, no_content, element}
 use Rattle.dp_markup.specs.Readable.{AreBytes, AreAttributes, is_text, FitsBehind, AreNodes, IsReadable}
 use Rattle.dp_markup.proofs.Answers.{give}

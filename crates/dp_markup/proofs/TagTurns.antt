@@ -5,8 +5,8 @@ use Rattle.dp_markup.specs.declared.sought.Sought.{Sought}
 use Rattle.dp_markup.specs.declared.states.Tag.{Tag}
 use Rattle.dp_markup.specs.Grammar.{Text}
 use Rattle.dp_markup.specs.inner.Input.{head, next, Outcome, Reader, and_then, until, next_of, gives, made}
-use Rattle.dp_markup.specs.inner.Reading.{tag_step, tag_piece, tag_end}
-use Rattle.dp_markup.specs.inner.Seeking.{sought_step, sought_piece, sought_end}
+use Rattle.dp_markup.specs.inner.Readers.{tag_step, tag_piece, tag_end}
+use Rattle.dp_markup.specs.inner.Search.{sought_step, sought_piece, sought_end}
 
 broken : {A B : Type 0} (r : Outcome B) (go : A → Reader B)
     → and_then (and_then r (λ b. gives (Break b))) (next_of go) ≡ r

@@ -7,7 +7,7 @@ use Rattle.dp_markup.specs.inner.Input.{made, refuse, ◌>>=◌, ◌>>◌, one, 
 use Rattle.dp_markup.specs.Rules.{Rule, Joined, Made, passing, Mark, Word, Tested, When, Chain, Closed}
 use Rattle.dp_markup.specs.Classes.{is_white, is_name_start, is_name_byte}
 use Rattle.dp_markup.specs.Grammar.{Text, Attributes, White, Spaced, Name, Value, is_new, Attribute, TagPiece, TagEnd, Start, UpTo, white_in_tag, attribute_in_tag, start_tag, no_attribute}
-use Rattle.dp_markup.specs.inner.Reading.{same, name, spaced_mark, spaced_value, attribute, tag_piece, tag_end, tag_step, start, up_to, cdata, comment, declaration}
+use Rattle.dp_markup.specs.inner.Readers.{same, name, spaced_mark, spaced_value, attribute, tag_piece, tag_end, tag_step, start, up_to, cdata, comment, declaration}
 use Rattle.dp_grammar.proofs.Answers.{one_answers, joined_answers, when_answers}
 use Rattle.dp_markup.proofs.Answers.{Rules, Anything, StepAt, StartsIn, joined_starts, same_level, give}
 use Rattle.dp_markup.proofs.Loops.{step_stop, closed_answers}

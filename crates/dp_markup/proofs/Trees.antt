@@ -4,7 +4,7 @@ use Rattle.std.specs.List.{flat_map}
 use Rattle.dp_markup.specs.declared.tree.Element.{Element}
 use Rattle.dp_markup.specs.declared.tree.Node.{Node}
 use Rattle.dp_markup.specs.declared.tree.Node.TheFolds.{fold_out-Element}
-use Rattle.dp_markup.specs.Writing.{Text, element_text, node_layer, element_layer, written, node_text, nodes_text}
+use Rattle.dp_markup.specs.Texts.{Text, element_text, node_layer, element_layer, written, node_text, nodes_text}
 
 joined_texts : (nodes : List Node) → flat_map (λ text. text) (map node_text nodes) ≡ nodes_text nodes
 joined_texts [] = refl

@@ -6,12 +6,12 @@ use Rattle.dp_markup.specs.declared.tree.Element.{Element}
 use Rattle.dp_markup.specs.declared.states.StartTag.{StartTag}
 use Rattle.dp_markup.specs.inner.Input.{head}
 use Rattle.dp_markup.specs.Grammar.{Text, Document, limit, IsMarkup, Head, BeginsWithHead, heads}
-use Rattle.dp_markup.specs.inner.Reading.{document, head_of}
-use Rattle.dp_markup.specs.inner.Seeking.{sought_head}
+use Rattle.dp_markup.specs.inner.Readers.{document, head_of}
+use Rattle.dp_markup.specs.inner.Search.{sought_head}
 use Rattle.dp_markup.specs.Refused.{IsFirstBad, IsFirstTooDeep}
 use Rattle.dp_grammar.proofs.Verdicts.{ReadsAll, found, only, unexpected, too_deep, first_unexpected, first_too_deep, one_unexpected, not_both, unexpected_spelled, too_deep_spelled}
 use Rattle.dp_markup.proofs.Answers.{Anything, Begins, IsRead, Answers, same_level}
-use Rattle.dp_markup.proofs.Seeking.{sought_refused}
+use Rattle.dp_markup.proofs.SearchLaws.{sought_refused}
 use Rattle.dp_markup.proofs.WholeTexts.{at_end, document_reads, document_ends, some_document, head_reads, some_head}
 
 some_level : 0 < limit

@@ -9,7 +9,7 @@ use Rattle.dp_markup.specs.inner.Input.{head, next, Outcome, Reader, and_then, g
 use Rattle.dp_markup.specs.Rules.{Rule, Joined, Gives, Made, passing, Mark, Word, When, Closed}
 use Rattle.dp_markup.specs.Classes.{is_white, is_name_start}
 use Rattle.dp_markup.specs.Grammar.{Text, White, UpTo, Comment, Misc, Declaration, PrologPiece, Prolog, IsOpened, Document, Start, Head, no_attribute, start_tag}
-use Rattle.dp_markup.specs.inner.Reading.{same, comment, declaration, prolog_bracket, prolog_step, prolog, misc, trail_step, trail, opened, document, start, head_of}
+use Rattle.dp_markup.specs.inner.Readers.{same, comment, declaration, prolog_bracket, prolog_step, prolog, misc, trail_step, trail, opened, document, start, head_of}
 use Rattle.dp_grammar.proofs.Answers.{one_answers, gives_answers, joined_answers, equal_answers, when_answers}
 use Rattle.dp_markup.proofs.Answers.{Rules, Anything, JoinedAt, EitherAt, StepAt, StartsIn, Follows, either_answers, joined_starts, same_level, give, given}
 use Rattle.dp_markup.proofs.Loops.{step_stop, closed_answers}

@@ -1,11 +1,11 @@
 -- What is read: Classes, Rules, Grammar, Readable; where it is refused: Refused, Verdict; what is
--- written: Escaping, Writing. How the code goes, of which no public clause speaks: inner.
+-- written: Escapes, Texts. How the code goes, of which no public clause speaks: inner.
 pub mod Classes
-pub mod Escaping
+pub mod Escapes
 pub mod Grammar
 pub mod Readable
 pub mod Refused
 pub mod Rules
+pub mod Texts
 pub mod Verdict
-pub mod Writing
 pub mod inner

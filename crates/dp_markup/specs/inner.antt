@@ -1,4 +1,4 @@
 pub mod Input
-pub mod Reading
+pub mod Readers
 pub mod Names
-pub mod Seeking
+pub mod Search

@@ -3,7 +3,7 @@
 ghost use Rattle.std.specs.Prelude.{◌≡◌, ◌==◌, ◌||◌};
 ghost use Rattle.dp_markup.specs.Grammar as grammar;
 ghost use Rattle.dp_markup.specs.inner.Input.{Reads, closed, head, next};
-ghost use Rattle.dp_markup.specs.inner.Reading as spec;
+ghost use Rattle.dp_markup.specs.inner.Readers as spec;
 
 use crate::Memory;
 use crate::found::Found;
@@ -22,7 +22,7 @@ pub fn same_text(a: &[u8], b: &[u8]) -> bool
     a == b
 }
 
-#[tactic(auto, unfolding(crate::specs::inner::Reading::value_step))]
+#[tactic(auto, unfolding(crate::specs::inner::Readers::value_step))]
 fn value_step(
     input: &mut Input<'_>,
     quote: u8,
@@ -40,7 +40,7 @@ fn value_step(
     }
 }
 
-#[tactic(auto, unfolding(crate::specs::inner::Reading::quoted))]
+#[tactic(auto, unfolding(crate::specs::inner::Readers::quoted))]
 fn quoted(alloc: Global, input: &mut Input<'_>, quote: u8) -> Result<Growing<u8>, Refusal>
     ensures { Reads (spec.quoted quote input.old) result input.new }
 {
@@ -60,7 +60,7 @@ fn quoted_from(input: &mut Input<'_>, quote: u8, first: Growing<u8>) -> Result<G
     Err(input.refuse())
 }
 
-#[tactic(auto, unfolding(crate::specs::inner::Reading::value))]
+#[tactic(auto, unfolding(crate::specs::inner::Readers::value))]
 fn value(alloc: Global, input: &mut Input<'_>) -> Result<Growing<u8>, Refusal>
     ensures { Reads (spec.value input.old) result input.new }
 {
@@ -68,7 +68,7 @@ fn value(alloc: Global, input: &mut Input<'_>) -> Result<Growing<u8>, Refusal>
     quoted(alloc, input, quote)
 }
 
-#[tactic(auto, unfolding(crate::specs::inner::Reading::spaced_mark_step))]
+#[tactic(auto, unfolding(crate::specs::inner::Readers::spaced_mark_step))]
 fn spaced_mark_step(input: &mut Input<'_>, byte: u8) -> Result<ControlFlow<u8, ()>, Refusal>
     ensures { Reads (spec.spaced_mark_step byte tt input.old) result input.new }
 {
@@ -81,7 +81,7 @@ fn spaced_mark_step(input: &mut Input<'_>, byte: u8) -> Result<ControlFlow<u8, (
 }
 
 /// White space, and then this byte.
-#[tactic(auto, unfolding(crate::specs::inner::Reading::spaced_mark))]
+#[tactic(auto, unfolding(crate::specs::inner::Readers::spaced_mark))]
 pub(crate) fn spaced_mark(input: &mut Input<'_>, byte: u8) -> Result<u8, Refusal>
     ensures { Reads (spec.spaced_mark byte input.old) result input.new }
 {
@@ -94,7 +94,7 @@ pub(crate) fn spaced_mark(input: &mut Input<'_>, byte: u8) -> Result<u8, Refusal
     Err(input.refuse())
 }
 
-#[tactic(auto, unfolding(crate::specs::inner::Reading::spaced_value_step))]
+#[tactic(auto, unfolding(crate::specs::inner::Readers::spaced_value_step))]
 fn spaced_value_step(
     alloc: Global,
     input: &mut Input<'_>,
@@ -110,7 +110,7 @@ fn spaced_value_step(
 }
 
 /// White space, and then a value.
-#[tactic(auto, unfolding(crate::specs::inner::Reading::spaced_value))]
+#[tactic(auto, unfolding(crate::specs::inner::Readers::spaced_value))]
 pub(crate) fn spaced_value(alloc: Global, input: &mut Input<'_>) -> Result<Growing<u8>, Refusal>
     ensures { Reads (spec.spaced_value input.old) result input.new }
 {
@@ -124,7 +124,7 @@ pub(crate) fn spaced_value(alloc: Global, input: &mut Input<'_>) -> Result<Growi
 }
 
 // An attribute, behind those that were found.
-#[tactic(auto, unfolding(crate::specs::inner::Reading::attribute))]
+#[tactic(auto, unfolding(crate::specs::inner::Readers::attribute))]
 fn attribute(alloc: Global, input: &mut Input<'_>, mut found: Found) -> Result<Found, Refusal>
     ensures { Reads (spec.attribute found input.old) result input.new }
 {
@@ -138,7 +138,7 @@ fn attribute(alloc: Global, input: &mut Input<'_>, mut found: Found) -> Result<F
     Ok(found)
 }
 
-#[tactic(auto, unfolding(crate::specs::inner::Reading::tag_piece, crate::specs::inner::Input::refuse))]
+#[tactic(auto, unfolding(crate::specs::inner::Readers::tag_piece, crate::specs::inner::Input::refuse))]
 fn tag_piece(alloc: Global, input: &mut Input<'_>, tag: Tag) -> Result<Tag, Refusal>
     ensures { Reads (spec.tag_piece tag input.old) result input.new }
 {
@@ -158,7 +158,7 @@ fn tag_piece(alloc: Global, input: &mut Input<'_>, tag: Tag) -> Result<Tag, Refu
 }
 
 // Whether the start tag that ends here is the whole element.
-#[tactic(auto, unfolding(crate::specs::inner::Reading::tag_end))]
+#[tactic(auto, unfolding(crate::specs::inner::Readers::tag_end))]
 fn tag_end(alloc: Global, input: &mut Input<'_>, name: Bytes, tag: Tag) -> Result<StartTag, Refusal>
     ensures { Reads (spec.tag_end name tag input.old) result input.new }
 {
@@ -202,7 +202,7 @@ fn tag_from(
 }
 
 /// A start tag behind its `<`.
-#[tactic(auto, unfolding(crate::specs::inner::Reading::start))]
+#[tactic(auto, unfolding(crate::specs::inner::Readers::start))]
 pub(crate) fn start(alloc: Global, input: &mut Input<'_>) -> Result<StartTag, Refusal>
     ensures { Reads (spec.start input.old) result input.new }
 {

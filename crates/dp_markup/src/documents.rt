@@ -2,7 +2,7 @@
 
 ghost use Rattle.std.specs.Prelude.{◌≡◌, true};
 ghost use Rattle.dp_markup.specs.inner.Input.{Reads, ReadsSlice, closed};
-ghost use Rattle.dp_markup.specs.inner.Reading as spec;
+ghost use Rattle.dp_markup.specs.inner.Readers as spec;
 
 use crate::elements::opened;
 use crate::input::Input;
@@ -12,7 +12,7 @@ use std::alloc::Global;
 use std::ops::ControlFlow;
 
 // A comment behind its `<!`.
-#[tactic(auto, unfolding(crate::specs::inner::Reading::comment))]
+#[tactic(auto, unfolding(crate::specs::inner::Readers::comment))]
 fn comment<'a>(input: &mut Input<'a>) -> Result<&'a [u8], Refusal>
     ensures { ReadsSlice (spec.comment input.old) result input.new }
 {
@@ -21,7 +21,7 @@ fn comment<'a>(input: &mut Input<'a>) -> Result<&'a [u8], Refusal>
 }
 
 // A declaration behind its `<?`.
-#[tactic(auto, unfolding(crate::specs::inner::Reading::declaration))]
+#[tactic(auto, unfolding(crate::specs::inner::Readers::declaration))]
 fn declaration<'a>(input: &mut Input<'a>) -> Result<&'a [u8], Refusal>
     ensures { ReadsSlice (spec.declaration input.old) result input.new }
 {
@@ -30,7 +30,7 @@ fn declaration<'a>(input: &mut Input<'a>) -> Result<&'a [u8], Refusal>
     input.up_to(b"?>")
 }
 
-#[tactic(auto, unfolding(crate::specs::inner::Reading::prolog_bracket, crate::specs::inner::Input::refuse))]
+#[tactic(auto, unfolding(crate::specs::inner::Readers::prolog_bracket, crate::specs::inner::Input::refuse))]
 fn prolog_bracket(input: &mut Input<'_>, at_first: bool) -> Result<ControlFlow<u8, bool>, Refusal>
     ensures { Reads (spec.prolog_bracket at_first input.old) result input.new }
 {
@@ -50,7 +50,7 @@ fn prolog_bracket(input: &mut Input<'_>, at_first: bool) -> Result<ControlFlow<u
     Ok(ControlFlow::Continue(false))
 }
 
-#[tactic(auto, unfolding(crate::specs::inner::Reading::prolog_step))]
+#[tactic(auto, unfolding(crate::specs::inner::Readers::prolog_step))]
 fn prolog_step(input: &mut Input<'_>, at_first: bool) -> Result<ControlFlow<u8, bool>, Refusal>
     ensures { Reads (spec.prolog_step at_first input.old) result input.new }
 {
@@ -78,7 +78,7 @@ pub(crate) fn prolog(input: &mut Input<'_>) -> Result<u8, Refusal>
 }
 
 // White space or a comment.
-#[tactic(auto, unfolding(crate::specs::inner::Reading::misc))]
+#[tactic(auto, unfolding(crate::specs::inner::Readers::misc))]
 fn misc(input: &mut Input<'_>) -> Result<(), Refusal>
     ensures { Reads (spec.misc input.old) result input.new }
 {
@@ -91,7 +91,7 @@ fn misc(input: &mut Input<'_>) -> Result<(), Refusal>
     Ok(())
 }
 
-#[tactic(auto, unfolding(crate::specs::inner::Reading::trail_step))]
+#[tactic(auto, unfolding(crate::specs::inner::Readers::trail_step))]
 fn trail_step(
     input: &mut Input<'_>,
     root: Element,
@@ -121,7 +121,7 @@ fn trail(input: &mut Input<'_>, root: Element) -> Result<Element, Refusal>
 }
 
 /// A whole text, with so many levels.
-#[tactic(auto, unfolding(crate::specs::inner::Reading::document))]
+#[tactic(auto, unfolding(crate::specs::inner::Readers::document))]
 pub(crate) fn document(
     alloc: Global,
     input: &mut Input<'_>,

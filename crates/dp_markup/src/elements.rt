@@ -3,7 +3,7 @@
 ghost use Rattle.std.specs.Prelude.{◌≡◌, ◌++◌, ◌∷◌, [], IfOk};
 ghost use Rattle.dp_markup.specs.Grammar as grammar;
 ghost use Rattle.dp_markup.specs.inner.Input.{Reads, closed, made};
-ghost use Rattle.dp_markup.specs.inner.Reading as spec;
+ghost use Rattle.dp_markup.specs.inner.Readers as spec;
 
 use crate::Memory;
 use crate::attributes::{spaced_mark, start};
@@ -39,7 +39,7 @@ fn with_child(alloc: Global, content: Content, child: Element) -> Result<Content
 }
 
 // An end tag behind its `</`.
-#[tactic(auto, unfolding(crate::specs::inner::Reading::end_tag))]
+#[tactic(auto, unfolding(crate::specs::inner::Readers::end_tag))]
 fn end_tag(input: &mut Input<'_>, name: &[u8]) -> Result<u8, Refusal>
     ensures { Reads (spec.end_tag name.now input.old) result input.new }
 {
@@ -48,7 +48,7 @@ fn end_tag(input: &mut Input<'_>, name: &[u8]) -> Result<u8, Refusal>
 }
 
 // A section behind its `<!`: its bytes.
-#[tactic(auto, unfolding(crate::specs::inner::Reading::cdata))]
+#[tactic(auto, unfolding(crate::specs::inner::Readers::cdata))]
 fn cdata(input: &mut Input<'_>, mut content: Content) -> Result<Content, Refusal>
     ensures { Reads (made spec.cdata (grammar.with_bytes content) input.old) result input.new }
 {
@@ -59,7 +59,7 @@ fn cdata(input: &mut Input<'_>, mut content: Content) -> Result<Content, Refusal
 }
 
 #[cycle(elements)]
-#[tactic(auto, unfolding(crate::specs::inner::Reading::bracket))]
+#[tactic(auto, unfolding(crate::specs::inner::Readers::bracket))]
 fn bracket(
     alloc: Global,
     input: &mut Input<'_>,
@@ -83,7 +83,7 @@ fn bracket(
 }
 
 #[cycle(elements)]
-#[tactic(auto, unfolding(crate::specs::inner::Reading::content_step))]
+#[tactic(auto, unfolding(crate::specs::inner::Readers::content_step))]
 fn content_step(
     alloc: Global,
     input: &mut Input<'_>,
@@ -125,7 +125,7 @@ fn inside_from(
 
 // What stands between the tags, and the end tag.
 #[cycle(elements)]
-#[tactic(auto, unfolding(crate::specs::inner::Reading::inside))]
+#[tactic(auto, unfolding(crate::specs::inner::Readers::inside))]
 fn inside(
     alloc: Global,
     input: &mut Input<'_>,
@@ -140,7 +140,7 @@ fn inside(
 }
 
 #[cycle(elements)]
-#[tactic(auto, unfolding(crate::specs::inner::Reading::behind_start))]
+#[tactic(auto, unfolding(crate::specs::inner::Readers::behind_start))]
 fn behind_start(
     alloc: Global,
     input: &mut Input<'_>,
@@ -167,7 +167,7 @@ fn behind_start(
 }
 
 #[cycle(elements)]
-#[tactic(auto, unfolding(crate::specs::inner::Reading::element_in))]
+#[tactic(auto, unfolding(crate::specs::inner::Readers::element_in))]
 fn element_in(alloc: Global, input: &mut Input<'_>, level: usize) -> Result<Element, Refusal>
     ensures { Reads (spec.element_in (spec.opened level) input.old) result input.new }
 {
@@ -177,7 +177,7 @@ fn element_in(alloc: Global, input: &mut Input<'_>, level: usize) -> Result<Elem
 
 /// An element behind its `<`, with so many levels.
 #[cycle(elements)]
-#[tactic(auto, using(crate::proofs::Levels::opened_none, crate::proofs::Levels::opened_some), unfolding(crate::specs::inner::Reading::no_level, crate::specs::inner::Input::refuse))]
+#[tactic(auto, using(crate::proofs::Levels::opened_none, crate::proofs::Levels::opened_some), unfolding(crate::specs::inner::Readers::no_level, crate::specs::inner::Input::refuse))]
 pub(crate) fn opened(alloc: Global, input: &mut Input<'_>, level: usize) -> Result<Element, Refusal>
     ensures { Reads (spec.opened level input.old) result input.new }
 {

@@ -6,7 +6,7 @@ ghost use Rattle.std.specs.List.{prefix_len};
 ghost use Rattle.dp_markup.specs.Rules.{passing};
 ghost use Rattle.dp_markup.specs.inner.Input as read;
 ghost use Rattle.dp_markup.specs.inner.Input.{Reads, ReadsSlice, head, next};
-ghost use Rattle.dp_markup.specs.inner.Reading as spec;
+ghost use Rattle.dp_markup.specs.inner.Readers as spec;
 
 use crate::classes::{is_name_byte, is_name_start, is_quote, is_white};
 use dp_grammar::Refusal;
@@ -171,7 +171,7 @@ impl<'a> Input<'a> {
     }
 
     /// A name, without a copy.
-    #[tactic(auto, unfolding(crate::specs::inner::Reading::name, crate::specs::inner::Input::refuse))]
+    #[tactic(auto, unfolding(crate::specs::inner::Readers::name, crate::specs::inner::Input::refuse))]
     pub(crate) fn name(&mut self) -> Result<&'a [u8], Refusal>
         ensures { ReadsSlice (spec.name self.old) result self.new }
     {
@@ -184,7 +184,7 @@ impl<'a> Input<'a> {
     }
 
     /// The bytes up to the first place where the mark stands, and the mark.
-    #[tactic(auto, unfolding(crate::specs::inner::Reading::up_to, crate::specs::inner::Reading::cut))]
+    #[tactic(auto, unfolding(crate::specs::inner::Readers::up_to, crate::specs::inner::Readers::cut))]
     pub(crate) fn up_to(&mut self, mark: &[u8]) -> Result<&'a [u8], Refusal>
         ensures { ReadsSlice (spec.up_to mark.now self.old) result self.new }
     {

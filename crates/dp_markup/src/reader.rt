@@ -2,7 +2,7 @@
 
 ghost use Rattle.std.specs.Prelude.{◌≡◌, ◌≢◌, ◌⊎◌, ◌≤◌, ◌-◌, ℕ, length, IfOk, MatchResult};
 ghost use Rattle.dp_markup.specs.inner.Input.{Reads};
-ghost use Rattle.dp_markup.specs.inner.Reading as spec;
+ghost use Rattle.dp_markup.specs.inner.Readers as spec;
 ghost use Rattle.dp_markup.specs.Grammar.{IsMarkup, Document, limit};
 ghost use Rattle.dp_markup.specs.Grammar.{BeginsWithHead, heads, root_value};
 ghost use Rattle.dp_markup.specs.Readable.{IsReadable};

@@ -4,8 +4,8 @@ ghost use Rattle.std.specs.Prelude.{◌≡◌, ◌+◌, ◌-◌, ◌≤◌, leng
 ghost use Rattle.dp_markup.specs.Classes as class;
 ghost use Rattle.dp_markup.specs.Rules.{passing};
 ghost use Rattle.dp_markup.specs.inner.Input.{Reads, closed, one};
-ghost use Rattle.dp_markup.specs.inner.Reading as spec;
-ghost use Rattle.dp_markup.specs.inner.Reading.{behind_of};
+ghost use Rattle.dp_markup.specs.inner.Readers as spec;
+ghost use Rattle.dp_markup.specs.inner.Readers.{behind_of};
 
 use crate::classes::{is_plain_in_text, is_plain_in_value};
 use crate::input::Input;
@@ -76,7 +76,7 @@ impl<'a> Input<'a> {
         }
     }
 
-    #[tactic(auto, unfolding(crate::specs::inner::Reading::number_step))]
+    #[tactic(auto, unfolding(crate::specs::inner::Readers::number_step))]
     fn number_step(&mut self, radix: Radix, number: u8) -> Result<ControlFlow<u8, u8>, Refusal>
         ensures { Reads (spec.number_step (behind_of radix) number self.old) result self.new }
     {
@@ -101,7 +101,7 @@ impl<'a> Input<'a> {
         Err(self.refuse())
     }
 
-    #[tactic(auto, unfolding(crate::specs::inner::Reading::number))]
+    #[tactic(auto, unfolding(crate::specs::inner::Readers::number))]
     fn number(&mut self, radix: Radix) -> Result<u8, Refusal>
         ensures { Reads (spec.number (behind_of radix) self.old) result self.new }
     {
@@ -109,7 +109,7 @@ impl<'a> Input<'a> {
         self.number_from(radix, first)
     }
 
-    #[tactic(auto, unfolding(crate::specs::inner::Reading::by_number))]
+    #[tactic(auto, unfolding(crate::specs::inner::Readers::by_number))]
     fn by_number(&mut self) -> Result<u8, Refusal>
         ensures { Reads (spec.by_number self.old) result self.new }
     {
@@ -122,7 +122,7 @@ impl<'a> Input<'a> {
     }
 
     // The rest of a name of a byte, and the byte.
-    #[tactic(auto, unfolding(crate::specs::inner::Reading::named))]
+    #[tactic(auto, unfolding(crate::specs::inner::Readers::named))]
     fn named(&mut self, rest: &[u8], byte: u8) -> Result<u8, Refusal>
         ensures { Reads (spec.named rest.now byte self.old) result self.new }
     {
@@ -130,7 +130,7 @@ impl<'a> Input<'a> {
         Ok(byte)
     }
 
-    #[tactic(auto, unfolding(crate::specs::inner::Reading::by_a))]
+    #[tactic(auto, unfolding(crate::specs::inner::Readers::by_a))]
     fn by_a(&mut self) -> Result<u8, Refusal>
         ensures { Reads (spec.by_a self.old) result self.new }
     {
@@ -141,7 +141,7 @@ impl<'a> Input<'a> {
         }
     }
 
-    #[tactic(auto, unfolding(crate::specs::inner::Reading::entity))]
+    #[tactic(auto, unfolding(crate::specs::inner::Readers::entity))]
     fn entity(&mut self) -> Result<u8, Refusal>
         ensures { Reads (spec.entity self.old) result self.new }
     {
@@ -161,7 +161,7 @@ impl<'a> Input<'a> {
     }
 
     // A reference to a byte.
-    #[tactic(auto, unfolding(crate::specs::inner::Reading::reference))]
+    #[tactic(auto, unfolding(crate::specs::inner::Readers::reference))]
     fn reference(&mut self) -> Result<u8, Refusal>
         ensures { Reads (spec.reference self.old) result self.new }
     {
@@ -198,7 +198,7 @@ impl<'a> Input<'a> {
     }
 
     /// A byte of a value, by itself or by a reference.
-    #[tactic(auto, unfolding(crate::specs::inner::Reading::value_byte))]
+    #[tactic(auto, unfolding(crate::specs::inner::Readers::value_byte))]
     pub(crate) fn value_byte(&mut self, quote: u8) -> Result<u8, Refusal>
         ensures { Reads (spec.value_byte quote self.old) result self.new }
     {
@@ -210,7 +210,7 @@ impl<'a> Input<'a> {
     }
 
     /// A byte of a text, by itself or by a reference.
-    #[tactic(auto, unfolding(crate::specs::inner::Reading::content_byte))]
+    #[tactic(auto, unfolding(crate::specs::inner::Readers::content_byte))]
     pub(crate) fn content_byte(&mut self) -> Result<u8, Refusal>
         ensures { Reads (spec.content_byte self.old) result self.new }
     {

@@ -3,7 +3,7 @@
 
 ghost use Rattle.std.specs.Prelude.{◌≡◌};
 ghost use Rattle.dp_markup.specs.inner.Input.{Reads, closed};
-ghost use Rattle.dp_markup.specs.inner.Seeking as spec;
+ghost use Rattle.dp_markup.specs.inner.Search as spec;
 
 use crate::attributes::{same_text, sees_end, spaced_mark, spaced_value};
 use crate::documents::prolog;
@@ -23,7 +23,7 @@ pub(crate) struct Sought<'a> {
     pub apart: bool,
 }
 
-#[tactic(auto, unfolding(crate::specs::inner::Seeking::pass_step))]
+#[tactic(auto, unfolding(crate::specs::inner::Search::pass_step))]
 fn pass_step(input: &mut Input<'_>, quote: u8) -> Result<ControlFlow<(), ()>, Refusal>
     ensures { Reads (spec.pass_step quote tt input.old) result input.new }
 {
@@ -37,7 +37,7 @@ fn pass_step(input: &mut Input<'_>, quote: u8) -> Result<ControlFlow<(), ()>, Re
 }
 
 // Passes what is between quotes, behind the first.
-#[tactic(auto, unfolding(crate::specs::inner::Seeking::pass_quoted))]
+#[tactic(auto, unfolding(crate::specs::inner::Search::pass_quoted))]
 fn pass_quoted(input: &mut Input<'_>, quote: u8) -> Result<(), Refusal>
     ensures { Reads (spec.pass_quoted quote input.old) result input.new }
 {
@@ -50,7 +50,7 @@ fn pass_quoted(input: &mut Input<'_>, quote: u8) -> Result<(), Refusal>
     Err(input.refuse())
 }
 
-#[tactic(auto, unfolding(crate::specs::inner::Seeking::pass_value))]
+#[tactic(auto, unfolding(crate::specs::inner::Search::pass_value))]
 fn pass_value(input: &mut Input<'_>) -> Result<(), Refusal>
     ensures { Reads (spec.pass_value input.old) result input.new }
 {
@@ -58,7 +58,7 @@ fn pass_value(input: &mut Input<'_>) -> Result<(), Refusal>
     pass_quoted(input, quote)
 }
 
-#[tactic(auto, unfolding(crate::specs::inner::Seeking::spaced_pass_step))]
+#[tactic(auto, unfolding(crate::specs::inner::Search::spaced_pass_step))]
 fn spaced_pass_step(input: &mut Input<'_>) -> Result<ControlFlow<(), ()>, Refusal>
     ensures { Reads (spec.spaced_pass_step tt input.old) result input.new }
 {
@@ -72,7 +72,7 @@ fn spaced_pass_step(input: &mut Input<'_>) -> Result<ControlFlow<(), ()>, Refusa
 }
 
 // Passes white space, and then a value.
-#[tactic(auto, unfolding(crate::specs::inner::Seeking::spaced_pass))]
+#[tactic(auto, unfolding(crate::specs::inner::Search::spaced_pass))]
 fn spaced_pass(input: &mut Input<'_>) -> Result<(), Refusal>
     ensures { Reads (spec.spaced_pass input.old) result input.new }
 {
@@ -86,7 +86,7 @@ fn spaced_pass(input: &mut Input<'_>) -> Result<(), Refusal>
 }
 
 // White space and a value, which is kept where it is the one that is sought.
-#[tactic(auto, unfolding(crate::specs::inner::Seeking::sought_value))]
+#[tactic(auto, unfolding(crate::specs::inner::Search::sought_value))]
 fn sought_value(
     alloc: Global,
     input: &mut Input<'_>,
@@ -112,7 +112,7 @@ fn kept(old: Option<Bytes>, new: Option<Bytes>) -> Option<Bytes>
 }
 
 // An attribute, behind those that were found.
-#[tactic(auto, unfolding(crate::specs::inner::Seeking::sought_attribute))]
+#[tactic(auto, unfolding(crate::specs::inner::Search::sought_attribute))]
 fn sought_attribute<'a>(
     alloc: Global,
     input: &mut Input<'a>,
@@ -141,7 +141,7 @@ fn sought_attribute<'a>(
     })
 }
 
-#[tactic(auto, unfolding(crate::specs::inner::Seeking::sought_piece, crate::specs::inner::Input::refuse))]
+#[tactic(auto, unfolding(crate::specs::inner::Search::sought_piece, crate::specs::inner::Input::refuse))]
 fn sought_piece<'a>(
     alloc: Global,
     input: &mut Input<'a>,
@@ -170,7 +170,7 @@ fn sought_piece<'a>(
 }
 
 // The value that was sought, where the start tag that ends here is the one that was asked for.
-#[tactic(auto, unfolding(crate::specs::inner::Seeking::sought_end))]
+#[tactic(auto, unfolding(crate::specs::inner::Search::sought_end))]
 fn sought_end(
     input: &mut Input<'_>,
     is_root: bool,
@@ -211,7 +211,7 @@ fn sought_from<'a>(
 }
 
 /// A text as far as the end of the root's start tag: the value of an attribute of the root.
-#[tactic(auto, unfolding(crate::specs::inner::Seeking::sought_head))]
+#[tactic(auto, unfolding(crate::specs::inner::Search::sought_head))]
 pub(crate) fn sought_head<'a>(
     alloc: Global,
     input: &mut Input<'a>,

@@ -2,8 +2,8 @@
 
 ghost use Rattle.std.specs.Prelude.{◌≡◌, ◌++◌, ◌<◌, ◌^◌, ◌∷◌, [], IfOk, OnOk, codes, length};
 ghost use Rattle.std.specs.List.{flat_map};
-ghost use Rattle.dp_markup.specs.Escaping.{decimal, escaped, escaped_all, plain_or_number};
-ghost use Rattle.dp_markup.specs.Writing.{attribute_text, node_text, nodes_text, written};
+ghost use Rattle.dp_markup.specs.Escapes.{decimal, escaped, escaped_all, plain_or_number};
+ghost use Rattle.dp_markup.specs.Texts.{attribute_text, node_text, nodes_text, written};
 
 use crate::Memory;
 use crate::tree::{Element, Node};

@@ -7,7 +7,7 @@ use Rattle.dp_value.specs.declared.value.Value.{Value}
 use Rattle.dp_value.specs.declared.value.Value.TheVariants.{Bool as Truth}
 use Rattle.dp_value.specs.Value.{data_of}
 use Rattle.dp_operations.specs.Binary.{binary_of}
-use Rattle.dp_operations.specs.Indexing.{found_by, indexed_by}
+use Rattle.dp_operations.specs.Indices.{found_by, indexed_by}
 use Rattle.dp_operations.specs.Unary.{unary_of}
 use Rattle.dp_state.specs.declared.state.State.{State}
 use Rattle.dp_state.specs.Places.{keys_of_indices}

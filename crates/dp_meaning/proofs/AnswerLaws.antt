@@ -4,7 +4,7 @@ use Rattle.dp_value.specs.declared.errors.WriteError.{WriteError}
 use Rattle.dp_value.specs.Data.{Data}
 use Rattle.dp_state.specs.declared.state.State.{State}
 use Rattle.dp_state.specs.Places.{then_state}
-use Rattle.dp_meaning.specs.inner.Answering.{write_answer}
+use Rattle.dp_meaning.specs.inner.WriteAnswers.{write_answer}
 use Rattle.dp_meaning.specs.Writes.{place_answer, place_or_fault}
 
 pub write-answers : (r : Result Data WriteError) (f : Data → State)

@@ -9,7 +9,7 @@ use Rattle.dp_meaning.specs.declared.writes.NumberedWrite.{NumberedWrite}
 use Rattle.dp_meaning.specs.inner.Drive.{Rules, Ends, Stops, drive, stopped}
 use Rattle.dp_meaning.specs.Programs.{program_run}
 use Rattle.dp_actions.specs.Run.{Run, Done, Over, At}
-use Rattle.dp_meaning.specs.Stopping.{above, first_at, first_stop, stop_of}
+use Rattle.dp_meaning.specs.Stops.{above, first_at, first_stop, stop_of}
 use Rattle.dp_meaning.specs.Trace.{Ended, Trace, moment_of, program_trace, trace, with_moment}
 use Rattle.dp_meaning.specs.Writes.{arrived, written, writes_of}
 

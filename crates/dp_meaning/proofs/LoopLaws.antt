@@ -8,7 +8,7 @@ use Rattle.dp_value.specs.declared.key.Key.{Key}
 use Rattle.dp_value.specs.declared.value.Value.{Value}
 use Rattle.dp_value.specs.Data.{Data}
 use Rattle.dp_actions.specs.declared.halt.Halt.{Halt}
-use Rattle.dp_actions.specs.declared.turns.Turn.TheVariants as turn
+use Rattle.dp_actions.specs.declared.turns.LoopStep.TheVariants as turn
 use Rattle.dp_actions.specs.declared.signal.Signal.{Signal}
 use Rattle.dp_actions.specs.declared.signal.Signal.TheVariants.{Next, Break, Continue, Return}
 use Rattle.dp_meaning.specs.inner.Drive.{Rules, Evaluates, moment_run}

@@ -37,7 +37,7 @@ use Rattle.dp_meaning.specs.declared.writes.Write.TheVariants.{Place, Evaluate}
 use Rattle.dp_actions.specs.Expressions.{evaluation}
 use Rattle.dp_meaning.specs.Programs.{program_run}
 use Rattle.dp_actions.specs.Run.{Run, Done, Over, At}
-use Rattle.dp_meaning.specs.Stopping.{above, first_at, first_stop, state_of, stop_of}
+use Rattle.dp_meaning.specs.Stops.{above, first_at, first_stop, state_of, stop_of}
 use Rattle.dp_meaning.specs.Trace.{Ended, IsStop, Trace, moment_of, program_trace, trace, with_moment}
 use Rattle.dp_meaning.specs.Writes.{alone, arrived, evaluated, evaluation_limit, evaluation_setting, in_context, left_by, one_write, or_unchanged, place_or_fault, recounted, written, written_by, writes_of}
 use Rattle.dp_meaning.proofs.Always.{Always, Each, IsKept}

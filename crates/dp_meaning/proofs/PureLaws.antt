@@ -10,7 +10,7 @@ use Rattle.dp_value.specs.Entry.{write_result}
 use Rattle.dp_value.specs.Table.{empty}
 use Rattle.dp_value.specs.Value.{data_of}
 use Rattle.dp_operations.specs.Binary.{binary_of}
-use Rattle.dp_operations.specs.Indexing.{found_by, indexed, looked_up}
+use Rattle.dp_operations.specs.Indices.{found_by, indexed, looked_up}
 use Rattle.dp_operations.specs.Unary.{unary_of}
 use Rattle.dp_state.specs.declared.moments.FatalKind.{FatalKind}
 use Rattle.dp_state.specs.declared.state.State.{State}

@@ -2,7 +2,7 @@ pub mod Statements
 pub mod Programs
 pub mod Writes
 pub mod Trace
-pub mod Stopping
+pub mod Stops
 pub mod Pure
 pub mod Whole
 pub mod inner

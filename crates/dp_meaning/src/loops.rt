@@ -4,7 +4,7 @@
 
 use crate::evaluator::Evaluator;
 use crate::outside::Outside;
-use dp_actions::{Halt, Signal, Turn, bind_entry, last_holds, then_holds, turn_over};
+use dp_actions::{Halt, LoopStep, Signal, bind_entry, last_holds, then_holds, turn_over};
 use dp_state::{Outcome, State};
 use dp_tree::{Binding, Expression, Statement};
 use dp_value::Value;
@@ -41,8 +41,8 @@ impl<O: Outside> Evaluator<'_, O> {
                 return Ok(Signal::Next);
             }
             match turn_over(self.statement(body, state)?) {
-                Turn::On => {}
-                Turn::Out(signal) => return Ok(signal),
+                LoopStep::On => {}
+                LoopStep::Out(signal) => return Ok(signal),
             }
             let done = self.values(after, state)?;
             drop(done);
@@ -85,8 +85,8 @@ impl<O: Outside> Evaluator<'_, O> {
     {
         for _turn in 0..left {
             match turn_over(self.statement(body, state)?) {
-                Turn::On => {}
-                Turn::Out(signal) => return Ok(signal),
+                LoopStep::On => {}
+                LoopStep::Out(signal) => return Ok(signal),
             }
             self.place(line, state)?;
             let holds = then_holds(self.expression(test, state))?;
@@ -137,8 +137,8 @@ impl<O: Outside> Evaluator<'_, O> {
             self.place(line, state)?;
             bind_entry(binding, array, at, state)?;
             match turn_over(self.statement(body, state)?) {
-                Turn::On => {}
-                Turn::Out(signal) => return Ok(signal),
+                LoopStep::On => {}
+                LoopStep::Out(signal) => return Ok(signal),
             }
         }
         Ok(Signal::Next)

@@ -4,7 +4,7 @@ ghost use Rattle.std.specs.Prelude.{◌≡◌, ◌<◌, length, IfOk};
 ghost use Rattle.dp_state.specs.States.{IsOf};
 ghost use Rattle.dp_meaning.specs.inner.Drive.{IsStopAt, drive, halt_after, stopped};
 ghost use Rattle.dp_meaning.specs.Programs.{program_run};
-ghost use Rattle.dp_meaning.specs.Stopping.{first_stop, state_of};
+ghost use Rattle.dp_meaning.specs.Stops.{first_stop, state_of};
 ghost use Rattle.dp_meaning.specs.Trace.{IsStop, program_trace};
 ghost use Rattle.dp_meaning.specs.Writes.{writes_of};
 

@@ -22,7 +22,7 @@ pub(crate) struct Watched<'a, S> {
 }
 
 impl<S: Stops> Outside for Watched<'_, S> {
-    ghost use Rattle.dp_meaning.specs.Stopping.{above};
+    ghost use Rattle.dp_meaning.specs.Stops.{above};
     ghost use Rattle.dp_meaning.specs.Writes.{writes_of};
 
     ghost rules = { λ w. record {

@@ -6,7 +6,7 @@ ghost use Rattle.dp_value.specs.Entry.{write_result};
 ghost use Rattle.dp_value.specs.Value.{data_of};
 ghost use Rattle.dp_state.specs.Places.{assigned, given_keys as all_given};
 ghost use Rattle.dp_state.specs.States.{read_at};
-ghost use Rattle.dp_meaning.specs.inner.Answering.{answer_by, write_answer};
+ghost use Rattle.dp_meaning.specs.inner.WriteAnswers.{answer_by, write_answer};
 ghost use Rattle.dp_meaning.specs.Writes.{answer_in, evaluated, evaluation_setting, place_answer, place_or_fault};
 ghost use Rattle.dp_meaning.specs.Writes.{value_answer, with_place};
 

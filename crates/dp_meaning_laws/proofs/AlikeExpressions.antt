@@ -9,7 +9,7 @@ use Rattle.dp_value.specs.Entry.{write_result}
 use Rattle.dp_value.specs.Table.{empty}
 use Rattle.dp_value.specs.Value.{data_of}
 use Rattle.dp_operations.specs.Binary.{binary_of}
-use Rattle.dp_operations.specs.Indexing.{indexed, looked_up}
+use Rattle.dp_operations.specs.Indices.{indexed, looked_up}
 use Rattle.dp_operations.specs.Unary.{unary_of}
 use Rattle.dp_state.specs.declared.state.State.{State}
 use Rattle.dp_state.specs.Places.{keys_of_indices}

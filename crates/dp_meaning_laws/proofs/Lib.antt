@@ -1,6 +1,6 @@
 pub mod PastLaws
 pub mod Whole
-pub mod Coding
+pub mod CodedMoments
 pub mod Ample
 pub mod AmpleLaws
 pub mod Answers

@@ -17,7 +17,7 @@ use Rattle.dp_meaning.specs.declared.writes.NumberedWrite.{NumberedWrite}
 use Rattle.dp_meaning.specs.Programs.{program_run}
 use Rattle.dp_actions.specs.Bodies.{statements_of}
 use Rattle.dp_actions.specs.Run.{Run, Done, Over, At}
-use Rattle.dp_meaning.specs.Stopping.{above, first_at, first_stop, state_of, stop_of}
+use Rattle.dp_meaning.specs.Stops.{above, first_at, first_stop, state_of, stop_of}
 use Rattle.dp_meaning.specs.Trace.{Ended, IsStop, Trace, moment_of, outcome_of, program_trace, trace, with_moment}
 use Rattle.dp_meaning.specs.Writes.{arrived, written, writes_of}
 use Rattle.dp_meaning_laws.proofs.Alike.{Alike, CanEnd, Stands}

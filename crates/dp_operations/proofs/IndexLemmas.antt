@@ -8,7 +8,7 @@ use Rattle.dp_value.specs.inner.Codes.{table_from, table_from-data_of_table}
 use Rattle.dp_value.specs.Data.{Data, Table, data_of_table, null}
 use Rattle.dp_value.specs.KeyOf.{key_of_data}
 use Rattle.dp_value.specs.Table.{value_at}
-use Rattle.dp_operations.specs.Indexing.{looked_up, or_null, reading}
+use Rattle.dp_operations.specs.Indices.{looked_up, or_null, reading}
 
 -- the value under the key that an index becomes, or null
 array-looked_up : (t : Table) (index : Data) (key : Key) (found : Option Data) → key_of_data index ≡ Some key

@@ -7,5 +7,5 @@ pub mod Unary
 pub mod Lists
 pub mod Parts
 pub mod Builtins
-pub mod Indexing
+pub mod Indices
 pub mod Found

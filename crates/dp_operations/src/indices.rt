@@ -4,8 +4,8 @@ ghost use Rattle.std.specs.Prelude.{◌≡◌, ◌⊎◌, [], ◌∷◌, map, op
 ghost use Rattle.dp_value.specs.Data.{text};
 ghost use Rattle.dp_value.specs.Value.{data_of};
 ghost use Rattle.dp_operations.specs.Answers.{Answers};
-ghost use Rattle.dp_operations.specs.Indexing.{byte_at as byte_of, found_by, indexed, indexed_by};
-ghost use Rattle.dp_operations.specs.Indexing.{letter_at as letter_of, looked_up, read_by as read_under, reading};
+ghost use Rattle.dp_operations.specs.Indices.{byte_at as byte_of, found_by, indexed, indexed_by};
+ghost use Rattle.dp_operations.specs.Indices.{letter_at as letter_of, looked_up, read_by as read_under, reading};
 ghost use Rattle.dp_operations.specs.Found.{data_of_found};
 
 use dp_value::{Bytes, Memory, Value, ValueError, key_of};

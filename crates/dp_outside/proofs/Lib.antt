@@ -1,3 +1,3 @@
-mod Growing
+mod GrownLists
+mod PairedLists
 mod Places
-mod Settling

@@ -5,6 +5,6 @@ pub mod Files
 pub mod Hosts
 pub mod Jobs
 pub mod Links
+pub mod Reports
 pub mod Streams
-pub mod Telling
 pub mod inner

@@ -3,7 +3,7 @@ ghost use Rattle.std.specs.Prelude.{◌≡◌, ◌<◌, ◌≤◌, [], IfOk, cou
 ghost use Rattle.std.specs.List.{AllZip};
 ghost use Rattle.dp_outside.specs.Causes.{Rose};
 ghost use Rattle.dp_outside.specs.Jobs.{RanOrBack};
-ghost use Rattle.dp_outside.specs.Telling.{grown};
+ghost use Rattle.dp_outside.specs.Reports.{grown};
 ghost use Rattle.dp_outside.specs.inner.Threads.{Answered, Settled, Started};
 
 use crate::beside::{RunsOrReturns, run_unless};
@@ -31,7 +31,7 @@ type Answer<J> = Result<<J as Job>::Done, J>;
 type Start<J> = Result<PromisedHandle<Answer<J>, RunsOrReturns<J>>, Answer<J>>;
 
 /// Asks for the start of each job.
-#[tactic(auto, using(crate::proofs::Growing::grown_by_none, crate::proofs::Growing::grown_again))]
+#[tactic(auto, using(crate::proofs::GrownLists::grown_by_none, crate::proofs::GrownLists::grown_again))]
 pub(crate) fn ask<P: Spawner, J: Job>(
     spawner: &mut P,
     alloc: Global,
@@ -93,7 +93,7 @@ fn run_one<J: Job>(one: Asked<J>) -> Answer<J>
 }
 
 // Runs the granted jobs in the caller, one after another.
-#[tactic(auto, using(crate::proofs::Settling::zip_more))]
+#[tactic(auto, using(crate::proofs::PairedLists::zip_more))]
 fn run_each<J: Job>(asked: Vec<Asked<J>>, mut answers: Vec<Answer<J>>) -> Vec<Answer<J>>
     requires empty { answers.items ≡ [] }
     requires room { length asked.items ≤ vec_capacity answers }
@@ -134,7 +134,7 @@ fn start_one<'s, E, J: Job + Send + 's>(
 }
 
 // Starts each granted job in a thread of its own.
-#[tactic(auto, using(crate::proofs::Settling::zip_more))]
+#[tactic(auto, using(crate::proofs::PairedLists::zip_more))]
 fn start_each<'s, E, J: Job + Send + 's>(
     scope: &Scope<'s, E>,
     refused: &'s [AtomicBool],
@@ -166,7 +166,7 @@ fn join_one<R: Threads, J: Job>(rt: &R, one: Start<J>) -> Answer<J>
 }
 
 // Waits for each thread.
-#[tactic(auto, using(crate::proofs::Settling::zip_more))]
+#[tactic(auto, using(crate::proofs::PairedLists::zip_more))]
 fn join_each<R: Threads, J: Job>(
     rt: &R,
     started: Vec<Start<J>>,

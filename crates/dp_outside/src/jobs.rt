@@ -4,7 +4,7 @@ ghost use Rattle.std.specs.List.{AllZip};
 ghost use Rattle.std.specs.declared.option.Option.{Option};
 ghost use Rattle.dp_outside.specs.Causes.{HasCause, Rose};
 ghost use Rattle.dp_outside.specs.Jobs.{BackUnlessGranted, RanOrBack};
-ghost use Rattle.dp_outside.specs.Telling.{BeginsEmpty, grown};
+ghost use Rattle.dp_outside.specs.Reports.{BeginsEmpty, grown};
 
 use crate::beside::{run_beside, run_in_turn};
 use crate::crews::{answers_of, ask, note_each, returned, ungranted};

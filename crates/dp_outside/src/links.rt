@@ -4,7 +4,7 @@ ghost use Rattle.std.specs.declared.option.Option.{Option};
 ghost use Rattle.std.specs.Option.{option_to_list};
 ghost use Rattle.dp_outside.specs.Causes.{HasCause};
 ghost use Rattle.dp_outside.specs.Links.{CountsReturned, Dial, Door, Link, link, made};
-ghost use Rattle.dp_outside.specs.Telling.{BeginsEmpty, grown};
+ghost use Rattle.dp_outside.specs.Reports.{BeginsEmpty, grown};
 
 use crate::{Failed, Host, Sink, Source};
 

@@ -3,7 +3,7 @@ ghost use Rattle.std.specs.Prelude.{◌≡◌, ℕ, ◌+◌, ◌≤◌, List, []
 ghost use Rattle.std.specs.declared.option.Option.{Option};
 ghost use Rattle.dp_outside.specs.Causes.{Rose};
 ghost use Rattle.dp_outside.specs.Files.{Fetches, Lacks};
-ghost use Rattle.dp_outside.specs.Telling.{grown};
+ghost use Rattle.dp_outside.specs.Reports.{grown};
 
 use crate::Bytes1;
 use std::alloc::{AllocError, AllocFailed, Global};

@@ -3,7 +3,7 @@ ghost use Rattle.std.specs.Prelude.{◌≡◌, ℕ, List};
 ghost use Rattle.std.specs.declared.option.Option.{Option};
 ghost use Rattle.dp_outside.specs.Causes.{HasCause};
 ghost use Rattle.dp_outside.specs.Streams.{PutAppends};
-ghost use Rattle.dp_outside.specs.Telling.{StaysSilent};
+ghost use Rattle.dp_outside.specs.Reports.{StaysSilent};
 
 use crate::Failed;
 

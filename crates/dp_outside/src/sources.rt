@@ -4,7 +4,7 @@ ghost use Rattle.std.specs.Io.KnownBytes.{ReadConsumes};
 ghost use Rattle.std.specs.declared.option.Option.{Option};
 ghost use Rattle.dp_outside.specs.Causes.{HasCause};
 ghost use Rattle.dp_outside.specs.Streams.{TakeGives};
-ghost use Rattle.dp_outside.specs.Telling.{StaysSilent};
+ghost use Rattle.dp_outside.specs.Reports.{StaysSilent};
 
 use crate::Failed;
 

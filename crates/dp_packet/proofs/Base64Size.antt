@@ -6,7 +6,7 @@ use Rattle.base64.specs.GeneralPurpose.{IsBytes}
 use Rattle.base64.specs.Rfc4648.{encode_symbols, padding_len}
 use Rattle.base64.proofs.RoundTrip.{length-encode_symbols}
 use Rattle.base64.proofs.Tables.{all_below_at}
-use Rattle.dp_markup.specs.Escaping.{escaped, escaped_all}
+use Rattle.dp_markup.specs.Escapes.{escaped, escaped_all}
 use Rattle.dp_packet.specs.Parts.{base64}
 
 abbrev symbols : List ℕ

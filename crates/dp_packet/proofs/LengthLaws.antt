@@ -6,8 +6,8 @@ use Rattle.dp_markup.proofs.RoundTrip.{text_node, child_node}
 use Rattle.dp_markup.proofs.Trees.{written_is}
 use Rattle.dp_markup.specs.declared.tree.Element.{Element}
 use Rattle.dp_markup.specs.declared.tree.Node.TheVariants as node
-use Rattle.dp_markup.specs.Escaping.{decimal, plain_or_number, escaped, escaped_all}
-use Rattle.dp_markup.specs.Writing.{attribute_text, element_text, written, node_text, nodes_text}
+use Rattle.dp_markup.specs.Escapes.{decimal, plain_or_number, escaped, escaped_all}
+use Rattle.dp_markup.specs.Texts.{attribute_text, element_text, written, node_text, nodes_text}
 use Rattle.dp_packet.specs.declared.packet.Packet.{Packet}
 use Rattle.dp_packet.specs.declared.packet.Packet.TheVariants as packet
 use Rattle.dp_packet.specs.declared.packet.Body.TheVariants as body

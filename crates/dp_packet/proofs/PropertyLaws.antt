@@ -2,8 +2,8 @@
 use Rattle.std.proofs.Common.{◌≡◌, ℕ, ℤ, ◌+◌, Bool, List, ◌++◌, length, codes, refl, sym, ap, ◌∙◌, map, arith}
 use Rattle.std.specs.Fmt.{signed_decimal}
 use Rattle.dp_markup.specs.declared.tree.Node.{Node}
-use Rattle.dp_markup.specs.Escaping.{escaped_all}
-use Rattle.dp_markup.specs.Writing.{node_text, nodes_text}
+use Rattle.dp_markup.specs.Escapes.{escaped_all}
+use Rattle.dp_markup.specs.Texts.{node_text, nodes_text}
 use Rattle.dp_packet.specs.declared.property.Property.{Property}
 use Rattle.dp_packet.specs.declared.property.Shape.{Shape}
 use Rattle.dp_packet.specs.declared.property.Shape.TheVariants as shape

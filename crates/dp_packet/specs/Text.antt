@@ -1,6 +1,6 @@
 -- The text of a packet.
 use Rattle.std.specs.Prelude.{◌++◌, codes}
-use Rattle.dp_markup.specs.Writing.{written}
+use Rattle.dp_markup.specs.Texts.{written}
 use Rattle.dp_packet.specs.declared.packet.Packet.{Packet}
 use Rattle.dp_packet.specs.Parts.{Text}
 use Rattle.dp_packet.specs.Packets.{element_of}

@@ -1,8 +1,8 @@
 //! The sizes of properties.
 ghost use Rattle.std.specs.Prelude.{◌≡◌, length, map};
 ghost use Rattle.std.specs.Fmt.{signed_decimal};
-ghost use Rattle.dp_markup.specs.Escaping.{escaped_all};
-ghost use Rattle.dp_markup.specs.Writing.{node_text, nodes_text};
+ghost use Rattle.dp_markup.specs.Escapes.{escaped_all};
+ghost use Rattle.dp_markup.specs.Texts.{node_text, nodes_text};
 ghost use Rattle.dp_packet.specs.Parts.{base64};
 ghost use Rattle.dp_packet.specs.Properties.{array_attributes, paging_attributes};
 ghost use Rattle.dp_packet.specs.Properties.{property_node, text_attributes};

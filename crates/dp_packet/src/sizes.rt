@@ -1,7 +1,7 @@
 //! How many bytes the parts of a text take: counted, and not built.
 ghost use Rattle.std.specs.Prelude.{◌≡◌, ◌+◌, ◌*◌, ◌≤◌, decimal, length};
-ghost use Rattle.dp_markup.specs.Escaping.{escaped, escaped_all};
-ghost use Rattle.dp_markup.specs.Writing.{attribute_text};
+ghost use Rattle.dp_markup.specs.Escapes.{escaped, escaped_all};
+ghost use Rattle.dp_markup.specs.Texts.{attribute_text};
 ghost use Rattle.dp_packet.specs.Breakpoints.{given_number};
 ghost use Rattle.dp_packet.specs.Parts.{flag, given};
 ghost use Rattle.dp_packet.specs.Sizes.{counted};

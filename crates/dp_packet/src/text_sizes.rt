@@ -1,6 +1,6 @@
 //! The sizes of whole texts.
 ghost use Rattle.std.specs.Prelude.{◌≡◌, length, map};
-ghost use Rattle.dp_markup.specs.Writing.{node_text, nodes_text, written};
+ghost use Rattle.dp_markup.specs.Texts.{node_text, nodes_text, written};
 ghost use Rattle.dp_packet.specs.Packets as spec;
 ghost use Rattle.dp_packet.specs.Sizes.{counted};
 ghost use Rattle.dp_packet.specs.Text.{text};

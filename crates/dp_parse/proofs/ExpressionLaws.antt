@@ -12,7 +12,7 @@ use Rattle.dp_parse.specs.ExpressionIn.{value_in, tree_in, expression_in, Tells,
 use Rattle.dp_parse.specs.Limits.{limits}
 use Rattle.dp_parse.specs.Programs.{IsExpressionText}
 use Rattle.dp_parse.specs.Statements.{SpellsExpression}
-use Rattle.dp_parse.specs.inner.ReadingStatements.{expression_text}
+use Rattle.dp_parse.specs.inner.StatementRules.{expression_text}
 use Rattle.dp_rules.proofs.Verdicts.{found, all_found}
 use Rattle.dp_parse.proofs.FileVerdicts.{text_reads}
 

@@ -4,7 +4,7 @@ use Rattle.dp_lexer.specs.declared.token.Token.{Token}
 use Rattle.dp_parse.specs.declared.ended.Parts.{Parts}
 use Rattle.dp_tree.specs.declared.tree.Expression.{Expression}
 use Rattle.dp_parse.specs.Statements.{Depth, no_parts, Spells, SpellsExpression}
-use Rattle.dp_parse.specs.inner.ReadingStatements.{file, expression_text}
+use Rattle.dp_parse.specs.inner.StatementRules.{file, expression_text}
 use Rattle.dp_rules.proofs.More.{level_self}
 use Rattle.dp_expressions.proofs.Heights.{looser}
 use Rattle.dp_expressions.proofs.Least.{zero_text, zero_tree, variable_text, variable_place, least_expression, least_is_place}

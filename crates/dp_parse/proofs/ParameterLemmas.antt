@@ -6,7 +6,7 @@ use Rattle.dp_lexer.specs.declared.token.TokenKind.TheVariants as kind
 use Rattle.dp_rules.specs.TokenValues.{Text, unless, variable_in}
 use Rattle.dp_rules.specs.inner.Input.{Reader, and_then, met, variable}
 use Rattle.dp_parse.specs.inner.Parameters.{parameter, chosen, stands, checked}
-use Rattle.dp_rules.specs.inner.ReadingLists.{any_items}
+use Rattle.dp_rules.specs.inner.ListReaders.{any_items}
 use Rattle.dp_rules.specs.declared.terminal.Terminal.{Terminal}
 use Rattle.dp_rules.specs.Terminals.{is_superglobal}
 use Rattle.dp_parse.specs.Statements.{parameter_in}

@@ -19,10 +19,10 @@ use Rattle.dp_rules.specs.Terminals.{terminal_of, is, head}
 use Rattle.dp_rules.specs.Lines.{line_of}
 use Rattle.dp_rules.specs.inner.Input.{Reader, gives, made, mark, closed, ◌>>=◌, ◌>>◌}
 use Rattle.dp_rules.specs.Rules.{Joined, Mark, Without}
-use Rattle.dp_rules.specs.inner.ReadingLists.{any_plain_items}
-use Rattle.dp_expressions.specs.inner.Reading.{reading}
+use Rattle.dp_rules.specs.inner.ListReaders.{any_plain_items}
+use Rattle.dp_expressions.specs.inner.Readers.{reading}
 use Rattle.dp_parse.specs.Statements.{Depth, Arms, ended, whole, with_arm, stated, Bodies, ElseIf, Bound, Block, Test, ArmRule, NextArm, Otherwise, If, LoopBody, While, DoWhile, For, Foreach}
-use Rattle.dp_parse.specs.inner.ReadingStatements.{bodies_step, bodies, bound, block, head_test, next_arm, otherwise, behind_else, arms_step, arms, if_rule, loop_body, while_rule, do_while, for_rule, foreach, by_keyword, any_statement, on_its_line, braced, head_body}
+use Rattle.dp_parse.specs.inner.StatementRules.{bodies_step, bodies, bound, block, head_test, next_arm, otherwise, behind_else, arms_step, arms, if_rule, loop_body, while_rule, do_while, for_rule, foreach, by_keyword, any_statement, on_its_line, braced, head_body}
 use Rattle.dp_rules.proofs.Terminals.{not_true, or_left, or_right, contrary, placed, mark_alone, mark_passes, mark_fails, mark_apart}
 use Rattle.dp_rules.proofs.Answers.{Rules, Anything, JoinedAt, EitherAt, GivesAt, MarkAt, MadeAt, WithoutAt, ClosedAt, StepAt, Answers, Follows, StartsIn, Apart, give, given, mark_starts, joined_starts, either_starts, made_starts, starts_in_more, starts_apart, gives_apart, either_apart, starts_follow, gives_answers, made_answers, carried, equal_answers, either_answers, without_answers, online_answers}
 use Rattle.dp_rules.proofs.Loops.{step_stop, closed_now, closed_follows, closed_answers, end_first}

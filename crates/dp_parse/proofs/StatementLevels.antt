@@ -8,7 +8,7 @@ use Rattle.dp_rules.specs.declared.terminal.Terminal.TheVariants as terminal
 use Rattle.dp_tree.specs.declared.tree.StatementKind.TheVariants as tree
 use Rattle.dp_rules.specs.Rules.{Mark}
 use Rattle.dp_parse.specs.Statements.{Depth, whole, stated, body_at}
-use Rattle.dp_parse.specs.inner.ReadingStatements.{any_statement, on_its_line, body_below, statement}
+use Rattle.dp_parse.specs.inner.StatementRules.{any_statement, on_its_line, body_below, statement}
 use Rattle.dp_rules.proofs.Terminals.{placed, mark_alone}
 use Rattle.dp_rules.proofs.Answers.{Answers, give, below_answers}
 use Rattle.dp_parse.proofs.StatementReaders.{Deeper, IsPartReader}

@@ -7,7 +7,7 @@ use Rattle.dp_rules.specs.declared.terminal.Terminal.{Terminal}
 use Rattle.dp_rules.specs.declared.terminal.Terminal.TheVariants as terminal
 use Rattle.dp_tree.specs.declared.tree.StatementKind.TheVariants as tree
 use Rattle.dp_rules.specs.Terminals.{terminal_of, is}
-use Rattle.dp_expressions.specs.inner.Reading.{begins_expression}
+use Rattle.dp_expressions.specs.inner.Readers.{begins_expression}
 use Rattle.dp_parse.specs.Statements.{Depth, whole, stated, Empty, ElseIf, GlobalRule, Perform, Echo, Block, If, While, DoWhile, For, Foreach, Loops, Return, Unset, Exit, AnyStatement, body_at, Braced, HeadBody}
 use Rattle.dp_parse.specs.Statements as grammar
 use Rattle.dp_rules.proofs.Terminals.{or_left, or_right, mark_passes, mark_apart, same_is}

@@ -10,7 +10,7 @@ use Rattle.dp_tree.specs.declared.tree.Expression.{Expression}
 use Rattle.dp_rules.specs.inner.Input.{Outcome}
 use Rattle.dp_parse.specs.Limits.{expression_levels}
 use Rattle.dp_parse.specs.Programs.{IsExpressionText}
-use Rattle.dp_parse.specs.inner.ReadingStatements.{expression_text}
+use Rattle.dp_parse.specs.inner.StatementRules.{expression_text}
 
 -- the value, if one was read
 abbrev pub value_in : {A : Type 0} → Outcome A → Option A

@@ -1,6 +1,6 @@
 -- How the functions read: what their own clauses say. `Programs` and `Statements` say what that
 -- comes to.
-pub mod ReadingStatements
+pub mod StatementRules
 pub mod Within
 pub mod NestedBody
 pub mod Parameters

@@ -3,7 +3,7 @@
 ghost use Rattle.std.specs.Prelude.{◌≡◌, ◌+◌, ◌<◌, ◌≤◌, ◌^◌, IfOk};
 ghost use Rattle.dp_rules.specs.inner.Input.{Reads};
 ghost use Rattle.dp_parse.specs.inner.Within.{within};
-ghost use Rattle.dp_parse.specs.inner.ReadingStatements as spec;
+ghost use Rattle.dp_parse.specs.inner.StatementRules as spec;
 ghost use Rattle.dp_parse.specs.Statements as grammar;
 
 use crate::ended::{Body, Ended, finished};
@@ -33,7 +33,7 @@ fn with_arm(
 
 impl<R: Inside> Statements<R> {
     /// An expression in parentheses.
-    #[tactic(auto, unfolding(crate::specs::inner::ReadingStatements::head_test))]
+    #[tactic(auto, unfolding(crate::specs::inner::StatementRules::head_test))]
     pub(crate) fn test(&self, tokens: &mut Tokens<'_>) -> Result<Expression, Refusal>
         ensures { Reads (within spec.head_test self.now tokens.old) result tokens.new }
     {
@@ -44,7 +44,7 @@ impl<R: Inside> Statements<R> {
     }
 
     // The arms so far, and the next one behind the word on this line.
-    #[tactic(auto, unfolding(crate::specs::inner::ReadingStatements::next_arm))]
+    #[tactic(auto, unfolding(crate::specs::inner::StatementRules::next_arm))]
     fn next_arm(
         &self,
         tokens: &mut Tokens<'_>,
@@ -60,7 +60,7 @@ impl<R: Inside> Statements<R> {
     }
 
     // The body behind an `else`.
-    #[tactic(auto, unfolding(crate::specs::inner::ReadingStatements::otherwise))]
+    #[tactic(auto, unfolding(crate::specs::inner::StatementRules::otherwise))]
     fn otherwise(&self, tokens: &mut Tokens<'_>, arms: Items<Arm>) -> Result<Ended, Refusal>
         requires some { 0 < self.now.0 }
         ensures { Reads (within spec.otherwise self.now arms tokens.old) result tokens.new }
@@ -72,7 +72,7 @@ impl<R: Inside> Statements<R> {
     }
 
     // What stands behind an `else` on this line: a further arm, or the last body.
-    #[tactic(auto, unfolding(crate::specs::inner::ReadingStatements::behind_else))]
+    #[tactic(auto, unfolding(crate::specs::inner::StatementRules::behind_else))]
     fn behind_else(
         &self,
         tokens: &mut Tokens<'_>,
@@ -112,7 +112,7 @@ impl<R: Inside> Statements<R> {
     }
 
     // What stands behind the first arm.
-    #[tactic(auto, unfolding(crate::specs::inner::ReadingStatements::arms))]
+    #[tactic(auto, unfolding(crate::specs::inner::StatementRules::arms))]
     fn arms(&self, tokens: &mut Tokens<'_>, first: (Items<Arm>, bool)) -> Result<Ended, Refusal>
         requires some { 0 < self.now.0 }
         ensures { Reads (within spec.arms self.now first tokens.old) result tokens.new }
@@ -127,7 +127,7 @@ impl<R: Inside> Statements<R> {
         Err(tokens.refuse())
     }
 
-    #[tactic(auto, unfolding(crate::specs::inner::ReadingStatements::if_rule))]
+    #[tactic(auto, unfolding(crate::specs::inner::StatementRules::if_rule))]
     pub(crate) fn if_rule(&self, tokens: &mut Tokens<'_>) -> Result<Ended, Refusal>
         ensures { Reads (within spec.if_rule self.now tokens.old) result tokens.new }
     {

@@ -4,7 +4,7 @@ ghost use Rattle.std.specs.Prelude.{◌≡◌, IfOk};
 ghost use Rattle.dp_rules.specs.inner.Input.{Reads};
 ghost use Rattle.dp_parse.specs.Limits as limits;
 ghost use Rattle.dp_parse.specs.inner.Within as limited;
-ghost use Rattle.dp_parse.specs.inner.ReadingStatements as spec;
+ghost use Rattle.dp_parse.specs.inner.StatementRules as spec;
 ghost use Rattle.dp_parse.specs.Statements as grammar;
 
 use crate::ended::{Body, Parts, with_body};
@@ -41,7 +41,7 @@ fn function_body(alloc: Global, tokens: &mut Tokens<'_>) -> Result<Items<Stateme
 }
 
 /// A function.
-#[tactic(auto, unfolding(crate::specs::inner::ReadingStatements::function_rule))]
+#[tactic(auto, unfolding(crate::specs::inner::StatementRules::function_rule))]
 pub(crate) fn function(alloc: Global, tokens: &mut Tokens<'_>) -> Result<Function, Refusal>
     ensures { Reads (spec.function_rule limits.limits tokens.old) result tokens.new }
 {
@@ -102,7 +102,7 @@ fn file_step(
 }
 
 /// The statements and the functions of a file, up to the end.
-#[tactic(auto, unfolding(crate::specs::inner::ReadingStatements::file))]
+#[tactic(auto, unfolding(crate::specs::inner::StatementRules::file))]
 pub(crate) fn file(alloc: Global, tokens: &mut Tokens<'_>) -> Result<Parts, Refusal>
     ensures { Reads (spec.file limits.limits tokens.old) result tokens.new }
 {
@@ -119,7 +119,7 @@ pub(crate) fn file(alloc: Global, tokens: &mut Tokens<'_>) -> Result<Parts, Refu
     Err(tokens.refuse())
 }
 
-#[tactic(auto, unfolding(crate::specs::inner::ReadingStatements::at_end, dp_rules::specs::inner::Input::refuse))]
+#[tactic(auto, unfolding(crate::specs::inner::StatementRules::at_end, dp_rules::specs::inner::Input::refuse))]
 fn at_end(tokens: &mut Tokens<'_>, found: Expression) -> Result<Expression, Refusal>
     ensures { Reads (spec.at_end found tokens.old) result tokens.new }
 {
@@ -133,7 +133,7 @@ fn at_end(tokens: &mut Tokens<'_>, found: Expression) -> Result<Expression, Refu
 }
 
 // A `;` or nothing, and the end.
-#[tactic(auto, unfolding(crate::specs::inner::ReadingStatements::semicolon))]
+#[tactic(auto, unfolding(crate::specs::inner::StatementRules::semicolon))]
 fn semicolon(tokens: &mut Tokens<'_>, found: Expression) -> Result<Expression, Refusal>
     ensures { Reads (spec.semicolon found tokens.old) result tokens.new }
 {
@@ -145,7 +145,7 @@ fn semicolon(tokens: &mut Tokens<'_>, found: Expression) -> Result<Expression, R
 }
 
 /// An expression by itself, possibly with a `;` behind it, up to the end.
-#[tactic(auto, unfolding(crate::specs::inner::ReadingStatements::expression_text))]
+#[tactic(auto, unfolding(crate::specs::inner::StatementRules::expression_text))]
 pub(crate) fn expression_text(alloc: Global, tokens: &mut Tokens<'_>) -> Result<Expression, Refusal>
     ensures { Reads (spec.expression_text limits.expression_levels tokens.old) result tokens.new }
 {

@@ -4,8 +4,8 @@ ghost use Rattle.std.specs.Prelude.{⊤, ◌≡◌, ◌<◌, ◌≤◌, ◌^◌}
 ghost use Rattle.dp_rules.specs.inner.Input.{Reads};
 ghost use Rattle.dp_parse.specs.inner.Within.{within};
 ghost use Rattle.dp_rules.specs.inner.Input as input;
-ghost use Rattle.dp_rules.specs.inner.ReadingLists as lists;
-ghost use Rattle.dp_parse.specs.inner.ReadingStatements as spec;
+ghost use Rattle.dp_rules.specs.inner.ListReaders as lists;
+ghost use Rattle.dp_parse.specs.inner.StatementRules as spec;
 ghost use Rattle.dp_parse.specs.Statements as grammar;
 
 use crate::ended::{Ended, whole};
@@ -46,7 +46,7 @@ fn variables(alloc: Global, tokens: &mut Tokens<'_>) -> Result<Items<Bytes>, Ref
     )
 }
 
-#[tactic(auto, unfolding(crate::specs::inner::ReadingStatements::global_rule))]
+#[tactic(auto, unfolding(crate::specs::inner::StatementRules::global_rule))]
 pub(crate) fn global_rule(alloc: Global, tokens: &mut Tokens<'_>) -> Result<Ended, Refusal>
     ensures { Reads (spec.global_rule tokens.old) result tokens.new }
 {
@@ -55,7 +55,7 @@ pub(crate) fn global_rule(alloc: Global, tokens: &mut Tokens<'_>) -> Result<Ende
     whole(alloc, tokens, StatementKind::Global(names))
 }
 
-#[tactic(auto, unfolding(crate::specs::inner::ReadingStatements::exit_word))]
+#[tactic(auto, unfolding(crate::specs::inner::StatementRules::exit_word))]
 fn exit_word(tokens: &mut Tokens<'_>) -> Result<u32, Refusal>
     ensures { Reads (spec.exit_word tokens.old) result tokens.new }
 {
@@ -68,7 +68,7 @@ fn exit_word(tokens: &mut Tokens<'_>) -> Result<u32, Refusal>
 
 impl<R: Inside> Statements<R> {
     // How many loops a jump is about: 1, or a number up to that of the loops around it.
-    #[tactic(auto, unfolding(crate::specs::inner::ReadingStatements::levels))]
+    #[tactic(auto, unfolding(crate::specs::inner::StatementRules::levels))]
     fn levels(&self, tokens: &mut Tokens<'_>) -> Result<u32, Refusal>
         ensures { Reads (within spec.levels self.now tokens.old) result tokens.new }
     {
@@ -79,7 +79,7 @@ impl<R: Inside> Statements<R> {
         }
     }
 
-    #[tactic(auto, unfolding(crate::specs::inner::ReadingStatements::loops_rule))]
+    #[tactic(auto, unfolding(crate::specs::inner::StatementRules::loops_rule))]
     fn loops_rule(&self, tokens: &mut Tokens<'_>) -> Result<u32, Refusal>
         ensures { Reads (within spec.loops_rule self.now tokens.old) result tokens.new }
     {
@@ -88,7 +88,7 @@ impl<R: Inside> Statements<R> {
         Ok(count)
     }
 
-    #[tactic(auto, unfolding(crate::specs::inner::ReadingStatements::break_rule, dp_rules::specs::inner::Input::refuse))]
+    #[tactic(auto, unfolding(crate::specs::inner::StatementRules::break_rule, dp_rules::specs::inner::Input::refuse))]
     pub(crate) fn break_rule(&self, tokens: &mut Tokens<'_>) -> Result<Ended, Refusal>
         ensures { Reads (within spec.break_rule self.now tokens.old) result tokens.new }
     {
@@ -100,7 +100,7 @@ impl<R: Inside> Statements<R> {
         whole(self.alloc(), tokens, StatementKind::Break(count))
     }
 
-    #[tactic(auto, unfolding(crate::specs::inner::ReadingStatements::continue_rule, dp_rules::specs::inner::Input::refuse))]
+    #[tactic(auto, unfolding(crate::specs::inner::StatementRules::continue_rule, dp_rules::specs::inner::Input::refuse))]
     pub(crate) fn continue_rule(&self, tokens: &mut Tokens<'_>) -> Result<Ended, Refusal>
         ensures { Reads (within spec.continue_rule self.now tokens.old) result tokens.new }
     {
@@ -113,7 +113,7 @@ impl<R: Inside> Statements<R> {
     }
 
     // An expression, or none, and what closes it.
-    #[tactic(auto, unfolding(crate::specs::inner::ReadingStatements::maybe_up_to))]
+    #[tactic(auto, unfolding(crate::specs::inner::StatementRules::maybe_up_to))]
     fn maybe_up_to(
         &self,
         tokens: &mut Tokens<'_>,
@@ -130,7 +130,7 @@ impl<R: Inside> Statements<R> {
         Ok(Some(value))
     }
 
-    #[tactic(auto, unfolding(crate::specs::inner::ReadingStatements::return_rule))]
+    #[tactic(auto, unfolding(crate::specs::inner::StatementRules::return_rule))]
     pub(crate) fn return_rule(&self, tokens: &mut Tokens<'_>) -> Result<Ended, Refusal>
         ensures { Reads (within spec.return_rule self.now tokens.old) result tokens.new }
     {
@@ -139,7 +139,7 @@ impl<R: Inside> Statements<R> {
         whole(self.alloc(), tokens, StatementKind::Return(value))
     }
 
-    #[tactic(auto, unfolding(crate::specs::inner::ReadingStatements::unset))]
+    #[tactic(auto, unfolding(crate::specs::inner::StatementRules::unset))]
     pub(crate) fn unset(&self, tokens: &mut Tokens<'_>) -> Result<Ended, Refusal>
         ensures { Reads (within spec.unset self.now tokens.old) result tokens.new }
     {
@@ -150,7 +150,7 @@ impl<R: Inside> Statements<R> {
         whole(self.alloc(), tokens, StatementKind::Unset(places))
     }
 
-    #[tactic(auto, unfolding(crate::specs::inner::ReadingStatements::exit_value))]
+    #[tactic(auto, unfolding(crate::specs::inner::StatementRules::exit_value))]
     fn exit_value(&self, tokens: &mut Tokens<'_>) -> Result<Option<Expression>, Refusal>
         ensures { Reads (within spec.exit_value self.now tokens.old) result tokens.new }
     {
@@ -162,7 +162,7 @@ impl<R: Inside> Statements<R> {
         }
     }
 
-    #[tactic(auto, unfolding(crate::specs::inner::ReadingStatements::exit))]
+    #[tactic(auto, unfolding(crate::specs::inner::StatementRules::exit))]
     pub(crate) fn exit(&self, tokens: &mut Tokens<'_>) -> Result<Ended, Refusal>
         ensures { Reads (within spec.exit self.now tokens.old) result tokens.new }
     {

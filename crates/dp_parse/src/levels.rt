@@ -3,7 +3,7 @@
 ghost use Rattle.std.specs.Prelude.{◌≡◌, ⊤};
 ghost use Rattle.dp_rules.specs.inner.Input.{Reads};
 ghost use Rattle.dp_parse.specs.inner.Within as limited;
-ghost use Rattle.dp_rules.specs.inner.ReadingLists as lists;
+ghost use Rattle.dp_rules.specs.inner.ListReaders as lists;
 
 use dp_expressions::Part;
 use dp_rules::{Piece, Refusal, Terminal, Tokens, any_plain_items, plain_items, some_items};

@@ -4,7 +4,7 @@ ghost use Rattle.std.specs.Prelude.{◌≡◌, suc, ◌<◌, ◌≤◌, ◌^◌}
 ghost use Rattle.dp_rules.specs.inner.Input.{Reads};
 ghost use Rattle.dp_parse.specs.inner.Within as limited;
 ghost use Rattle.dp_parse.specs.inner.Within.{within};
-ghost use Rattle.dp_parse.specs.inner.ReadingStatements as spec;
+ghost use Rattle.dp_parse.specs.inner.StatementRules as spec;
 
 use crate::ended::{Body, Ended, finished, whole};
 use crate::grammar::Statements;
@@ -16,7 +16,7 @@ use dp_tree::{Binding, Expression, StatementKind};
 use dp_value::Bytes;
 use std::alloc::Global;
 
-#[tactic(auto, unfolding(crate::specs::inner::ReadingStatements::bound_rest))]
+#[tactic(auto, unfolding(crate::specs::inner::StatementRules::bound_rest))]
 fn bound_rest(alloc: Global, tokens: &mut Tokens<'_>, first: Bytes) -> Result<Binding, Refusal>
     ensures { Reads (spec.bound_rest first tokens.old) result tokens.new }
 {
@@ -35,7 +35,7 @@ fn bound_rest(alloc: Global, tokens: &mut Tokens<'_>, first: Bytes) -> Result<Bi
 }
 
 // The variables that a `foreach` binds.
-#[tactic(auto, unfolding(crate::specs::inner::ReadingStatements::bound))]
+#[tactic(auto, unfolding(crate::specs::inner::StatementRules::bound))]
 fn bound(alloc: Global, tokens: &mut Tokens<'_>) -> Result<Binding, Refusal>
     ensures { Reads (spec.bound tokens.old) result tokens.new }
 {
@@ -52,7 +52,7 @@ impl<R: Inside> Statements<R> {
         self.head_body(tokens, self.one_loop_more())
     }
 
-    #[tactic(auto, unfolding(crate::specs::inner::ReadingStatements::while_rule, crate::specs::inner::ReadingStatements::loop_body))]
+    #[tactic(auto, unfolding(crate::specs::inner::StatementRules::while_rule, crate::specs::inner::StatementRules::loop_body))]
     pub(crate) fn while_rule(&self, tokens: &mut Tokens<'_>) -> Result<Ended, Refusal>
         ensures { Reads (within spec.while_rule self.now tokens.old) result tokens.new }
     {
@@ -70,7 +70,7 @@ impl<R: Inside> Statements<R> {
         )
     }
 
-    #[tactic(auto, unfolding(crate::specs::inner::ReadingStatements::do_while))]
+    #[tactic(auto, unfolding(crate::specs::inner::StatementRules::do_while))]
     pub(crate) fn do_while(&self, tokens: &mut Tokens<'_>) -> Result<Ended, Refusal>
         ensures { Reads (within spec.do_while self.now tokens.old) result tokens.new }
     {
@@ -88,7 +88,7 @@ impl<R: Inside> Statements<R> {
         )
     }
 
-    #[tactic(auto, unfolding(crate::specs::inner::ReadingStatements::for_rule, crate::specs::inner::ReadingStatements::loop_body))]
+    #[tactic(auto, unfolding(crate::specs::inner::StatementRules::for_rule, crate::specs::inner::StatementRules::loop_body))]
     pub(crate) fn for_rule(&self, tokens: &mut Tokens<'_>) -> Result<Ended, Refusal>
         ensures { Reads (within spec.for_rule self.now tokens.old) result tokens.new }
     {
@@ -108,7 +108,7 @@ impl<R: Inside> Statements<R> {
         finished(self.alloc(), tokens, kind, is_open)
     }
 
-    #[tactic(auto, unfolding(crate::specs::inner::ReadingStatements::foreach))]
+    #[tactic(auto, unfolding(crate::specs::inner::StatementRules::foreach))]
     pub(crate) fn foreach(&self, tokens: &mut Tokens<'_>) -> Result<Ended, Refusal>
         ensures { Reads (within spec.foreach self.now tokens.old) result tokens.new }
     {
@@ -131,7 +131,7 @@ impl<R: Inside> Statements<R> {
     }
 
     // A `foreach` behind its head.
-    #[tactic(auto, unfolding(crate::specs::inner::ReadingStatements::loop_body))]
+    #[tactic(auto, unfolding(crate::specs::inner::StatementRules::loop_body))]
     fn foreach_body(
         &self,
         tokens: &mut Tokens<'_>,

@@ -5,7 +5,7 @@ ghost use Rattle.dp_rules.specs.inner.Input.{Reads};
 ghost use Rattle.dp_parse.specs.Limits as limits;
 ghost use Rattle.dp_parse.specs.inner.Within as limited;
 ghost use Rattle.dp_parse.specs.inner.Within.{within};
-ghost use Rattle.dp_parse.specs.inner.ReadingStatements as spec;
+ghost use Rattle.dp_parse.specs.inner.StatementRules as spec;
 
 use crate::ended::{Body, Ended, stated, whole, with_body};
 use crate::grammar::Statements;
@@ -19,7 +19,7 @@ use dp_value::Items;
 use std::alloc::Global;
 use std::ops::ControlFlow;
 
-#[tactic(auto, unfolding(crate::specs::inner::ReadingStatements::empty))]
+#[tactic(auto, unfolding(crate::specs::inner::StatementRules::empty))]
 fn empty(alloc: Global, tokens: &mut Tokens<'_>) -> Result<Ended, Refusal>
     ensures { Reads (spec.empty tokens.old) result tokens.new }
 {
@@ -47,7 +47,7 @@ impl<R: Inside> Statements<R> {
     }
 
     /// Statements in so many loops, up to the closing brace.
-    #[tactic(auto, unfolding(crate::specs::inner::ReadingStatements::bodies))]
+    #[tactic(auto, unfolding(crate::specs::inner::StatementRules::bodies))]
     pub(crate) fn bodies(
         &self,
         tokens: &mut Tokens<'_>,
@@ -68,7 +68,7 @@ impl<R: Inside> Statements<R> {
     }
 
     // Statements in braces, in so many loops.
-    #[tactic(auto, unfolding(crate::specs::inner::ReadingStatements::braced))]
+    #[tactic(auto, unfolding(crate::specs::inner::StatementRules::braced))]
     fn braced(&self, tokens: &mut Tokens<'_>, loops: u32) -> Result<Ended, Refusal>
         requires some { 0 < self.now.0 }
         requires near { loops ≤ self.now.1 + 1 }
@@ -80,7 +80,7 @@ impl<R: Inside> Statements<R> {
     }
 
     /// The body of a head, in so many loops. Its braces are no block of their own.
-    #[tactic(auto, unfolding(crate::specs::inner::ReadingStatements::head_body, crate::specs::inner::ReadingStatements::on_its_line))]
+    #[tactic(auto, unfolding(crate::specs::inner::StatementRules::head_body, crate::specs::inner::StatementRules::on_its_line))]
     pub(crate) fn head_body(&self, tokens: &mut Tokens<'_>, loops: u32) -> Result<Body, Refusal>
         requires some { 0 < self.now.0 }
         requires near { loops ≤ self.now.1 + 1 }
@@ -94,7 +94,7 @@ impl<R: Inside> Statements<R> {
         self.body(tokens, loops)
     }
 
-    #[tactic(auto, unfolding(crate::specs::inner::ReadingStatements::perform))]
+    #[tactic(auto, unfolding(crate::specs::inner::StatementRules::perform))]
     fn perform(&self, tokens: &mut Tokens<'_>) -> Result<Ended, Refusal>
         ensures { Reads (within spec.perform self.now tokens.old) result tokens.new }
     {
@@ -103,7 +103,7 @@ impl<R: Inside> Statements<R> {
         whole(self.alloc(), tokens, StatementKind::Expression(value))
     }
 
-    #[tactic(auto, unfolding(crate::specs::inner::ReadingStatements::echo))]
+    #[tactic(auto, unfolding(crate::specs::inner::StatementRules::echo))]
     fn echo(&self, tokens: &mut Tokens<'_>) -> Result<Ended, Refusal>
         ensures { Reads (within spec.echo self.now tokens.old) result tokens.new }
     {
@@ -112,7 +112,7 @@ impl<R: Inside> Statements<R> {
         whole(self.alloc(), tokens, StatementKind::Echo(values))
     }
 
-    #[tactic(auto, unfolding(crate::specs::inner::ReadingStatements::block))]
+    #[tactic(auto, unfolding(crate::specs::inner::StatementRules::block))]
     fn block(&self, tokens: &mut Tokens<'_>) -> Result<Ended, Refusal>
         ensures { Reads (within spec.block self.now tokens.old) result tokens.new }
     {
@@ -120,7 +120,7 @@ impl<R: Inside> Statements<R> {
         self.braced(tokens, self.loops())
     }
 
-    #[tactic(auto, unfolding(crate::specs::inner::ReadingStatements::any_statement, crate::specs::inner::ReadingStatements::by_keyword))]
+    #[tactic(auto, unfolding(crate::specs::inner::StatementRules::any_statement, crate::specs::inner::StatementRules::by_keyword))]
     fn any_statement(&self, tokens: &mut Tokens<'_>) -> Result<Ended, Refusal>
         ensures { Reads (within spec.any_statement self.now tokens.old) result tokens.new }
     {
@@ -144,7 +144,7 @@ impl<R: Inside> Statements<R> {
     }
 
     // A statement with the line of its first token.
-    #[tactic(auto, unfolding(crate::specs::inner::ReadingStatements::on_its_line))]
+    #[tactic(auto, unfolding(crate::specs::inner::StatementRules::on_its_line))]
     fn on_its_line(&self, tokens: &mut Tokens<'_>) -> Result<Body, Refusal>
         ensures { Reads (spec.on_its_line (within spec.any_statement self.now) tokens.old) result tokens.new }
     {
@@ -155,7 +155,7 @@ impl<R: Inside> Statements<R> {
 }
 
 /// A statement, where this reads one level down.
-#[tactic(auto, unfolding(crate::specs::inner::ReadingStatements::statement))]
+#[tactic(auto, unfolding(crate::specs::inner::StatementRules::statement))]
 pub(crate) fn statement_over<R: Inside + Drop>(
     alloc: Global,
     tokens: &mut Tokens<'_>,

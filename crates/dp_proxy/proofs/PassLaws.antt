@@ -16,7 +16,7 @@ use Rattle.dp_proxy.specs.declared.passes.Passing.{Passing}
 use Rattle.dp_proxy.specs.declared.passes.Passing.TheVariants as passing
 use Rattle.dp_proxy.specs.Links.{brought, stream, handed, is_broken, told, passed, ends}
 use Rattle.dp_proxy.specs.Places.{BreaksAt}
-use Rattle.dp_proxy.specs.inner.Passing.{FollowBoth, IsBrokenAt, BrokenPlace}
+use Rattle.dp_proxy.specs.inner.Lanes.{FollowBoth, IsBrokenAt, BrokenPlace}
 use Rattle.dp_proxy.specs.inner.Acts.{Passes}
 
 -- ---- streams

@@ -15,8 +15,8 @@ use Rattle.dp_proxy.specs.declared.events.Event.{Event}
 use Rattle.dp_proxy.specs.declared.kept.Kept.{Kept}
 use Rattle.dp_proxy.specs.declared.kept.Kept.TheVariants as keep
 use Rattle.dp_proxy.specs.declared.kept.Step.{Step}
-use Rattle.dp_proxy.specs.Pasts.{Link, New, Past, Turn, turn, came, start, past_of}
-use Rattle.dp_proxy.specs.Standing.{Keeps, kept_at, IsKept, Stands, StandsAfter, session_in, IsSound, AreSound}
+use Rattle.dp_proxy.specs.Pasts.{Link, New, Past, Lead, lead, came, start, past_of}
+use Rattle.dp_proxy.specs.Invariant.{Keeps, kept_at, IsKept, Stands, StandsAfter, session_in, IsSound, AreSound}
 use Rattle.dp_proxy.specs.Steps.{Answers, AnswersAt, counted}
 use Rattle.dp_proxy.specs.inner.Acts.{Leads, Moves, LeavesOthers, IsOwn}
 
@@ -40,13 +40,13 @@ module _ (old new : Keeps) (e : Event) (step : Step) (others : (o : ℕ) → (e.
         subst (λ (j : List Entry). AnswersAt j ((past_of events).link e.link) e.act step.told) stands.journal
         leads.answers
 
-    abbrev led : Turn
-    led = turn (past_of events).journal ((past_of events).link e.link) e.act
+    abbrev led : Lead
+    led = lead (past_of events).journal ((past_of events).link e.link) e.act
 
-    moved : new.journal ≡ (turn old.journal ((past_of events).link e.link) e.act).journal
-        → IsKept step.kept (turn old.journal ((past_of events).link e.link) e.act).link → Stands new (events ++ e ∷ [])
+    moved : new.journal ≡ (lead old.journal ((past_of events).link e.link) e.act).journal
+        → IsKept step.kept (lead old.journal ((past_of events).link e.link) e.act).link → Stands new (events ++ e ∷ [])
     moved j k = record {
-      journal = j ∙ ap (λ (i : List Entry). (turn i ((past_of events).link e.link) e.act).journal) stands.journal
+      journal = j ∙ ap (λ (i : List Entry). (lead i ((past_of events).link e.link) e.act).journal) stands.journal
           ∙ ap (λ (p : Past). p.journal) (sym (past_push events e));
       links =
           λ o. subst (λ (p : Past). IsKept (kept_at new.links o) (p.link o)) (sym (past_push events e))
@@ -54,7 +54,7 @@ module _ (old new : Keeps) (e : Event) (step : Step) (others : (o : ℕ) → (e.
     } where
       kept_now : IsKept step.kept led.link
       kept_now =
-          subst (λ (i : List Entry). IsKept step.kept (turn i ((past_of events).link e.link) e.act).link) stands.journal
+          subst (λ (i : List Entry). IsKept step.kept (lead i ((past_of events).link e.link) e.act).link) stands.journal
           k
 
       other_way : (o : ℕ) → (o == e.link) ≡ false → (e.link == o) ≡ false

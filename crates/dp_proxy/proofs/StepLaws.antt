@@ -6,7 +6,7 @@ use Rattle.dp_proxy.specs.declared.kept.Kept.{Kept}
 use Rattle.dp_proxy.specs.declared.kept.Kept.TheVariants as keep
 use Rattle.dp_proxy.specs.declared.kept.Step.{Step}
 use Rattle.dp_proxy.specs.Pasts.{Link, past_of}
-use Rattle.dp_proxy.specs.Standing.{Keeps, kept_at, IsKept, Stands, StandsAfter, IsSound, AreSound}
+use Rattle.dp_proxy.specs.Invariant.{Keeps, kept_at, IsKept, Stands, StandsAfter, IsSound, AreSound}
 use Rattle.dp_proxy.specs.inner.Acts.{Leads, LeavesOthers, IsOwn}
 use Rattle.dp_proxy.proofs.ProxyLaws.{stands_after, sound_after, mid_others, mid_here, put_others, put_here, over_if, over_sound, over_own}
 

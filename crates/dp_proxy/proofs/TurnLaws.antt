@@ -14,7 +14,7 @@ use Rattle.dp_registry.specs.Names.{IsKey}
 use Rattle.dp_registry.specs.Verdicts.{admit_verdict, admit_reply_of, noted, reply_of, IsAnswer}
 use Rattle.dp_wire.specs.Received.{Received}
 use Rattle.dp_registry.proofs.Lists.{from_filter}
-use Rattle.dp_registry.proofs.Living.{still_lives, noted_lives}
+use Rattle.dp_registry.proofs.LiveSessions.{still_lives, noted_lives}
 use Rattle.dp_lanes.specs.declared.lane.Lane.{Lane}
 use Rattle.dp_lanes.specs.declared.lane.LaneKind.{LaneKind}
 use Rattle.dp_lanes.specs.declared.lane.LaneKind.TheVariants.{Up, Down}
@@ -34,45 +34,45 @@ use Rattle.dp_proxy.specs.declared.kept.Kept.TheVariants as keep
 use Rattle.dp_proxy.specs.declared.kept.Step.{Step}
 use Rattle.dp_proxy.specs.Calls.{call_of}
 use Rattle.dp_proxy.specs.Links.{passed, ends}
-use Rattle.dp_proxy.specs.Pasts.{Link, New, Asking, Settled, Joined, Ended, Refused, Turn, turn, quiet, question, listening, answered, opened, admitted, admission}
+use Rattle.dp_proxy.specs.Pasts.{Link, New, Asking, Settled, Joined, Ended, Refused, Lead, lead, quiet, question, listening, answered, opened, admitted, admission}
 use Rattle.dp_proxy.specs.Replies.{entry_of, verdict_on, reply_frame, registered, registered_by}
-use Rattle.dp_proxy.specs.Standing.{IsOver, IsKept, session_in}
+use Rattle.dp_proxy.specs.Invariant.{IsOver, IsKept, session_in}
 use Rattle.dp_proxy.specs.Steps.{ComesWithKey}
-use Rattle.dp_proxy.specs.inner.Passing.{FollowBoth}
+use Rattle.dp_proxy.specs.inner.Lanes.{FollowBoth}
 use Rattle.dp_proxy.specs.inner.Acts.{Hears, Passes, Leads, Moves, LeavesOthers, IsOwn}
 
 -- ---- rows
 
-pub ide_comes : (journal : List Entry) (host : List ℕ) → turn journal New (Ide host) ≡ quiet journal (Asking host [])
-unfolding turn
+pub ide_comes : (journal : List Entry) (host : List ℕ) → lead journal New (Ide host) ≡ quiet journal (Asking host [])
+unfolding lead
 ide_comes journal host = refl
 
 pub engine_comes : (journal : List Entry) (key : List ℕ) (verdict : Result Pass Refusal)
     → verdict ≡ admit_verdict journal key
-    → turn journal New (Engine key) ≡ opened journal key verdict
-unfolding turn
+    → lead journal New (Engine key) ≡ opened journal key verdict
+unfolding lead
 engine_comes journal key verdict e = ap (opened journal key) (sym e)
 
-pub given_before : (journal : List Entry) (bytes : List ℕ) → turn journal New (Given bytes) ≡ quiet journal New
-unfolding turn
+pub given_before : (journal : List Entry) (bytes : List ℕ) → lead journal New (Given bytes) ≡ quiet journal New
+unfolding lead
 given_before journal bytes = refl
 
-pub moved_before : (journal : List Entry) (bytes : List ℕ) → turn journal New (Moved bytes) ≡ quiet journal New
-unfolding turn
+pub moved_before : (journal : List Entry) (bytes : List ℕ) → lead journal New (Moved bytes) ≡ quiet journal New
+unfolding lead
 moved_before journal bytes = refl
 
-pub closed_before : (journal : List Entry) → turn journal New Closed ≡ quiet journal New
-unfolding turn
+pub closed_before : (journal : List Entry) → lead journal New Closed ≡ quiet journal New
+unfolding lead
 closed_before journal = refl
 
 pub asked_more : (journal : List Entry) (host heard : List ℕ) (act : Act) (link : Link) → question heard act ≡ None
     → listening host heard act ≡ link
-    → turn journal (Asking host heard) act ≡ quiet journal link
-unfolding turn
+    → lead journal (Asking host heard) act ≡ quiet journal link
+unfolding lead
 asked_more journal host heard act link none e =
     ap (λ q. answered journal host q (listening host heard act)) none ∙ ap (quiet journal) e
 
-abbrev pub settled : List Entry → List ℕ → List ℕ → Turn
+abbrev pub settled : List Entry → List ℕ → List ℕ → Lead
 settled journal host command = record {
   link = Settled host (reply_frame journal host command);
   journal = registered journal host command;
@@ -81,15 +81,15 @@ settled journal host command = record {
 
 pub asked_all : (journal : List Entry) (host heard : List ℕ) (act : Act) (command : List ℕ)
     → question heard act ≡ Some command
-    → turn journal (Asking host heard) act ≡ settled journal host command
-unfolding turn
+    → lead journal (Asking host heard) act ≡ settled journal host command
+unfolding lead
 asked_all journal host heard act command e = ap (λ q. answered journal host q (listening host heard act)) e
 
 module _ (journal : List Entry) (key : List ℕ) (pass : Pass) (acts : List Act) (act : Act) where
-  abbrev pub on : Turn
+  abbrev pub on : Lead
   on = record { link = Joined key pass (acts ++ act ∷ []); journal = journal; effect = passed acts act }
 
-  abbrev pub over : Turn
+  abbrev pub over : Lead
   over =
       record {
         link = Ended key pass acts;
@@ -98,17 +98,17 @@ module _ (journal : List Entry) (key : List ℕ) (pass : Pass) (acts : List Act)
         effect = passed acts act;
       }
 
-  pub joined_on : ends acts act ≡ false → turn journal (Joined key pass acts) act ≡ on
-  unfolding turn
+  pub joined_on : ends acts act ≡ false → lead journal (Joined key pass acts) act ≡ on
+  unfolding lead
   joined_on e = ap (λ t. if t then over else on) e
 
-  pub joined_over : ends acts act ≡ true → turn journal (Joined key pass acts) act ≡ over
-  unfolding turn
+  pub joined_over : ends acts act ≡ true → lead journal (Joined key pass acts) act ≡ over
+  unfolding lead
   joined_over e = ap (λ t. if t then over else on) e
 
 pub over_still : (journal : List Entry) (link : Link) (act : Act) → IsOver link
-    → turn journal link act ≡ quiet journal link
-unfolding turn
+    → lead journal link act ≡ quiet journal link
+unfolding lead
 over_still journal New act h = absurd h
 over_still journal (Asking host heard) act h = absurd h
 over_still journal (Settled host reply) act h = refl
@@ -163,7 +163,7 @@ new_is_own journal pass up down new = λ s e. inr (λ lives.
 pub none_is_own : (journal : List Entry) (kept after : Option Kept) → session_in after ≡ None → IsOwn journal kept after
 none_is_own journal kept after e = λ s f. let clash : None ≡ Some s = sym e ∙ f in absurd cc
 
--- ---- what one turn leads to
+-- ---- what one act leads to
 
 pub over_comes : (link : Link) (act : Act) → IsOver link → ComesWithKey link act
 over_comes New act h = absurd h
@@ -175,15 +175,15 @@ over_comes (Refused key why) act h = tt
 
 module _ (journal next : List Entry) (link : Link) (act : Act) where
   -- an effect
-  told_leads : (t : Turn) (kept : Option Kept) (effect : Effect) → turn journal link act ≡ t → ComesWithKey link act
+  told_leads : (t : Lead) (kept : Option Kept) (effect : Effect) → lead journal link act ≡ t → ComesWithKey link act
       → t.effect ≡ Some effect
       → next ≡ t.journal → IsKept kept t.link → Leads journal link act next (record { kept = kept; told = Ok effect })
   told_leads t kept effect e comes told noted is = record {
-    answers = (comes, ap (λ (u : Turn). u.effect) e ∙ told);
-    moves = (noted ∙ sym (ap (λ (u : Turn). u.journal) e), subst (λ (u : Turn). IsKept kept u.link) (sym e) is);
+    answers = (comes, ap (λ (u : Lead). u.effect) e ∙ told);
+    moves = (noted ∙ sym (ap (λ (u : Lead). u.journal) e), subst (λ (u : Lead). IsKept kept u.link) (sym e) is);
   }
 
-  pub quiet_leads : (after : Link) (kept : Option Kept) → turn journal link act ≡ quiet journal after
+  pub quiet_leads : (after : Link) (kept : Option Kept) → lead journal link act ≡ quiet journal after
       → ComesWithKey link act → next ≡ journal → IsKept kept after
       → Leads journal link act next (record { kept = kept; told = Ok Nothing })
   quiet_leads after kept e comes same is = told_leads (quiet journal after) kept Nothing e comes refl same is
@@ -271,10 +271,10 @@ module _ (journal next : List Entry) (key : List ℕ) (pass : Pass) (acts : List
   broken_leads offset p put =
       let e = joined_over journal key pass acts act p.1 in
       record {
-        answers = (tt, ap (λ (u : Turn). u.effect) e ∙ p.0, p.2);
+        answers = (tt, ap (λ (u : Lead). u.effect) e ∙ p.0, p.2);
         moves = (
-          put ∙ sym (ap (λ (u : Turn). u.journal) e),
-          subst (λ (u : Turn). IsKept (Some keep.Over) u.link)
+          put ∙ sym (ap (λ (u : Lead). u.journal) e),
+          subst (λ (u : Lead). IsKept (Some keep.Over) u.link)
               (sym e) tt,
         );
       }

@@ -7,5 +7,5 @@ pub mod Pasts
 pub mod Inits
 pub mod Places
 pub mod Steps
-pub mod Standing
+pub mod Invariant
 pub mod inner

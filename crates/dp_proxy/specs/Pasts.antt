@@ -29,12 +29,12 @@ pub data Link : Type 0 where
 
 -- What an act leads to: what is known of its link then, the journal, and the effect; none where the
 -- link is broken.
-pub record Turn : Type 0 where
+pub record Lead : Type 0 where
   pub link : Link
   pub journal : List Entry
   pub effect : Option Effect
 
-abbrev pub quiet : List Entry → Link → Turn
+abbrev pub quiet : List Entry → Link → Lead
 quiet journal link = record { link = link; journal = journal; effect = Some Nothing }
 
 -- ---- an IDE that asks
@@ -52,7 +52,7 @@ listening host heard (Given bytes) = Asking host (heard ++ bytes)
 listening host heard Closed = Settled host []
 listening host heard act = Asking host heard
 
-abbrev pub answered : List Entry → List ℕ → Option (List ℕ) → Link → Turn
+abbrev pub answered : List Entry → List ℕ → Option (List ℕ) → Link → Lead
 answered journal host None link = quiet journal link
 answered journal host (Some command) link = record {
   link = Settled host (reply_frame journal host command);
@@ -70,14 +70,14 @@ abbrev pub admission : Result Pass Refusal → Effect
 admission (Ok pass) = Admitted pass.session pass.host pass.port
 admission (Err why) = Turned why
 
-abbrev pub opened : List Entry → List ℕ → Result Pass Refusal → Turn
+abbrev pub opened : List Entry → List ℕ → Result Pass Refusal → Lead
 opened journal key verdict = record {
   link = admitted key verdict;
   journal = noted journal (λ reply. entry.Admit key reply) (admit_reply_of verdict);
   effect = Some (admission verdict);
 }
 
-abbrev pub carried : List Entry → List ℕ → Pass → List Act → Act → Turn
+abbrev pub carried : List Entry → List ℕ → Pass → List Act → Act → Lead
 carried journal key pass acts act =
     if ends acts act
     then record {
@@ -93,16 +93,16 @@ carried journal key pass acts act =
 -- ---- events
 
 -- what an act on a link leads to, where so much is known of it
-unfoldable pub turn : List Entry → Link → Act → Turn
-turn journal New (Ide host) = quiet journal (Asking host [])
-turn journal New (Engine key) = opened journal key (admit_verdict journal key)
-turn journal New act = quiet journal New
-turn journal (Asking host heard) act =
+unfoldable pub lead : List Entry → Link → Act → Lead
+lead journal New (Ide host) = quiet journal (Asking host [])
+lead journal New (Engine key) = opened journal key (admit_verdict journal key)
+lead journal New act = quiet journal New
+lead journal (Asking host heard) act =
     answered journal host (question heard act) (listening host heard act)
-turn journal (Settled host reply) act = quiet journal (Settled host reply)
-turn journal (Joined key pass acts) act = carried journal key pass acts act
-turn journal (Ended key pass acts) act = quiet journal (Ended key pass acts)
-turn journal (Refused key why) act = quiet journal (Refused key why)
+lead journal (Settled host reply) act = quiet journal (Settled host reply)
+lead journal (Joined key pass acts) act = carried journal key pass acts act
+lead journal (Ended key pass acts) act = quiet journal (Ended key pass acts)
+lead journal (Refused key why) act = quiet journal (Refused key why)
 
 pub record Past : Type 0 where
   pub journal : List Entry
@@ -111,14 +111,14 @@ pub record Past : Type 0 where
 abbrev pub start : Past
 start = record { journal = []; link = λ number. New }
 
-abbrev pub turn_at : Past → ℕ → Act → Turn
-turn_at past number act = turn past.journal (past.link number) act
+abbrev pub lead_at : Past → ℕ → Act → Lead
+lead_at past number act = lead past.journal (past.link number) act
 
 -- an act changes what is known of its own link, and the journal
 abbrev pub came : Past → ℕ → Act → Past
 came past number act = record {
-  journal = (turn_at past number act).journal;
-  link = λ other. if other == number then (turn_at past number act).link else past.link other;
+  journal = (lead_at past number act).journal;
+  link = λ other. if other == number then (lead_at past number act).link else past.link other;
 }
 
 -- what has come of these events

@@ -9,7 +9,7 @@ use Rattle.dp_proxy.specs.declared.events.Event.{Event}
 use Rattle.dp_proxy.specs.declared.errors.ProxyError.{ProxyError}
 use Rattle.dp_proxy.specs.declared.errors.ProxyError.TheVariants.{BadInit, BadFrame, Memory}
 use Rattle.dp_proxy.specs.Places.{BreaksAt}
-use Rattle.dp_proxy.specs.Pasts.{Link, New, Joined, Past, turn}
+use Rattle.dp_proxy.specs.Pasts.{Link, New, Joined, Past, lead}
 
 -- the condition of a step: an IDE has a host
 abbrev pub HasHost : Act → Type 0
@@ -30,10 +30,10 @@ acts_with link act = []
 -- is reported so; a link is broken exactly where its place is reported.
 abbrev pub AnswersAt : List Entry → Link → Act → Result Effect ProxyError → Type 0
 AnswersAt journal link act (Ok effect) =
-    ComesWithKey link act × ((turn journal link act).effect ≡ Some effect)
+    ComesWithKey link act × ((lead journal link act).effect ≡ Some effect)
 AnswersAt journal link act (Err BadInit) = ComesWithKey link act → ⊥
 AnswersAt journal link act (Err (BadFrame offset)) =
-    ComesWithKey link act × ((turn journal link act).effect ≡ None)
+    ComesWithKey link act × ((lead journal link act).effect ≡ None)
     × BreaksAt (acts_with link act) offset
 AnswersAt journal link act (Err Memory) = Unit {0}
 

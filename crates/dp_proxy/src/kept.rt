@@ -1,6 +1,6 @@
 //! What is kept of each link.
 ghost use Rattle.std.specs.Prelude.{◌≡◌, [], ℕ, if◌then◌else◌, ◌==◌, ◌&&◌, Some, None, OnOk, OnErr, is_some};
-ghost use Rattle.dp_proxy.specs.Standing.{kept_at};
+ghost use Rattle.dp_proxy.specs.Invariant.{kept_at};
 ghost use Rattle.dp_proxy.specs.declared.kept.Kept.TheVariants as keep;
 
 use crate::errors::ProxyError;

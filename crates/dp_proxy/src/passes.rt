@@ -2,7 +2,7 @@
 ghost use Rattle.std.specs.Prelude.{[], ◌∷◌, ◌++◌, List, IfOk};
 ghost use Rattle.dp_proxy.specs.declared.events.Act.{Act as OneAct};
 ghost use Rattle.dp_proxy.specs.declared.events.Act.TheVariants as acted;
-ghost use Rattle.dp_proxy.specs.inner.Passing.{BrokenPlace, FollowBoth};
+ghost use Rattle.dp_proxy.specs.inner.Lanes.{BrokenPlace, FollowBoth};
 ghost use Rattle.dp_proxy.specs.inner.Acts.{Passes};
 
 use crate::events::{Act, Effect};

@@ -2,7 +2,7 @@
 ghost use Rattle.std.specs.Prelude.{[], List};
 ghost use Rattle.dp_proxy.specs.declared.events.Event.{Event as Came};
 ghost use Rattle.dp_proxy.specs.Pasts.{past_of};
-ghost use Rattle.dp_proxy.specs.Standing.{Stands, StandsAfter};
+ghost use Rattle.dp_proxy.specs.Invariant.{Stands, StandsAfter};
 ghost use Rattle.dp_proxy.specs.Steps.{Answers, HasHost};
 
 use crate::errors::ProxyError;
@@ -23,7 +23,7 @@ pub struct Proxy {
 }
 
 impl Model for Proxy {
-    ghost use Rattle.dp_proxy.specs.Standing.{AreSound, Keeps};
+    ghost use Rattle.dp_proxy.specs.Invariant.{AreSound, Keeps};
 
     ghost Value = { Keeps };
 

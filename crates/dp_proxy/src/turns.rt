@@ -12,9 +12,9 @@ ghost use Rattle.dp_proxy.specs.declared.kept.Kept.TheVariants as keep;
 ghost use Rattle.dp_proxy.specs.Pasts.{Link};
 ghost use Rattle.dp_proxy.specs.Pasts as pasts;
 ghost use Rattle.dp_proxy.specs.Replies.{reply_frame, registered};
-ghost use Rattle.dp_proxy.specs.Standing.{IsKept, IsSound};
+ghost use Rattle.dp_proxy.specs.Invariant.{IsKept, IsSound};
 ghost use Rattle.dp_proxy.specs.Steps.{HasHost};
-ghost use Rattle.dp_proxy.specs.inner.Passing.{FollowBoth};
+ghost use Rattle.dp_proxy.specs.inner.Lanes.{FollowBoth};
 ghost use Rattle.dp_proxy.specs.inner.Acts.{Leads, LeavesOthers, IsOwn, Welcomes};
 
 use crate::calls::is_key;

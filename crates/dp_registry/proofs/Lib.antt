@@ -1,6 +1,6 @@
 pub mod Keys
 pub mod Lists
 pub mod Appends
-pub mod Fitting
-pub mod Keeping
-pub mod Living
+pub mod FitEntries
+pub mod JournalLaws
+pub mod LiveSessions

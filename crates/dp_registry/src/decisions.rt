@@ -14,7 +14,7 @@ impl Registry {
     ghost use Rattle.dp_registry.specs.Verdicts.{is_full, is_crowded, register_verdict, stop_verdict, admit_verdict};
     ghost use Rattle.dp_registry.specs.Verdicts.{reply_of, admit_reply_of, noted, IsAnswer};
 
-    #[tactic(auto, using(crate::proofs::Fitting::registers, crate::proofs::Fitting::register_free))]
+    #[tactic(auto, using(crate::proofs::FitEntries::registers, crate::proofs::FitEntries::register_free))]
     pub(crate) fn register_owned(
         &mut self,
         host: Bytes,
@@ -50,7 +50,7 @@ impl Registry {
         }
     }
 
-    #[tactic(auto, using(crate::proofs::Fitting::stops, crate::proofs::Fitting::stop_free))]
+    #[tactic(auto, using(crate::proofs::FitEntries::stops, crate::proofs::FitEntries::stop_free))]
     pub(crate) fn stop_owned(&mut self, host: Bytes, key: Bytes) -> Result<(), Refusal>
         requires host { IsHost host }
         requires key { IsKey key }
@@ -82,7 +82,7 @@ impl Registry {
         }
     }
 
-    #[tactic(auto, using(crate::proofs::Fitting::admits, crate::proofs::Fitting::admit_free, crate::proofs::Fitting::not_full))]
+    #[tactic(auto, using(crate::proofs::FitEntries::admits, crate::proofs::FitEntries::admit_free, crate::proofs::FitEntries::not_full))]
     pub(crate) fn admit_owned(&mut self, key: Bytes) -> Result<Pass, Refusal>
         requires key { IsKey key }
         requires room { is_crowded self.old ≡ false }

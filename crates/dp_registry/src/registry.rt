@@ -46,7 +46,7 @@ impl Registry {
     ghost use Rattle.dp_registry.specs.Verdicts.{admit_reply_of, noted, IsAnswer};
 
     /// The registry before any call. Takes no memory.
-    #[tactic(auto, using(crate::proofs::Keeping::kept_new))]
+    #[tactic(auto, using(crate::proofs::JournalLaws::kept_new))]
     pub fn new(alloc: Global) -> Registry
         ensures { result ≡ [] }
     {

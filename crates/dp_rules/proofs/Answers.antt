@@ -8,7 +8,7 @@ use Rattle.dp_grammar.specs.Rules.{head as first}
 use Rattle.dp_grammar.proofs.Answers as all
 use Rattle.dp_rules.specs.declared.terminal.Terminal.{Terminal}
 use Rattle.dp_rules.specs.declared.terminal.Terminal.TheVariants as terminal
-use Rattle.dp_rules.specs.Terminals.{terminal_of, next_sign, same_terminal, is, head}
+use Rattle.dp_rules.specs.Terminals.{terminal_of, next_terminal, same_terminal, is, head}
 use Rattle.dp_rules.specs.Lines.{line_of, next_line}
 use Rattle.dp_rules.specs.inner.Input.{Outcome, Reader, and_then, gives, one, enter}
 use Rattle.dp_rules.specs.Rules.{Rule, line_at, Mark, Without, OnLine}
@@ -47,10 +47,10 @@ Anything a s = true
 
 -- a test of sorts, of what comes next
 abbrev pub at : (Terminal → Bool) → Option Token → Bool
-at test o = test (next_sign o)
+at test o = test (next_terminal o)
 
 abbrev pub ends : {A : Type 0} → Stop A → A → Option Token → Bool
-ends stop a o = stop a (next_sign o)
+ends stop a o = stop a (next_terminal o)
 
 abbrev pub MarkAt : {L : Type 0} → Terminal → Rules L ℕ
 MarkAt s = λ _. Mark s
@@ -128,7 +128,7 @@ online_starts rule test starts m text a h = starts h.first.line m text a h.spell
 
 pub starts_in_more : {L A : Type 0} (rule : Rules L A) (test wider : Terminal → Bool)
     → ((s : Terminal) → test s ≡ true → wider s ≡ true) → StartsIn rule test → StartsIn rule wider
-starts_in_more rule test wider more = all.starts_in_more rule (at test) (at wider) (λ o. more (next_sign o))
+starts_in_more rule test wider more = all.starts_in_more rule (at test) (at wider) (λ o. more (next_terminal o))
 
 pub or_starts : {L A : Type 0} (first second : Rules L A) (s t : Terminal → Bool) → StartsIn first s → StartsIn second t
     → StartsIn (EitherAt first second) (λ x. s x || t x)
@@ -137,17 +137,17 @@ or_starts one other s t = all.or_starts one other (at s) (at t)
 pub starts_apart : {L A : Type 0} (rule : Rules L A) (stop : Stop A) (test other : Terminal → Bool)
     → ((s : Terminal) → other s ≡ true → test s ≡ false) → StartsIn rule other → Apart rule stop test
 starts_apart rule stop test other apart =
-    all.starts_apart rule (ends stop) (at test) (at other) (λ o. apart (next_sign o))
+    all.starts_apart rule (ends stop) (at test) (at other) (λ o. apart (next_terminal o))
 
 pub gives_apart : {L A : Type 0} (a : A) (stop : Stop A) (test : Terminal → Bool)
     → ((s : Terminal) → stop a s ≡ true → test s ≡ false) → Apart {L = L} (GivesAt a) stop test
-gives_apart a stop test apart = all.gives_apart a (ends stop) (at test) (λ o. apart (next_sign o))
+gives_apart a stop test apart = all.gives_apart a (ends stop) (at test) (λ o. apart (next_terminal o))
 
 pub made_apart : {L A B : Type 0} (rule : Rules L A) (f : A → B) (rule_stop : Stop A) (stop : Stop B)
     (test : Terminal → Bool) → ((a : A) (s : Terminal) → stop (f a) s ≡ true → rule_stop a s ≡ true)
     → Apart rule rule_stop test → Apart (MadeAt rule f) stop test
 made_apart rule f rule_stop stop test weaker =
-    all.made_apart rule f (ends rule_stop) (ends stop) (at test) (λ a o. weaker a (next_sign o))
+    all.made_apart rule f (ends rule_stop) (ends stop) (at test) (λ a o. weaker a (next_terminal o))
 
 pub either_apart : {L A : Type 0} (first second : Rules L A) (stop : Stop A) (test : Terminal → Bool)
     → Apart first stop test → Apart second stop test → Apart (EitherAt first second) stop test
@@ -163,12 +163,13 @@ pub starts_follow : {L A B : Type 0} (first_stop : Stop A) (second : A → Rules
     → ((a : A) → StartsIn (second a) test)
     → Follows first_stop second stop
 starts_follow first_stop second stop test stops =
-    all.starts_follow (ends first_stop) second (ends stop) (at test) (λ a o. stops a (next_sign o))
+    all.starts_follow (ends first_stop) second (ends stop) (at test) (λ a o. stops a (next_terminal o))
 
 pub gives_follow : {L A B : Type 0} (f : A → B) (first_stop : Stop A) (stop : Stop B)
     → ((a : A) (s : Terminal) → stop (f a) s ≡ true → first_stop a s ≡ true)
     → Follows {L = L} first_stop (λ a. GivesAt (f a)) stop
-gives_follow f first_stop stop weaker = all.gives_follow f (ends first_stop) (ends stop) (λ a o. weaker a (next_sign o))
+gives_follow f first_stop stop weaker = all.gives_follow f (ends first_stop) (ends stop)
+    (λ a o. weaker a (next_terminal o))
 
 pub either_follows : {L A B : Type 0} (first_stop : Stop A) (one other : A → Rules L B) (stop : Stop B)
     → Follows first_stop one stop → Follows first_stop other stop
@@ -180,7 +181,7 @@ module _ {L : Type 0} (Above : L → L → Type 0) (same_level : (l : L) → Abo
       → ((m : L) (us : List Token) → head us ≡ head ts → (a : A) (q : List Token) → Begins rule stop m us a q → ⊥)
       → IsRefused Above rule stop level ts false (length ts)
   refused_here rule stop level ts none =
-      all.refused_here Above same_level rule (ends stop) level ts (λ m us e. none m us (ap next_sign e))
+      all.refused_here Above same_level rule (ends stop) level ts (λ m us e. none m us (ap next_terminal e))
 
   -- ---- one token, and none
 
@@ -212,7 +213,7 @@ module _ {L : Type 0} (Above : L → L → Type 0) (same_level : (l : L) → Abo
       → (o : Outcome A) → Answers Above rule rule_stop level ts o
       → Answers Above (MadeAt rule f) stop level ts (and_then o (λ a. gives (f a)))
   made_answers rule f rule_stop stop level ts weaker =
-      all.made_answers Above same_level rule f (ends rule_stop) (ends stop) level ts (λ a o. weaker a (next_sign o))
+      all.made_answers Above same_level rule f (ends rule_stop) (ends stop) level ts (λ a o. weaker a (next_terminal o))
 
   -- ---- the answers of one rule carried to another
 
@@ -223,7 +224,7 @@ module _ {L : Type 0} (Above : L → L → Type 0) (same_level : (l : L) → Abo
       → (o : Outcome A) → Answers Above narrow narrow_stop level ts o → Answers Above wide stop level ts o
   carried narrow wide narrow_stop stop level ts to fro =
       all.carried Above same_level narrow wide (ends narrow_stop) (ends stop) level ts to
-      (λ m us e. fro m us (ap next_sign e))
+      (λ m us e. fro m us (ap next_terminal e))
 
   pub equal_answers : {A : Type 0} (rule other : Rules L A) (stop : Stop A) (level : L) (ts : List Token)
       → ((m : L) (text : List Token) (a : A) → rule m text a → other m text a)
@@ -235,7 +236,8 @@ module _ {L : Type 0} (Above : L → L → Type 0) (same_level : (l : L) → Abo
       → ((a : A) (s : Terminal) → stricter a s ≡ true → stop a s ≡ true)
       → (o : Outcome A) → Answers Above rule stop level ts o → Answers Above rule stricter level ts o
   stricter_answers rule stop stricter level ts weaker =
-      all.stricter_answers Above same_level rule (ends stop) (ends stricter) level ts (λ a o. weaker a (next_sign o))
+      all.stricter_answers Above same_level rule (ends stop) (ends stricter) level ts
+      (λ a o. weaker a (next_terminal o))
 
   -- ---- one rule or the other, by the next token
 
@@ -275,7 +277,7 @@ module _ {L : Type 0} (Above : L → L → Type 0) (same_level : (l : L) → Abo
       (Ok (None, ts)))
   perhaps_answers rule test rule_stop stop level ts starts weaker apart =
       all.perhaps_answers Above same_level rule (at test) (ends rule_stop) (ends stop) level ts starts
-      (λ a o. weaker a (next_sign o)) (λ o. apart (next_sign o))
+      (λ a o. weaker a (next_terminal o)) (λ o. apart (next_terminal o))
 
   -- ---- the rule under a condition
 

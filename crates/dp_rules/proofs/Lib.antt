@@ -4,6 +4,6 @@ pub mod Loops
 pub mod Readers
 pub mod ListAnswers
 pub mod More
-pub mod Taking
+pub mod TakenTokens
 pub mod Turns
 pub mod Verdicts

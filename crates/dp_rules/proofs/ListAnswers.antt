@@ -9,7 +9,7 @@ use Rattle.dp_rules.specs.Terminals.{terminal_of, same_terminal, is, head}
 use Rattle.dp_rules.specs.inner.Input.{Reader, and_then, made, mark, closed, ◌>>◌}
 use Rattle.dp_rules.specs.Rules.{Rule, Joined, Made, Mark, Perhaps}
 use Rattle.dp_rules.specs.Lists.{NextItem, ItemsUpTo, PlainItems, SomeItems, NoItems, AnyPlainItems, AnyItems}
-use Rattle.dp_rules.specs.inner.ReadingLists.{next_item, last_item, plain_step, behind_comma, comma_step, plain_items, some_items, no_items, any_plain_items, any_items}
+use Rattle.dp_rules.specs.inner.ListReaders.{next_item, last_item, plain_step, behind_comma, comma_step, plain_items, some_items, no_items, any_plain_items, any_items}
 use Rattle.dp_rules.proofs.Terminals.{or_left, or_right, mark_passes, mark_fails, mark_apart, mark_of}
 use Rattle.dp_rules.proofs.Answers.{Rules, Stop, Anything, JoinedAt, EitherAt, MarkAt, MadeAt, ClosedAt, StepAt, Answers, Follows, Can, GoesOn, StartsIn, Apart, give, given, behind, mark_starts, joined_starts, made_starts, either_starts, starts_in_more, starts_apart, anything_follows, starts_follow, mark_answers, joined_answers, made_answers, equal_answers, either_answers}
 use Rattle.dp_rules.proofs.Loops.{step_stop, closed_now, closed_follows, closed_goes_on, closed_answers}

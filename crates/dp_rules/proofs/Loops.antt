@@ -6,9 +6,9 @@ use Rattle.dp_lexer.specs.declared.token.Token.{Token}
 use Rattle.dp_grammar.proofs.Answers as theory
 use Rattle.dp_grammar.proofs.Loops as all
 use Rattle.dp_rules.specs.declared.terminal.Terminal.{Terminal}
-use Rattle.dp_rules.specs.Terminals.{next_sign, head}
+use Rattle.dp_rules.specs.Terminals.{next_terminal, head}
 use Rattle.dp_rules.specs.inner.Input.{Outcome, Reader, and_then, gives, until}
-use Rattle.dp_rules.specs.inner.ReadingLists.{many}
+use Rattle.dp_rules.specs.inner.ListReaders.{many}
 use Rattle.dp_rules.proofs.Answers.{Rules, Stop, at, ends, ClosedAt, StepAt, ManyAt, Answers, Follows, GoesOn, StartsIn, Apart}
 pub use Rattle.dp_grammar.proofs.Loops.{closed_now, closed_goes_on, many_none}
 
@@ -88,5 +88,5 @@ module _ {L A : Type 0} (rule : Rules L A) where
     unfolding many
     many_answers =
         all.many_answers rule Above same_level (at test) (ends piece_stop) (ends stop) level piece starts
-        (λ a o. before_next a (next_sign o)) (λ all_so_far a o. at_end all_so_far a (next_sign o))
-        (λ all_so_far o. apart all_so_far (next_sign o)) reads
+        (λ a o. before_next a (next_terminal o)) (λ all_so_far a o. at_end all_so_far a (next_terminal o))
+        (λ all_so_far o. apart all_so_far (next_terminal o)) reads

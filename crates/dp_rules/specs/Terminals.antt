@@ -161,10 +161,10 @@ abbrev pub is : Terminal → Terminal → Bool
 is a b = same_terminal b a
 
 -- what sort of token this is, or the end
-abbrev pub next_sign : Option Token → Terminal
-next_sign None = terminal.End
-next_sign (Some t) = terminal_of t.kind
+abbrev pub next_terminal : Option Token → Terminal
+next_terminal None = terminal.End
+next_terminal (Some t) = terminal_of t.kind
 
 -- what sort of token comes next
 abbrev pub head : List Token → Terminal
-head ts = next_sign (first ts)
+head ts = next_terminal (first ts)

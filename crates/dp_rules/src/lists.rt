@@ -3,7 +3,7 @@
 ghost use Rattle.std.specs.Prelude.{◌≡◌, ◌++◌, ◌∷◌, [], IfOk};
 ghost use Rattle.dp_rules.specs.inner.Input.{Reader, Reads, closed};
 ghost use Rattle.dp_rules.specs.Terminals as terminals;
-ghost use Rattle.dp_rules.specs.inner.ReadingLists as spec;
+ghost use Rattle.dp_rules.specs.inner.ListReaders as spec;
 
 use crate::cursor::Tokens;
 use crate::terminal::Terminal;
@@ -77,7 +77,7 @@ fn comma_step<T: Drop, P: Piece<T>>(
 }
 
 /// One item or more with commas between them, possibly one behind the last, and what closes them.
-#[tactic(auto, unfolding(crate::specs::inner::ReadingLists::some_items))]
+#[tactic(auto, unfolding(crate::specs::inner::ListReaders::some_items))]
 pub fn some_items<T: Drop, P: Piece<T>>(
     alloc: Global,
     tokens: &mut Tokens<'_>,
@@ -111,7 +111,7 @@ fn comma_turns<T: Drop, P: Piece<T>>(
 }
 
 /// Any number of items with commas between them, possibly one behind the last, and what closes them.
-#[tactic(auto, unfolding(crate::specs::inner::ReadingLists::any_items))]
+#[tactic(auto, unfolding(crate::specs::inner::ListReaders::any_items))]
 pub fn any_items<T: Drop, P: Piece<T>>(
     alloc: Global,
     tokens: &mut Tokens<'_>,
@@ -166,7 +166,7 @@ fn plain_turns<T: Drop, P: Piece<T>>(
 }
 
 /// One item or more with commas between them, and what closes them.
-#[tactic(auto, unfolding(crate::specs::inner::ReadingLists::plain_items))]
+#[tactic(auto, unfolding(crate::specs::inner::ListReaders::plain_items))]
 pub fn plain_items<T: Drop, P: Piece<T>>(
     alloc: Global,
     tokens: &mut Tokens<'_>,
@@ -181,7 +181,7 @@ pub fn plain_items<T: Drop, P: Piece<T>>(
 }
 
 /// Any number of items with commas between them, and what closes them.
-#[tactic(auto, unfolding(crate::specs::inner::ReadingLists::any_plain_items))]
+#[tactic(auto, unfolding(crate::specs::inner::ListReaders::any_plain_items))]
 pub fn any_plain_items<T: Drop, P: Piece<T>>(
     alloc: Global,
     tokens: &mut Tokens<'_>,
@@ -199,7 +199,7 @@ pub fn any_plain_items<T: Drop, P: Piece<T>>(
 }
 
 /// Any number of pieces, each where a token of this sort comes next.
-#[tactic(auto, unfolding(crate::specs::inner::ReadingLists::many))]
+#[tactic(auto, unfolding(crate::specs::inner::ListReaders::many))]
 pub fn many<T: Drop, P: Piece<T>>(
     alloc: Global,
     tokens: &mut Tokens<'_>,

@@ -9,8 +9,8 @@ use Rattle.std.proofs.lemmas.List.{length-map, length-take, get_or-map, map-appe
 use Rattle.std.proofs.lemmas.List.Elements.{All-push}
 use Rattle.dp_outside.specs.Changes.{Change}
 use Rattle.dp_outside.specs.Files.{Fetches, Lacks}
-use Rattle.dp_outside.specs.Telling.{grown}
-use Rattle.dp_run.proofs.Growing.{grown_again}
+use Rattle.dp_outside.specs.Reports.{grown}
+use Rattle.dp_run.proofs.GrownNames.{grown_again}
 use Rattle.dp_bundle.specs.Bundles.{Given, AreForBundle, IsAnswer, Makes, MakesFrom}
 use Rattle.dp_tree.specs.FileNames.{AreFileNames, file_limit}
 use Rattle.dp_tree.specs.declared.bundle.BundleFile.{BundleFile}

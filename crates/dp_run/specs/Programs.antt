@@ -5,7 +5,7 @@ use Rattle.std.specs.Prelude.{take, All, get_or, Option, Result, Ok, Err, IsSome
 use Rattle.std.specs.Prelude.{MatchResult, ⊤}
 use Rattle.dp_outside.specs.Causes.{Rose}
 use Rattle.dp_outside.specs.Files.{Fetches, Lacks}
-use Rattle.dp_outside.specs.Telling.{grown}
+use Rattle.dp_outside.specs.Reports.{grown}
 use Rattle.dp_bundle.specs.Bundles.{Given, Makes}
 use Rattle.dp_tree.specs.FileNames.{file_limit}
 use Rattle.dp_tree.specs.declared.bundle.Bundle.{Bundle}

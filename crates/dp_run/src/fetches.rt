@@ -2,7 +2,7 @@
 
 ghost use Rattle.std.specs.Prelude.{◌≡◌, ◌≤◌, ◌<◌, ◌++◌, ◌∷◌, [], length, map, string_bytes, IfOk, IfErr, OnOk};
 ghost use Rattle.dp_outside.specs.Files.{Fetches};
-ghost use Rattle.dp_outside.specs.Telling.{grown};
+ghost use Rattle.dp_outside.specs.Reports.{grown};
 ghost use Rattle.dp_tree.specs.FileNames.{file_limit};
 ghost use Rattle.dp_run.specs.Programs.{AreFetched, Asks, IsUnread, NoProgram};
 ghost use Rattle.dp_run.specs.inner.Steps.{FetchCaused, IsNext};

@@ -11,9 +11,9 @@ use Rattle.dp_serving.specs.declared.link.Fault.TheVariants.{Write, Out, Memory}
 use Rattle.dp_serving.specs.inner.Exchanges.{Reached, CutsAnswer, CutsShort, OpenFault, Conversation}
 use Rattle.dp_serving.specs.declared.responder.Answer.{Answer}
 use Rattle.dp_serving.specs.Folds.{Reply, replies, reply_of}
-use Rattle.dp_serving.specs.Serving.{CutBy, IsCut, IsLeftIn}
+use Rattle.dp_serving.specs.Service.{CutBy, IsCut, IsLeftIn}
 use Rattle.dp_serving.proofs.FrontLaws.{front_none, front_after}
-use Rattle.dp_serving.proofs.ServingLaws.{Joins, replies_join, replies_one, stands_all, talk_fed}
+use Rattle.dp_serving.proofs.ServiceLaws.{Joins, replies_join, replies_one, stands_all, talk_fed}
 
 module _ {S E X Y : Type 0} (step : S → List ℕ → Reply S E) (told : X → Option (List ℕ)) (faults : X → ℕ)
     (prints : Y → Option (List ℕ)) (fails : Y → ℕ) where

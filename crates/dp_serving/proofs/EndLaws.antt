@@ -7,11 +7,11 @@ use Rattle.dp_wire.specs.Frames.{IsCommand, command_frame, commands_in, rest_of,
 use Rattle.dp_wire.proofs.SplitLaws.{no_frame_begins, one_split_lem, commands_split}
 use Rattle.dp_serving.specs.declared.link.SessionOver.{SessionOver}
 use Rattle.dp_serving.specs.declared.link.SessionOver.TheVariants.{Ended, LinkEnd, ReadFault, BadCommandFrame, ByteLimit}
-use Rattle.dp_serving.specs.inner.Exchanges.{Stands, Converses}
+use Rattle.dp_serving.specs.inner.Exchanges.{HasTaken, Converses}
 use Rattle.dp_serving.specs.Folds.{Reply, replies}
 use Rattle.dp_serving.specs.Growth.{served}
-use Rattle.dp_serving.specs.Serving.{EndsBy, IsReadUpTo, IsServed, piece_limit}
-use Rattle.dp_serving.proofs.ServingLaws.{followed_over, replies_append, stands_all}
+use Rattle.dp_serving.specs.Service.{EndsBy, IsReadUpTo, IsServed, piece_limit}
+use Rattle.dp_serving.proofs.ServiceLaws.{followed_over, replies_append, stands_all}
 
 abbrev NoMore : List ℕ → Type 0
 NoMore held = (text more : List ℕ) → IsCommand text → held ≡ command_frame text ++ more → ⊥
@@ -42,7 +42,7 @@ no_more (BadCommandFrame offset) ended held read source h = inr (h.0, no_more_re
 no_more ByteLimit ended held read source h = inr (h.0, no_more_partial held h.1)
 
 module _ {S E : Type 0} (step : S → List ℕ → Reply S E) (start : S) (read held : List ℕ) (taken : List (List ℕ))
-    (stands : Stands read held taken) where
+    (stands : HasTaken read held taken) where
   over_ended : (end : E) → (replies step start taken).ended ≡ Some end
       → served step start read ≡ replies step start taken
   over_ended end e =
@@ -113,7 +113,7 @@ is_served {S} {E} step start state init over source sink out c =
 
 -- a conversation whose commands have not ended the session, and of which part of a command is held, goes on
 pub goes_on_still : {S E : Type 0} (step : S → List ℕ → Reply S E) (start : S) (read held : List ℕ)
-    (taken : List (List ℕ)) → Stands read held taken
+    (taken : List (List ℕ)) → HasTaken read held taken
     → (replies step start taken).ended ≡ None → IsPartialCommand held → (served step start read).ended ≡ None
 goes_on_still {S} {E} step start read held taken stands goes_on partial =
     ap (λ (r : Reply S E). r.ended) (over_left step start read held taken stands (no_more_partial held partial))

@@ -1,6 +1,6 @@
 pub mod FrontLaws
-pub mod ServingLaws
+pub mod ServiceLaws
 pub mod CutLaws
 pub mod EndLaws
 pub mod GrowthLaws
-pub mod FeedingLaws
+pub mod NextAnswerLaws

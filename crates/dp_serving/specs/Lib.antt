@@ -1,5 +1,5 @@
 pub mod Folds
 pub mod Growth
-pub mod Feeding
-pub mod Serving
+pub mod NextAnswer
+pub mod Service
 pub mod inner

@@ -1,6 +1,6 @@
 //! A session that is fed its commands in whatever pieces they come.
 ghost use Rattle.std.specs.Prelude.{◌≡◌, ◌++◌, [], IfOk, OnErr, OnOk};
-ghost use Rattle.dp_serving.specs.Feeding.{AreTextsNext, ComesNext};
+ghost use Rattle.dp_serving.specs.NextAnswer.{AreTextsNext, ComesNext};
 
 use crate::responder::{Answer, Responder};
 use dp_value::Memory;

@@ -1,6 +1,6 @@
 //! What holds of sessions, whatever a command means.
 ghost use Rattle.std.specs.Prelude.{◌≡◌, List, ℕ, ◌++◌};
-ghost use Rattle.dp_serving.specs.Feeding.{FeedingGoesOn};
+ghost use Rattle.dp_serving.specs.NextAnswer.{FeedingGoesOn};
 ghost use Rattle.dp_serving.specs.Growth.{served, GoesOn};
 
 use crate::responder::Responder;

@@ -7,7 +7,7 @@ ghost use Rattle.std.specs.List.{AllByRecursion};
 ghost use Rattle.dp_wire.specs.Frames.{IsPacketText, commands_in, packet_frame};
 ghost use Rattle.dp_serving.specs.inner.Exchanges.{AnswersHeld, CutsAnswer, CutsShort, DeliversAnswer, OpenFault};
 ghost use Rattle.dp_serving.specs.inner.Exchanges.{ReadsPiece};
-ghost use Rattle.dp_serving.specs.Serving.{IsServed, IsCut};
+ghost use Rattle.dp_serving.specs.Service.{IsServed, IsCut};
 
 use crate::conversation::{Conversation, Next};
 use crate::puts::{Unsent, put_unless_empty, send, send_all};

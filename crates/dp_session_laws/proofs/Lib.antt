@@ -1,5 +1,5 @@
-pub mod Growing
+pub mod MoreCommands
 pub mod Outputs
-pub mod Watching
+pub mod WatchedRuns
 pub mod Whole
-pub mod Showing
+pub mod ReplyLaws

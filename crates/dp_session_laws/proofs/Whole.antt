@@ -60,14 +60,14 @@ use Rattle.dp_session_laws.specs.AllOutput.{AreBytes}
 use Rattle.dp_engine.specs.Session.{State, breaks_of, here, opening, program_of, stop_of, written_between}
 use Rattle.dp_engine.specs.inner.Sizes.{Fits, IsShort, IsShortLine, IsShortRequest}
 use Rattle.dp_engine.specs.States.{phase_name, reason_name}
-use Rattle.dp_engine.proofs.Fitting.{fault_fits, feature_fits_if, init_fits, refusal_is_code, request_short, set_fits, status_fits, success_fits}
-use Rattle.dp_engine.proofs.Streaming.{both_texts, sent_texts}
+use Rattle.dp_engine.proofs.ResponseSizes.{fault_fits, feature_fits_if, init_fits, refusal_is_code, request_short, set_fits, status_fits, success_fits}
+use Rattle.dp_engine.proofs.StreamPackets.{both_texts, sent_texts}
 use Rattle.dp_view_commands.proofs.Sent.{code as shows_code, sent as shows}
 use Rattle.dp_write_commands.specs.Asked.{write_asked}
-use Rattle.dp_write_commands.specs.Writing.{write_response}
+use Rattle.dp_write_commands.specs.Responses.{write_response}
 use Rattle.dp_write_commands.proofs.Sent.{sent as writes}
 use Rattle.dp_engine.proofs.WriteAnswers.{known_code}
-use Rattle.dp_engine.proofs.Refusing.{allowed, passed}
+use Rattle.dp_engine.proofs.RefusalLaws.{allowed, passed}
 
 -- ---- lines
 

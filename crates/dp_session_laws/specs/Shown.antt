@@ -13,7 +13,7 @@ use Rattle.dp_state.specs.declared.state.State.{State as Program}
 use Rattle.dp_state.specs.States.{opening as first_state}
 use Rattle.dp_view_commands.specs.Views.{view_response}
 use Rattle.dp_write_commands.specs.Asked.{write_asked}
-use Rattle.dp_write_commands.specs.Writing.{write_response}
+use Rattle.dp_write_commands.specs.Responses.{write_response}
 use Rattle.dp_engine.specs.declared.sides.Side.TheVariants.{Writes}
 use Rattle.dp_engine.specs.declared.states.Phase.{Phase}
 use Rattle.dp_engine.specs.declared.states.Phase.TheVariants.{Starting, Break, Stopping}
@@ -26,19 +26,19 @@ use Rattle.dp_engine.specs.Sides.{side_of}
 
 -- in the run with these writes: before its first moment, at this moment and after the writes of
 -- that, or at its end
-abbrev pub StandsBy : Phase → Bundle → ℕ → List NumberedWrite → ℕ → Program → Type 0
-StandsBy Starting bundle bound writes moment program =
+abbrev pub IsInRunAt : Phase → Bundle → ℕ → List NumberedWrite → ℕ → Program → Type 0
+IsInRunAt Starting bundle bound writes moment program =
     (moment ≡ 0) × (program ≡ first_state bundle)
-StandsBy Break bundle bound writes moment program =
+IsInRunAt Break bundle bound writes moment program =
     (0 < moment) × (now bundle bound writes moment ≡ Some program)
-StandsBy Stopping bundle bound writes moment program =
+IsInRunAt Stopping bundle bound writes moment program =
     program ≡ (program_trace bundle bound writes).state
 
 -- in the run of this program within this bound, with the writes that it has accepted
-pub record Stands (bundle : Bundle) (bound : ℕ) (state : State) : Type 0 where
+pub record IsInRun (bundle : Bundle) (bound : ℕ) (state : State) : Type 0 where
   pub of : state.bundle ≡ bundle
   pub within : state.bound ≡ bound
-  pub by : StandsBy state.phase bundle bound state.writes state.moment (program_of state)
+  pub by : IsInRunAt state.phase bundle bound state.writes state.moment (program_of state)
 
 -- ---- what is answered there
 

@@ -10,7 +10,7 @@ ghost use Rattle.dp_engine.specs.Responses.{fault_in, init_text, main_name};
 ghost use Rattle.dp_engine.specs.Served.{alone, answers, ending, own, writes};
 ghost use Rattle.dp_session_laws.specs.AllOutput.{all_output, AreBytes, Begins, IsRunWith, NeverRedirects};
 ghost use Rattle.dp_engine.specs.Session.{opening, State};
-ghost use Rattle.dp_session_laws.specs.Shown.{IsAccepted, IsShown, IsTaken, Stands, WritesNothing};
+ghost use Rattle.dp_session_laws.specs.Shown.{IsAccepted, IsInRun, IsShown, IsTaken, WritesNothing};
 ghost use Rattle.dp_engine.specs.Sides.{side_of};
 ghost use Rattle.dp_wire.specs.Frames.{commands_in, packets_in};
 
@@ -56,7 +56,7 @@ pub fn watching_changes_nothing()
 /// looks at there is the program's state there.
 pub fn replies_show_the_run()
     ensures stands { (bundle : Bundle) (bound : ℕ) (bytes : List ℕ)
-        → Stands bundle bound (answers bundle bound bytes).state }
+        → IsInRun bundle bound (answers bundle bound bytes).state }
     ensures shown { (state : State) (bytes : List ℕ) (line : Line) (command : Command)
         → IsTaken state bytes line command → side_of command.request ≡ Program
         → IsShown state line command (turn state bytes) }

@@ -2,7 +2,7 @@
 use Rattle.std.specs.Prelude.{List, [], ◌∷◌, ◌++◌, ℕ, codes, flat_map}
 use Rattle.dp_markup.specs.declared.tree.Element.{Element}
 use Rattle.dp_markup.specs.Grammar.{IsMarkup}
-use Rattle.dp_markup.specs.Writing.{written}
+use Rattle.dp_markup.specs.Texts.{written}
 
 -- an element's line: its canonical text and a line feed
 abbrev pub line_of : Element → List ℕ

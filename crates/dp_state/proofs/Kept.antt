@@ -27,7 +27,7 @@ use Rattle.dp_state.specs.inner.Parts.{home}
 use Rattle.dp_state.specs.States.{counted, entered, first_frame, frame_limit, left, on_line, opening, output_limit, own_variables, owner_at, printed, read_at, variables_at, with_line, IsHeld, IsOf}
 use Rattle.dp_state.specs.Variables.{Variables, slot_of, with_slot, without}
 use Rattle.dp_state.proofs.Homes.{above, is_above}
-use Rattle.dp_state.proofs.Writing.{value-home}
+use Rattle.dp_state.proofs.VariableSteps.{value-home}
 
 -- the lowest frame is the main one and does not share
 abbrev IsBase : List Frame → Type 0

@@ -1,11 +1,11 @@
 pub mod ValueLemmas
 pub mod Owners
 pub mod Pairs
-pub mod Finding
+pub mod FoundFunctions
 pub mod Slots
 pub mod Homes
-pub mod Writing
+pub mod VariableSteps
 pub mod Removals
 pub mod Parameters
 pub mod Kept
-pub mod Growing
+pub mod LightTexts

@@ -7,7 +7,7 @@ use Rattle.dp_actions.specs.declared.signal.Signal.{Signal}
 use Rattle.dp_actions.specs.AtOnce.{AtOnce}
 use Rattle.dp_actions.specs.Run.{Run, and_then}
 use Rattle.dp_actions.specs.Setting.{Setting}
-use Rattle.dp_actions.proofs.Acting.{first_done}
+use Rattle.dp_actions.proofs.AtOnceLaws.{first_done}
 use Rattle.dp_step_parts.specs.Rest.{Follows}
 use Rattle.dp_step.specs.declared.work.Next.{Next}
 use Rattle.dp_step.specs.inner.Leads.{Leads}

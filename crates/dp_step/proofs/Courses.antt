@@ -7,7 +7,7 @@ use Rattle.dp_state.specs.declared.moments.MomentKind.{MomentKind}
 use Rattle.dp_state.specs.declared.moments.Outcome.TheVariants.{Bound}
 use Rattle.dp_state.specs.declared.state.State.{State}
 use Rattle.dp_actions.specs.Run.{Run, Done, Over, At}
-use Rattle.dp_meaning.specs.Stopping.{following}
+use Rattle.dp_meaning.specs.Stops.{following}
 use Rattle.dp_meaning.specs.Trace.{Ended, Trace, moment_of, trace, with_moment}
 use Rattle.dp_meaning.specs.Writes.{Writes, arrived, written}
 use Rattle.dp_meaning.proofs.Steady.{IsSteady}

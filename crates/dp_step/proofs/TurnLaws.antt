@@ -17,7 +17,7 @@ use Rattle.dp_tree.specs.declared.tree.Expression.{Expression}
 use Rattle.dp_meaning.specs.Statements.{go_on, statement_run}
 use Rattle.dp_actions.proofs.Runs.{and_then-assoc}
 use Rattle.dp_meaning.proofs.LoopLaws.{turn-on, turn-out}
-use Rattle.dp_actions.specs.declared.turns.Turn.TheVariants as turn
+use Rattle.dp_actions.specs.declared.turns.LoopStep.TheVariants as turn
 use Rattle.dp_step.specs.declared.work.DoTurns.{DoTurns}
 use Rattle.dp_step.specs.declared.work.EachTurns.{EachTurns}
 use Rattle.dp_step.specs.declared.work.Head.{Head}

@@ -13,14 +13,14 @@ use Rattle.dp_actions.specs.Setting.{Setting}
 use Rattle.dp_meaning.specs.declared.writes.NumberedWrite.{NumberedWrite}
 use Rattle.dp_meaning.specs.declared.writes.Write.{Write}
 use Rattle.dp_meaning.specs.Programs.{program_run}
-use Rattle.dp_meaning.specs.Stopping.{following}
+use Rattle.dp_meaning.specs.Stops.{following}
 use Rattle.dp_meaning.specs.Trace.{Ended, Trace, moment_of, program_trace, trace, with_moment}
 use Rattle.dp_meaning.specs.Writes.{Writes, arrived, evaluation_setting, of_number, one_write, written, written_by, writes_of}
 use Rattle.dp_meaning.proofs.Steady.{IsSteady, steady-program}
 use Rattle.dp_meaning.proofs.WrittenMoments.{moments-written}
 use Rattle.dp_step.specs.declared.machine.Machine.{Machine}
 use Rattle.dp_step.specs.Stands.{NoneAbove, StandsFor, rest_of}
-use Rattle.dp_step.proofs.Standing.{of_image}
+use Rattle.dp_step.proofs.MachineSteps.{of_image}
 
 nat_eq-same : (n : ℕ) → nat_eq n n ≡ true
 nat_eq-same n = grind (arith, nat_tests)

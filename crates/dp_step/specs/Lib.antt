@@ -1,4 +1,4 @@
-pub mod Lending
+pub mod Loans
 pub mod Rest
 pub mod Stands
 pub mod Written

@@ -13,7 +13,7 @@ use Rattle.dp_meaning.specs.Programs.{program_run, setting_of}
 use Rattle.dp_actions.specs.Bodies.{statements_of}
 use Rattle.dp_actions.specs.Run.{Run, Done, Over}
 use Rattle.dp_meaning.specs.Statements.{body_run}
-use Rattle.dp_meaning.specs.Stopping.{following}
+use Rattle.dp_meaning.specs.Stops.{following}
 use Rattle.dp_meaning.specs.Trace.{moment_at, now, outcome, program_trace}
 use Rattle.dp_meaning.specs.Writes.{writes_of}
 use Rattle.dp_step.specs.declared.machine.Machine.{Machine}

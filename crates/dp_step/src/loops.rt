@@ -14,7 +14,7 @@ use crate::next::{signal, values_first};
 use crate::work::{
     AfterValue, DoTurns, EachTurns, ForSignal, ForValues, Hand, Head, Next, Small, Turns, Work,
 };
-use dp_actions::{Signal, Turn, last_holds, turn_over};
+use dp_actions::{LoopStep, Signal, last_holds, turn_over};
 use dp_shared::Shared;
 use dp_state::{MomentKind, Outcome};
 use dp_step_parts::Hand as PartHand;
@@ -181,11 +181,11 @@ fn body_over<'p>(alloc: Global, turns: Turns<'p>, left: u64, given: Signal) -> S
         → small_rest setting result k s ≡ and_then (over given (turns_next setting turns.entry left) s) (to_signal k) }
 {
     match turn_over(given) {
-        Turn::On => Small {
+        LoopStep::On => Small {
             moment: None,
             next: turns_on(alloc, turns, left),
         },
-        Turn::Out(out) => Small {
+        LoopStep::Out(out) => Small {
             moment: None,
             next: signal(out),
         },
@@ -216,14 +216,14 @@ fn do_over<'p>(turns: DoTurns<'p>, left: u64, given: Signal) -> Small<'p>
         → small_rest setting result k s ≡ and_then (over given (do_test setting turns.entry left) s) (to_signal k) }
 {
     match turn_over(given) {
-        Turn::On => Small {
+        LoopStep::On => Small {
             moment: Some((MomentKind::Place, turns.line)),
             next: Next {
                 hand: Hand::Part(PartHand::Evaluate(turns.test)),
                 waits: Some(Work::AfterValue(AfterValue::DoTest(turns, left))),
             },
         },
-        Turn::Out(out) => Small {
+        LoopStep::Out(out) => Small {
             moment: None,
             next: signal(out),
         },
@@ -237,14 +237,14 @@ fn each_over<'p>(turns: EachTurns<'p>, subject: Shared, at: usize, given: Signal
         (to_signal k) }
 {
     match turn_over(given) {
-        Turn::On => Small {
+        LoopStep::On => Small {
             moment: None,
             next: Next {
                 hand: Hand::EachTurn(turns, subject, at),
                 waits: None,
             },
         },
-        Turn::Out(out) => {
+        LoopStep::Out(out) => {
             drop(subject);
             Small {
                 moment: None,

@@ -33,7 +33,7 @@ impl Machine<'_> {
     ghost use Rattle.dp_tree.specs.declared.bundle.Bundle.{Bundle as SomeBundle};
     ghost use Rattle.dp_meaning.specs.declared.writes.NumberedWrite.{NumberedWrite};
     ghost use Rattle.dp_meaning.specs.Writes.{of_number};
-    ghost use Rattle.dp_step.specs.Lending.{LendsState};
+    ghost use Rattle.dp_step.specs.Loans.{LendsState};
     ghost use Rattle.dp_step.specs.Stands.{StandsFor};
 
     /// Makes those of the writes that have the number of the moment, in their order; before the first moment there is

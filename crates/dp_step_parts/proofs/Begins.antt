@@ -17,7 +17,7 @@ use Rattle.dp_actions.specs.Expressions.{item_run_of, link_run}
 use Rattle.dp_actions.specs.Places.{assigned_under, compound_under, coalescing_under, isset_run, step_under, variable}
 use Rattle.dp_value.specs.Table.{empty}
 use Rattle.dp_value.specs.Value.{data_of}
-use Rattle.dp_operations.specs.Indexing.{indexed, looked_up}
+use Rattle.dp_operations.specs.Indices.{indexed, looked_up}
 use Rattle.dp_operations.specs.Unary.{unary_of}
 use Rattle.dp_actions.specs.Run.{Run, Done, and_then, ◌>>=◌}
 use Rattle.dp_actions.specs.Setting.{Setting}

@@ -1,5 +1,5 @@
 pub mod AtOnce
 pub mod Begins
 pub mod FirstParts
-pub mod Passing
-pub mod Receiving
+pub mod OtherKinds
+pub mod ResumedParts

@@ -5,7 +5,7 @@ use Rattle.dp_outside.specs.Causes.{Rose}
 use Rattle.dp_outside.specs.Changes.{Change, IsUntouched}
 use Rattle.dp_outside.specs.Files.{Fetches, Lacks}
 use Rattle.dp_outside.specs.Links.{CountsReturned, Door, Link}
-use Rattle.dp_outside.specs.Telling.{BeginsEmpty, grown}
+use Rattle.dp_outside.specs.Reports.{BeginsEmpty, grown}
 use Rattle.dp_run.specs.Programs.{Files}
 use Rattle.dp_ide.specs.declared.errors.IdeError.{IdeError}
 use Rattle.dp_ide.specs.declared.errors.IdeError.TheVariants as ends

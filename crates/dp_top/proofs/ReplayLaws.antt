@@ -4,7 +4,7 @@ use Rattle.std.specs.Prelude.{MatchResult, IfOk, IfErr}
 use Rattle.dp_outside.specs.Causes.{Rose}
 use Rattle.dp_outside.specs.Changes.{Change, IsUntouched}
 use Rattle.dp_outside.specs.Files.{Fetches, Lacks}
-use Rattle.dp_outside.specs.Telling.{grown}
+use Rattle.dp_outside.specs.Reports.{grown}
 use Rattle.dp_bundle.specs.Bundles.{Given, Makes}
 use Rattle.dp_tree.specs.declared.bundle.Bundle.{Bundle}
 use Rattle.dp_bundle.specs.declared.errors.BundleError.{BundleError}
@@ -25,7 +25,7 @@ use Rattle.dp_top.specs.inner.Held.{IsHeld}
 use Rattle.dp_top.specs.Replay.{IsBadAt, IsHeldList, IsReplayed, ReadBefore, ReplayFails, Unlisted}
 use Rattle.dp_top.specs.Lines.{lines_limit}
 use Rattle.dp_top.specs.Runs.{AreFetched as OnlyFetched, IsProgramTold}
-use Rattle.dp_top.specs.inner.Replaying.{EndsFetched, EndsOver, EndsReplay, IsBadList, IsWholeList, UnlistedSo}
+use Rattle.dp_top.specs.inner.EventLists.{EndsFetched, EndsOver, EndsReplay, IsBadList, IsWholeList, UnlistedSo}
 use Rattle.dp_top.proofs.IdeLaws.{same_content}
 use Rattle.dp_words.specs.CommandLine.{Invocation}
 

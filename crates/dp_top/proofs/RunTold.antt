@@ -2,14 +2,14 @@
 use Rattle.std.proofs.Common.{◌≡◌, ℕ, ◌+◌, false, List, Result, Ok, Err, length, take, refl, sym, ap, ◌∙◌, subst, inl, inr, arith}
 use Rattle.std.specs.Prelude.{⊤, Option, None, Some}
 use Rattle.std.proofs.lemmas.List.{take_all}
-use Rattle.dp_outside.specs.Telling.{grown}
+use Rattle.dp_outside.specs.Reports.{grown}
 use Rattle.dp_tree.specs.declared.bundle.Bundle.{Bundle}
 use Rattle.dp_bundle.specs.declared.errors.BundleError.{BundleError}
 use Rattle.dp_bundle.specs.declared.errors.BundleError.TheVariants as unmade
 use Rattle.dp_lexer.specs.declared.errors.LexError.TheVariants as lex
 use Rattle.dp_parse.specs.declared.errors.ParseError.{ParseError}
 use Rattle.dp_parse.specs.declared.errors.ParseError.TheVariants as parse
-use Rattle.dp_run.proofs.Growing.{grown_by_none}
+use Rattle.dp_run.proofs.GrownNames.{grown_by_none}
 use Rattle.dp_run.specs.declared.errors.ProgramError.{ProgramError}
 use Rattle.dp_run.specs.declared.errors.ProgramError.TheVariants as none
 use Rattle.dp_run.specs.declared.errors.RunError.{RunError}

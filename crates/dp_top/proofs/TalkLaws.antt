@@ -12,7 +12,7 @@ use Rattle.dp_engine.specs.declared.service.Served.{Served}
 use Rattle.dp_engine.specs.declared.session.SessionEnd.{SessionEnd}
 use Rattle.dp_engine.specs.declared.session.SessionEnd.TheVariants.{Finished, Killed, Detached as gone}
 use Rattle.dp_engine.specs.Served.{ending_after}
-use Rattle.dp_engine.specs.Serving.{Serves, ServesTo}
+use Rattle.dp_engine.specs.Service.{Serves, ServesTo}
 use Rattle.dp_engine.specs.Session.{State, outcome_of}
 use Rattle.dp_meaning.proofs.Exits.{exit_small}
 use Rattle.dp_run.specs.declared.errors.RunError.{RunError}

@@ -11,7 +11,7 @@ use Rattle.dp_top.specs.declared.failures.Failure.TheVariants as failure
 use Rattle.dp_tree.specs.declared.bundle.Bundle.{Bundle}
 use Rattle.dp_engine.specs.declared.service.ServeEnd.{ServeEnd}
 use Rattle.dp_engine.specs.declared.service.ServeEnd.TheVariants as serve
-use Rattle.dp_engine.specs.Serving.{CutBy, EndsBy, IsCut, ServesTo}
+use Rattle.dp_engine.specs.Service.{CutBy, EndsBy, IsCut, ServesTo}
 use Rattle.dp_engine.specs.declared.session.SessionEnd.{SessionEnd}
 use Rattle.dp_run.specs.declared.errors.ProgramError.{ProgramError}
 use Rattle.dp_run.specs.declared.errors.ProgramError.TheVariants as none
@@ -36,7 +36,7 @@ use Rattle.dp_top.specs.Seen.{NoneRose, Seen, Stream, changed}
 use Rattle.dp_top.specs.Talk.{EndsSo, TalkFails, Told, ended, judged_by}
 use Rattle.dp_top.specs.Tasks.{failure_of, ShowCaused, Does, Caused, Fails, IsFetchedFor, before_line}
 use Rattle.dp_top.proofs.RunTold.{bad_source, nothing_fetched}
-use Rattle.dp_run.proofs.Growing.{grown_by_none}
+use Rattle.dp_run.proofs.GrownNames.{grown_by_none}
 
 -- the name of a task
 abbrev name_of : Task → List ℕ

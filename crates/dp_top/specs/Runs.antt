@@ -1,7 +1,7 @@
 -- What is reported of the end of a run, and of files that make no program.
 use Rattle.std.specs.Prelude.{◌≡◌, ◌⊎◌, ℕ, List, [], get_or, take, Option, None, Some}
 use Rattle.dp_outside.specs.Changes.{Change}
-use Rattle.dp_outside.specs.Telling.{grown}
+use Rattle.dp_outside.specs.Reports.{grown}
 use Rattle.dp_run.specs.declared.errors.ProgramError.{ProgramError}
 use Rattle.dp_run.specs.declared.errors.ProgramError.TheVariants as none
 use Rattle.dp_run.specs.declared.errors.RunError.{RunError}

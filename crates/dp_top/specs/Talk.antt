@@ -5,12 +5,12 @@ use Rattle.dp_tree.specs.declared.bundle.Bundle.{Bundle}
 use Rattle.dp_engine.specs.declared.service.ServeEnd.{ServeEnd}
 use Rattle.dp_engine.specs.declared.service.ServeEnd.TheVariants.{Stopped, Detached, LinkEnd, ReadFault, WriteFault, OutFault, BadCommandFrame, ByteLimit, Memory}
 use Rattle.dp_engine.specs.declared.service.Served.{Served}
-use Rattle.dp_engine.specs.Serving.{Serves}
+use Rattle.dp_engine.specs.Service.{Serves}
 use Rattle.dp_run.specs.declared.errors.RunError.{RunError}
 use Rattle.dp_run.specs.declared.errors.ProgramError.{ProgramError}
 use Rattle.dp_run.specs.Programs.{NamesMake, NoProgram}
 use Rattle.dp_run.specs.Runs.{judged as judged_end}
-use Rattle.dp_serving.specs.Serving.{byte_limit}
+use Rattle.dp_serving.specs.Service.{byte_limit}
 use Rattle.dp_state.specs.declared.moments.Outcome.{Outcome}
 use Rattle.dp_top.specs.declared.failures.Failure.{Failure}
 use Rattle.dp_top.specs.declared.failures.Failure.TheVariants as failure

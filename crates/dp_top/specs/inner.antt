@@ -4,4 +4,4 @@ pub mod Gated
 pub mod Held
 pub mod Kept
 pub mod Sessions
-pub mod Replaying
+pub mod EventLists

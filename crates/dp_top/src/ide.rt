@@ -1,7 +1,7 @@
 //! The command `ide`: a script that is played over a link that an engine makes.
 ghost use Rattle.std.specs.Prelude.{◌≡◌, ◌≤◌, [], ◌∷◌, Ok, Some, IfOk, IfErr, MatchResult};
 ghost use Rattle.dp_outside.specs.Changes.{change};
-ghost use Rattle.dp_outside.specs.Telling.{BeginsEmpty, grown};
+ghost use Rattle.dp_outside.specs.Reports.{BeginsEmpty, grown};
 ghost use Rattle.dp_top.specs.Ide.{IdeFails, IsHeldScript, Plays, failure_of};
 ghost use Rattle.dp_top.specs.Seen.{net_seen};
 ghost use Rattle.dp_top.specs.inner.Gated.{GatedSo, IsBadScript, IsToldBy, IsWholeScript, MetSo, UnreadSo};

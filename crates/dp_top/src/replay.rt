@@ -2,7 +2,7 @@
 ghost use Rattle.std.specs.Prelude.{◌≡◌, ◌∷◌, ◌<◌, ◌≤◌, [], List, Result, map, IfOk, IfErr, MatchResult};
 ghost use Rattle.dp_outside.specs.Changes.{change};
 ghost use Rattle.dp_outside.specs.Files.{Fetches};
-ghost use Rattle.dp_outside.specs.Telling.{grown};
+ghost use Rattle.dp_outside.specs.Reports.{grown};
 ghost use Rattle.dp_bundle.specs.Bundles.{AreForBundle};
 ghost use Rattle.dp_bundle.specs.declared.errors.BundleError.{BundleError as Unmade};
 ghost use Rattle.dp_lists.specs.declared.event.Event.{Event};
@@ -15,8 +15,8 @@ ghost use Rattle.dp_top.specs.Lines.{lines_limit};
 ghost use Rattle.dp_top.specs.Replay.{IsHeldList};
 ghost use Rattle.dp_top.specs.Runs.{AreFetched};
 ghost use Rattle.dp_top.specs.inner.Held.{IsHeld};
-ghost use Rattle.dp_top.specs.inner.Replaying.{EndsFetched, EndsOver, EndsReplay, HeldFetched, IsBadList};
-ghost use Rattle.dp_top.specs.inner.Replaying.{IsWholeList, UnlistedSo};
+ghost use Rattle.dp_top.specs.inner.EventLists.{EndsFetched, EndsOver, EndsReplay, HeldFetched, IsBadList};
+ghost use Rattle.dp_top.specs.inner.EventLists.{IsWholeList, UnlistedSo};
 
 use crate::failures::{Failure, Refused};
 use crate::lines::{LINES_LIMIT, unfetched};

@@ -1,4 +1,4 @@
 pub mod TreeLines
 pub mod TreePurity
 pub mod Taken
-pub mod Indexing
+pub mod FunctionIndex

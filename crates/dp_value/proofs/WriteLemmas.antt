@@ -17,7 +17,7 @@ use Rattle.dp_value.specs.Key.{key_eq}
 use Rattle.dp_value.specs.Data.{Data, Table, null, weight_of, pairs_weight, data_of_table}
 use Rattle.dp_value.specs.Table.{find_value, keys_of, put, raised, swapped, table_set, table_exchange, value_at, weight_limit, IsTable, IsUpTo}
 use Rattle.dp_value.specs.Entry.{entry_at, holder_of, then_data, then_table, within, light, written, IsCause}
-use Rattle.dp_value.specs.inner.Writing.{written_in}
+use Rattle.dp_value.specs.inner.Writes.{written_in}
 use Rattle.dp_value.proofs.KeyLemmas.{key_eq-Decides}
 
 -- ---- a key that is there

@@ -5,4 +5,4 @@ pub mod Behind
 pub mod Rows
 pub mod Inside
 pub mod Falls
-pub mod Writing
+pub mod Writes

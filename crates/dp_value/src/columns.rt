@@ -7,7 +7,7 @@ ghost use Rattle.dp_value.specs.Data.{pairs_weight};
 ghost use Rattle.dp_value.specs.Table.{empty, keys_of, values_of, value_at, put, table_set, table_remove};
 ghost use Rattle.dp_value.specs.Table.{table_exchange, swapped, weight_limit, IsTable, raised as raised_by};
 ghost use Rattle.dp_value.specs.Value.{data_of, pairs_in};
-ghost use Rattle.dp_value.specs.inner.Writing.{IsTooMuch};
+ghost use Rattle.dp_value.specs.inner.Writes.{IsTooMuch};
 
 use crate::rows::{forget, place, store, take_out};
 use crate::value::Columns;

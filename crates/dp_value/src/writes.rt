@@ -5,7 +5,7 @@ ghost use Rattle.dp_value.specs.Data.{Data, data_of_table, null, pairs_weight};
 ghost use Rattle.dp_value.specs.Table.{empty, put, table_set, weight_limit};
 ghost use Rattle.dp_value.specs.Value.{data_of};
 ghost use Rattle.dp_value.specs.Entry.{pushed, within, written, write_result, IsCause};
-ghost use Rattle.dp_value.specs.inner.Writing.{put_under, written_in};
+ghost use Rattle.dp_value.specs.inner.Writes.{put_under, written_in};
 
 use crate::{Key, PhpArray, Value, WEIGHT_LIMIT, WriteError, weight};
 use std::alloc::Global;

@@ -12,7 +12,7 @@ use Rattle.dp_value.specs.declared.key.Key.TheVariants.{Int}
 use Rattle.dp_value.specs.IntText.{int_of_text}
 use Rattle.dp_value.specs.KeyOf.{key_of_text}
 use Rattle.dp_view.specs.Grammar.{◌>>◌, Mark, Repeated, Dollar, Name, IsQuote, is_plain, pair_of, Within, Inner, Index, spelt}
-use Rattle.dp_view.specs.Reading.{◌>>=◌, run_at, behind, without_dollar, name_at, items_at, pair_at, byte_at, quoted_at, is_int_byte, int_at, key_at, index_at, keys_at, path_at}
+use Rattle.dp_view.specs.NameReader.{◌>>=◌, run_at, behind, without_dollar, name_at, items_at, pair_at, byte_at, quoted_at, is_int_byte, int_at, key_at, index_at, keys_at, path_at}
 use Rattle.dp_grammar.proofs.Runs.{some_is, found_parts, bind_some, guard_some, run_passes, one_more}
 use Rattle.dp_grammar.proofs.Sequences.{Takes, takes_then, takes_last, items_found}
 

@@ -1,10 +1,10 @@
-pub mod Taking
+pub mod ItemLaws
 pub mod Integers
 pub mod Found
 pub mod Again
 pub mod Written
 pub mod Steps
-pub mod Keying
-pub mod Nesting
+pub mod DistinctKeys
+pub mod Levels
 pub mod Paths
 pub mod Lines

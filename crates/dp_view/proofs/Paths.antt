@@ -30,7 +30,7 @@ use Rattle.dp_view.specs.declared.paging.Paging.{Paging}
 use Rattle.dp_view.specs.Answers.{and_then}
 use Rattle.dp_view.specs.Names.{entry_name, full_name, key_text, own_name, variable_name}
 use Rattle.dp_view.specs.inner.Longer.{with_key}
-use Rattle.dp_view.specs.Nesting.{AreOfVariables, HasPaths, below, deeper, entries_in, properties_in, with_keys}
+use Rattle.dp_view.specs.Children.{AreOfVariables, HasPaths, below, deeper, entries_in, properties_in, with_keys}
 use Rattle.dp_view.specs.Places.{entry_of, shown_variables, value_among, value_at, value_under}
 use Rattle.dp_view.specs.Properties.{entry_property, nested, page_of, path_property, shape_of, variable_path, variable_shown, variable_value}
 use Rattle.dp_view.specs.inner.Keyed.{IsKeyed, VariablesAreKeyed}

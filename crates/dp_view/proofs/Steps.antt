@@ -9,7 +9,7 @@ use Rattle.dp_packet.specs.declared.packet.StackLine.{StackLine}
 use Rattle.dp_state.specs.declared.state.Frame.{Frame}
 use Rattle.dp_view.specs.Properties.{page_of}
 use Rattle.dp_view.specs.Stacks.{lines_from}
-use Rattle.dp_view.specs.inner.Making.{line_of}
+use Rattle.dp_view.specs.inner.Additions.{line_of}
 
 more : (n : ℕ) → suc n + 1 ≡ suc (n + 1)
 more n = omega arith

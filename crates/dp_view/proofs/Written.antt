@@ -9,11 +9,11 @@ use Rattle.dp_value.specs.declared.key.Key.{Key}
 use Rattle.dp_value.specs.declared.key.Key.TheVariants.{Int, Text}
 use Rattle.dp_value.specs.IntText.{int_of_text}
 use Rattle.dp_value.specs.KeyOf.{key_of_text}
-use Rattle.dp_value.specs.Quoting.{in_quotes}
+use Rattle.dp_value.specs.Quotes.{in_quotes}
 use Rattle.dp_view.specs.Grammar.{Repeated, Within, is_plain, Quoted, Inner, Index, spelt, HasIndex, HasFullName}
 use Rattle.dp_view.specs.Names.{index_of, entry_name, full_name}
 use Rattle.dp_view.specs.inner.Longer.{with_key}
-use Rattle.dp_view.specs.Reading.{path_at}
+use Rattle.dp_view.specs.NameReader.{path_at}
 use Rattle.dp_view.proofs.Again.{path_again}
 use Rattle.dp_view.proofs.Integers.{int_is}
 

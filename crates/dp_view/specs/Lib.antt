@@ -1,10 +1,10 @@
 pub mod Answers
 pub mod Names
 pub mod Grammar
-pub mod Reading
+pub mod NameReader
 pub mod Places
 pub mod Properties
-pub mod Nesting
+pub mod Children
 pub mod Stacks
 pub mod Source
 pub mod Values

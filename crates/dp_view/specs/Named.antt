@@ -9,7 +9,7 @@ use Rattle.dp_view.specs.declared.values.ShownValue.{ShownValue}
 use Rattle.dp_view.specs.Answers.{and_then}
 use Rattle.dp_view.specs.Places.{shown_variables, value_at}
 use Rattle.dp_view.specs.Properties.{property_at}
-use Rattle.dp_view.specs.Reading.{path_at}
+use Rattle.dp_view.specs.NameReader.{path_at}
 use Rattle.dp_view.specs.Values.{value_shown}
 
 -- the path that is named, where there are the level and the context

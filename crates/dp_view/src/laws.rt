@@ -4,7 +4,7 @@ ghost use Rattle.std.specs.Prelude.{◌≡◌, ◌↔◌, ℕ, List, Some};
 ghost use Rattle.dp_state.specs.declared.moments.Path.{Path};
 ghost use Rattle.dp_view.specs.Grammar.{spelt, HasFullName};
 ghost use Rattle.dp_view.specs.Names.{full_name};
-ghost use Rattle.dp_view.specs.Reading.{path_at};
+ghost use Rattle.dp_view.specs.NameReader.{path_at};
 
 /// Bytes that spell a path by the grammar of names spell no other, and that one is found from left to right.
 pub fn names_have_one_path()

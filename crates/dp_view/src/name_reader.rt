@@ -3,8 +3,8 @@
 ghost use Rattle.std.specs.Prelude.{◌≡◌, ok_or, IfOk};
 ghost use Rattle.dp_value.specs.KeyOf.{key_of_text};
 ghost use Rattle.dp_view.specs.Answers.{Answers};
-ghost use Rattle.dp_view.specs.Reading.{path_at};
-ghost use Rattle.dp_view.specs.inner.Taking.{key_meant, keys_taken, text_taken};
+ghost use Rattle.dp_view.specs.NameReader.{path_at};
+ghost use Rattle.dp_view.specs.inner.Items.{key_meant, keys_taken, text_taken};
 
 use crate::Memory;
 use crate::errors::ViewError;

@@ -4,8 +4,8 @@ ghost use Rattle.std.specs.Prelude.{◌≡◌, Some, IfOk};
 ghost use Rattle.dp_state.specs.declared.moments.Path.{Path as NamedPath};
 ghost use Rattle.dp_view.specs.Answers.{AnswersAfter};
 ghost use Rattle.dp_view.specs.Named as spec;
-ghost use Rattle.dp_view.specs.Nesting.{HasPaths};
-ghost use Rattle.dp_view.specs.Reading.{path_at};
+ghost use Rattle.dp_view.specs.Children.{HasPaths};
+ghost use Rattle.dp_view.specs.NameReader.{path_at};
 
 use crate::errors::ViewError;
 use crate::name_reader::read_name;

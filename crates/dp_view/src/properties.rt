@@ -4,9 +4,9 @@ ghost use Rattle.std.specs.Prelude.{◌≡◌, ◌+◌, ◌*◌, ◌++◌, true,
 ghost use Rattle.dp_value.specs.Value.{data_of};
 ghost use Rattle.dp_view.specs.Answers.{Answers};
 ghost use Rattle.dp_view.specs.Properties as spec;
-ghost use Rattle.dp_view.specs.Nesting.{HasPaths};
+ghost use Rattle.dp_view.specs.Children.{HasPaths};
 ghost use Rattle.dp_view.specs.inner.Keyed.{AreKeyed, HoldsWithin, IsKeyed};
-ghost use Rattle.dp_view.specs.inner.Making as making;
+ghost use Rattle.dp_view.specs.inner.Additions as making;
 
 use crate::Memory;
 use crate::errors::ViewError;

@@ -3,8 +3,8 @@
 ghost use Rattle.std.specs.Prelude.{◌≡◌, ◌≤◌, length};
 ghost use Rattle.std.specs.List.{prefix_len};
 ghost use Rattle.dp_lexer.specs.Bytes as bytes_of;
-ghost use Rattle.dp_view.specs.Reading.{run_at};
-ghost use Rattle.dp_view.specs.inner.Taking.{test_of};
+ghost use Rattle.dp_view.specs.NameReader.{run_at};
+ghost use Rattle.dp_view.specs.inner.Items.{test_of};
 
 /// A sort of bytes of which a part of a name consists.
 #[derive(Clone, Copy, Debug)]

@@ -3,9 +3,9 @@
 
 ghost use Rattle.std.specs.Prelude.{◌≡◌, Some, None, if◌then◌else◌, length, option_map};
 ghost use Rattle.dp_view.specs.Grammar.{pair_of};
-ghost use Rattle.dp_view.specs.Reading as spec;
-ghost use Rattle.dp_view.specs.Reading.{byte_at, index_at, int_at, key_at, keys_at, name_at, path_at, quoted_at};
-ghost use Rattle.dp_view.specs.inner.Taking.{behind_items, key_meant, keys_taken, path_taken};
+ghost use Rattle.dp_view.specs.NameReader as spec;
+ghost use Rattle.dp_view.specs.NameReader.{byte_at, index_at, int_at, key_at, keys_at, name_at, path_at, quoted_at};
+ghost use Rattle.dp_view.specs.inner.Items.{behind_items, key_meant, keys_taken, path_taken};
 
 use crate::sorts::{Sort, is_start, run};
 use dp_value::int_of_text;
@@ -41,7 +41,7 @@ fn without_dollar(bytes: &[u8]) -> &[u8]
 }
 
 // The name of the variable that stands here.
-#[tactic(auto, unfolding(crate::specs::Reading::name_at))]
+#[tactic(auto, unfolding(crate::specs::NameReader::name_at))]
 fn name(bytes: &[u8]) -> Option<(&[u8], &[u8])>
     ensures { option_map (λ found. (found.0.now, found.1.now)) result ≡ name_at bytes.now }
 {
@@ -82,7 +82,7 @@ fn pair_byte(quote: u8, bytes: &[u8]) -> Option<(Option<u8>, &[u8])>
 }
 
 /// The byte between quotes that stands here; none at the closing quote.
-#[tactic(auto, unfolding(crate::specs::Reading::byte_at))]
+#[tactic(auto, unfolding(crate::specs::NameReader::byte_at))]
 pub(crate) fn byte(quote: u8, bytes: &[u8]) -> Option<(Option<u8>, &[u8])>
     ensures { option_map (λ found. (found.0, found.1.now)) result ≡ byte_at quote bytes.now }
 {
@@ -120,7 +120,7 @@ fn quoted(quote: u8, bytes: &[u8]) -> Option<(Spelling, &[u8])>
 }
 
 // The integer that stands here.
-#[tactic(auto, unfolding(crate::specs::Reading::int_at))]
+#[tactic(auto, unfolding(crate::specs::NameReader::int_at))]
 fn int(bytes: &[u8]) -> Option<(Spelling, &[u8])>
     ensures { option_map (λ found. (key_meant found.0, found.1.now)) result ≡ int_at bytes.now }
 {
@@ -132,7 +132,7 @@ fn int(bytes: &[u8]) -> Option<(Spelling, &[u8])>
 }
 
 // The key whose opening bracket stands before these bytes.
-#[tactic(auto, unfolding(crate::specs::Reading::key_at))]
+#[tactic(auto, unfolding(crate::specs::NameReader::key_at))]
 fn key(bytes: &[u8]) -> Option<(Spelling, &[u8])>
     ensures { option_map (λ found. (key_meant found.0, found.1.now)) result ≡ key_at bytes.now }
 {
@@ -144,7 +144,7 @@ fn key(bytes: &[u8]) -> Option<(Spelling, &[u8])>
 }
 
 /// The index that stands here; none at the end.
-#[tactic(auto, unfolding(crate::specs::Reading::index_at))]
+#[tactic(auto, unfolding(crate::specs::NameReader::index_at))]
 pub(crate) fn index(bytes: &[u8]) -> Option<(Option<Spelling>, &[u8])>
     ensures { option_map (λ found. (option_map key_meant found.0, found.1.now)) result ≡ index_at bytes.now }
 {
@@ -174,7 +174,7 @@ fn indices(bytes: &[u8]) -> bool
 }
 
 /// The name and the indices of which bytes consist, where they name a path.
-#[tactic(auto, unfolding(crate::specs::Reading::path_at))]
+#[tactic(auto, unfolding(crate::specs::NameReader::path_at))]
 pub(crate) fn parts(bytes: &[u8]) -> Option<(&[u8], &[u8])>
     ensures { option_map (λ found. path_taken found.0.now found.1.now) result ≡ path_at bytes.now }
 {

@@ -3,7 +3,7 @@
 ghost use Rattle.std.specs.Prelude.{◌≡◌, ◌++◌, [], ◌∷◌, option_map, reverse, slice_get, IfOk, OnOk};
 ghost use Rattle.dp_view.specs.Answers.{Answers};
 ghost use Rattle.dp_view.specs.Stacks as spec;
-ghost use Rattle.dp_view.specs.inner.Making.{line_of};
+ghost use Rattle.dp_view.specs.inner.Additions.{line_of};
 
 use crate::Memory;
 use crate::errors::ViewError;

@@ -8,9 +8,9 @@ ghost use Rattle.dp_value.specs.Value.{data_of};
 ghost use Rattle.dp_view.specs.Answers.{Answers};
 ghost use Rattle.dp_view.specs.Places as places;
 ghost use Rattle.dp_view.specs.Properties as spec;
-ghost use Rattle.dp_view.specs.Nesting.{AreOfVariables};
+ghost use Rattle.dp_view.specs.Children.{AreOfVariables};
 ghost use Rattle.dp_view.specs.inner.Keyed.{IsKeyed, VariableIsKeyed, VariablesAreKeyed};
-ghost use Rattle.dp_view.specs.inner.Making.{variables_at};
+ghost use Rattle.dp_view.specs.inner.Additions.{variables_at};
 
 use crate::Memory;
 use crate::errors::ViewError;

@@ -23,7 +23,7 @@ use Rattle.dp_view.specs.Answers.{and_then}
 use Rattle.dp_view.specs.Named.{named_path, named_property, named_value}
 use Rattle.dp_view.specs.Places.{shown_variables, value_among, value_at, variables_of}
 use Rattle.dp_view.specs.Properties.{context_at}
-use Rattle.dp_view.specs.Reading.{path_at}
+use Rattle.dp_view.specs.NameReader.{path_at}
 use Rattle.dp_view.specs.Stacks.{stack_at}
 use Rattle.dp_wire.specs.Frames.{packet_limit}
 use Rattle.dp_view_commands.specs.Answers.{Answers, HasKnownCode, IsSent}

@@ -1,6 +1,6 @@
 -- How long responses are.
 use Rattle.std.proofs.Common.{◌≡◌, ℕ, ◌+◌, List, [], ◌∷◌, length, codes, arith}
-use Rattle.dp_markup.specs.Writing.{attribute_text, nodes_text}
+use Rattle.dp_markup.specs.Texts.{attribute_text, nodes_text}
 use Rattle.dp_packet.specs.declared.packet.Body.{Body}
 use Rattle.dp_packet.specs.declared.packet.Body.TheVariants as body
 use Rattle.dp_packet.specs.declared.packet.Packet.TheVariants as packet
@@ -14,7 +14,7 @@ use Rattle.dp_packet.specs.Text.{text}
 use Rattle.dp_packet.proofs.SizeLaws.{alone_length, attribute_length, packet_length, written_length}
 use Rattle.dp_view_limits.specs.Limits.{properties_size, property_size}
 use Rattle.dp_view_commands.specs.Views.{response_with}
-use Rattle.dp_view_commands.specs.inner.Making.{around}
+use Rattle.dp_view_commands.specs.inner.Responses.{around}
 
 whole_is : (command id : Text) (attributes : Attributes) (b : Body)
     → length (text (packet.Response (response_with command id (attributes, b))))

@@ -2,10 +2,10 @@
 
 ghost use Rattle.std.specs.Prelude.{◌≡◌, ◌+◌, ◌≤◌, ◌∷◌, ◌++◌, [], if◌then◌else◌, codes, decimal, length, Err, Ok, IfOk};
 ghost use Rattle.std.specs.Prelude.{OnOk};
-ghost use Rattle.dp_markup.specs.Writing.{attribute_text};
+ghost use Rattle.dp_markup.specs.Texts.{attribute_text};
 ghost use Rattle.dp_view.specs.Answers.{AnswersSurely};
 ghost use Rattle.dp_view_commands.specs.Views as spec;
-ghost use Rattle.dp_view_commands.specs.inner.Making.{around};
+ghost use Rattle.dp_view_commands.specs.inner.Responses.{around};
 ghost use Rattle.dp_wire.specs.Frames.{packet_limit};
 
 use dp_command::Addressee;

@@ -2,9 +2,9 @@
 use Rattle.std.proofs.Common.{◌≡◌, ℕ, ℤ, ◌+◌, List, [], ◌∷◌, ◌++◌, length, codes, arith, length-append}
 use Rattle.std.specs.Prelude.{flat_map}
 use Rattle.std.specs.Fmt.{signed_decimal}
-use Rattle.dp_markup.specs.Escaping.{escaped, escaped_all}
+use Rattle.dp_markup.specs.Escapes.{escaped, escaped_all}
 use Rattle.dp_state.specs.declared.moments.Path.{Path}
-use Rattle.dp_value.specs.Quoting.{in_quotes}
+use Rattle.dp_value.specs.Quotes.{in_quotes}
 use Rattle.dp_view.specs.Names.{full_name, index_of, int_index, text_index, variable_name}
 use Rattle.dp_view_limits.specs.inner.Sizes.{text_size}
 

@@ -5,7 +5,7 @@ use Rattle.std.specs.List.{flat_map}
 use Rattle.std.specs.Option.{option_map_or}
 use Rattle.std.specs.Fmt.{signed_decimal}
 use Rattle.std.proofs.lemmas.List.Sums.{sum_by-cons}
-use Rattle.dp_markup.specs.Writing.{node_text, nodes_text}
+use Rattle.dp_markup.specs.Texts.{node_text, nodes_text}
 use Rattle.dp_packet.specs.declared.property.Property.{Property}
 use Rattle.dp_packet.specs.declared.property.Shape.{Shape}
 use Rattle.dp_packet.specs.Parts.{Text, base64, flag, given}

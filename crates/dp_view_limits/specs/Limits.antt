@@ -1,7 +1,7 @@
 -- What is shown in so many bytes of a packet's text: code 300 where it has more. That there is a
 -- limit is this engine's own.
 use Rattle.std.specs.Prelude.{ℕ, nat_le, if◌then◌else◌, List, length, map, Result, Ok, Err}
-use Rattle.dp_markup.specs.Writing.{node_text, nodes_text}
+use Rattle.dp_markup.specs.Texts.{node_text, nodes_text}
 use Rattle.dp_packet.specs.declared.property.Property.{Property}
 use Rattle.dp_packet.specs.Properties.{property_node}
 use Rattle.dp_state.specs.declared.state.State.{State}

@@ -5,9 +5,9 @@ ghost use Rattle.dp_state.specs.declared.moments.Path.{Path as NamedPath};
 ghost use Rattle.dp_value.specs.Value.{data_of};
 ghost use Rattle.dp_view.specs.Answers.{Answers, AnswersAfter};
 ghost use Rattle.dp_view.specs.Named.{named_path as path_of_name};
-ghost use Rattle.dp_view.specs.Nesting.{AreOfVariables, HasPaths};
+ghost use Rattle.dp_view.specs.Children.{AreOfVariables, HasPaths};
 ghost use Rattle.dp_view.specs.Properties.{is_copied};
-ghost use Rattle.dp_view.specs.Reading.{path_at};
+ghost use Rattle.dp_view.specs.NameReader.{path_at};
 ghost use Rattle.dp_view_limits.specs.Limits as spec;
 ghost use Rattle.dp_view_limits.specs.inner.AtPaths.{limited_at};
 

@@ -4,7 +4,7 @@
 ghost use Rattle.std.specs.Prelude.{◌≡◌, decimal, flat_map, length, take};
 ghost use Rattle.std.specs.Fmt.{signed_decimal};
 ghost use Rattle.dp_packet.specs.Parts.{base64};
-ghost use Rattle.dp_value.specs.Quoting.{in_quotes};
+ghost use Rattle.dp_value.specs.Quotes.{in_quotes};
 ghost use Rattle.dp_view.specs.Names as names;
 ghost use Rattle.dp_view_limits.specs.inner.Sizes as spec;
 

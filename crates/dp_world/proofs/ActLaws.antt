@@ -19,9 +19,9 @@ use Rattle.dp_proxy.specs.declared.events.Act.TheVariants.{Moved}
 use Rattle.dp_proxy.specs.Links.{brought, stream, completed, handed}
 use Rattle.dp_proxy.proofs.PassLaws.{stream_push}
 use Rattle.dp_world.specs.declared.engine.Engine.{Engine}
-use Rattle.dp_world.specs.inner.Standing.{Serves, EngineStands, IsReadFor}
-use Rattle.dp_world.specs.inner.Showing.{IsReadWith}
-use Rattle.dp_world.specs.inner.Passing.{EngineTakes}
+use Rattle.dp_world.specs.inner.EngineStates.{Serves, EngineStands, IsReadFor}
+use Rattle.dp_world.specs.inner.KeptLinks.{IsReadWith}
+use Rattle.dp_world.specs.inner.Changes.{EngineTakes}
 use Rattle.dp_world.proofs.EngineLaws.{grows}
 
 -- ---- a stream that goes on

@@ -12,7 +12,7 @@ use Rattle.dp_engine.specs.Served.{alone, answers_to, ending_after, rest_after}
 use Rattle.dp_engine.specs.Session.{State, opening}
 use Rattle.dp_serving.specs.Folds.{Reply, followed, replies}
 use Rattle.dp_serving.proofs.GrowthLaws.{served_goes_on}
-use Rattle.dp_serving.proofs.ServingLaws.{replies_append, followed_open, followed_over}
+use Rattle.dp_serving.proofs.ServiceLaws.{replies_append, followed_open, followed_over}
 use Rattle.dp_wire.specs.Frames.{has_no_nul, Splits, IsCommand, command_frame, commands_in, rest_of, packet_frame, packets_in, rest_of_packets}
 use Rattle.dp_wire.proofs.FrameLaws.{same_text}
 use Rattle.dp_wire.proofs.SplitLaws.{framed, commands_split, one_split_lem}
@@ -23,7 +23,7 @@ use Rattle.dp_proxy.specs.Links.{stream}
 use Rattle.dp_world.specs.declared.engine.Ended.{Ended}
 use Rattle.dp_world.specs.declared.engine.Engine.{Engine}
 use Rattle.dp_world.specs.Transcript.{received}
-use Rattle.dp_world.specs.inner.Standing.{IsFirst, Serves, GoesOn, going_on, EngineStands, Shows}
+use Rattle.dp_world.specs.inner.EngineStates.{IsFirst, Serves, GoesOn, going_on, EngineStands, Shows}
 
 -- ---- whole commands
 

@@ -15,7 +15,7 @@ use Rattle.dp_lists.specs.declared.event.Event.{Event}
 use Rattle.dp_lists.specs.Lists.{AllFit, Fits, makes, was}
 use Rattle.dp_proxy.specs.declared.events.Act.{Act as ProxyAct}
 use Rattle.dp_proxy.specs.Links.{stream, brought, ends}
-use Rattle.dp_proxy.specs.Pasts.{Link, New, Joined, Ended, Past, Turn, start, came, turn, acts_of}
+use Rattle.dp_proxy.specs.Pasts.{Link, New, Joined, Ended, Past, Lead, start, came, lead, acts_of}
 use Rattle.dp_proxy.proofs.PassLaws.{stream_push}
 use Rattle.dp_proxy.proofs.TurnLaws.{engine_comes, given_before, moved_before, closed_before, joined_on, joined_over, over_still}
 use Rattle.dp_registry.specs.declared.entry.Entry.{Entry}
@@ -57,23 +57,23 @@ module _ (bundle : Bundle) (bound : ℕ) (grows : (key bytes more : List ℕ)
   apart past e link isnt = let other : (link == e.link) ≡ false = grind (arith, nat_tests) in rw other refl
 
   here : (past : Past) (e : Event) (link : ℕ) → (e.link == link) ≡ true
-      → (followed bundle bound past e).link link ≡ (turn past.journal (past.link link)
+      → (followed bundle bound past e).link link ≡ (lead past.journal (past.link link)
       (act_of bundle bound (past.link link) e.act)).link
   here past e link is =
       let same : e.link ≡ link = eqb-true e.link link is in
       let self : (link == link) ≡ true = eq-eqb link link refl in
       subst (λ (n : ℕ). (came past n (act_of bundle bound (past.link n) e.act)).link link ≡
-      (turn past.journal (past.link link) (act_of bundle bound (past.link link) e.act)).link)
+      (lead past.journal (past.link link) (act_of bundle bound (past.link link) e.act)).link)
       (sym same) (rw self refl)
 
   -- a link that was not made is new
   idle_new : (journal : List Entry) (act : Act) → makes act ≡ false
-      → (turn journal New (act_of bundle bound New act)).link ≡ New
+      → (lead journal New (act_of bundle bound New act)).link ≡ New
   idle_new journal (Ide host) none = absurd cc
   idle_new journal (Engine key) none = absurd cc
-  idle_new journal (Give bytes) none = ap (λ (t : Turn). t.link) (given_before journal bytes)
-  idle_new journal (Move count) none = ap (λ (t : Turn). t.link) (moved_before journal [])
-  idle_new journal Close none = ap (λ (t : Turn). t.link) (closed_before journal)
+  idle_new journal (Give bytes) none = ap (λ (t : Lead). t.link) (given_before journal bytes)
+  idle_new journal (Move count) none = ap (λ (t : Lead). t.link) (moved_before journal [])
+  idle_new journal Close none = ap (λ (t : Lead). t.link) (closed_before journal)
 
   still_new : (past : Past) (events : List Event) (link : ℕ) → past.link link ≡ New → was makes link events ≡ false
       → (fold (followed bundle bound) past events).link link ≡ New
@@ -86,7 +86,7 @@ module _ (bundle : Bundle) (bound : ℕ) (grows : (key bytes more : List ℕ)
           → (followed bundle bound past e).link link ≡ New
       by true is both =
           let none : makes e.act ≡ false = rw is at both in
-          here past e link is ∙ ap (λ l. (turn past.journal l (act_of bundle bound l e.act)).link) new ∙ idle_new
+          here past e link is ∙ ap (λ l. (lead past.journal l (act_of bundle bound l e.act)).link) new ∙ idle_new
           past.journal e.act none
       by false isnt both = apart past e link isnt ∙ new
 
@@ -141,68 +141,68 @@ module _ (bundle : Bundle) (bound : ℕ) (grows : (key bytes more : List ℕ)
     now_at acts act = act_of bundle bound (Joined key pass acts) act
 
     served_on : (journal : List Entry) (link : Link) (act : Act) → IsServed link
-        → IsServed (turn journal link (act_of bundle bound link act)).link
+        → IsServed (lead journal link (act_of bundle bound link act)).link
     served_on journal link act s = elim s.is [
-      | inl live ↦ subst (λ l. IsServed (turn journal l (act_of bundle bound l act)).link) (sym live)
+      | inl live ↦ subst (λ l. IsServed (lead journal l (act_of bundle bound l act)).link) (sym live)
           (by (ends s.acts (now_at s.acts act)) refl)
       | inr over ↦ record {
         acts = s.acts;
-        is = inr (ap (λ l. (turn journal l (act_of bundle bound l act)).link) over ∙
+        is = inr (ap (λ l. (lead journal l (act_of bundle bound l act)).link) over ∙
             stays);
         sent = s.sent;
       }
     ] where
-      stays : (turn journal (Ended key pass s.acts) (act_of bundle bound (Ended key pass s.acts) act)).link ≡ Ended key
+      stays : (lead journal (Ended key pass s.acts) (act_of bundle bound (Ended key pass s.acts) act)).link ≡ Ended key
           pass s.acts
       stays =
-          ap (λ (t : Turn). t.link) (over_still journal (Ended key pass s.acts)
+          ap (λ (t : Lead). t.link) (over_still journal (Ended key pass s.acts)
           (act_of bundle bound (Ended key pass s.acts) act) tt)
 
       by : (t : Bool) → ends s.acts (now_at s.acts act) ≡ t
-          → IsServed (turn journal (Joined key pass s.acts) (now_at s.acts act)).link
+          → IsServed (lead journal (Joined key pass s.acts) (now_at s.acts act)).link
       by true e = record {
         acts = s.acts;
-        is = inr (ap (λ (t : Turn). t.link) (joined_over journal key pass s.acts (now_at s.acts act) e));
+        is = inr (ap (λ (t : Lead). t.link) (joined_over journal key pass s.acts (now_at s.acts act) e));
         sent = s.sent;
       }
       by false e = record {
         acts = s.acts ++ now_at s.acts act ∷ [];
-        is = inl (ap (λ (t : Turn). t.link) (joined_on journal key pass s.acts (now_at s.acts act) e));
+        is = inl (ap (λ (t : Lead). t.link) (joined_on journal key pass s.acts (now_at s.acts act) e));
         sent = sent_on s.acts act s.sent;
       }
 
     -- the journal has no say in it
     no_say : (journal : List Entry) (link : Link) (act : Act) → IsServed link
-        → (turn journal link (act_of bundle bound link act)).link ≡ (turn [] link (act_of bundle bound link act)).link
+        → (lead journal link (act_of bundle bound link act)).link ≡ (lead [] link (act_of bundle bound link act)).link
     no_say journal link act s = elim s.is [
       | inl live ↦
-          let P : Link → Type 0 = λ l. (turn journal l (act_of bundle bound l act)).link ≡
-          (turn [] l (act_of bundle bound l act)).link in
+          let P : Link → Type 0 = λ l. (lead journal l (act_of bundle bound l act)).link ≡
+          (lead [] l (act_of bundle bound l act)).link in
           subst P (sym live) (by (ends s.acts (now_at s.acts act)) refl)
       | inr over ↦
-          let P : Link → Type 0 = λ l. (turn journal l (act_of bundle bound l act)).link ≡
-          (turn [] l (act_of bundle bound l act)).link in
+          let P : Link → Type 0 = λ l. (lead journal l (act_of bundle bound l act)).link ≡
+          (lead [] l (act_of bundle bound l act)).link in
           subst P (sym over) (still journal ∙ sym (still []))
     ] where
       still : (j : List Entry)
-          → (turn j (Ended key pass s.acts) (act_of bundle bound (Ended key pass s.acts) act)).link ≡ Ended key pass
+          → (lead j (Ended key pass s.acts) (act_of bundle bound (Ended key pass s.acts) act)).link ≡ Ended key pass
           s.acts
       still j =
-          ap (λ (t : Turn). t.link) (over_still j (Ended key pass s.acts)
+          ap (λ (t : Lead). t.link) (over_still j (Ended key pass s.acts)
           (act_of bundle bound (Ended key pass s.acts) act) tt)
 
       by : (t : Bool) → ends s.acts (now_at s.acts act) ≡ t
-          → (turn journal (Joined key pass s.acts) (now_at s.acts act)).link ≡
-          (turn [] (Joined key pass s.acts) (now_at s.acts act)).link
+          → (lead journal (Joined key pass s.acts) (now_at s.acts act)).link ≡
+          (lead [] (Joined key pass s.acts) (now_at s.acts act)).link
       by true e =
-          ap (λ (t : Turn). t.link) (joined_over journal key pass s.acts (now_at s.acts act) e) ∙ sym
-          (ap (λ (t : Turn). t.link) (joined_over [] key pass s.acts (now_at s.acts act) e))
+          ap (λ (t : Lead). t.link) (joined_over journal key pass s.acts (now_at s.acts act) e) ∙ sym
+          (ap (λ (t : Lead). t.link) (joined_over [] key pass s.acts (now_at s.acts act) e))
       by false e =
-          ap (λ (t : Turn). t.link) (joined_on journal key pass s.acts (now_at s.acts act) e) ∙ sym
-          (ap (λ (t : Turn). t.link) (joined_on [] key pass s.acts (now_at s.acts act) e))
+          ap (λ (t : Lead). t.link) (joined_on journal key pass s.acts (now_at s.acts act) e) ∙ sym
+          (ap (λ (t : Lead). t.link) (joined_on [] key pass s.acts (now_at s.acts act) e))
 
     abbrev step : Link → Act → Link
-    step link act = (turn [] link (act_of bundle bound link act)).link
+    step link act = (lead [] link (act_of bundle bound link act)).link
 
     -- all events come to what those of its own link come to
     its_own : (past : Past) (events : List Event) (link : ℕ) → IsServed (past.link link)
@@ -279,8 +279,8 @@ module _ (bundle : Bundle) (bound : ℕ) (grows : (key bytes more : List ℕ)
     joined : (followed bundle bound before connects).link link ≡ Joined key pass []
     joined =
         here before connects link (eq-eqb link link refl) ∙ ap
-        (λ l. (turn before.journal l (act_of bundle bound l (Engine key))).link) new
-        ∙ ap (λ (t : Turn). t.link) (engine_comes before.journal key (Ok pass) (sym its.gives))
+        (λ l. (lead before.journal l (act_of bundle bound l (Engine key))).link) new
+        ∙ ap (λ (t : Lead). t.link) (engine_comes before.journal key (Ok pass) (sym its.gives))
 
     after : (past_of bundle bound events).link link ≡ alone_link
     after =

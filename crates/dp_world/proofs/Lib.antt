@@ -1,6 +1,6 @@
 pub mod EngineLaws
 pub mod HeadlineLaws
 pub mod ActLaws
-pub mod PassingLaws
+pub mod ChangeLaws
 pub mod WorldLaws
-pub mod WritingLaws
+pub mod TranscriptLaws

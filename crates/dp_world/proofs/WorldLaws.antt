@@ -19,16 +19,16 @@ use Rattle.dp_proxy.specs.declared.errors.ProxyError.TheVariants.{BadInit, BadFr
 use Rattle.dp_proxy.specs.declared.events.Act.{Act as ProxyAct}
 use Rattle.dp_proxy.specs.declared.events.Effect.{Effect}
 use Rattle.dp_proxy.specs.declared.events.Event.{Event as ProxyEvent}
-use Rattle.dp_proxy.specs.Pasts.{Link, New, Joined, Ended, Asking, Settled, Refused, Past, Turn, turn, came, start}
+use Rattle.dp_proxy.specs.Pasts.{Link, New, Joined, Ended, Asking, Settled, Refused, Past, Lead, lead, came, start}
 use Rattle.dp_proxy.specs.Pasts as core
-use Rattle.dp_proxy.specs.Standing.{Keeps, Stands, StandsAfter}
+use Rattle.dp_proxy.specs.Invariant.{Keeps, Stands, StandsAfter}
 use Rattle.dp_proxy.specs.Steps.{Answers}
 use Rattle.dp_world.specs.declared.shown.Shown.{Shown}
 use Rattle.dp_world.specs.declared.shown.Shown.TheVariants.{Registration, Refused as Turned_away, Session}
 use Rattle.dp_world.specs.Engines.{act_of, followed, past_of}
-use Rattle.dp_world.specs.inner.Showing.{IsShown, IsShownAt, IsReadyAt, Passes, LeadsAs, KeepsOthers, kept_at, made, AreShown, WorldStands}
-use Rattle.dp_world.specs.inner.Passing.{IsReadable, IsReadableAt, IsFormedFor, IsTakenAt, AfterAt, IsPut, IsMadeIn}
-use Rattle.dp_world.proofs.PassingLaws.{kept_passed, kept_takes, kept_broken, some_effect, none_ready}
+use Rattle.dp_world.specs.inner.KeptLinks.{IsShown, IsShownAt, IsReadyAt, Passes, LeadsAs, KeepsOthers, kept_at, made, AreShown, WorldStands}
+use Rattle.dp_world.specs.inner.Changes.{IsReadable, IsReadableAt, IsFormedFor, IsTakenAt, AfterAt, IsPut, IsMadeIn}
+use Rattle.dp_world.proofs.ChangeLaws.{kept_passed, kept_takes, kept_broken, some_effect, none_ready}
 
 -- ---- keys
 
@@ -95,7 +95,7 @@ made_more bundle bound links after number kept link shown put = record {
 -- ---- the past
 
 came_as : (past : Past) (number : ℕ) (a b : ProxyAct)
-    → turn past.journal (past.link number) a ≡ turn past.journal (past.link number) b
+    → lead past.journal (past.link number) a ≡ lead past.journal (past.link number) b
     → came past number a ≡ came past number b
 came_as past number a b e = λ i. record {
   journal = (e i).journal;
@@ -166,11 +166,11 @@ module _ (bundle : Bundle) (bound : ℕ) (events : List Event) (e : Event) (keep
     abbrev comes : ProxyEvent
     comes = record { link = e.link; act = act }
 
-    abbrev led : Turn
-    led = turn past.journal link act
+    abbrev led : Lead
+    led = lead past.journal link act
 
-    abbrev led_by : Turn
-    led_by = turn past.journal link (act_of bundle bound link e.act)
+    abbrev led_by : Lead
+    led_by = lead past.journal link (act_of bundle bound link e.act)
 
     -- the answer is one at this past
     pub told_at : (r : Result Effect ProxyError) → Answers (core.past_of w.came) e.link act r
@@ -194,7 +194,7 @@ module _ (bundle : Bundle) (bound : ℕ) (events : List Event) (e : Event) (keep
               → IsShownAt bundle bound ((followed bundle bound past e).link n) (kept_at after n)
           at n true is =
               let same : e.link ≡ n = sym (eqb-true n e.link is) in
-              let led_is = ap (λ (x : Turn). x.link) (ready.1 past.journal) in
+              let led_is = ap (λ (x : Lead). x.link) (ready.1 past.journal) in
               rw is (subst (λ (m : ℕ). IsShownAt bundle bound led_by.link (kept_at after m)) same
               (subst (λ (l : Link). IsShownAt bundle bound l (kept_at after e.link)) led_is here))
           at n false isnt =
@@ -243,7 +243,7 @@ module _ (bundle : Bundle) (bound : ℕ) (events : List Event) (e : Event) (keep
 
     -- a link is made
     pub made_stands : (after : List (ℕ × Shown)) → makes e.act ≡ true → link ≡ New → Stands now (w.came ++ comes ∷ [])
-        → IsMadeIn bundle bound mid after e.link (turn past.journal New (act_of bundle bound New e.act)).link
+        → IsMadeIn bundle bound mid after e.link (lead past.journal New (act_of bundle bound New e.act)).link
         → WorldStands bundle bound (events ++ e ∷ []) now after
     made_stands after is new stands put = record {
       came = w.came ++ comes ∷ [];
@@ -254,13 +254,13 @@ module _ (bundle : Bundle) (bound : ℕ) (events : List Event) (e : Event) (keep
           (made_push events e ∙ ap (λ l. made events ++ l) one);
       each = each_after after
           (subst (λ (l : Link). IsShownAt bundle bound l (kept_at after e.link))
-          (ap (λ (x : Turn). x.link) (sym led_new)) put.here) put.others;
+          (ap (λ (x : Lead). x.link) (sym led_new)) put.here) put.others;
     } where
       one : made (e ∷ []) ≡ e.link ∷ []
       one = rw is refl
 
-      led_new : turn past.journal link act ≡ turn past.journal New (act_of bundle bound New e.act)
-      led_new = ready.1 past.journal ∙ ap (λ (l : Link). turn past.journal l (act_of bundle bound l e.act)) new
+      led_new : lead past.journal link act ≡ lead past.journal New (act_of bundle bound New e.act)
+      led_new = ready.1 past.journal ∙ ap (λ (l : Link). lead past.journal l (act_of bundle bound l e.act)) new
 
     -- the link is broken: it was made before
     pub broken_stands : (makes e.act ≡ true → link ≡ New) → led.effect ≡ None → Stands now (w.came ++ comes ∷ [])
@@ -269,7 +269,7 @@ module _ (bundle : Bundle) (bound : ℕ) (events : List Event) (e : Event) (keep
       by : (t : Bool) → makes e.act ≡ t → WorldStands bundle bound (events ++ e ∷ []) now mid
       by true is =
           absurd (some_effect bundle bound past.journal act (subst
-          (λ (l : Link). (turn past.journal l act).effect ≡ None) (new is) none))
+          (λ (l : Link). (lead past.journal l act).effect ≡ None) (new is) none))
       by false isnt = broken_on isnt none stands
 
     pub broken_told : (why : ProxyError) (offset : ℕ) → why ≡ BadFrame offset
@@ -289,10 +289,10 @@ module _ (bundle : Bundle) (bound : ℕ) (events : List Event) (e : Event) (keep
         (subst (λ (l : Link). IsReadyAt bundle bound l act (kept_at mid e.link)) new ready.0)
 
     pub made_told : (effect : Effect) → link ≡ New → led.effect ≡ Some effect
-        → (turn past.journal New (act_of bundle bound New e.act)).effect ≡ Some effect
+        → (lead past.journal New (act_of bundle bound New e.act)).effect ≡ Some effect
     made_told effect new is =
-        sym (ap (λ (x : Turn). x.effect) (ready.1 past.journal ∙ ap
-        (λ (l : Link). turn past.journal l (act_of bundle bound l e.act)) new)) ∙ is
+        sym (ap (λ (x : Lead). x.effect) (ready.1 past.journal ∙ ap
+        (λ (l : Link). lead past.journal l (act_of bundle bound l e.act)) new)) ∙ is
 
 -- ---- before any event
 

@@ -7,7 +7,7 @@ use Rattle.dp_proxy.specs.declared.events.Act.{Act as ProxyAct}
 use Rattle.dp_proxy.specs.declared.events.Act.TheVariants as proxy
 use Rattle.dp_lanes.specs.declared.lane.LaneKind.TheVariants.{Up, Down}
 use Rattle.dp_proxy.specs.Links.{stream}
-use Rattle.dp_proxy.specs.Pasts.{Link, Joined, Past, start, came, turn, acts_of}
+use Rattle.dp_proxy.specs.Pasts.{Link, Joined, Past, start, came, lead, acts_of}
 use Rattle.dp_lists.specs.declared.event.Act.{Act}
 use Rattle.dp_lists.specs.declared.event.Act.TheVariants.{Ide, Engine, Give, Move, Close}
 use Rattle.dp_lists.specs.declared.event.Event.{Event}
@@ -43,7 +43,7 @@ acts_on link events = map (λ e. e.act) (filter (λ e. e.link == link) events)
 -- what becomes of a session by what happens on its own link, where there is no other
 abbrev pub by_itself : Bundle → ℕ → List ℕ → Pass → List Act → Link
 by_itself bundle bound key pass acts =
-    fold (λ link act. (turn [] link (act_of bundle bound link act)).link) (Joined key pass []) acts
+    fold (λ link act. (lead [] link (act_of bundle bound link act)).link) (Joined key pass []) acts
 
 -- what was given and read there until it ended
 abbrev pub alone_on : Bundle → ℕ → List ℕ → Pass → List Act → List ProxyAct

@@ -1,5 +1,5 @@
 -- What only the proof of a replay speaks of. No public clause cites these.
-pub mod Standing
-pub mod Showing
-pub mod Passing
-pub mod Writing
+pub mod EngineStates
+pub mod KeptLinks
+pub mod Changes
+pub mod LinkLines

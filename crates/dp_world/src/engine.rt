@@ -8,7 +8,7 @@ ghost use Rattle.dp_registry.specs.Names.{IsKey};
 ghost use Rattle.dp_tree.specs.FileNames.{AreFileNames};
 ghost use Rattle.dp_tree.specs.declared.bundle.Bundle.{Bundle as Program};
 ghost use Rattle.dp_wire.specs.Frames.{IsCommand, IsPacketText, commands_in, packet_frame, rest_of};
-ghost use Rattle.dp_world.specs.inner.Standing.{GoesOn, IsFirst, Serves};
+ghost use Rattle.dp_world.specs.inner.EngineStates.{GoesOn, IsFirst, Serves};
 
 use dp_engine::{Answer, Session, SessionEnd, Steps};
 use dp_state::Outcome;

@@ -8,10 +8,10 @@ ghost use Rattle.dp_registry.specs.declared.pass.Pass.{Pass};
 ghost use Rattle.dp_registry.specs.declared.refusal.Refusal.{Refusal};
 ghost use Rattle.std.specs.declared.result.Result.{Result as Verdict};
 ghost use Rattle.dp_lists.specs.Lists.{IsFormed, makes as is_made_by};
-ghost use Rattle.dp_proxy.specs.Pasts.{Link, New, turn, admitted, admission};
+ghost use Rattle.dp_proxy.specs.Pasts.{Link, New, lead, admitted, admission};
 ghost use Rattle.dp_world.specs.Engines.{act_of};
-ghost use Rattle.dp_world.specs.inner.Passing.{IsReadableAt, ReadsAt, IsFormedFor, IsTakenAt, AfterAt, IsPut, IsMadeIn};
-ghost use Rattle.dp_world.specs.inner.Showing.{IsShownAt, IsReadyAt, Passes, LeadsAs, KeepsOthers, kept_at};
+ghost use Rattle.dp_world.specs.inner.Changes.{IsReadableAt, ReadsAt, IsFormedFor, IsTakenAt, AfterAt, IsPut, IsMadeIn};
+ghost use Rattle.dp_world.specs.inner.KeptLinks.{IsShownAt, IsReadyAt, Passes, LeadsAs, KeepsOthers, kept_at};
 
 use crate::engine::Engine;
 use crate::shown::Shown;
@@ -124,9 +124,9 @@ fn opened<'a>(
     requires formed { IsFormed act.now }
     requires names { AreFileNames (map (λ f. f.name) bundle.now.files) }
     ensures { (journal : List Entry) → is_made_by act.now ≡ true
-        → (turn journal New (act_of bundle.now bound New act.now)).effect ≡ Some effect → IfOk result (λ kept.
+        → (lead journal New (act_of bundle.now bound New act.now)).effect ≡ Some effect → IfOk result (λ kept.
         (is_some kept ≡ true)
-        × IsShownAt bundle.now bound (turn journal New (act_of bundle.now bound New act.now)).link kept) }
+        × IsShownAt bundle.now bound (lead journal New (act_of bundle.now bound New act.now)).link kept) }
 {
     match act {
         Act::Ide(host) => {
@@ -185,9 +185,9 @@ pub(crate) fn make<'a>(
     requires names { AreFileNames (map (λ f. f.name) bundle.now.files) }
     ensures { (journal : List Entry) → is_made_by event.now.act ≡ true
         → kept_at links.old.entries event.now.link ≡ None
-        → (turn journal New (act_of bundle.now bound New event.now.act)).effect ≡ Some effect
+        → (lead journal New (act_of bundle.now bound New event.now.act)).effect ≡ Some effect
         → OnOk result (IsMadeIn bundle.now bound links.old.entries links.new.entries event.now.link
-        (turn journal New (act_of bundle.now bound New event.now.act)).link) }
+        (lead journal New (act_of bundle.now bound New event.now.act)).link) }
 {
     let kept = opened(alloc, bundle, bound, &event.act, effect)?;
     put(links, event.link, kept)

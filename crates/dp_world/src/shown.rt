@@ -32,7 +32,7 @@ pub(crate) enum Shown<'a> {
 
 impl<'a> Shown<'a> {
     ghost use Rattle.dp_proxy.specs.declared.events.Effect.TheVariants as told;
-    ghost use Rattle.dp_world.specs.inner.Passing.{IsReadable, Reads, replied, received, IsTaken, Takes, After};
+    ghost use Rattle.dp_world.specs.inner.Changes.{IsReadable, Reads, replied, received, IsTaken, Takes, After};
 
     /// The next bytes of its engine, at most so many; none where there is no engine.
     pub fn read(&mut self, alloc: Global, count: u32) -> Result<Bytes, Memory>

@@ -5,7 +5,7 @@ ghost use Rattle.dp_tree.specs.declared.bundle.Bundle.{Bundle as Program};
 ghost use Rattle.dp_lists.specs.declared.event.Event.{Event as OneEvent};
 ghost use Rattle.dp_lists.specs.Lists.{AllFit, Fits};
 ghost use Rattle.dp_world.specs.Engines.{past_of};
-ghost use Rattle.dp_world.specs.inner.Showing.{AreShown, MayTake, WorldStands, made};
+ghost use Rattle.dp_world.specs.inner.KeptLinks.{AreShown, MayTake, WorldStands, made};
 ghost use Rattle.std.specs.Map.{keys_of};
 
 use crate::links::{brought, make, makes, pass};

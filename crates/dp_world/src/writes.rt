@@ -6,8 +6,8 @@ ghost use Rattle.dp_tree.specs.FileNames.{AreFileNames};
 ghost use Rattle.dp_tree.specs.declared.bundle.Bundle.{Bundle as Program};
 ghost use Rattle.dp_world.specs.Replays.{Replays};
 ghost use Rattle.dp_world.specs.Transcript as spec;
-ghost use Rattle.dp_world.specs.inner.Showing.{AreShown, Has, IsShown};
-ghost use Rattle.dp_world.specs.inner.Writing.{Writes, lines_of};
+ghost use Rattle.dp_world.specs.inner.KeptLinks.{AreShown, Has, IsShown};
+ghost use Rattle.dp_world.specs.inner.LinkLines.{Writes, lines_of};
 
 use crate::engine::Engine;
 use crate::errors::ReplayError;

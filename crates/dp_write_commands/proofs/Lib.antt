@@ -1,4 +1,4 @@
 pub mod Sizes
-pub mod Making
-pub mod Asking
+pub mod MadeWrites
+pub mod RequestedWrites
 pub mod Sent

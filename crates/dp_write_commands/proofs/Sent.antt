@@ -25,12 +25,12 @@ use Rattle.dp_view.specs.declared.errors.ViewError.TheVariants.{Code, Memory}
 use Rattle.dp_view.specs.Answers.{and_then}
 use Rattle.dp_view.specs.Named.{named_path}
 use Rattle.dp_view.specs.Places.{shown_variables, variables_of}
-use Rattle.dp_view.specs.Reading.{path_at}
+use Rattle.dp_view.specs.NameReader.{path_at}
 use Rattle.dp_wire.specs.Frames.{packet_limit}
 use Rattle.dp_write_commands.specs.declared.commands.Written.{Written}
 use Rattle.dp_write_commands.specs.Answers.{Answers, HasKnownCode, IsSent}
 use Rattle.dp_write_commands.specs.Asked.{is_reserved, path_asked, tree_of, unreserved, value_asked, write_asked}
-use Rattle.dp_write_commands.specs.Writing.{responding, response_to, success, value_response, within_limit, write_response}
+use Rattle.dp_write_commands.specs.Responses.{responding, response_to, success, value_response, within_limit, write_response}
 
 -- ---- a value of which something holds, or a code that has a message
 

@@ -4,7 +4,7 @@ use Rattle.std.specs.Prelude.{Result, Ok, Err}
 use Rattle.std.proofs.lemmas.Bool.{leb-false, leb-true}
 use Rattle.std.proofs.lemmas.Bool.Decides.{nat_tests}
 use Rattle.dp_features.specs.Features.{Features}
-use Rattle.dp_markup.specs.Writing.{attribute_text, nodes_text}
+use Rattle.dp_markup.specs.Texts.{attribute_text, nodes_text}
 use Rattle.dp_packet.specs.declared.packet.Body.{Body}
 use Rattle.dp_packet.specs.declared.packet.Body.TheVariants as body
 use Rattle.dp_packet.specs.declared.packet.Packet.TheVariants as packet
@@ -23,8 +23,8 @@ use Rattle.dp_view.specs.declared.errors.ViewError.TheVariants.{Code, Memory}
 use Rattle.dp_view.specs.Properties.{shown}
 use Rattle.dp_view_limits.specs.Limits.{limited_shown, property_size}
 use Rattle.dp_wire.specs.Frames.{packet_limit}
-use Rattle.dp_write_commands.specs.Writing.{paging, success, value_response, within_limit}
-use Rattle.dp_write_commands.specs.inner.Making.{Finds, Gives, around}
+use Rattle.dp_write_commands.specs.Responses.{paging, success, value_response, within_limit}
+use Rattle.dp_write_commands.specs.inner.Writes.{Finds, Gives, around}
 
 -- ---- sizes
 

@@ -21,7 +21,7 @@ use Rattle.dp_view.specs.Named.{named_path}
 use Rattle.dp_wire.specs.Frames.{packet_limit}
 use Rattle.dp_write_commands.specs.declared.commands.Written.{Written}
 use Rattle.dp_write_commands.specs.Asked.{value_asked, write_asked}
-use Rattle.dp_write_commands.specs.Writing.{code_in, write_response}
+use Rattle.dp_write_commands.specs.Responses.{code_in, write_response}
 
 -- the write that was asked for was made in the state, and its response is reported
 pub record IsWritten (bundle : Bundle) (features : Features) (before after : State)

@@ -1,4 +1,4 @@
 pub mod Asked
-pub mod Writing
+pub mod Responses
 pub mod Answers
 pub mod inner

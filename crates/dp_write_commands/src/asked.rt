@@ -4,7 +4,7 @@ ghost use Rattle.std.specs.Prelude.{◌≡◌, Ok, ok_or, option_map, IfOk, IfSo
 ghost use Rattle.dp_view.specs.Answers.{AnswersAfter};
 ghost use Rattle.dp_view.specs.Named.{named_path as path_of_name};
 ghost use Rattle.dp_write_commands.specs.Asked as spec;
-ghost use Rattle.dp_write_commands.specs.inner.Making.{Finds, IsTree, error_of, value_of_given};
+ghost use Rattle.dp_write_commands.specs.inner.Writes.{Finds, IsTree, error_of, value_of_given};
 
 use dp_command::{PropertyPlace, PropertySet};
 use dp_parse::{ParseError, parse_expression};

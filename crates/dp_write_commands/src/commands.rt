@@ -7,8 +7,8 @@ ghost use Rattle.dp_command.specs.declared.command.Request.TheVariants as reques
 ghost use Rattle.dp_meaning.specs.declared.writes.Write.TheVariants as write;
 ghost use Rattle.dp_view.specs.Named.{named_path};
 ghost use Rattle.dp_write_commands.specs.Answers.{Answers, HasKnownCode, IsSent, refusal_at_once};
-ghost use Rattle.dp_write_commands.specs.Writing.{code_in};
-ghost use Rattle.dp_write_commands.specs.inner.Making.{Makes, kept_by, value_of_given, with_response, with_write};
+ghost use Rattle.dp_write_commands.specs.Responses.{code_in};
+ghost use Rattle.dp_write_commands.specs.inner.Writes.{Makes, kept_by, value_of_given, with_response, with_write};
 
 use crate::asked::{Given, given_in, path_asked, tree_of, value_of};
 use crate::places::put;
@@ -42,7 +42,7 @@ fn if_done(done: Result<(), ViewError>, response: Response) -> Result<Response, 
 }
 
 // Gives a place a value, and tells it.
-#[tactic(auto, using(crate::proofs::Making::place_tried))]
+#[tactic(auto, using(crate::proofs::MadeWrites::place_tried))]
 fn make_place(
     alloc: Global,
     bundle: &Bundle,
@@ -84,7 +84,7 @@ fn keep(
 }
 
 // Evaluates an expression, and tells its value.
-#[tactic(auto, using(crate::proofs::Making::evaluation_tried))]
+#[tactic(auto, using(crate::proofs::MadeWrites::evaluation_tried))]
 fn make_evaluation(
     alloc: Global,
     bundle: &Bundle,
@@ -242,7 +242,7 @@ fn write_evaluation(
 }
 
 // The same without what is known of responses and codes.
-#[tactic(auto, unfolding(crate::specs::Asked::write_asked, crate::specs::Writing::write_response))]
+#[tactic(auto, unfolding(crate::specs::Asked::write_asked, crate::specs::Responses::write_response))]
 fn make_write(
     alloc: Global,
     bundle: &Bundle,

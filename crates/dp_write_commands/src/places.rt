@@ -3,7 +3,7 @@
 ghost use Rattle.std.specs.Prelude.{◌≡◌, false, IfOk};
 ghost use Rattle.dp_meaning.specs.Writes.{place_or_fault, with_place};
 ghost use Rattle.dp_state.specs.Places.{assigned, given_keys as all_given};
-ghost use Rattle.dp_write_commands.specs.inner.Making.{Puts};
+ghost use Rattle.dp_write_commands.specs.inner.Writes.{Puts};
 
 use dp_shared::Shared;
 use dp_state::{Fault, Path, State};

@@ -2,7 +2,7 @@
 use Rattle.std.specs.Prelude.{◌≡◌, ◌≢◌, ◌⊎◌, ℕ, ◌+◌, ◌<◌, ◌≤◌, Bool, not, true, false, drop, slice_range, if◌then◌else◌, List, [], ◌∷◌, ◌++◌, length, Option, Some, Result, ⊤, codes, flat_map}
 use Rattle.std.specs.List.{list_all, AllByRecursion}
 use Rattle.std.specs.Io.KnownBytes.{Appends, Consumes, Keeps, IsAtEnd}
-use Rattle.dp_markup.specs.Writing.{written}
+use Rattle.dp_markup.specs.Texts.{written}
 use Rattle.dp_outside.specs.Causes.{Rose}
 use Rattle.dp_outside.specs.Changes.{Change}
 use Rattle.dp_outside.specs.Streams.{AppendsFront}
@@ -16,7 +16,7 @@ use Rattle.dp_ide.specs.declared.instruction.Instruction.{Instruction}
 use Rattle.dp_ide.specs.declared.heard.Heard.{Heard as Kept}
 use Rattle.dp_ide.specs.declared.heard.Message.{Message}
 use Rattle.dp_ide.specs.Messages.{IsMessage, AreMessages, answers, is_init, output_in}
-use Rattle.dp_ide.specs.Playing.{Heard, Expectation, Answered, Played, expected, sent}
+use Rattle.dp_ide.specs.Instructions.{Heard, Expectation, Answered, Played, expected, sent}
 use Rattle.dp_ide.specs.Plays.{Ends}
 
 -- what the code keeps, with what was printed before

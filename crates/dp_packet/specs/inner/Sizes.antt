@@ -1,6 +1,6 @@
 -- How long the parts of an element's text are. Only proofs speak of these.
 use Rattle.std.specs.Prelude.{ℕ, ◌+◌, [], ◌∷◌, length}
-use Rattle.dp_markup.specs.Escaping.{escaped_all}
+use Rattle.dp_markup.specs.Escapes.{escaped_all}
 use Rattle.dp_packet.specs.Parts.{Text, Attributes}
 
 abbrev pub attribute_size : Text × Text → ℕ

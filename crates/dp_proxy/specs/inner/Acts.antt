@@ -21,9 +21,9 @@ use Rattle.dp_proxy.specs.declared.kept.Step.{Step}
 use Rattle.dp_proxy.specs.declared.passes.Passing.{Passing}
 use Rattle.dp_proxy.specs.declared.passes.Passing.TheVariants.{Told, Closed, Broken}
 use Rattle.dp_proxy.specs.Links.{passed, ends}
-use Rattle.dp_proxy.specs.Pasts.{Link, Asking, Settled, Turn, turn, question, listening}
+use Rattle.dp_proxy.specs.Pasts.{Link, Asking, Settled, Lead, lead, question, listening}
 use Rattle.dp_proxy.specs.Places.{BreaksAt}
-use Rattle.dp_proxy.specs.Standing.{IsKept, session_in}
+use Rattle.dp_proxy.specs.Invariant.{IsKept, session_in}
 use Rattle.dp_proxy.specs.Steps.{AnswersAt}
 
 -- ---- an IDE that asks
@@ -46,16 +46,16 @@ Passes acts act Closed = (passed acts act ≡ Some Nothing) × (ends acts act �
 Passes acts act (Broken offset) =
     (passed acts act ≡ None) × (ends acts act ≡ true) × BreaksAt (acts ++ act ∷ []) offset
 
--- ---- one turn
+-- ---- one act
 
 -- the journal and what is kept of the link stand for what the act leads to
 abbrev pub Moves : List Entry → Link → Act → List Entry → Option Kept → Result Effect ProxyError
     → Type 0
 Moves journal link act next kept (Ok effect) =
-    (next ≡ (turn journal link act).journal) × IsKept kept (turn journal link act).link
+    (next ≡ (lead journal link act).journal) × IsKept kept (lead journal link act).link
 Moves journal link act next kept (Err BadInit) = (next ≡ journal) × (kept ≡ None)
 Moves journal link act next kept (Err (BadFrame offset)) =
-    (next ≡ (turn journal link act).journal) × IsKept kept (turn journal link act).link
+    (next ≡ (lead journal link act).journal) × IsKept kept (lead journal link act).link
 Moves journal link act next kept (Err Memory) = ⊥
 
 pub record Leads (journal : List Entry) (link : Link) (act : Act) (next : List Entry) (step : Step)

@@ -16,11 +16,11 @@ use Rattle.dp_serving.specs.declared.link.Piece.{Piece}
 use Rattle.dp_serving.specs.declared.link.Piece.TheVariants.{Came, End, Failed}
 use Rattle.dp_serving.specs.declared.responder.Answer.{Answer}
 use Rattle.dp_serving.specs.Folds.{Reply, replies, reply_of}
-use Rattle.dp_serving.specs.Serving.{EndsBy, CutBy, IsLeftIn, IsReadUpTo}
+use Rattle.dp_serving.specs.Service.{EndsBy, CutBy, IsLeftIn, IsReadUpTo}
 
 -- These commands were taken from the bytes read, and what follows them is held. However the bytes
 -- go on, they stay the first commands.
-pub record Stands (read held : List ℕ) (taken : List (List ℕ)) : Type 0 where
+pub record HasTaken (read held : List ℕ) (taken : List (List ℕ)) : Type 0 where
   pub each : AllByRecursion IsCommand taken
   pub whole : read ≡ flat_map command_frame taken ++ held
   pub first : (more : List ℕ) → commands_in (read ++ more) ≡ taken ++ commands_in (held ++ more)
@@ -51,7 +51,7 @@ StopsBy TooLong ended rest = (ended ≡ None) × BeginsNoCommand rest
 pub record Reached {S E : Type 0} (step : S → List ℕ → Reply S E) (start state : S)
     (held rest : List ℕ) (sink out : Change) : Type 0 where
   pub taken : List (List ℕ)
-  pub stands : Stands held rest taken
+  pub stands : HasTaken held rest taken
   pub delivers : Delivers (replies step start taken) sink out
   pub is_state : (replies step start taken).state ≡ state
 
@@ -95,7 +95,7 @@ pub record Conversation {S E : Type 0} (step : S → List ℕ → Reply S E) (st
     (init read held : List ℕ) (source sink out : Change) : Type 0 where
   pub taken : List (List ℕ)
   pub consumed : Consumes source.told_before source.told read
-  pub stands : Stands read held taken
+  pub stands : HasTaken read held taken
   pub sent : Appends sink.told_before sink.told (packet_frame init
       ++ flat_map packet_frame (replies step start taken).packets)
   pub printed : Appends out.told_before out.told (replies step start taken).program

@@ -3,7 +3,7 @@
 use Rattle.std.specs.Prelude.{◌≡◌, ℕ, zero, suc, ◌+◌, ◌<◌, List, length, sum_by, take, decimal, Option, Some, None, option_map}
 use Rattle.std.specs.Fmt.{signed_decimal}
 use Rattle.std.specs.Option.{option_map_or}
-use Rattle.dp_markup.specs.Escaping.{escaped_all}
+use Rattle.dp_markup.specs.Escapes.{escaped_all}
 use Rattle.dp_packet.specs.Parts.{base64}
 use Rattle.dp_state.specs.declared.vars.Slot.{Slot}
 use Rattle.dp_state.specs.Variables.{Variables}

@@ -1,5 +1,5 @@
 use Rattle.std.proofs.Common.{refl}
-use Rattle.dp_actions.proofs.Acting.{gives}
+use Rattle.dp_actions.proofs.AtOnceLaws.{gives}
 use Rattle.dp_actions.proofs.after.then_next.Goals as goal
 
 pub returns-in-Ok : goal.returns-in-Ok

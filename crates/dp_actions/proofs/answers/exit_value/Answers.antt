@@ -1,5 +1,5 @@
 use Rattle.std.proofs.Common.{sym, ◌∙◌}
-use Rattle.dp_actions.proofs.Acting.{breaks_off, ends, goes_on}
+use Rattle.dp_actions.proofs.AtOnceLaws.{breaks_off, ends, goes_on}
 use Rattle.dp_actions.proofs.Tails.{step-err, step-ok}
 use Rattle.dp_actions.proofs.answers.exit_value.Goals as goal
 

@@ -1,4 +1,4 @@
-use Rattle.dp_actions.proofs.Acting.{exits}
+use Rattle.dp_actions.proofs.AtOnceLaws.{exits}
 use Rattle.dp_actions.proofs.Tails.{bind-breaks-off, bind-goes-on, entry-is}
 use Rattle.dp_actions.proofs.bindings.bind_entry.Goals as goal
 

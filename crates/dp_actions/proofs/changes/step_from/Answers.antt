@@ -1,4 +1,4 @@
-use Rattle.dp_actions.proofs.Acting.{breaks_off, exits, goes_on}
+use Rattle.dp_actions.proofs.AtOnceLaws.{breaks_off, exits, goes_on}
 use Rattle.dp_actions.proofs.Tails.{gives-answers}
 use Rattle.dp_actions.proofs.changes.step_from.Goals as goal
 

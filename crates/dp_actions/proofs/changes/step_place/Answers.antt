@@ -1,4 +1,4 @@
-use Rattle.dp_actions.proofs.Acting.{breaks_off, exits, goes_on}
+use Rattle.dp_actions.proofs.AtOnceLaws.{breaks_off, exits, goes_on}
 use Rattle.dp_actions.proofs.changes.step_place.Goals as goal
 
 pub returns-in_err-old : goal.returns-in_err-old

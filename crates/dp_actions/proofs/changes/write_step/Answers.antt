@@ -1,5 +1,5 @@
 use Rattle.std.proofs.Common.{sym}
-use Rattle.dp_actions.proofs.Acting.{breaks_off, exits, gives, goes_on}
+use Rattle.dp_actions.proofs.AtOnceLaws.{breaks_off, exits, gives, goes_on}
 use Rattle.dp_actions.proofs.Tails.{assign-is}
 use Rattle.dp_actions.proofs.changes.write_step.Goals as goal
 

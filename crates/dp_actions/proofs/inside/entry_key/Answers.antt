@@ -1,5 +1,5 @@
 use Rattle.std.proofs.Common.{sym, ◌∙◌}
-use Rattle.dp_actions.proofs.Entering.{reads}
+use Rattle.dp_actions.proofs.EntryReads.{reads}
 use Rattle.dp_actions.proofs.inside.entry_key.Goals as goal
 
 pub returns-in-Some-get : goal.returns-in-Some-get

@@ -1,4 +1,4 @@
-use Rattle.dp_actions.proofs.Acting.{breaks_off, exits, gives, goes_on}
+use Rattle.dp_actions.proofs.AtOnceLaws.{breaks_off, exits, gives, goes_on}
 use Rattle.dp_actions.proofs.places.assign_keyed.Goals as goal
 
 pub returns-in_err-write_keyed : goal.returns-in_err-write_keyed

@@ -4,7 +4,7 @@ use Rattle.dp_parse.specs.ExpressionIn.{expression_in}
 use Rattle.dp_tree.specs.declared.tree.Expression.{Expression}
 use Rattle.dp_break.specs.declared.errors.BreakError.{BreakError}
 use Rattle.dp_break.specs.Conditions.{condition_of, expression_limit}
-use Rattle.dp_break.specs.inner.Refusing.{IsNoTree}
+use Rattle.dp_break.specs.inner.Causes.{IsNoTree}
 use Rattle.dp_break.proofs.Requests.{pure_found, pure_refused, too_long, why_none}
 use Rattle.dp_break.proofs.conditions.condition_of.Goals as goal
 

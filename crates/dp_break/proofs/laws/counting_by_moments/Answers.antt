@@ -1,5 +1,5 @@
 use Rattle.std.proofs.Common.{drop}
-use Rattle.dp_break.proofs.Counting.{found-held, found-stop}
+use Rattle.dp_break.proofs.CountLaws.{found-held, found-stop}
 use Rattle.dp_break.proofs.laws.counting_by_moments.Goals as goal
 
 pub returns-clause-stop : goal.returns-clause-stop

@@ -1,4 +1,4 @@
-use Rattle.dp_break.proofs.Counting.{stop-none}
+use Rattle.dp_break.proofs.CountLaws.{stop-none}
 use Rattle.dp_break.proofs.laws.stops_without_breakpoints.Goals as goal
 
 pub returns : goal.returns

@@ -1,8 +1,8 @@
 use Rattle.std.proofs.Common.{◌≡◌, ◌+◌, ◌-◌, min, ℕ, false, rules, ◌&&◌, sym, ap, ◌∙◌, arith}
 use Rattle.std.proofs.lemmas.Bool.{and_left, and_right}
 use Rattle.dp_break.specs.Hits.{is_enough_for}
-use Rattle.dp_break.specs.Passing.{most_hits}
-use Rattle.dp_break.specs.inner.Settling.{stops_once_more}
+use Rattle.dp_break.specs.StopRule.{most_hits}
+use Rattle.dp_break.specs.inner.Marks.{stops_once_more}
 use Rattle.dp_break.proofs.Steps.{hit_left}
 use Rattle.dp_break.proofs.moments.hit.Goals as goal
 

@@ -1,4 +1,4 @@
-use Rattle.dp_breakpoint_commands.proofs.Refusing.{plain_passed, plain_told}
+use Rattle.dp_breakpoint_commands.proofs.RequestTests.{plain_passed, plain_told}
 use Rattle.dp_breakpoint_commands.proofs.answers.set_breakpoint.Goals as goal
 
 pub returns-in_err-id-clause-surely : goal.returns-in_err-id-clause-surely

@@ -1,6 +1,6 @@
 use Rattle.std.proofs.Common.{◌≡◌, ◌++◌, ◌≤◌, drop, map}
-use Rattle.dp_breakpoint_commands.specs.Showing.{breakpoint_line}
-use Rattle.dp_breakpoint_commands.specs.inner.Listing.{fitting}
+use Rattle.dp_breakpoint_commands.specs.Lines.{breakpoint_line}
+use Rattle.dp_breakpoint_commands.specs.inner.LineSizes.{fitting}
 use Rattle.dp_breakpoint_commands.proofs.lists.fitting_lines.Given as goal
 
 abbrev pub invariant-loop-breakpoint : goal.invariant-loop-breakpoint

@@ -1,6 +1,6 @@
 use Rattle.std.proofs.Common.{map}
 use Rattle.dp_breakpoint_commands.specs.Commands.{listed}
-use Rattle.dp_breakpoint_commands.specs.Showing.{breakpoint_line}
+use Rattle.dp_breakpoint_commands.specs.Lines.{breakpoint_line}
 use Rattle.dp_breakpoint_commands.proofs.Lengths.{lines_made_fit, listed_short}
 use Rattle.dp_breakpoint_commands.proofs.lists.list_response.Goals as goal
 

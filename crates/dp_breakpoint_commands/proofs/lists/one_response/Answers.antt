@@ -1,5 +1,5 @@
 use Rattle.std.proofs.Common.{[], ◌∷◌}
-use Rattle.dp_breakpoint_commands.specs.Showing.{breakpoint_line}
+use Rattle.dp_breakpoint_commands.specs.Lines.{breakpoint_line}
 use Rattle.dp_breakpoint_commands.proofs.Lengths.{lines_made_fit, one_short}
 use Rattle.dp_breakpoint_commands.proofs.Shown.{shown_short}
 use Rattle.dp_breakpoint_commands.proofs.lists.one_response.Goals as goal

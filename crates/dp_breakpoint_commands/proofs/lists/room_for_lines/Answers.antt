@@ -1,5 +1,5 @@
 use Rattle.std.proofs.Common.{◌∙◌, List, ℕ, ap, codes, length, arith}
-use Rattle.dp_markup.specs.Writing.{attribute_text}
+use Rattle.dp_markup.specs.Texts.{attribute_text}
 use Rattle.dp_packet.specs.Sizes.{counted}
 use Rattle.dp_breakpoint_commands.proofs.Lengths.{IsRoom, room_is}
 use Rattle.dp_breakpoint_commands.proofs.lists.room_for_lines.Goals as goal

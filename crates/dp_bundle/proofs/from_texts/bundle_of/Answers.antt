@@ -5,7 +5,7 @@ use Rattle.dp_tree.specs.declared.bundle.Bundle.{Bundle}
 use Rattle.dp_bundle.specs.declared.errors.BundleError.{BundleError}
 use Rattle.dp_tree.specs.declared.bundle.BundleFile.{BundleFile}
 use Rattle.dp_bundle.specs.Bundles.{Given, IsAnswer, IsRefused, Makes}
-use Rattle.dp_bundle.proofs.Bundling.{IsMade, Stands, stands_first, stands_next, refused_made, refused_only, all_made, all_only}
+use Rattle.dp_bundle.proofs.MadeFiles.{IsMade, Stands, stands_first, stands_next, refused_made, refused_only, all_made, all_only}
 use Rattle.dp_bundle.proofs.from_texts.bundle_of.Goals as goal
 
 pub loop-name-init : goal.loop-name-init
@@ -65,7 +65,8 @@ pub returns-clause-made : goal.returns-clause-made
 returns-clause-made c =
     let ended : c.loop-name.name-iterator.rest.items ≡ [] = nil_from_length _
     (sym c.loop-name.name-iterator.rest.ok.0 ∙ c.in-None.ensures.steps.0) in
-    subst (λ (files : List BundleFile). IsMade c.args.files (Ok (record { files = files }))) (sym (c.in_ok-files.ensures ∙ c.of.ensures))
+    subst (λ (files : List BundleFile). IsMade c.args.files (Ok (record { files = files })))
+    (sym (c.in_ok-files.ensures ∙ c.of.ensures))
     (all_made c.args.files c.loop-name.made.items (subst (λ
     (rest : List Given). Stands c.args.files c.loop-name.made.items rest) ended c.loop-name.invariant.2))
 

@@ -1,4 +1,4 @@
-use Rattle.dp_bundle.proofs.Bundling.{Stands}
+use Rattle.dp_bundle.proofs.MadeFiles.{Stands}
 use Rattle.dp_bundle.proofs.from_texts.bundle_of.Given as goal
 
 abbrev pub invariant-loop-name : goal.invariant-loop-name

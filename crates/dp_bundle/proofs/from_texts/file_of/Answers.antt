@@ -3,7 +3,7 @@ use Rattle.dp_tree.specs.declared.tree.File.{File}
 use Rattle.dp_parse.specs.declared.errors.ParseError.TheVariants.{Memory}
 use Rattle.dp_parse.specs.Programs.{IsFile}
 use Rattle.dp_bundle.specs.inner.Sources.{source_of}
-use Rattle.dp_bundle.proofs.Bundling.{one_file}
+use Rattle.dp_bundle.proofs.MadeFiles.{one_file}
 use Rattle.dp_bundle.proofs.from_texts.file_of.Goals as goal
 
 pub returns-in-Ok-clause-only : goal.returns-in-Ok-clause-only

@@ -1,6 +1,6 @@
 use Rattle.std.proofs.Common.{◌≡◌, ◌+◌, ◌-◌, ◌≤◌, length, drop}
 use Rattle.std.specs.List.{prefix_len}
-use Rattle.dp_command.specs.inner.Reading.{test_of}
+use Rattle.dp_command.specs.inner.Parts.{test_of}
 use Rattle.dp_command.proofs.sort.run_len.Given as goal
 
 abbrev pub invariant-loop-n : goal.invariant-loop-n

@@ -1,5 +1,5 @@
 use Rattle.std.proofs.Common.{◌≡◌, ◌-◌, length}
-use Rattle.dp_command.specs.inner.Reading.{items_at, option_at}
+use Rattle.dp_command.specs.inner.Parts.{items_at, option_at}
 use Rattle.dp_command.proofs.Loop.{with_front}
 use Rattle.dp_command.proofs.values.given.Given as goal
 

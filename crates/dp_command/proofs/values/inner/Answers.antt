@@ -1,6 +1,6 @@
 use Rattle.std.proofs.Common.{◌∙◌, ap, length, Some}
 use Rattle.std.proofs.lemmas.Result.{err_from_is_err_and}
-use Rattle.dp_command.specs.inner.Reading.{items_at, byte_at}
+use Rattle.dp_command.specs.inner.Parts.{items_at, byte_at}
 use Rattle.dp_command.proofs.Loop.{goes_on, stops, ends, is_done}
 use Rattle.dp_command.proofs.values.inner.Goals as goal
 

@@ -1,4 +1,4 @@
-use Rattle.dp_continuation.proofs.Stopping.{stop_is_there}
+use Rattle.dp_continuation.proofs.StopMoments.{stop_is_there}
 use Rattle.dp_continuation.proofs.laws.stops_are_moments.Goals as goal
 
 pub returns : goal.returns

@@ -1,5 +1,5 @@
 use Rattle.std.proofs.Common.{refl}
-use Rattle.dp_continuation.proofs.Passing.{counts-end, counts-moment, ends-of, ends-there, ends-with, passes, reaches, reaches-of, reaches-with}
+use Rattle.dp_continuation.proofs.MachineStops.{counts-end, counts-moment, ends-of, ends-there, ends-with, passes, reaches, reaches-of, reaches-with}
 use Rattle.dp_continuation.proofs.moves.go_on_watched.Goals as goal
 
 pub loop-init : goal.loop-init

@@ -1,6 +1,6 @@
 use Rattle.std.proofs.Common.{ap, sym, ◌∙◌}
 use Rattle.dp_engine.specs.States.{allows}
-use Rattle.dp_engine.proofs.Turning.{read_asks}
+use Rattle.dp_engine.proofs.TurnLaws.{read_asks}
 use Rattle.dp_engine.proofs.refusals.ask.Goals as goal
 
 pub returns : goal.returns

@@ -1,6 +1,6 @@
 use Rattle.std.proofs.Common.{[], ◌∙◌}
 use Rattle.dp_packet.specs.declared.packet.Body.TheVariants.{Fault}
-use Rattle.dp_engine.proofs.Fitting.{fault_fits, made_fits}
+use Rattle.dp_engine.proofs.ResponseSizes.{fault_fits, made_fits}
 use Rattle.dp_engine.proofs.responses.fault.Goals as goal
 
 pub returns-clause-fits : goal.returns-clause-fits

@@ -3,7 +3,7 @@ use Rattle.std.specs.Prelude.{IfOk}
 use Rattle.dp_packet.specs.declared.packet.Body.{Body}
 use Rattle.dp_packet.specs.declared.packet.Response.{Response}
 use Rattle.dp_engine.specs.Responses.{response, value_body}
-use Rattle.dp_engine.proofs.Fitting.{feature_fits_if, made_fits}
+use Rattle.dp_engine.proofs.ResponseSizes.{feature_fits_if, made_fits}
 use Rattle.dp_engine.proofs.responses.feature.Goals as goal
 
 pub returns-clause-fits : goal.returns-clause-fits

@@ -1,6 +1,6 @@
 use Rattle.std.proofs.Common.{◌∷◌, [], codes}
 use Rattle.dp_packet.specs.declared.packet.Body.TheVariants.{Nothing}
-use Rattle.dp_engine.proofs.Fitting.{made_fits, set_fits}
+use Rattle.dp_engine.proofs.ResponseSizes.{made_fits, set_fits}
 use Rattle.dp_engine.proofs.responses.feature_set.Goals as goal
 
 pub returns-clause-fits : goal.returns-clause-fits

@@ -1,6 +1,6 @@
 use Rattle.dp_packet.specs.declared.packet.Body.TheVariants.{Nothing}
 use Rattle.dp_engine.specs.Responses.{status_attributes}
-use Rattle.dp_engine.proofs.Fitting.{made_fits, status_fits}
+use Rattle.dp_engine.proofs.ResponseSizes.{made_fits, status_fits}
 use Rattle.dp_engine.proofs.responses.status.Goals as goal
 
 pub returns-clause-fits : goal.returns-clause-fits

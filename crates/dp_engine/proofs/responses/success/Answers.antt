@@ -1,7 +1,7 @@
 use Rattle.std.proofs.Common.{◌∷◌, [], codes}
 use Rattle.dp_packet.specs.Parts.{flag}
 use Rattle.dp_packet.specs.declared.packet.Body.TheVariants.{Nothing}
-use Rattle.dp_engine.proofs.Fitting.{made_fits, success_fits}
+use Rattle.dp_engine.proofs.ResponseSizes.{made_fits, success_fits}
 use Rattle.dp_engine.proofs.responses.success.Goals as goal
 
 pub returns-clause-fits : goal.returns-clause-fits

@@ -1,4 +1,4 @@
-use Rattle.dp_engine.proofs.Answering.{response_fits, response_text_is}
+use Rattle.dp_engine.proofs.SentPackets.{response_fits, response_text_is}
 use Rattle.dp_engine.proofs.responses.text.Goals as goal
 
 pub returns-clause-value : goal.returns-clause-value

@@ -1,4 +1,4 @@
-use Rattle.dp_engine.proofs.ServingLaws.{serves_closed, serves_cut}
+use Rattle.dp_engine.proofs.ServiceLaws.{serves_closed, serves_cut}
 use Rattle.dp_engine.proofs.service.serve.Goals as goal
 
 pub returns-in-Ok-clause-serves : goal.returns-in-Ok-clause-serves

@@ -1,4 +1,4 @@
-use Rattle.dp_engine.proofs.Answering.{init_is, init_is_text}
+use Rattle.dp_engine.proofs.SentPackets.{init_is, init_is_text}
 use Rattle.dp_engine.proofs.session.first_packet.Goals as goal
 
 pub returns-clause-text : goal.returns-clause-text

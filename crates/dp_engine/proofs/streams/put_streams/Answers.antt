@@ -1,7 +1,7 @@
 use Rattle.std.proofs.Common.{◌≡◌, ◌<◌, ◌++◌, ◌∷◌, [], length, ap, arith, length-drop, sym, ◌∙◌}
 use Rattle.std.proofs.lemmas.Grind.{common_steps}
 use Rattle.dp_engine.specs.Responses.{streams}
-use Rattle.dp_engine.proofs.Streaming.{put_on}
+use Rattle.dp_engine.proofs.StreamPackets.{put_on}
 use Rattle.dp_engine.proofs.streams.put_streams.Goals as goal
 
 pub loop-rest-smaller : goal.loop-rest-smaller

@@ -1,4 +1,4 @@
-use Rattle.dp_engine.proofs.Streaming.{all_texts}
+use Rattle.dp_engine.proofs.StreamPackets.{all_texts}
 use Rattle.dp_engine.proofs.streams.to_ide.Goals as goal
 
 pub returns-clause-are_texts : goal.returns-clause-are_texts

@@ -1,6 +1,6 @@
 use Rattle.std.proofs.Common.{◌≡◌, suc, ◌-◌, arith, subst}
 use Rattle.dp_rules.specs.inner.Input.{Reads}
-use Rattle.dp_expressions.specs.inner.Reading.{below, reading}
+use Rattle.dp_expressions.specs.inner.Readers.{below, reading}
 use Rattle.dp_expressions.proofs.expressions.+expression.Goals as goal
 
 pub part_over-requires : goal.part_over-requires

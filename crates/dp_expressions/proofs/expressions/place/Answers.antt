@@ -1,6 +1,6 @@
 use Rattle.std.proofs.Common.{◌≡◌, suc, ◌-◌, arith, subst}
 use Rattle.dp_rules.specs.inner.Input.{Reads}
-use Rattle.dp_expressions.specs.inner.Reading.{below, reading}
+use Rattle.dp_expressions.specs.inner.Readers.{below, reading}
 use Rattle.dp_expressions.proofs.expressions.place.Goals as goal
 
 pub place_over-requires : goal.place_over-requires

@@ -1,5 +1,5 @@
 use Rattle.std.proofs.Common.{arith, sym}
-use Rattle.dp_file_uris.proofs.Finding.{like_below}
+use Rattle.dp_file_uris.proofs.FoundFiles.{like_below}
 use Rattle.dp_file_uris.proofs.files.file_number.Goals as goal
 
 pub returns-in-Err-clause-memory : goal.returns-in-Err-clause-memory

@@ -1,6 +1,6 @@
 use Rattle.std.proofs.Common.{rules, ◌≡◌, ◌<◌, ℕ, List, Some, None, drop, sym, subst}
 use Rattle.dp_ide.specs.Scripts.{Behind}
-use Rattle.dp_ide.specs.inner.Reading.{IsNamed, Reads}
+use Rattle.dp_ide.specs.inner.Readers.{IsNamed, Reads}
 use Rattle.dp_ide.proofs.ActLaws.{reads_named, reads_unnamed}
 use Rattle.dp_ide.proofs.LineLaws.{rest_is}
 use Rattle.dp_ide.proofs.acts.named_in.Goals as goal

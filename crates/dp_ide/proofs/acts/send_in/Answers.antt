@@ -3,7 +3,7 @@ use Rattle.dp_command.specs.Letters as letter
 use Rattle.dp_command.specs.Options.{given}
 use Rattle.dp_wire.specs.Frames.{IsCommand}
 use Rattle.dp_ide.specs.declared.instruction.Act.TheVariants.{Send}
-use Rattle.dp_ide.specs.inner.Reading.{Reads, is_send}
+use Rattle.dp_ide.specs.inner.Readers.{Reads, is_send}
 use Rattle.dp_ide.proofs.ActLaws.{no_command, no_id, no_line, reads_command}
 use Rattle.dp_ide.proofs.acts.send_in.Goals as goal
 

@@ -2,7 +2,7 @@ use Rattle.std.proofs.Common.{rules, ◌≡◌, ◌≢◌, true, eqb, List, ℕ,
 use Rattle.std.proofs.lemmas.Bool.{eqb-true}
 use Rattle.std.proofs.lemmas.List.{nil_from_length}
 use Rattle.dp_ide.specs.Scripts.{Text}
-use Rattle.dp_ide.specs.inner.Reading.{Reads, ReadsOn, first_of}
+use Rattle.dp_ide.specs.inner.Readers.{Reads, ReadsOn, first_of}
 use Rattle.dp_ide.proofs.TextLaws.{reads_all, reads_more, reads_none}
 use Rattle.dp_ide.proofs.texts.text_in.Goals as goal
 

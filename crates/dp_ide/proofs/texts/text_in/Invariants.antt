@@ -1,5 +1,5 @@
 use Rattle.std.proofs.Common.{length}
-use Rattle.dp_ide.specs.inner.Reading.{ReadsOn}
+use Rattle.dp_ide.specs.inner.Readers.{ReadsOn}
 use Rattle.dp_ide.proofs.texts.text_in.Given as goal
 
 abbrev pub invariant-bytes : goal.invariant-bytes

@@ -1,6 +1,6 @@
 use Rattle.std.proofs.Common.{◌≡◌, length}
 use Rattle.dp_lanes.specs.Places.{kind_of, received_in}
-use Rattle.dp_lanes.specs.inner.Handing.{Hands}
+use Rattle.dp_lanes.specs.inner.Deliveries.{Hands}
 use Rattle.dp_lanes.proofs.moves.hand_out.Given as goal
 
 abbrev pub invariant-frames : goal.invariant-frames

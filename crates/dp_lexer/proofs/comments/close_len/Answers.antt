@@ -1,5 +1,5 @@
 use Rattle.std.proofs.Common.{◌≡◌, ◌<◌, List, [], ◌∷◌, ℕ, length, None, sym, ap, ◌∙◌, refl, arith}
-use Rattle.dp_lexer.specs.inner.Lexing.{longer, close_len}
+use Rattle.dp_lexer.specs.inner.Lexer.{longer, close_len}
 use Rattle.dp_lexer.proofs.comments.close_len.Goals as goal
 
 -- fewer than two bytes close nothing

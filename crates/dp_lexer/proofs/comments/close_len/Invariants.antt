@@ -1,5 +1,5 @@
 use Rattle.std.proofs.Common.{◌≡◌, ◌+◌, length}
-use Rattle.dp_lexer.specs.inner.Lexing.{longer, close_len}
+use Rattle.dp_lexer.specs.inner.Lexer.{longer, close_len}
 use Rattle.dp_lexer.proofs.comments.close_len.Given as goal
 
 abbrev pub invariant-loop-rest : goal.invariant-loop-rest

@@ -9,7 +9,7 @@ use Rattle.dp_lexer.specs.declared.token.Token.{Token}
 use Rattle.dp_lexer.specs.declared.errors.LexError.TheVariants as error
 use Rattle.dp_lexer.specs.Tokens.{feeds, AreTokensFrom, IsRefusedFrom, error_of}
 use Rattle.dp_lexer.specs.inner.Lexed.{IsLexed, IsPlacedWithin, placed_at}
-use Rattle.dp_lexer.specs.inner.Lexing.{Finds, piece_at}
+use Rattle.dp_lexer.specs.inner.Lexer.{Finds, piece_at}
 use Rattle.dp_lexer.proofs.LexErrors.{error_one, error_no_memory}
 use Rattle.dp_lexer.proofs.Chains.{next_lexed, takes_some, only_lexed, refused_lexed, none_lexed, line_within, rest_within, wrong_within, feeds_within, same_refusal, no_refusal}
 use Rattle.dp_lexer.proofs.lexer.lex_from.Goals as goal

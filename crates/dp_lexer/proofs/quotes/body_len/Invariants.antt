@@ -1,5 +1,5 @@
 use Rattle.std.proofs.Common.{◌≡◌, ◌+◌, ◌-◌, ◌≤◌, length, drop}
-use Rattle.dp_lexer.specs.inner.Lexing.{longer, body_len}
+use Rattle.dp_lexer.specs.inner.Lexer.{longer, body_len}
 use Rattle.dp_lexer.proofs.quotes.body_len.Given as goal
 
 abbrev pub invariant-loop-n : goal.invariant-loop-n

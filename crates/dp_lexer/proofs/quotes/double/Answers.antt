@@ -1,5 +1,5 @@
 use Rattle.std.proofs.Common.{◌+◌, drop, Ok, refl, sym, ap, ◌∙◌, arith, length-drop}
-use Rattle.dp_lexer.specs.inner.Lexing.{ahead, doubled, meant_bytes}
+use Rattle.dp_lexer.specs.inner.Lexer.{ahead, doubled, meant_bytes}
 use Rattle.dp_lexer.proofs.FoundParts.{doubled-more, doubled-stop, doubled-end}
 use Rattle.dp_lexer.proofs.quotes.double.Goals as goal
 

@@ -1,5 +1,5 @@
 use Rattle.std.proofs.Common.{◌≡◌, ◌-◌, ◌≤◌, length, drop}
-use Rattle.dp_lexer.specs.inner.Lexing.{ahead, doubled}
+use Rattle.dp_lexer.specs.inner.Lexer.{ahead, doubled}
 use Rattle.dp_lexer.proofs.quotes.double.Given as goal
 
 abbrev pub invariant-loop-n : goal.invariant-loop-n

@@ -1,7 +1,7 @@
 use Rattle.std.proofs.Common.{rules, arith}
 use Rattle.std.proofs.lemmas.Grind.{common_steps}
 use Rattle.dp_markup.specs.inner.Input.{until}
-use Rattle.dp_markup.specs.inner.Reading.{spaced_value_step, spaced_value}
+use Rattle.dp_markup.specs.inner.Readers.{spaced_value_step, spaced_value}
 use Rattle.dp_markup.proofs.Turns.{one_turn, no_turn}
 use Rattle.dp_markup.proofs.attributes.spaced_value.Goals as goal
 

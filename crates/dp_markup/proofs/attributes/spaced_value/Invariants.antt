@@ -1,6 +1,6 @@
 use Rattle.std.proofs.Common.{◌≡◌, ◌-◌}
 use Rattle.dp_markup.specs.inner.Input.{closed, until}
-use Rattle.dp_markup.specs.inner.Reading.{spaced_value_step}
+use Rattle.dp_markup.specs.inner.Readers.{spaced_value_step}
 use Rattle.dp_markup.proofs.attributes.spaced_value.Given as goal
 
 abbrev pub invariant-loop-turn : goal.invariant-loop-turn

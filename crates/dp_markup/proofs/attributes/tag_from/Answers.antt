@@ -1,7 +1,7 @@
 use Rattle.std.proofs.Common.{rules, arith, ◌∙◌, sym, subst}
 use Rattle.std.proofs.lemmas.Grind.{common_steps}
 use Rattle.dp_markup.specs.inner.Input.{Reads, until}
-use Rattle.dp_markup.specs.inner.Reading.{tag_step}
+use Rattle.dp_markup.specs.inner.Readers.{tag_step}
 use Rattle.dp_markup.proofs.Turns.{one_turn, no_turn}
 use Rattle.dp_markup.proofs.TagTurns.{tag_stops, tag_goes_on}
 use Rattle.dp_markup.proofs.attributes.tag_from.Goals as goal

@@ -1,6 +1,6 @@
 use Rattle.std.proofs.Common.{◌≡◌, ◌-◌}
 use Rattle.dp_markup.specs.inner.Input.{closed, until}
-use Rattle.dp_markup.specs.inner.Reading.{tag_step}
+use Rattle.dp_markup.specs.inner.Readers.{tag_step}
 use Rattle.dp_markup.proofs.attributes.tag_from.Given as goal
 
 abbrev pub invariant-loop-turn : goal.invariant-loop-turn

@@ -1,6 +1,6 @@
 use Rattle.std.proofs.Common.{◌≡◌, ◌-◌, true}
 use Rattle.dp_markup.specs.inner.Input.{closed, until}
-use Rattle.dp_markup.specs.inner.Reading.{prolog_step}
+use Rattle.dp_markup.specs.inner.Readers.{prolog_step}
 use Rattle.dp_markup.proofs.documents.prolog.Given as goal
 
 abbrev pub invariant-loop-turn : goal.invariant-loop-turn

@@ -1,6 +1,6 @@
 use Rattle.std.proofs.Common.{◌≡◌, ◌+◌, ◌*◌, ◌-◌}
 use Rattle.dp_markup.specs.inner.Input.{closed, until}
-use Rattle.dp_markup.specs.inner.Reading.{content_step, opened}
+use Rattle.dp_markup.specs.inner.Readers.{content_step, opened}
 use Rattle.dp_markup.proofs.elements.+elements.Given as goal
 
 abbrev pub invariant-inside_from-loop-turn : goal.invariant-inside_from-loop-turn

@@ -2,9 +2,9 @@ use Rattle.std.proofs.Common.{◌≡◌, ◌-◌, ◌∙◌, length, inl, ap, su
 use Rattle.dp_markup.specs.declared.errors.MarkupError.TheVariants.{BadMarkup}
 use Rattle.dp_grammar.specs.declared.refusal.Refusal.TheVariants.{Unexpected, TooDeep}
 use Rattle.dp_markup.specs.Grammar.{BeginsWithHead, heads, root_value}
-use Rattle.dp_markup.specs.inner.Seeking.{sought_head}
+use Rattle.dp_markup.specs.inner.Search.{sought_head}
 use Rattle.dp_markup.specs.Refused.{IsFirstBad}
-use Rattle.dp_markup.proofs.Seeking.{sought_found}
+use Rattle.dp_markup.proofs.SearchLaws.{sought_found}
 use Rattle.dp_markup.proofs.Verdicts.{head_left_in, head_is_bad, head_not_deep, is_head, one_head, not_head, same_head_offset, sought_refused_at}
 use Rattle.dp_markup.proofs.reader.head_attribute.Goals as goal
 

@@ -1,6 +1,6 @@
 use Rattle.std.proofs.Common.{◌≡◌, ◌-◌}
 use Rattle.dp_markup.specs.inner.Input.{closed, until}
-use Rattle.dp_markup.specs.inner.Seeking.{sought_step}
+use Rattle.dp_markup.specs.inner.Search.{sought_step}
 use Rattle.dp_markup.proofs.sought.sought_from.Given as goal
 
 abbrev pub invariant-loop-turn : goal.invariant-loop-turn

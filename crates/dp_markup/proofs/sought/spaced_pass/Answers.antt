@@ -1,7 +1,7 @@
 use Rattle.std.proofs.Common.{rules, arith}
 use Rattle.std.proofs.lemmas.Grind.{common_steps}
 use Rattle.dp_markup.specs.inner.Input.{until}
-use Rattle.dp_markup.specs.inner.Seeking.{spaced_pass_step, spaced_pass}
+use Rattle.dp_markup.specs.inner.Search.{spaced_pass_step, spaced_pass}
 use Rattle.dp_markup.proofs.Turns.{one_turn, no_turn}
 use Rattle.dp_markup.proofs.sought.spaced_pass.Goals as goal
 

@@ -1,6 +1,6 @@
 use Rattle.std.proofs.Common.{◌≡◌, ◌-◌}
 use Rattle.dp_markup.specs.inner.Input.{closed, until}
-use Rattle.dp_markup.specs.inner.Seeking.{spaced_pass_step}
+use Rattle.dp_markup.specs.inner.Search.{spaced_pass_step}
 use Rattle.dp_markup.proofs.sought.spaced_pass.Given as goal
 
 abbrev pub invariant-loop-turn : goal.invariant-loop-turn

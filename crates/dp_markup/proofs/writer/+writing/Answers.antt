@@ -1,6 +1,6 @@
 use Rattle.std.proofs.Common.{codes}
 use Rattle.std.specs.List.{flat_map}
-use Rattle.dp_markup.specs.Writing.{attribute_text, nodes_text}
+use Rattle.dp_markup.specs.Texts.{attribute_text, nodes_text}
 use Rattle.dp_markup.proofs.Trees.{written_is, in_order}
 use Rattle.dp_markup.proofs.writer.+writing.Goals as goal
 

@@ -1,5 +1,5 @@
 use Rattle.std.proofs.Common.{◌≡◌, ◌++◌, drop}
-use Rattle.dp_markup.specs.Writing.{nodes_text}
+use Rattle.dp_markup.specs.Texts.{nodes_text}
 use Rattle.dp_markup.proofs.writer.+writing.Given as goal
 
 abbrev pub invariant-write_nodes-loop-node : goal.invariant-write_nodes-loop-node

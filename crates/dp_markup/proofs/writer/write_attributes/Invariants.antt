@@ -1,6 +1,6 @@
 use Rattle.std.proofs.Common.{◌≡◌, ◌++◌, drop}
 use Rattle.std.specs.List.{flat_map}
-use Rattle.dp_markup.specs.Writing.{attribute_text}
+use Rattle.dp_markup.specs.Texts.{attribute_text}
 use Rattle.dp_markup.proofs.writer.write_attributes.Given as goal
 
 abbrev pub invariant-loop-attribute : goal.invariant-loop-attribute

@@ -1,5 +1,5 @@
 use Rattle.std.proofs.Common.{◌≡◌, ◌++◌, drop}
-use Rattle.dp_markup.specs.Escaping.{escaped_all}
+use Rattle.dp_markup.specs.Escapes.{escaped_all}
 use Rattle.dp_markup.proofs.writer.write_escaped.Given as goal
 
 abbrev pub invariant-loop-byte : goal.invariant-loop-byte

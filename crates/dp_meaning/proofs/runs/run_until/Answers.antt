@@ -1,7 +1,7 @@
 use Rattle.std.proofs.Common.{sym, subst, ◌∙◌}
 use Rattle.std.proofs.lemmas.Result.{IfOk-weaker}
 use Rattle.dp_state.specs.States.{IsOf}
-use Rattle.dp_meaning.specs.Stopping.{state_of}
+use Rattle.dp_meaning.specs.Stops.{state_of}
 use Rattle.dp_meaning.specs.declared.stop.Stop.{Stop}
 use Rattle.dp_meaning.proofs.FirstStops.{program_first}
 use Rattle.dp_meaning.proofs.OfBundle.{first_stop-of}

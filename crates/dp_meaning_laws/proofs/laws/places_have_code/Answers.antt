@@ -1,4 +1,4 @@
-use Rattle.dp_meaning_laws.proofs.Coding.{places-coded}
+use Rattle.dp_meaning_laws.proofs.CodedMoments.{places-coded}
 use Rattle.dp_meaning_laws.proofs.Whole.{has-files}
 use Rattle.dp_meaning_laws.proofs.laws.places_have_code.Goals as goal
 

@@ -1,7 +1,7 @@
 use Rattle.std.proofs.Common.{◌≡◌, Ok, Some, None, ap, ◌∙◌}
 use Rattle.dp_value.specs.declared.value.Value.{Value}
 use Rattle.dp_value.specs.Value.{data_of}
-use Rattle.dp_operations.specs.Indexing.{reading}
+use Rattle.dp_operations.specs.Indices.{reading}
 use Rattle.dp_operations.proofs.IndexLemmas.{array-read}
 use Rattle.dp_operations.proofs.indices.under.Goals as goal
 

@@ -1,6 +1,6 @@
 use Rattle.std.proofs.Common.{◌≡◌, ◌<◌, ◌≤◌, count_by, map, not}
 use Rattle.dp_outside.specs.Causes.{Rose}
-use Rattle.dp_outside.specs.Telling.{grown}
+use Rattle.dp_outside.specs.Reports.{grown}
 use Rattle.dp_outside.proofs.crews.ask.Given as goal
 
 -- the jobs so far stand in their order with what was told of their starts; the count has not fallen, and rose exactly

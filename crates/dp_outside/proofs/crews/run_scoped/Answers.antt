@@ -1,4 +1,4 @@
-use Rattle.dp_outside.proofs.Settling.{all_settled}
+use Rattle.dp_outside.proofs.PairedLists.{all_settled}
 use Rattle.dp_outside.proofs.crews.run_scoped.Goals as goal
 
 pub returns : goal.returns

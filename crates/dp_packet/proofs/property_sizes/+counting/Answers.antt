@@ -1,5 +1,5 @@
 use Rattle.std.proofs.Common.{rules, ◌∙◌, ap, sym, length, arith}
-use Rattle.dp_markup.specs.Escaping.{escaped_all}
+use Rattle.dp_markup.specs.Escapes.{escaped_all}
 use Rattle.dp_packet.specs.Parts.{base64}
 use Rattle.dp_packet.specs.Sizes.{counted}
 use Rattle.dp_packet.proofs.PropertyLaws.{bool_length, int_length, front_length, property_length}

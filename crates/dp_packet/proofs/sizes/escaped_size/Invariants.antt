@@ -1,5 +1,5 @@
 use Rattle.std.proofs.Common.{◌≡◌, ◌+◌, ◌<◌, ◌^◌, drop, length}
-use Rattle.dp_markup.specs.Escaping.{escaped_all}
+use Rattle.dp_markup.specs.Escapes.{escaped_all}
 use Rattle.dp_packet.specs.Sizes.{counted}
 use Rattle.dp_packet.proofs.sizes.escaped_size.Given as goal
 

@@ -1,5 +1,5 @@
 use Rattle.std.proofs.Common.{◌≡◌, ◌+◌, ◌<◌, ◌^◌, drop, length, map}
-use Rattle.dp_markup.specs.Writing.{nodes_text}
+use Rattle.dp_markup.specs.Texts.{nodes_text}
 use Rattle.dp_packet.specs.Packets.{stack_node}
 use Rattle.dp_packet.specs.Sizes.{counted}
 use Rattle.dp_packet.proofs.text_sizes.stacks_size.Given as goal

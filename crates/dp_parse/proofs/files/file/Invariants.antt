@@ -2,7 +2,7 @@ use Rattle.std.proofs.Common.{◌≡◌, ◌-◌}
 use Rattle.dp_rules.specs.inner.Input.{closed, until}
 use Rattle.dp_parse.specs.Limits.{limits}
 use Rattle.dp_parse.specs.Statements.{no_parts}
-use Rattle.dp_parse.specs.inner.ReadingStatements.{file_step}
+use Rattle.dp_parse.specs.inner.StatementRules.{file_step}
 use Rattle.dp_parse.proofs.files.file.Given as goal
 
 abbrev pub invariant-loop-turn : goal.invariant-loop-turn

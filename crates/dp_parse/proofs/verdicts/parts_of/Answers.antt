@@ -1,6 +1,6 @@
 use Rattle.std.proofs.Common.{ap, sym, ◌∙◌}
 use Rattle.dp_parse.specs.Limits.{limits}
-use Rattle.dp_parse.specs.inner.ReadingStatements.{file}
+use Rattle.dp_parse.specs.inner.StatementRules.{file}
 use Rattle.dp_parse.proofs.FileVerdicts.{file_reads}
 use Rattle.dp_parse.proofs.Judged.{found_spelled, found_only, found_not_wrong, refused_cause, refused_only, refused_refuses}
 use Rattle.dp_parse.proofs.verdicts.parts_of.Goals as goal

@@ -1,7 +1,7 @@
 use Rattle.std.proofs.Common.{◌≡◌, [], ◌∷◌, ◌++◌, List, refl, sym, subst}
 use Rattle.dp_proxy.specs.declared.events.Act.{Act}
 use Rattle.dp_proxy.specs.declared.events.Act.TheVariants.{Closed}
-use Rattle.dp_proxy.specs.inner.Passing.{FollowBoth}
+use Rattle.dp_proxy.specs.inner.Lanes.{FollowBoth}
 use Rattle.dp_proxy.specs.inner.Acts.{Passes}
 use Rattle.dp_proxy.proofs.PassLaws.{follow_idle}
 use Rattle.dp_proxy.proofs.passes.pass.Goals as goal

@@ -7,7 +7,7 @@ use Rattle.dp_proxy.specs.declared.events.Act.TheVariants.{Engine}
 use Rattle.dp_proxy.specs.declared.kept.Kept.TheVariants as keep
 use Rattle.dp_proxy.specs.declared.kept.Step.{Step}
 use Rattle.dp_proxy.specs.Pasts.{New}
-use Rattle.dp_proxy.specs.Standing.{IsSound}
+use Rattle.dp_proxy.specs.Invariant.{IsSound}
 use Rattle.dp_proxy.specs.inner.Acts.{Leads, IsOwn, Welcomes}
 use Rattle.dp_proxy.proofs.TurnLaws.{admitted_leads, admit_leaves, new_is_own, none_is_own, refused_answer}
 use Rattle.dp_proxy.proofs.turns.admit.Goals as goal

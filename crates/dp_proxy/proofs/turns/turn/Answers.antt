@@ -1,7 +1,7 @@
 use Rattle.std.proofs.Common.{Option, Some, refl, ap, subst, ◌∙◌}
 use Rattle.dp_proxy.specs.declared.kept.Kept.{Kept}
 use Rattle.dp_proxy.specs.declared.kept.Kept.TheVariants as keep
-use Rattle.dp_proxy.specs.Standing.{IsKept}
+use Rattle.dp_proxy.specs.Invariant.{IsKept}
 use Rattle.dp_proxy.proofs.TurnLaws.{quiet_leads, over_still, over_comes}
 use Rattle.dp_proxy.proofs.turns.turn.Goals as goal
 

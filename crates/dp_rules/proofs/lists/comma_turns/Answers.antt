@@ -1,7 +1,7 @@
 use Rattle.std.proofs.Common.{rules, arith}
 use Rattle.std.proofs.lemmas.Grind.{common_steps}
 use Rattle.dp_rules.specs.inner.Input.{until}
-use Rattle.dp_rules.specs.inner.ReadingLists.{comma_step}
+use Rattle.dp_rules.specs.inner.ListReaders.{comma_step}
 use Rattle.dp_rules.proofs.Turns.{one_turn, no_turn}
 use Rattle.dp_rules.proofs.lists.comma_turns.Goals as goal
 

@@ -2,7 +2,7 @@ use Rattle.std.proofs.Common.{rules, arith}
 use Rattle.std.proofs.lemmas.Grind.{common_steps}
 use Rattle.dp_rules.specs.inner.Input.{until}
 use Rattle.dp_rules.specs.Terminals.{is}
-use Rattle.dp_rules.specs.inner.ReadingLists.{many_step, many}
+use Rattle.dp_rules.specs.inner.ListReaders.{many_step, many}
 use Rattle.dp_rules.proofs.Turns.{one_turn, no_turn}
 use Rattle.dp_rules.proofs.lists.many.Goals as goal
 

@@ -1,7 +1,7 @@
 use Rattle.std.proofs.Common.{◌≡◌, ◌-◌, []}
 use Rattle.dp_rules.specs.inner.Input.{closed, until}
 use Rattle.dp_rules.specs.Terminals.{is}
-use Rattle.dp_rules.specs.inner.ReadingLists.{many_step}
+use Rattle.dp_rules.specs.inner.ListReaders.{many_step}
 use Rattle.dp_rules.proofs.lists.many.Given as goal
 
 abbrev pub invariant-loop-turn : goal.invariant-loop-turn

@@ -1,7 +1,7 @@
 use Rattle.std.proofs.Common.{rules, arith}
 use Rattle.std.proofs.lemmas.Grind.{common_steps}
 use Rattle.dp_rules.specs.inner.Input.{until}
-use Rattle.dp_rules.specs.inner.ReadingLists.{plain_step}
+use Rattle.dp_rules.specs.inner.ListReaders.{plain_step}
 use Rattle.dp_rules.proofs.Turns.{one_turn, no_turn}
 use Rattle.dp_rules.proofs.lists.plain_turns.Goals as goal
 

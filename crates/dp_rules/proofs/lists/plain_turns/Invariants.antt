@@ -1,6 +1,6 @@
 use Rattle.std.proofs.Common.{◌≡◌, ◌-◌}
 use Rattle.dp_rules.specs.inner.Input.{closed, until}
-use Rattle.dp_rules.specs.inner.ReadingLists.{plain_step}
+use Rattle.dp_rules.specs.inner.ListReaders.{plain_step}
 use Rattle.dp_rules.proofs.lists.plain_turns.Given as goal
 
 abbrev pub invariant-loop-turn : goal.invariant-loop-turn

@@ -1,6 +1,6 @@
 use Rattle.std.proofs.Common.{◌≡◌, ℕ, List, [], ◌∷◌, length, string_bytes, refl, sym, ◌∙◌, subst, arith}
-use Rattle.dp_outside.specs.Telling.{grown}
-use Rattle.dp_run.proofs.Growing.{grown_by_none}
+use Rattle.dp_outside.specs.Reports.{grown}
+use Rattle.dp_run.proofs.GrownNames.{grown_by_none}
 use Rattle.dp_run.specs.Programs.{AreFetched}
 use Rattle.dp_run.specs.inner.Steps.{FetchCaused, IsNext}
 use Rattle.dp_run.proofs.RunLaws.{fetched_none, so_many, one_more, none_more, all_fetched, all_asked, asked_last}

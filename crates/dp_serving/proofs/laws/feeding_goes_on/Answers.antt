@@ -1,4 +1,4 @@
-use Rattle.dp_serving.proofs.FeedingLaws.{feeding}
+use Rattle.dp_serving.proofs.NextAnswerLaws.{feeding}
 use Rattle.dp_serving.proofs.laws.feeding_goes_on.Goals as goal
 
 pub returns : goal.returns

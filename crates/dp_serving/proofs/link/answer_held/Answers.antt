@@ -4,7 +4,7 @@ use Rattle.dp_wire.specs.Frames.{commands_in}
 use Rattle.dp_serving.specs.declared.link.Fault.TheVariants.{Memory}
 use Rattle.dp_serving.specs.Folds.{Reply, replies}
 use Rattle.dp_serving.proofs.CutLaws.{cut_after, cut_answer, cut_before}
-use Rattle.dp_serving.proofs.ServingLaws.{delivers_reply, reached_first, reached_kept, reached_next, front_comes, stands_first_of}
+use Rattle.dp_serving.proofs.ServiceLaws.{delivers_reply, reached_first, reached_kept, reached_next, front_comes, stands_first_of}
 use Rattle.dp_serving.proofs.link.answer_held.Goals as goal
 
 -- an answer that is a reply tells its end and its state

@@ -8,7 +8,7 @@ use Rattle.dp_serving.specs.inner.Exchanges.{Conversation}
 use Rattle.dp_serving.specs.Folds.{replies}
 use Rattle.dp_serving.proofs.CutLaws.{cut_answering, cut_at_start, cut_reading}
 use Rattle.dp_serving.proofs.EndLaws.{goes_on_still, is_served, read_up_to}
-use Rattle.dp_serving.proofs.ServingLaws.{talk_first, talk_kept, talk_goes_on, talk_same}
+use Rattle.dp_serving.proofs.ServiceLaws.{talk_first, talk_kept, talk_goes_on, talk_same}
 use Rattle.dp_serving.proofs.link.exchange.Goals as goal
 
 pub pieces-init : goal.pieces-init

@@ -3,7 +3,7 @@ use Rattle.dp_wire.specs.Frames.{IsPartialCommand}
 use Rattle.dp_outside.specs.Changes.{change}
 use Rattle.dp_serving.specs.inner.Exchanges.{Conversation}
 use Rattle.dp_serving.specs.Folds.{replies}
-use Rattle.dp_serving.specs.Serving.{byte_limit}
+use Rattle.dp_serving.specs.Service.{byte_limit}
 use Rattle.dp_serving.proofs.link.exchange.Given as goal
 
 abbrev pub invariant-pieces : goal.invariant-pieces

@@ -1,4 +1,4 @@
-use Rattle.dp_session_laws.proofs.Growing.{alone_grows}
+use Rattle.dp_session_laws.proofs.MoreCommands.{alone_grows}
 use Rattle.dp_session_laws.proofs.laws.more_commands_only_add.Goals as goal
 
 pub returns : goal.returns

@@ -1,4 +1,4 @@
-use Rattle.dp_engine.proofs.Refusing as law
+use Rattle.dp_engine.proofs.RefusalLaws as law
 use Rattle.dp_session_laws.proofs.laws.refused_exactly.Goals as goal
 
 pub returns : goal.returns

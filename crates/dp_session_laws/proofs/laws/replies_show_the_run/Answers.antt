@@ -1,5 +1,5 @@
-use Rattle.dp_session_laws.proofs.Showing.{shows_program}
-use Rattle.dp_session_laws.proofs.Watching as law
+use Rattle.dp_session_laws.proofs.ReplyLaws.{shows_program}
+use Rattle.dp_session_laws.proofs.WatchedRuns as law
 use Rattle.dp_session_laws.proofs.laws.replies_show_the_run.Goals as goal
 
 pub returns-clause-stands : goal.returns-clause-stands

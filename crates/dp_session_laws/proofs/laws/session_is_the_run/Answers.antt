@@ -1,4 +1,4 @@
-use Rattle.dp_session_laws.proofs.Watching.{is_run}
+use Rattle.dp_session_laws.proofs.WatchedRuns.{is_run}
 use Rattle.dp_session_laws.proofs.laws.session_is_the_run.Goals as goal
 
 pub returns : goal.returns

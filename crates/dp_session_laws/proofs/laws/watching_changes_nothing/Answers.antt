@@ -1,4 +1,4 @@
-use Rattle.dp_session_laws.proofs.Watching.{own_is_all, watched_run}
+use Rattle.dp_session_laws.proofs.WatchedRuns.{own_is_all, watched_run}
 use Rattle.dp_session_laws.proofs.laws.watching_changes_nothing.Goals as goal
 
 pub returns-clause-run : goal.returns-clause-run

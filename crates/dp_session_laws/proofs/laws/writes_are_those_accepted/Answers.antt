@@ -1,4 +1,4 @@
-use Rattle.dp_session_laws.proofs.Showing.{keeps_no_other, keeps_write}
+use Rattle.dp_session_laws.proofs.ReplyLaws.{keeps_no_other, keeps_write}
 use Rattle.dp_session_laws.proofs.laws.writes_are_those_accepted.Goals as goal
 
 pub returns-clause-accepted : goal.returns-clause-accepted

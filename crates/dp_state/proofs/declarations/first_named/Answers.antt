@@ -1,5 +1,5 @@
 use Rattle.std.proofs.Common.{sym, ◌∙◌}
-use Rattle.dp_state.proofs.Finding.{declared_here, declared_later}
+use Rattle.dp_state.proofs.FoundFunctions.{declared_here, declared_later}
 use Rattle.dp_state.proofs.declarations.first_named.Goals as goal
 
 pub returns-then-is_some : goal.returns-then-is_some

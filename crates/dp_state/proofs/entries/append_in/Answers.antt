@@ -6,7 +6,7 @@ use Rattle.dp_value.specs.Data.{Data}
 use Rattle.dp_value.specs.Entry.{write_result}
 use Rattle.dp_value.specs.Value.{data_of}
 use Rattle.dp_state.specs.inner.Parts.{data_in}
-use Rattle.dp_state.proofs.Growing.{light}
+use Rattle.dp_state.proofs.LightTexts.{light}
 use Rattle.dp_state.proofs.Slots.{then_put_back}
 use Rattle.dp_state.proofs.entries.append_in.Goals as goal
 

@@ -3,7 +3,7 @@ use Rattle.std.specs.Prelude.{option_map}
 use Rattle.dp_actions.specs.Run.{and_then}
 use Rattle.dp_actions.proofs.Runs.{and_then-assoc}
 use Rattle.dp_actions.specs.Calls.{callee_of}
-use Rattle.dp_step.proofs.Calling.{called-as}
+use Rattle.dp_step.proofs.CallLaws.{called-as}
 use Rattle.dp_step.proofs.calls.begin_call.Goals as goal
 
 pub returns-in-None : goal.returns-in-None

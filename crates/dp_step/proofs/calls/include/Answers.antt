@@ -1,5 +1,5 @@
 use Rattle.std.proofs.Common.{sym}
-use Rattle.dp_step.proofs.Calling.{included-as}
+use Rattle.dp_step.proofs.CallLaws.{included-as}
 use Rattle.dp_step.proofs.AtOnce.{leads_as}
 use Rattle.dp_step.proofs.calls.include.Goals as goal
 

@@ -1,4 +1,4 @@
-use Rattle.dp_step.proofs.Calling.{included-file}
+use Rattle.dp_step.proofs.CallLaws.{included-file}
 use Rattle.dp_step.proofs.calls.included.Goals as goal
 
 pub returns-in-None : goal.returns-in-None

@@ -6,4 +6,5 @@ use Rattle.dp_step.proofs.deep_names.feed_lowered.Given as goal
 -- the length and the bytes before this one are fed
 abbrev pub invariant-loop-byte : goal.invariant-loop-byte
 invariant-loop-byte g l =
-    l.state ≡ fold g.H.Hasher.write l.initial.state (flat_map fed.u8 (str_to_ascii_lowercase (take l.byte-index l.name)))
+    l.state ≡ fold g.H.Hasher.write l.initial.state (flat_map fed.u8
+    (str_to_ascii_lowercase (take l.byte-index l.name)))

@@ -1,6 +1,6 @@
 use Rattle.std.proofs.Common.{sym}
-use Rattle.dp_step.proofs.Calling.{begins-Include, by_call}
-use Rattle.dp_step.proofs.Goings.{goes_as}
+use Rattle.dp_step.proofs.CallLaws.{begins-Include, by_call}
+use Rattle.dp_step.proofs.MomentSteps.{goes_as}
 use Rattle.dp_step.proofs.hands.evaluate.Goals as goal
 
 pub returns-in-Call : goal.returns-in-Call

@@ -1,5 +1,5 @@
 use Rattle.dp_actions.specs.Run.{and_then}
-use Rattle.dp_step.proofs.Goings.{goes_as}
+use Rattle.dp_step.proofs.MomentSteps.{goes_as}
 use Rattle.dp_step.proofs.hands.first_of_statement.Goals as goal
 
 pub returns-in-Run : goal.returns-in-Run

@@ -1,6 +1,6 @@
 use Rattle.std.proofs.Common.{refl}
 use Rattle.dp_actions.specs.Run.{and_then}
-use Rattle.dp_step.proofs.Goings.{goes_as}
+use Rattle.dp_step.proofs.MomentSteps.{goes_as}
 use Rattle.dp_step.proofs.hands.first_of_turn.Goals as goal
 
 pub returns-in-Turn : goal.returns-in-Turn

@@ -1,5 +1,5 @@
 use Rattle.std.proofs.Common.{refl}
-use Rattle.dp_step.proofs.Goings.{goes_off, goes_on}
+use Rattle.dp_step.proofs.MomentSteps.{goes_off, goes_on}
 use Rattle.dp_step.proofs.hands.moved.Goals as goal
 
 pub returns-in-Ok : goal.returns-in-Ok

@@ -1,4 +1,4 @@
-use Rattle.dp_step.proofs.Goings.{goes_as}
+use Rattle.dp_step.proofs.MomentSteps.{goes_as}
 use Rattle.dp_step.proofs.hands.receive.Goals as goal
 
 pub returns-in-Part : goal.returns-in-Part

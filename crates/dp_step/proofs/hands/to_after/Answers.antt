@@ -1,5 +1,5 @@
 use Rattle.std.proofs.Common.{sym, ◌∙◌}
-use Rattle.dp_step.proofs.Goings.{goes_as, passes-to_after}
+use Rattle.dp_step.proofs.MomentSteps.{goes_as, passes-to_after}
 use Rattle.dp_step.proofs.hands.to_after.Goals as goal
 
 pub returns-in-Value : goal.returns-in-Value

@@ -1,5 +1,5 @@
 use Rattle.std.proofs.Common.{sym, ◌∙◌}
-use Rattle.dp_step.proofs.Goings.{goes_as, passes-to_include}
+use Rattle.dp_step.proofs.MomentSteps.{goes_as, passes-to_include}
 use Rattle.dp_step.proofs.hands.to_include.Goals as goal
 
 pub returns-in-Value : goal.returns-in-Value

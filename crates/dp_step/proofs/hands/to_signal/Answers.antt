@@ -1,5 +1,5 @@
 use Rattle.std.proofs.Common.{sym, ◌∙◌}
-use Rattle.dp_step.proofs.Goings.{passes-to_signal}
+use Rattle.dp_step.proofs.MomentSteps.{passes-to_signal}
 use Rattle.dp_step.proofs.hands.to_signal.Goals as goal
 
 pub returns-in-Signal : goal.returns-in-Signal

@@ -1,5 +1,5 @@
 use Rattle.std.proofs.Common.{sym, ◌∙◌}
-use Rattle.dp_step.proofs.Goings.{goes_as, passes-to_values}
+use Rattle.dp_step.proofs.MomentSteps.{goes_as, passes-to_values}
 use Rattle.dp_step.proofs.hands.to_values.Goals as goal
 
 pub returns-in-Values : goal.returns-in-Values

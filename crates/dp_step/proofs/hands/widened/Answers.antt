@@ -1,4 +1,4 @@
-use Rattle.dp_step.proofs.Goings.{wide_off, wide_on}
+use Rattle.dp_step.proofs.MomentSteps.{wide_off, wide_on}
 use Rattle.dp_step.proofs.hands.widened.Goals as goal
 
 pub returns-in-Ok : goal.returns-in-Ok

@@ -1,4 +1,4 @@
-use Rattle.dp_step_parts.proofs.Passing.{passes-to_value}
+use Rattle.dp_step_parts.proofs.OtherKinds.{passes-to_value}
 use Rattle.dp_step_parts.proofs.parts.to_value.Goals as goal
 
 pub returns-in-Value : goal.returns-in-Value

@@ -1,4 +1,4 @@
-use Rattle.dp_step_parts.proofs.Passing.{passes-to_values}
+use Rattle.dp_step_parts.proofs.OtherKinds.{passes-to_values}
 use Rattle.dp_step_parts.proofs.parts.to_values.Goals as goal
 
 pub returns-in-Values : goal.returns-in-Values

@@ -1,7 +1,7 @@
 use Rattle.std.proofs.Common.{sym, ◌∙◌}
 use Rattle.dp_actions.proofs.Runs.{and_then-assoc}
 use Rattle.dp_step_parts.proofs.AtOnce.{leads_off}
-use Rattle.dp_step_parts.proofs.Receiving.{coalesces, leads_as}
+use Rattle.dp_step_parts.proofs.ResumedParts.{coalesces, leads_as}
 use Rattle.dp_step_parts.proofs.receive.coalesce_assign.Goals as goal
 
 pub returns-in-Ok : goal.returns-in-Ok

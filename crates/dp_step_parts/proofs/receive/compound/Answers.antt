@@ -1,6 +1,6 @@
 use Rattle.dp_actions.proofs.Runs.{and_then-assoc}
 use Rattle.dp_step_parts.proofs.AtOnce.{leads_off}
-use Rattle.dp_step_parts.proofs.Receiving.{compounds, leads_as}
+use Rattle.dp_step_parts.proofs.ResumedParts.{compounds, leads_as}
 use Rattle.dp_step_parts.proofs.receive.compound.Goals as goal
 
 pub returns-in-Ok : goal.returns-in-Ok

@@ -1,4 +1,4 @@
-use Rattle.dp_step_parts.proofs.Receiving.{more}
+use Rattle.dp_step_parts.proofs.ResumedParts.{more}
 use Rattle.dp_step_parts.proofs.receive.more.Goals as goal
 
 pub returns-in-Ok : goal.returns-in-Ok

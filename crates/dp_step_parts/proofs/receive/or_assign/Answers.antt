@@ -1,6 +1,6 @@
 use Rattle.std.proofs.Common.{sym, ◌∙◌}
 use Rattle.dp_actions.proofs.Tails.{present-none, present-some}
-use Rattle.dp_step_parts.proofs.Receiving.{or_assign-missing, or_assign-there}
+use Rattle.dp_step_parts.proofs.ResumedParts.{or_assign-missing, or_assign-there}
 use Rattle.dp_step_parts.proofs.receive.or_assign.Goals as goal
 
 pub returns-in-Some : goal.returns-in-Some

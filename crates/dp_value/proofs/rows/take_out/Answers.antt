@@ -51,7 +51,8 @@ returns-clause-weight c =
     let key = rw c.as_slice.ensures.keys at c.index-as_slice-gone.is in
     let ks = drop c.args.gone.now c.args.keys.now.keys in
     let vs = drop c.args.gone.now c.args.values.now.items in
-    let left = ap (λ (xs : List Key). pairs_weight (pairs_in xs (drop c.clear_many.new.gone c.clear_many.new.values.items)))
+    let left = ap (λ (xs : List Key). pairs_weight (pairs_in xs
+    (drop c.clear_many.new.gone c.clear_many.new.values.items)))
     (c.clear_many.ensures.keys ∙ c.take_row.ensures.keys)
     ∙ ap (λ (xs : List Value). pairs_weight (pairs_in (remove ks c.args.at) xs))
     (c.clear_many.ensures.values ∙ c.take_row.ensures.values) in

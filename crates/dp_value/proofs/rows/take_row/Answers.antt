@@ -27,4 +27,5 @@ returns-clause-values c =
 pub returns-clause-nulls : goal.returns-clause-nulls
 returns-clause-nulls c =
     subst (λ (vs : List Value). AreNull c.args.gone.now vs) (sym c.remove.ensures.items)
-    (AreNull-remove c.args.gone.now (c.args.gone.now + c.args.at) c.args.values.now.items c.requires.nulls (omega arith))
+    (AreNull-remove c.args.gone.now (c.args.gone.now + c.args.at) c.args.values.now.items c.requires.nulls
+    (omega arith))

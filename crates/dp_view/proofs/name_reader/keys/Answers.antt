@@ -1,8 +1,8 @@
 use Rattle.std.proofs.Common.{◌∙◌, ap, sym, length, Some}
 use Rattle.std.specs.Prelude.{option_map}
-use Rattle.dp_view.specs.Reading.{index_at}
-use Rattle.dp_view.specs.inner.Taking.{key_meant}
-use Rattle.dp_view.proofs.Taking.{takes, takes_all, takes_none, takes_to}
+use Rattle.dp_view.specs.NameReader.{index_at}
+use Rattle.dp_view.specs.inner.Items.{key_meant}
+use Rattle.dp_view.proofs.ItemLaws.{takes, takes_all, takes_none, takes_to}
 use Rattle.dp_view.proofs.name_reader.keys.Goals as goal
 
 pub returns-in_default : goal.returns-in_default

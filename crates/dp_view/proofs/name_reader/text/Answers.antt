@@ -1,6 +1,6 @@
 use Rattle.std.proofs.Common.{◌∙◌, ap, sym, length, Some}
-use Rattle.dp_view.specs.Reading.{byte_at}
-use Rattle.dp_view.proofs.Taking.{takes, takes_all, takes_none, takes_to}
+use Rattle.dp_view.specs.NameReader.{byte_at}
+use Rattle.dp_view.proofs.ItemLaws.{takes, takes_all, takes_none, takes_to}
 use Rattle.dp_view.proofs.name_reader.text.Goals as goal
 
 pub returns-in_default : goal.returns-in_default

@@ -1,6 +1,6 @@
 use Rattle.std.proofs.Common.{◌≡◌, ◌-◌, ◌++◌, length}
-use Rattle.dp_view.specs.Reading.{byte_at}
-use Rattle.dp_view.specs.inner.Taking.{items_taken, text_taken}
+use Rattle.dp_view.specs.NameReader.{byte_at}
+use Rattle.dp_view.specs.inner.Items.{items_taken, text_taken}
 use Rattle.dp_view.proofs.name_reader.text.Given as goal
 
 abbrev pub invariant-loop : goal.invariant-loop

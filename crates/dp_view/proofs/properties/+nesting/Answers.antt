@@ -4,9 +4,9 @@ use Rattle.dp_value.specs.declared.value.Value.{Value}
 use Rattle.dp_value.specs.Value.{data_of}
 use Rattle.dp_view.specs.Properties.{nested, shape_of}
 use Rattle.dp_view.specs.inner.Keyed.{AreKeyed, HoldsWithin, IsKeyed, pairs_in}
-use Rattle.dp_view.specs.inner.Making.{property_in}
-use Rattle.dp_view.proofs.Keying.{array_keyed, bare_keyed, on_ok, on_page, within_less, within_more}
-use Rattle.dp_view.proofs.Nesting.{array_shape, nested_page}
+use Rattle.dp_view.specs.inner.Additions.{property_in}
+use Rattle.dp_view.proofs.DistinctKeys.{array_keyed, bare_keyed, on_ok, on_page, within_less, within_more}
+use Rattle.dp_view.proofs.Levels.{array_shape, nested_page}
 use Rattle.dp_view.proofs.Steps.{front_all, front_step}
 use Rattle.dp_view.proofs.properties.+nesting.Goals as goal
 

@@ -1,6 +1,6 @@
 use Rattle.std.proofs.Common.{◌≡◌, ◌+◌, ◌*◌, ◌++◌, take, drop}
 use Rattle.dp_view.specs.inner.Keyed.{HoldsWithin, IsKeyed}
-use Rattle.dp_view.specs.inner.Making.{properties}
+use Rattle.dp_view.specs.inner.Additions.{properties}
 use Rattle.dp_view.proofs.properties.+nesting.Given as goal
 
 abbrev pub decreases-nested : goal.decreases-nested

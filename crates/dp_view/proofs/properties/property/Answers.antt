@@ -1,6 +1,6 @@
 use Rattle.std.proofs.Common.{sym, subst}
 use Rattle.dp_value.specs.Value.{data_of}
-use Rattle.dp_view.specs.Nesting.{HasPaths}
+use Rattle.dp_view.specs.Children.{HasPaths}
 use Rattle.dp_view.proofs.Paths.{has_paths}
 use Rattle.dp_view.proofs.properties.property.Goals as goal
 

@@ -1,6 +1,6 @@
 use Rattle.std.proofs.Common.{◌≡◌, ◌+◌, ◌-◌, ◌≤◌, length, drop}
 use Rattle.std.specs.List.{prefix_len}
-use Rattle.dp_view.specs.inner.Taking.{test_of}
+use Rattle.dp_view.specs.inner.Items.{test_of}
 use Rattle.dp_view.proofs.sorts.run_len.Given as goal
 
 abbrev pub invariant-loop-n : goal.invariant-loop-n

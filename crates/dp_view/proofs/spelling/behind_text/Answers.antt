@@ -1,6 +1,6 @@
 use Rattle.std.proofs.Common.{◌∙◌, ap, sym, length, Some}
-use Rattle.dp_view.specs.Reading.{byte_at}
-use Rattle.dp_view.proofs.Taking.{skips, skips_all, skips_none, skips_to}
+use Rattle.dp_view.specs.NameReader.{byte_at}
+use Rattle.dp_view.proofs.ItemLaws.{skips, skips_all, skips_none, skips_to}
 use Rattle.dp_view.proofs.spelling.behind_text.Goals as goal
 
 pub returns-in_err-found : goal.returns-in_err-found

@@ -1,9 +1,9 @@
 use Rattle.std.proofs.Common.{◌∙◌, ap, cond, sym, length, Option, Some, None, List}
 use Rattle.std.specs.Prelude.{option_map}
 use Rattle.dp_value.specs.declared.key.Key.{Key}
-use Rattle.dp_view.specs.Reading.{index_at}
-use Rattle.dp_view.specs.inner.Taking.{key_meant, keys_taken}
-use Rattle.dp_view.proofs.Taking.{keys_end, keys_none, skips, skips_all, skips_none, skips_to}
+use Rattle.dp_view.specs.NameReader.{index_at}
+use Rattle.dp_view.specs.inner.Items.{key_meant, keys_taken}
+use Rattle.dp_view.proofs.ItemLaws.{keys_end, keys_none, skips, skips_all, skips_none, skips_to}
 use Rattle.dp_view.proofs.spelling.indices.Goals as goal
 
 pub returns-in_default : goal.returns-in_default

@@ -1,6 +1,6 @@
 use Rattle.std.proofs.Common.{◌≡◌, ◌-◌, length}
-use Rattle.dp_view.specs.Reading.{index_at}
-use Rattle.dp_view.specs.inner.Taking.{behind_items}
+use Rattle.dp_view.specs.NameReader.{index_at}
+use Rattle.dp_view.specs.inner.Items.{behind_items}
 use Rattle.dp_view.proofs.spelling.indices.Given as goal
 
 abbrev pub invariant-loop : goal.invariant-loop

@@ -1,5 +1,5 @@
 use Rattle.std.proofs.Common.{sym}
-use Rattle.dp_view.proofs.Taking.{quoted_closed, quoted_none, quoted_open}
+use Rattle.dp_view.proofs.ItemLaws.{quoted_closed, quoted_none, quoted_open}
 use Rattle.dp_view.proofs.spelling.quoted.Goals as goal
 
 pub returns-in_err-behind_text : goal.returns-in_err-behind_text

@@ -1,6 +1,6 @@
 use Rattle.std.proofs.Common.{arith}
 use Rattle.dp_view.specs.Properties.{variable_shown}
-use Rattle.dp_view.proofs.Keying.{keyed_more}
+use Rattle.dp_view.proofs.DistinctKeys.{keyed_more}
 use Rattle.dp_view.proofs.Steps.{whole_step}
 use Rattle.dp_view.proofs.variables.all_variables.Goals as goal
 

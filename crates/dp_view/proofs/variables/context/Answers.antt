@@ -1,5 +1,5 @@
 use Rattle.std.proofs.Common.{sym, subst}
-use Rattle.dp_view.specs.Nesting.{AreOfVariables}
+use Rattle.dp_view.specs.Children.{AreOfVariables}
 use Rattle.dp_view.proofs.Paths.{of_variables}
 use Rattle.dp_view.proofs.variables.context.Goals as goal
 

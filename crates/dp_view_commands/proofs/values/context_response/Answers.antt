@@ -7,7 +7,7 @@ use Rattle.dp_view.specs.Answers.{Refuses}
 use Rattle.dp_view.specs.Properties.{context_at}
 use Rattle.dp_view_limits.specs.Limits.{limited_context, properties_size}
 use Rattle.dp_view_commands.specs.Views.{Part, context_attributes, paging}
-use Rattle.dp_view_commands.specs.inner.Making.{around}
+use Rattle.dp_view_commands.specs.inner.Responses.{around}
 use Rattle.dp_view_commands.proofs.Limited.{made_answers, refused_answers}
 use Rattle.dp_view_commands.proofs.Sizes.{filled_is}
 use Rattle.dp_view_commands.proofs.values.context_response.Goals as goal

@@ -8,7 +8,7 @@ use Rattle.dp_view.specs.Named.{named_path, named_property}
 use Rattle.dp_view.specs.Properties.{property_at}
 use Rattle.dp_view_limits.specs.Limits.{limited_property, property_size, within}
 use Rattle.dp_view_commands.specs.Views.{Part, paging}
-use Rattle.dp_view_commands.specs.inner.Making.{around}
+use Rattle.dp_view_commands.specs.inner.Responses.{around}
 use Rattle.dp_view_commands.proofs.Limited.{made_after, refused_after, was_there}
 use Rattle.dp_view_commands.proofs.Sizes.{one_filled}
 use Rattle.dp_view_commands.proofs.values.property_response.Goals as goal

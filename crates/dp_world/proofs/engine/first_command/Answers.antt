@@ -1,7 +1,7 @@
 use Rattle.std.proofs.Common.{◌≡◌, ◌+◌, ◌-◌, length, take, drop, sym, subst, arith, length-drop}
 use Rattle.std.proofs.lemmas.List.{take_all}
 use Rattle.dp_wire.proofs.FrameLaws.{commands-partial}
-use Rattle.dp_world.specs.inner.Standing.{IsFirst}
+use Rattle.dp_world.specs.inner.EngineStates.{IsFirst}
 use Rattle.dp_world.proofs.EngineLaws.{first_is}
 use Rattle.dp_world.proofs.engine.first_command.Goals as goal
 

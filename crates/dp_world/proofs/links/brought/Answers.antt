@@ -1,8 +1,8 @@
 use Rattle.std.proofs.Common.{sym, subst}
 use Rattle.dp_lists.specs.declared.event.Act.{Act}
 use Rattle.dp_proxy.specs.declared.events.Act.TheVariants.{Moved}
-use Rattle.dp_world.specs.inner.Showing.{IsReadyAt, LeadsAs, kept_at}
-use Rattle.dp_world.proofs.PassingLaws.{moved_ready}
+use Rattle.dp_world.specs.inner.KeptLinks.{IsReadyAt, LeadsAs, kept_at}
+use Rattle.dp_world.proofs.ChangeLaws.{moved_ready}
 use Rattle.dp_world.proofs.links.brought.Goals as goal
 
 pub returns-in_ok-read-in-Move-clause-ready : goal.returns-in_ok-read-in-Move-clause-ready

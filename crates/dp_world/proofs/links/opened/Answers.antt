@@ -2,18 +2,18 @@ use Rattle.std.proofs.Common.{◌≡◌, true, is_some, IfOk, refl, sym, ap, sub
 use Rattle.std.proofs.lemmas.Option.{same_Some}
 use Rattle.dp_lists.specs.declared.event.Act.{Act}
 use Rattle.dp_registry.specs.Verdicts.{admit_verdict}
-use Rattle.dp_proxy.specs.Pasts.{New, Turn, turn, admission}
+use Rattle.dp_proxy.specs.Pasts.{New, Lead, lead, admission}
 use Rattle.dp_proxy.proofs.TurnLaws.{ide_comes, engine_comes}
 use Rattle.dp_world.specs.Engines.{act_of}
-use Rattle.dp_world.specs.inner.Showing.{Asks, IsShownAt}
+use Rattle.dp_world.specs.inner.KeptLinks.{Asks, IsShownAt}
 use Rattle.dp_world.proofs.links.opened.Goals as goal
 
 pub returns-in_ok-host-in-Ide : goal.returns-in_ok-host-in-Ide
 returns-in_ok-host-in-Ide c = λ journal is told. (
   refl,
-  subst (λ (a : Act). Asks (turn journal New (act_of c.args.bundle.now c.args.bound New a)).link
+  subst (λ (a : Act). Asks (lead journal New (act_of c.args.bundle.now c.args.bound New a)).link
       c.in_ok-host-in-Ide.host c.of-reply.result) (sym c.in-Ide.is)
-      (subst (λ (t : Turn). Asks t.link c.in_ok-host-in-Ide.host c.of-reply.result)
+      (subst (λ (t : Lead). Asks t.link c.in_ok-host-in-Ide.host c.of-reply.result)
       (sym (ide_comes journal c.in-Ide.host))
       (c.in_ok-host-in-Ide.ensures, c.of-reply.ensures ∙ c.new.ensures.items)),
 )
@@ -22,10 +22,10 @@ pub returns-in-Engine : goal.returns-in-Engine
 returns-in-Engine c = λ journal is told.
     let key = c.in-Engine.key in
     let verdict = admit_verdict journal key in
-    let turned = ap (λ (a : Act). turn journal New (act_of c.args.bundle.now c.args.bound New a)) c.in-Engine.is ∙
+    let turned = ap (λ (a : Act). lead journal New (act_of c.args.bundle.now c.args.bound New a)) c.in-Engine.is ∙
     engine_comes journal key verdict refl in
     let same : c.args.effect ≡ admission verdict = sym (same_Some (admission verdict) c.args.effect
-    (sym (ap (λ (t : Turn). t.effect) turned) ∙ told)) in
-    subst (λ (t : Turn). IfOk c.joined.result (λ kept. (is_some kept ≡ true)
+    (sym (ap (λ (t : Lead). t.effect) turned) ∙ told)) in
+    subst (λ (t : Lead). IfOk c.joined.result (λ kept. (is_some kept ≡ true)
     × IsShownAt c.args.bundle.now c.args.bound t.link kept)) (sym turned)
     (c.joined.ensures verdict same)

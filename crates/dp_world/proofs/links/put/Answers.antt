@@ -1,5 +1,5 @@
 use Rattle.std.proofs.Common.{sym, subst}
-use Rattle.dp_world.specs.inner.Passing.{IsPut}
+use Rattle.dp_world.specs.inner.Changes.{IsPut}
 use Rattle.dp_world.proofs.WorldLaws.{put_is}
 use Rattle.dp_world.proofs.links.put.Goals as goal
 

@@ -1,5 +1,5 @@
 use Rattle.std.proofs.Common.{take}
-use Rattle.dp_world.specs.inner.Showing.{WorldStands}
+use Rattle.dp_world.specs.inner.KeptLinks.{WorldStands}
 use Rattle.dp_world.proofs.world.follow.Given as goal
 
 abbrev pub invariant-events : goal.invariant-events

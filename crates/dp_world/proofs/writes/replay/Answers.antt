@@ -3,8 +3,8 @@ use Rattle.dp_outside.specs.Changes.{change}
 use Rattle.dp_lists.specs.declared.event.Event.{Event}
 use Rattle.dp_world.specs.Engines.{past_of}
 use Rattle.dp_world.specs.Transcript.{shown_of}
-use Rattle.dp_world.specs.inner.Writing.{Writes}
-use Rattle.dp_world.proofs.WritingLaws.{all_lines, replays}
+use Rattle.dp_world.specs.inner.LinkLines.{Writes}
+use Rattle.dp_world.proofs.TranscriptLaws.{all_lines, replays}
 use Rattle.dp_world.proofs.writes.replay.Goals as goal
 
 pub returns-clause-replays : goal.returns-clause-replays

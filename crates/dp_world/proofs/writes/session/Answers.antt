@@ -1,4 +1,4 @@
-use Rattle.dp_world.proofs.WritingLaws.{puts_session}
+use Rattle.dp_world.proofs.TranscriptLaws.{puts_session}
 use Rattle.dp_world.proofs.writes.session.Goals as goal
 
 pub returns : goal.returns

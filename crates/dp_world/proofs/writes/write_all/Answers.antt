@@ -2,8 +2,8 @@ use Rattle.std.proofs.Common.{◌≡◌, ℕ, ◌∷◌, [], ◌++◌, List, ap,
 use Rattle.std.specs.Io.KnownBytes.{Appends}
 use Rattle.std.proofs.lemmas.Result.{err_from_is_err_and}
 use Rattle.dp_world.specs.declared.shown.Shown.{Shown}
-use Rattle.dp_world.specs.inner.Writing.{AllShown, lines_of}
-use Rattle.dp_world.proofs.WritingLaws.{all_shown, next_shown, wrote_one, wrote_some}
+use Rattle.dp_world.specs.inner.LinkLines.{AllShown, lines_of}
+use Rattle.dp_world.proofs.TranscriptLaws.{all_shown, next_shown, wrote_one, wrote_some}
 use Rattle.dp_world.proofs.writes.write_all.Goals as goal
 
 pub links-preserved : goal.links-preserved

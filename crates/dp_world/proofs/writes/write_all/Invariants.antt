@@ -3,7 +3,7 @@ use Rattle.std.specs.Io.KnownBytes.{Appends}
 use Rattle.dp_tree.specs.declared.bundle.Bundle.{Bundle}
 use Rattle.dp_proxy.specs.Pasts.{Past}
 use Rattle.dp_world.specs.declared.shown.Shown.{Shown}
-use Rattle.dp_world.specs.inner.Writing.{AllShown, lines_of}
+use Rattle.dp_world.specs.inner.LinkLines.{AllShown, lines_of}
 use Rattle.dp_world.proofs.writes.write_all.Given as goal
 
 abbrev pub invariant-links : goal.invariant-links

@@ -4,7 +4,7 @@ use Rattle.dp_state.specs.declared.moments.Path.{Path}
 use Rattle.dp_view.specs.Answers.{AnswersAfter}
 use Rattle.dp_view.specs.Named.{named_path}
 use Rattle.dp_write_commands.specs.Asked.{unreserved}
-use Rattle.dp_write_commands.proofs.Asking.{found_after, missing_after}
+use Rattle.dp_write_commands.proofs.RequestedWrites.{found_after, missing_after}
 use Rattle.dp_write_commands.proofs.asked.path_asked.Goals as goal
 
 pub returns-in-Ok : goal.returns-in-Ok

@@ -1,6 +1,6 @@
 use Rattle.std.proofs.Common.{Err, arith, subst, sym}
-use Rattle.dp_write_commands.specs.inner.Making.{IsTree}
-use Rattle.dp_write_commands.proofs.Asking.{too_long, tree_found, why_none}
+use Rattle.dp_write_commands.specs.inner.Writes.{IsTree}
+use Rattle.dp_write_commands.proofs.RequestedWrites.{too_long, tree_found, why_none}
 use Rattle.dp_write_commands.proofs.asked.tree_of.Goals as goal
 
 pub returns-in-Ok : goal.returns-in-Ok

@@ -3,8 +3,8 @@ use Rattle.std.specs.Prelude.{Err}
 use Rattle.dp_view.specs.declared.errors.ViewError.TheVariants.{Code}
 use Rattle.dp_view.specs.Named.{named_path}
 use Rattle.dp_write_commands.specs.Asked.{unreserved}
-use Rattle.dp_write_commands.specs.inner.Making.{value_of_given}
-use Rattle.dp_write_commands.proofs.Asking.{found_at_once, told_at_once, unplaced}
+use Rattle.dp_write_commands.specs.inner.Writes.{value_of_given}
+use Rattle.dp_write_commands.proofs.RequestedWrites.{found_at_once, told_at_once, unplaced}
 use Rattle.dp_write_commands.proofs.commands.place_property.Goals as goal
 
 pub returns-in-Ok-clause-at_once : goal.returns-in-Ok-clause-at_once

@@ -1,4 +1,4 @@
-use Rattle.dp_write_commands.proofs.Asking.{untreed}
+use Rattle.dp_write_commands.proofs.RequestedWrites.{untreed}
 use Rattle.dp_write_commands.proofs.commands.write_evaluation.Goals as goal
 
 pub returns-in-Err : goal.returns-in-Err

@@ -1,8 +1,8 @@
 use Rattle.std.proofs.Common.{◌≡◌, refl, sym}
 use Rattle.std.specs.Prelude.{Err}
 use Rattle.dp_view.specs.declared.errors.ViewError.TheVariants.{Code}
-use Rattle.dp_write_commands.specs.inner.Making.{value_of_given}
-use Rattle.dp_write_commands.proofs.Asking.{refused, unvalued, unvalued_at_once, valued_at_once}
+use Rattle.dp_write_commands.specs.inner.Writes.{value_of_given}
+use Rattle.dp_write_commands.proofs.RequestedWrites.{refused, unvalued, unvalued_at_once, valued_at_once}
 use Rattle.dp_write_commands.proofs.commands.write_property.Goals as goal
 
 pub returns-in-Some-clause-at_once : goal.returns-in-Some-clause-at_once

@@ -5,9 +5,9 @@ use Rattle.std.proofs.lemmas.Int.{to_z-of_z}
 use mir.Syntax.{w64}
 use mir.Val.{SFits}
 use Rattle.dp_tree.specs.declared.tree.Expression.TheViews.{the_lemmas as depths}
-use Rattle.dp_actions.proofs.Acting.{breaks_off, exits, first_done, gives, goes_on}
+use Rattle.dp_actions.proofs.AtOnceLaws.{breaks_off, exits, first_done, gives, goes_on}
 use Rattle.dp_actions.proofs.Layers.{found-plain, run-Array, run-Bool, run-Chain, run-Coalesce, run-Conditional, run-Index, run-Isset, run-item-None, run-item-Some, run-link, run-Null, run-Number, run-place, run-Text, run-Unary, run-Variable}
-use Rattle.dp_actions.proofs.Observing.{front, joined_done, joined_off, joined_on, joined_to, then_on, values-all, values-break, values-first, values-more}
+use Rattle.dp_actions.proofs.ObservedValues.{front, joined_done, joined_off, joined_on, joined_to, then_on, values-all, values-break, values-first, values-more}
 use Rattle.dp_actions.proofs.PureParts.{of-Array, of-Chain, of-Index, of-Isset, of-place}
 use Rattle.dp_actions.proofs.Tails.{kept-none, kept-some, present-none, present-some}
 use Rattle.dp_actions.proofs.observer.Observer.+observe.Goals as goal

@@ -13,7 +13,7 @@ use Rattle.dp_actions.specs.Expressions.{evaluations, expression_run, indices_ru
 use Rattle.dp_actions.specs.InPlace.{entries_by}
 use Rattle.dp_actions.specs.Places.{isset_run}
 use Rattle.dp_actions.specs.Setting.{Setting}
-use Rattle.dp_actions.proofs.Observing.{more_values}
+use Rattle.dp_actions.proofs.ObservedValues.{more_values}
 use Rattle.dp_actions.proofs.observer.Observer.+observe.Given as goal
 
 abbrev pub decreases-expression : goal.decreases-expression

@@ -1,7 +1,7 @@
 use Rattle.std.proofs.Common.{◌≡◌, None, sym, subst, ◌∙◌}
 use Rattle.dp_break.specs.Refusals.{place_refusal}
 use Rattle.dp_break.specs.Tables.{IsSound, Table}
-use Rattle.dp_break.proofs.Keeping.{table}
+use Rattle.dp_break.proofs.TableLaws.{table}
 use Rattle.dp_break.proofs.Requests.{sound_request, sure_formed}
 use Rattle.dp_break.proofs.breaks.Breaks.add.Goals as goal
 

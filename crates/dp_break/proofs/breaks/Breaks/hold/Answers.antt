@@ -2,7 +2,7 @@ use Rattle.std.proofs.Common.{◌≡◌, ◌+◌, ◌<◌, List, [], ◌∷◌, 
 use Rattle.std.proofs.lemmas.List.{length-append}
 use Rattle.dp_break.specs.declared.breakpoint.Breakpoint.{Breakpoint}
 use Rattle.dp_break.specs.Tables.{IsTable, Table, breakpoint_limit, last_id}
-use Rattle.dp_break.proofs.Keeping.{new_table, table}
+use Rattle.dp_break.proofs.TableLaws.{new_table, table}
 use Rattle.dp_break.proofs.breaks.Breaks.hold.Goals as goal
 
 pub invariant_of-self-2 : goal.invariant_of-self-2

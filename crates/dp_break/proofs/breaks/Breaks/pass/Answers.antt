@@ -4,9 +4,9 @@ use Rattle.dp_state.specs.declared.moments.Moment.{Moment}
 use Rattle.dp_state.specs.declared.state.State.{State}
 use Rattle.dp_break.specs.declared.breakpoint.Breakpoint.{Breakpoint}
 use Rattle.dp_break.specs.Hits.{hits}
-use Rattle.dp_break.specs.Passing.{held_after, one_stops}
+use Rattle.dp_break.specs.StopRule.{held_after, one_stops}
 use Rattle.dp_break.specs.Tables.{IsTable, Table}
-use Rattle.dp_break.proofs.Keeping.{length-settled, settled_table, table}
+use Rattle.dp_break.proofs.TableLaws.{length-settled, settled_table, table}
 use Rattle.dp_break.proofs.Settled.{settled-is, some-is}
 use Rattle.dp_break.proofs.breaks.Breaks.pass.Goals as goal
 

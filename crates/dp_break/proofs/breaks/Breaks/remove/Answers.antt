@@ -3,7 +3,7 @@ use Rattle.std.specs.Prelude.{is_some, position}
 use Rattle.dp_break.specs.declared.breakpoint.Breakpoint.{Breakpoint}
 use Rattle.dp_break.specs.Changes.{held_as, without}
 use Rattle.dp_break.specs.Tables.{Table}
-use Rattle.dp_break.proofs.Keeping.{table}
+use Rattle.dp_break.proofs.TableLaws.{table}
 use Rattle.dp_break.proofs.Updates.{found_none, found_some, left_none, left_some, removed_shorter, removed_table}
 use Rattle.dp_break.proofs.breaks.Breaks.remove.Goals as goal
 

@@ -6,7 +6,7 @@ use Rattle.dp_break.specs.declared.errors.BreakError.TheVariants as error
 use Rattle.dp_break.specs.Changes.{changed, held_as, with_change}
 use Rattle.dp_break.specs.Refusals.{answer_of, change_refusal, update_refusal}
 use Rattle.dp_break.specs.Tables.{IsTable, Table}
-use Rattle.dp_break.proofs.Keeping.{table}
+use Rattle.dp_break.proofs.TableLaws.{table}
 use Rattle.dp_break.proofs.Updates.{change_answer, change_left, change_table, changed_sound, missing_answer, sound_here}
 use Rattle.dp_break.proofs.breaks.Breaks.update.Goals as goal
 

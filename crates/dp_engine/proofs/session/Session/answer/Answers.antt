@@ -1,6 +1,6 @@
 use Rattle.std.proofs.Common.{ap, drop, ◌∙◌}
-use Rattle.dp_engine.proofs.Answering.{answered}
-use Rattle.dp_engine.proofs.Refusing.{answered_by_code}
+use Rattle.dp_engine.proofs.SentPackets.{answered}
+use Rattle.dp_engine.proofs.RefusalLaws.{answered_by_code}
 use Rattle.dp_engine.proofs.session.Session.answer.Goals as goal
 
 pub returns-clause-ok : goal.returns-clause-ok

@@ -3,7 +3,7 @@ use Rattle.dp_breakpoint_commands.specs.Commands.{breakpoint_refusal}
 use Rattle.dp_breakpoint_commands.proofs.Codes.{refusal_known}
 use Rattle.dp_engine.specs.Session.{program_of}
 use Rattle.dp_engine.specs.inner.Position.{known}
-use Rattle.dp_engine.proofs.Turning.{breakpoints_are_told, fits_known}
+use Rattle.dp_engine.proofs.TurnLaws.{breakpoints_are_told, fits_known}
 use Rattle.dp_engine.proofs.session.Session.perform_on_breakpoints.Goals as goal
 
 pub tell-requires : goal.tell-requires

@@ -1,6 +1,6 @@
 use Rattle.std.proofs.Common.{subst, sym, ◌∙◌}
 use Rattle.dp_state.specs.States.{IsOf}
-use Rattle.dp_engine.proofs.Turning.{has_files, program_can, program_is}
+use Rattle.dp_engine.proofs.TurnLaws.{has_files, program_can, program_is}
 use Rattle.dp_engine.proofs.session.Session.program.Goals as goal
 
 pub returns-else-self-clause-state : goal.returns-else-self-clause-state

@@ -1,7 +1,7 @@
 use Rattle.std.proofs.Common.{◌≢◌, ap, sym, ◌∙◌, arith}
 use Rattle.dp_engine.specs.declared.states.Phase.TheVariants.{Stopping}
 use Rattle.dp_engine.specs.inner.Position.{phase_of}
-use Rattle.dp_engine.proofs.Turning.{comes_later, counts_out, counts_to, goes_out, goes_to, nothing_kept, stands_there}
+use Rattle.dp_engine.proofs.TurnLaws.{comes_later, counts_out, counts_to, goes_out, goes_to, nothing_kept, stands_there}
 use Rattle.dp_engine.proofs.session.Session.run_on.Goals as goal
 
 pub invariant_of-self-in-Moment : goal.invariant_of-self-in-Moment

@@ -1,7 +1,7 @@
 use Rattle.std.proofs.Common.{◌≢◌, ap, drop, length, sym, ◌∙◌}
 use Rattle.dp_engine.specs.declared.states.Phase.TheVariants.{Stopping}
 use Rattle.dp_engine.specs.inner.Position.{known, phase_of}
-use Rattle.dp_engine.proofs.Turning.{counts_left, nothing_kept, program_is, rest_is, stands_there}
+use Rattle.dp_engine.proofs.TurnLaws.{counts_left, nothing_kept, program_is, rest_is, stands_there}
 use Rattle.dp_engine.proofs.session.Session.run_rest.Goals as goal
 
 pub returns-in_ok-rest-in-Ok-clause-rest : goal.returns-in_ok-rest-in-Ok-clause-rest

@@ -2,7 +2,7 @@ use Rattle.std.proofs.Common.{rules, ◌≡◌, Err, ap, refl, sym, ◌∙◌}
 use Rattle.dp_view_commands.specs.Views.{view_response}
 use Rattle.dp_engine.specs.Session.{program_of}
 use Rattle.dp_engine.specs.inner.Position.{known}
-use Rattle.dp_engine.proofs.Turning.{fits_known, own_refused, view_is, view_refused, view_told}
+use Rattle.dp_engine.proofs.TurnLaws.{fits_known, own_refused, view_is, view_refused, view_told}
 use Rattle.dp_engine.proofs.session.Session.show.Goals as goal
 
 pub tell-requires : goal.tell-requires

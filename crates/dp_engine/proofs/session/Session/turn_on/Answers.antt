@@ -1,6 +1,6 @@
 use Rattle.std.proofs.Common.{Some, ap, sym, ◌∙◌}
-use Rattle.dp_engine.proofs.Fitting.{command_short, refusal_is_code}
-use Rattle.dp_engine.proofs.Turning.{turn_accepted, turn_refused, writes_in_break}
+use Rattle.dp_engine.proofs.ResponseSizes.{command_short, refusal_is_code}
+use Rattle.dp_engine.proofs.TurnLaws.{turn_accepted, turn_refused, writes_in_break}
 use Rattle.dp_engine.proofs.session.Session.turn_on.Goals as goal
 
 pub perform-requires-clause-short : goal.perform-requires-clause-short

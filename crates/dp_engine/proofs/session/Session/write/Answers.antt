@@ -1,10 +1,10 @@
 use Rattle.std.proofs.Common.{rules, ◌≡◌, Err, ap, subst, ◌∙◌}
 use Rattle.dp_state.specs.declared.state.State.{State}
-use Rattle.dp_write_commands.specs.Writing.{write_response}
-use Rattle.dp_engine.specs.inner.Accepting.{IsMade}
+use Rattle.dp_write_commands.specs.Responses.{write_response}
+use Rattle.dp_engine.specs.inner.KeptWrites.{IsMade}
 use Rattle.dp_engine.specs.inner.Position.{known}
-use Rattle.dp_engine.proofs.Accepting.{deep_kept, stands_kept}
-use Rattle.dp_engine.proofs.Turning.{fits_known, own_refused, program_is, write_is_refused, write_is_told, write_stays}
+use Rattle.dp_engine.proofs.NewWrites.{deep_kept, stands_kept}
+use Rattle.dp_engine.proofs.TurnLaws.{fits_known, own_refused, program_is, write_is_refused, write_is_told, write_stays}
 use Rattle.dp_engine.proofs.session.Session.write.Goals as goal
 
 pub tell-requires : goal.tell-requires

@@ -1,6 +1,6 @@
 use Rattle.std.proofs.Common.{◌≡◌, ◌-◌, []}
 use Rattle.dp_rules.specs.inner.Input.{closed, until}
-use Rattle.dp_expressions.specs.inner.Reading.{opening_step, below}
+use Rattle.dp_expressions.specs.inner.Readers.{opening_step, below}
 use Rattle.dp_expressions.proofs.grammar.Grammar.opening_from.Given as goal
 
 abbrev pub invariant-loop-turn : goal.invariant-loop-turn

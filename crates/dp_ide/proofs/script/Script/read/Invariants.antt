@@ -1,5 +1,5 @@
 use Rattle.std.proofs.Common.{◌+◌, ◌≤◌, length}
-use Rattle.dp_ide.specs.inner.Reading.{HasSaid}
+use Rattle.dp_ide.specs.inner.Readers.{HasSaid}
 use Rattle.dp_ide.proofs.script.Script.read.Given as goal
 
 abbrev pub invariant-lines : goal.invariant-lines

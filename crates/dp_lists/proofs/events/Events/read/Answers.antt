@@ -2,7 +2,7 @@ use Rattle.std.proofs.Common.{◌≡◌, ◌⊎◌, ℕ, ◌+◌, Bool, true, fa
 use Rattle.std.specs.Option.{option_copied}
 use Rattle.dp_lists.specs.declared.errors.ListError.TheVariants.{BadLine}
 use Rattle.dp_lists.specs.Lists.{IsList, IsFirstBad}
-use Rattle.dp_lists.specs.inner.Reading.{IsRead, Takes}
+use Rattle.dp_lists.specs.inner.Progress.{IsRead, Takes}
 use Rattle.dp_lists.proofs.ListLaws.{read_on, read_bad, read_all, one_list, one_bad, bad_excludes}
 use Rattle.dp_lists.proofs.events.Events.read.Goals as goal
 

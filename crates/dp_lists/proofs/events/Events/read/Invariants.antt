@@ -1,5 +1,5 @@
 use Rattle.std.specs.Option.{option_copied}
-use Rattle.dp_lists.specs.inner.Reading.{IsReading, IsRead, size_of}
+use Rattle.dp_lists.specs.inner.Progress.{IsReading, IsRead, size_of}
 use Rattle.dp_lists.proofs.events.Events.read.Given as goal
 
 abbrev pub invariant-lines : goal.invariant-lines

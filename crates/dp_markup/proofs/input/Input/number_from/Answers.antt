@@ -1,7 +1,7 @@
 use Rattle.std.proofs.Common.{rules, arith}
 use Rattle.std.proofs.lemmas.Grind.{common_steps}
 use Rattle.dp_markup.specs.inner.Input.{until}
-use Rattle.dp_markup.specs.inner.Reading.{number_step, behind_of}
+use Rattle.dp_markup.specs.inner.Readers.{number_step, behind_of}
 use Rattle.dp_markup.proofs.Turns.{one_turn, no_turn}
 use Rattle.dp_markup.proofs.input.Input.number_from.Goals as goal
 

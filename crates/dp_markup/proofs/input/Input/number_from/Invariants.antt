@@ -1,6 +1,6 @@
 use Rattle.std.proofs.Common.{◌≡◌, ◌-◌}
 use Rattle.dp_markup.specs.inner.Input.{closed, until}
-use Rattle.dp_markup.specs.inner.Reading.{number_step, behind_of}
+use Rattle.dp_markup.specs.inner.Readers.{number_step, behind_of}
 use Rattle.dp_markup.proofs.input.Input.number_from.Given as goal
 
 abbrev pub invariant-loop-turn : goal.invariant-loop-turn

@@ -1,7 +1,7 @@
 use Rattle.std.proofs.Common.{rules, ◌∙◌, ◌≤◌, count_by, is_err, map, not, subst}
 use Rattle.std.specs.List.{AllZip}
 use Rattle.dp_outside.specs.Jobs.{RanOrBack}
-use Rattle.dp_outside.proofs.Settling.{all_back, all_ran, fewer_refused}
+use Rattle.dp_outside.proofs.PairedLists.{all_back, all_ran, fewer_refused}
 use Rattle.dp_outside.proofs.jobs.Spawner.crew.Goals as goal
 
 pub returns-clause-answers : goal.returns-clause-answers

@@ -1,7 +1,7 @@
 use Rattle.std.proofs.Common.{◌≡◌, ◌-◌, []}
 use Rattle.dp_rules.specs.inner.Input.{closed, until}
 use Rattle.dp_parse.specs.inner.Within.{body}
-use Rattle.dp_parse.specs.inner.ReadingStatements.{bodies_step}
+use Rattle.dp_parse.specs.inner.StatementRules.{bodies_step}
 use Rattle.dp_parse.proofs.grammar.Statements.bodies.Given as goal
 
 abbrev pub invariant-loop-turn : goal.invariant-loop-turn

@@ -1,6 +1,6 @@
 use Rattle.std.proofs.Common.{◌≡◌, ℕ, List, sym, subst}
 use Rattle.dp_proxy.specs.declared.kept.Kept.{Kept}
-use Rattle.dp_proxy.specs.Standing.{Keeps, Stands, AreSound}
+use Rattle.dp_proxy.specs.Invariant.{Keeps, Stands, AreSound}
 use Rattle.dp_proxy.proofs.StepLaws.{sound_taken, sound_put, stands_put}
 use Rattle.dp_proxy.proofs.proxy.Proxy.step.Goals as goal
 

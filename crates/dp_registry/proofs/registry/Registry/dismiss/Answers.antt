@@ -2,7 +2,7 @@ use Rattle.std.proofs.Common.{◌≡◌, ◌-◌, ◌<◌, ◌≤◌, ℕ, List,
 use Rattle.dp_registry.specs.declared.entry.Entry.{Entry}
 use Rattle.dp_registry.specs.Journal.{live}
 use Rattle.dp_registry.specs.inner.Kept.{IsKept, admitted_key}
-use Rattle.dp_registry.proofs.Keeping.{dismissed_number, dismissed_at, one_live, kept_dismissed}
+use Rattle.dp_registry.proofs.JournalLaws.{dismissed_number, dismissed_at, one_live, kept_dismissed}
 use Rattle.dp_registry.proofs.registry.Registry.dismiss.Goals as goal
 
 pub place_at-at-requires : goal.place_at-at-requires

@@ -1,7 +1,7 @@
 use Rattle.std.proofs.Common.{List, ap, ◌∙◌}
 use Rattle.dp_registry.specs.declared.entry.Entry.{Entry}
 use Rattle.dp_registry.specs.Journal.{least, live_under}
-use Rattle.dp_registry.proofs.Keeping.{first_least}
+use Rattle.dp_registry.proofs.JournalLaws.{first_least}
 use Rattle.dp_registry.proofs.registry.Registry.first_live.Goals as goal
 
 pub returns : goal.returns

@@ -10,7 +10,7 @@ use Rattle.dp_registry.specs.Legal.{IsFit}
 use Rattle.dp_registry.specs.Verdicts.{is_crowded}
 use Rattle.dp_registry.specs.inner.Kept.{IsKept}
 use Rattle.dp_registry.specs.inner.Tables.{sessions_of}
-use Rattle.dp_registry.proofs.Keeping.{kept_given, given_lives, next_is_new}
+use Rattle.dp_registry.proofs.JournalLaws.{kept_given, given_lives, next_is_new}
 use Rattle.dp_registry.proofs.registry.Registry.give.Goals as goal
 
 pub invariant_of-self-2 : goal.invariant_of-self-2

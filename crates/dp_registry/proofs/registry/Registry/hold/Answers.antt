@@ -7,7 +7,7 @@ use Rattle.dp_registry.specs.Legal.{IsFit}
 use Rattle.dp_registry.specs.Verdicts.{is_full}
 use Rattle.dp_registry.specs.inner.Kept.{IsKept}
 use Rattle.dp_registry.specs.inner.Tables.{place_of}
-use Rattle.dp_registry.proofs.Keeping.{kept_held}
+use Rattle.dp_registry.proofs.JournalLaws.{kept_held}
 use Rattle.dp_registry.proofs.registry.Registry.hold.Goals as goal
 
 pub invariant_of-self-2 : goal.invariant_of-self-2

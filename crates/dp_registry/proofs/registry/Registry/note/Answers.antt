@@ -3,7 +3,7 @@ use Rattle.dp_registry.specs.declared.entry.Entry.{Entry}
 use Rattle.dp_registry.specs.Legal.{IsFit}
 use Rattle.dp_registry.specs.Verdicts.{is_full}
 use Rattle.dp_registry.specs.inner.Kept.{IsKept}
-use Rattle.dp_registry.proofs.Keeping.{kept_idle}
+use Rattle.dp_registry.proofs.JournalLaws.{kept_idle}
 use Rattle.dp_registry.proofs.registry.Registry.note.Goals as goal
 
 pub invariant_of-self-2 : goal.invariant_of-self-2

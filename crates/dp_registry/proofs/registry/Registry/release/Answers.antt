@@ -4,7 +4,7 @@ use Rattle.dp_registry.specs.declared.entry.Entry.TheVariants.{Stop}
 use Rattle.dp_registry.specs.Legal.{IsFit}
 use Rattle.dp_registry.specs.Verdicts.{is_full}
 use Rattle.dp_registry.specs.inner.Kept.{IsKept}
-use Rattle.dp_registry.proofs.Keeping.{kept_released}
+use Rattle.dp_registry.proofs.JournalLaws.{kept_released}
 use Rattle.dp_registry.proofs.registry.Registry.release.Goals as goal
 
 pub invariant_of-self-2 : goal.invariant_of-self-2

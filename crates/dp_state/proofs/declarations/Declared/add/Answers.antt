@@ -2,7 +2,7 @@ use Rattle.std.proofs.Common.{List, ◌++◌, ap, ◌∙◌}
 use Rattle.dp_tree.specs.declared.bundle.FunctionRef.{FunctionRef}
 use Rattle.dp_tree.specs.Files.{first_functions}
 use Rattle.dp_state.specs.inner.Declarations.{functions_in}
-use Rattle.dp_state.proofs.Finding.{part_added}
+use Rattle.dp_state.proofs.FoundFunctions.{part_added}
 use Rattle.dp_state.proofs.declarations.Declared.add.Goals as goal
 
 pub returns-clause-ok : goal.returns-clause-ok

@@ -1,5 +1,5 @@
 use Rattle.std.proofs.Common.{◌∙◌}
-use Rattle.dp_state.proofs.Finding.{names_declared}
+use Rattle.dp_state.proofs.FoundFunctions.{names_declared}
 use Rattle.dp_state.proofs.state.State.any_declared.Goals as goal
 
 pub returns : goal.returns

@@ -4,7 +4,7 @@ use Rattle.dp_value.specs.declared.value.Value.TheVariants.{Null}
 use Rattle.dp_state.specs.Places.{assigned}
 use Rattle.dp_state.specs.inner.Parts.{assigned_in}
 use Rattle.dp_state.specs.States.{own_variables}
-use Rattle.dp_state.proofs.Writing.{assigned-home, on_either, on_ok, on_refused, put_same, with_result, within-still}
+use Rattle.dp_state.proofs.VariableSteps.{assigned-home, on_either, on_ok, on_refused, put_same, with_result, within-still}
 use Rattle.dp_state.proofs.state.State.append.Goals as goal
 
 pub exchange_own-requires : goal.exchange_own-requires

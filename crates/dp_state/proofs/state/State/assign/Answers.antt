@@ -2,7 +2,7 @@ use Rattle.std.proofs.Common.{ℕ, sym, ap, ◌∙◌}
 use Rattle.dp_state.specs.Places.{assigned}
 use Rattle.dp_state.specs.inner.Parts.{assigned_in}
 use Rattle.dp_state.specs.States.{own_variables}
-use Rattle.dp_state.proofs.Writing.{assigned-home, on_ok, on_refused, on_err, with_result, within-still}
+use Rattle.dp_state.proofs.VariableSteps.{assigned-home, on_ok, on_refused, on_err, with_result, within-still}
 use Rattle.dp_state.proofs.state.State.assign.Goals as goal
 
 pub exchange_own-requires : goal.exchange_own-requires

@@ -2,7 +2,7 @@ use Rattle.std.proofs.Common.{◌≡◌, sym, ap, ◌∙◌}
 use Rattle.dp_state.specs.declared.state.State.{State}
 use Rattle.dp_state.specs.Places.{with_own}
 use Rattle.dp_state.specs.Variables.{Variables, without}
-use Rattle.dp_state.proofs.Writing.{global-bound, global-kept, global-undone, put, put_same, within-still}
+use Rattle.dp_state.proofs.VariableSteps.{global-bound, global-kept, global-undone, put, put_same, within-still}
 use Rattle.dp_state.proofs.state.State.bind.Goals as goal
 
 pub exchange_own-requires : goal.exchange_own-requires

@@ -2,7 +2,7 @@ use Rattle.std.proofs.Common.{ℕ, ap, ◌∙◌}
 use Rattle.dp_state.specs.Places.{with_own}
 use Rattle.dp_state.specs.States.{own_variables}
 use Rattle.dp_state.specs.Variables.{Variables, without}
-use Rattle.dp_state.proofs.Writing.{put, within-still}
+use Rattle.dp_state.proofs.VariableSteps.{put, within-still}
 use Rattle.dp_state.proofs.state.State.remove.Goals as goal
 
 pub exchange_own-requires : goal.exchange_own-requires

@@ -2,7 +2,7 @@ use Rattle.std.proofs.Common.{◌-◌, ◌≤◌, ℕ, length, sym, ap, ◌∙�
 use Rattle.dp_state.specs.Places.{unset}
 use Rattle.dp_state.specs.inner.Parts.{removed_in}
 use Rattle.dp_state.specs.States.{own_variables}
-use Rattle.dp_state.proofs.Writing.{on_ok, on_refused, on_sure, on_err, unset-home, with_result, within-still}
+use Rattle.dp_state.proofs.VariableSteps.{on_ok, on_refused, on_sure, on_err, unset-home, with_result, within-still}
 use Rattle.dp_state.proofs.state.State.unset.Goals as goal
 
 pub exchange_own-requires : goal.exchange_own-requires

@@ -1,4 +1,4 @@
-use Rattle.dp_step.proofs.Writings.{evaluate-stands}
+use Rattle.dp_step.proofs.WriteLaws.{evaluate-stands}
 use Rattle.dp_step.proofs.machine.Machine.evaluate.Goals as goal
 
 pub returns-clause-stands : goal.returns-clause-stands

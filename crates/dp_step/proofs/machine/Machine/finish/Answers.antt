@@ -1,6 +1,6 @@
 use Rattle.std.proofs.Common.{refl, ◌∙◌}
 use Rattle.dp_step.specs.Stands.{rest_of}
-use Rattle.dp_step.proofs.Leaping.{leap-on, leap-out}
+use Rattle.dp_step.proofs.LeapLaws.{leap-on, leap-out}
 use Rattle.dp_step.proofs.machine.Machine.finish.Goals as goal
 
 pub loop-init : goal.loop-init

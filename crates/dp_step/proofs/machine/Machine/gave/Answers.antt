@@ -1,5 +1,5 @@
 use Rattle.std.proofs.Common.{refl}
-use Rattle.dp_step.proofs.Leaping.{ends-there, gives-on}
+use Rattle.dp_step.proofs.LeapLaws.{ends-there, gives-on}
 use Rattle.dp_step.proofs.machine.Machine.gave.Goals as goal
 
 pub returns-in-Ok : goal.returns-in-Ok

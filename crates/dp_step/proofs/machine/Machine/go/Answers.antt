@@ -1,5 +1,5 @@
 use Rattle.std.proofs.lemmas.Result.{IfOk-weaker}
-use Rattle.dp_step.proofs.Standing.{goes-by, goes-end}
+use Rattle.dp_step.proofs.MachineSteps.{goes-by, goes-end}
 use Rattle.dp_step.proofs.machine.Machine.go.Goals as goal
 
 pub returns-in-Ok : goal.returns-in-Ok

@@ -1,7 +1,7 @@
 use Rattle.std.proofs.Common.{refl, sym, ◌∙◌}
 use Rattle.std.proofs.lemmas.Result.{IfOk-weaker}
 use Rattle.dp_meaning.specs.Statements.{statement_run}
-use Rattle.dp_step.proofs.Leaping.{leaps_hand}
+use Rattle.dp_step.proofs.LeapLaws.{leaps_hand}
 use Rattle.dp_step.proofs.machine.Machine.leap.Goals as goal
 
 pub returns-in-Run : goal.returns-in-Run

@@ -1,7 +1,7 @@
 use Rattle.std.proofs.Common.{refl}
 use Rattle.std.proofs.lemmas.Result.{IfOk-weaker}
 use Rattle.dp_step.proofs.Ends.{came-ended, come-leaves, end-stays, over-left}
-use Rattle.dp_step.proofs.Standing.{ends-with, goes-on}
+use Rattle.dp_step.proofs.MachineSteps.{ends-with, goes-on}
 use Rattle.dp_step.proofs.machine.Machine.next_moment.Goals as goal
 
 pub returns-in-Ok-Moment-clause-goes_on : goal.returns-in-Ok-Moment-clause-goes_on

@@ -1,4 +1,4 @@
-use Rattle.dp_step.proofs.Leaping.{moment-on, moment-over, small-on, small-over}
+use Rattle.dp_step.proofs.LeapLaws.{moment-on, moment-over, small-on, small-over}
 use Rattle.dp_step.proofs.machine.Machine.onward.Goals as goal
 
 pub returns-in-None : goal.returns-in-None

@@ -1,6 +1,6 @@
 use Rattle.std.proofs.Common.{refl}
 use Rattle.std.proofs.lemmas.Result.{IfOk-weaker}
-use Rattle.dp_step.proofs.Leaping.{leaps_put}
+use Rattle.dp_step.proofs.LeapLaws.{leaps_put}
 use Rattle.dp_step.proofs.machine.Machine.other.Goals as goal
 
 pub returns : goal.returns

@@ -1,4 +1,4 @@
-use Rattle.dp_step.proofs.Leaping.{counts-out, runs-out}
+use Rattle.dp_step.proofs.LeapLaws.{counts-out, runs-out}
 use Rattle.dp_step.proofs.machine.Machine.run_out.Goals as goal
 
 pub returns-clause-end : goal.returns-clause-end

@@ -1,7 +1,7 @@
 use Rattle.std.proofs.Common.{refl, sym, ◌∙◌}
 use Rattle.dp_state.specs.States.{frame_limit}
 use Rattle.dp_step.specs.Stands.{rest_of}
-use Rattle.dp_step.proofs.Standing.{all-done, starts}
+use Rattle.dp_step.proofs.MachineSteps.{all-done, starts}
 use Rattle.dp_step.proofs.machine.Machine.start.Goals as goal
 
 pub returns : goal.returns

@@ -1,4 +1,4 @@
-use Rattle.dp_step.proofs.Writings.{write-stands}
+use Rattle.dp_step.proofs.WriteLaws.{write-stands}
 use Rattle.dp_step.proofs.machine.Machine.write.Goals as goal
 
 pub returns-clause-stands : goal.returns-clause-stands

@@ -1,6 +1,6 @@
 use Rattle.std.proofs.Common.{refl, sym, subst, arith}
 use Rattle.dp_step.specs.Written.{Writes}
-use Rattle.dp_step.proofs.Writings.{global, local, no-frame, nowhere}
+use Rattle.dp_step.proofs.WriteLaws.{global, local, no-frame, nowhere}
 use Rattle.dp_step.proofs.machine.Machine.write_place.Goals as goal
 
 pub returns-then-level-depth : goal.returns-then-level-depth

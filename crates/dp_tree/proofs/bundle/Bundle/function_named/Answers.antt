@@ -1,5 +1,5 @@
 use Rattle.std.proofs.Common.{List, ℕ, ap, slice_get, ◌∙◌}
-use Rattle.dp_tree.proofs.Indexing.{asked_first, low_name}
+use Rattle.dp_tree.proofs.FunctionIndex.{asked_first, low_name}
 use Rattle.dp_tree.proofs.bundle.Bundle.function_named.Goals as goal
 
 pub returns-in-Some : goal.returns-in-Some

@@ -2,7 +2,7 @@ use Rattle.std.proofs.Common.{List, slice_get, ap, ◌∙◌}
 use Rattle.std.specs.Prelude.{position}
 use Rattle.std.specs.Str.{str_eq_ignore_ascii_case}
 use Rattle.dp_tree.specs.declared.tree.Function.{Function}
-use Rattle.dp_tree.proofs.Indexing.{first_in}
+use Rattle.dp_tree.proofs.FunctionIndex.{first_in}
 use Rattle.dp_tree.proofs.bundle.Bundle.walk.Goals as goal
 
 pub returns : goal.returns

@@ -1,5 +1,5 @@
 use Rattle.std.proofs.Common.{List, slice_get, ap, ◌∙◌}
-use Rattle.dp_tree.proofs.Indexing.{asked_first, first_there, first_missing}
+use Rattle.dp_tree.proofs.FunctionIndex.{asked_first, first_there, first_missing}
 use Rattle.dp_tree.specs.declared.bundle.BundleFile.{BundleFile}
 use Rattle.dp_tree.proofs.indexed.Files.first.Goals as goal
 

@@ -92,7 +92,8 @@ invariant_of-self c =
     let weighs = weight-swapped-first c.args.key.now (keys_left c.self.inside)
     (map data_of (values_left c.self.inside)) c.in_ok-at.at
     (data_of c.replace-old.result) d c.in_ok-at.ensures.place row in
-    let pairs = exchanged c.self.inside.gone c.self.inside.keys.keys c.self.inside.values.items c.in_ok-at.at c.args.key.now c.args.value
+    let pairs = exchanged c.self.inside.gone c.self.inside.keys.keys c.self.inside.values.items c.in_ok-at.at
+    c.args.key.now c.args.value
     c.replace-old.new.dest
     c.in_ok-at.ensures.place c.self.invariant.same_length c.replace-old.ensures.after in
     let seen = ap (λ (t : Table). pairs_weight (swapped t.pairs c.args.key.now d)) c.self.view_is in
@@ -142,7 +143,8 @@ returns-clause-value c =
 pub returns-clause-exchanged : goal.returns-clause-exchanged
 returns-clause-exchanged c =
     let d = data_of c.args.value in
-    let pairs = exchanged c.self.inside.gone c.self.inside.keys.keys c.self.inside.values.items c.in_ok-at.at c.args.key.now c.args.value
+    let pairs = exchanged c.self.inside.gone c.self.inside.keys.keys c.self.inside.values.items c.in_ok-at.at
+    c.args.key.now c.args.value
     c.replace-old.new.dest
     c.in_ok-at.ensures.place c.self.invariant.same_length c.replace-old.ensures.after in
     let same : record {

@@ -1,6 +1,6 @@
 use Rattle.std.proofs.Common.{◌∷◌, ◌++◌, [], List, ℕ, ap, sym, ◌∙◌, append_assoc, append-nil, subst}
 use Rattle.dp_wire.specs.Frames.{commands_in}
-use Rattle.dp_world.specs.inner.Standing.{GoesOn}
+use Rattle.dp_world.specs.inner.EngineStates.{GoesOn}
 use Rattle.dp_world.proofs.EngineLaws.{goes_on_more}
 use Rattle.dp_world.proofs.engine.Engine.answer_all.Goals as goal
 

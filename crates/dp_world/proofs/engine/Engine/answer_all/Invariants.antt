@@ -1,6 +1,6 @@
 use Rattle.std.proofs.Common.{◌≡◌, List, ℕ, [], ◌++◌, length}
 use Rattle.dp_wire.specs.Frames.{commands_in, rest_of}
-use Rattle.dp_world.specs.inner.Standing.{GoesOn}
+use Rattle.dp_world.specs.inner.EngineStates.{GoesOn}
 use Rattle.dp_world.proofs.engine.Engine.answer_all.Given as goal
 
 abbrev pub invariant-commands : goal.invariant-commands

@@ -4,8 +4,8 @@ use Rattle.dp_wire.specs.Frames.{commands_in}
 use Rattle.dp_world.specs.declared.engine.Engine.{Engine}
 use Rattle.dp_world.specs.declared.shown.Shown.{Shown}
 use Rattle.dp_world.specs.declared.shown.Shown.TheVariants.{Session}
-use Rattle.dp_world.specs.inner.Standing.{Serves}
-use Rattle.dp_world.specs.inner.Passing.{Takes}
+use Rattle.dp_world.specs.inner.EngineStates.{Serves}
+use Rattle.dp_world.specs.inner.Changes.{Takes}
 use Rattle.dp_world.proofs.shown.Shown.take.Goals as goal
 
 taken : {T E : Type 0} (r : Result T E) (kept : Shown) (key host : List ℕ) (port : ℕ) (engine now : Engine)

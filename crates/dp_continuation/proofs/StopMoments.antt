@@ -1,0 +1,42 @@
+-- A stop is a moment of the program.
+use Rattle.std.proofs.Common.{◌≡◌, ℕ, zero, suc, ◌+◌, ◌≤◌, subst, Bool, true, false, cond, List, [], ◌∷◌, ◌++◌, drop, Some, refl, arith}
+use Rattle.std.specs.Prelude.{slice_get}
+use Rattle.std.specs.List.{position_from}
+use Rattle.dp_break.specs.declared.breakpoint.Breakpoint.{Breakpoint}
+use Rattle.dp_break.specs.StopRule.{Moments, Reached, each_from, reached, stop_above}
+use Rattle.dp_state.specs.declared.moments.Moment.{Moment}
+use Rattle.dp_state.specs.declared.state.State.{State}
+use Rattle.dp_tree.specs.declared.bundle.Bundle.{Bundle}
+
+-- a first element that passes is there
+place_is_there : {A : Type 0} (test : Reached A → Bool) (i : ℕ) (past xs : List A) (j : ℕ)
+    → position_from test i (each_from past xs) ≡ Some j
+    → (d : ℕ) × (x : A) × (j ≡ i + d) × (slice_get xs d ≡ Some x)
+place_is_there test i past [] j e = absurd cc
+place_is_there {A} test i past (x ∷ xs) j e =
+    cases (test (reached past x)) e (place_is_there test (i + 1) (past ++ x ∷ []) xs j) where
+      cases : (b : Bool) → cond b (Some i) (position_from test (i + 1) (each_from (past ++ x ∷ []) xs)) ≡ Some j
+          → (position_from test (i + 1) (each_from (past ++ x ∷ []) xs) ≡ Some j
+          → (d : ℕ) × (y : A) × (j ≡ i + 1 + d) × (slice_get xs d ≡ Some y))
+          → (d : ℕ) × (y : A) × (j ≡ i + d) × (slice_get (x ∷ xs) d ≡ Some y)
+      cases true e later = let same : i ≡ j = cc in (0, x, omega arith, refl)
+      cases false e later = let there = later e in (suc there.0, there.1, omega (arith, there.2), there.3)
+
+slice_get_drop : {A : Type 0} (n : ℕ) (xs : List A) (d : ℕ) (x : A) → slice_get (drop n xs) d ≡ Some x
+    → slice_get xs (n + d) ≡ Some x
+slice_get_drop zero xs d x e = let same : d ≡ 0 + d = omega arith in subst (λ (k : ℕ). slice_get xs k ≡ Some x) same e
+slice_get_drop {A} (suc n) [] d x e = absurd (nothing d e) where
+  nothing : (k : ℕ) → slice_get [] k ≡ Some x → ⊥
+  nothing zero f = cc
+  nothing (suc k) f = cc
+slice_get_drop (suc n) (y ∷ ys) d x e =
+    let same : suc (n + d) ≡ suc n + d = omega arith in subst (λ (k : ℕ). slice_get (y ∷ ys) k ≡ Some x) same
+    (slice_get_drop n ys d x e)
+
+-- a stop is a moment past n, counted from 1
+pub stop_is_there : (mode : Moment → Bool) (bundle : Bundle) (held : List Breakpoint) (n : ℕ) (moments : Moments)
+    (stop : ℕ) → stop_above mode bundle held n moments ≡ Some stop
+    → (k : ℕ) × (at : Moment × State) × (stop ≡ k + 1) × (n ≤ k) × (slice_get moments k ≡ Some at)
+stop_is_there mode bundle held n moments stop e =
+    let there = place_is_there _ (n + 1) [] (drop n moments) stop e in
+    (n + there.0, there.1, omega (arith, there.2), omega arith, slice_get_drop n moments there.0 there.1 there.3)

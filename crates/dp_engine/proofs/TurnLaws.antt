@@ -1,0 +1,500 @@
+-- Turns as the code makes them.
+use Rattle.std.proofs.Common.{arith, ◌≡◌, ◌≢◌, ℕ, zero, suc, ◌+◌, ◌<◌, ◌≤◌, Bool, true, false, cond, not, List, [], ◌∷◌, drop, length, Option, Some, None, Result, Ok, Err, refl, sym, ap, subst, ◌∙◌}
+use Rattle.std.specs.Prelude.{if◌then◌else◌, map, option_map, unwrap_or, IfOk, IsFalse, IsTrue, MatchResult}
+use Rattle.std.specs.Option.{option_map_or}
+use Rattle.std.proofs.lemmas.Bool.{le-leb}
+use Rattle.std.proofs.lemmas.List.{length-map}
+use Rattle.std.proofs.lemmas.Option.{slice_get_within}
+use Rattle.dp_wire.specs.Frames.{packet_limit}
+use Rattle.dp_tree.specs.declared.bundle.Bundle.{Bundle}
+use Rattle.dp_tree.specs.FileNames.{AreFileNames}
+use Rattle.dp_break.specs.Tables.{Table}
+use Rattle.dp_breakpoint_commands.specs.Commands.{breakpoint_refusal, breakpoint_response, breakpoint_table}
+use Rattle.dp_command.specs.declared.command.Continuation.{Continuation}
+use Rattle.dp_command.specs.declared.command.Command.{Command}
+use Rattle.dp_command.specs.declared.command.StreamMode.{StreamMode}
+use Rattle.dp_command.specs.declared.command.Request.{Request}
+use Rattle.dp_command.specs.declared.errors.CommandError.{CommandError}
+use Rattle.dp_command.specs.declared.errors.CommandError.TheVariants.{Code, Memory}
+use Rattle.dp_command.specs.declared.errors.Refusal.{Refusal}
+use Rattle.dp_command.specs.declared.errors.Refusal.TheVariants.{Duplicate, Unimplemented, NoId}
+use Rattle.dp_command.specs.Commands.{command_as, command_of, request_of}
+use Rattle.dp_command.specs.Tests.{Test, first_code}
+use Rattle.dp_command.specs.declared.line.Line.{Line}
+use Rattle.dp_command.specs.declared.names.CommandName.{CommandName}
+use Rattle.dp_command.specs.Names.{name_of}
+use Rattle.dp_command.specs.Refusals.{admission_refusal, code_of, coded, fits_row, holds_of, id_of}
+use Rattle.dp_continuation.specs.NextStop.{stop_past, table_past}
+use Rattle.dp_continuation.specs.Stops.{stops}
+use Rattle.dp_continuation.proofs.StopMoments.{stop_is_there}
+use Rattle.dp_features.specs.Features.{Features}
+use Rattle.dp_meaning.specs.declared.writes.NumberedWrite.{NumberedWrite}
+use Rattle.dp_meaning.specs.declared.writes.Write.{Write}
+use Rattle.dp_meaning.specs.Trace.{now, outcome, program_trace}
+use Rattle.dp_meaning_laws.proofs.Whole.{end-can, now-can}
+use Rattle.dp_packet.specs.declared.packet.Response.{Response}
+use Rattle.dp_packet.specs.declared.packet.Body.TheVariants as body
+use Rattle.dp_packet.specs.declared.packet.Packet.TheVariants as packet
+use Rattle.dp_packet.specs.Packets.{HasMessage}
+use Rattle.dp_packet.specs.Parts.{Text}
+use Rattle.dp_packet.specs.Text.{text}
+use Rattle.dp_state.specs.declared.moments.Outcome.{Outcome}
+use Rattle.dp_state.specs.declared.state.State.{State as Program_state}
+use Rattle.dp_state.specs.States.{IsOf, file_of, opening as first_state}
+use Rattle.dp_step.specs.declared.machine.Machine.{Machine}
+use Rattle.dp_step.specs.Stands.{StandsFor}
+use Rattle.dp_step.proofs.MachineSteps.{of_image}
+use Rattle.dp_view_commands.specs.Views.{code_in, view_refusal, view_response}
+use Rattle.dp_write_commands.specs.Asked.{write_asked}
+use Rattle.dp_write_commands.specs.Responses.{code_in as code_written, write_refusal, write_response}
+use Rattle.dp_engine.specs.declared.session.SessionEnd.{SessionEnd}
+use Rattle.dp_engine.specs.declared.session.SessionEnd.TheVariants.{Finished}
+use Rattle.dp_engine.specs.declared.sides.Side.{Side}
+use Rattle.dp_engine.specs.declared.sides.Side.TheVariants.{Breakpoints, Program, Writes}
+use Rattle.dp_engine.specs.declared.states.Phase.{Phase}
+use Rattle.dp_engine.specs.declared.states.Phase.TheVariants as phase
+use Rattle.dp_engine.specs.declared.states.Position.{Position}
+use Rattle.dp_engine.specs.declared.states.Position.TheVariants.{Starting, Break, Stopping}
+use Rattle.dp_engine.specs.declared.replies.Turn.{Turn as Made}
+use Rattle.dp_engine.specs.Answers.{Turn, asked, breakpoints_done, done_on, end_by_stop, gone_on, in_packet, kept_if, moved, performed, refused, response_in, shown, turn_of, with_write, written}
+use Rattle.dp_engine.specs.Refusals.{of_command, own_tests, refusal_of_line, row_tests, tests, tests_on}
+use Rattle.dp_engine.specs.Responses.{fault_response, response as response_of, response_text}
+use Rattle.dp_engine.specs.Session.{State, here, moments_by, moments_so_far, output_by, output_so_far, program_by, program_of, steps_between, steps_left, unwritten, whole_output}
+use Rattle.dp_engine.specs.Sides.{side_of}
+use Rattle.dp_engine.specs.States.{allows}
+use Rattle.dp_engine.specs.inner.KeptWrites.{IsMade}
+use Rattle.dp_engine.specs.inner.Sizes.{Fits}
+use Rattle.dp_engine.specs.inner.Position.{IsAt, IsDeep, end_of, known, phase_of}
+use Rattle.dp_engine.specs.inner.Turns.{Asks, AsksIn, IsTurn, Tells, answered, answered_by}
+use Rattle.dp_engine.proofs.RefusalLaws.{first_for, writes_at_break}
+
+-- ---- what a line asks for
+
+-- the first of the tests of admission that holds
+abbrev first_refusal : Bool → Bool → Bool → Option Refusal
+first_refusal d u n = cond d (Some Duplicate) (cond u (Some Unimplemented) (cond n (Some NoId) None))
+
+left_tests : (d u n a : Bool) (row : List Test) → first_refusal d u n ≡ None → a ≡ true
+    → first_code ((d, 2) ∷ (u, 4) ∷ (n, 3) ∷ (not a, 5) ∷ row) ≡ first_code row
+left_tests false false false true row e f = refl
+left_tests true u n a row e f = absurd cc
+left_tests false true n a row e f = absurd cc
+left_tests false false true a row e f = absurd cc
+left_tests false false false false row e f = absurd cc
+
+-- a line that is admitted has the tests of its row left
+pub admitted : (state : State) (line : Line) (name : CommandName) → admission_refusal line ≡ None
+    → name_of line.name ≡ Some name
+    → allows state.phase name ≡ true → first_code (tests state line) ≡ first_code (row_tests state line name)
+admitted state line name h n a =
+    ap (λ (o : Option CommandName). first_code (coded line Duplicate ∷ coded line Unimplemented ∷ coded line NoId
+    ∷ (not (of_command (allows state.phase) o), 5) ∷ option_map_or (row_tests state line) o [])) n
+    ∙ left_tests (holds_of line Duplicate) (holds_of line Unimplemented) (holds_of line NoId) (allows state.phase name)
+    (row_tests state line name) h a
+
+first_admission : (d u n : Bool) (more : List Test) (refusal : Refusal) → first_refusal d u n ≡ Some refusal
+    → first_code ((d, 2) ∷ (u, 4) ∷ (n, 3) ∷ more) ≡ Some (code_of refusal)
+first_admission true u n more refusal e =
+    let same : Duplicate ≡ refusal = cc in ap (λ (r : Refusal). Some (code_of r)) same
+first_admission false true n more refusal e =
+    let same : Unimplemented ≡ refusal = cc in ap (λ (r : Refusal). Some (code_of r)) same
+first_admission false false true more refusal e =
+    let same : NoId ≡ refusal = cc in ap (λ (r : Refusal). Some (code_of r)) same
+first_admission false false false more refusal e = absurd cc
+
+-- one that is not admitted is refused so
+pub unadmitted : (state : State) (line : Line) (refusal : Refusal) → admission_refusal line ≡ Some refusal
+    → first_code (tests state line) ≡ Some (code_of refusal)
+unadmitted state line refusal h =
+    first_admission (holds_of line Duplicate) (holds_of line Unimplemented) (holds_of line NoId)
+    (drop 3 (tests state line)) refusal h
+
+-- what is read of its row, after which only a refusal of its own is left
+pub read_asks : (state : State) (line : Line) (name : CommandName) (result : Result Command CommandError)
+    → admission_refusal line ≡ None → name_of line.name ≡ Some name
+    → allows state.phase name ≡ true → (IsFalse (fits_row name line) → result ≡ Err (Code 3))
+    → (IsTrue (fits_row name line) → MatchResult result (λ command. command ≡ command_as line name) (λ e. e ≡ Memory))
+    → Asks state line result
+read_asks state line name result h n a unfit fit = by (fits_row name line) refl where
+  own : Text → List Test
+  own id = own_tests state line.name id (request_of name line)
+
+  left : (fits : Bool) → fits_row name line ≡ fits
+      → refusal_of_line state (Some line) ≡ first_code ((not fits, 3) ∷ own (id_of line))
+  left fits e = admitted state line name h n a ∙ ap (λ (f : Bool). first_code ((not f, 3) ∷ own (id_of line))) e
+
+  made : (r : Result Command CommandError) → refusal_of_line state (Some line) ≡ first_code (own (id_of line))
+      → MatchResult r (λ command. command ≡ command_as line name) (λ e. e ≡ Memory)
+      → Asks state line r
+  made (Ok command) e m = (
+    e ∙ ap (λ (c : Command). first_code (own_tests state line.name (id_of line) c.request)) (sym m),
+    ap (option_map (command_as line)) n ∙ ap (λ (c : Command). Some c) (sym m),
+    ap (of_command (allows state.phase)) n ∙ a,
+  )
+  made (Err (Code code)) e m = absurd cc
+  made (Err Memory) e m = tt
+
+  by : (fits : Bool) → fits_row name line ≡ fits → Asks state line result
+  by true e = made result (left true e) (fit e)
+  by false e = subst (Asks state line) (sym (unfit e)) (left false e)
+
+-- ---- what a line leads to
+
+id_is : (line : Line) (command : Command) → command_of line ≡ Some command → command.id ≡ id_of line
+id_is line command e = cases (name_of line.name) e where
+  cases : (name : Option CommandName) → option_map (command_as line) name ≡ Some command → command.id ≡ id_of line
+  cases None f = absurd cc
+  cases (Some name) f = let same : id_of line ≡ command.id = cc in sym same
+
+-- a command that writes is asked for in a break
+pub writes_in_break : (state : State) (line : Line) (command : Command) → Asks state line (Ok command)
+    → side_of command.request ≡ Writes → state.phase ≡ phase.Break
+writes_in_break state line command asks side = by (name_of line.name) asks.1 asks.2 where
+  by : (name : Option CommandName) → option_map (command_as line) name ≡ Some command
+      → of_command (allows state.phase) name ≡ true → state.phase ≡ phase.Break
+  by None e a = absurd cc
+  by (Some name) e a =
+      let same : (command_as line name).request ≡ command.request = cc in writes_at_break name line state.phase
+      (ap side_of same ∙ side) a
+
+same_turn : {E : Type 0} (state : State) (a b : Turn) (made : Result Made E) → a ≡ b → IfOk made (IsTurn a state)
+    → IfOk made (IsTurn b state)
+same_turn state a b made e h = subst (λ (t : Turn). IfOk made (IsTurn t state)) e h
+
+pub turn_accepted : {E : Type 0} (state next : State) (line : Line) (command : Command) (name id : Text)
+    (made : Result Made E) → name ≡ line.name → id ≡ id_of line
+    → Asks state line (Ok command)
+    → IfOk made (IsTurn (answered name id command.request state) next)
+    → IfOk made (IsTurn (turn_of (Some line) (refusal_of_line state (Some line)) state) next)
+turn_accepted state next line command name id made n i e h =
+    same_turn next _ _ made
+    ((λ k. answered (n k) (i k) command.request state)
+    ∙ by (first_code (own_tests state line.name (id_of line) command.request))
+    ∙ ap (λ (code : Option ℕ). turn_of (Some line) code state) (sym e.0)) h where
+      by : (code : Option ℕ)
+          → answered_by code line.name (id_of line) command.request state ≡ turn_of (Some line) code state
+      by (Some code) = refl
+      by None =
+          ap (λ (x : Text). performed line.name x command.request state) (sym (id_is line command e.1))
+          ∙ ap (λ (c : Option Command). asked line.name (id_of line) c state) (sym e.1)
+
+-- a turn that is told so, where the session knows then what is asked for
+pub turns : {E : Type 0} (asked : Turn) (next : State) (made : Result Made E)
+    → IfOk made (Tells asked.response asked.ended) → next ≡ asked.next → IfOk made (IsTurn asked next)
+turns asked next (Ok made) t n = record { tells = t; next = n }
+turns asked next (Err e) t n = tt
+
+pub turn_refused : {E : Type 0} (state : State) (line : Line) (code : ℕ) (name id : Text) (made : Result Made E)
+    → name ≡ line.name → id ≡ id_of line
+    → refusal_of_line state (Some line) ≡ Some code
+    → IfOk made (Tells (fault_response name id code) None)
+    → IfOk made (IsTurn (turn_of (Some line) (refusal_of_line state (Some line)) state) state)
+turn_refused state line code name id made n i e h =
+    same_turn state _ _ made ((λ k. refused (n k) (i k) code state)
+    ∙ ap (λ (c : Option ℕ). turn_of (Some line) c state) (sym e))
+    (turns (refused name id code state) state made h refl)
+
+-- ---- turns
+
+pub own_refused : {E : Type 0} (state next : State) (name id : Text) (r : Request) (code : ℕ) (made : Result Made E)
+    → first_code (own_tests state name id r) ≡ Some code
+    → next ≡ state → IfOk made (Tells (fault_response name id code) None)
+    → IfOk made (IsTurn (answered name id r state) next)
+own_refused state next name id r code made e n h =
+    same_turn next _ _ made (ap (λ (c : Option ℕ). answered_by c name id r state) (sym e))
+    (turns (refused name id code state) next made h n)
+
+-- the tests of a request of breakpoints, and of one that looks at the program
+pub breakpoint_first : (state : State) (name id : Text) (r : Request) → side_of r ≡ Breakpoints
+    → first_code (own_tests state name id r) ≡ breakpoint_refusal state.bundle (here state) state.breaks r
+breakpoint_first state name id r e =
+    ap (λ (s : Side). first_code (tests_on s state name id r)) e
+    ∙ first_for (breakpoint_refusal state.bundle (here state) state.breaks r)
+
+pub view_first : (state : State) (name id : Text) (r : Request) → side_of r ≡ Program
+    → first_code (own_tests state name id r) ≡ view_refusal state.bundle (here state) state.features
+    (program_of state) name id r
+view_first state name id r e =
+    ap (λ (s : Side). first_code (tests_on s state name id r)) e
+    ∙ first_for (view_refusal state.bundle (here state) state.features (program_of state) name id r)
+
+-- a response that is the one asked for, after which the session goes on
+all_told : {E : Type 0} (asked : Turn) (next : State) (response : Response) (made : Result Made E)
+    → IfOk made (Tells response None) → response ≡ asked.response → next ≡ asked.next → None ≡ asked.ended
+    → IfOk made (IsTurn asked next)
+all_told asked next response made t r n e =
+    turns asked next made (subst (λ (x : Option SessionEnd). IfOk made (Tells asked.response x)) e
+    (subst (λ (x : Response). IfOk made (Tells x None)) r t)) n
+
+-- a program whose files have names has a file
+pub has_files : (bundle : Bundle) → AreFileNames (map (λ f. f.name) bundle.files) → 0 < length bundle.files
+has_files bundle names = omega (arith, names.some, length-map bundle.files (λ f. f.name))
+
+-- a response that fits a packet
+pub fits_known : (r : Response) → HasMessage (packet.Response r) → length (text (packet.Response r)) ≤ packet_limit
+    → Fits r
+unfolding response_text
+fits_known r known short = record { known = known; short = short }
+
+in_packet_is : (name id : Text) (r : Response) → length (text (packet.Response r)) ≤ packet_limit
+    → r ≡ in_packet name id r
+unfolding response_text
+in_packet_is name id r short =
+    ap (λ (b : Bool). if b then r else response_of name id [] body.Nothing)
+    (sym (le-leb (length (text (packet.Response r))) packet_limit short))
+
+-- a request of breakpoints that is not refused
+pub breakpoints_told : {E : Type 0} (state next : State) (name id : Text) (r : Request) (response : Response)
+    (made : Result Made E) → side_of r ≡ Breakpoints
+    → breakpoint_refusal state.bundle (here state) state.breaks r ≡ None
+    → response ≡ breakpoint_response state.bundle name id state.breaks r
+    → length (text (packet.Response response)) ≤ packet_limit
+    → next ≡ record state { breaks = breakpoint_table state.bundle (here state) r state.breaks }
+    → IfOk made (Tells response None) → IfOk made (IsTurn (answered name id r state) next)
+breakpoints_told state next name id r response made side e is short n t =
+    same_turn next _ _ made
+    (sym (ap (λ (c : Option ℕ). answered_by c name id r state) (breakpoint_first state name id r side ∙ e)
+    ∙ ap (λ (s : Side). done_on s name id r state) side))
+    (all_told (breakpoints_done name id r state) next response made t
+    (in_packet_is name id response short ∙ ap (in_packet name id) is) n refl)
+
+-- done where the program stands
+pub breakpoints_are_told : {E : Type 0} (state : State) (program : Program_state) (file : ℕ) (left : Table)
+    (name id : Text) (r : Request) (response : Response) (made : Result Made E)
+    → program ≡ program_of state → file ≡ file_of program → side_of r ≡ Breakpoints
+    → breakpoint_refusal state.bundle file state.breaks r ≡ None
+    → response ≡ breakpoint_response state.bundle name id state.breaks r
+    → length (text (packet.Response response)) ≤ packet_limit → left ≡ breakpoint_table state.bundle file r state.breaks
+    → IfOk made (Tells response None)
+    → IfOk made (IsTurn (answered name id r state) (record state { breaks = left }))
+breakpoints_are_told state program file left name id r response made is f side e told short n t =
+    let there : here state ≡ file = sym (f ∙ ap file_of is) in
+    breakpoints_told state (record state { breaks = left }) name id r response made side
+    (ap (λ (k : ℕ). breakpoint_refusal state.bundle k state.breaks r) there ∙ e) told short
+    (ap (λ (l : Table). record state { breaks = l }) (n
+    ∙ ap (λ (k : ℕ). breakpoint_table state.bundle k r state.breaks) (sym there))) t
+
+-- what is seen of the program where it stands
+pub view_is : (state : State) (program : Program_state) (file : ℕ) (name id : Text) (r : Request)
+    → program ≡ program_of state → file ≡ file_of program
+    → view_response state.bundle (here state) state.features (program_of state) name id r ≡ view_response state.bundle
+    file state.features program name id r
+view_is state program file name id r is f =
+    (λ i. view_response state.bundle (file_of (sym is i)) state.features (sym is i) name id r)
+    ∙ ap (λ (n : ℕ). view_response state.bundle n state.features program name id r) (sym f)
+
+-- what is shown of the program
+pub view_told : {E : Type 0} (state : State) (name id : Text) (r : Request) (response : Response) (made : Result Made E)
+    → side_of r ≡ Program
+    → view_response state.bundle (here state) state.features (program_of state) name id r ≡ Ok response
+    → IfOk made (Tells response None) → IfOk made (IsTurn (answered name id r state) state)
+unfolding view_refusal
+view_told state name id r response made side e t =
+    same_turn state _ _ made
+    (sym (ap (λ (c : Option ℕ). answered_by c name id r state) (view_first state name id r side ∙ ap code_in e)
+    ∙ ap (λ (s : Side). done_on s name id r state) side))
+    (all_told (shown name id r state) state response made t (ap (response_in name id) (sym e)) refl refl)
+
+pub view_refused : (state : State) (name id : Text) (r : Request) (code : ℕ) → side_of r ≡ Program
+    → view_response state.bundle (here state) state.features (program_of state) name id r ≡ Err code
+    → first_code (own_tests state name id r) ≡ Some code
+unfolding view_refusal
+view_refused state name id r code side e = view_first state name id r side ∙ ap code_in e
+
+-- a write is told
+pub write_first : (state : State) (name id : Text) (r : Request) → side_of r ≡ Writes
+    → first_code (own_tests state name id r) ≡ write_refusal state.bundle state.features (program_of state) name id r
+write_first state name id r e =
+    ap (λ (s : Side). first_code (tests_on s state name id r)) e
+    ∙ first_for (write_refusal state.bundle state.features (program_of state) name id r)
+
+pub write_refused : (state : State) (name id : Text) (r : Request) (code : ℕ) → side_of r ≡ Writes
+    → write_response state.bundle state.features (program_of state) name id r ≡ Err code
+    → first_code (own_tests state name id r) ≡ Some code
+unfolding write_refusal
+write_refused state name id r code side e = write_first state name id r side ∙ ap code_written e
+
+pub write_told : {E : Type 0} (state next : State) (name id : Text) (r : Request) (w : Write) (response : Response)
+    (made : Result Made E) → side_of r ≡ Writes
+    → write_response state.bundle state.features (program_of state) name id r ≡ Ok response
+    → write_asked (program_of state) r ≡ Ok w → next ≡ with_write w state
+    → IfOk made (Tells response None) → IfOk made (IsTurn (answered name id r state) next)
+unfolding write_refusal
+write_told state next name id r w response made side e asked is t =
+    same_turn next _ _ made
+    (sym (ap (λ (c : Option ℕ). answered_by c name id r state) (write_first state name id r side ∙ ap code_written e)
+    ∙ ap (λ (s : Side). done_on s name id r state) side))
+    (all_told (written name id r state) next response made t (ap (response_in name id) (sym e))
+    (is ∙ (λ i. kept_if (sym e i) (sym asked i) state)) refl)
+
+-- what the program has written so far is what has been written in its state
+pub output_is : (state : State) → output_so_far state ≡ (program_of state).output
+output_is state = by state.phase where
+  there : (o : Option Program_state)
+      → option_map_or (λ (p : Program_state). p.output) o [] ≡ (unwrap_or o (first_state state.bundle)).output
+  there None = refl
+  there (Some p) = refl
+
+  by : (p : Phase) → output_by p state ≡ (program_by p state).output
+  by phase.Starting = there (now state.bundle state.bound state.writes state.moment)
+  by phase.Break = there (now state.bundle state.bound state.writes state.moment)
+  by phase.Stopping = refl
+
+-- what is still written past that is what is left
+pub rest_is : (state : State) (program : Program_state) (shown : ℕ) (rest : List ℕ) → program ≡ program_of state
+    → shown ≡ length program.output
+    → rest ≡ drop shown (whole_output state) → rest ≡ unwritten state
+rest_is state program shown rest is n h =
+    h ∙ ap (λ (k : ℕ). drop k (whole_output state)) (n ∙ ap (λ (p : Program_state). length p.output) is
+    ∙ ap length (sym (output_is state)))
+
+-- a machine that stands at a moment has passed no more than there are
+pub within : (bundle : Bundle) (bound : ℕ) (writes : List NumberedWrite) (n : ℕ) (m : Machine)
+    → StandsFor bundle bound writes n m → n ≤ length (program_trace bundle bound writes).moments
+within bundle bound writes zero m stands = omega arith
+within bundle bound writes (suc k) m stands =
+    let found = of_image _ _ _ stands.state in
+    let there = slice_get_within (program_trace bundle bound writes).moments k found.0 found.1 in omega (arith, there)
+
+-- ---- what a session keeps
+
+module _ (bundle : Bundle) (bound : ℕ) (writes : List NumberedWrite) (moment : ℕ) (position : Position)
+    (features : Features) (stdout : StreamMode) (breaks : Table) (machine : Machine) where
+  abbrev state : State
+  state = known bundle bound writes moment position features stdout breaks
+
+  abbrev Kept : Bool → Type 0
+  Kept failed = IsAt failed position bundle bound writes moment machine
+
+  -- its program is the one of the machine
+  pub program_is : (failed : Bool) → failed ≡ false → Kept failed → machine.state ≡ program_of state
+  program_is failed whole h = by position h where
+    by : (s : Position) → IsAt failed s bundle bound writes moment machine
+        → machine.state ≡ program_of (known bundle bound writes moment s features stdout breaks)
+    by Starting h = sym (ap (λ (o : Option Program_state). unwrap_or o (first_state bundle)) (h whole).state)
+    by Break h = sym (ap (λ (o : Option Program_state). unwrap_or o (first_state bundle)) (h.1 whole).state)
+    by (Stopping end) h = h.1
+
+  pub program_can : (failed : Bool) → failed ≡ false → 0 < length bundle.files → Kept failed → IsOf bundle machine.state
+  program_can failed whole some h = by position h where
+    by : (s : Position) → IsAt failed s bundle bound writes moment machine → IsOf bundle machine.state
+    by Starting h = (now-can bundle bound writes some moment machine.state (h whole).state).0
+    by Break h = (now-can bundle bound writes some moment machine.state (h.1 whole).state).0
+    by (Stopping end) h = subst (IsOf bundle) (sym h.1) (end-can bundle bound writes some).0
+
+  -- before the end it stands at the moment
+  pub stands_there : (failed : Bool) → failed ≡ false → phase_of position ≢ phase.Stopping → Kept failed
+      → StandsFor bundle bound writes moment machine
+  stands_there failed whole before h = by position before h where
+    by : (s : Position) → phase_of s ≢ phase.Stopping → IsAt failed s bundle bound writes moment machine
+        → StandsFor bundle bound writes moment machine
+    by Starting n h = h whole
+    by Break n h = h.1 whole
+    by (Stopping end) n h = absurd (n refl)
+
+  -- that is as many moments as have come
+  moments_are : phase_of position ≢ phase.Stopping → moments_so_far state ≡ moment
+  moments_are before = by position before where
+    by : (s : Position) → phase_of s ≢ phase.Stopping → moments_by (phase_of s) bundle bound writes moment ≡ moment
+    by Starting n = refl
+    by Break n = refl
+    by (Stopping end) n = absurd (n refl)
+
+  -- once it has failed, nothing is said of the machine
+  pub nothing_kept : (failed : Bool) (left : Machine) → phase_of position ≢ phase.Stopping → Kept failed
+      → IsAt true position bundle bound writes moment left
+  nothing_kept failed left before h = by position before h where
+    by : (s : Position) → phase_of s ≢ phase.Stopping → IsAt failed s bundle bound writes moment machine
+        → IsAt true s bundle bound writes moment left
+    by Starting n h = λ e. absurd cc
+    by Break n h = (h.0, λ e. absurd cc)
+    by (Stopping end) n h = absurd (n refl)
+
+  -- ---- the program goes on
+
+  module _ (depth : ℕ) (deep : IsDeep bundle bound writes moment depth) (mode : Continuation) where
+    abbrev stop_from : ℕ → Option ℕ
+    stop_from d = stop_past (stops mode d) bundle bound writes breaks.held moment
+
+    abbrev table_from : ℕ → Table
+    table_from d = table_past (stops mode d) bundle bound writes breaks moment
+
+    -- to a moment
+    pub goes_to : (number : ℕ) (left : Table) → stop_from depth ≡ Some number → left ≡ table_from depth
+        → known bundle bound writes number Break features stdout left ≡ gone_on mode state
+    goes_to number left stop is =
+        λ i. moved (record state { breaks = (is ∙ ap table_from deep) i }) ((sym stop ∙ ap stop_from deep) i)
+
+    -- to the end
+    pub goes_out : (end : Outcome) (left : Table) → stop_from depth ≡ None → end ≡ outcome bundle bound writes
+        → left ≡ table_from depth
+        → known bundle bound writes moment (Stopping end) features stdout left ≡ gone_on mode state
+    goes_out end left stop ends is =
+        ap (λ (o : Outcome). known bundle bound writes moment (Stopping o) features stdout left) ends
+        ∙ (λ i. moved (record state { breaks = (is ∙ ap table_from deep) i }) ((sym stop ∙ ap stop_from deep) i))
+
+    -- a stop is at a later moment
+    pub comes_later : (number : ℕ) → stop_from depth ≡ Some number → moment < number
+    comes_later number stop =
+        let there = stop_is_there (stops mode depth) bundle breaks.held moment
+        (program_trace bundle bound writes).moments number stop in omega (arith, there.2, there.3)
+
+  -- the steps on the way
+  pub counts_to : (before after number : ℕ) (left : Table) → phase_of position ≢ phase.Stopping → moment < number
+      → after + moment ≡ before + number
+      → after ≡ before + steps_between state (known bundle bound writes number Break features stdout left)
+  counts_to before after number left n later counted = omega (arith, moments_are n, later, counted)
+
+  pub counts_out : (before after : ℕ) (end : Outcome) (left : Table) → phase_of position ≢ phase.Stopping
+      → StandsFor bundle bound writes moment machine
+      → after + moment ≡ before + length (program_trace bundle bound writes).moments
+      → after ≡ before + steps_between state (known bundle bound writes moment (Stopping end) features stdout left)
+  counts_out before after end left n stands counted =
+      omega (arith, moments_are n, within bundle bound writes moment machine stands, counted)
+
+  pub counts_left : (before after : ℕ) → phase_of position ≢ phase.Stopping
+      → StandsFor bundle bound writes moment machine
+      → after + moment ≡ before + length (program_trace bundle bound writes).moments → after ≡ before + steps_left state
+  counts_left before after n stands counted =
+      omega (arith, moments_are n, within bundle bound writes moment machine stands, counted)
+
+  -- ---- a write is kept
+
+  abbrev with_kept : List NumberedWrite → State
+  with_kept kept = known bundle bound kept moment position features stdout breaks
+
+  pub write_is_told : {E : Type 0} (after : Program_state) (kept : List NumberedWrite) (command id : Text) (r : Request)
+      (response : Response) (made : Result Made E)
+      → machine.state ≡ program_of state → side_of r ≡ Writes
+      → IsMade bundle features machine.state after writes kept moment command id r response
+      → IfOk made (Tells response None) → IfOk made (IsTurn (answered command id r state) (with_kept kept))
+  write_is_told after kept command id r response made same side is t =
+      write_told state (with_kept kept) command id r is.write response made side
+      (ap (λ (p : Program_state). write_response bundle features p command id r) (sym same) ∙ is.told)
+      (ap (λ (p : Program_state). write_asked p r) (sym same) ∙ is.asks)
+      (ap with_kept is.list) t
+
+  pub write_is_refused : (command id : Text) (r : Request) (code : ℕ) → machine.state ≡ program_of state
+      → side_of r ≡ Writes
+      → write_response bundle features machine.state command id r ≡ Err code
+      → first_code (own_tests state command id r) ≡ Some code
+  write_is_refused command id r code same side e =
+      write_refused state command id r code side (ap (λ (p : Program_state). write_response bundle features p command id
+      r) (sym same) ∙ e)
+
+  -- in a break no moment has come by that
+  pub write_stays : (kept : List NumberedWrite) → phase_of position ≡ phase.Break
+      → moments_so_far (with_kept kept) ≡ moments_so_far state
+  write_stays kept at =
+      ap (λ (p : Phase). moments_by p bundle bound kept moment) at
+      ∙ sym (ap (λ (p : Phase). moments_by p bundle bound writes moment) at)
+
+-- how a session ends that is stopped
+pub stops_so : (failed : Bool) (position : Position) (bundle : Bundle) (bound : ℕ) (writes : List NumberedWrite)
+    (moment : ℕ) (machine : Machine) (features : Features) (stdout : StreamMode) (breaks : Table)
+    → IsAt failed position bundle bound writes moment machine
+    → end_of position ≡ end_by_stop (phase_of position) (known bundle bound writes moment position features stdout
+    breaks)
+stops_so failed Starting bundle bound writes moment machine features stdout breaks h = refl
+stops_so failed Break bundle bound writes moment machine features stdout breaks h = refl
+stops_so failed (Stopping end) bundle bound writes moment machine features stdout breaks h = ap Finished h.0

@@ -1,0 +1,125 @@
+-- What is kept of the links for the transcript, by what has come of the events.
+use Rattle.std.specs.Prelude.{◌≡◌, ℕ, ◌==◌, false, List, [], ◌∷◌, ◌++◌, length, take}
+use Rattle.std.specs.Prelude.{map, filter, nat_eq, Option, Some, None}
+use Rattle.std.specs.Map.{lookup, keys_of}
+use Rattle.dp_tree.specs.declared.bundle.Bundle.{Bundle}
+use Rattle.dp_registry.specs.declared.entry.Entry.{Entry}
+use Rattle.dp_registry.specs.declared.pass.Pass.{Pass}
+use Rattle.dp_lanes.specs.declared.lane.LaneKind.TheVariants.{Up}
+use Rattle.dp_proxy.specs.declared.events.Act.{Act as ProxyAct}
+use Rattle.dp_proxy.specs.declared.events.Act.TheVariants as proxy
+use Rattle.dp_proxy.specs.declared.events.Event.{Event as ProxyEvent}
+use Rattle.dp_proxy.specs.Links.{stream}
+use Rattle.dp_proxy.specs.Pasts.{Link, New, Asking, Settled, Joined, Ended, Refused, Past, lead}
+use Rattle.dp_proxy.specs.Pasts as core
+use Rattle.dp_proxy.specs.Invariant.{Keeps, Stands}
+use Rattle.dp_lists.specs.declared.event.Act.{Act}
+use Rattle.dp_lists.specs.declared.event.Event.{Event}
+use Rattle.dp_lists.specs.Lists.{Fits, makes}
+use Rattle.dp_world.specs.declared.engine.Engine.{Engine}
+use Rattle.dp_world.specs.declared.shown.Shown.{Shown}
+use Rattle.dp_world.specs.declared.shown.Shown.TheVariants as shown
+use Rattle.dp_world.specs.Engines.{act_of, past_of}
+use Rattle.dp_world.specs.inner.EngineStates.{EngineStands, IsReadFor}
+
+-- ---- one link
+
+-- an IDE of this host was sent this reply
+abbrev pub Asks : Link → List ℕ → List ℕ → Type 0
+Asks (Asking host heard) name reply = (name ≡ host) × (reply ≡ [])
+Asks (Settled host answer) name reply = (name ≡ host) × (reply ≡ answer)
+Asks link name reply = ⊥
+
+abbrev pub IsTo : List ℕ → Pass → List ℕ → List ℕ → ℕ → Type 0
+IsTo key pass name host port = (name ≡ key) × (host ≡ pass.host) × (port ≡ pass.port)
+
+-- this engine has the session of the link
+abbrev pub Has : Bundle → ℕ → Link → List ℕ → List ℕ → ℕ → Engine → Type 0
+Has bundle bound (Joined key pass acts) name host port engine =
+    IsTo key pass name host port × EngineStands bundle bound key acts engine
+    × IsReadFor acts engine
+Has bundle bound (Ended key pass acts) name host port engine =
+    IsTo key pass name host port × EngineStands bundle bound key acts engine
+Has bundle bound link name host port engine = ⊥
+
+abbrev pub IsShown : Bundle → ℕ → Link → Shown → Type 0
+IsShown bundle bound link (shown.Registration host reply) = Asks link host reply
+IsShown bundle bound link (shown.Refused key why) = link ≡ Refused key why
+IsShown bundle bound link (shown.Session key host port engine) =
+    Has bundle bound link key host port engine
+
+abbrev pub IsShownAt : Bundle → ℕ → Link → Option Shown → Type 0
+IsShownAt bundle bound link None = link ≡ New
+IsShownAt bundle bound link (Some kept) = IsShown bundle bound link kept
+
+-- ---- one link for which an act is brought
+
+-- what was read of the engine is what it was asked for with the act too
+pub record IsReadWith (acts : List ProxyAct) (act : ProxyAct) (engine : Engine) : Type 0 where
+  pub all : IsReadFor (acts ++ act ∷ []) engine
+  pub up : stream Up (acts ++ act ∷ [])
+      ≡ take (length (stream Up (acts ++ act ∷ []))) engine.sent.items
+
+abbrev pub HasFor : Bundle → ℕ → Link → ProxyAct → List ℕ → List ℕ → ℕ → Engine → Type 0
+HasFor bundle bound (Joined key pass acts) act name host port engine =
+    IsTo key pass name host port × EngineStands bundle bound key acts engine
+    × IsReadWith acts act engine
+HasFor bundle bound (Ended key pass acts) act name host port engine =
+    IsTo key pass name host port × EngineStands bundle bound key acts engine
+HasFor bundle bound link act name host port engine = ⊥
+
+abbrev pub IsReady : Bundle → ℕ → Link → ProxyAct → Shown → Type 0
+IsReady bundle bound link act (shown.Registration host reply) = Asks link host reply
+IsReady bundle bound link act (shown.Refused key why) = link ≡ Refused key why
+IsReady bundle bound link act (shown.Session key host port engine) =
+    HasFor bundle bound link act key host port engine
+
+abbrev pub IsReadyAt : Bundle → ℕ → Link → ProxyAct → Option Shown → Type 0
+IsReadyAt bundle bound link act None = link ≡ New
+IsReadyAt bundle bound link act (Some kept) = IsReady bundle bound link act kept
+
+-- an act makes no link
+abbrev pub Passes : ProxyAct → Type 0
+Passes (proxy.Ide host) = ⊥
+Passes (proxy.Engine key) = ⊥
+Passes act = Unit {0}
+
+-- the act leads to what that of the definitions leads to
+abbrev pub LeadsAs : Bundle → ℕ → Link → Act → ProxyAct → Type 0
+LeadsAs bundle bound link act brought =
+    (journal : List Entry) → lead journal link brought
+    ≡ lead journal link (act_of bundle bound link act)
+
+-- ---- all links
+
+abbrev pub kept_at : List (ℕ × Shown) → ℕ → Option Shown
+kept_at links number = lookup (nat_eq number) links
+
+-- these are the same links, and but for this one as they were
+pub record KeepsOthers (links after : List (ℕ × Shown)) (number : ℕ) : Type 0 where
+  pub keys : keys_of after ≡ keys_of links
+  pub others : (other : ℕ) → (number == other) ≡ false → kept_at after other ≡ kept_at links other
+
+-- the links that these events make, in their order
+abbrev pub made : List Event → List ℕ
+made events = map (λ e. e.link) (filter (λ e. makes e.act) events)
+
+abbrev pub AreShown : Bundle → ℕ → Past → List (ℕ × Shown) → Type 0
+AreShown bundle bound past links =
+    (number : ℕ) → IsShownAt bundle bound (past.link number) (kept_at links number)
+
+-- a proxy and its links, after these events
+pub record WorldStands (bundle : Bundle) (bound : ℕ) (events : List Event) (keeps : Keeps)
+    (links : List (ℕ × Shown)) : Type 0 where
+  pub came : List ProxyEvent
+  pub stands : Stands keeps came
+  pub past : core.past_of came ≡ past_of bundle bound events
+  pub keys : keys_of links ≡ made events
+  pub each : AreShown bundle bound (past_of bundle bound events) links
+
+-- one more event fits those that came
+pub record MayTake (bundle : Bundle) (bound : ℕ) (keeps : Keeps) (links : List (ℕ × Shown))
+    (event : Event) : Type 0 where
+  pub events : List Event
+  pub stands : WorldStands bundle bound events keeps links
+  pub fits : Fits events event
