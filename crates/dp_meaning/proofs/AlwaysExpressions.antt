@@ -1,5 +1,5 @@
 -- What is kept by each step of a program is kept by expressions.
-use Rattle.std.proofs.Common.{◌≡◌, ℕ, Bool, true, false, if◌then◌else◌, List, [], ◌∷◌, map, Option, Some, None, Result, refl, sym, subst}
+use Rattle.std.proofs.Common.{◌≡◌, ℕ, true, false, if◌then◌else◌, List, [], ◌∷◌, map, Option, Some, None, Result, refl, sym, subst}
 use Rattle.dp_tree.specs.declared.bundle.Bundle.{Bundle}
 use Rattle.dp_value.specs.declared.errors.ValueError.{ValueError}
 use Rattle.dp_value.specs.declared.value.Value.{Value}

@@ -7,7 +7,6 @@ use Rattle.dp_value.specs.declared.value.Value.{Value}
 use Rattle.dp_value.specs.declared.value.Value.TheVariants as value
 use Rattle.dp_value.specs.Value.{data_of}
 use Rattle.dp_operations.specs.Text.{text_of}
-use Rattle.dp_state.specs.declared.moments.Outcome.TheVariants.{Exit}
 use Rattle.dp_state.specs.declared.state.State.{State}
 use Rattle.dp_state.specs.Places.{with_global}
 use Rattle.dp_state.specs.States.{printed}

@@ -10,7 +10,7 @@ use Rattle.dp_value.specs.declared.value.Value.{Value}
 use Rattle.dp_actions.specs.declared.halt.Halt.TheVariants.{Finished, Stopped}
 use Rattle.dp_actions.specs.AtOnce.{AtOnce}
 use Rattle.dp_actions.specs.Expressions.{evaluation}
-use Rattle.dp_actions.specs.Run.{Run, Done, Over, fatal}
+use Rattle.dp_actions.specs.Run.{Run, Done, Over}
 use Rattle.dp_meaning.specs.Pure.{IsValueIn}
 use Rattle.dp_meaning.specs.Writes.{evaluation_setting}
 use Rattle.dp_meaning.proofs.PureLaws.{IsPlain, Given, Faulty, plain-pure}

@@ -1,5 +1,5 @@
 -- A run that nothing stops comes to the end of its trace.
-use Rattle.std.proofs.Common.{◌≡◌, ℕ, ◌+◌, Bool, true, false, [], Result, Ok, Err, refl, sym, ap, ◌∙◌, subst}
+use Rattle.std.proofs.Common.{◌≡◌, ℕ, ◌+◌, Bool, true, false, [], Result, Ok, Err, refl, sym, ◌∙◌, subst}
 use Rattle.std.specs.Prelude.{if◌then◌else◌, nat_lt}
 use Rattle.dp_state.specs.declared.moments.Moment.{Moment}
 use Rattle.dp_state.specs.declared.moments.Outcome.{Outcome}
@@ -13,7 +13,7 @@ use Rattle.dp_actions.specs.Setting.{Part}
 use Rattle.dp_tree.specs.declared.bundle.Bundle.{Bundle}
 use Rattle.dp_meaning.specs.declared.whole.Whole.{Whole}
 use Rattle.dp_meaning.specs.Programs.{setting_of}
-use Rattle.dp_meaning.specs.inner.Drive.{Rules, Reached, Gives, Ends, Stops, Meets, drive, quiet}
+use Rattle.dp_meaning.specs.inner.Drive.{Reached, Gives, Ends, Stops, Meets, drive, quiet}
 use Rattle.dp_meaning.specs.Trace.{End, Ended, Gave, Trace, moment_of, trace, with_moment}
 use Rattle.dp_meaning.specs.Whole.{Finishes, RunsWhole}
 use Rattle.dp_meaning.specs.Writes.{Writes, arrived, written, writes_of}

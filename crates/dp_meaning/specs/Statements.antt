@@ -5,7 +5,6 @@ use Rattle.dp_value.specs.declared.value.Value.TheVariants.{Null}
 use Rattle.dp_tree.specs.declared.tree.Arm.{Arm, fold-Arm}
 use Rattle.dp_tree.specs.declared.tree.Binding.{Binding}
 use Rattle.dp_tree.specs.declared.tree.Expression.{Expression}
-use Rattle.dp_tree.specs.declared.tree.Place.{Place}
 use Rattle.dp_tree.specs.declared.tree.Statement.{Statement, fold-Statement}
 use Rattle.dp_tree.specs.declared.tree.StatementKind.TheOpen.{Statement-F, StatementKind-F, Arm-F}
 use Rattle.dp_state.specs.declared.moments.MomentKind.TheVariants as moment

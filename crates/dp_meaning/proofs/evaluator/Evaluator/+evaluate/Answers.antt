@@ -7,7 +7,6 @@ use denote.Param.Weighed.{most}
 use mir.Syntax.{w64}
 use mir.Val.{SFits}
 use Rattle.dp_tree.specs.declared.tree.Arm.{Arm}
-use Rattle.dp_tree.specs.declared.tree.Expression.{Expression, size-Expression as nesting}
 use Rattle.dp_tree.specs.declared.tree.Place.{Place, size-Place}
 use Rattle.dp_meaning.specs.inner.Evaluation.{goes_by}
 use Rattle.dp_actions.specs.Calls.{callee_of}
@@ -16,7 +15,6 @@ use Rattle.dp_meaning.specs.inner.Sizes.{arm_size, body_size, expressions_size, 
 use Rattle.dp_meaning.specs.Statements.{arms_run, statement_run}
 use Rattle.dp_actions.specs.Effects.{print_run}
 use Rattle.dp_meaning.specs.Statements.{arm_run}
-use Rattle.dp_value.specs.declared.value.Value.TheVariants as variant
 use Rattle.dp_meaning.proofs.CallLaws.{bounded-do, bounded-turns, call-is, file-is, next-done, runs-for, setting-bundle, suc-call, suc-include, zero-call, zero-include}
 use Rattle.dp_meaning.proofs.Drives.{at_once, breaks_off, ends, exits, gives, goes_on, joined_off, joined_on, passes, stops_at, tested_off, tested_on, then_at, then_on}
 use Rattle.dp_actions.proofs.Layers.{found-plain, run-Array, run-Assign, run-Bool, run-Call, run-Chain, run-Coalesce, run-CoalesceAssign, run-Compound, run-Conditional, run-Include, run-Index, run-Isset, run-item-None, run-item-Some, run-link, run-Null, run-Number, run-place, run-Push, run-Step, run-Text, run-Unary, run-Variable}
