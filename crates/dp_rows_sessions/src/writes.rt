@@ -42,10 +42,12 @@ fn pure_value(
     state: &State,
     expression: &Expression,
 ) -> Result<Option<Value>, Memory> {
-    if is_pure(expression) {
-        value_in(alloc, state, bundle, expression)
-    } else {
-        Ok(None)
+    if !is_pure(expression) {
+        return Ok(None);
+    }
+    match value_in(alloc, state, bundle, expression)? {
+        Some(value) => Ok(Some(value.into_value()?)),
+        None => Ok(None),
     }
 }
 
