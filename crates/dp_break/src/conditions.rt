@@ -8,7 +8,7 @@ ghost use Rattle.dp_break.specs.inner.Causes.{IsNoTree, error_of, pure_or_refuse
 ghost use Rattle.dp_tree.specs.Purity.{is_pure};
 
 use crate::errors::BreakError;
-use dp_meaning::value_in_place;
+use dp_meaning::value_in;
 use dp_parse::{ParseError, parse_expression};
 use dp_state::State;
 use dp_tree::{Bundle, Expression, is_pure};
@@ -71,19 +71,18 @@ pub(crate) fn tree_of(
     }
 }
 
-/// Whether an expression is true in a state, which is lent and left as it was. One that is fatal is not.
+/// Whether an expression is true in a state. One that is fatal is not.
 pub(crate) fn is_true(
     alloc: Global,
     bundle: &Bundle,
-    state: &mut State,
+    state: &State,
     e: &Expression,
 ) -> Result<bool, Memory>
     requires { is_pure e.now ≡ true }
-    ensures truth { IfOk result (λ truth. truth ≡ is_true_in bundle.now e.now state.old) }
-    ensures same { OnOk result (state.new ≡ state.old) }
+    ensures { IfOk result (λ truth. truth ≡ is_true_in bundle.now e.now state.now) }
 {
-    match value_in_place(alloc, state, bundle, e)? {
-        Some(value) => Ok(truthy(&value)),
+    match value_in(alloc, state, bundle, e)? {
+        Some(found) => Ok(truthy(found.value())),
         None => Ok(false),
     }
 }
