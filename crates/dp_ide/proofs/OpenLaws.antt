@@ -1,9 +1,10 @@
 -- The first message, and the commands of a script.
-use Rattle.std.proofs.Common.{◌≡◌, ◌↔◌, inl, inr, ℕ, zero, suc, Bool, true, false, List, [], ◌∷◌, ◌++◌, length, refl, sym, ap, ◌∙◌, subst, append-nil, arith}
+use Rattle.std.proofs.Common.{◌≡◌, ◌↔◌, inl, inr, ℕ, suc, Bool, true, false, List, [], ◌∷◌, ◌++◌, refl, sym, ap, ◌∙◌, subst, append-nil, arith}
 use Rattle.std.specs.Prelude.{Result, Ok, Err, IfOk, IfErr, IsOk, IsTrue}
 use Rattle.std.specs.List.{All}
 use Rattle.std.specs.Io.KnownBytes.{Consumes}
 use Rattle.std.proofs.lemmas.Bool.{false≢true}
+use Rattle.std.proofs.lemmas.List.Elements.{All-push}
 use Rattle.dp_outside.specs.Changes.{Change}
 use Rattle.dp_wire.specs.Frames.{packet_frame}
 use Rattle.dp_wire.specs.Received.{Received}
@@ -93,18 +94,14 @@ asked one line asks =
     λ command id is. let spelt : Asks (Send command id) line = subst
     (λ (a : Act). Asks a line) is asks in spelt.second.is_command
 
-said_playable : (number : ℕ) (line : List ℕ) (said more : List Instruction) → Says number line said
-    → All IsPlayable more → All IsPlayable (said ++ more)
-said_playable number line [] more says all = all
-said_playable number line (one ∷ []) more says all = there where
-  there : All IsPlayable (one ∷ more)
-  there zero d less = asked one line says.1
-  there (suc k) d less = all k d (omega (arith, less))
-said_playable number line (one ∷ other ∷ rest) more says all = absurd says
+said_playable : (number : ℕ) (line : List ℕ) (before said : List Instruction) → Says number line said
+    → All IsPlayable before → All IsPlayable (before ++ said)
+said_playable number line before [] says all = subst (All IsPlayable) (sym (append-nil before)) all
+said_playable number line before (one ∷ []) says all = All-push IsPlayable before one all (asked one line says.1)
+said_playable number line before (one ∷ other ∷ rest) says all = absurd says
 
-pub playable : (number : ℕ) (lines : List (List ℕ)) (instructions : List Instruction)
-    → AreSaid number lines instructions → All IsPlayable instructions
-playable number [] instructions are = λ k d less. absurd (omega (arith, less, ap length are))
-playable number (line ∷ lines) instructions are =
-    subst (All IsPlayable) (sym are.2) (said_playable number line are.0 are.1 are.3
-    (playable (suc number) lines are.1 are.4))
+pub playable : (before : List Instruction) (number : ℕ) (lines : List (List ℕ)) (instructions : List Instruction)
+    → All IsPlayable before → AreSaid before number lines instructions → All IsPlayable instructions
+playable before number [] instructions all are = subst (All IsPlayable) (sym are) all
+playable before number (line ∷ lines) instructions all are =
+    playable (before ++ are.0) (suc number) lines instructions (said_playable number line before are.0 are.1 all) are.2

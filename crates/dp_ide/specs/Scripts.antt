@@ -1,10 +1,11 @@
 -- Scripts of the IDE: one instruction a line. Empty lines and lines that begin with `#` do nothing.
-use Rattle.std.specs.Prelude.{◌≡◌, ◌≢◌, ◌⊎◌, ℕ, suc, ◌+◌, ◌*◌, ◌≤◌, Bool, true, not, ◌==◌, if◌then◌else◌, List, [], ◌∷◌, ◌++◌, length, Option, Some, codes}
-use Rattle.std.specs.List.{list_all}
+use Rattle.std.specs.Prelude.{◌≡◌, ◌≢◌, ◌⊎◌, ℕ, suc, ◌+◌, ◌*◌, ◌≤◌, Bool, true, not, ◌==◌, List, [], ◌∷◌, ◌++◌, length, Option, Some, codes}
+use Rattle.std.specs.List.{list_all, slice_split}
 use Rattle.dp_command.specs.declared.line.Line.{Line}
 use Rattle.dp_command.specs.Grammar.{Rule, ◌>>◌, Mark, Repeated, spelt}
 use Rattle.dp_command.specs.Letters as letter
 use Rattle.dp_command.specs.Options.{given}
+use Rattle.dp_grammar.specs.Refused.{IsUnexpected}
 use Rattle.dp_markup.specs.Classes.{hexadecimal_behind}
 use Rattle.dp_reply.specs.Contents.{◌>>=◌, most_16}
 use Rattle.dp_value.specs.Decimals.{decimal_in}
@@ -15,16 +16,10 @@ use Rattle.dp_ide.specs.declared.instruction.Instruction.{Instruction}
 
 -- ---- lines
 
--- a byte in front of the first line
-abbrev pub in_front : ℕ → List (List ℕ) → List (List ℕ)
-in_front byte [] = (byte ∷ []) ∷ []
-in_front byte (line ∷ lines) = (byte ∷ line) ∷ lines
-
--- Each line ends with a line feed; the last one may lack it.
+-- The lines, cut at the line feeds. What stands behind the last is a line too; where it is empty,
+-- it does nothing.
 abbrev pub lines_of : List ℕ → List (List ℕ)
-lines_of [] = []
-lines_of (byte ∷ bytes) =
-    if byte == 10 then [] ∷ lines_of bytes else in_front byte (lines_of bytes)
+lines_of bytes = slice_split (λ byte. byte == 10) bytes
 
 -- ---- names and texts
 
@@ -102,28 +97,27 @@ Says number line [] = is_idle line ≡ true
 Says number line (one ∷ []) = (one.line ≡ number) × Asks one.act line
 Says number line (one ∷ other ∷ more) = ⊥
 
--- The lines, of which the first has this number, say these instructions, one line after another.
-abbrev pub AreSaid : ℕ → List (List ℕ) → List Instruction → Type 0
-AreSaid number [] instructions = instructions ≡ []
-AreSaid number (line ∷ lines) instructions =
-    (said : List Instruction) × (more : List Instruction) × (instructions ≡ said ++ more)
-    × Says number line said × AreSaid (suc number) lines more
+-- The lines, of which the first has this number, say the rest of these instructions behind the
+-- first ones, one line after another.
+abbrev pub AreSaid : List Instruction → ℕ → List (List ℕ) → List Instruction → Type 0
+AreSaid before number [] instructions = instructions ≡ before
+AreSaid before number (line ∷ lines) instructions =
+    (said : List Instruction) × Says number line said
+    × AreSaid (before ++ said) (suc number) lines instructions
 
--- the bytes are a script of these instructions; lines are counted from 1
+-- lines are a script of these instructions; they are counted from 1
+abbrev pub AreScript : List (List ℕ) → List Instruction → Type 0
+AreScript lines instructions = AreSaid [] 1 lines instructions
+
 abbrev pub IsScript : List ℕ → List Instruction → Type 0
-IsScript bytes instructions = AreSaid 1 (lines_of bytes) instructions
+IsScript bytes instructions = AreScript (lines_of bytes) instructions
 
 -- some bytes are a script of these instructions
 abbrev pub IsOfSomeScript : List Instruction → Type 0
 IsOfSomeScript instructions = (bytes : List ℕ) × IsScript bytes instructions
 
--- the line of this number is the first that is no line of a script
-pub record IsFirstBad (bytes : List ℕ) (number : ℕ) : Type 0 where
-  pub before : List (List ℕ)
-  pub line : List ℕ
-  pub after : List (List ℕ)
-  pub split : lines_of bytes ≡ before ++ line ∷ after
-  pub place : number ≡ length before + 1
-  pub said : List Instruction
-  pub good : AreSaid 1 before said
-  pub bad : (any : List Instruction) → Says number line any → ⊥
+-- the line of this number is the first with which no script begins
+abbrev pub IsFirstBad : List ℕ → ℕ → Type 0
+IsFirstBad bytes number =
+    (place : ℕ) × (number ≡ place + 1)
+    × IsUnexpected (λ (u : Unit {0}). AreScript) tt (lines_of bytes) place

@@ -1,7 +1,6 @@
 //! The lines of a script.
-ghost use Rattle.std.specs.Prelude.{◌≡◌, ◌≢◌, ◌<◌, ◌∷◌, ◌++◌, ℕ, List, length, MatchOption};
+ghost use Rattle.std.specs.Prelude.{◌≡◌, ◌≢◌, ◌++◌, ℕ, List, MatchOption};
 ghost use Rattle.dp_ide.specs.Scripts as spec;
-ghost use Rattle.dp_ide.specs.Scripts.{lines_of};
 ghost use Rattle.dp_ide.specs.inner.Readers.{IsRun};
 
 /// What stands behind the word that begins the bytes.
@@ -22,20 +21,6 @@ pub(crate) fn run_before(bytes: &[u8], mark: u8) -> usize
         }
     }
     bytes.len()
-}
-
-/// The first line, and what follows its line feed.
-pub(crate) fn split_line(bytes: &[u8]) -> (&[u8], &[u8])
-    requires { 0 < length bytes.now }
-    ensures lines { lines_of bytes.now ≡ result.0.now ∷ lines_of result.1.now }
-    ensures less { length result.1.now < length bytes.now }
-{
-    let end = run_before(bytes, b'\n');
-    if end < bytes.len() {
-        (&bytes[..end], &bytes[end + 1..])
-    } else {
-        (bytes, &bytes[end..])
-    }
 }
 
 /// Whether a line does nothing: it is empty or begins with `#`.

@@ -1,37 +1,53 @@
 //! Reading a script.
-ghost use Rattle.std.specs.Prelude.{◌≡◌, ◌⊎◌, ◌++◌, ℕ, List, IfOk, IfErr, OnOk, MatchResult};
+ghost use Rattle.std.specs.Prelude.{◌≡◌, ◌⊎◌, ℕ, List, IfOk, IfErr, MatchResult};
 ghost use Rattle.dp_ide.specs.Scripts.{IsFirstBad, IsScript};
 ghost use Rattle.dp_ide.specs.declared.instruction.Instruction.{Instruction as Told};
-ghost use Rattle.dp_ide.specs.inner.Readers.{ReadFails, SaidBehind};
+ghost use Rattle.dp_ide.specs.inner.Readers.{Takes};
 
 use crate::acts::act_in;
 use crate::errors::IdeError;
 use crate::instruction::Instruction;
-use crate::lines::{is_idle, split_line};
+use crate::lines::is_idle;
 use crate::script::Script;
-use dp_value::Items;
+use dp_value::{Items, Memory};
 use std::alloc::Global;
 
-// Puts what the line of this number says behind what the lines before it say.
+// Puts what the line of this number says behind what the lines before it say, where it is one of a script.
 fn put_line(
     alloc: Global,
     line: &[u8],
     number: u64,
     said: &mut Vec<Instruction>,
-) -> Result<(), IdeError>
-    ensures ok { OnOk result (SaidBehind number line.now said.old.items said.new.items) }
-    ensures err { IfErr result (ReadFails number line.now) }
+) -> Result<bool, Memory>
+    ensures { IfOk result (λ taken. Takes number line.now taken said.old.items said.new.items) }
 {
     if is_idle(line) {
-        return Ok(());
+        return Ok(true);
     }
     match act_in(alloc, line)? {
-        None => Err(IdeError::BadScript { line: number }),
+        None => Ok(false),
         Some(act) => {
             said.push(Instruction { line: number, act })?;
-            Ok(())
+            Ok(true)
         }
     }
+}
+
+// What all lines say, or the number of the first line that is none of a script.
+fn read_lines(alloc: Global, bytes: &[u8]) -> Result<Result<Vec<Instruction>, u64>, Memory>
+    ensures { IfOk result (λ read. MatchResult read
+        (λ said. IsScript bytes.now said.items × ((other : List Told) → IsScript bytes.now other → other ≡ said.items))
+        (λ line. IsFirstBad bytes.now line)) }
+{
+    let mut said = Vec::new(alloc);
+    let mut number = 0u64;
+    for line in bytes.split(|b| *b == b'\n') {
+        number += 1;
+        if !put_line(alloc, line, number, &mut said)? {
+            return Ok(Err(number));
+        }
+    }
+    Ok(Ok(said))
 }
 
 impl Script {
@@ -46,20 +62,11 @@ impl Script {
             → MatchResult result (λ script. ⊥) (λ e. (e ≡ IdeError.BadScript line) ⊎ (e ≡ IdeError.Memory)) }
         ensures refused { IfErr result (λ e. ((line : ℕ) × (e ≡ IdeError.BadScript line)) ⊎ (e ≡ IdeError.Memory)) }
     {
-        let mut said = Vec::new(alloc);
-        let mut rest = bytes;
-        let mut number = 0u64;
-        'lines: while !rest.is_empty() {
-            let (line, behind) = split_line(rest);
-            number += 1;
-            match put_line(alloc, line, number, &mut said) {
-                Ok(()) => {}
-                Err(why) => return Err(why),
-            }
-            rest = behind;
+        match read_lines(alloc, bytes)? {
+            Ok(said) => Ok(Script {
+                instructions: Items::of(said),
+            }),
+            Err(line) => Err(IdeError::BadScript { line }),
         }
-        Ok(Script {
-            instructions: Items::of(said),
-        })
     }
 }

@@ -2,4 +2,3 @@ pub mod HexLaws
 pub mod WordLaws
 pub mod SpellingLaws
 pub mod ListLaws
-pub mod LineLaws

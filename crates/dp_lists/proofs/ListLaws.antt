@@ -1,42 +1,49 @@
 -- A list is read in one way: what its lines add, one after another.
-use Rattle.std.proofs.Common.{◌≡◌, ◌⊎◌, ℕ, ◌+◌, ◌<◌, ◌≤◌, ◌==◌, Bool, true, false, ◌&&◌, ◌||◌, if◌then◌else◌, List, [], ◌∷◌, ◌++◌, length}
-use Rattle.std.proofs.Common.{Option, Some, None, is_some, unwrap_or, nat_eq, flat_map, refl, sym, ap, subst, ◌∙◌, inl, inr}
-use Rattle.std.proofs.Common.{append_assoc, append-nil, length-append, arith}
-use Rattle.std.proofs.lemmas.Bool.{eqb-true, or_right, false≢true, cases_order}
+use Rattle.std.proofs.Common.{◌≡◌, ℕ, ◌+◌, ◌<◌, ◌≤◌, ◌==◌, Bool, true, false, ◌&&◌, ◌||◌, if◌then◌else◌, List, [], ◌∷◌, ◌++◌, length}
+use Rattle.std.proofs.Common.{Option, Some, None, is_some, unwrap_or, option_and_then, nat_eq, flat_map, take, get_or, refl, sym, ap, subst, ◌∙◌, inl, inr}
+use Rattle.std.proofs.Common.{append_assoc, append-nil, arith}
+use Rattle.std.proofs.lemmas.Bool.{eqb-true, or_right, false≢true}
+use Rattle.std.proofs.lemmas.Iterator.{YieldsList}
+use Rattle.std.proofs.lemmas.Iterator.Consumers.{YieldsList-turn, YieldsList-end}
+use Rattle.std.proofs.lemmas.List.{take_all, take_more}
 use Rattle.std.proofs.lemmas.List.Folds.{list_any-append}
 use Rattle.std.proofs.lemmas.Option.{same_Some}
+use Rattle.std.specs.Iterator.{Yields}
 use Rattle.std.specs.Map.{lookup}
 use Rattle.std.specs.Option.{option_to_list}
 use Rattle.dp_lists.specs.declared.event.Act.{Act}
 use Rattle.dp_lists.specs.declared.event.Act.TheVariants.{Ide, Engine, Give, Move, Close}
 use Rattle.dp_lists.specs.declared.event.Event.{Event}
 use Rattle.dp_lists.specs.Lists.{is_idle, Spells, Fits, AllFit, MayFollow, Adds, Come, IsList, IsFirstBad, lines_of, was, makes, is_engine}
-use Rattle.dp_lists.specs.inner.Spelling.{word_of, part_of, link_in, act_in, event_in, spelled}
-use Rattle.dp_lists.specs.inner.Progress.{IsTable, Marks, IsReading, Takes, lines_in, size_of, IsRead}
+use Rattle.dp_lists.specs.inner.Spelling.{word_of, part_of, link_in, event_in, spelled}
+use Rattle.dp_grammar.proofs.Verdicts.{one_unexpected, unexpected_spelled}
+use Rattle.dp_lists.specs.inner.Progress.{IsTable, Marks, IsReading, Takes}
 use Rattle.dp_lists.specs.declared.readers.Reading.{Reading}
 use Rattle.dp_lists.proofs.SpellingLaws.{spelled_again, spelled_is}
+use Rattle.dp_lists.proofs.WordLaws.{with_part}
 
 -- ---- what a line adds
 
-idle_word : (word rest : List ℕ) → event_in (35 ∷ word) rest ≡ None
-idle_word word rest = by (link_in (word_of rest)) (part_of rest) refl refl where
+hash_word : (word rest : List ℕ) → event_in (35 ∷ word) rest ≡ None
+hash_word word rest = by (link_in (word_of rest)) (part_of rest) refl refl where
   by : (o : Option ℕ) (p : Option (List ℕ)) → link_in (word_of rest) ≡ o → part_of rest ≡ p
       → event_in (35 ∷ word) rest ≡ None
   by None p e f = rw e refl
   by (Some link) None e f = rw (e, f) refl
   by (Some link) (Some part) e f = rw (e, f) refl
 
-idle_line : (line : List ℕ) → spelled (35 ∷ line) ≡ None
-unfolding spelled
-idle_line line = by (part_of line) refl where
-  by : (o : Option (List ℕ)) → part_of line ≡ o → spelled (35 ∷ line) ≡ None
-  by None e = rw e refl
-  by (Some rest) e = rw e (idle_word (word_of line) rest)
+idle_word : (word rest : List ℕ) → is_idle (word ++ 32 ∷ rest) ≡ true → event_in word rest ≡ None
+idle_word [] rest h = absurd cc
+idle_word (b ∷ word) rest h = let same : b ≡ 35 = eqb-true b 35 h in rw same (hash_word word rest)
 
 pub idle_none : (line : List ℕ) → is_idle line ≡ true → spelled line ≡ None
 unfolding spelled
-idle_none [] h = refl
-idle_none (b ∷ line) h = let same : b ≡ 35 = eqb-true b 35 h in rw same (idle_line line)
+idle_none line h = by (part_of line) refl where
+  by : (o : Option (List ℕ)) → part_of line ≡ o → spelled line ≡ None
+  by None e = ap (option_and_then (event_in (word_of line))) e
+  by (Some rest) e =
+      ap (option_and_then (event_in (word_of line))) e
+      ∙ idle_word (word_of line) rest (subst (λ l. is_idle l ≡ true) (with_part line rest e) h)
 
 abbrev pub adds : List ℕ → List Event
 adds line = option_to_list (spelled line)
@@ -82,43 +89,17 @@ one_list bytes a b p q = come_is [] (lines_of bytes) a p ∙ sym (come_is [] (li
 
 -- ---- the first bad line
 
--- no lines that go on behind these with its bad line come to events
-not_behind : (bytes : List ℕ) (number : ℕ) (bad : IsFirstBad bytes number) (lines back : List (List ℕ))
-    (events : List Event)
-    → lines ≡ bad.front ++ bad.line ∷ back → Come [] lines events → ⊥
-not_behind bytes number bad lines back events e h =
-    let s = come_split [] bad.front bad.line back events (subst (λ l. Come [] l events) e h) in
-    let same : s.mid ≡ bad.events = come_is [] bad.front s.mid s.come
-    ∙ sym (come_is [] bad.front bad.events bad.before) in
-    bad.bad s.added (subst (λ m. Adds m bad.line s.added) same s.adds)
+-- the lists, as a rule of lines
+abbrev Listed : Unit {0} → List (List ℕ) → List Event → Type 0
+Listed u = Come []
 
 pub bad_excludes : (bytes : List ℕ) (number : ℕ) (events : List Event) → IsFirstBad bytes number → IsList bytes events
     → ⊥
-bad_excludes bytes number events bad h = not_behind bytes number bad (lines_of bytes) bad.back events bad.split h
-
-before_other : {X : Type 0} (xs : List X) (y : X) (ys zs : List X) (w : X) (ws : List X) → xs ++ y ∷ ys ≡ zs ++ w ∷ ws
-    → length xs < length zs
-    → (tail : List X) × (zs ≡ xs ++ y ∷ tail)
-before_other xs y ys [] w ws e less = absurd (omega arith)
-before_other [] y ys (z ∷ zs) w ws e less = let same : z ≡ y = cc in (zs, ap (λ x. x ∷ zs) same)
-before_other (x ∷ xs) y ys (z ∷ zs) w ws e less =
-    let same : z ≡ x = cc in
-    let rest : xs ++ y ∷ ys ≡ zs ++ w ∷ ws = cc in
-    let more = before_other xs y ys zs w ws rest (omega arith) in
-    (more.0, λ i. same i ∷ more.1 i)
-
-not_earlier : (bytes : List ℕ) (m n : ℕ) (a : IsFirstBad bytes m) (b : IsFirstBad bytes n)
-    → length a.front < length b.front → ⊥
-not_earlier bytes m n a b less =
-    let more = before_other a.front a.line a.back b.front b.line b.back (sym a.split ∙ b.split) less in
-    not_behind bytes m a b.front more.0 b.events more.1 b.before
+bad_excludes bytes number events bad = unexpected_spelled Listed tt tt bad.0 (lines_of bytes) events bad.2
 
 pub one_bad : (bytes : List ℕ) (m n : ℕ) → IsFirstBad bytes m → IsFirstBad bytes n → m ≡ n
-one_bad bytes m n a b = elim (cases_order (length a.front) (length b.front)) [
-  | inl same ↦ let p = a.place in let q = b.place in omega arith
-  | inr (inl less) ↦ absurd (not_earlier bytes m n a b less)
-  | inr (inr more) ↦ absurd (not_earlier bytes n m b a more)
-]
+one_bad bytes m n a b =
+    let same = one_unexpected Listed tt a.0 b.0 (lines_of bytes) a.2 b.2 in a.1 ∙ ap (λ p. p + 1) same ∙ sym b.1
 
 -- ---- fitting
 
@@ -231,39 +212,56 @@ noted old new e is fits marks put = record {
 
 -- ---- line after line
 
-pub read_none : (bytes : List ℕ) → IsRead bytes (Some bytes) 0 []
-read_none bytes = record { front = []; split = refl; count = refl; come = refl; less = omega arith }
+-- so many lines were read, and they come to these events
+abbrev pub IsRead : List ℕ → ℕ → List Event → Type 0
+IsRead bytes number events = Come [] (take number (lines_of bytes)) events
 
-module _ (bytes left line : List ℕ) (more : Option (List ℕ)) (number : ℕ) (before : List Event)
-    (read : IsRead bytes (Some left) number before)
-    (lines : lines_of left ≡ line ∷ lines_in more) where
-  pub read_on : size_of more ≤ length left → (after : List Event) → Takes before line true after
-      → IsRead bytes more (number + 1) after
-  read_on less after takes = record {
-    front = read.front ++ line ∷ [];
-    split = read.split ∙ ap (λ l. read.front ++ l) lines ∙ sym (append_assoc read.front (line ∷ []) (lines_in more));
-    count = let n = read.count in omega (arith, length-append read.front (line ∷ []));
-    come =
-        subst (Come [] (read.front ++ line ∷ [])) (sym takes.2)
-        (come_push [] read.front before line takes.0 read.come takes.1);
-    less = let l = read.less in omega arith;
-  }
+module _ (bytes : List ℕ) (number : ℕ) (before : List Event) (line : List ℕ) (read : IsRead bytes number before)
+    (here : (number < length (lines_of bytes)) × (line ≡ get_or (lines_of bytes) number line)) where
+  abbrev so_far : List (List ℕ)
+  so_far = take number (lines_of bytes)
+
+  one_more : take (number + 1) (lines_of bytes) ≡ so_far ++ line ∷ []
+  one_more = take_more (lines_of bytes) number line here.0 ∙ ap (λ l. so_far ++ l ∷ []) (sym here.1)
+
+  pub read_on : (after : List Event) → Takes before line true after → IsRead bytes (number + 1) after
+  read_on after takes =
+      subst (λ l. Come [] l after) (sym one_more)
+      (subst (Come [] (so_far ++ line ∷ [])) (sym takes.2) (come_push [] so_far before line takes.0 read takes.1))
 
   pub read_bad : (after : List Event) → Takes before line false after → IsFirstBad bytes (number + 1)
-  read_bad after takes = record {
-    front = read.front;
-    line = line;
-    back = lines_in more;
-    split = read.split ∙ ap (λ l. read.front ++ l) lines;
-    place = let n = read.count in omega arith;
-    events = before;
-    before = read.come;
-    bad = takes;
-  }
+  read_bad after takes = (
+    number,
+    refl,
+    record {
+      within = let less = here.0 in omega arith;
+      before = ([], before, subst (λ l. Come [] l before) (sym (append-nil so_far)) read);
+      dead = λ u. record {
+        here = λ within v.
+            let all = ap (λ l. l ++ v.0) one_more ∙ append_assoc so_far (line ∷ []) v.0 in
+            let s = come_split [] so_far line v.0 v.1 (subst (λ l. Come [] l v.1) all v.2) in
+            let same : s.mid ≡ before = come_is [] so_far s.mid s.come ∙ sym (come_is [] so_far before read) in
+            takes s.added (subst (λ m. Adds m line s.added) same s.adds);
+        end = λ at. let less = here.0 in absurd (omega arith);
+      };
+    },
+  )
 
-pub read_all : (bytes : List ℕ) (number : ℕ) (events : List Event) → IsRead bytes None number events
-    → IsList bytes events
-read_all bytes number events read = subst (λ l. Come [] l events) (sym (read.split ∙ append-nil read.front)) read.come
+pub read_all : (bytes : List ℕ) (number : ℕ) (events : List Event) → IsRead bytes number events
+    → length (lines_of bytes) ≤ number → IsList bytes events
+read_all bytes number events read all = subst (λ l. Come [] l events) (take_all number (lines_of bytes) all) read
+
+-- where the item of this turn is in the list of a loop
+pub turn_of : {S A B : Type 0} {steps : S → Option A → S → Type 0} {v : A → B} {s : S} {all : List B} (xs : List A)
+    (t u : S) → Yields steps s xs t → (r : Option A) (x : A) → r ≡ Some x → steps t r u → YieldsList steps v s all
+    → (length xs < length all) × (v x ≡ get_or all (length xs) (v x))
+turn_of xs t u y r x is step list = YieldsList-turn list xs t y r u x is step
+
+-- at its end it has yielded so many
+pub end_of : {S A B : Type 0} {steps : S → Option A → S → Type 0} {v : A → B} {s : S} {all : List B} (xs : List A)
+    (t u : S) → Yields steps s xs t → (r : Option A) → r ≡ None → steps t r u → YieldsList steps v s all
+    → length xs ≡ length all
+end_of xs t u y r is step list = (YieldsList-end list xs t y r u is step).1
 
 -- ---- one line
 

@@ -1,9 +1,8 @@
 -- The event that a line is read as is the one that it spells.
-use Rattle.std.proofs.Common.{◌≡◌, ◌⊎◌, ℕ, ◌^◌, ◌<◌, ◌≤◌, ◌==◌, Bool, true, false, ◌&&◌, List, [], ◌∷◌, ◌++◌, length}
+use Rattle.std.proofs.Common.{◌≡◌, ◌⊎◌, ℕ, ◌≤◌, Bool, true, false, ◌&&◌, List, [], ◌∷◌, ◌++◌, length}
 use Rattle.std.proofs.Common.{Option, Some, None, nat_le, option_map, codes, decimal, All, refl, sym, ap, subst, ◌∙◌, inl, inr}
-use Rattle.std.proofs.Common.{append_assoc, append-nil, arith}
+use Rattle.std.proofs.Common.{append_assoc, arith}
 use Rattle.std.proofs.lemmas.Bool.{and_parts, and_from, leb-true, le-leb}
-use Rattle.std.proofs.lemmas.Bool.Decides.{nat_tests}
 use Rattle.std.proofs.lemmas.List.Elements.{All-cons, All-head, All-tail, All-nil}
 use Rattle.std.proofs.lemmas.Option.{same_Some}
 use Rattle.std.proofs.lemmas.Slice.Eq.{bytes_eq-Decides}
@@ -14,11 +13,11 @@ use Rattle.dp_value.specs.Decimals.{decimal_in}
 use Rattle.dp_lists.specs.declared.event.Act.{Act}
 use Rattle.dp_lists.specs.declared.event.Act.TheVariants.{Ide, Engine, Give, Move, Close}
 use Rattle.dp_lists.specs.declared.event.Event.{Event}
-use Rattle.dp_lists.specs.Lists.{named, named_with, hex, Gives, Says, Spells, IsFormed}
-use Rattle.dp_lists.specs.inner.Spelling.{word_of, part_of, is_name, name_in, bytes_in, act_alone, act_with, act_in, link_in}
+use Rattle.dp_lists.specs.Lists.{named, named_with, hex, Spells, IsFormed}
+use Rattle.dp_lists.specs.inner.Spelling.{has_no_blank, word_of, part_of, is_name, name_in, bytes_in, act_alone, act_with, act_in, link_in}
 use Rattle.dp_lists.specs.inner.Spelling.{event_by, event_in, spelled}
 use Rattle.dp_lists.proofs.HexLaws.{hex_again, hex_is}
-use Rattle.dp_lists.proofs.WordLaws.{has_no_blank, word_before, part_behind, word_alone, no_part, with_part, without_part}
+use Rattle.dp_lists.proofs.WordLaws.{word_before, part_behind, word_alone, no_part, with_part, without_part}
 use Rattle.dp_lists.proofs.WordLaws.{number_again, number_is, number_blank, link_again, link_is}
 
 -- ---- names
@@ -70,10 +69,10 @@ module _ (word : List ℕ) (link : ℕ) (blank : has_no_blank word ≡ true) (so
       let rest : List ℕ = decimal link ++ 32 ∷ part in
       rw (
         with_named word link part,
-        part_behind word rest blank,
-        word_before word rest blank,
-        word_before (decimal link) part free,
-        part_behind (decimal link) part free,
+        part_behind word blank rest,
+        word_before word blank rest,
+        word_before (decimal link) free part,
+        part_behind (decimal link) free part,
         link_again link some within,
       ) refl
 
@@ -82,8 +81,8 @@ module _ (word : List ℕ) (link : ℕ) (blank : has_no_blank word ≡ true) (so
   again_alone =
       rw (
         alone_named word link,
-        part_behind word (decimal link) blank,
-        word_before word (decimal link) blank,
+        part_behind word blank (decimal link),
+        word_before word blank (decimal link),
         word_alone (decimal link) free,
         no_part (decimal link) free,
         link_again link some within,

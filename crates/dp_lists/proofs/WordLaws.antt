@@ -1,9 +1,10 @@
 -- Words of a line: what stands before a blank, and numbers.
-use Rattle.std.proofs.Common.{◌≡◌, ℕ, zero, suc, ◌^◌, ◌<◌, ◌≤◌, ◌==◌, Bool, true, false, not, ◌&&◌, ◌||◌, cond, List, [], ◌∷◌, ◌++◌}
-use Rattle.std.proofs.Common.{length, get_or, Option, Some, None, nat_le, codes, decimal, refl, sym, ap, subst, ◌∙◌, inl, inr, arith, rules}
-use Rattle.std.proofs.lemmas.Bool.{and_parts, or_cases, leb-true, le-leb, eqb-true, not-true, not_from_false, or_right, ne_eqb, false≢true}
+use Rattle.std.proofs.Common.{◌≡◌, ℕ, zero, suc, ◌+◌, ◌-◌, ◌^◌, ◌<◌, ◌≤◌, ◌==◌, Bool, true, false, not, ◌&&◌, cond, List, [], ◌∷◌, ◌++◌, length}
+use Rattle.std.proofs.Common.{take, drop, get_or, Option, Some, None, nat_le, codes, decimal, refl, sym, ap, ◌∙◌, inl, inr, arith, rules}
+use Rattle.std.proofs.lemmas.Bool.{and_parts, or_cases, leb-true, le-leb, eqb-true, not-true, or_right}
 use Rattle.std.proofs.lemmas.Bool.Decides.{nat_tests}
 use Rattle.std.proofs.lemmas.Fmt.{digits_decimal, digits_value-decimal, decimal-digits_value, decimal_digit, first_decimal}
+use Rattle.std.proofs.lemmas.List.{take_rest}
 use Rattle.std.proofs.lemmas.Option.{same_Some, cond_some}
 use Rattle.std.proofs.lemmas.Slice.Eq.{bytes_eq-Decides}
 use Rattle.std.proofs.lemmas.Str.Parse.{IsNumeralModel, numerals_by_value}
@@ -13,12 +14,10 @@ use Rattle.std.specs.Str.{bytes_eq}
 use Rattle.std.specs.Str.Parse.{digits_value}
 use Rattle.dp_value.specs.Decimals.{is_decimal, decimal_in}
 use Rattle.dp_value.specs.IntText.{is_positive}
-use Rattle.dp_lists.specs.inner.Spelling.{word_of, part_of, not_zero, link_in}
+use Rattle.dp_grammar.proofs.Runs.{not_zero}
+use Rattle.dp_lists.specs.inner.Spelling.{split_word, word_of, part_of, has_no_blank, FirstBlank, link_in}
 
 -- ---- blanks
-
-abbrev pub has_no_blank : List ℕ → Bool
-has_no_blank word = list_all (λ b. not (b == 32)) word
 
 head : (b : ℕ) (bs : List ℕ) → has_no_blank (b ∷ bs) ≡ true → (b == 32) ≡ false
 head b bs h = not-true _ (and_parts _ (has_no_blank bs) h).0
@@ -26,40 +25,64 @@ head b bs h = not-true _ (and_parts _ (has_no_blank bs) h).0
 tail : (b : ℕ) (bs : List ℕ) → has_no_blank (b ∷ bs) ≡ true → has_no_blank bs ≡ true
 tail b bs h = (and_parts (not (b == 32)) (has_no_blank bs) h).1
 
-pub word_before : (word rest : List ℕ) → has_no_blank word ≡ true → word_of (word ++ 32 ∷ rest) ≡ word
-word_before [] rest h = refl
-word_before (b ∷ word) rest h = rw (head b word h, word_before word rest (tail b word h)) refl
+abbrev Cut : Type 0
+Cut = List ℕ × Option (List ℕ)
 
-pub part_behind : (word rest : List ℕ) → has_no_blank word ≡ true → part_of (word ++ 32 ∷ rest) ≡ Some rest
-part_behind [] rest h = refl
-part_behind (b ∷ word) rest h = rw (head b word h) (part_behind word rest (tail b word h))
+cut : (word rest : List ℕ) → has_no_blank word ≡ true → split_word (word ++ 32 ∷ rest) ≡ (word, Some rest)
+cut [] rest h = refl
+cut (b ∷ word) rest h = rw (head b word h, cut word rest (tail b word h)) refl
 
-pub word_alone : (word : List ℕ) → has_no_blank word ≡ true → word_of word ≡ word
-word_alone [] h = refl
-word_alone (b ∷ word) h = rw (head b word h, word_alone word (tail b word h)) refl
+uncut : (word : List ℕ) → has_no_blank word ≡ true → split_word word ≡ (word, None)
+uncut [] h = refl
+uncut (b ∷ word) h = rw (head b word h, uncut word (tail b word h)) refl
 
-pub no_part : (word : List ℕ) → has_no_blank word ≡ true → part_of word ≡ None
-no_part [] h = refl
-no_part (b ∷ word) h = rw (head b word h) (no_part word (tail b word h))
+module _ (word : List ℕ) (free : has_no_blank word ≡ true) where
+  pub word_before : (rest : List ℕ) → word_of (word ++ 32 ∷ rest) ≡ word
+  word_before rest = ap (λ (c : Cut). c.0) (cut word rest free)
+
+  pub part_behind : (rest : List ℕ) → part_of (word ++ 32 ∷ rest) ≡ Some rest
+  part_behind rest = ap (λ (c : Cut). c.1) (cut word rest free)
+
+  pub word_alone : word_of word ≡ word
+  word_alone = ap (λ (c : Cut). c.0) (uncut word free)
+
+  pub no_part : part_of word ≡ None
+  no_part = ap (λ (c : Cut). c.1) (uncut word free)
+
+module _ (bytes : List ℕ) (at : ℕ) (first : FirstBlank bytes (Some at)) where
+  pub word_is : take at bytes ≡ word_of bytes
+  word_is = sym (ap word_of first.1 ∙ word_before (take at bytes) first.0 (drop (at + 1) bytes))
+
+  pub part_is : Some (take (length bytes - (at + 1)) (drop (at + 1) bytes)) ≡ part_of bytes
+  part_is =
+      ap Some (take_rest bytes (at + 1))
+      ∙ sym (ap part_of first.1 ∙ part_behind (take at bytes) first.0 (drop (at + 1) bytes))
+
+abbrev joined : List ℕ → Option (List ℕ) → List ℕ
+joined word None = word
+joined word (Some part) = word ++ 32 ∷ part
+
+longer : (b : ℕ) (word : List ℕ) (part : Option (List ℕ)) → b ∷ joined word part ≡ joined (b ∷ word) part
+longer b word None = refl
+longer b word (Some part) = refl
+
+-- the first byte is the blank, or before it
+abbrev behind : ℕ → List ℕ → Bool → Cut
+behind b line blank = cond blank ([], Some line) (b ∷ word_of line, part_of line)
+
+rejoined : (line : List ℕ) → line ≡ joined (word_of line) (part_of line)
+rejoined [] = refl
+rejoined (b ∷ line) = by (rejoined line) (b == 32) refl where
+  by : line ≡ joined (word_of line) (part_of line) → (t : Bool) → (b == 32) ≡ t
+      → b ∷ line ≡ joined (behind b line t).0 (behind b line t).1
+  by left true p = ap (λ c. c ∷ line) (eqb-true b 32 p)
+  by left false p = ap (λ l. b ∷ l) left ∙ longer b (word_of line) (part_of line)
 
 pub with_part : (line rest : List ℕ) → part_of line ≡ Some rest → line ≡ word_of line ++ 32 ∷ rest
-with_part [] rest e = absurd cc
-with_part (b ∷ line) rest e = by (λ q. with_part line rest q) (b == 32) refl e where
-  by : (part_of line ≡ Some rest → line ≡ word_of line ++ 32 ∷ rest) → (t : Bool) → (b == 32) ≡ t
-      → part_of (b ∷ line) ≡ Some rest
-      → b ∷ line ≡ word_of (b ∷ line) ++ 32 ∷ rest
-  by left true p e =
-      let same : line ≡ rest = same_Some line rest (rw p at e) in
-      rw p (λ i. eqb-true b 32 p i ∷ same i)
-  by left false p e = rw p (ap (λ l. b ∷ l) (left (rw p at e)))
+with_part line rest e = rejoined line ∙ ap (joined (word_of line)) e
 
 pub without_part : (line : List ℕ) → part_of line ≡ None → line ≡ word_of line
-without_part [] e = refl
-without_part (b ∷ line) e = by (λ q. without_part line q) (b == 32) refl e where
-  by : (part_of line ≡ None → line ≡ word_of line) → (t : Bool) → (b == 32) ≡ t → part_of (b ∷ line) ≡ None
-      → b ∷ line ≡ word_of (b ∷ line)
-  by left true p e = let no : Some line ≡ None = rw p at e in absurd cc
-  by left false p e = rw p (ap (λ l. b ∷ l) (left (rw p at e)))
+without_part line e = rejoined line ∙ ap (joined (word_of line)) e
 
 -- ---- numbers
 
@@ -138,21 +161,26 @@ number_blank n small = no_blanks (decimal n) (digits_decimal own n small)
 -- ---- links
 
 pub link_again : (n : ℕ) → 1 ≤ n → n ≤ 4294967294 → link_in (decimal n) ≡ Some n
-link_again zero some within = absurd (omega arith)
-link_again (suc n) some within = rw (number_again 4294967294 (suc n) within (omega arith)) refl
+link_again n some within = rw (number_again 4294967294 n within (omega arith), not_zero n some) refl
 
 pub record IsLink (text : List ℕ) (n : ℕ) : Type 0 where
   pub spelled : text ≡ decimal n
   pub some : 1 ≤ n
   pub within : n ≤ 4294967294
 
+unless_zero : (m n : ℕ) (t : Bool) → (m == 0) ≡ t → cond t None (Some m) ≡ Some n → (1 ≤ m) × (m ≡ n)
+unless_zero m n true e f = absurd cc
+unless_zero m n false e f = (grind (arith, nat_tests), same_Some m n f)
+
 pub link_is : (text : List ℕ) (n : ℕ) → link_in text ≡ Some n → IsLink text n
 link_is text n e = by (decimal_in 4294967294 text) refl e where
   by : (o : Option ℕ) → decimal_in 4294967294 text ≡ o → link_in text ≡ Some n → IsLink text n
   by None p e = let no : None ≡ Some n = rw p at e in absurd cc
-  by (Some zero) p e = let no : None ≡ Some n = rw p at e in absurd cc
-  by (Some (suc m)) p e =
-      let same : suc m ≡ n = same_Some (suc m) n (rw p at e) in
-      let is = number_is 4294967294 (suc m) text (omega arith) p in
+  by (Some m) p e =
+      let found : cond (m == 0) None (Some m) ≡ Some n = rw p at e in
+      let other = unless_zero m n (m == 0) refl found in
+      let is = number_is 4294967294 m text (omega arith) p in
+      let some = other.0 in
+      let same = other.1 in
       let fits = is.within in
       record { spelled = is.spelled ∙ ap decimal same; some = omega arith; within = omega arith }

@@ -1,8 +1,9 @@
 -- Lists of events, one in a line: who connects, what is sent and read, and who closes.
 use Rattle.std.specs.Prelude.{◌≡◌, ◌⊎◌, ℕ, ◌+◌, ◌/◌, ◌%◌, ◌<◌, ◌≤◌, ◌==◌, ◌^◌, nat_lt, Bool, true, false}
-use Rattle.std.specs.Prelude.{◌&&◌, if◌then◌else◌, List, [], ◌∷◌, ◌++◌, length, flat_map, codes}
+use Rattle.std.specs.Prelude.{◌&&◌, if◌then◌else◌, List, [], ◌∷◌, ◌++◌, flat_map, codes}
 use Rattle.std.specs.Fmt.{decimal}
 use Rattle.std.specs.List.{list_any, slice_split, AllByRecursion}
+use Rattle.dp_grammar.specs.Refused.{IsUnexpected}
 use Rattle.dp_registry.specs.Names.{IsHost, IsKey}
 use Rattle.dp_lists.specs.declared.event.Act.{Act}
 use Rattle.dp_lists.specs.declared.event.Act.TheVariants.{Ide, Engine, Give, Move, Close}
@@ -115,13 +116,8 @@ Come before (line ∷ lines) events =
 abbrev pub IsList : List ℕ → List Event → Type 0
 IsList bytes events = Come [] (lines_of bytes) events
 
--- the first line that adds nothing to those before it, counted from 1
-pub record IsFirstBad (bytes : List ℕ) (number : ℕ) : Type 0 where
-  pub front : List (List ℕ)
-  pub line : List ℕ
-  pub back : List (List ℕ)
-  pub split : lines_of bytes ≡ front ++ line ∷ back
-  pub place : number ≡ length front + 1
-  pub events : List Event
-  pub before : Come [] front events
-  pub bad : (added : List Event) → Adds events line added → ⊥
+-- the line of this number, counted from 1, is the first with which no list begins
+abbrev pub IsFirstBad : List ℕ → ℕ → Type 0
+IsFirstBad bytes number =
+    (place : ℕ) × (number ≡ place + 1)
+    × IsUnexpected (λ (u : Unit {0}). Come []) tt (lines_of bytes) place

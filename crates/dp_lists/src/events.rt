@@ -1,13 +1,12 @@
 //! A list of events, and how it is read.
-ghost use Rattle.std.specs.Prelude.{◌≡◌, ◌+◌, ◌≤◌, ◌∷◌, [], length};
-ghost use Rattle.dp_lists.specs.Lists.{lines_of};
-ghost use Rattle.dp_lists.specs.inner.Progress.{lines_in, size_of};
-ghost use Rattle.std.specs.Option.{option_copied};
+ghost use Rattle.std.specs.Prelude.{IfOk, MatchResult};
+ghost use Rattle.dp_lists.specs.Lists as spec;
+ghost use Rattle.dp_lists.specs.inner.Progress.{IsReading};
 
 use crate::errors::ListError;
 use crate::event::Event;
 use crate::readers::Reading;
-use crate::spelling::first_of;
+use dp_value::Memory;
 use std::alloc::Global;
 use std::marker::Model;
 
@@ -29,15 +28,21 @@ impl Model for Events {
     ghost invariant = { λ e. AllFit [] e.events.items };
 }
 
-// The first line, and what stands behind it, if more lines do.
-fn first_line(bytes: &[u8]) -> (&[u8], Option<&[u8]>)
-    ensures lines { lines_of bytes.now ≡ result.0.now ∷ lines_in (option_copied result.1) }
-    ensures less { size_of (option_copied result.1) ≤ length bytes.now }
+// The events of all lines, or the number of the first line that adds none.
+fn read_lines(alloc: Global, bytes: &[u8]) -> Result<Result<Reading, usize>, Memory>
+    ensures { IfOk result (λ read. MatchResult read
+        (λ reading. IsReading reading reading.events.items × spec.IsList bytes.now reading.events.items)
+        (λ line. spec.IsFirstBad bytes.now line)) }
 {
-    match first_of(b'\n', bytes) {
-        Some(at) => (&bytes[..at], Some(&bytes[at + 1..])),
-        None => (bytes, None),
+    let mut reading = Reading::new(alloc);
+    let mut number = 0;
+    for line in bytes.split(|b| *b == b'\n') {
+        number += 1;
+        if !reading.take(alloc, line)? {
+            return Ok(Err(number));
+        }
     }
+    Ok(Ok(reading))
 }
 
 impl Events {
@@ -56,18 +61,10 @@ impl Events {
         ensures bad_only { (line : ℕ) → IsFirstBad bytes.now line
             → MatchResult result (λ read. ⊥) (λ e. (e ≡ IsBadLine line) ⊎ (e ≡ WantOfMemory)) }
     {
-        let mut reading = Reading::new(alloc);
-        let mut rest = Some(bytes);
-        let mut number = 0;
-        'lines: while let Some(left) = rest {
-            let (line, more) = first_line(left);
-            number += 1;
-            if !reading.take(alloc, line)? {
-                return Err(ListError::BadLine { line: number });
-            }
-            rest = more;
+        match read_lines(alloc, bytes)? {
+            Ok(reading) => Ok(reading.done()),
+            Err(line) => Err(ListError::BadLine { line }),
         }
-        Ok(reading.done())
     }
 
     /// The events in their order. Takes no memory.

@@ -1,7 +1,6 @@
 //! The event that a line spells.
 ghost use Rattle.std.specs.Prelude.{◌≡◌, [], ◌∷◌, ◌++◌, ◌&&◌, ◌<◌, length, IfOk, IfSome, option_map, nat_le};
 ghost use Rattle.std.specs.List.{list_all};
-ghost use Rattle.dp_lists.specs.inner.Progress.{FirstOf};
 ghost use Rattle.dp_value.specs.Decimals.{decimal_in};
 ghost use Rattle.std.specs.Option.{option_copied};
 ghost use Rattle.dp_lists.specs.inner.Spelling as spec;
@@ -11,13 +10,13 @@ use crate::hex::bytes_in;
 use dp_value::{Bytes, Memory, decimal};
 use std::alloc::Global;
 
-/// The first place of a byte.
-pub(crate) fn first_of(byte: u8, bytes: &[u8]) -> Option<usize>
-    ensures first { FirstOf byte bytes.now result }
+// The place of the first blank.
+fn first_blank(bytes: &[u8]) -> Option<usize>
+    ensures first { spec.FirstBlank bytes.now result }
     ensures within { IfSome result (λ at. at < length bytes.now) }
 {
     for (at, b) in bytes.iter().enumerate() {
-        if *b == byte {
+        if *b == b' ' {
             return Some(at);
         }
     }
@@ -29,7 +28,7 @@ fn first_word(bytes: &[u8]) -> (&[u8], Option<&[u8]>)
     ensures word { result.0.now ≡ spec.word_of bytes.now }
     ensures part { option_copied result.1 ≡ spec.part_of bytes.now }
 {
-    match first_of(b' ', bytes) {
+    match first_blank(bytes) {
         Some(at) => (&bytes[..at], Some(&bytes[at + 1..])),
         None => (bytes, None),
     }

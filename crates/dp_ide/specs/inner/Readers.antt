@@ -1,13 +1,11 @@
 -- What a function that reads a part of a script answers.
-use Rattle.std.specs.Prelude.{◌≡◌, ◌⊎◌, ℕ, ◌≤◌, true, not, ◌==◌, if◌then◌else◌, List, [], ◌∷◌, ◌++◌, length, take, drop, Option, None, Some, codes, ⊤}
+use Rattle.std.specs.Prelude.{◌≡◌, ◌⊎◌, ℕ, ◌≤◌, Bool, true, false, not, ◌==◌, if◌then◌else◌, List, [], ◌∷◌, ◌++◌, length, take, drop, Option, None, Some, codes}
 use Rattle.std.specs.List.{list_all}
 use Rattle.dp_command.specs.Grammar.{Rule, ◌>>◌, Mark}
-use Rattle.dp_ide.specs.declared.errors.IdeError.{IdeError}
-use Rattle.dp_ide.specs.declared.errors.IdeError.TheVariants as error
 use Rattle.dp_ide.specs.declared.instruction.Act.{Act}
 use Rattle.dp_ide.specs.declared.instruction.Act.TheVariants.{Send, Attr, Code, Prop, Out, Print}
 use Rattle.dp_ide.specs.declared.instruction.Instruction.{Instruction}
-use Rattle.dp_ide.specs.Scripts.{AreSaid, Behind, Command, Name, Number, Says, Text, byte_of, lines_of}
+use Rattle.dp_ide.specs.Scripts.{Behind, Command, Name, Number, Says, Text, byte_of}
 use Rattle.dp_reply.specs.Contents.{◌>>=◌}
 
 -- the one that the bytes spell by the rule, or that they spell none
@@ -73,22 +71,10 @@ is_out other = λ bytes. ⊥
 
 -- ---- whole lines
 
--- what the line says stands behind what was said before, and it says nothing else
-abbrev pub SaidBehind : ℕ → List ℕ → List Instruction → List Instruction → Type 0
-SaidBehind number line old new =
+-- whether the line says something: that stands behind what was said before, and it says nothing
+-- else; or it is no line of a script
+abbrev pub Takes : ℕ → List ℕ → Bool → List Instruction → List Instruction → Type 0
+Takes number line true old new =
     (said : List Instruction) × (new ≡ old ++ said) × Says number line said
     × ((other : List Instruction) → Says number line other → other ≡ said)
-
-abbrev pub ReadFails : ℕ → List ℕ → IdeError → Type 0
-ReadFails number line (error.BadScript bad) =
-    (bad ≡ number) × ((any : List Instruction) → Says number line any → ⊥)
-ReadFails number line error.Memory = ⊤
-ReadFails number line other = ⊥
-
--- the lines before the rest say these instructions and no others
-pub record HasSaid (bytes rest : List ℕ) (number : ℕ) (said : List Instruction) : Type 0 where
-  pub before : List (List ℕ)
-  pub split : lines_of bytes ≡ before ++ lines_of rest
-  pub count : number ≡ length before
-  pub good : AreSaid 1 before said
-  pub only : (other : List Instruction) → AreSaid 1 before other → other ≡ said
+Takes number line false old new = (any : List Instruction) → Says number line any → ⊥

@@ -1,6 +1,6 @@
 -- How a line is read: the event that it spells, if it spells one.
-use Rattle.std.specs.Prelude.{ℕ, zero, suc, ◌+◌, ◌-◌, ◌*◌, ◌==◌, nat_le, Bool, ◌&&◌, if◌then◌else◌}
-use Rattle.std.specs.Prelude.{List, [], ◌∷◌, ◌++◌, length, Option, Some, None, codes}
+use Rattle.std.specs.Prelude.{◌≡◌, ℕ, ◌+◌, ◌-◌, ◌*◌, ◌==◌, nat_le, Bool, true, not, ◌&&◌, if◌then◌else◌}
+use Rattle.std.specs.Prelude.{List, [], ◌∷◌, ◌++◌, length, take, drop, Option, Some, None, codes}
 use Rattle.std.specs.Prelude.{option_map, option_and_then}
 use Rattle.std.specs.List.{list_all}
 use Rattle.std.specs.Str.{bytes_eq}
@@ -36,13 +36,26 @@ bytes_in part = if bytes_eq part (codes "-") then Some [] else some_pairs part
 -- ---- words
 
 -- what stands before the first blank, and what behind it
+abbrev pub split_word : List ℕ → List ℕ × Option (List ℕ)
+split_word [] = ([], None)
+split_word (b ∷ bytes) =
+    let rest = split_word bytes in
+    if b == 32 then ([], Some bytes) else (b ∷ rest.0, rest.1)
+
 abbrev pub word_of : List ℕ → List ℕ
-word_of [] = []
-word_of (b ∷ bytes) = if b == 32 then [] else b ∷ word_of bytes
+word_of bytes = (split_word bytes).0
 
 abbrev pub part_of : List ℕ → Option (List ℕ)
-part_of [] = None
-part_of (b ∷ bytes) = if b == 32 then Some bytes else part_of bytes
+part_of bytes = (split_word bytes).1
+
+abbrev pub has_no_blank : List ℕ → Bool
+has_no_blank bytes = list_all (λ b. not (b == 32)) bytes
+
+-- the place of the first blank, or there is none
+abbrev pub FirstBlank : List ℕ → Option ℕ → Type 0
+FirstBlank bytes None = has_no_blank bytes ≡ true
+FirstBlank bytes (Some at) =
+    (has_no_blank (take at bytes) ≡ true) × (bytes ≡ take at bytes ++ 32 ∷ drop (at + 1) bytes)
 
 abbrev pub is_name : ℕ → List ℕ → Bool
 is_name most bytes =
@@ -74,12 +87,9 @@ act_in word (Some part) = act_with word part
 
 -- ---- events
 
-abbrev pub not_zero : ℕ → Option ℕ
-not_zero zero = None
-not_zero (suc n) = Some (suc n)
-
 abbrev pub link_in : List ℕ → Option ℕ
-link_in text = option_and_then not_zero (decimal_in 4294967294 text)
+link_in text =
+    option_and_then (λ n. if n == 0 then None else Some n) (decimal_in 4294967294 text)
 
 abbrev pub event_by : ℕ → Option Act → Option Event
 event_by link act = option_map (λ a. record { link = link; act = a }) act

@@ -1,5 +1,6 @@
-use Rattle.std.proofs.Common.{List, refl, sym, subst}
+use Rattle.std.proofs.Common.{List, [], refl, sym, subst}
 use Rattle.std.specs.List.{All}
+use Rattle.std.proofs.lemmas.List.Elements.{All-nil}
 use Rattle.dp_outside.specs.Changes.{change}
 use Rattle.dp_ide.specs.declared.instruction.Instruction.{Instruction}
 use Rattle.dp_ide.specs.Plays.{Ends}
@@ -12,7 +13,8 @@ use Rattle.dp_ide.proofs.plays.play.Goals as goal
 pub perform_each-end-requires : goal.perform_each-end-requires
 perform_each-end-requires g c =
     let some = c.instructions.ensures.spelt in
-    subst (All IsPlayable) (sym c.instructions.ensures.same) (playable 1 (lines_of some.0) c.args.script.now some.1)
+    subst (All IsPlayable) (sym c.instructions.ensures.same) (playable [] 1 (lines_of some.0) c.args.script.now
+    (All-nil IsPlayable) some.1)
 
 pub returns-in-Ok-clause-ends : goal.returns-in-Ok-clause-ends
 returns-in-Ok-clause-ends g c =

@@ -1,6 +1,4 @@
-use Rattle.std.proofs.Common.{◌≡◌, List, [], ◌∷◌, Some, None, false, refl, sym, ◌∙◌}
-use Rattle.dp_lists.specs.Lists.{is_idle}
-use Rattle.dp_lists.specs.inner.Spelling.{spelled}
+use Rattle.std.proofs.Common.{[], ◌∷◌, sym, ◌∙◌}
 use Rattle.dp_lists.proofs.ListLaws.{not_spelled, may_not, fits_then, adds_one}
 use Rattle.dp_lists.proofs.readers.Reading.take.Goals as goal
 
