@@ -2,5 +2,6 @@ pub mod Rules
 pub mod Refused
 pub mod Exact
 pub mod Parts
+pub mod Texts
 pub mod Prefixes
 pub mod inner

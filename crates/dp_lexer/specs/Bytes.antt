@@ -1,22 +1,18 @@
 -- The sorts of bytes that the token grammar speaks of.
-use Rattle.std.specs.Prelude.{◌≡◌, ℕ, ◌+◌, ◌-◌, ◌*◌, Bool, true, false, not, ◌&&◌, ◌||◌, ◌==◌, nat_le, nat_lt, if◌then◌else◌, List, [], ◌∷◌}
-use Rattle.std.specs.List.{fold, AllByRecursion}
+use Rattle.std.specs.Prelude.{ℕ, ◌+◌, ◌-◌, ◌*◌, Bool, false, not, ◌&&◌, ◌||◌, ◌==◌, nat_le, nat_lt, if◌then◌else◌, List, [], ◌∷◌}
+use Rattle.std.specs.List.{fold}
+pub use Rattle.dp_grammar.specs.Texts.{is_digit, is_letter}
+pub use Rattle.dp_grammar.specs.Parts.{begins, Each}
 
 -- white space: space, tab, line feed, carriage return
 abbrev pub is_space : ℕ → Bool
 is_space b = b == 32 || b == 9 || b == 10 || b == 13
-
-abbrev pub is_digit : ℕ → Bool
-is_digit b = nat_le 48 b && nat_le b 57
 
 abbrev pub is_octal : ℕ → Bool
 is_octal b = nat_le 48 b && nat_le b 55
 
 abbrev pub is_hexadecimal : ℕ → Bool
 is_hexadecimal b = is_digit b || (nat_le 97 b && nat_le b 102) || (nat_le 65 b && nat_le b 70)
-
-abbrev pub is_letter : ℕ → Bool
-is_letter b = (nat_le 97 b && nat_le b 122) || (nat_le 65 b && nat_le b 90)
 
 -- what a name begins with, [A-Za-z_\x80-\xff], and what it goes on with, [A-Za-z0-9_\x80-\xff]
 abbrev pub is_start : ℕ → Bool
@@ -38,15 +34,6 @@ abbrev pub begins_tag : List ℕ → Bool
 begins_tag [] = false
 begins_tag (b ∷ []) = false
 begins_tag (b ∷ c ∷ t) = b == 63 && c == 62
-
--- whether there is a first byte, of this sort
-abbrev pub begins : (ℕ → Bool) → List ℕ → Bool
-begins sort [] = false
-begins sort (b ∷ t) = sort b
-
--- each byte is of this sort
-abbrev pub Each : (ℕ → Bool) → List ℕ → Type 0
-Each sort bytes = AllByRecursion (λ b. sort b ≡ true) bytes
 
 -- the value of a digit: 0 to 9, a to f, A to F
 abbrev pub digit_value : ℕ → ℕ

@@ -15,7 +15,7 @@ pub(crate) fn is_white(byte: u8) -> bool
 fn is_letter(byte: u8) -> bool
     ensures { result ≡ class.is_letter byte }
 {
-    (b'A' <= byte && byte <= b'Z') || (b'a' <= byte && byte <= b'z')
+    (b'a' <= byte && byte <= b'z') || (b'A' <= byte && byte <= b'Z')
 }
 
 fn is_digit(byte: u8) -> bool

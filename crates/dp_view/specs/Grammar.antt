@@ -11,19 +11,15 @@ use Rattle.dp_value.specs.KeyOf.{key_of_text}
 use Rattle.dp_grammar.specs.Parts.{Part}
 pub use Rattle.dp_grammar.specs.Parts.{Joined, ◌>>◌, Mark, Repeated}
 
--- which bytes a part of a name may be
-abbrev pub Rule : Type 1
-Rule = Part ℕ
-
 -- a `$`, or nothing
-abbrev pub Dollar : Rule
+abbrev pub Dollar : Part ℕ
 Dollar bytes = (bytes ≡ codes "$") ⊎ (bytes ≡ [])
 
 -- the name of a variable, as the tokens of a program have it, of at most 255 bytes
 abbrev pub IsVariableName : List ℕ → Type 0
 IsVariableName name = IsName name × (length name ≤ longest_name)
 
-abbrev pub Name : List ℕ → Rule
+abbrev pub Name : List ℕ → Part ℕ
 Name name bytes = IsVariableName name × (bytes ≡ name)
 
 -- the two quotes
@@ -41,24 +37,24 @@ pair_of quote c =
     else if c == quote then Some quote else None
 
 -- a byte between quotes, as itself or as a pair
-abbrev pub Within : ℕ → ℕ → Rule
+abbrev pub Within : ℕ → ℕ → Part ℕ
 Within quote b bytes =
     ((is_plain quote b ≡ true) × (bytes ≡ b ∷ []))
     ⊎ ((c : ℕ) × (pair_of quote c ≡ Some b) × (bytes ≡ 92 ∷ c ∷ []))
 
 -- a text between quotes
-abbrev pub Quoted : ℕ → List ℕ → Rule
+abbrev pub Quoted : ℕ → List ℕ → Part ℕ
 Quoted quote value = Mark (quote ∷ []) >> Repeated (Within quote) value >> Mark (quote ∷ [])
 
 -- what may stand between brackets for a key: an integer of 64 bits in its shortest form, or a text
 -- between quotes, which becomes a key as an index does
-abbrev pub Inner : Key → Rule
+abbrev pub Inner : Key → Part ℕ
 Inner key bytes =
     ((n : ℤ) × (int_of_text bytes ≡ Some n) × (key ≡ Int n))
     ⊎ ((quote : ℕ) × (value : List ℕ) × IsQuote quote × Quoted quote value bytes
     × (key ≡ key_of_text value))
 
-abbrev pub Index : Key → Rule
+abbrev pub Index : Key → Part ℕ
 Index key = Mark (codes "[") >> Inner key >> Mark (codes "]")
 
 -- these bytes name this path: [ "$" ] name *( "[" key "]" )
