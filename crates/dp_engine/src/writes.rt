@@ -1,6 +1,7 @@
 //! Writes that commands ask for.
 ghost use Rattle.std.specs.Prelude.{◌≡◌, ◌∷◌, ◌++◌, ◌<◌, [], vec_capacity, vec_len, IfOk};
-ghost use Rattle.dp_engine.specs.inner.KeptWrites.{Accepts, HasKnownCode};
+ghost use Rattle.dp_engine.specs.inner.KeptWrites.{Accepts};
+ghost use Rattle.dp_view.specs.Answers.{HasKnownCode};
 ghost use Rattle.dp_write_commands.specs.Answers.{IsSent};
 
 use dp_command::{Addressee, Request};

@@ -1,7 +1,8 @@
 -- What a view answers: what a state shows, or the code of the error response. DBGp 1.0, "Error
 -- Codes": 300 is that there is no such property, 301 that there is no such level of the stack, 302
 -- that there is no such context.
-use Rattle.std.specs.Prelude.{◌≡◌, ℕ, Result, Ok, Err, IsOk}
+use Rattle.std.specs.Prelude.{◌≡◌, ℕ, ◌<◌, true, Option, Some, None, Result, Ok, Err, IsOk, ⊤}
+use Rattle.dp_packet.specs.Messages.{is_some_text, message_of}
 use Rattle.dp_view.specs.declared.errors.ViewError.{ViewError}
 use Rattle.dp_view.specs.declared.errors.ViewError.TheVariants.{Code, Memory}
 
@@ -9,6 +10,11 @@ use Rattle.dp_view.specs.declared.errors.ViewError.TheVariants.{Code, Memory}
 abbrev pub and_then : {A B : Type 0} → (A → Result B ℕ) → Result A ℕ → Result B ℕ
 and_then view (Ok a) = view a
 and_then view (Err code) = Err code
+
+-- the code of a refusal
+abbrev pub code_in : {A : Type 0} → Result A ℕ → Option ℕ
+code_in (Ok a) = None
+code_in (Err code) = Some code
 
 -- A call is refused with the code that is asked for. Memory may run out only where something is
 -- shown.
@@ -36,3 +42,14 @@ abbrev pub AnswersAfter : {X Y Z : Type 0} → (X → Y) → Result X ViewError 
 AnswersAfter view (Ok x) first asked = asked ≡ Ok (view x)
 AnswersAfter view (Err (Code code)) first asked = asked ≡ Err code
 AnswersAfter view (Err Memory) first asked = IsOk first
+
+-- The code of a refusal has a message.
+abbrev pub HasKnownCode : {X : Type 0} → Result X ViewError → Type 0
+HasKnownCode (Err (Code code)) = (is_some_text (message_of code) ≡ true) × (code < 1000)
+HasKnownCode other = ⊤
+
+-- A call answers this, or memory runs out.
+abbrev pub Gives : {X : Type 0} → X → Result X ViewError → Type 0
+Gives made (Ok x) = x ≡ made
+Gives made (Err (Code code)) = ⊥
+Gives made (Err Memory) = ⊤

@@ -14,7 +14,7 @@ use Rattle.dp_view.specs.Answers.{and_then}
 use Rattle.dp_view_limits.specs.Limits.{within}
 use Rattle.dp_wire.specs.Frames.{packet_limit}
 use Rattle.dp_view_commands.specs.Views.{Part, answered, is_short, response_with, within_limit}
-use Rattle.dp_view_commands.specs.inner.Responses.{Gives}
+use Rattle.dp_view.specs.Answers.{Gives}
 
 -- ---- limits
 

@@ -1,22 +1,18 @@
 -- What the call of a command answers: a response or the code of a refusal; or memory runs out.
-use Rattle.std.specs.Prelude.{◌≡◌, ◌≢◌, ℕ, ◌<◌, ◌≤◌, ◌||◌, true, if◌then◌else◌, length, Option, Some, None, Result, Ok, Err, ⊤}
+use Rattle.std.specs.Prelude.{◌≡◌, ℕ, ◌||◌, if◌then◌else◌, Option, Some, None, Result, Ok, Err, ⊤}
 use Rattle.dp_command.specs.declared.command.Request.{Request}
 use Rattle.dp_command.specs.declared.command.Request.TheVariants as request
 use Rattle.dp_features.specs.Features.{Features}
-use Rattle.dp_packet.specs.declared.packet.Body.TheVariants as body
-use Rattle.dp_packet.specs.declared.packet.Packet.TheVariants as packet
 use Rattle.dp_packet.specs.declared.packet.Response.{Response}
-use Rattle.dp_packet.specs.Messages.{is_some_text, message_of}
-use Rattle.dp_packet.specs.Packets.{HasMessage}
 use Rattle.dp_packet.specs.Parts.{Text}
-use Rattle.dp_packet.specs.Text.{text}
 use Rattle.dp_state.specs.declared.state.State.{State}
 use Rattle.dp_tree.specs.declared.bundle.Bundle.{Bundle}
 use Rattle.dp_view.specs.declared.errors.ViewError.{ViewError}
 use Rattle.dp_view.specs.declared.errors.ViewError.TheVariants.{Code, Memory}
+pub use Rattle.dp_view.specs.Answers.{HasKnownCode}
 use Rattle.dp_view.specs.Named.{named_path}
 use Rattle.dp_view.specs.Stacks.{stack_at}
-use Rattle.dp_wire.specs.Frames.{packet_limit}
+pub use Rattle.dp_view_limits.specs.Sent.{IsSent}
 use Rattle.dp_view_commands.specs.Views.{code_in, is_zero, view_refusal}
 
 abbrev pub Answers : Result Response ViewError → Result Response ℕ → Type 0
@@ -38,14 +34,3 @@ refusal_at_once bundle here features s command id (request.PropertyValue place m
 refusal_at_once bundle here features s command id (request.Source range) =
     if is_zero range.first || is_zero range.last then Some 3 else None
 refusal_at_once bundle here features s command id other = None
-
--- a packet can be made of it, and it tells no error
-pub record IsSent (r : Response) : Type 0 where
-  pub known : HasMessage (packet.Response r)
-  pub short : length (text (packet.Response r)) ≤ packet_limit
-  pub no_error : (code : ℕ) → r.body ≢ body.Fault code
-
--- the code of a refusal has a message
-abbrev pub HasKnownCode : Result Response ViewError → Type 0
-HasKnownCode (Err (Code code)) = (is_some_text (message_of code) ≡ true) × (code < 1000)
-HasKnownCode other = ⊤

@@ -21,6 +21,7 @@ use Rattle.dp_tree.specs.declared.bundle.Bundle.{Bundle}
 use Rattle.dp_tree.specs.declared.bundle.BundleFile.{BundleFile}
 use Rattle.dp_view.specs.declared.paging.Paging.{Paging}
 use Rattle.dp_view.specs.Answers.{and_then}
+pub use Rattle.dp_view.specs.Answers.{code_in}
 use Rattle.dp_view.specs.Named.{named_property, named_value}
 use Rattle.dp_view.specs.Places.{contexts}
 use Rattle.dp_view.specs.Properties.{context_at}
@@ -140,11 +141,7 @@ unfoldable pub view_response : Bundle → ℕ → Features → State → Text �
 view_response bundle here features s command id asked =
     answered command id (part_of bundle here features s asked)
 
--- the code of a refusal
-abbrev pub code_in : {A : Type 0} → Result A ℕ → Option ℕ
-code_in (Ok a) = None
-code_in (Err code) = Some code
-
+-- the code of its refusal
 unfoldable pub view_refusal : Bundle → ℕ → Features → State → Text → Text → Request → Option ℕ
 view_refusal bundle here features s command id asked =
     code_in (view_response bundle here features s command id asked)

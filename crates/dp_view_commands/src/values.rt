@@ -7,7 +7,7 @@ ghost use Rattle.dp_view.specs.Answers.{AnswersAfter};
 ghost use Rattle.dp_view.specs.Named.{named_path};
 ghost use Rattle.dp_view_commands.specs.Answers.{Answers};
 ghost use Rattle.dp_view_commands.specs.Views as spec;
-ghost use Rattle.dp_view_commands.specs.inner.Responses.{Gives};
+ghost use Rattle.dp_view.specs.Answers.{Gives};
 
 use crate::packets::{context_room, limited, none, number, property_room, respond};
 use dp_command::{Addressee, PropertyPlace};

@@ -23,8 +23,9 @@ use Rattle.dp_view.specs.declared.errors.ViewError.TheVariants.{Code, Memory}
 use Rattle.dp_view.specs.Properties.{shown}
 use Rattle.dp_view_limits.specs.Limits.{limited_shown, property_size}
 use Rattle.dp_wire.specs.Frames.{packet_limit}
+use Rattle.dp_view.specs.Answers.{Gives}
 use Rattle.dp_write_commands.specs.Responses.{paging, success, value_response, within_limit}
-use Rattle.dp_write_commands.specs.inner.Writes.{Finds, Gives, around}
+use Rattle.dp_write_commands.specs.inner.Writes.{Finds, around}
 
 -- ---- sizes
 

@@ -1,24 +1,19 @@
 -- What the call of a command that writes answers: what was written and how that is reported, or the
 -- code of a refusal; or memory runs out.
-use Rattle.std.specs.Prelude.{◌≡◌, ◌≢◌, ℕ, ◌<◌, ◌≤◌, true, length, Option, None, ok_or, Result, Ok, Err, ⊤}
+use Rattle.std.specs.Prelude.{◌≡◌, ℕ, Option, None, ok_or, Result, Ok, Err}
 use Rattle.dp_command.specs.declared.command.Request.{Request}
 use Rattle.dp_command.specs.declared.command.Request.TheVariants as request
 use Rattle.dp_features.specs.Features.{Features}
 use Rattle.dp_meaning.specs.Writes.{evaluation_setting, one_write}
-use Rattle.dp_packet.specs.declared.packet.Body.TheVariants as body
-use Rattle.dp_packet.specs.declared.packet.Packet.TheVariants as packet
-use Rattle.dp_packet.specs.declared.packet.Response.{Response}
-use Rattle.dp_packet.specs.Messages.{is_some_text, message_of}
-use Rattle.dp_packet.specs.Packets.{HasMessage}
 use Rattle.dp_packet.specs.Parts.{Text}
-use Rattle.dp_packet.specs.Text.{text}
 use Rattle.dp_state.specs.declared.state.State.{State}
 use Rattle.dp_tree.specs.declared.bundle.Bundle.{Bundle}
 use Rattle.dp_view.specs.declared.errors.ViewError.{ViewError}
 use Rattle.dp_view.specs.declared.errors.ViewError.TheVariants.{Code, Memory}
 use Rattle.dp_view.specs.Answers.{and_then}
+pub use Rattle.dp_view.specs.Answers.{HasKnownCode}
 use Rattle.dp_view.specs.Named.{named_path}
-use Rattle.dp_wire.specs.Frames.{packet_limit}
+pub use Rattle.dp_view_limits.specs.Sent.{IsSent}
 use Rattle.dp_write_commands.specs.declared.commands.Written.{Written}
 use Rattle.dp_write_commands.specs.Asked.{value_asked, write_asked}
 use Rattle.dp_write_commands.specs.Responses.{code_in, write_response}
@@ -47,14 +42,3 @@ refusal_at_once s (request.PropertySet set) =
     (and_then (λ value. named_path s set.place.level set.place.context set.place.name)
     (ok_or (value_asked set) 3))
 refusal_at_once s other = None
-
--- a packet can be made of it, and it tells no error
-pub record IsSent (r : Response) : Type 0 where
-  pub known : HasMessage (packet.Response r)
-  pub short : length (text (packet.Response r)) ≤ packet_limit
-  pub no_error : (code : ℕ) → r.body ≢ body.Fault code
-
--- the code of a refusal has a message
-abbrev pub HasKnownCode : Result Written ViewError → Type 0
-HasKnownCode (Err (Code code)) = (is_some_text (message_of code) ≡ true) × (code < 1000)
-HasKnownCode other = ⊤

@@ -1,6 +1,6 @@
 -- What a command that writes is answered: DBGp 1.0, "property_set", "eval". The order of the codes,
 -- the attributes of a response and its limit are this engine's own.
-use Rattle.std.specs.Prelude.{ℕ, nat_le, if◌then◌else◌, [], ◌∷◌, length, codes, Option, Some, None, Result, Ok, Err}
+use Rattle.std.specs.Prelude.{ℕ, nat_le, if◌then◌else◌, [], ◌∷◌, length, codes, Option, Result, Ok, Err}
 use Rattle.dp_command.specs.declared.command.Request.{Request}
 use Rattle.dp_features.specs.Features.{Features}
 use Rattle.dp_meaning.specs.declared.writes.WriteAnswer.{WriteAnswer}
@@ -19,6 +19,7 @@ use Rattle.dp_value.specs.declared.value.Value.{Value}
 use Rattle.dp_value.specs.Value.{data_of}
 use Rattle.dp_view.specs.declared.paging.Paging.{Paging}
 use Rattle.dp_view.specs.Answers.{and_then}
+pub use Rattle.dp_view.specs.Answers.{code_in}
 use Rattle.dp_view.specs.Properties.{shown}
 use Rattle.dp_wire.specs.Frames.{packet_limit}
 use Rattle.dp_write_commands.specs.Asked.{write_asked}
@@ -71,10 +72,6 @@ unfoldable pub write_response : Bundle → Features → State → Text → Text 
     → Result Response ℕ
 write_response bundle features s command id asked =
     and_then (responding bundle features s command id) (write_asked s asked)
-
-abbrev pub code_in : {A : Type 0} → Result A ℕ → Option ℕ
-code_in (Ok a) = None
-code_in (Err code) = Some code
 
 -- the code of a refusal
 unfoldable pub write_refusal : Bundle → Features → State → Text → Text → Request → Option ℕ

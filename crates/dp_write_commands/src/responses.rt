@@ -3,8 +3,9 @@
 ghost use Rattle.std.specs.Prelude.{◌≡◌, ◌+◌, ◌∷◌, [], codes, length, IfOk};
 ghost use Rattle.dp_packet.specs.declared.packet.Body.TheVariants as body;
 ghost use Rattle.dp_wire.specs.Frames.{packet_limit};
+ghost use Rattle.dp_view.specs.Answers.{Gives};
 ghost use Rattle.dp_write_commands.specs.Responses as spec;
-ghost use Rattle.dp_write_commands.specs.inner.Writes.{Finds, Gives, answer_by, around};
+ghost use Rattle.dp_write_commands.specs.inner.Writes.{Finds, answer_by, around};
 
 use dp_command::Addressee;
 use dp_features::Features;

@@ -1,12 +1,11 @@
 -- What becomes of the writes that are kept where a command asks for one.
-use Rattle.std.specs.Prelude.{◌≡◌, ℕ, ◌<◌, true, List, [], ◌∷◌, ◌++◌, Result, Ok, Err, ⊤}
+use Rattle.std.specs.Prelude.{◌≡◌, ℕ, List, [], ◌∷◌, ◌++◌, Result, Ok, Err}
 use Rattle.dp_command.specs.declared.command.Request.{Request}
 use Rattle.dp_features.specs.Features.{Features}
 use Rattle.dp_meaning.specs.declared.writes.NumberedWrite.{NumberedWrite}
 use Rattle.dp_meaning.specs.declared.writes.Write.{Write}
 use Rattle.dp_meaning.specs.Writes.{evaluation_setting, one_write}
 use Rattle.dp_packet.specs.declared.packet.Response.{Response}
-use Rattle.dp_packet.specs.Messages.{is_some_text, message_of}
 use Rattle.dp_packet.specs.Parts.{Text}
 use Rattle.dp_state.specs.declared.state.State.{State}
 use Rattle.dp_tree.specs.declared.bundle.Bundle.{Bundle}
@@ -40,8 +39,3 @@ Accepts bundle features before after writes kept moment command id asked (Err (C
     × (kept ≡ writes)
 Accepts bundle features before after writes kept moment command id asked (Err Memory) =
     (after ≡ before) × (kept ≡ writes)
-
--- the code of a refusal has a message
-abbrev pub HasKnownCode : Result Response ViewError → Type 0
-HasKnownCode (Err (Code code)) = (is_some_text (message_of code) ≡ true) × (code < 1000)
-HasKnownCode other = ⊤

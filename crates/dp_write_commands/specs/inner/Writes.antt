@@ -37,12 +37,6 @@ unfoldable pub around : Text → Text → ℕ
 around command id =
     length (text (packet.Response (success command id (body.Properties []))))
 
--- this response, or out of memory
-abbrev pub Gives : Response → Result Response ViewError → Type 0
-Gives made (Ok r) = r ≡ made
-Gives made (Err (Code code)) = ⊥
-Gives made (Err Memory) = ⊤
-
 -- the tree of a text, or why there is none
 abbrev pub IsTree : List ℕ → Result Expression ViewError → Type 0
 IsTree text (Ok e) = tree_of text ≡ Some e
