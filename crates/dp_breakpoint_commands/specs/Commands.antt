@@ -22,7 +22,8 @@ use Rattle.dp_packet.specs.declared.packet.Body.TheVariants as body
 use Rattle.dp_packet.specs.declared.packet.BreakLine.{BreakLine}
 use Rattle.dp_packet.specs.declared.packet.Packet.TheVariants as packet
 use Rattle.dp_packet.specs.declared.packet.Response.{Response}
-use Rattle.dp_packet.specs.Parts.{Text, Attributes}
+pub use Rattle.dp_packet.specs.Packets.{response}
+use Rattle.dp_packet.specs.Parts.{Text}
 use Rattle.dp_packet.specs.Text.{text}
 use Rattle.dp_tree.specs.declared.bundle.Bundle.{Bundle}
 use Rattle.dp_wire.specs.Frames.{packet_limit}
@@ -98,11 +99,6 @@ breakpoint_table bundle here (request.BreakpointUpdate update) t =
 breakpoint_table bundle here other t = t
 
 -- ---- responses
-
--- to the command of this name with this transaction id
-abbrev pub response : Text → Text → Attributes → Body → Response
-response command id attributes what =
-    record { command = command; id = id; attributes = attributes; body = what }
 
 abbrev pub bare_response : Text → Text → Response
 bare_response command id = response command id [] body.Nothing

@@ -8,6 +8,7 @@ use Rattle.dp_packet.specs.declared.packet.Body.{Body}
 use Rattle.dp_packet.specs.declared.packet.Body.TheVariants as body
 use Rattle.dp_packet.specs.declared.packet.Packet.TheVariants as packet
 use Rattle.dp_packet.specs.declared.packet.Response.{Response}
+pub use Rattle.dp_packet.specs.Packets.{response}
 use Rattle.dp_packet.specs.Parts.{Text, Attributes, flag}
 use Rattle.dp_packet.specs.Text.{text}
 use Rattle.dp_packet.specs.Uris.{file_uri}
@@ -24,11 +25,6 @@ init_text bundle key =
     text (packet.Init (record { idekey = key; fileuri = file_uri (main_name bundle) }))
 
 -- ---- responses
-
--- to the command of this name with this transaction id
-abbrev pub response : Text → Text → Attributes → Body → Response
-response command id attributes what =
-    record { command = command; id = id; attributes = attributes; body = what }
 
 abbrev pub status_attributes : Text → Text → Attributes
 status_attributes status reason = (codes "status", status) ∷ (codes "reason", reason) ∷ []

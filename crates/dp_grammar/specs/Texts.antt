@@ -1,5 +1,9 @@
--- Letters and digits of ASCII, of which the grammars of texts make names and numbers.
-use Rattle.std.specs.Prelude.{ℕ, Bool, ◌&&◌, ◌||◌, nat_le}
+-- Texts as their grammars see them: bytes, of which those of ASCII's letters and digits make names
+-- and numbers.
+use Rattle.std.specs.Prelude.{ℕ, Bool, ◌&&◌, ◌||◌, nat_le, List}
+
+abbrev pub Text : Type 0
+Text = List ℕ
 
 abbrev pub is_digit : ℕ → Bool
 is_digit b = nat_le 48 b && nat_le b 57

@@ -7,14 +7,10 @@ use Rattle.dp_markup.specs.declared.tree.Node.TheVariants as node
 use Rattle.dp_markup.specs.declared.states.Tag.{Tag}
 use Rattle.dp_markup.specs.declared.states.StartTag.{StartTag}
 use Rattle.dp_markup.specs.declared.states.Content.{Content}
+pub use Rattle.dp_grammar.specs.Texts.{Text}
+pub use Rattle.dp_markup.specs.Attributes.{Attributes}
 use Rattle.dp_markup.specs.Rules.{Rule, ◌>>=◌, ◌>>◌, ◌or◌, Gives, Made, One, passing, Mark, Word, Tested, When, Closed}
 use Rattle.dp_markup.specs.Classes.{is_white, is_name, is_plain_in_text, is_plain_in_value, is_quote, decimal_behind, hexadecimal_behind}
-
-abbrev pub Text : Type 0
-Text = List ℕ
-
-abbrev pub Attributes : Type 0
-Attributes = List (Text × Text)
 
 abbrev pub White : Rule ℕ
 White = One (passing is_white)

@@ -1,5 +1,7 @@
--- What is read: Classes, Rules, Grammar, Readable; where it is refused: Refused, Verdict; what is
--- written: Escapes, Texts. How the code goes, of which no public clause speaks: inner.
+-- What is read: Attributes, Classes, Rules, Grammar, Readable; where it is refused: Refused,
+-- Verdict; what is written: Escapes, Texts. How the code goes, of which no public clause speaks:
+-- inner.
+pub mod Attributes
 pub mod Classes
 pub mod Escapes
 pub mod Grammar

@@ -1,20 +1,19 @@
 -- The canonical text of an element, without a declaration.
-use Rattle.std.specs.Prelude.{ℕ, List, ◌++◌, codes}
+use Rattle.std.specs.Prelude.{List, ◌++◌, codes}
 use Rattle.std.specs.List.{flat_map}
 use Rattle.dp_markup.specs.declared.tree.Element.{Element, fold-Element}
 use Rattle.dp_markup.specs.declared.tree.Node.{Node, fold-Node}
 use Rattle.dp_markup.specs.declared.tree.Node.TheOpen.{Node-F, Element-F}
+pub use Rattle.dp_grammar.specs.Texts.{Text}
+use Rattle.dp_markup.specs.Attributes.{Attributes}
 use Rattle.dp_markup.specs.Escapes.{escaped_all}
-
-abbrev pub Text : Type 0
-Text = List ℕ
 
 -- ` name="value"`
 abbrev pub attribute_text : Text × Text → Text
 attribute_text a = codes " " ++ a.0 ++ codes "=\"" ++ escaped_all a.1 ++ codes "\""
 
 -- `<name ..>content</name>`, also where the content is empty
-abbrev pub element_text : Text → List (Text × Text) → Text → Text
+abbrev pub element_text : Text → Attributes → Text → Text
 element_text name attributes content =
     codes "<" ++ name ++ flat_map attribute_text attributes ++ codes ">" ++ content
     ++ codes "</" ++ name ++ codes ">"

@@ -13,7 +13,7 @@ use Rattle.dp_packet.specs.declared.packet.Body.{Body}
 use Rattle.dp_packet.specs.declared.packet.Body.TheVariants as body
 use Rattle.dp_packet.specs.declared.packet.ProxyReply.{ProxyReply}
 use Rattle.dp_packet.specs.declared.packet.ProxyReply.TheVariants.{Started, Stopped, Refused}
-use Rattle.dp_packet.specs.Parts.{Text, element, child, text_nodes, base64, namespace}
+use Rattle.dp_packet.specs.Parts.{Attributes, Text, element, child, text_nodes, base64, namespace}
 use Rattle.dp_packet.specs.Properties.{property_node}
 use Rattle.dp_packet.specs.Breakpoints.{breakpoint_node}
 use Rattle.dp_packet.specs.Messages.{message_of, reason_of, is_some_text}
@@ -90,6 +90,11 @@ proxy_element (Stopped key) =
     element (codes "proxystop") ((codes "success", codes "1") ∷ (codes "idekey", key) ∷ []) []
 proxy_element (Refused stopping id) =
     element (refusal_name stopping) ((codes "success", codes "0") ∷ []) (refusal_node id ∷ [])
+
+-- a response to the command of this name with this transaction id
+abbrev pub response : Text → Text → Attributes → Body → Response
+response command id attributes what =
+    record { command = command; id = id; attributes = attributes; body = what }
 
 -- the element that a packet is
 abbrev pub element_of : Packet → Element

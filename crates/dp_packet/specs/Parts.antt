@@ -1,16 +1,12 @@
 -- What elements are made of.
-use Rattle.std.specs.Prelude.{ℕ, Bool, true, false, List, [], ◌∷◌, Option, Some, None, codes}
+use Rattle.std.specs.Prelude.{Bool, true, false, List, [], ◌∷◌, Option, Some, None, codes}
 use Rattle.base64.specs.Engines.{standard}
 use Rattle.base64.specs.GeneralPurpose.{encode_of}
 use Rattle.dp_markup.specs.declared.tree.Element.{Element}
 use Rattle.dp_markup.specs.declared.tree.Node.{Node}
 use Rattle.dp_markup.specs.declared.tree.Node.TheVariants as node
-
-abbrev pub Text : Type 0
-Text = List ℕ
-
-abbrev pub Attributes : Type 0
-Attributes = List (Text × Text)
+pub use Rattle.dp_markup.specs.Texts.{Text}
+pub use Rattle.dp_markup.specs.Attributes.{Attributes}
 
 abbrev pub element : Text → Attributes → List Node → Element
 element name attributes children =

@@ -1,5 +1,6 @@
 -- What a token is worth to a rule, by its kind or by its sort.
-use Rattle.std.specs.Prelude.{ℕ, pos, Bool, true, false, ◌&&◌, nat_le, if◌then◌else◌, List, Option, Some, None, ℤ}
+use Rattle.std.specs.Prelude.{ℕ, pos, Bool, true, false, ◌&&◌, nat_le, if◌then◌else◌, Option, Some, None, ℤ}
+pub use Rattle.dp_grammar.specs.Texts.{Text}
 use Rattle.dp_lexer.specs.declared.token.Token.{Token}
 use Rattle.dp_lexer.specs.declared.token.TokenKind.{TokenKind}
 use Rattle.dp_lexer.specs.declared.token.TokenKind.TheVariants as kind
@@ -7,9 +8,6 @@ use Rattle.dp_lexer.specs.Keywords.{is_reserved}
 use Rattle.dp_rules.specs.declared.terminal.Terminal.{Terminal}
 use Rattle.dp_rules.specs.Terminals.{terminal_of, is_superglobal}
 use Rattle.dp_rules.specs.Rules.{Rule, One}
-
-abbrev pub Text : Type 0
-Text = List ℕ
 
 -- nothing where the test holds
 abbrev pub unless : {A : Type 0} → Bool → A → Option A
