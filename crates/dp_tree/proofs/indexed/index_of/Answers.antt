@@ -1,4 +1,4 @@
-use Rattle.std.proofs.Common.{◌≡◌, List, ℕ, sym, ap, ◌∙◌, subst, length, ◌<◌, ◌+◌, take, arith}
+use Rattle.std.proofs.Common.{List, ℕ, sym, ap, ◌∙◌, subst, length, ◌<◌, ◌+◌, take, arith}
 use Rattle.std.specs.Str.{str_to_ascii_lowercase}
 use Rattle.dp_tree.specs.declared.tree.Function.{Function}
 use Rattle.dp_tree.specs.inner.Indexes.{IsIndex}
