@@ -17,7 +17,8 @@ use Rattle.dp_actions.specs.declared.halt.Halt.{Halt}
 use Rattle.dp_actions.specs.declared.signal.Signal.{Signal}
 use Rattle.dp_step.specs.declared.work.Next.{Next as NextWork}
 use Rattle.dp_step_parts.specs.Rest.{Follows, to_value}
-use Rattle.dp_step.specs.inner.Leads.{Leads}
+use Rattle.dp_step.specs.Rest.{next_rest}
+use Rattle.dp_step_parts.specs.Leads.{Leads}
 use Rattle.dp_operations.specs.Text.{text_of}
 use Rattle.dp_tree.specs.Files.{file_named}
 use Rattle.dp_tree.specs.declared.tree.Inclusion.TheVariants.{Include, Require}
@@ -48,11 +49,12 @@ called-as setting k s bundle same name found is arguments =
 -- a call, by the call of its name
 pub by_call : (setting : Setting) (s : State) (name : List ℕ) (arguments : List Expression)
     (next : Result NextWork Halt) (t : State)
-    → Leads setting (λ k. call_run (callee setting.bundle name s) (evaluations arguments) setting s >>= to_value k) next
+    → Leads (next_rest setting) (λ k. call_run (callee setting.bundle name s) (evaluations arguments) setting s
+    >>= to_value k) next
     t
-    → Leads setting (λ k. evaluation (tree.Call name arguments) setting s >>= to_value k) next t
+    → Leads (next_rest setting) (λ k. evaluation (tree.Call name arguments) setting s >>= to_value k) next t
 by_call setting s name arguments next t h =
-    subst (λ (part : Follows → Run Signal). Leads setting part next t)
+    subst (λ (part : Follows → Run Signal). Leads (next_rest setting) part next t)
     (λ i k. sym (begins-Call setting k s name arguments) i) h
 
 -- an inclusion, by the file that it names

@@ -1,4 +1,3 @@
-pub mod AtOnce
 pub mod CallLaws
 pub mod FirstStatements
 pub mod TurnLaws

@@ -19,21 +19,20 @@ use Rattle.dp_step.specs.declared.work.Small.{Small}
 use Rattle.dp_step.specs.Rest.{next_rest, small_rest, work_rest}
 use Rattle.dp_step_parts.specs.Rest.{Follows}
 use Rattle.dp_step_parts.specs.declared.work.Next.{Next as PartNext}
-use Rattle.dp_step_parts.specs.Leads.{Leads as PartLeads}
 use Rattle.dp_step_parts.specs.Rest.{next_rest as part_next_rest}
 use Rattle.dp_step.specs.inner.Goes.{Goes}
-use Rattle.dp_step.specs.inner.Leads.{Leads}
+use Rattle.dp_step_parts.specs.Leads.{Leads}
 
 abbrev at_once_of : Next → Small
 at_once_of next = record { moment = None; next = next }
 
 pub goes_on : (setting : Setting) (part : Follows → Run Signal) (next : Next) (small : Small) (t : State)
     → small ≡ at_once_of next
-    → Leads setting part (Ok next) t → Goes setting part (Ok small) t
+    → Leads (next_rest setting) part (Ok next) t → Goes setting part (Ok small) t
 goes_on setting part next small t e h = record { by = λ k. h.by k ∙ sym (ap (λ x. small_rest setting x k t) e) }
 
 pub goes_off : (setting : Setting) (part : Follows → Run Signal) (why : Halt) (t : State)
-    → Leads setting part (Err why) t → Goes setting part (Err why) t
+    → Leads (next_rest setting) part (Err why) t → Goes setting part (Err why) t
 goes_off setting part Memory t h = record { by = tt }
 goes_off setting part (Finished o) t h = record { by = h.by }
 goes_off setting part (Stopped m) t h = record { by = h.by }
@@ -41,11 +40,11 @@ goes_off setting part (Stopped m) t h = record { by = h.by }
 -- the same of a part of an expression, which leads to what is to be done next of it
 pub wide_on : (setting : Setting) (part : Follows → Run Signal) (next : PartNext) (wide : Next) (t : State)
     → ((k : Follows) → next_rest setting wide k t ≡ part_next_rest setting next k t)
-    → PartLeads setting part (Ok next) t → Goes setting part (Ok (at_once_of wide)) t
+    → Leads (part_next_rest setting) part (Ok next) t → Goes setting part (Ok (at_once_of wide)) t
 wide_on setting part next wide t e h = record { by = λ k. h.by k ∙ sym (e k) }
 
 pub wide_off : (setting : Setting) (part : Follows → Run Signal) (why : Halt) (t : State)
-    → PartLeads setting part (Err why) t → Goes setting part (Err why) t
+    → Leads (part_next_rest setting) part (Err why) t → Goes setting part (Err why) t
 wide_off setting part Memory t h = record { by = tt }
 wide_off setting part (Finished o) t h = record { by = h.by }
 wide_off setting part (Stopped m) t h = record { by = h.by }

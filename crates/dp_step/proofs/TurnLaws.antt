@@ -22,12 +22,12 @@ use Rattle.dp_step.specs.declared.work.DoTurns.{DoTurns}
 use Rattle.dp_step.specs.declared.work.EachTurns.{EachTurns}
 use Rattle.dp_step.specs.declared.work.Head.{Head}
 use Rattle.dp_step.specs.declared.work.Turns.{Turns}
-use Rattle.dp_step.specs.Rest.{after_of, do_test, do_tested, do_turns_of, each_from, each_turn, tests_of, turns_decided, turns_next, turns_of, turns_tested}
+use Rattle.dp_step.specs.Rest.{after_of, do_test, do_tested, do_turns_of, each_from, each_turn, next_rest, tests_of, turns_decided, turns_next, turns_of, turns_tested}
 use Rattle.dp_step_parts.specs.Rest.{Follows, to_signal}
-use Rattle.dp_step.specs.inner.Leads.{Leads}
+use Rattle.dp_step_parts.specs.Leads.{Leads}
 use Rattle.dp_actions.specs.declared.halt.Halt.{Halt}
 use Rattle.dp_actions.specs.AtOnce.{AtOnce}
-use Rattle.dp_step.proofs.AtOnce.{leads_as, leads_off, then_done}
+use Rattle.dp_step_parts.proofs.AtOnce.{leads_as, leads_off, then_done}
 
 -- another signal than that to go on
 pub goes-off : (g : Signal) (next : State → Run Signal) (s : State) → (g ≡ Next → ⊥) → go_on g next s ≡ Done g s
@@ -136,8 +136,9 @@ module _ (setting : Setting) (k : Follows) (s : State) where
       → (t : State) (why : Halt)
       → ((entry : Key × Data) → slice_get (entries subject) at ≡ Some entry
       → AtOnce (bind loop.binding.now entry s) (Err why) t)
-      → Leads setting (λ k. each_turn setting loop (drop at (entries subject)) s >>= to_signal k) (Err why) t
+      → Leads (next_rest setting) (λ k. each_turn setting loop (drop at (entries subject)) s >>= to_signal k)
+      (Err why) t
   bind-err loop subject at h t why ev =
       let m = member-at (entries subject) at h in
-      rw m.2 (leads_as setting _ _ _ _ (λ k. and_then-assoc _ _ _)
-      (leads_off setting (bind loop.binding.now m.0 s) t why _ (ev m.0 m.1)))
+      rw m.2 (leads_as _ _ _ _ (λ k. and_then-assoc _ _ _)
+      (leads_off (bind loop.binding.now m.0 s) t why _ (ev m.0 m.1)))

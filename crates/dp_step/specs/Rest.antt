@@ -30,7 +30,7 @@ use Rattle.dp_actions.specs.Effects.{exit_run, with_globals}
 use Rattle.dp_actions.specs.Values.{holds}
 use Rattle.dp_step_parts.specs.declared.work.Given.TheVariants as given
 use Rattle.dp_step_parts.specs.Rest.{Follows, to_signal, to_value}
-use Rattle.dp_step_parts.specs.Rest.{hand_rest as part_hand_rest}
+use Rattle.dp_step_parts.specs.Rest.{hand_rest as part_hand_rest, waits_rest}
 use Rattle.dp_step_parts.specs.Rest.{work_rest as part_work_rest}
 use Rattle.dp_step.specs.declared.work.Hand.{Hand}
 use Rattle.dp_step.specs.declared.work.Hand.TheVariants as hand
@@ -236,12 +236,9 @@ waiting_rest setting (waiting.EndCall depth) k (given.Signal g) s = leaving g s 
 waiting_rest setting (waiting.EndFile depth) k (given.Signal g) s = left_file g s >>= to_value k
 waiting_rest setting w k g s = k g s
 
-abbrev pub waits_rest : Setting → Option Work → Follows → Follows
-waits_rest setting None k = k
-waits_rest setting (Some w) k = work_rest setting w k
-
 abbrev pub next_rest : Setting → NextWork → Follows → State → Run Signal
-next_rest setting next k s = hand_rest setting next.hand (waits_rest setting next.waits k) s
+next_rest setting next k s =
+    hand_rest setting next.hand (waits_rest (work_rest setting) next.waits k) s
 
 -- this behind a moment, if there is one
 abbrev pub behind : Option (MomentKind × ℕ) → (State → Run Signal) → State → Run Signal

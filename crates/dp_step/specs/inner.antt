@@ -1,5 +1,4 @@
 -- Definitions that proofs alone use.
-pub mod Leads
 pub mod Goes
 pub mod Moves
 pub mod Leaps

@@ -9,10 +9,10 @@ ghost use Rattle.dp_actions.specs.Loops.{bind as bind_run, entries};
 ghost use Rattle.dp_actions.specs.Run.{Done, and_then, taken};
 ghost use Rattle.dp_actions.specs.Setting.{Setting};
 ghost use Rattle.dp_actions.specs.Effects.{with_globals};
-ghost use Rattle.dp_step.specs.Rest.{after_rest, each_turn, next_to, unset_after, values_rest};
+ghost use Rattle.dp_step.specs.Rest.{after_rest, each_turn, next_rest, next_to, unset_after, values_rest};
 ghost use Rattle.dp_step_parts.specs.Rest.{to_signal};
 ghost use Rattle.dp_step.specs.declared.work.AfterValue.TheVariants as any_after;
-ghost use Rattle.dp_step.specs.inner.Leads.{Leads};
+ghost use Rattle.dp_step_parts.specs.Leads.{Leads};
 
 use crate::loops::{do_tested, entry_count, test_holds, tested};
 use crate::next::signal;
@@ -33,7 +33,7 @@ pub(crate) fn receive_after<'p>(
     state: &mut State,
 ) -> Result<Next<'p>, Halt>
     ensures { (setting : Setting)
-        → Leads setting (λ k. after_rest setting work.entry value k state.old) result state.new }
+        → Leads (next_rest setting) (λ k. after_rest setting work.entry value k state.old) result state.new }
 {
     match work {
         AfterValue::Discard => {
@@ -61,7 +61,7 @@ pub(crate) fn receive_values<'p>(
     state: &mut State,
 ) -> Result<Next<'p>, Halt>
     ensures { (setting : Setting)
-        → Leads setting (λ k. values_rest setting work.entry values k state.old) result state.new }
+        → Leads (next_rest setting) (λ k. values_rest setting work.entry values k state.old) result state.new }
 {
     match work {
         ForValues::Call(file, function) => Ok(Next {
@@ -89,7 +89,8 @@ fn echoed<'p>(
     state: &mut State,
 ) -> Result<Next<'p>, Halt>
     ensures { (setting : Setting)
-        → Leads setting (λ k. after_rest setting (any_after.Echoed rest.entry at) value k state.old) result state.new }
+        → Leads (next_rest setting) (λ k. after_rest setting (any_after.Echoed rest.entry at) value k state.old) result
+        state.new }
 {
     let done = print_value(alloc, value.value(), state);
     drop(value);
@@ -105,7 +106,7 @@ fn echoed<'p>(
 // The program ends with a value.
 fn exit_with<'p>(value: Shared, state: &mut State) -> Result<Next<'p>, Halt>
     ensures { (setting : Setting)
-        → Leads setting (λ k. after_rest setting any_after.ExitWith value k state.old) result state.new }
+        → Leads (next_rest setting) (λ k. after_rest setting any_after.ExitWith value k state.old) result state.new }
 {
     let done = exit_value(value.value(), state);
     drop(value);
@@ -124,7 +125,8 @@ fn unset_next<'p>(
     state: &mut State,
 ) -> Result<Next<'p>, Halt>
     ensures { (setting : Setting)
-        → Leads setting (λ k. and_then (taken (without name.now (keys_of_indices indices) state.old) state.old)
+        → Leads (next_rest setting) (λ k. and_then (taken (without name.now (keys_of_indices indices) state.old)
+        state.old)
         (λ _ t. unset_after setting rest.now k t)) result state.new }
 {
     let done = unset_place(alloc, name, indices.as_slice(), state);
@@ -141,7 +143,8 @@ fn unset_next<'p>(
 /// `global`
 pub(crate) fn global<'p>(names: &[Bytes], state: &mut State) -> Result<Next<'p>, Halt>
     ensures { (setting : Setting)
-        → Leads setting (λ k. and_then (Done (tt {0}) (with_globals names.now state.old)) (next_to k)) result
+        → Leads (next_rest setting) (λ k. and_then (Done (tt {0}) (with_globals names.now state.old)) (next_to k))
+        result
         state.new }
 {
     match bind_all(names, state) {
@@ -158,7 +161,7 @@ pub(crate) fn bind<'p>(
     state: &mut State,
 ) -> Result<Next<'p>, Halt>
     ensures { (setting : Setting)
-        → Leads setting (λ k. and_then (each_turn setting turns.entry (drop at (entries subject)) state.old)
+        → Leads (next_rest setting) (λ k. and_then (each_turn setting turns.entry (drop at (entries subject)) state.old)
         (to_signal k)) result state.new }
 {
     if at >= entry_count(&subject) {

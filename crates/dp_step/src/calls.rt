@@ -5,7 +5,8 @@ ghost use Rattle.dp_actions.specs.Expressions.{evaluations};
 ghost use Rattle.dp_actions.specs.Run.{and_then};
 ghost use Rattle.dp_actions.specs.Setting.{Setting};
 ghost use Rattle.std.specs.Prelude.{◌≡◌};
-ghost use Rattle.dp_step.specs.inner.Leads.{Leads};
+ghost use Rattle.dp_step.specs.Rest.{next_rest};
+ghost use Rattle.dp_step_parts.specs.Leads.{Leads};
 ghost use Rattle.dp_step_parts.specs.Rest.{to_value};
 
 use crate::next::{given, values_first};
@@ -27,7 +28,7 @@ pub(crate) fn begin_call<'p>(
     state: &State,
 ) -> Result<Next<'p>, Halt>
     ensures { (setting : Setting) → setting.bundle ≡ bundle.now
-        → Leads setting (λ k. and_then (call_run (callee_named setting.bundle name.now state.now)
+        → Leads (next_rest setting) (λ k. and_then (call_run (callee_named setting.bundle name.now state.now)
         (evaluations arguments.now) setting state.now) (to_value k)) result state.now }
 {
     match look_up(bundle, name, state) {
@@ -52,7 +53,8 @@ pub(crate) fn include<'p>(
     state: &State,
 ) -> Result<Next<'p>, Halt>
     ensures { (setting : Setting) → setting.bundle ≡ bundle.now
-        → Leads setting (λ k. and_then (include_run how name setting state.now) (to_value k)) result state.now }
+        → Leads (next_rest setting) (λ k. and_then (include_run how name setting state.now) (to_value k)) result
+        state.now }
 {
     let found = file_named_by(alloc, bundle, name.value());
     drop(name);
@@ -65,7 +67,8 @@ pub(crate) fn include<'p>(
 // The inclusion of the file of this number, if there is one.
 fn included<'p>(how: Inclusion, file: Option<u32>, state: &State) -> Result<Next<'p>, Halt>
     ensures { (setting : Setting)
-        → Leads setting (λ k. and_then (inclusion_run how file setting state.now) (to_value k)) result state.now }
+        → Leads (next_rest setting) (λ k. and_then (inclusion_run how file setting state.now) (to_value k)) result
+        state.now }
 {
     match file {
         None => given(not_included(how, state)),

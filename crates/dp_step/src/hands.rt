@@ -9,11 +9,10 @@ ghost use Rattle.std.specs.Prelude.{◌≡◌, None};
 ghost use Rattle.dp_state.specs.States.{left};
 ghost use Rattle.dp_actions.specs.Bodies.{returned as value_returned};
 ghost use Rattle.dp_step.specs.Rest.{hand_rest, next_rest, small_rest, work_rest};
-ghost use Rattle.dp_step_parts.specs.Leads.{Leads as PartLeads};
 ghost use Rattle.dp_step_parts.specs.Rest.{Follows, to_value as given_value};
 ghost use Rattle.dp_step_parts.specs.Rest.{hand_rest as part_hand_rest, next_rest as part_next_rest};
 ghost use Rattle.dp_step.specs.declared.work.Work.TheVariants as any_work;
-ghost use Rattle.dp_step.specs.inner.Leads.{Leads};
+ghost use Rattle.dp_step_parts.specs.Leads.{Leads};
 ghost use Rattle.dp_step.specs.inner.Goes.{Goes};
 
 use crate::after::{bind, global, receive_after, receive_values};
@@ -91,7 +90,7 @@ fn evaluate<'p>(
 // A step in an expression is one of the machine, without a moment.
 fn widened<'p>(next: Result<PartNext<'p>, Halt>) -> Result<Small<'p>, Halt>
     ensures { (setting : Setting) (part : Follows → Run AnySignal) (t : AnyState)
-        → PartLeads setting part next.entry t → Goes setting part result t }
+        → Leads (part_next_rest setting) part next.entry t → Goes setting part result t }
 {
     match next {
         Ok(next) => Ok(Small {
@@ -183,7 +182,8 @@ fn first_of_turn<'p>(alloc: Global, hand: Hand<'p>, state: &mut State) -> Result
 
 // A step without a moment.
 fn moved<'p>(next: Result<Next<'p>, Halt>) -> Result<Small<'p>, Halt>
-    ensures { (setting : Setting) (part : Follows → Run AnySignal) (t : AnyState) → Leads setting part next.entry t
+    ensures { (setting : Setting) (part : Follows → Run AnySignal) (t : AnyState)
+        → Leads (next_rest setting) part next.entry t
         → Goes setting part result t }
 {
     match next {

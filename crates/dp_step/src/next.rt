@@ -8,7 +8,7 @@ ghost use Rattle.dp_actions.specs.Expressions.{evaluations};
 ghost use Rattle.dp_actions.specs.Run.{Run, and_then};
 ghost use Rattle.dp_actions.specs.Setting.{Setting};
 ghost use Rattle.dp_step.specs.Rest.{next_rest, work_rest};
-ghost use Rattle.dp_step.specs.inner.Leads.{Leads};
+ghost use Rattle.dp_step_parts.specs.Leads.{Leads};
 ghost use Rattle.dp_step.specs.declared.work.Hand.TheVariants as any_hand;
 ghost use Rattle.dp_step_parts.specs.Rest.{Follows, to_value, to_values};
 ghost use Rattle.dp_step_parts.specs.declared.work.Given.TheVariants as any_given;
@@ -45,7 +45,7 @@ pub(crate) fn signal<'p>(signal: Signal) -> Next<'p>
 /// A value that was made is given.
 pub(crate) fn given<'p>(made: Result<Shared, Halt>) -> Result<Next<'p>, Halt>
     ensures { (setting : Setting) (run : Run AnyValue) (t : AnyState) → AtOnce run made t
-        → Leads setting (λ k. and_then run (to_value k)) result t }
+        → Leads (next_rest setting) (λ k. and_then run (to_value k)) result t }
 {
     match made {
         Ok(value) => Ok(give(value)),

@@ -1,12 +1,10 @@
 -- What a part that waited does, in the meaning's words.
-use Rattle.std.proofs.Common.{◌≡◌, ℕ, true, false, List, [], ◌∷◌, ◌++◌, Result, Ok, sym, ap, ◌∙◌, subst, append_assoc}
+use Rattle.std.proofs.Common.{◌≡◌, ℕ, true, false, List, [], ◌∷◌, ◌++◌, Ok, sym, ap, ◌∙◌, append_assoc}
 use Rattle.std.specs.Prelude.{if◌then◌else◌}
 use Rattle.dp_tree.specs.declared.tree.Expression.{Expression}
 use Rattle.dp_value.specs.declared.operators.BinaryOp.{BinaryOp}
 use Rattle.dp_value.specs.declared.value.Value.{Value}
 use Rattle.dp_state.specs.declared.state.State.{State}
-use Rattle.dp_actions.specs.declared.halt.Halt.{Halt}
-use Rattle.dp_actions.specs.declared.signal.Signal.{Signal}
 use Rattle.dp_actions.specs.AtOnce.{AtOnce}
 use Rattle.dp_actions.specs.Expressions.{evaluation, evaluations}
 use Rattle.dp_actions.specs.Places.{assign_run, assigned_under, coalescing_under, combined, compound_from, compound_under, found_run, read_run}
@@ -15,9 +13,7 @@ use Rattle.dp_actions.specs.Setting.{Setting}
 use Rattle.dp_actions.specs.Values.{is_missing}
 use Rattle.dp_actions.proofs.Runs.{and_then-assoc}
 use Rattle.dp_step_parts.specs.declared.work.Given.TheVariants as given
-use Rattle.dp_step_parts.specs.declared.work.Next.{Next}
 use Rattle.dp_step_parts.specs.Rest.{Follows, to_value}
-use Rattle.dp_step_parts.specs.Leads.{Leads}
 use Rattle.dp_step_parts.proofs.AtOnce.{then_done}
 
 -- values and one more, before others
@@ -26,12 +22,6 @@ pub more : (setting : Setting) (rest : List Expression) (before : List Value) (v
     ≡ (evaluations rest setting s >>= λ values t. k (given.Values ((before ++ v ∷ []) ++ values)) t)
 more setting rest before v s k =
     λ i. evaluations rest setting s >>= λ values t. k (given.Values (sym (append_assoc before (v ∷ []) values) i)) t
-
--- a part that does the same leads to the same
-pub leads_as : (setting : Setting) (part same : Follows → Run Signal) (x : Result Next Halt) (t : State)
-    → ((k : Follows) → part k ≡ same k)
-    → Leads setting same x t → Leads setting part x t
-leads_as setting part same x t e h = subst (λ (p : Follows → Run Signal). Leads setting p x t) (λ i k. sym (e k) i) h
 
 module _ (setting : Setting) (k : Follows) (s : State) where
   -- a compound assignment whose old value is read

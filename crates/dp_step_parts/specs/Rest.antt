@@ -160,9 +160,11 @@ work_rest setting (work.ForValue w) k (given.Value v) s = value_rest setting w v
 work_rest setting (work.ForValues w) k (given.Values values) s = values_rest setting w values k s
 work_rest setting w k g s = k g s
 
-abbrev pub waits_rest : Setting → Option Work → Follows → Follows
-waits_rest setting None k = k
-waits_rest setting (Some w) k = work_rest setting w k
+-- what waits, if anything does, by what each kind of it does
+abbrev pub waits_rest : {W : Type 0} → (W → Follows → Follows) → Option W → Follows → Follows
+waits_rest rest None k = k
+waits_rest rest (Some w) k = rest w k
 
 abbrev pub next_rest : Setting → Next → Follows → State → Run Signal
-next_rest setting next k s = hand_rest setting next.hand (waits_rest setting next.waits k) s
+next_rest setting next k s =
+    hand_rest setting next.hand (waits_rest (work_rest setting) next.waits k) s

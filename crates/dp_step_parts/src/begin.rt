@@ -54,7 +54,7 @@ pub(crate) fn find<'p>(e: &'p Boxed<Expression>) -> Next<'p>
 /// An expression.
 pub(crate) fn begin<'p>(alloc: Global, e: &'p Expression, state: &State) -> Result<Next<'p>, Halt>
     ensures { (setting : Setting)
-        → Leads setting (λ k. and_then (evaluation e.now setting state.now) (to_value k)) result state.now }
+        → Leads (next_rest setting) (λ k. and_then (evaluation e.now setting state.now) (to_value k)) result state.now }
 {
     match e {
         Expression::Null => Ok(give(Shared::of(Value::Null))),

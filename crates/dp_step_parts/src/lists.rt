@@ -159,7 +159,8 @@ pub(crate) fn under<'p>(
     at: usize,
 ) -> Result<Next<'p>, Halt>
     ensures { (setting : Setting) (s : AnyState)
-        → Leads setting (λ k. and_then (indices_run (entries_by how) (map expression_run (members_from at all.now))
+        → Leads (next_rest setting) (λ k. and_then (indices_run (entries_by how)
+        (map expression_run (members_from at all.now))
         inside setting s) (to_value k)) result s }
 {
     match all.as_slice().get(at) {
@@ -173,7 +174,7 @@ pub(crate) fn under<'p>(
 
 // A value inside of another is given.
 fn taken_out<'p>(inside: Inside) -> Result<Next<'p>, Halt>
-    ensures { (setting : Setting) (s : AnyState) → Leads setting (λ k. to_value k inside s) result s }
+    ensures { (setting : Setting) (s : AnyState) → Leads (next_rest setting) (λ k. to_value k inside s) result s }
 {
     match inside.into_shared() {
         Ok(value) => Ok(give(value)),

@@ -9,7 +9,7 @@ ghost use Rattle.dp_actions.specs.Expressions.{item_run_of, link_run};
 ghost use Rattle.dp_actions.specs.InPlace.{entries_by};
 ghost use Rattle.dp_actions.specs.Run.{Run, and_then};
 ghost use Rattle.dp_actions.specs.Setting.{Setting};
-ghost use Rattle.dp_step_parts.specs.Rest.{to_value};
+ghost use Rattle.dp_step_parts.specs.Rest.{next_rest, to_value};
 ghost use Rattle.dp_step_parts.specs.Leads.{Leads};
 ghost use Rattle.dp_step_parts.specs.declared.work.Given.TheVariants as any_given;
 ghost use Rattle.dp_step_parts.specs.declared.work.Hand.TheVariants as any_hand;
@@ -33,7 +33,7 @@ pub(crate) fn give<'p>(value: Shared) -> Next<'p>
 /// A value that was made is given.
 pub(crate) fn given<'p>(made: Result<Shared, Halt>) -> Result<Next<'p>, Halt>
     ensures { (setting : Setting) (run : Run AnyValue) (t : AnyState) → AtOnce run made t
-        → Leads setting (λ k. and_then run (to_value k)) result t }
+        → Leads (next_rest setting) (λ k. and_then run (to_value k)) result t }
 {
     match made {
         Ok(value) => Ok(give(value)),
@@ -48,7 +48,7 @@ pub(crate) fn linked<'p>(
     at: usize,
 ) -> Result<Next<'p>, Halt>
     ensures { (setting : Setting) (run : Run AnyValue) (t : AnyState) → AtOnce run made t
-        → Leads setting (λ k. and_then run (λ v u. and_then (links_run
+        → Leads (next_rest setting) (λ k. and_then run (λ v u. and_then (links_run
         (map link_run (members_from at links.now)) v setting u) (to_value k))) result t }
 {
     match made {
@@ -67,7 +67,7 @@ pub(crate) fn lengthened<'p>(
     at: usize,
 ) -> Result<Next<'p>, Halt>
     ensures { (setting : Setting) (run : Run AnyValue) (t : AnyState) → AtOnce run made t
-        → Leads setting (λ k. and_then run (λ v u. and_then (items_run
+        → Leads (next_rest setting) (λ k. and_then run (λ v u. and_then (items_run
         (map item_run_of (members_from at items.now)) v setting u) (to_value k))) result t }
 {
     match made {
@@ -87,7 +87,7 @@ pub(crate) fn read_under<'p>(
     at: usize,
 ) -> Result<Next<'p>, Halt>
     ensures { (setting : Setting) (run : Run AnyValue) (t : AnyState) → AtOnce run found t
-        → Leads setting (λ k. and_then run (λ v u. and_then (indices_run (entries_by how)
+        → Leads (next_rest setting) (λ k. and_then run (λ v u. and_then (indices_run (entries_by how)
         (map expression_run (members_from at indices.now)) v setting u) (to_value k))) result t }
 {
     match found {

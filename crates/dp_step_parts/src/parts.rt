@@ -2,7 +2,7 @@
 
 ghost use Rattle.dp_actions.specs.Setting.{Setting};
 ghost use Rattle.dp_step_parts.specs.Leads.{Leads};
-ghost use Rattle.dp_step_parts.specs.Rest.{hand_rest, work_rest};
+ghost use Rattle.dp_step_parts.specs.Rest.{hand_rest, next_rest, work_rest};
 ghost use Rattle.dp_step_parts.specs.declared.work.Work.TheVariants as any_work;
 
 use crate::begin::{begin, find};
@@ -16,7 +16,8 @@ use std::alloc::Global;
 /// What is in hand is done as far as one small step goes. What is given stays in hand, and so do a call and an
 /// inclusion.
 pub fn first_of<'p>(alloc: Global, hand: Hand<'p>, state: &State) -> Result<Next<'p>, Halt>
-    ensures { (setting : Setting) → Leads setting (λ k. hand_rest setting hand.entry k state.now) result state.now }
+    ensures { (setting : Setting)
+        → Leads (next_rest setting) (λ k. hand_rest setting hand.entry k state.now) result state.now }
 {
     match hand {
         Hand::Give(given) => Ok(Next {
@@ -41,7 +42,7 @@ pub fn give_to<'p>(
     state: &mut State,
 ) -> Result<Next<'p>, Halt>
     ensures { (setting : Setting)
-        → Leads setting (λ k. work_rest setting work.entry k given state.old) result state.new }
+        → Leads (next_rest setting) (λ k. work_rest setting work.entry k given state.old) result state.new }
 {
     match work {
         Work::ForPart(work) => to_part(alloc, work, given, state),
@@ -58,7 +59,8 @@ fn to_part<'p>(
     state: &State,
 ) -> Result<Next<'p>, Halt>
     ensures { (setting : Setting)
-        → Leads setting (λ k. work_rest setting (any_work.ForPart work.entry) k given state.now) result state.now }
+        → Leads (next_rest setting) (λ k. work_rest setting (any_work.ForPart work.entry) k given state.now) result
+        state.now }
 {
     match given {
         Given::Value(value) => receive_part(alloc, work, value, state),
@@ -80,7 +82,8 @@ fn to_value<'p>(
     state: &mut State,
 ) -> Result<Next<'p>, Halt>
     ensures { (setting : Setting)
-        → Leads setting (λ k. work_rest setting (any_work.ForValue work.entry) k given state.old) result state.new }
+        → Leads (next_rest setting) (λ k. work_rest setting (any_work.ForValue work.entry) k given state.old) result
+        state.new }
 {
     match given {
         Given::Value(value) => receive_value(alloc, work, value, state),
@@ -102,7 +105,8 @@ fn to_values<'p>(
     state: &mut State,
 ) -> Result<Next<'p>, Halt>
     ensures { (setting : Setting)
-        → Leads setting (λ k. work_rest setting (any_work.ForValues work.entry) k given state.old) result state.new }
+        → Leads (next_rest setting) (λ k. work_rest setting (any_work.ForValues work.entry) k given state.old) result
+        state.new }
 {
     match given {
         Given::Values(values) => receive_values(alloc, work, values, state),

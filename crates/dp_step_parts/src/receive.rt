@@ -37,7 +37,7 @@ pub(crate) fn receive_part<'p>(
     state: &State,
 ) -> Result<Next<'p>, Halt>
     ensures { (setting : Setting)
-        → Leads setting (λ k. part_rest setting work.entry value k state.now) result state.now }
+        → Leads (next_rest setting) (λ k. part_rest setting work.entry value k state.now) result state.now }
 {
     match work {
         ForPart::More(before, rest, at) => more(before, value, rest, at),
@@ -82,7 +82,8 @@ fn put_item<'p>(
     state: &State,
 ) -> Result<Next<'p>, Halt>
     ensures { (setting : Setting)
-        → Leads setting (λ k. part_rest setting (any_part.PutItem array key rest.entry at) value k state.now) result
+        → Leads (next_rest setting) (λ k. part_rest setting (any_part.PutItem array key rest.entry at) value k
+        state.now) result
         state.now }
 {
     let made = put(alloc, array, key.value(), value, state);
@@ -101,7 +102,8 @@ fn operate<'p>(
     state: &State,
 ) -> Result<Next<'p>, Halt>
     ensures { (setting : Setting)
-        → Leads setting (λ k. part_rest setting (any_part.Operate op left links.entry at) right k state.now) result
+        → Leads (next_rest setting) (λ k. part_rest setting (any_part.Operate op left links.entry at) right k state.now)
+        result
         state.now }
 {
     let made = operated(alloc, op, left, right.value(), state);
@@ -120,7 +122,8 @@ fn read_entry<'p>(
     state: &State,
 ) -> Result<Next<'p>, Halt>
     ensures { (setting : Setting)
-        → Leads setting (λ k. part_rest setting (any_part.Entry how holder indices.entry at) index k state.now) result
+        → Leads (next_rest setting) (λ k. part_rest setting (any_part.Entry how holder indices.entry at) index k
+        state.now) result
         state.now }
 {
     let found = inside_at(alloc, how, holder, index.value(), state);
@@ -136,7 +139,7 @@ fn more<'p>(
     at: usize,
 ) -> Result<Next<'p>, Halt>
     ensures { (setting : Setting) (s : AnyState)
-        → Leads setting (λ k. part_rest setting (any_part.More before rest.entry at) value k s) result s }
+        → Leads (next_rest setting) (λ k. part_rest setting (any_part.More before rest.entry at) value k s) result s }
 {
     match longer(before, value) {
         Ok(values) => Ok(Next {
@@ -164,7 +167,7 @@ pub(crate) fn receive_value<'p>(
     state: &mut State,
 ) -> Result<Next<'p>, Halt>
     ensures { (setting : Setting)
-        → Leads setting (λ k. value_rest setting work.entry value k state.old) result state.new }
+        → Leads (next_rest setting) (λ k. value_rest setting work.entry value k state.old) result state.new }
 {
     match work {
         ForValue::Unary(op) => operate_alone(op, value, state),
@@ -182,7 +185,7 @@ pub(crate) fn receive_value<'p>(
 // An operator takes its only operand.
 fn operate_alone<'p>(op: UnaryOp, value: Shared, state: &State) -> Result<Next<'p>, Halt>
     ensures { (setting : Setting)
-        → Leads setting (λ k. value_rest setting (any_value.Unary op) value k state.now) result state.now }
+        → Leads (next_rest setting) (λ k. value_rest setting (any_value.Unary op) value k state.now) result state.now }
 {
     let made = value_of(unary(op, value.value()), state);
     drop(value);
@@ -199,7 +202,8 @@ fn assign<'p>(
     state: &mut State,
 ) -> Result<Next<'p>, Halt>
     ensures { (setting : Setting)
-        → Leads setting (λ k. value_rest setting (any_value.Assign name.entry indices push) value k state.old) result
+        → Leads (next_rest setting) (λ k. value_rest setting (any_value.Assign name.entry indices push) value k
+        state.old) result
         state.new }
 {
     let made = assign_place(alloc, name, indices.as_slice(), push, value, state);
@@ -218,7 +222,8 @@ fn combine_with<'p>(
     state: &mut State,
 ) -> Result<Next<'p>, Halt>
     ensures { (setting : Setting)
-        → Leads setting (λ k. value_rest setting (any_value.Combine op name.entry indices old) value k state.old)
+        → Leads (next_rest setting) (λ k. value_rest setting (any_value.Combine op name.entry indices old) value k
+        state.old)
         result state.new }
 {
     let made = combine(
@@ -297,7 +302,7 @@ pub(crate) fn receive_values<'p>(
     state: &mut State,
 ) -> Result<Next<'p>, Halt>
     ensures { (setting : Setting)
-        → Leads setting (λ k. values_rest setting work.entry values k state.old) result state.new }
+        → Leads (next_rest setting) (λ k. values_rest setting work.entry values k state.old) result state.new }
 {
     match work {
         ForValues::Builtin(b) => call_builtin(alloc, b, values, state),
@@ -322,7 +327,8 @@ fn call_builtin<'p>(
     state: &State,
 ) -> Result<Next<'p>, Halt>
     ensures { (setting : Setting)
-        → Leads setting (λ k. values_rest setting (any_values.Builtin function) values k state.now) result state.now }
+        → Leads (next_rest setting) (λ k. values_rest setting (any_values.Builtin function) values k state.now) result
+        state.now }
 {
     let made = builtin_call(alloc, function, values.as_slice(), state);
     drop(values);
@@ -339,7 +345,8 @@ fn step<'p>(
     state: &mut State,
 ) -> Result<Next<'p>, Halt>
     ensures { (setting : Setting)
-        → Leads setting (λ k. values_rest setting (any_values.Step op order name.entry) indices k state.old) result
+        → Leads (next_rest setting) (λ k. values_rest setting (any_values.Step op order name.entry) indices k state.old)
+        result
         state.new }
 {
     let made = step_place(alloc, op, order, name, indices.as_slice(), state);
@@ -357,7 +364,8 @@ fn compound<'p>(
     state: &State,
 ) -> Result<Next<'p>, Halt>
     ensures { (setting : Setting)
-        → Leads setting (λ k. and_then (compound_under op name.now (evaluation right.now) indices setting state.now)
+        → Leads (next_rest setting) (λ k. and_then (compound_under op name.now
+        (evaluation right.now) indices setting state.now)
         (to_value k)) result state.now }
 {
     match read_place(alloc, name, indices.as_slice(), state) {
@@ -381,7 +389,8 @@ fn coalesce_assign<'p>(
     state: &State,
 ) -> Result<Next<'p>, Halt>
     ensures { (setting : Setting)
-        → Leads setting (λ k. and_then (coalescing_under name.now (evaluation right.now) indices setting state.now)
+        → Leads (next_rest setting) (λ k. and_then (coalescing_under name.now
+        (evaluation right.now) indices setting state.now)
         (to_value k)) result state.now }
 {
     match found_place(alloc, name, indices.as_slice(), state) {
@@ -425,7 +434,8 @@ fn isset_place<'p>(
     state: &State,
 ) -> Result<Next<'p>, Halt>
     ensures { (setting : Setting)
-        → Leads setting (λ k. values_rest setting (any_values.Isset name.entry rest.entry) indices k state.now) result
+        → Leads (next_rest setting) (λ k. values_rest setting
+        (any_values.Isset name.entry rest.entry) indices k state.now) result
         state.now }
 {
     let found = found_place(alloc, name, indices.as_slice(), state);

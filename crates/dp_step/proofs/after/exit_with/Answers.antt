@@ -1,5 +1,5 @@
 use Rattle.std.proofs.Common.{refl, ◌∙◌}
-use Rattle.dp_step.proofs.AtOnce.{leads_off, then_done}
+use Rattle.dp_step_parts.proofs.AtOnce.{leads_off, then_done}
 use Rattle.dp_step.proofs.after.exit_with.Goals as goal
 
 pub returns-in-Ok : goal.returns-in-Ok
@@ -10,4 +10,4 @@ returns-in-Ok c = λ setting. record {
 
 pub returns-in-Err : goal.returns-in-Err
 returns-in-Err c =
-    λ setting. leads_off setting _ c.exit_value-done.new.state c.in-Err.why _ (rw c.value.ensures at c.in-Err.ensures)
+    λ setting. leads_off _ c.exit_value-done.new.state c.in-Err.why _ (rw c.value.ensures at c.in-Err.ensures)

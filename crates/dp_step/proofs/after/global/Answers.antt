@@ -1,5 +1,5 @@
 use Rattle.std.proofs.Common.{refl, ◌∙◌}
-use Rattle.dp_step.proofs.AtOnce.{leads_off, then_done}
+use Rattle.dp_step_parts.proofs.AtOnce.{leads_off, then_done}
 use Rattle.dp_step.proofs.after.global.Goals as goal
 
 pub returns-in-Ok : goal.returns-in-Ok
@@ -8,4 +8,4 @@ returns-in-Ok c = λ setting. record {
 }
 
 pub returns-in-Err : goal.returns-in-Err
-returns-in-Err c = λ setting. leads_off setting _ c.bind_all.new.state c.in-Err.why _ c.in-Err.ensures
+returns-in-Err c = λ setting. leads_off _ c.bind_all.new.state c.in-Err.why _ c.in-Err.ensures

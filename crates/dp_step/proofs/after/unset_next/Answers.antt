@@ -1,5 +1,5 @@
 use Rattle.std.proofs.Common.{refl, ◌∙◌}
-use Rattle.dp_step.proofs.AtOnce.{leads_off, then_done}
+use Rattle.dp_step_parts.proofs.AtOnce.{leads_off, then_done}
 use Rattle.dp_step.proofs.after.unset_next.Goals as goal
 
 pub returns-in-Ok : goal.returns-in-Ok
@@ -9,5 +9,5 @@ returns-in-Ok c = λ setting. record {
 
 pub returns-in-Err : goal.returns-in-Err
 returns-in-Err c =
-    λ setting. leads_off setting _ c.unset_place-done.new.state c.in-Err.why _
+    λ setting. leads_off _ c.unset_place-done.new.state c.in-Err.why _
     (rw c.as_slice.ensures at c.in-Err.ensures)

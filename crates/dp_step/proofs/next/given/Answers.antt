@@ -1,5 +1,5 @@
 use Rattle.std.proofs.Common.{refl, sym, ◌∙◌}
-use Rattle.dp_step.proofs.AtOnce.{leads_off, then_done}
+use Rattle.dp_step_parts.proofs.AtOnce.{leads_off, then_done}
 use Rattle.dp_step.proofs.next.given.Goals as goal
 
 pub returns-in-Ok : goal.returns-in-Ok
@@ -8,4 +8,4 @@ returns-in-Ok c = λ setting run t h. record {
 }
 
 pub returns-in-Err : goal.returns-in-Err
-returns-in-Err c = λ setting run t h. leads_off setting run t c.in-Err.why _ (rw (sym c.in-Err.is) h)
+returns-in-Err c = λ setting run t h. leads_off run t c.in-Err.why _ (rw (sym c.in-Err.is) h)

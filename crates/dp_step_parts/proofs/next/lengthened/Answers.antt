@@ -8,4 +8,4 @@ returns-in-Ok c = λ setting run t h. record {
 }
 
 pub returns-in-Err : goal.returns-in-Err
-returns-in-Err c = λ setting run t h. leads_off setting run t c.in-Err.why _ (rw (sym c.in-Err.is) h)
+returns-in-Err c = λ setting run t h. leads_off run t c.in-Err.why _ (rw (sym c.in-Err.is) h)

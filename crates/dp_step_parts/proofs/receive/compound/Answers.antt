@@ -1,6 +1,6 @@
 use Rattle.dp_actions.proofs.Runs.{and_then-assoc}
-use Rattle.dp_step_parts.proofs.AtOnce.{leads_off}
-use Rattle.dp_step_parts.proofs.ResumedParts.{compounds, leads_as}
+use Rattle.dp_step_parts.proofs.AtOnce.{leads_as, leads_off}
+use Rattle.dp_step_parts.proofs.ResumedParts.{compounds}
 use Rattle.dp_step_parts.proofs.receive.compound.Goals as goal
 
 pub returns-in-Ok : goal.returns-in-Ok
@@ -12,5 +12,5 @@ returns-in-Ok c = λ setting. record {
 }
 
 pub returns-in-Err : goal.returns-in-Err
-returns-in-Err c = λ setting. leads_as setting _ _ _ _ (λ k. and_then-assoc _ _ _)
-    (leads_off setting _ c.args.state.now c.in-Err.why _ (rw c.as_slice.ensures at c.in-Err.ensures))
+returns-in-Err c = λ setting. leads_as _ _ _ _ (λ k. and_then-assoc _ _ _)
+    (leads_off _ c.args.state.now c.in-Err.why _ (rw c.as_slice.ensures at c.in-Err.ensures))

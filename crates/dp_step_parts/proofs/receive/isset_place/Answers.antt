@@ -10,4 +10,4 @@ returns-in-Ok c = λ setting. record {
 
 pub returns-in-Err : goal.returns-in-Err
 returns-in-Err c =
-    λ setting. leads_off setting _ c.args.state.now c.in-Err.why _ (rw c.as_slice.ensures at c.in-Err.ensures)
+    λ setting. leads_off _ c.args.state.now c.in-Err.why _ (rw c.as_slice.ensures at c.in-Err.ensures)
