@@ -1,6 +1,6 @@
 //! The values of expressions that change nothing.
 
-ghost use Rattle.std.specs.Prelude.{◌≡◌, true, IfOk, OnOk};
+ghost use Rattle.std.specs.Prelude.{◌≡◌, true, IfOk};
 ghost use Rattle.dp_tree.specs.Purity.{is_pure};
 ghost use Rattle.dp_meaning.specs.Pure.{IsValueIn};
 
@@ -8,7 +8,7 @@ use dp_actions::{Halt, observe};
 use dp_shared::Shared;
 use dp_state::State;
 use dp_tree::{Bundle, Expression};
-use dp_value::{Memory, Value};
+use dp_value::Memory;
 use std::alloc::Global;
 
 /// The value of an expression without calls, assignments, `++`, `--` and includes in the top frame of a state, and
@@ -28,22 +28,5 @@ pub fn value_in(
         Err(Halt::Memory) => Err(Memory),
         Err(Halt::Finished(_)) => Ok(None),
         Err(Halt::Stopped(_)) => unreachable!(),
-    }
-}
-
-/// The same as a value that has no other owner: a variable that is the value is copied.
-pub fn value_in_place(
-    alloc: Global,
-    state: &mut State,
-    bundle: &Bundle,
-    e: &Expression,
-) -> Result<Option<Value>, Memory>
-    requires { is_pure e.now ≡ true }
-    ensures value { IfOk result (λ value. IsValueIn bundle.now e.now state.old value) }
-    ensures same { OnOk result (state.new ≡ state.old) }
-{
-    match value_in(alloc, state, bundle, e)? {
-        Some(value) => Ok(Some(value.into_value()?)),
-        None => Ok(None),
     }
 }

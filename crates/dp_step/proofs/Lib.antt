@@ -9,5 +9,4 @@ pub mod MachineSteps
 pub mod WritesMade
 pub mod WriteLaws
 pub mod LastMoments
-pub mod SameSettings
 pub mod LeapLaws

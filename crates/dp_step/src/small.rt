@@ -1,7 +1,6 @@
 //! The small steps of a machine: what is in hand is done as far as one of them goes, and what waits for it is pending.
 
-ghost use Rattle.std.specs.Prelude.{◌≡◌, ◌++◌, ◌∷◌, [], ℕ, true, OnOk};
-ghost use Rattle.dp_tree.specs.Purity.{is_pure as changes_nothing};
+ghost use Rattle.std.specs.Prelude.{◌≡◌, ◌++◌, ◌∷◌, [], ℕ, OnOk};
 ghost use Rattle.dp_state.specs.declared.state.State.{State as SomeState};
 ghost use Rattle.dp_actions.specs.Bodies.{statements_of as body_of};
 ghost use Rattle.dp_actions.specs.Run.{and_then};
@@ -16,8 +15,7 @@ ghost use Rattle.dp_step.specs.inner.Moves.{ends_call as call_ends, leave_if};
 use crate::hands::{first_of, receive};
 use crate::machine::Machine;
 use crate::work::{Hand, Next, Small, Waiting, Work};
-use dp_actions::{Halt, Signal, enter_call, enter_file, fatal};
-use dp_meaning::value_in_place;
+use dp_actions::{Halt, Signal, enter_call, enter_file, fatal, observe};
 use dp_shared::Shared;
 use dp_state::{FatalKind, MomentKind, Outcome};
 use dp_step_parts::{Given, Hand as PartHand};
@@ -57,20 +55,17 @@ impl<'p> Machine<'p> {
         }
     }
 
-    // A small step with an expression. One that changes nothing is evaluated whole, in the state as it is; where that
-    // is fatal it is done part by part, so that the end is that of its part. One that may give what a variable shares
-    // is done part by part, too: nothing is copied then.
+    // A small step with an expression. One that changes nothing is evaluated whole, in the state as it is.
     fn evaluate_whole(&mut self, e: &'p Expression) -> Result<Option<(MomentKind, u32)>, Halt>
         ensures { Moves self.old (rest_with self.old (any_hand.Part (any_part.Evaluate e.entry)) self.old.state)
             result self.new }
     {
-        if !is_whole(e) {
+        if !is_pure(e) {
             return self.first(Hand::Part(PartHand::Evaluate(e)));
         }
-        match value_in_place(self.alloc, &mut self.state, self.bundle, e) {
-            Ok(Some(value)) => self.take(Given::Value(Shared::of(value))),
-            Ok(None) => self.first(Hand::Part(PartHand::Evaluate(e))),
-            Err(_) => Err(Halt::Memory),
+        match observe(self.alloc, &self.state, e) {
+            Ok(value) => self.take(Given::Value(value)),
+            Err(why) => Err(why),
         }
     }
 
@@ -240,18 +235,6 @@ impl<'p> Machine<'p> {
         self.depth = depth;
         put_hand(&mut self.hand, file_left(given));
         None
-    }
-}
-
-// Whether an expression is evaluated whole: one that changes nothing, unless its value may be that of a variable.
-fn is_whole(e: &Expression) -> bool
-    ensures { result ≡ true → changes_nothing e.now ≡ true }
-{
-    match e {
-        Expression::Variable(_) => false,
-        Expression::Coalesce(_, _) => false,
-        Expression::Conditional(_, _, _) => false,
-        e => is_pure(e),
     }
 }
 
