@@ -51,12 +51,10 @@ expression-returns-in-Array g t c = rw (c.in-Array.is, run-Array) (rw c.as_slice
 
 pub expression-returns-in-Call : goal.expression-returns-in-Call
 expression-returns-in-Call g t c =
-    rw (
-      c.in-Call.is,
-      run-Call,
-      call-is c.args.self.now.bundle.now c.args.self.now.bound c.args.self.now.depth c.in-Call.name
-          (evaluations c.in-Call.arguments) c.args.state.now,
-    ) (rw c.as_slice-in-Call.ensures at c.named.ensures)
+    let by = c.args.self.now in
+    let same = call-is by.bundle.now by.bound by.depth c.in-Call.name (evaluations c.in-Call.arguments)
+    c.args.state.now in
+    rw (c.in-Call.is, run-Call, same) (rw c.as_slice-in-Call.ensures at c.named.ensures)
 
 pub expression-returns-in-Isset : goal.expression-returns-in-Isset
 expression-returns-in-Isset g t c = rw (c.in-Isset.is, run-Isset) (rw c.as_slice-in-Isset.ensures at c.isset.ensures)
@@ -410,14 +408,9 @@ pub named-call-requires : goal.named-call-requires
 named-call-requires g t c =
     let found = rw c.in-Some-Declared.field-0-is at (sym c.look_up.ensures
     ∙ ap (option_map callee_of) c.in-Some-Declared.is) in
-    λ κs h. (
-      omega (arith, c.decreases),
-      (
-        h,
-        frame-callee c.args.self.now.bundle.now c.args.name.now c.args.state.now c.in-Some-Declared.file
-            c.in-Some-Declared.function.now found,
-      ),
-    )
+    let fits = frame-callee c.args.self.now.bundle.now c.args.name.now c.args.state.now c.in-Some-Declared.file
+    c.in-Some-Declared.function.now found in
+    λ κs h. (omega (arith, c.decreases), (h, fits))
 
 pub call-returns-then-self-eq0 : goal.call-returns-then-self-eq0
 call-returns-then-self-eq0 g t c = rw (zero-call _ _ _ c.if-self-eq0.true, c.fatal.ensures) ends
@@ -452,19 +445,13 @@ function-returns g t c =
 
 pub include-returns-in-None : goal.include-returns-in-None
 include-returns-in-None g t c =
-    rw (
-      setting-bundle c.args.self.now.bundle.now c.args.self.now.bound c.args.self.now.depth,
-      sym c.in_ok-file_named_by.ensures ∙ c.in-None.is,
-    )
-    (at_once (c.not_included.ensures _))
+    let same = setting-bundle c.args.self.now.bundle.now c.args.self.now.bound c.args.self.now.depth in
+    rw (same, sym c.in_ok-file_named_by.ensures ∙ c.in-None.is) (at_once (c.not_included.ensures _))
 
 pub include-returns-in-Some : goal.include-returns-in-Some
 include-returns-in-Some g t c =
-    rw (
-      setting-bundle c.args.self.now.bundle.now c.args.self.now.bound c.args.self.now.depth,
-      sym c.in_ok-file_named_by.ensures ∙ c.in-Some.is,
-    )
-    c.file.ensures
+    let same = setting-bundle c.args.self.now.bundle.now c.args.self.now.bound c.args.self.now.depth in
+    rw (same, sym c.in_ok-file_named_by.ensures ∙ c.in-Some.is) c.file.ensures
 
 pub file-returns-then-self-eq0 : goal.file-returns-then-self-eq0
 file-returns-then-self-eq0 g t c = rw (zero-include _ _ _ c.if-self-eq0.true, c.fatal.ensures) ends
@@ -474,15 +461,8 @@ file-returns g t c = rw (suc-include _ _ _ c.if-self-eq0.false) c.included.ensur
 
 pub file-included-requires : goal.file-included-requires
 file-included-requires g t c =
-    λ κs h. (
-      omega (
-        arith,
-        frame_less c.args.self.now.depth _ _ c.if-self-eq0.false
-            (frame-file c.args.self.now.bundle.now c.args.file),
-        c.decreases,
-      ),
-      h,
-    )
+    let fits = frame-file c.args.self.now.bundle.now c.args.file in
+    λ κs h. (omega (arith, frame_less c.args.self.now.depth _ _ c.if-self-eq0.false fits, c.decreases), h)
 
 pub included-returns-in_err-enter_file : goal.included-returns-in_err-enter_file
 included-returns-in_err-enter_file g t c =
@@ -570,27 +550,19 @@ statement-returns-in-If g t c = rw (run-statement, c.in-If.is, kind-If) (rw c.as
 
 pub statement-returns-in-While : goal.statement-returns-in-While
 statement-returns-in-While g t c =
-    rw (
-      run-statement,
-      c.in-While.is,
-      kind-While,
-      bounded-turns c.args.self.now.bundle.now c.args.self.now.bound c.args.self.now.depth c.args.statement.now.line
-          (statement_run c.in-While.body (goes_by c.args.self.now)) c.args.state.now
-          (evaluations (c.in-While.test ∷ []) (goes_by c.args.self.now))
-          (evaluations [] (goes_by c.args.self.now)),
-    ) (rw (c.from_ref.ensures.value, c.as_ref.ensures) at c.turns.ensures)
+    let by = c.args.self.now in
+    let same = bounded-turns by.bundle.now by.bound by.depth c.args.statement.now.line
+    (statement_run c.in-While.body (goes_by by)) c.args.state.now (evaluations (c.in-While.test ∷ []) (goes_by by))
+    (evaluations [] (goes_by by)) in
+    rw (run-statement, c.in-While.is, kind-While, same)
+    (rw (c.from_ref.ensures.value, c.as_ref.ensures) at c.turns.ensures)
 
 pub statement-returns-in-DoWhile : goal.statement-returns-in-DoWhile
 statement-returns-in-DoWhile g t c =
-    rw (
-      run-statement,
-      c.in-DoWhile.is,
-      kind-DoWhile,
-      bounded-do c.args.self.now.bundle.now c.args.self.now.bound c.args.self.now.depth c.in-DoWhile.end
-          (statement_run c.in-DoWhile.body (goes_by c.args.self.now)) c.args.state.now
-          (evaluation c.in-DoWhile.test (goes_by c.args.self.now)),
-    )
-    (rw c.as_ref-in-DoWhile.ensures at c.do_turns.ensures)
+    let by = c.args.self.now in
+    let same = bounded-do by.bundle.now by.bound by.depth c.in-DoWhile.end
+    (statement_run c.in-DoWhile.body (goes_by by)) c.args.state.now (evaluation c.in-DoWhile.test (goes_by by)) in
+    rw (run-statement, c.in-DoWhile.is, kind-DoWhile, same) (rw c.as_ref-in-DoWhile.ensures at c.do_turns.ensures)
 
 pub statement-returns-in_err-place-in-For : goal.statement-returns-in_err-place-in-For
 statement-returns-in_err-place-in-For g t c =
