@@ -84,7 +84,7 @@ pub fn exit_value(value: &Value, state: &mut State) -> Result<Signal, Halt>
     }
 }
 
-// The status that an integer is.
+/// The status that an integer is.
 fn status(n: &i64) -> Option<u8>
     ensures { result ≡ status_of n.now }
 {

@@ -34,14 +34,14 @@ pub fn bind_entry(
     }
 }
 
-// Binds the value of an entry.
+/// Binds the value of an entry.
 fn bind_value(name: &Bytes, value: &Value, state: &mut State) -> Result<(), Halt>
     ensures { AtOnce (bind_name name.now value.now state.old) result state.new }
 {
     assign_variable(name, Shared::of(value.try_clone()?), state)
 }
 
-// Binds the key of an entry.
+/// Binds the key of an entry.
 fn bind_key(name: &Option<Bytes>, key: &Key, state: &mut State) -> Result<(), Halt>
     ensures { AtOnce (bind_run name.now key.now state.old) result state.new }
 {

@@ -37,7 +37,7 @@ pub fn combine(
     assign_place(alloc, name, indices, false, new, state)
 }
 
-// Whether a text is put behind what a whole variable holds.
+/// Whether a text is put behind what a whole variable holds.
 fn is_growth(op: BinaryOp, indices: &[Shared]) -> bool
     ensures { IsTrue result → (op ≡ operator.Concat) × (indices.now ≡ []) }
 {
@@ -62,7 +62,7 @@ pub fn step_place(
     step_from(alloc, op, order, name, indices, old, state)
 }
 
-// A `++` or `--` of an old value.
+/// A `++` or `--` of an old value.
 fn step_from(
     alloc: Global,
     op: UnaryOp,
@@ -78,7 +78,7 @@ fn step_from(
     write_step(alloc, order, name, indices, old, new, state)
 }
 
-// Writes the new value of a `++` or `--`.
+/// Writes the new value of a `++` or `--`.
 fn write_step(
     alloc: Global,
     order: Order,
@@ -94,7 +94,7 @@ fn write_step(
     Ok(ordered(order, old, new))
 }
 
-// The value of a `++` or `--`.
+/// The value of a `++` or `--`.
 fn ordered(order: Order, old: Shared, new: Shared) -> Shared
     ensures { result ≡ stepped order old new }
 {

@@ -79,7 +79,7 @@ pub fn builtin_call(
     builtin_value(builtin(alloc, function, lent.as_slice()), state)
 }
 
-// These values, lent.
+/// These values, lent.
 fn lent(alloc: Global, values: &[Shared]) -> Result<Vec<&Value>, Memory>
     ensures { IfOk result (λ lent. map (λ a. data_of a.now) lent.items ≡ map data_of values.now) }
 {

@@ -64,7 +64,7 @@ pub fn inside_at(
     }
 }
 
-// The same of what is made for it.
+/// The same of what is made for it.
 fn made_inside(
     alloc: Global,
     reading: Reading,
@@ -82,7 +82,7 @@ fn made_inside(
     }
 }
 
-// The key of the entry of an array under an index, where there is one.
+/// The key of the entry of an array under an index, where there is one.
 fn entry_key(alloc: Global, value: &Value, at: &Value) -> Result<Option<Key>, Memory>
     ensures { IfOk result (λ found. MatchOption found ⊤ (λ key. (reading : AnyReading)
         → entries_by reading (data_of value.now) (data_of at.now) ≡ Ok (data_of (stepped value.now key)))) }

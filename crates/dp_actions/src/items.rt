@@ -29,7 +29,7 @@ pub fn pushed(alloc: Global, array: Value, value: Shared, state: &State) -> Resu
     }
 }
 
-// The same of a value that has no other owner.
+/// The same of a value that has no other owner.
 fn put_last(alloc: Global, array: Value, value: Value, state: &State) -> Result<Value, Halt>
     ensures { AtOnce (write_run (write_result [] true (data_of value) (data_of array)) state.now) result state.now }
 {
@@ -58,7 +58,7 @@ pub fn put(
     put_shared(alloc, array, &key, value, state)
 }
 
-// An array with a value under a key.
+/// An array with a value under a key.
 fn put_shared(
     alloc: Global,
     array: Value,
@@ -78,7 +78,7 @@ fn put_shared(
     }
 }
 
-// The same of a value that has no other owner.
+/// The same of a value that has no other owner.
 fn put_under(
     alloc: Global,
     array: Value,

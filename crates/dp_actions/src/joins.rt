@@ -40,7 +40,7 @@ pub fn operated(
     }
 }
 
-// Two texts joined.
+/// Two texts joined.
 fn joined(alloc: Global, left: Shared, right: &Value, state: &State) -> Result<Shared, Halt>
     ensures { AtOnce (value_run (joined_data (data_of left) (data_of right.now)) state.now) result state.now }
 {
@@ -56,7 +56,7 @@ fn joined(alloc: Global, left: Shared, right: &Value, state: &State) -> Result<S
     }
 }
 
-// The text of a value with a piece behind it.
+/// The text of a value with a piece behind it.
 fn joined_with(alloc: Global, value: Shared, piece: &[u8], state: &State) -> Result<Shared, Halt>
     ensures { AtOnce (value_run (light_text (text_of (data_of value) ++ piece.now)) state.now) result state.now }
 {
@@ -68,7 +68,7 @@ fn joined_with(alloc: Global, value: Shared, piece: &[u8], state: &State) -> Res
     Ok(text.append(alloc, piece)?)
 }
 
-// A value as a text.
+/// A value as a text.
 fn as_text(alloc: Global, value: Shared) -> Result<Shared, Memory>
     ensures { IfOk result (λ text. text ≡ variant.Text (text_of (data_of value))) }
 {
@@ -81,7 +81,7 @@ fn as_text(alloc: Global, value: Shared) -> Result<Shared, Memory>
     }
 }
 
-// The text of a value, where it is none itself.
+/// The text of a value, where it is none itself.
 fn made_text(alloc: Global, value: &Value) -> Result<Option<Bytes>, Memory>
     ensures { IfOk result (λ made. MatchOption made (value.now ≡ variant.Text (text_of (data_of value.now)))
         (λ text. text ≡ text_of (data_of value.now))) }
@@ -109,7 +109,7 @@ pub(crate) fn grown(
     grown_text(alloc, name, text, value, state)
 }
 
-// The same of a text.
+/// The same of a text.
 fn grown_text(
     alloc: Global,
     name: &Bytes,
@@ -133,7 +133,7 @@ fn grown_text(
     }
 }
 
-// The same of a text and a piece.
+/// The same of a text and a piece.
 fn grown_by(name: &Bytes, text: Shared, piece: &[u8], state: &mut State) -> Result<Shared, Halt>
     ensures { (bytes : List ℕ) → text ≡ variant.Text bytes
         → AtOnce (and_then (value_run (light_text (bytes ++ piece.now)) state.old)

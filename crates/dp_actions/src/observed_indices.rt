@@ -40,7 +40,7 @@ impl Observer<'_> {
         self.under(reading, value, indices)
     }
 
-    // The value of what indices stand behind.
+    /// The value of what indices stand behind.
     #[cycle(observe)]
     fn base(&self, reading: Reading, e: &Expression) -> Result<Shared, Halt>
         requires { is_pure e.now ≡ true }
@@ -52,7 +52,7 @@ impl Observer<'_> {
         }
     }
 
-    // A value under indices.
+    /// A value under indices.
     #[cycle(observe)]
     fn under(&self, reading: Reading, base: Shared, indices: &[Expression]) -> Result<Shared, Halt>
         requires { list_all is_pure indices.now ≡ true }
@@ -84,7 +84,7 @@ impl Observer<'_> {
         Ok(Shared::of(Value::Bool(true)))
     }
 
-    // The value of a place as isset finds it.
+    /// The value of a place as isset finds it.
     #[cycle(observe)]
     fn found_at(&self, place: &Place) -> Result<Shared, Halt>
         requires { place_is_pure place.now ≡ true }

@@ -32,7 +32,7 @@ impl Observer<'_> {
         Ok(Shared::of(array))
     }
 
-    // A literal with one item more.
+    /// A literal with one item more.
     #[cycle(observe)]
     fn item(&self, item: &Item, array: Value) -> Result<Value, Halt>
         requires { item_is_pure item.now ≡ true }
@@ -44,7 +44,7 @@ impl Observer<'_> {
         }
     }
 
-    // A literal with one item more, under a key.
+    /// A literal with one item more, under a key.
     #[cycle(observe)]
     fn keyed(&self, key: &Expression, item: &Expression, array: Value) -> Result<Value, Halt>
         requires key { is_pure key.now ≡ true }

@@ -31,7 +31,7 @@ impl Observer<'_> {
         self.links(value, links)
     }
 
-    // The value of operands that are joined to a first one.
+    /// The value of operands that are joined to a first one.
     #[cycle(observe)]
     fn links(&self, first: Shared, links: &[Link]) -> Result<Shared, Halt>
         requires { list_all link_is_pure links.now ≡ true }
@@ -44,7 +44,7 @@ impl Observer<'_> {
         Ok(value)
     }
 
-    // The value of two operands that are joined.
+    /// The value of two operands that are joined.
     #[cycle(observe)]
     fn link(&self, left: Shared, link: &Link) -> Result<Shared, Halt>
         requires { link_is_pure link.now ≡ true }
@@ -109,7 +109,7 @@ impl Observer<'_> {
         }
     }
 
-    // The value of a conditional whose test holds.
+    /// The value of a conditional whose test holds.
     #[cycle(observe)]
     fn chosen(&self, middle: &Option<Boxed<Expression>>, test: Shared) -> Result<Shared, Halt>
         requires { option_map_or is_pure middle.now true ≡ true }

@@ -57,7 +57,7 @@ pub fn found_place(
     place_by(alloc, Reading::Found, name, indices, state)
 }
 
-// The value of a place by a reading. A whole variable is not copied, nor what stands on the way to an entry.
+/// The value of a place by a reading. A whole variable is not copied, nor what stands on the way to an entry.
 fn place_by(
     alloc: Global,
     reading: Reading,
@@ -92,7 +92,7 @@ pub fn assign_place(
     assign_keyed(alloc, name, keys.as_slice(), push, value, state)
 }
 
-// The same under keys.
+/// The same under keys.
 fn assign_keyed(
     alloc: Global,
     name: &Bytes,
@@ -109,7 +109,7 @@ fn assign_keyed(
     Ok(copy)
 }
 
-// Writes a value under keys.
+/// Writes a value under keys.
 fn write_keyed(
     name: &Bytes,
     keys: &[Option<Key>],
@@ -144,7 +144,7 @@ pub fn unset_place(
     settled(step, state)
 }
 
-// The keys that indices become. One that is an array becomes none.
+/// The keys that indices become. One that is an array becomes none.
 fn keys_of(alloc: Global, indices: &[Shared]) -> Result<Vec<Option<Key>>, Memory>
     ensures { IfOk result (λ keys. keys.items ≡ keys_of_indices indices.now) }
 {

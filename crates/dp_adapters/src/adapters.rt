@@ -125,7 +125,7 @@ impl<F> FileShelf<F> {
     }
 }
 
-// The front of a file. A file that is not there is `Missing`, and nothing else is.
+/// The front of a file. A file that is not there is `Missing`, and nothing else is.
 fn front_of<F: Files>(
     files: &F,
     alloc: Global,

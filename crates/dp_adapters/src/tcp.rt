@@ -36,7 +36,7 @@ impl Sink for TcpSink {
     }
 }
 
-// The source and the sink of a stream, over two handles of it, which sends without delay.
+/// The source and the sink of a stream, over two handles of it, which sends without delay.
 fn halves(stream: TcpStream) -> Result<(Reading<TcpStream>, TcpSink), Failed>
     ensures source { IfOk result (λ link. link.0.faults ≡ 0) }
     ensures sink { IfOk result (λ link. link.1.faults ≡ 0) }
@@ -54,7 +54,7 @@ fn halves(stream: TcpStream) -> Result<(Reading<TcpStream>, TcpSink), Failed>
     Ok((Reading::new(stream), sink))
 }
 
-// A link to the host, where it takes one.
+/// A link to the host, where it takes one.
 fn connect<R: Sockets<Listener = TcpListener, Stream = TcpStream>>(
     rt: &R,
     host: &Host,
@@ -72,7 +72,7 @@ fn connect<R: Sockets<Listener = TcpListener, Stream = TcpStream>>(
     }
 }
 
-// The name of a peer: its address as text.
+/// The name of a peer: its address as text.
 fn host_of(alloc: Global, address: IpAddr) -> Result<Host, Failed> {
     match address.to_string(alloc) {
         Ok(text) => match Host::of(text.as_bytes()) {
@@ -83,7 +83,7 @@ fn host_of(alloc: Global, address: IpAddr) -> Result<Host, Failed> {
     }
 }
 
-// The next link at a listener. It waits again where a signal interrupts it, and where a peer was gone before its turn.
+/// The next link at a listener. It waits again where a signal interrupts it, and where a peer was gone before its turn.
 fn next_link(
     alloc: Global,
     listener: &TcpListener,
@@ -218,7 +218,7 @@ impl<'r, R: Sockets<Listener = TcpListener, Stream = TcpStream> + Sync> Dialer f
     }
 }
 
-// A listener at this port.
+/// A listener at this port.
 fn listen<R: Sockets<Listener = TcpListener, Stream = TcpStream>>(
     rt: &R,
     port: u16,

@@ -46,7 +46,7 @@ pub(crate) fn write_some<W: Write>(writer: &mut W, bytes: &[u8]) -> Result<usize
     Err(Failed)
 }
 
-// Writes all of the bytes, or fails after a front of them.
+/// Writes all of the bytes, or fails after a front of them.
 fn write_pieces<W: Write>(writer: &mut W, bytes: &[u8]) -> Result<(), Failed>
     ensures { PutAppends (W.contents writer.old) (W.contents writer.new) result bytes.now }
 {

@@ -54,7 +54,7 @@ impl Breakpoint {
     ghost use Rattle.std.specs.Prelude.{◌≡◌};
     ghost use Rattle.dp_break.specs.Changes.{changed};
 
-    // Changes what is given. Takes no memory.
+    /// Changes what is given. Takes no memory.
     pub(crate) fn change(&mut self, change: BreakChange)
         ensures { self.new ≡ changed change self.old }
     {

@@ -23,10 +23,10 @@ use dp_value::Memory;
 use std::alloc::Global;
 use std::marker::Model;
 
-// The most breakpoints.
+/// The most breakpoints.
 const BREAKPOINT_LIMIT: usize = 1000;
 
-// The most bytes of a function's name.
+/// The most bytes of a function's name.
 const NAME_LIMIT: usize = 255;
 
 /// Breakpoints, in ascending order of their ids. Contracts see them and the id that the next one has.
@@ -53,14 +53,14 @@ impl Model for Breaks {
         × (length b.held.items ≤ length b.marks.items) };
 }
 
-// The place of the breakpoint with this id.
+/// The place of the breakpoint with this id.
 fn place_of(held: &[Breakpoint], id: u32) -> Option<usize>
     ensures { result ≡ position (λ b. b.id == id) held.now }
 {
     held.iter().position(|breakpoint| breakpoint.id == id)
 }
 
-// Makes room for one mark more than so many.
+/// Makes room for one mark more than so many.
 fn make_room(marks: &mut Vec<bool>, count: usize) -> Result<(), Memory>
     requires { count ≤ length marks.old.items }
     ensures room { OnOk result (count < length marks.new.items) }
@@ -72,7 +72,7 @@ fn make_room(marks: &mut Vec<bool>, count: usize) -> Result<(), Memory>
     Ok(())
 }
 
-// The code with which a change is refused, if it is.
+/// The code with which a change is refused, if it is.
 fn refused_change(bundle: &Bundle, change: BreakChange, breakpoint: &Breakpoint) -> Option<u16>
     ensures { result ≡ change_refusal bundle.now change breakpoint.now }
 {
@@ -140,7 +140,7 @@ impl Breaks {
         Ok(id)
     }
 
-    // The first of the codes 200, 202 and 203 with which a request is refused, if it is.
+    /// The first of the codes 200, 202 and 203 with which a request is refused, if it is.
     fn refused_request(&self, bundle: &Bundle, request: &BreakRequest) -> Option<u16>
         ensures { result ≡ place_refusal bundle.now self.now request.now }
     {
@@ -155,7 +155,7 @@ impl Breaks {
         asked_line_refusal(bundle, Some(request.file), request.line)
     }
 
-    // Holds a breakpoint that has the next id.
+    /// Holds a breakpoint that has the next id.
     fn hold(&mut self, breakpoint: Breakpoint) -> Result<(), Memory>
         requires numbered { breakpoint.id ≡ self.old.next }
         requires room { length self.old.held < breakpoint_limit }

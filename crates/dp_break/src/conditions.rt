@@ -15,10 +15,10 @@ use dp_tree::{Bundle, Expression, is_pure};
 use dp_value::{Bytes, Memory, truthy};
 use std::alloc::Global;
 
-// The most bytes that an expression may have.
+/// The most bytes that an expression may have.
 const EXPRESSION_LIMIT: usize = 4096;
 
-// Why there is no tree: 207, or out of memory.
+/// Why there is no tree: 207, or out of memory.
 fn no_expression(why: ParseError) -> BreakError
     ensures { result ≡ error_of why }
 {
@@ -28,7 +28,7 @@ fn no_expression(why: ParseError) -> BreakError
     }
 }
 
-// The tree, or 207 where it may change something.
+/// The tree, or 207 where it may change something.
 fn pure_only(e: Expression) -> Result<Expression, BreakError>
     ensures { result ≡ pure_or_refused e }
 {
@@ -39,7 +39,7 @@ fn pure_only(e: Expression) -> Result<Expression, BreakError>
     }
 }
 
-// The tree of an expression, or 207 where the text is too long, is none, or may change something.
+/// The tree of an expression, or 207 where the text is too long, is none, or may change something.
 fn condition_of(alloc: Global, text: &Bytes) -> Result<Expression, BreakError>
     ensures found { IfOk result (λ e. spec.condition_of text.now ≡ Some e) }
     ensures refused { IfErr result (IsNoTree (Some text.now)) }

@@ -24,7 +24,7 @@ pub fn is_of_function(kind: BreakKind) -> bool
     }
 }
 
-// Whether a breakpoint of this kind waits for moments of that kind.
+/// Whether a breakpoint of this kind waits for moments of that kind.
 fn awaits(kind: BreakKind, moment: MomentKind) -> bool
     ensures { result ≡ spec.awaits kind moment }
 {
@@ -37,7 +37,7 @@ fn awaits(kind: BreakKind, moment: MomentKind) -> bool
     }
 }
 
-// Whether a number is the one that was given, if one was.
+/// Whether a number is the one that was given, if one was.
 fn is_met_by(given: Option<u32>, number: u32) -> bool
     ensures { result ≡ spec.is_met_by given number }
 {
@@ -47,7 +47,7 @@ fn is_met_by(given: Option<u32>, number: u32) -> bool
     }
 }
 
-// Whether both names are there and are the same, in any case of letters.
+/// Whether both names are there and are the same, in any case of letters.
 fn is_named_by(given: &Option<Bytes>, name: &Option<Bytes>) -> bool
     ensures { result ≡ spec.is_named_by given.now name.now }
 {
@@ -60,7 +60,7 @@ fn is_named_by(given: &Option<Bytes>, name: &Option<Bytes>) -> bool
     }
 }
 
-// Whether the place of a breakpoint is that of the moment.
+/// Whether the place of a breakpoint is that of the moment.
 fn is_place_of(breakpoint: &Breakpoint, moment: &Moment) -> bool
     ensures { result ≡ spec.is_place_of breakpoint.now moment.now }
 {

@@ -5,7 +5,7 @@ ghost use Rattle.dp_break.specs.Refusals as spec;
 
 use dp_tree::{Bundle, File, has_code};
 
-// Why no breakpoint may stand on a line of a file, if so: 202 or 203.
+/// Why no breakpoint may stand on a line of a file, if so: 202 or 203.
 fn line_refusal(file: &File, line: u32) -> Option<u16>
     ensures { result ≡ spec.line_refusal file.now line }
 {

@@ -62,7 +62,7 @@ pub(crate) fn mark(
 /// Lets go of a breakpoint.
 pub(crate) fn discard(_breakpoint: Breakpoint) {}
 
-// Counts a hit of the breakpoint at this place. One that is temporary goes where it stops.
+/// Counts a hit of the breakpoint at this place. One that is temporary goes where it stops.
 fn hit(held: &mut Vec<Breakpoint>, at: usize) -> bool
     requires { at < length held.old.items }
     ensures stops { (d : Breakpoint) → result ≡ stops_once_more (slice_index_or held.old.items at d) }
@@ -81,7 +81,7 @@ fn hit(held: &mut Vec<Breakpoint>, at: usize) -> bool
     true
 }
 
-// The same where the place has a mark; without one nothing happens.
+/// The same where the place has a mark; without one nothing happens.
 fn settle_at(held: &mut Vec<Breakpoint>, at: usize, mark: bool) -> bool
     requires { at < length held.old.items }
     ensures stops { (d : Breakpoint) → result ≡ (mark && stops_once_more (slice_index_or held.old.items at d)) }

@@ -22,7 +22,7 @@ use dp_packet::Response;
 use dp_tree::Bundle;
 use std::alloc::Global;
 
-// Holds the breakpoint that is asked for.
+/// Holds the breakpoint that is asked for.
 fn set_breakpoint(
     alloc: Global,
     bundle: &Bundle,
@@ -50,7 +50,7 @@ fn set_breakpoint(
     Ok(set_response(alloc, to, enabled, id)?)
 }
 
-// Shows the breakpoint of this id.
+/// Shows the breakpoint of this id.
 fn get_breakpoint(
     alloc: Global,
     bundle: &Bundle,
@@ -72,7 +72,7 @@ fn get_breakpoint(
     }
 }
 
-// Takes out the breakpoint of this id.
+/// Takes out the breakpoint of this id.
 fn remove_breakpoint(
     alloc: Global,
     to: &Addressee,
@@ -93,7 +93,7 @@ fn remove_breakpoint(
     Ok(bare_response(alloc, to)?)
 }
 
-// Gets or removes the breakpoint of this id.
+/// Gets or removes the breakpoint of this id.
 fn act_on_breakpoint(
     alloc: Global,
     bundle: &Bundle,
@@ -118,7 +118,7 @@ fn act_on_breakpoint(
     }
 }
 
-// Changes a breakpoint.
+/// Changes a breakpoint.
 fn update_breakpoint(
     alloc: Global,
     bundle: &Bundle,

@@ -10,7 +10,7 @@ use dp_tree::Bundle;
 use dp_value::{Bytes, Memory};
 use std::alloc::Global;
 
-// The URI of the file of this number, where there is one.
+/// The URI of the file of this number, where there is one.
 fn uri_of(alloc: Global, bundle: &Bundle, file: Option<u32>) -> Result<Option<Bytes>, Memory>
     ensures uri { IfOk result (λ uri. uri ≡ option_and_then (spec.uri_of bundle.now) file) }
     ensures memory { OnErr result (is_some file ≡ true) }
@@ -24,7 +24,7 @@ fn uri_of(alloc: Global, bundle: &Bundle, file: Option<u32>) -> Result<Option<By
     }
 }
 
-// A copy of a text that may be missing.
+/// A copy of a text that may be missing.
 fn copy_of(text: &Option<Bytes>) -> Result<Option<Bytes>, Memory>
     ensures copy { IfOk result (λ copy. copy ≡ text.now) }
     ensures memory { OnErr result (is_some text.now ≡ true) }

@@ -20,13 +20,13 @@ use dp_value::Memory;
 use dp_wire::PACKET_LIMIT;
 use std::alloc::Global;
 
-// The most bytes of a packet's text.
+/// The most bytes of a packet's text.
 const LIMIT: u64 = PACKET_LIMIT as u64;
 
-// The size of a response without its command's name, its id and what stands in it.
+/// The size of a response without its command's name, its id and what stands in it.
 const BARE_SIZE: u64 = 98;
 
-// The room for breakpoints in the response to a command.
+/// The room for breakpoints in the response to a command.
 fn room_for_lines(to: &Addressee) -> u64
     ensures { result + length (text (packet.Response (spec.lines_response to.now.command to.now.id []))) ≡
         packet_limit }
@@ -36,7 +36,7 @@ fn room_for_lines(to: &Addressee) -> u64
     LIMIT - (BARE_SIZE + command + id)
 }
 
-// The first of the breakpoints as a packet shows them, up to the one for which there is no room.
+/// The first of the breakpoints as a packet shows them, up to the one for which there is no room.
 fn fitting_lines(
     alloc: Global,
     bundle: &Bundle,
@@ -60,8 +60,8 @@ fn fitting_lines(
     Ok(lines)
 }
 
-// The breakpoints that a response to a command lists. Each is measured before it is put in, so that none is made behind
-// the first that would not fit.
+/// The breakpoints that a response to a command lists. Each is measured before it is put in, so that none is made
+/// behind the first that would not fit.
 #[tactic(auto, using(crate::proofs::Lengths::listed_are))]
 fn listed_lines(
     alloc: Global,
@@ -90,7 +90,7 @@ pub(crate) fn list_response(
     lines_response(alloc, to, lines)
 }
 
-// One breakpoint as a packet shows it.
+/// One breakpoint as a packet shows it.
 fn one_line(
     alloc: Global,
     bundle: &Bundle,

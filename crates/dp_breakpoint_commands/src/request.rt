@@ -19,7 +19,7 @@ use dp_tree::Bundle;
 use dp_value::Bytes;
 use std::alloc::Global;
 
-// What the words of a breakpoint_set command mean.
+/// What the words of a breakpoint_set command mean.
 #[derive(Clone, Copy, Debug)]
 struct Words {
     kind: BreakKind,
@@ -29,7 +29,7 @@ struct Words {
     enabled: Option<bool>,
 }
 
-// Whether a part is missing that a breakpoint of this kind must have.
+/// Whether a part is missing that a breakpoint of this kind must have.
 fn lacks_part(kind: BreakKind, set: &BreakpointSet) -> bool
     ensures { result ≡ spec.lacks_part kind set.now }
 {
@@ -40,7 +40,7 @@ fn lacks_part(kind: BreakKind, set: &BreakpointSet) -> bool
     }
 }
 
-// Whether a function has a line, a line has a function, or there is an exception.
+/// Whether a function has a line, a line has a function, or there is an exception.
 fn has_part_too_many(kind: BreakKind, set: &BreakpointSet) -> bool
     ensures { result ≡ spec.has_part_too_many kind set.now }
 {
@@ -53,7 +53,7 @@ fn has_part_too_many(kind: BreakKind, set: &BreakpointSet) -> bool
 }
 
 impl Words {
-    // The words of a command, or the code of its first refusal but that of the file: 201, 3 or 204. Takes no memory.
+    /// The words of a command, or the code of its first refusal but that of the file: 201, 3 or 204. Takes no memory.
     #[tactic(auto, unfolding(crate::specs::Requests::word_tests))]
     fn of(set: &BreakpointSet) -> Result<Words, BreakpointError>
         ensures words { IfOk result (λ words. words ≡ inner.words set.now) }
@@ -76,8 +76,8 @@ impl Words {
     }
 }
 
-// The number of the file that `-f` names, where it is given. One that the bundle does not have is refused with code
-// 200.
+/// The number of the file that `-f` names, where it is given. One that the bundle does not have is refused with code
+/// 200.
 #[tactic(auto, unfolding(crate::specs::Words::has_no_meaning))]
 fn file_given(
     alloc: Global,
@@ -100,7 +100,7 @@ fn file_given(
     }
 }
 
-// The request in words of this meaning, of the file of this number.
+/// The request in words of this meaning, of the file of this number.
 fn request_in(words: Words, file: u32, set: BreakpointSet) -> BreakRequest
     ensures { result ≡ inner.request_in words file set }
 {

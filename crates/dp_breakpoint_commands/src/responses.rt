@@ -13,7 +13,7 @@ use dp_value::{Bytes, Items, Memory};
 use itoa::Buffer;
 use std::alloc::Global;
 
-// How it is said whether a breakpoint is enabled.
+/// How it is said whether a breakpoint is enabled.
 fn state_name(enabled: bool) -> &'static [u8]
     ensures { result.now ≡ breakpoints.state_name enabled }
 {
@@ -61,7 +61,7 @@ pub(crate) fn bare_response(alloc: Global, to: &Addressee) -> Result<Response, M
     response(alloc, to, Vec::new(alloc), Body::Nothing)
 }
 
-// The state and the id of a new breakpoint.
+/// The state and the id of a new breakpoint.
 fn set_attributes(alloc: Global, enabled: bool, id: u32) -> Result<Vec<(Bytes, Bytes)>, Memory>
     ensures { IfOk result (λ attributes. attributes.items
         ≡ (codes "state", breakpoints.state_name enabled) ∷ (codes "id", decimal id) ∷ []) }

@@ -26,7 +26,7 @@ pub(crate) fn kind_named(word: &[u8]) -> Option<BreakKind>
     }
 }
 
-// How hits are compared: `>=`, `==` or `%`.
+/// How hits are compared: `>=`, `==` or `%`.
 #[tactic(auto, unfolding(crate::specs::Words::rule_named))]
 fn rule_named(word: &[u8]) -> Option<HitRule>
     ensures { result ≡ spec.rule_named word.now }
@@ -42,7 +42,7 @@ fn rule_named(word: &[u8]) -> Option<HitRule>
     }
 }
 
-// Whether `enabled` or `disabled`.
+/// Whether `enabled` or `disabled`.
 #[tactic(auto, unfolding(crate::specs::Words::state_named))]
 fn state_named(word: &[u8]) -> Option<bool>
     ensures { result ≡ spec.state_named word.now }
@@ -56,7 +56,7 @@ fn state_named(word: &[u8]) -> Option<bool>
     }
 }
 
-// Whether `1` or `0`.
+/// Whether `1` or `0`.
 #[tactic(auto, unfolding(crate::specs::Words::flag_named))]
 fn flag_named(word: &[u8]) -> Option<bool>
     ensures { result ≡ spec.flag_named word.now }

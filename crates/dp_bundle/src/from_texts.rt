@@ -15,7 +15,7 @@ use dp_tree::{Bundle, BundleFile, FILE_LIMIT, Files};
 use dp_value::{Bytes, Items};
 use std::alloc::Global;
 
-// The refusal of the file of this number, whose text has no tree.
+/// The refusal of the file of this number, whose text has no tree.
 fn source_of(number: u32, why: ParseError) -> BundleError
     ensures { result ≡ named_source number why }
 {
@@ -28,7 +28,7 @@ fn source_of(number: u32, why: ParseError) -> BundleError
     }
 }
 
-// The file of this number.
+/// The file of this number.
 fn file_of(alloc: Global, number: u32, name: Bytes, text: Bytes) -> Result<BundleFile, BundleError>
     ensures made { IfOk result (λ file. IsBundleFile (name, text) file) }
     ensures cause { IfErr result (λ e. (e ≡ BundleError.Memory) ⊎ IsRefused number text e) }
@@ -69,7 +69,7 @@ impl FromTexts for Bundle {
     }
 }
 
-// The program of these files.
+/// The program of these files.
 fn bundle_of(alloc: Global, files: Items<(Bytes, Bytes)>) -> Result<Bundle, BundleError>
     requires { AreForBundle files }
     ensures made { (result ≡ Err BundleError.Memory) ⊎ Makes files result }

@@ -16,7 +16,7 @@ use crate::values::{options, payload};
 use dp_value::{Bytes, Items};
 use std::alloc::Global;
 
-// The name, the options, and the text of the payload where there is one.
+/// The name, the options, and the text of the payload where there is one.
 #[tactic(auto, unfolding(crate::specs::inner::Parts::parts_at))]
 fn parts(
     alloc: Global,

@@ -8,10 +8,10 @@ ghost use Rattle.dp_command.specs.Lines.{Gives};
 use crate::errors::LineError;
 use crate::sort::{Sort, is_letter, run};
 
-// The longest name of a command.
+/// The longest name of a command.
 const LONGEST: usize = 64;
 
-// What stands behind one space or more.
+/// What stands behind one space or more.
 #[tactic(auto, unfolding(crate::specs::inner::Parts::spaces_at))]
 pub(crate) fn spaces(bytes: &[u8]) -> Result<&[u8], LineError>
     ensures { Gives (λ rest. rest.now) result (spaces_at bytes.now) }
@@ -49,7 +49,7 @@ fn dashed_letter(bytes: &[u8]) -> Option<(u8, &[u8])>
     }
 }
 
-// The letter of the option that stands here.
+/// The letter of the option that stands here.
 #[tactic(auto, unfolding(crate::specs::inner::Parts::letter_at, crate::specs::inner::Parts::spaces_at))]
 pub(crate) fn letter(bytes: &[u8]) -> Option<(u8, &[u8])>
     ensures { MatchOption result (letter_at bytes.now ≡ None)
@@ -61,7 +61,7 @@ pub(crate) fn letter(bytes: &[u8]) -> Option<(u8, &[u8])>
     }
 }
 
-// The text of a payload, with spaces before it and nothing but spaces behind it.
+/// The text of a payload, with spaces before it and nothing but spaces behind it.
 #[tactic(auto, unfolding(crate::specs::inner::Parts::text_at))]
 fn text(bytes: &[u8]) -> Result<&[u8], LineError>
     ensures { Gives (λ text. text.now) result (text_at bytes.now) }
@@ -73,7 +73,7 @@ fn text(bytes: &[u8]) -> Result<&[u8], LineError>
     Ok(text)
 }
 
-// The text of the payload where there is one, up to the end of the line.
+/// The text of the payload where there is one, up to the end of the line.
 #[tactic(auto, unfolding(crate::specs::inner::Parts::ending_at))]
 pub(crate) fn ending(bytes: &[u8]) -> Result<Option<&[u8]>, LineError>
     ensures { Gives (λ found. seen_text (λ t. t.now) found) result (ending_at bytes.now) }

@@ -14,7 +14,7 @@ use crate::options::{has_duplicate, is_given, mode_of, option_value};
 use crate::slots::{Kind, Presence, Slot, payload_of, slots_of};
 use dp_value::Bytes;
 
-// The longest transaction id.
+/// The longest transaction id.
 const LONGEST: usize = 64;
 
 /// The transaction id that a reply to this line repeats: the value of its first `-i` where that is

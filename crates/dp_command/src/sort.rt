@@ -48,7 +48,7 @@ fn run_len(sort: Sort, bytes: &[u8]) -> usize
     n
 }
 
-// The run of bytes of a sort at the front, and what stands behind it.
+/// The run of bytes of a sort at the front, and what stands behind it.
 pub(crate) fn run(sort: Sort, bytes: &[u8]) -> (&[u8], &[u8])
     ensures { (result.0.now, result.1.now) ≡ run_at (test_of sort) bytes.now }
 {

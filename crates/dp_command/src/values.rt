@@ -15,7 +15,7 @@ use base64::engine::general_purpose::STANDARD;
 use dp_value::{Bytes, Items};
 use std::alloc::Global;
 
-// The byte between quotes that stands here; none at the closing quote.
+/// The byte between quotes that stands here; none at the closing quote.
 #[tactic(auto, unfolding(crate::specs::inner::Parts::byte_at))]
 fn byte(bytes: &[u8]) -> Result<(Option<u8>, &[u8]), LineError>
     ensures { Gives (λ found. (found.0, found.1.now)) result (byte_at bytes.now) }
@@ -46,7 +46,7 @@ fn inner(alloc: Global, bytes: &[u8]) -> Result<(Vec<u8>, &[u8]), LineError>
     Ok((value, rest))
 }
 
-// The value whose opening quote stands before these bytes.
+/// The value whose opening quote stands before these bytes.
 #[tactic(auto, unfolding(crate::specs::inner::Parts::quoted_at))]
 fn quoted(alloc: Global, bytes: &[u8]) -> Result<(Bytes, &[u8]), LineError>
     ensures { Gives (λ found. (found.0, found.1.now)) result (quoted_at bytes.now) }
@@ -81,7 +81,7 @@ fn value(alloc: Global, bytes: &[u8]) -> Result<(Bytes, &[u8]), LineError>
     }
 }
 
-// The option that stands here; none where no space, dash and letter stand here.
+/// The option that stands here; none where no space, dash and letter stand here.
 #[tactic(auto, unfolding(crate::specs::inner::Parts::option_at))]
 fn option(alloc: Global, bytes: &[u8]) -> Result<(Option<(u8, Bytes)>, &[u8]), LineError>
     ensures { Gives (λ found. (found.0, found.1.now)) result (option_at bytes.now) }
@@ -117,7 +117,7 @@ pub(crate) fn options(alloc: Global, bytes: &[u8]) -> Result<(Items<(u8, Bytes)>
     Ok((Items::of(options), rest))
 }
 
-// What a text decodes to: strict base64, of which each list of bytes has one.
+/// What a text decodes to: strict base64, of which each list of bytes has one.
 #[tactic(auto, unfolding(base64::specs::GeneralPurpose::decoded_of))]
 pub(crate) fn payload(alloc: Global, text: &[u8]) -> Result<Bytes, LineError>
     ensures { Gives (λ p. p) result (decoded_of standard text.now) }

@@ -20,7 +20,7 @@ use dp_tree::Bundle;
 use dp_value::Memory;
 use std::sync::ledger::Ledger;
 
-// Counts the hits of a moment, and says whether the program stops at it.
+/// Counts the hits of a moment, and says whether the program stops at it.
 fn pass(
     bundle: &Bundle,
     mode: Continuation,
@@ -71,7 +71,7 @@ pub fn go_on_from<L: Ledger>(
     }
 }
 
-// The same, one moment after another.
+/// The same, one moment after another.
 fn go_on_watched<L: Ledger>(
     machine: &mut Machine,
     bundle: &Bundle,
@@ -107,7 +107,7 @@ fn go_on_watched<L: Ledger>(
     Err(Memory)
 }
 
-// To the end of the program, which nothing stops before.
+/// To the end of the program, which nothing stops before.
 fn run_free<L: Ledger>(machine: &mut Machine, steps: &mut Steps<L>) -> Result<Reached, Memory>
     ensures reached { (bundle : SomeBundle) (bound : ℕ) (writes : List AnyWrite) (n : ℕ)
         → StandsFor bundle bound writes n machine.old
@@ -123,7 +123,7 @@ fn run_free<L: Ledger>(machine: &mut Machine, steps: &mut Steps<L>) -> Result<Re
     Ok(Reached::End(outcome))
 }
 
-// Whether neither the command nor a breakpoint stops at any moment.
+/// Whether neither the command nor a breakpoint stops at any moment.
 fn is_free(mode: Continuation, breaks: &Breaks) -> bool
     ensures none { result ≡ true → breaks.now.held ≡ [] }
     ensures mode { result ≡ true → (depth : ℕ) (moment : AnyMoment) → stops mode depth moment ≡ false }

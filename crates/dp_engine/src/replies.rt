@@ -27,7 +27,7 @@ pub(crate) struct Turn {
     pub ended: Option<SessionEnd>,
 }
 
-// A response, after which the session has ended so, or goes on.
+/// A response, after which the session has ended so, or goes on.
 fn told(alloc: Global, response: Response, ended: Option<SessionEnd>) -> Result<Turn, Memory>
     requires { Fits response }
     ensures { IfOk result (Tells response ended) }
@@ -80,7 +80,7 @@ pub(crate) fn tell_feature(
     }
 }
 
-// A feature's value.
+/// A feature's value.
 fn tell_value(
     alloc: Global,
     to: &Addressee,
@@ -97,7 +97,7 @@ fn tell_value(
     tell(alloc, response)
 }
 
-// Whether there is a command of a name that no feature has.
+/// Whether there is a command of a name that no feature has.
 fn tell_command(
     alloc: Global,
     to: &Addressee,
@@ -113,7 +113,7 @@ fn tell_command(
     tell(alloc, response)
 }
 
-// How it is reported whether a command has this name.
+/// How it is reported whether a command has this name.
 fn supported(name: &[u8]) -> &'static [u8]
     ensures text { result.now ≡ flag (is_some (name_of name.now)) }
     ensures short { length result.now ≤ 16 }

@@ -18,7 +18,7 @@ fn pair(alloc: Global, name: &[u8], value: &[u8]) -> Result<(Bytes, Bytes), Memo
     Ok((name, value))
 }
 
-// Two attributes.
+/// Two attributes.
 fn pairs(
     alloc: Global,
     first: (&[u8], &[u8]),
@@ -76,7 +76,7 @@ pub(crate) fn status(
     response(alloc, to, attributes, Body::Nothing)
 }
 
-// What tells a value, where there is one.
+/// What tells a value, where there is one.
 fn told(value: Option<Bytes>) -> Body
     ensures { result ≡ spec.value_body value }
 {
@@ -115,7 +115,7 @@ pub(crate) fn feature_set(alloc: Global, to: &Addressee, feature: &[u8]) -> Resu
     response(alloc, to, attributes, Body::Nothing)
 }
 
-// Whether a command succeeds, as an attribute.
+/// Whether a command succeeds, as an attribute.
 fn success_attributes(alloc: Global, success: bool) -> Result<Items<(Bytes, Bytes)>, Memory>
     ensures { IfOk result (λ pairs. pairs ≡ (codes "success", flag_text success) ∷ []) }
 {

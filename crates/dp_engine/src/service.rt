@@ -49,7 +49,7 @@ pub struct Served {
     pub outcome: Option<Outcome>,
 }
 
-// A session, and the steps that it counts. Contracts see what the session knows.
+/// A session, and the steps that it counts. Contracts see what the session knows.
 #[derive(Drop)]
 struct Counted<'s, 'a, L: Ledger> {
     session: Session<'a>,
@@ -77,20 +77,20 @@ impl<'s, 'a, L: Ledger> Responder for Counted<'s, 'a, L> {
 
     ghost step = { answer };
 
-    // The session has an allocator of its own.
+    /// The session has an allocator of its own.
     fn answer(&mut self, _alloc: Global, line: &[u8]) -> Result<Answer, Memory> {
         self.session.answer(line, self.steps)
     }
 }
 
-// A session whose program did not run to its end.
+/// A session whose program did not run to its end.
 fn cut_short(end: ServeEnd) -> Served
     ensures { result ≡ record { end = end; outcome = None } }
 {
     Served { end, outcome: None }
 }
 
-// Leaves the program where it stands.
+/// Leaves the program where it stands.
 fn left(session: Session<'_>, end: ServeEnd) -> Served
     ensures { result ≡ record { end = end; outcome = None } }
 {
@@ -98,7 +98,7 @@ fn left(session: Session<'_>, end: ServeEnd) -> Served
     cut_short(end)
 }
 
-// Runs the program on to its end, once the session is over.
+/// Runs the program on to its end, once the session is over.
 fn run_on<E: Sink, L: Ledger>(
     session: Session<'_>,
     end: ServeEnd,
@@ -121,7 +121,7 @@ fn run_on<E: Sink, L: Ledger>(
     }
 }
 
-// What becomes of the program once the session is over.
+/// What becomes of the program once the session is over.
 fn close<E: Sink, L: Ledger>(
     session: Session<'_>,
     over: SessionOver<SessionEnd>,
@@ -149,7 +149,7 @@ fn close<E: Sink, L: Ledger>(
     }
 }
 
-// What becomes of the program once a fault has cut the session short.
+/// What becomes of the program once a fault has cut the session short.
 fn close_cut<E: Sink, L: Ledger>(
     session: Session<'_>,
     fault: Fault<SessionEnd>,

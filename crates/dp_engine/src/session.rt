@@ -82,7 +82,7 @@ impl<'a> Model for Session<'a> {
         × AreFileNames (map (λ f. f.name) s.bundle.now.files) };
 }
 
-// The line that the bytes spell, if they spell one.
+/// The line that the bytes spell, if they spell one.
 fn read(alloc: Global, bytes: &[u8]) -> Result<Option<Line>, Memory>
     requires { IsCommand bytes.now }
     ensures value { IfOk result (λ line. line ≡ line_of bytes.now) }
@@ -95,7 +95,7 @@ fn read(alloc: Global, bytes: &[u8]) -> Result<Option<Line>, Memory>
     }
 }
 
-// What follows so many bytes.
+/// What follows so many bytes.
 fn tail(bytes: &[u8], count: usize) -> &[u8]
     ensures { result.now ≡ drop count bytes.now }
 {
@@ -106,7 +106,7 @@ fn tail(bytes: &[u8], count: usize) -> &[u8]
     }
 }
 
-// What is sent of a turn in which so much was written.
+/// What is sent of a turn in which so much was written.
 fn give(alloc: Global, mode: StreamMode, written: &[u8], turn: Turn) -> Result<Answer, Memory>
     requires { IsPacketText turn.text }
     ensures ok { IfOk result (λ answer. IsSent mode written.now turn answer) }
@@ -252,7 +252,7 @@ impl<'a> Session<'a> {
         rest
     }
 
-    // The same of a session that is lent.
+    /// The same of a session that is lent.
     fn run_out<L: Ledger>(&mut self, steps: &mut Steps<L>) -> Result<(Bytes, Outcome), Memory>
         ensures rest { IfOk result (λ rest. rest.0 ≡ unwritten self.old) }
         ensures outcome { IfOk result (λ rest. rest.1 ≡ outcome_of self.old) }
@@ -265,7 +265,7 @@ impl<'a> Session<'a> {
         }
     }
 
-    // The same where the program has not ended.
+    /// The same where the program has not ended.
     fn run_rest<L: Ledger>(&mut self, steps: &mut Steps<L>) -> Result<(Bytes, Outcome), Memory>
         requires { self.old.phase ≢ Phase.Stopping }
         ensures rest { IfOk result (λ rest. rest.0 ≡ unwritten self.old) }
@@ -291,7 +291,7 @@ impl<'a> Session<'a> {
     }
 }
 
-// The text of the packet that opens a session.
+/// The text of the packet that opens a session.
 fn first_packet(alloc: Global, bundle: &Bundle, key: &[u8]) -> Result<Bytes, Memory>
     requires key { length key.now ≤ 128 }
     requires name { length (main_name bundle.now) ≤ 255 }
@@ -303,7 +303,7 @@ fn first_packet(alloc: Global, bundle: &Bundle, key: &[u8]) -> Result<Bytes, Mem
     text_of(alloc, &Packet::Init(Init { idekey, fileuri }))
 }
 
-// The name of the main file.
+/// The name of the main file.
 fn main_file(bundle: &Bundle) -> &[u8]
     ensures { result.now ≡ main_name bundle.now }
 {

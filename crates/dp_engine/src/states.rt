@@ -82,7 +82,7 @@ impl Phase {
         }
     }
 
-    // Whether the program has not ended.
+    /// Whether the program has not ended.
     fn is_before_end(self) -> bool
         ensures { result ≡ spec.before_end self }
     {
@@ -93,7 +93,7 @@ impl Phase {
         }
     }
 
-    // Whether the program stands at a moment.
+    /// Whether the program stands at a moment.
     fn is_at_moment(self) -> bool
         ensures { result ≡ spec.at_moment self }
     {

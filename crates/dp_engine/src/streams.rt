@@ -12,10 +12,10 @@ use dp_packet::{Packet, text_of};
 use dp_value::{Bytes, Items, Memory};
 use std::alloc::Global;
 
-// So many bytes of output stand in one packet.
+/// So many bytes of output stand in one packet.
 const STREAM_SIZE: usize = 4096;
 
-// The packet in which a piece of output goes to the IDE.
+/// The packet in which a piece of output goes to the IDE.
 fn stream_text(alloc: Global, piece: &[u8]) -> Result<Bytes, Memory>
     ensures { IfOk result (λ made. made ≡ text_for (packet.Stream piece.now)) }
 {
@@ -23,7 +23,7 @@ fn stream_text(alloc: Global, piece: &[u8]) -> Result<Bytes, Memory>
     text_of(alloc, &Packet::Stream(piece))
 }
 
-// The first piece of output, and what follows it.
+/// The first piece of output, and what follows it.
 fn first_piece(output: &[u8]) -> (&[u8], &[u8])
     ensures piece { result.0.now ≡ take stream_size output.now }
     ensures rest { result.1.now ≡ drop stream_size output.now }
@@ -35,7 +35,7 @@ fn first_piece(output: &[u8]) -> (&[u8], &[u8])
     }
 }
 
-// Puts the packets in which output goes to the IDE behind others.
+/// Puts the packets in which output goes to the IDE behind others.
 #[tactic(auto, using(crate::proofs::StreamPackets::streams_on))]
 fn put_streams(alloc: Global, texts: &mut Vec<Bytes>, output: &[u8]) -> Result<(), Memory>
     ensures { OnOk result (texts.new.items ≡ texts.old.items ++ streams output.now) }
@@ -49,7 +49,7 @@ fn put_streams(alloc: Global, texts: &mut Vec<Bytes>, output: &[u8]) -> Result<(
     Ok(())
 }
 
-// The output that goes to the IDE, and then this text.
+/// The output that goes to the IDE, and then this text.
 fn gather(
     alloc: Global,
     mode: StreamMode,

@@ -45,7 +45,7 @@ impl<'a> Session<'a> {
         }
     }
 
-    // What a line leads to.
+    /// What a line leads to.
     fn turn_on<L: Ledger>(
         &mut self,
         alloc: Global,
@@ -65,7 +65,7 @@ impl<'a> Session<'a> {
         }
     }
 
-    // What a request leads to.
+    /// What a request leads to.
     fn perform<L: Ledger>(
         &mut self,
         alloc: Global,
@@ -86,7 +86,7 @@ impl<'a> Session<'a> {
         }
     }
 
-    // What a request leads to that is answered from the session.
+    /// What a request leads to that is answered from the session.
     fn perform_here<L: Ledger>(
         &mut self,
         alloc: Global,
@@ -116,7 +116,7 @@ impl<'a> Session<'a> {
         }
     }
 
-    // What a breakpoint command leads to. The breakpoints are changed at once.
+    /// What a breakpoint command leads to. The breakpoints are changed at once.
     fn perform_on_breakpoints(
         &mut self,
         alloc: Global,
@@ -139,7 +139,7 @@ impl<'a> Session<'a> {
         }
     }
 
-    // What is shown of the program, or why it is not.
+    /// What is shown of the program, or why it is not.
     fn show(&self, alloc: Global, to: &Addressee, request: &Request) -> Result<Turn, Memory>
         requires { side_of request.now ≡ Side.Program }
         ensures { IfOk result (IsTurn (answered to.now.command to.now.id request.now self.now) self.now) }
@@ -161,7 +161,7 @@ impl<'a> Session<'a> {
         }
     }
 
-    // What a command that writes leads to. The write is made at once.
+    /// What a command that writes leads to. The write is made at once.
     fn write(&mut self, alloc: Global, to: &Addressee, request: &Request) -> Result<Turn, Memory>
         requires side { side_of request.now ≡ Side.Writes }
         requires stands { self.old.phase ≡ Phase.Break }
@@ -188,7 +188,7 @@ impl<'a> Session<'a> {
         }
     }
 
-    // An error changes nothing.
+    /// An error changes nothing.
     fn refuse(&self, alloc: Global, to: &Addressee, code: u16) -> Result<Turn, Memory>
         requires { IsCode code }
         ensures { IfOk result (Tells (fault_response to.now.command to.now.id code) None) }
@@ -196,7 +196,7 @@ impl<'a> Session<'a> {
         refuse(alloc, to, code)
     }
 
-    // Sets a feature to a value, if it can have it.
+    /// Sets a feature to a value, if it can have it.
     fn put_feature(
         &mut self,
         alloc: Global,
@@ -219,7 +219,7 @@ impl<'a> Session<'a> {
         tell(alloc, response)
     }
 
-    // Tells where output goes. The program's output goes there from now on.
+    /// Tells where output goes. The program's output goes there from now on.
     fn redirect(
         &mut self,
         alloc: Global,
@@ -241,7 +241,7 @@ impl<'a> Session<'a> {
         tell(alloc, response)
     }
 
-    // A continuation. Once the program has ended it ends the session.
+    /// A continuation. Once the program has ended it ends the session.
     fn go_on<L: Ledger>(
         &mut self,
         alloc: Global,
@@ -260,7 +260,7 @@ impl<'a> Session<'a> {
         }
     }
 
-    // Goes on to the next stop or to the end, and tells which.
+    /// Goes on to the next stop or to the end, and tells which.
     fn advance<L: Ledger>(
         &mut self,
         alloc: Global,

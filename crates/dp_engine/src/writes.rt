@@ -14,7 +14,7 @@ use dp_view_commands::ViewError;
 use dp_write_commands::{Written, write_response};
 use std::alloc::Global;
 
-// Puts a write behind others, where there is room for it.
+/// Puts a write behind others, where there is room for it.
 fn keep(writes: &mut Vec<NumberedWrite>, write: NumberedWrite)
     requires { vec_len writes.old < vec_capacity writes.old }
     ensures { writes.new.items ≡ writes.old.items ++ write ∷ [] }

@@ -16,7 +16,7 @@ use dp_tree::{Boxed, Expression, Place};
 use std::alloc::Global;
 
 impl<R: Inside> Grammar<R> {
-    // What stands right of a `??`, with the operator.
+    /// What stands right of a `??`, with the operator.
     fn coalesce_right(&self, tokens: &mut Tokens<'_>) -> Result<Expression, Refusal>
         ensures { Reads (within spec.coalesce_right self.now tokens.old) result tokens.new }
     {
@@ -41,7 +41,7 @@ impl<R: Inside> Grammar<R> {
         Ok(Expression::Coalesce(left, Boxed::new(self.alloc(), right)?))
     }
 
-    // What may stand right of a `??`.
+    /// What may stand right of a `??`.
     #[tactic(auto, unfolding(crate::specs::inner::Readers::coalesce))]
     fn coalesce(&self, tokens: &mut Tokens<'_>) -> Result<Expression, Refusal>
         ensures { Reads (within spec.coalesce self.now tokens.old) result tokens.new }
@@ -50,7 +50,7 @@ impl<R: Inside> Grammar<R> {
         self.coalesce_rest(tokens, left)
     }
 
-    // The middle of a conditional, which may be missing.
+    /// The middle of a conditional, which may be missing.
     #[tactic(auto, unfolding(crate::specs::inner::Readers::middle))]
     fn middle(&self, tokens: &mut Tokens<'_>) -> Result<Option<Boxed<Expression>>, Refusal>
         ensures { Reads (within spec.middle self.now tokens.old) result tokens.new }
@@ -63,7 +63,7 @@ impl<R: Inside> Grammar<R> {
         Ok(Some(Boxed::new(self.alloc(), found)?))
     }
 
-    // The parts of a conditional behind its test.
+    /// The parts of a conditional behind its test.
     #[tactic(auto, unfolding(crate::specs::inner::Readers::branches))]
     fn branches(&self, tokens: &mut Tokens<'_>, test: Expression) -> Result<Expression, Refusal>
         ensures { Reads (within spec.branches self.now test tokens.old) result tokens.new }
@@ -91,7 +91,7 @@ impl<R: Inside> Grammar<R> {
         }
     }
 
-    // An expression whose first operand was read before.
+    /// An expression whose first operand was read before.
     #[tactic(auto, unfolding(crate::specs::inner::Readers::going_on))]
     fn going_on(&self, tokens: &mut Tokens<'_>, first: Expression) -> Result<Expression, Refusal>
         ensures { Reads (within spec.going_on self.now first tokens.old) result tokens.new }

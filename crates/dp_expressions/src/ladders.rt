@@ -30,7 +30,7 @@ pub(crate) const RANKS: [Rank; 7] = [
     Rank::Product,
 ];
 
-// Whether a further operator of this rank may join operands.
+/// Whether a further operator of this rank may join operands.
 fn may_go_on(rank: Rank, links: &[Link]) -> bool
     ensures { result ≡ grammar.may_go_on rank links.now }
 {

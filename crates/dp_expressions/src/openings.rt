@@ -17,7 +17,7 @@ use std::alloc::Global;
 use std::ops::ControlFlow;
 
 impl<R: Inside> Grammar<R> {
-    // An index or, where an assignment may follow, `[]`.
+    /// An index or, where an assignment may follow, `[]`.
     #[tactic(auto, unfolding(crate::specs::inner::Readers::index_or_push))]
     fn index_or_push(
         &self,
@@ -67,7 +67,7 @@ impl<R: Inside> Grammar<R> {
         Err(tokens.refuse())
     }
 
-    // What an expression begins with, where it is a variable.
+    /// What an expression begins with, where it is a variable.
     #[tactic(auto, unfolding(crate::specs::inner::Readers::opening_place))]
     fn opening_place(&self, tokens: &mut Tokens<'_>) -> Result<Operand, Refusal>
         ensures { Reads (within spec.opening_place self.now tokens.old) result tokens.new }

@@ -17,7 +17,7 @@ use dp_tree::{Expression, Item, Order, Place};
 use std::alloc::Global;
 
 impl<R: Inside> Grammar<R> {
-    // An expression in parentheses.
+    /// An expression in parentheses.
     #[tactic(auto, unfolding(crate::specs::inner::Readers::group))]
     fn group(&self, tokens: &mut Tokens<'_>) -> Result<Expression, Refusal>
         ensures { Reads (within spec.group self.now tokens.old) result tokens.new }

@@ -59,7 +59,7 @@ impl Model for Features {
     }) };
 }
 
-// The decimal of a number.
+/// The decimal of a number.
 #[tactic(auto, using(crate::proofs::Short::decimal_short))]
 fn text_of(alloc: Global, number: u32) -> Result<Bytes, Memory>
     ensures value { IfOk result (λ text. text ≡ decimal number) }

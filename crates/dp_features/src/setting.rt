@@ -28,7 +28,7 @@ impl Model for Setting {
     ghost invariant = { λ s. IsInRange s.feature s.number };
 }
 
-// The number of a decimal in this range.
+/// The number of a decimal in this range.
 fn number_in(value: &[u8], range: (u64, u64)) -> Option<u64>
     ensures value { result ≡ spec.number_in value.now range }
     ensures range { IfSome result (λ n. (range.0 ≤ n) × (n ≤ range.1)) }
@@ -41,7 +41,7 @@ fn number_in(value: &[u8], range: (u64, u64)) -> Option<u64>
     }
 }
 
-// The number of a value that a feature can be set to.
+/// The number of a value that a feature can be set to.
 #[tactic(auto, using(crate::proofs::Ranges::in_range))]
 fn number_of(feature: Feature, value: &[u8]) -> Option<u64>
     ensures value { result ≡ spec.number_of feature value.now }

@@ -9,10 +9,10 @@ use dp_value::{Bytes, Memory, are_alike};
 use percent_encoding::percent_decode;
 use std::alloc::Global;
 
-// What each file's URI begins with.
+/// What each file's URI begins with.
 const URI_FRONT: &[u8] = b"file:///";
 
-// The number of the file with a name.
+/// The number of the file with a name.
 #[tactic(auto, unfolding(crate::specs::Files::file_like))]
 fn file_like(bundle: &Bundle, name: &[u8]) -> Option<usize>
     ensures { result ≡ spec.file_like bundle.now name.now }
@@ -21,7 +21,7 @@ fn file_like(bundle: &Bundle, name: &[u8]) -> Option<usize>
     files.position(|file| are_alike(file.name.as_slice(), name))
 }
 
-// The same as a number of 32 bits. More files than can be numbered do not fit into memory.
+/// The same as a number of 32 bits. More files than can be numbered do not fit into memory.
 fn file_number(bundle: &Bundle, name: &[u8]) -> Result<Option<u32>, Memory>
     ensures number { IfOk result (λ number. number ≡ spec.file_like bundle.now name.now) }
     ensures memory { OnErr result (u32.MAX < length bundle.now.files) }
@@ -35,7 +35,7 @@ fn file_number(bundle: &Bundle, name: &[u8]) -> Result<Option<u32>, Memory>
     }
 }
 
-// The bytes of a path, with its percent escapes decoded: a `%` without two hexadecimal digits behind it stays.
+/// The bytes of a path, with its percent escapes decoded: a `%` without two hexadecimal digits behind it stays.
 fn decoded(alloc: Global, path: &[u8]) -> Result<Bytes, Memory>
     ensures { IfOk result (λ name. name ≡ decoded_path path.now) }
 {

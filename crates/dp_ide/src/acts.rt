@@ -12,20 +12,20 @@ use dp_value::{Bytes, Memory};
 use dp_wire::COMMAND_LIMIT;
 use std::alloc::Global;
 
-// A name, and the text behind it.
+/// A name, and the text behind it.
 struct Named {
     name: Bytes,
     text: Bytes,
 }
 
-// Whether it may be sent: it has no NUL, and is within the limit.
+/// Whether it may be sent: it has no NUL, and is within the limit.
 fn is_command(line: &[u8]) -> bool
     ensures { IsTrue result ↔ IsCommand line.now }
 {
     line.len() <= COMMAND_LIMIT && run_before(line, 0) == line.len()
 }
 
-// The command of a `send`: a line with an `-i`.
+/// The command of a `send`: a line with an `-i`.
 fn send_in(alloc: Global, line: &[u8]) -> Result<Option<Act>, Memory>
     ensures { IfOk result (Reads is_send line.now) }
 {
@@ -46,7 +46,7 @@ fn send_in(alloc: Global, line: &[u8]) -> Result<Option<Act>, Memory>
     }
 }
 
-// A name and a text.
+/// A name and a text.
 fn named_in(alloc: Global, bytes: &[u8]) -> Result<Option<Named>, Memory>
     ensures { IfOk result (λ found. Reads IsNamed bytes.now (option_map (λ n. (n.name, n.text)) found)) }
 {
@@ -90,7 +90,7 @@ fn code_in(bytes: &[u8]) -> Option<Act>
     }
 }
 
-// What an `out` or a `print` asks for.
+/// What an `out` or a `print` asks for.
 fn out_in(alloc: Global, line: &[u8]) -> Result<Option<Act>, Memory>
     ensures { IfOk result (Reads is_out line.now) }
 {

@@ -9,7 +9,7 @@ use dp_packet::{Body, Packet, Property, Shape};
 use dp_value::{Bytes, Memory};
 use std::alloc::Global;
 
-// The value of the first of these attributes that has this name.
+/// The value of the first of these attributes that has this name.
 fn value_among<'a>(attributes: &'a [(Bytes, Bytes)], name: &[u8]) -> Option<&'a [u8]>
     ensures { option_copied result ≡ value_of attributes.now name.now }
 {
@@ -68,7 +68,7 @@ pub(crate) fn code_in(packet: &Packet) -> u16
     }
 }
 
-// The properties that it shows.
+/// The properties that it shows.
 fn properties_in(packet: &Packet) -> &[Property]
     ensures { result.now ≡ spec.properties_in packet.now }
 {
@@ -81,7 +81,7 @@ fn properties_in(packet: &Packet) -> &[Property]
     }
 }
 
-// Whether this is the fullname of a property.
+/// Whether this is the fullname of a property.
 fn is_named(name: &[u8], property: &Property) -> bool
     ensures { result ≡ spec.is_named name.now property.now.fullname }
 {
@@ -91,7 +91,7 @@ fn is_named(name: &[u8], property: &Property) -> bool
     }
 }
 
-// The first property of this fullname among these and those that are nested in them.
+/// The first property of this fullname among these and those that are nested in them.
 #[cycle(finding)]
 fn property_among<'a>(name: &[u8], properties: &'a [Property]) -> Option<&'a Property>
     ensures { option_map (λ found. spec.own_content found.now.shape) result
@@ -105,7 +105,7 @@ fn property_among<'a>(name: &[u8], properties: &'a [Property]) -> Option<&'a Pro
     None
 }
 
-// The property, where it has this fullname, or else the first that is nested in it and has it.
+/// The property, where it has this fullname, or else the first that is nested in it and has it.
 #[cycle(finding)]
 fn property_within<'a>(name: &[u8], property: &'a Property) -> Option<&'a Property>
     ensures { option_map (λ found. spec.own_content found.now.shape) result
@@ -120,7 +120,7 @@ fn property_within<'a>(name: &[u8], property: &'a Property) -> Option<&'a Proper
     }
 }
 
-// The content of a value, decoded; that of an array is empty.
+/// The content of a value, decoded; that of an array is empty.
 fn content_of(alloc: Global, shape: &Shape) -> Result<Bytes, Memory>
     ensures { IfOk result (λ content. content ≡ spec.own_content shape.now) }
 {

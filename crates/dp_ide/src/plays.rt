@@ -24,7 +24,7 @@ use dp_wire::{Packets, command_bytes};
 use std::alloc::Global;
 use std::sync::Wait;
 
-// Tells what was found in place of what was wanted, where these differ.
+/// Tells what was found in place of what was wanted, where these differ.
 fn compare(alloc: Global, line: u64, wanted: &[u8], found: Option<&[u8]>) -> Result<(), IdeError>
     ensures ok { OnOk result (option_copied found.entry ≡ Some wanted.now) }
     ensures err { IfErr result (λ why. Refuses why line (wants wanted.now (option_copied found.entry))) }
@@ -44,7 +44,7 @@ fn compare(alloc: Global, line: u64, wanted: &[u8], found: Option<&[u8]>) -> Res
     }
 }
 
-// Compares codes.
+/// Compares codes.
 fn compare_code(alloc: Global, line: u64, wanted: u16, found: u16) -> Result<(), IdeError>
     ensures ok { OnOk result (found ≡ wanted) }
     ensures err { IfErr result (λ why. Refuses why line (wants (decimal wanted) (Some (decimal found)))) }
@@ -57,7 +57,7 @@ fn compare_code(alloc: Global, line: u64, wanted: u16, found: u16) -> Result<(),
     compare(alloc, line, wanted.as_bytes(), Some(found.as_bytes()))
 }
 
-// Looks for the content of a property.
+/// Looks for the content of a property.
 fn compare_content(
     alloc: Global,
     line: u64,
@@ -75,7 +75,7 @@ fn compare_content(
     }
 }
 
-// Compares the output since the last time, which is forgotten where it is what was wanted.
+/// Compares the output since the last time, which is forgotten where it is what was wanted.
 fn take_output(alloc: Global, line: u64, wanted: &[u8], heard: &mut Heard) -> Result<(), IdeError>
     ensures ok { OnOk result (heard.old.output.items ≡ wanted.now) }
     ensures last { heard.new.last ≡ heard.old.last }
@@ -91,7 +91,7 @@ fn take_output(alloc: Global, line: u64, wanted: &[u8], heard: &mut Heard) -> Re
     }
 }
 
-// Writes the element of the last message, and a line feed, by one put.
+/// Writes the element of the last message, and a line feed, by one put.
 fn print<O: Sink>(alloc: Global, heard: &Heard, out: &mut O) -> Result<(), IdeError>
     ensures ok { OnOk result (Appends (O.taken out.old) (O.taken out.new) (printed_line heard.now)) }
     ensures err { IfErr result (λ why. PrintFails why heard.now (change O.taken O.faults out.old out.new)) }
@@ -105,7 +105,7 @@ fn print<O: Sink>(alloc: Global, heard: &Heard, out: &mut O) -> Result<(), IdeEr
     }
 }
 
-// Sends a command, by one put.
+/// Sends a command, by one put.
 fn send<K: Sink>(alloc: Global, line: &[u8], sink: &mut K) -> Result<(), IdeError>
     requires { IsCommand line.now }
     ensures ok { OnOk result (Appends (K.taken sink.old) (K.taken sink.new) (command_frame line.now)) }
@@ -119,7 +119,7 @@ fn send<K: Sink>(alloc: Global, line: &[u8], sink: &mut K) -> Result<(), IdeErro
     }
 }
 
-// Sends a command, and reads packets up to the response to it.
+/// Sends a command, and reads packets up to the response to it.
 fn exchange<S: Source, K: Sink>(
     alloc: Global,
     line: &[u8],
@@ -144,7 +144,7 @@ fn exchange<S: Source, K: Sink>(
     }
 }
 
-// Plays one instruction.
+/// Plays one instruction.
 fn perform<S: Source, K: Sink, O: Sink>(
     alloc: Global,
     one: &Instruction,
@@ -188,7 +188,7 @@ fn perform<S: Source, K: Sink, O: Sink>(
     }
 }
 
-// The first message, which is an init.
+/// The first message, which is an init.
 fn hear_init(alloc: Global, last: Message) -> Result<Heard, IdeError>
     ensures init { IsOk result ↔ IsTrue (spec.is_init last.packet) }
     ensures heard { IfOk result (λ heard. (heard.last ≡ last) × (heard.output.items ≡ [])) }
@@ -205,7 +205,7 @@ fn hear_init(alloc: Global, last: Message) -> Result<Heard, IdeError>
     }
 }
 
-// Reads the first packet, which is an init.
+/// Reads the first packet, which is an init.
 fn open<S: Source>(alloc: Global, source: &mut S, packets: &mut Packets) -> Result<Heard, IdeError>
     requires nothing { packets.old.held ≡ [] }
     requires first { packets.old.dropped ≡ 0 }
@@ -220,7 +220,7 @@ fn open<S: Source>(alloc: Global, source: &mut S, packets: &mut Packets) -> Resu
     }
 }
 
-// Plays the instructions of a script, in order.
+/// Plays the instructions of a script, in order.
 fn perform_each<S: Source, K: Sink, O: Sink>(
     alloc: Global,
     script: &[Instruction],

@@ -12,7 +12,7 @@ use crate::script::Script;
 use dp_value::{Items, Memory};
 use std::alloc::Global;
 
-// Puts what the line of this number says behind what the lines before it say, where it is one of a script.
+/// Puts what the line of this number says behind what the lines before it say, where it is one of a script.
 fn put_line(
     alloc: Global,
     line: &[u8],
@@ -33,7 +33,7 @@ fn put_line(
     }
 }
 
-// What all lines say, or the number of the first line that is none of a script.
+/// What all lines say, or the number of the first line that is none of a script.
 fn read_lines(alloc: Global, bytes: &[u8]) -> Result<Result<Vec<Instruction>, u64>, Memory>
     ensures { IfOk result (λ read. MatchResult read
         (λ said. IsScript bytes.now said.items × ((other : List Told) → IsScript bytes.now other → other ≡ said.items))

@@ -11,7 +11,7 @@ use crate::lines::behind;
 use dp_value::{Bytes, Memory, decimal};
 use std::alloc::Global;
 
-// The number that a hexadecimal digit of either case is.
+/// The number that a hexadecimal digit of either case is.
 #[tactic(auto, unfolding(dp_markup::specs::Classes::hexadecimal_behind))]
 fn digit_of(byte: u8) -> Option<u8>
     ensures digit { result ≡ script.digit_of byte }
@@ -25,7 +25,7 @@ fn digit_of(byte: u8) -> Option<u8>
     }
 }
 
-// The byte that two hexadecimal digits make, and what is behind them.
+/// The byte that two hexadecimal digits make, and what is behind them.
 fn in_hexadecimal(bytes: &[u8]) -> Option<(u8, &[u8])>
     ensures { option_map (λ first. (first.0, first.1.now)) result ≡ spec.in_hexadecimal bytes.now }
 {
@@ -38,7 +38,7 @@ fn in_hexadecimal(bytes: &[u8]) -> Option<(u8, &[u8])>
     }
 }
 
-// What stands behind a backslash, as one byte, and what is behind it.
+/// What stands behind a backslash, as one byte, and what is behind it.
 fn escaped(bytes: &[u8]) -> Option<(u8, &[u8])>
     ensures { option_map (λ first. (first.0, first.1.now)) result ≡ spec.escaped bytes.now }
 {
@@ -50,7 +50,7 @@ fn escaped(bytes: &[u8]) -> Option<(u8, &[u8])>
     }
 }
 
-// What stands first in a text, as one byte, and what is behind it.
+/// What stands first in a text, as one byte, and what is behind it.
 fn first_byte(bytes: &[u8]) -> Option<(u8, &[u8])>
     ensures { option_map (λ first. (first.0, first.1.now)) result ≡ spec.first_of bytes.now }
 {

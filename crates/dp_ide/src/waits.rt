@@ -19,10 +19,10 @@ use std::alloc::Global;
 use std::mem;
 use std::ops::Range;
 
-// The most bytes that are read at once.
+/// The most bytes that are read at once.
 const PIECE: usize = 65_536;
 
-// The message of a packet's text, and `None` where it has none.
+/// The message of a packet's text, and `None` where it has none.
 fn message_of(alloc: Global, text: &[u8]) -> Result<Option<Message>, Memory>
     ensures some { IfOk result (λ found. IfSome found (λ message. IsMessage text.now message)) }
     ensures none { IfOk result (λ found. IfNone found ((message : Told) → IsMessage text.now message → ⊥)) }
@@ -40,7 +40,7 @@ fn message_of(alloc: Global, text: &[u8]) -> Result<Option<Message>, Memory>
     }
 }
 
-// Reads one piece, which follows what is held, and answers its length: 0 at the end of the input.
+/// Reads one piece, which follows what is held, and answers its length: 0 at the end of the input.
 fn read_piece<S: Source>(
     source: &mut S,
     packets: &mut Packets,
@@ -64,7 +64,7 @@ fn read_piece<S: Source>(
     }
 }
 
-// Reads until a whole packet is held, and answers the range of its text.
+/// Reads until a whole packet is held, and answers the range of its text.
 fn next_range<S: Source>(source: &mut S, packets: &mut Packets) -> Result<Range<usize>, IdeError>
     ensures ok { IfOk result (λ range. HoldsNext packets.old packets.new range.start range.end
         (change S.left S.faults source.old source.new)) }
@@ -117,8 +117,8 @@ pub(crate) fn next_message<S: Source>(
     }
 }
 
-// Hears a message: whether it is the response to the command with this id, which is the last message then. The output
-// of another is kept.
+/// Hears a message: whether it is the response to the command with this id, which is the last message then. The output
+/// of another is kept.
 fn hear(id: &[u8], message: Message, heard: &mut Heard) -> Result<bool, Memory>
     ensures { IfOk result (Hears id.now message heard.old heard.new) }
 {

@@ -8,7 +8,7 @@ use crate::lane::Lane;
 use dp_value::Memory;
 use std::alloc::Global;
 
-// Hands out each whole frame that is held: puts it behind `out`.
+/// Hands out each whole frame that is held: puts it behind `out`.
 fn hand_out(lane: &mut Lane, out: &mut Vec<u8>) -> Result<(), Memory>
     ensures { OnOk result (HandsAll lane.old lane.new out.old.items out.new.items) }
 {

@@ -47,21 +47,21 @@ pub(crate) fn is_letter(b: u8) -> bool
     (b >= b'a' && b <= b'z') || (b >= b'A' && b <= b'Z')
 }
 
-// Whether a name may begin with the byte.
+/// Whether a name may begin with the byte.
 pub(crate) fn is_start(b: u8) -> bool
     ensures { result ≡ sorts.is_start b }
 {
     is_letter(b) || b == b'_' || b >= 0x80
 }
 
-// Whether a name may go on with the byte.
+/// Whether a name may go on with the byte.
 pub(crate) fn is_part(b: u8) -> bool
     ensures { result ≡ sorts.is_part b }
 {
     is_start(b) || is_digit(b)
 }
 
-// Whether the byte may not stand directly behind a number.
+/// Whether the byte may not stand directly behind a number.
 pub(crate) fn runs_on(b: u8) -> bool
     ensures { result ≡ sorts.runs_on b }
 {

@@ -8,7 +8,7 @@ ghost use Rattle.dp_lexer.specs.inner.Lexer.{Finds};
 use crate::fault::{Fault, Wrong};
 use crate::token::TokenKind;
 
-// Whether `?>` stands at the front.
+/// Whether `?>` stands at the front.
 fn begins_tag(z: &[u8]) -> bool
     ensures { result ≡ sorts.begins_tag z.now }
 {
@@ -18,7 +18,7 @@ fn begins_tag(z: &[u8]) -> bool
     }
 }
 
-// How long a comment stays in its line, up to the first closing tag.
+/// How long a comment stays in its line, up to the first closing tag.
 fn line_len(z: &[u8]) -> usize
     ensures value { result ≡ spec.line_len z.now }
     ensures within { result ≤ length z.now }
@@ -35,7 +35,7 @@ fn line_len(z: &[u8]) -> usize
     n
 }
 
-// The comment in one line whose opening mark, of so many bytes, stands before these.
+/// The comment in one line whose opening mark, of so many bytes, stands before these.
 fn line(mark: usize, z: &[u8]) -> Result<(Option<TokenKind>, usize), Wrong>
     requires { mark ≤ 2 }
     ensures { Finds (spec.line_of mark z.now) result }
@@ -48,7 +48,7 @@ fn line(mark: usize, z: &[u8]) -> Result<(Option<TokenKind>, usize), Wrong>
     }
 }
 
-// How long a block comment goes on behind its opening mark, with its closing mark.
+/// How long a block comment goes on behind its opening mark, with its closing mark.
 fn close_len(z: &[u8]) -> Option<usize>
     ensures value { result ≡ spec.close_len z.now }
     ensures within { IfSome result (λ n. n ≤ length z.now) }

@@ -6,7 +6,7 @@ use std::alloc::AllocError;
 
 /// Why a text has no tokens.
 #[derive(Clone, Copy, Debug, PartialEq, Eq)]
-pub enum Fault {
+pub(crate) enum Fault {
     BadByte,
     OpenString,
     OpenComment,
@@ -15,7 +15,7 @@ pub enum Fault {
 
 /// Why no piece was found: what is wrong and at which byte from here, or out of memory.
 #[derive(Debug, Drop)]
-pub enum Wrong {
+pub(crate) enum Wrong {
     Fault(Fault, usize),
     Memory,
 }

@@ -15,7 +15,7 @@ pub(crate) fn is_word(name: &[u8], word: &[u8]) -> bool
     name.eq_ignore_ascii_case(word)
 }
 
-// The keyword of a statement that a name is.
+/// The keyword of a statement that a name is.
 fn statement_word(name: &[u8]) -> Option<TokenKind>
     ensures { result ≡ words.look_up_word name.now words.statement_words }
 {
@@ -58,7 +58,7 @@ fn statement_word(name: &[u8]) -> Option<TokenKind>
     }
 }
 
-// The keyword of an expression that a name is.
+/// The keyword of an expression that a name is.
 fn expression_word(name: &[u8]) -> Option<TokenKind>
     ensures { result ≡ words.look_up_word name.now words.expression_words }
 {
@@ -81,7 +81,7 @@ fn expression_word(name: &[u8]) -> Option<TokenKind>
     }
 }
 
-// The keyword that a name is.
+/// The keyword that a name is.
 fn keyword(name: &[u8]) -> Option<TokenKind>
     ensures { result ≡ words.keyword_of name.now }
 {

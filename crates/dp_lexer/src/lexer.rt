@@ -15,7 +15,7 @@ use crate::pieces::piece;
 use crate::token::{Token, TokenKind};
 use std::alloc::{AllocError, Global};
 
-// How many bytes the tag has.
+/// How many bytes the tag has.
 const TAG: usize = 5;
 
 /// How many line feeds there are. Takes no memory.
@@ -74,7 +74,7 @@ fn placed(wrong: Wrong, start: usize) -> LexError
     }
 }
 
-// The tokens of bytes that stand at this offset, on line 1.
+/// The tokens of bytes that stand at this offset, on line 1.
 fn lex_from(alloc: Global, at: usize, bytes: &[u8]) -> Result<Vec<Token>, LexError>
     requires { at + length bytes.now < 2 ^ 32 }
     ensures found { IfOk result (λ found. AreTokensFrom at bytes.now found.items) }
@@ -104,7 +104,7 @@ fn lex_from(alloc: Global, at: usize, bytes: &[u8]) -> Result<Vec<Token>, LexErr
     Ok(tokens)
 }
 
-// Whether the bytes begin with the tag, and white space or the end stands behind it.
+/// Whether the bytes begin with the tag, and white space or the end stands behind it.
 fn has_tag(bytes: &[u8]) -> bool
     ensures holds { IsTrue result → HasTag bytes.now (drop 5 bytes.now) }
     ensures only { (rest : List ℕ) → HasTag bytes.now rest → IsTrue result × (rest ≡ drop 5 bytes.now) }

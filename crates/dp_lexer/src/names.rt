@@ -11,7 +11,7 @@ use crate::spelling::Spelling;
 use crate::token::TokenKind;
 use std::alloc::Global;
 
-// The most bytes that a name may have.
+/// The most bytes that a name may have.
 const LONGEST: usize = 255;
 
 fn name_len(z: &[u8]) -> usize
@@ -25,7 +25,7 @@ fn name_len(z: &[u8]) -> usize
     n
 }
 
-// The name or the keyword that stands at the front.
+/// The name or the keyword that stands at the front.
 pub(crate) fn name(alloc: Global, z: &[u8]) -> Result<(Option<TokenKind>, usize), Wrong>
     ensures { Finds (spec.name_at z.now) result }
 {
@@ -36,7 +36,7 @@ pub(crate) fn name(alloc: Global, z: &[u8]) -> Result<(Option<TokenKind>, usize)
     Ok((Some(word_of(alloc, &z[..len])?), len))
 }
 
-// The variable whose dollar stands before these bytes.
+/// The variable whose dollar stands before these bytes.
 pub(crate) fn variable(alloc: Global, rest: &[u8]) -> Result<(Option<TokenKind>, usize), Wrong>
     ensures { Finds (spec.dollar_at rest.now) result }
 {

@@ -11,10 +11,10 @@ use crate::class::{is_digit, is_hexadecimal, runs_on};
 use crate::fault::{Fault, Wrong};
 use crate::token::TokenKind;
 
-// The greatest number: 2^63 - 1.
+/// The greatest number: 2^63 - 1.
 const WIDEST: u64 = 9223372036854775807;
 
-// Whether a hexadecimal digit stands at the front.
+/// Whether a hexadecimal digit stands at the front.
 pub(crate) fn begins_hexadecimal(z: &[u8]) -> bool
     ensures { result ≡ sorts.begins sorts.is_hexadecimal z.now }
 {
@@ -46,7 +46,7 @@ fn hexadecimal_len(z: &[u8]) -> usize
     n
 }
 
-// What a hexadecimal digit counts.
+/// What a hexadecimal digit counts.
 pub(crate) fn digit_value(d: u8) -> u64
     requires { sorts.is_hexadecimal d ≡ true }
     ensures value { result ≡ digit_value d }
@@ -61,7 +61,7 @@ pub(crate) fn digit_value(d: u8) -> u64
     }
 }
 
-// The number with one more digit, where it is not too wide.
+/// The number with one more digit, where it is not too wide.
 fn with_digit(value: u64, base: u64, digit: u64) -> Option<u64>
     ensures { MatchOption result (widest < value * base + digit)
         (λ n. (n ≡ value * base + digit) × (n ≤ widest)) }
@@ -70,7 +70,7 @@ fn with_digit(value: u64, base: u64, digit: u64) -> Option<u64>
     if next <= WIDEST { Some(next) } else { None }
 }
 
-// The number that digits spell, where it is not too wide.
+/// The number that digits spell, where it is not too wide.
 pub(crate) fn value_of(base: u64, digits: &[u8]) -> Option<u64>
     requires base { 1 ≤ base }
     requires digits { Each sorts.is_hexadecimal digits.now }
@@ -87,7 +87,7 @@ pub(crate) fn value_of(base: u64, digits: &[u8]) -> Option<u64>
     Some(value)
 }
 
-// The number that digits spell, of this length as it stands, before this rest.
+/// The number that digits spell, of this length as it stands, before this rest.
 fn ended(
     base: u64,
     digits: &[u8],
@@ -124,7 +124,7 @@ fn decimal(z: &[u8]) -> Result<(Option<TokenKind>, usize), Wrong>
     ended(10, digits, len, rest)
 }
 
-// The number whose 0 stands before these bytes.
+/// The number whose 0 stands before these bytes.
 fn zero(z: &[u8]) -> Result<(Option<TokenKind>, usize), Wrong>
     ensures { Finds (spec.zero_at z.now) result }
 {

@@ -71,7 +71,7 @@ fn three_bytes(b: u8, c: u8, d: u8) -> Option<TokenKind>
     }
 }
 
-// A point before a digit, or a question mark before `>`.
+/// A point before a digit, or a question mark before `>`.
 fn is_split(b: u8, rest: &[u8]) -> bool
     ensures { result ≡ spec.is_split b rest.now }
 {

@@ -22,7 +22,7 @@ pub(crate) enum Meant {
     Pair(u8),
 }
 
-// How long a text goes on behind its opening quote, without its closing quote.
+/// How long a text goes on behind its opening quote, without its closing quote.
 fn body_len(quote: u8, z: &[u8]) -> Option<usize>
     ensures value { result ≡ spec.body_len quote z.now }
     ensures within { IfSome result (λ n. n < length z.now) }
@@ -42,7 +42,7 @@ fn body_len(quote: u8, z: &[u8]) -> Option<usize>
 
 // ---- single quotes
 
-// The first byte that is meant, and how many bytes it takes.
+/// The first byte that is meant, and how many bytes it takes.
 fn single_part(z: &[u8]) -> (u8, usize)
     requires { 0 < length z.now }
     ensures value { result ≡ spec.single_part z.now }
@@ -89,7 +89,7 @@ fn letter_of(c: u8) -> Option<u8>
     }
 }
 
-// Whether PHP would put in a variable here.
+/// Whether PHP would put in a variable here.
 fn interpolates(b: u8, rest: &[u8]) -> bool
     ensures { result ≡ quotes.interpolates b rest.now }
 {
@@ -124,7 +124,7 @@ fn hexadecimal_len(z: &[u8]) -> usize
     }
 }
 
-// The byte that at most three digits stand for.
+/// The byte that at most three digits stand for.
 fn byte_of(base: u64, digits: &[u8]) -> u8
     requires some { 1 ≤ base }
     requires base { base ≤ 16 }
@@ -156,7 +156,7 @@ fn hexadecimal(z: &[u8]) -> (Meant, usize)
     (Meant::Byte(byte_of(16, &z[..len])), len + 2)
 }
 
-// The part whose backslash stands before these bytes, and its length with the backslash.
+/// The part whose backslash stands before these bytes, and its length with the backslash.
 fn escape(z: &[u8]) -> Option<(Meant, usize)>
     ensures value { shown_meant result ≡ shown_part (spec.escape_at z.now) }
     ensures within { IfSome result (λ x. x.1 ≤ length z.now + 1) }
@@ -181,7 +181,7 @@ fn escape(z: &[u8]) -> Option<(Meant, usize)>
     }
 }
 
-// The part that stands at the front, and its length.
+/// The part that stands at the front, and its length.
 fn part(z: &[u8]) -> Option<(Meant, usize)>
     ensures value { shown_meant result ≡ shown_part (spec.part_at z.now) }
     ensures within { IfSome result (λ x. x.1 ≤ length z.now) }
@@ -223,7 +223,7 @@ fn double(alloc: Global, body: &[u8]) -> Result<Spelling, Wrong>
     Ok(Spelling::of(bytes))
 }
 
-// The text whose opening single quote stands before these bytes.
+/// The text whose opening single quote stands before these bytes.
 fn single_text(alloc: Global, rest: &[u8]) -> Result<(Option<TokenKind>, usize), Wrong>
     ensures { Finds (spec.single_of (spec.body_len 39 rest.now) rest.now) result }
 {
@@ -234,7 +234,7 @@ fn single_text(alloc: Global, rest: &[u8]) -> Result<(Option<TokenKind>, usize),
     Ok((Some(TokenKind::Text(value)), len + 2))
 }
 
-// The text whose opening double quote stands before these bytes.
+/// The text whose opening double quote stands before these bytes.
 fn double_text(alloc: Global, rest: &[u8]) -> Result<(Option<TokenKind>, usize), Wrong>
     ensures { Finds (spec.double_of (spec.body_len 34 rest.now) rest.now) result }
 {

@@ -7,7 +7,7 @@ ghost use Rattle.dp_lexer.specs.Keywords as words;
 
 use crate::keywords::{is_keyword, is_word};
 
-// The reserved words that are no keywords of the grammar.
+/// The reserved words that are no keywords of the grammar.
 const OTHER_WORDS: [&str; 68] = [
     "abstract",
     "and",
@@ -79,7 +79,7 @@ const OTHER_WORDS: [&str; 68] = [
     "__trait__",
 ];
 
-// Whether a name is one of these words, in any case of letters.
+/// Whether a name is one of these words, in any case of letters.
 fn is_among(name: &[u8], words: &[&str]) -> bool
     ensures { result ≡ list_any (λ word. str_eq_ignore_ascii_case name.now word.now) words.now }
 {

@@ -85,7 +85,7 @@ impl ListDialer {
         Ok(Self::of(alloc, part, parts))
     }
 
-    // A dialer that works by this part and gives away these.
+    /// A dialer that works by this part and gives away these.
     pub(crate) fn of(alloc: Global, part: DialPart, parts: IntoIter<DialPart, Global>) -> Self
         requires fresh { All IsFresh part.links }
         requires fresh_later { AreFresh (into_iter_items parts) }
@@ -102,7 +102,7 @@ impl ListDialer {
         }
     }
 
-    // Counts a call that can fail, and a fault where it is one of those that do.
+    /// Counts a call that can fail, and a fault where it is one of those that do.
     pub(crate) fn call(&mut self) -> Result<(), Failed>
         ensures cause { HasCause self.old.plan.faults self.new.plan.faults result }
         ensures due { is_err result ≡ is_due self.old.plan }
@@ -111,7 +111,7 @@ impl ListDialer {
         self.plan.call()
     }
 
-    // Counts a fault of the last call.
+    /// Counts a fault of the last call.
     pub(crate) fn fault(&mut self)
         ensures rose { Rose self.old.plan.faults self.new.plan.faults }
         ensures later { self.old.plan.faults ≤ self.new.plan.faults }
@@ -123,7 +123,7 @@ impl ListDialer {
         self.plan.fault();
     }
 
-    // Counts that something came back that had failed.
+    /// Counts that something came back that had failed.
     pub(crate) fn count_returned(&mut self)
         ensures rose { Rose self.old.returned self.new.returned }
         ensures later { self.old.returned ≤ self.new.returned }
@@ -132,7 +132,7 @@ impl ListDialer {
         self.returned.raise();
     }
 
-    // The next link, where one is left and the call does not fail.
+    /// The next link, where one is left and the call does not fail.
     fn next_link(&mut self) -> Result<(ByteSource, ByteSink), Failed>
         ensures cause { HasCause self.old.plan.faults self.new.plan.faults result }
         ensures due { IsErr result ↔ (IsTrue (is_due self.old.plan) ⊎ (self.old.links ≡ [])) }
@@ -154,7 +154,7 @@ impl ListDialer {
     }
 }
 
-// The next part, or an empty one where none is left.
+/// The next part, or an empty one where none is left.
 fn next_part(alloc: Global, parts: &mut IntoIter<DialPart, Global>) -> DialPart
     requires { AreFresh (into_iter_items parts.old) }
     ensures fresh { All IsFresh result.links }

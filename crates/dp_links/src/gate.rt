@@ -91,7 +91,7 @@ impl ListGate {
         Ok(Self::of(alloc, port, part, parts))
     }
 
-    // A gate that works by this part and gives away these.
+    /// A gate that works by this part and gives away these.
     fn of(alloc: Global, port: u16, part: GatePart, parts: IntoIter<GatePart, Global>) -> Self
         requires fresh { All IsFreshCall part.links }
         requires fresh_later { AreFreshCalls (into_iter_items parts) }
@@ -109,7 +109,7 @@ impl ListGate {
         }
     }
 
-    // The same gate, at this port.
+    /// The same gate, at this port.
     pub(crate) fn at(self, port: u16) -> Self
         ensures { result ≡ record self { port = port } }
     {
@@ -118,14 +118,14 @@ impl ListGate {
         gate
     }
 
-    // Whether it has failed, or something came back to it that had.
+    /// Whether it has failed, or something came back to it that had.
     pub(crate) fn has_failed(&self) -> bool
         ensures { IsTrue result ↔ (0 < self.now.plan.faults + self.now.returned) }
     {
         self.plan.faults() != 0 || self.returned.count() != 0
     }
 
-    // The next link, where one is left and the call does not fail.
+    /// The next link, where one is left and the call does not fail.
     fn next_link(&mut self) -> Result<(ByteSource, ByteSink, Host), Failed>
         ensures cause { HasCause self.old.plan.faults self.new.plan.faults result }
         ensures due { IsErr result ↔ (IsTrue (is_due self.old.plan) ⊎ (self.old.links ≡ [])) }
@@ -147,7 +147,7 @@ impl ListGate {
     }
 }
 
-// The next part, or an empty one where none is left.
+/// The next part, or an empty one where none is left.
 fn next_part(alloc: Global, parts: &mut IntoIter<GatePart, Global>) -> GatePart
     requires { AreFreshCalls (into_iter_items parts.old) }
     ensures fresh { All IsFreshCall result.links }

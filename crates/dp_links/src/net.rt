@@ -84,7 +84,7 @@ impl ListNet {
         Ok(Self::of(alloc, part, parts))
     }
 
-    // A net that works by this part and gives away these.
+    /// A net that works by this part and gives away these.
     fn of(alloc: Global, part: NetPart, parts: IntoIter<NetPart, Global>) -> Self
         requires fresh { IsFreshPart part }
         requires fresh_later { All IsFreshPart (into_iter_items parts) }
@@ -104,7 +104,7 @@ impl ListNet {
         }
     }
 
-    // The next gate, where one is left.
+    /// The next gate, where one is left.
     fn next_gate(&mut self) -> Option<ListGate>
         ensures first { IfSome result (λ gate. self.old.gates ≡ gate ∷ self.new.gates) }
         ensures none { IsNone result → (self.old.gates ≡ []) × (self.new.gates ≡ []) }
@@ -117,7 +117,7 @@ impl ListNet {
     }
 }
 
-// The next part, or an empty one where none is left.
+/// The next part, or an empty one where none is left.
 fn next_part(alloc: Global, parts: &mut IntoIter<NetPart, Global>) -> NetPart
     requires { All IsFreshPart (into_iter_items parts.old) }
     ensures fresh { IsFreshPart result }

@@ -28,7 +28,7 @@ impl Model for Events {
     ghost invariant = { λ e. AllFit [] e.events.items };
 }
 
-// The events of all lines, or the number of the first line that adds none.
+/// The events of all lines, or the number of the first line that adds none.
 fn read_lines(alloc: Global, bytes: &[u8]) -> Result<Result<Reading, usize>, Memory>
     ensures { IfOk result (λ read. MatchResult read
         (λ reading. IsReading reading reading.events.items × spec.IsList bytes.now reading.events.items)

@@ -23,7 +23,7 @@ fn byte_in(high: u8, low: u8) -> Option<u8>
     Some(16 * a + b)
 }
 
-// The first two digits, and what stands behind them.
+/// The first two digits, and what stands behind them.
 fn first_pair(part: &[u8]) -> Option<(u8, u8, &[u8])>
     ensures { MatchOption result (length part.now < 2) (λ pair. part.now ≡ pair.0 ∷ pair.1 ∷ pair.2.now) }
 {

@@ -19,7 +19,7 @@ pub(crate) struct Reading {
     made: IndexMap<u32, bool>,
 }
 
-// Whether a line does nothing: it is empty, or begins with `#`.
+/// Whether a line does nothing: it is empty, or begins with `#`.
 fn is_idle_line(line: &[u8]) -> bool
     ensures { result ≡ is_idle line.now }
 {
@@ -29,7 +29,7 @@ fn is_idle_line(line: &[u8]) -> bool
     }
 }
 
-// Notes a link that an event makes.
+/// Notes a link that an event makes.
 fn mark(made: &mut IndexMap<u32, bool>, link: u32, act: &Act) -> Result<(), Memory>
     ensures { OnOk result (Marks made.old.entries link act.now made.new.entries) }
 {
@@ -65,7 +65,7 @@ impl Reading {
         }
     }
 
-    // Whether an event on this link may follow.
+    /// Whether an event on this link may follow.
     fn may_follow(&self, link: u32, act: &Act) -> bool
         requires { IsTable self.now.made.entries self.now.events.items }
         ensures yes { result ≡ true → MayFollow self.now.events.items link act.now }
@@ -81,7 +81,7 @@ impl Reading {
         }
     }
 
-    // Takes an event behind the others.
+    /// Takes an event behind the others.
     fn note(&mut self, event: Event) -> Result<(), Memory>
         requires reads { IsReading self.old self.old.events.items }
         requires fits { Fits self.old.events.items event }

@@ -10,7 +10,7 @@ use crate::hex::bytes_in;
 use dp_value::{Bytes, Memory, decimal};
 use std::alloc::Global;
 
-// The place of the first blank.
+/// The place of the first blank.
 fn first_blank(bytes: &[u8]) -> Option<usize>
     ensures first { spec.FirstBlank bytes.now result }
     ensures within { IfSome result (λ at. at < length bytes.now) }
@@ -23,7 +23,7 @@ fn first_blank(bytes: &[u8]) -> Option<usize>
     None
 }
 
-// What stands before the first blank, and what behind it.
+/// What stands before the first blank, and what behind it.
 fn first_word(bytes: &[u8]) -> (&[u8], Option<&[u8]>)
     ensures word { result.0.now ≡ spec.word_of bytes.now }
     ensures part { option_copied result.1 ≡ spec.part_of bytes.now }
@@ -34,14 +34,14 @@ fn first_word(bytes: &[u8]) -> (&[u8], Option<&[u8]>)
     }
 }
 
-// Whether each byte is printable ASCII and no blank.
+/// Whether each byte is printable ASCII and no blank.
 fn are_graphic(bytes: &[u8]) -> bool
     ensures { result ≡ list_all (λ b. nat_le 0x21 b && nat_le b 0x7e) bytes.now }
 {
     bytes.iter().all(|b| 0x21 <= *b && *b <= 0x7e)
 }
 
-// Whether bytes are a name of at most so many bytes.
+/// Whether bytes are a name of at most so many bytes.
 fn is_name(bytes: &[u8], most: usize) -> bool
     ensures { result ≡ spec.is_name most bytes.now }
 {

@@ -123,7 +123,7 @@ pub(crate) fn spaced_value(alloc: Global, input: &mut Input<'_>) -> Result<Growi
     Err(input.refuse())
 }
 
-// An attribute, behind those that were found.
+/// An attribute, behind those that were found.
 #[tactic(auto, unfolding(crate::specs::inner::Readers::attribute))]
 fn attribute(alloc: Global, input: &mut Input<'_>, mut found: Found) -> Result<Found, Refusal>
     ensures { Reads (spec.attribute found input.old) result input.new }
@@ -157,7 +157,7 @@ fn tag_piece(alloc: Global, input: &mut Input<'_>, tag: Tag) -> Result<Tag, Refu
     })
 }
 
-// Whether the start tag that ends here is the whole element.
+/// Whether the start tag that ends here is the whole element.
 #[tactic(auto, unfolding(crate::specs::inner::Readers::tag_end))]
 fn tag_end(alloc: Global, input: &mut Input<'_>, name: Bytes, tag: Tag) -> Result<StartTag, Refusal>
     ensures { Reads (spec.tag_end name tag input.old) result input.new }

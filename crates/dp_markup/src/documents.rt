@@ -11,7 +11,7 @@ use dp_grammar::Refusal;
 use std::alloc::Global;
 use std::ops::ControlFlow;
 
-// A comment behind its `<!`.
+/// A comment behind its `<!`.
 #[tactic(auto, unfolding(crate::specs::inner::Readers::comment))]
 fn comment<'a>(input: &mut Input<'a>) -> Result<&'a [u8], Refusal>
     ensures { ReadsSlice (spec.comment input.old) result input.new }
@@ -20,7 +20,7 @@ fn comment<'a>(input: &mut Input<'a>) -> Result<&'a [u8], Refusal>
     input.up_to(b"-->")
 }
 
-// A declaration behind its `<?`.
+/// A declaration behind its `<?`.
 #[tactic(auto, unfolding(crate::specs::inner::Readers::declaration))]
 fn declaration<'a>(input: &mut Input<'a>) -> Result<&'a [u8], Refusal>
     ensures { ReadsSlice (spec.declaration input.old) result input.new }
@@ -77,7 +77,7 @@ pub(crate) fn prolog(input: &mut Input<'_>) -> Result<u8, Refusal>
     Err(input.refuse())
 }
 
-// White space or a comment.
+/// White space or a comment.
 #[tactic(auto, unfolding(crate::specs::inner::Readers::misc))]
 fn misc(input: &mut Input<'_>) -> Result<(), Refusal>
     ensures { Reads (spec.misc input.old) result input.new }
@@ -106,7 +106,7 @@ fn trail_step(
     }
 }
 
-// What stands behind the root, to the end.
+/// What stands behind the root, to the end.
 fn trail(input: &mut Input<'_>, root: Element) -> Result<Element, Refusal>
     ensures { Reads (spec.trail root input.old) result input.new }
 {

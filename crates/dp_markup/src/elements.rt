@@ -16,7 +16,7 @@ use dp_value::Items;
 use std::alloc::Global;
 use std::ops::ControlFlow;
 
-// The nodes so far, with the text that ends here, if there is one.
+/// The nodes so far, with the text that ends here, if there is one.
 fn nodes_of(content: Content) -> Result<Growing<Node>, Memory>
     ensures { IfOk result (λ nodes. nodes ≡ grammar.nodes_of content) }
 {
@@ -38,7 +38,7 @@ fn with_child(alloc: Global, content: Content, child: Element) -> Result<Content
     })
 }
 
-// An end tag behind its `</`.
+/// An end tag behind its `</`.
 #[tactic(auto, unfolding(crate::specs::inner::Readers::end_tag))]
 fn end_tag(input: &mut Input<'_>, name: &[u8]) -> Result<u8, Refusal>
     ensures { Reads (spec.end_tag name.now input.old) result input.new }
@@ -47,7 +47,7 @@ fn end_tag(input: &mut Input<'_>, name: &[u8]) -> Result<u8, Refusal>
     spaced_mark(input, b'>')
 }
 
-// A section behind its `<!`: its bytes.
+/// A section behind its `<!`: its bytes.
 #[tactic(auto, unfolding(crate::specs::inner::Readers::cdata))]
 fn cdata(input: &mut Input<'_>, mut content: Content) -> Result<Content, Refusal>
     ensures { Reads (made spec.cdata (grammar.with_bytes content) input.old) result input.new }
@@ -123,7 +123,7 @@ fn inside_from(
     Err(input.refuse())
 }
 
-// What stands between the tags, and the end tag.
+/// What stands between the tags, and the end tag.
 #[cycle(elements)]
 #[tactic(auto, unfolding(crate::specs::inner::Readers::inside))]
 fn inside(

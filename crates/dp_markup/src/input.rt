@@ -197,7 +197,7 @@ impl<'a> Input<'a> {
     }
 }
 
-// How many bytes of a name stand at the front.
+/// How many bytes of a name stand at the front.
 fn name_len(bytes: &[u8]) -> usize
     ensures count { result ≡ prefix_len class.is_name_byte bytes.now }
     ensures within { result ≤ length bytes.now }
@@ -210,7 +210,7 @@ fn name_len(bytes: &[u8]) -> usize
     bytes.len()
 }
 
-// The first place where the mark stands.
+/// The first place where the mark stands.
 fn mark_place(mark: &[u8], bytes: &[u8]) -> Option<usize>
     ensures place { result ≡ spec.mark_place mark.now bytes.now }
     ensures within { IfSome result (λ at. at + length mark.now ≤ length bytes.now) }

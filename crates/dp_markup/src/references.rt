@@ -13,7 +13,7 @@ use crate::states::Radix;
 use dp_grammar::Refusal;
 use std::ops::ControlFlow;
 
-// The number that the decimal digit makes behind this one, up to 255.
+/// The number that the decimal digit makes behind this one, up to 255.
 #[tactic(auto, unfolding(crate::specs::Classes::decimal_behind))]
 fn decimal_behind(number: u8, digit: u8) -> Option<u8>
     ensures { result ≡ class.decimal_behind number digit }
@@ -60,7 +60,7 @@ fn digit_behind(radix: Radix, number: u8, digit: u8) -> Option<u8>
 }
 
 impl<'a> Input<'a> {
-    // A digit, for the number that it makes behind this one.
+    /// A digit, for the number that it makes behind this one.
     fn digit(&mut self, radix: Radix, number: u8) -> Result<u8, Refusal>
         ensures { Reads (one (behind_of radix number) self.old) result self.new }
     {
@@ -121,7 +121,7 @@ impl<'a> Input<'a> {
         }
     }
 
-    // The rest of a name of a byte, and the byte.
+    /// The rest of a name of a byte, and the byte.
     #[tactic(auto, unfolding(crate::specs::inner::Readers::named))]
     fn named(&mut self, rest: &[u8], byte: u8) -> Result<u8, Refusal>
         ensures { Reads (spec.named rest.now byte self.old) result self.new }
@@ -160,7 +160,7 @@ impl<'a> Input<'a> {
         }
     }
 
-    // A reference to a byte.
+    /// A reference to a byte.
     #[tactic(auto, unfolding(crate::specs::inner::Readers::reference))]
     fn reference(&mut self) -> Result<u8, Refusal>
         ensures { Reads (spec.reference self.old) result self.new }

@@ -36,7 +36,7 @@ fn pass_step(input: &mut Input<'_>, quote: u8) -> Result<ControlFlow<(), ()>, Re
     }
 }
 
-// Passes what is between quotes, behind the first.
+/// Passes what is between quotes, behind the first.
 #[tactic(auto, unfolding(crate::specs::inner::Search::pass_quoted))]
 fn pass_quoted(input: &mut Input<'_>, quote: u8) -> Result<(), Refusal>
     ensures { Reads (spec.pass_quoted quote input.old) result input.new }
@@ -71,7 +71,7 @@ fn spaced_pass_step(input: &mut Input<'_>) -> Result<ControlFlow<(), ()>, Refusa
     }
 }
 
-// Passes white space, and then a value.
+/// Passes white space, and then a value.
 #[tactic(auto, unfolding(crate::specs::inner::Search::spaced_pass))]
 fn spaced_pass(input: &mut Input<'_>) -> Result<(), Refusal>
     ensures { Reads (spec.spaced_pass input.old) result input.new }
@@ -85,7 +85,7 @@ fn spaced_pass(input: &mut Input<'_>) -> Result<(), Refusal>
     Err(input.refuse())
 }
 
-// White space and a value, which is kept where it is the one that is sought.
+/// White space and a value, which is kept where it is the one that is sought.
 #[tactic(auto, unfolding(crate::specs::inner::Search::sought_value))]
 fn sought_value(
     alloc: Global,
@@ -111,7 +111,7 @@ fn kept(old: Option<Bytes>, new: Option<Bytes>) -> Option<Bytes>
     }
 }
 
-// An attribute, behind those that were found.
+/// An attribute, behind those that were found.
 #[tactic(auto, unfolding(crate::specs::inner::Search::sought_attribute))]
 fn sought_attribute<'a>(
     alloc: Global,
@@ -169,7 +169,7 @@ fn sought_piece<'a>(
     sought_attribute(alloc, input, wanted, sought)
 }
 
-// The value that was sought, where the start tag that ends here is the one that was asked for.
+/// The value that was sought, where the start tag that ends here is the one that was asked for.
 #[tactic(auto, unfolding(crate::specs::inner::Search::sought_end))]
 fn sought_end(
     input: &mut Input<'_>,

@@ -60,7 +60,7 @@ impl<O: Outside> Evaluator<'_, O> {
         self.compound_under(op, &place.name, indices.as_slice(), right, state)
     }
 
-    // A compound assignment under indices that are evaluated.
+    /// A compound assignment under indices that are evaluated.
     #[cycle(evaluate)]
     fn compound_under(
         &self,
@@ -93,7 +93,7 @@ impl<O: Outside> Evaluator<'_, O> {
         self.coalesce_under(&place.name, indices.as_slice(), right, state)
     }
 
-    // A `??=` under indices that are evaluated.
+    /// A `??=` under indices that are evaluated.
     #[cycle(evaluate)]
     fn coalesce_under(
         &self,
@@ -158,7 +158,7 @@ impl<O: Outside> Evaluator<'_, O> {
         Ok(Shared::of(Value::Bool(true)))
     }
 
-    // The value of a place as isset finds it.
+    /// The value of a place as isset finds it.
     #[cycle(evaluate)]
     fn found_at(&self, place: &Place, state: &mut State) -> Result<Shared, Halt>
         ensures { Evaluates (O.rules self.now.outside.now) (found_at (place_run place.now)

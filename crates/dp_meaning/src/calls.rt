@@ -44,7 +44,7 @@ impl<O: Outside> Evaluator<'_, O> {
         }
     }
 
-    // A call of a built-in function. Its arguments are lent to it.
+    /// A call of a built-in function. Its arguments are lent to it.
     #[cycle(evaluate)]
     fn call_builtin(
         &self,
@@ -59,7 +59,7 @@ impl<O: Outside> Evaluator<'_, O> {
         builtin_call(self.alloc, function, values.as_slice(), state)
     }
 
-    // A call of a function of a file.
+    /// A call of a function of a file.
     #[cycle(evaluate)]
     fn call(
         &self,
@@ -85,7 +85,7 @@ impl<O: Outside> Evaluator<'_, O> {
         below.function(file, function, values, state)
     }
 
-    // A call of a function of a file, where one frame more can be on the stack.
+    /// A call of a function of a file, where one frame more can be on the stack.
     #[cycle(evaluate)]
     fn function(
         &self,
@@ -104,7 +104,7 @@ impl<O: Outside> Evaluator<'_, O> {
         self.leave(signal, state)
     }
 
-    // The end of a call whose body is done.
+    /// The end of a call whose body is done.
     fn leave(&self, signal: Signal, state: &mut State) -> Result<Shared, Halt>
         ensures { Evaluates (O.rules self.now.outside.now) (leaving signal state.old) result state.new }
     {
@@ -138,7 +138,7 @@ impl<O: Outside> Evaluator<'_, O> {
         }
     }
 
-    // The run of the file of this number.
+    /// The run of the file of this number.
     #[cycle(evaluate)]
     fn file(&self, file: u32, state: &mut State) -> Result<Shared, Halt>
         ensures { Evaluates (O.rules self.now.outside.now) ((goes_by self.now).include file state.old) result
@@ -157,7 +157,7 @@ impl<O: Outside> Evaluator<'_, O> {
         below.included(file, state)
     }
 
-    // The run of the file of this number, where one frame more can be on the stack.
+    /// The run of the file of this number, where one frame more can be on the stack.
     #[cycle(evaluate)]
     fn included(&self, file: u32, state: &mut State) -> Result<Shared, Halt>
         ensures { Evaluates (O.rules self.now.outside.now) (file_run file (goes_by self.now) state.old) result

@@ -93,7 +93,7 @@ impl<O: Outside> Evaluator<'_, O> {
         Ok(Items::of(values))
     }
 
-    // The value of an `include` or a `require`.
+    /// The value of an `include` or a `require`.
     #[cycle(evaluate)]
     fn inclusion(
         &self,

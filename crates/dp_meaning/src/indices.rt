@@ -34,7 +34,7 @@ impl<O: Outside> Evaluator<'_, O> {
         self.under(reading, value, indices, state)
     }
 
-    // The value of what indices stand behind.
+    /// The value of what indices stand behind.
     #[cycle(evaluate)]
     fn base(&self, reading: Reading, e: &Expression, state: &mut State) -> Result<Shared, Halt>
         ensures { Evaluates (O.rules self.now.outside.now) (base_run reading (expression_run e.now)
@@ -46,7 +46,7 @@ impl<O: Outside> Evaluator<'_, O> {
         }
     }
 
-    // A value under indices.
+    /// A value under indices.
     #[cycle(evaluate)]
     fn under(
         &self,

@@ -32,7 +32,7 @@ impl<O: Outside> Evaluator<'_, O> {
         Ok(Shared::of(array))
     }
 
-    // A literal with one item more.
+    /// A literal with one item more.
     #[cycle(evaluate)]
     fn item(&self, item: &Item, array: Value, state: &mut State) -> Result<Value, Halt>
         ensures { Evaluates (O.rules self.now.outside.now) (item_run_of item.now array (goes_by self.now) state.old)
@@ -49,7 +49,7 @@ impl<O: Outside> Evaluator<'_, O> {
         }
     }
 
-    // A literal with one item more, under a key.
+    /// A literal with one item more, under a key.
     #[cycle(evaluate)]
     fn keyed(
         &self,

@@ -42,7 +42,7 @@ pub fn write_all(
     Ok(())
 }
 
-// Makes one write.
+/// Makes one write.
 fn make_write(alloc: Global, bundle: &Bundle, write: &Write, state: &mut State) -> Result<(), Halt>
     ensures ok { OnOk result (state.new ≡ one_write (evaluation_setting bundle.now) write.now state.old) }
     ensures err { OnErr result (result ≡ Err halt.Memory) }
@@ -61,7 +61,7 @@ fn make_write(alloc: Global, bundle: &Bundle, write: &Write, state: &mut State) 
     }
 }
 
-// Gives a place a value, where it can hold it.
+/// Gives a place a value, where it can hold it.
 fn write_place(
     alloc: Global,
     level: u32,
@@ -85,7 +85,7 @@ fn write_place(
     Ok(())
 }
 
-// The same of a place that begins at a variable of the frame at a level.
+/// The same of a place that begins at a variable of the frame at a level.
 fn write_variable(
     alloc: Global,
     level: usize,
@@ -100,7 +100,7 @@ fn write_variable(
     write_keyed(level, &path.name, keys.as_slice(), value, state)
 }
 
-// The same under keys.
+/// The same under keys.
 fn write_keyed(
     level: usize,
     name: &Bytes,
@@ -118,7 +118,7 @@ fn write_keyed(
     }
 }
 
-// Evaluates an expression in the top frame.
+/// Evaluates an expression in the top frame.
 fn evaluate(alloc: Global, bundle: &Bundle, e: &Expression, state: &mut State) -> Result<(), Halt>
     ensures ok { OnOk result (state.new ≡ left_by state.old (evaluated
         (evaluation_setting bundle.now) e.now state.old)) }
@@ -131,7 +131,7 @@ fn evaluate(alloc: Global, bundle: &Bundle, e: &Expression, state: &mut State) -
     Ok(())
 }
 
-// Keeps what an evaluation left, where it held.
+/// Keeps what an evaluation left, where it held.
 fn keep(holds: bool, after: State, state: &mut State)
     ensures { state.new ≡ (if holds then after else state.old) }
 {
@@ -168,7 +168,7 @@ pub fn evaluation(
     }
 }
 
-// The value of an expression, where it holds, with no writes at its moments.
+/// The value of an expression, where it holds, with no writes at its moments.
 fn quietly(
     alloc: Global,
     bundle: &Bundle,
@@ -191,7 +191,7 @@ fn quietly(
     held(evaluator.expression(e, state))
 }
 
-// A value, where there is one.
+/// A value, where there is one.
 fn held(answer: Result<Shared, Halt>) -> Result<Option<Value>, Memory>
     ensures { IfOk result (IsHeld answer) }
 {

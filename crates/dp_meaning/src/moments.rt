@@ -23,7 +23,7 @@ pub fn moment_of(kind: MomentKind, state: &State) -> Result<Moment, Memory>
     })
 }
 
-// The function that is entered or left.
+/// The function that is entered or left.
 fn function_of(kind: MomentKind, state: &State) -> Result<Option<Bytes>, Memory>
     ensures { IfOk result (λ name. name ≡ name_of kind state.now) }
 {
@@ -34,7 +34,7 @@ fn function_of(kind: MomentKind, state: &State) -> Result<Option<Bytes>, Memory>
     }
 }
 
-// The name of the function of the top frame.
+/// The name of the function of the top frame.
 fn called(state: &State) -> Result<Option<Bytes>, Memory>
     ensures { IfOk result (λ name. name ≡ function_called state.now) }
 {

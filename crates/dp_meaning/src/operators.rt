@@ -32,7 +32,7 @@ impl<O: Outside> Evaluator<'_, O> {
         self.links(value, links, state)
     }
 
-    // The value of operands that are joined to a first one.
+    /// The value of operands that are joined to a first one.
     #[cycle(evaluate)]
     fn links(&self, first: Shared, links: &[Link], state: &mut State) -> Result<Shared, Halt>
         ensures { Evaluates (O.rules self.now.outside.now) (links_run (map link_run links.now) first
@@ -45,7 +45,7 @@ impl<O: Outside> Evaluator<'_, O> {
         Ok(value)
     }
 
-    // The value of two operands that are joined.
+    /// The value of two operands that are joined.
     #[cycle(evaluate)]
     fn link(&self, left: Shared, link: &Link, state: &mut State) -> Result<Shared, Halt>
         ensures { Evaluates (O.rules self.now.outside.now) (link_run link.now left (goes_by self.now) state.old)
@@ -112,7 +112,7 @@ impl<O: Outside> Evaluator<'_, O> {
         }
     }
 
-    // The value of a conditional whose test holds.
+    /// The value of a conditional whose test holds.
     #[cycle(evaluate)]
     fn chosen(
         &self,

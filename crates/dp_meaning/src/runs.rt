@@ -69,7 +69,7 @@ pub fn run_until<S: Stops>(
     run(alloc, bundle, &outside, bound)
 }
 
-// Runs a program up to where the outside stops it, or to its end.
+/// Runs a program up to where the outside stops it, or to its end.
 fn run<O: Outside>(alloc: Global, bundle: &Bundle, outside: &O, bound: u64) -> Result<Stop, Memory>
     ensures { IfOk result (λ stop. stop ≡ stopped (drive (O.rules outside.now) (program_run bundle.now bound))) }
 {
@@ -85,7 +85,7 @@ fn run<O: Outside>(alloc: Global, bundle: &Bundle, outside: &O, bound: u64) -> R
     stop_at(halt, state)
 }
 
-// Why a program that was run is no more on its way.
+/// Why a program that was run is no more on its way.
 fn halt_of(body: Result<Signal, Halt>) -> Halt
     ensures { result ≡ halt_after body }
 {
@@ -98,7 +98,7 @@ fn halt_of(body: Result<Signal, Halt>) -> Halt
     }
 }
 
-// Where it stopped.
+/// Where it stopped.
 fn stop_at(halt: Halt, state: State) -> Result<Stop, Memory>
     ensures { IfOk result (IsStopAt halt state) }
 {

@@ -125,7 +125,7 @@ impl<O: Outside> Evaluator<'_, O> {
         }
     }
 
-    // `echo`
+    /// `echo`
     #[cycle(evaluate)]
     fn echo(&self, operands: &[Expression], state: &mut State) -> Result<Signal, Halt>
         ensures { Evaluates (O.rules self.now.outside.now) (echoes (map expression_run operands.now)
@@ -137,7 +137,7 @@ impl<O: Outside> Evaluator<'_, O> {
         Ok(Signal::Next)
     }
 
-    // The arms of an `if`, and what is done where no test holds.
+    /// The arms of an `if`, and what is done where no test holds.
     #[cycle(evaluate)]
     fn arms(
         &self,
@@ -161,7 +161,7 @@ impl<O: Outside> Evaluator<'_, O> {
         }
     }
 
-    // `return`
+    /// `return`
     #[cycle(evaluate)]
     fn return_value(&self, value: &Option<Expression>, state: &mut State) -> Result<Signal, Halt>
         ensures { Evaluates (O.rules self.now.outside.now) (return_run value.now (goes_by self.now) state.old) result
@@ -173,7 +173,7 @@ impl<O: Outside> Evaluator<'_, O> {
         }
     }
 
-    // `unset`
+    /// `unset`
     #[cycle(evaluate)]
     fn unset(&self, places: &[Place], state: &mut State) -> Result<(), Halt>
         ensures { Evaluates (O.rules self.now.outside.now) (unset_run (map place_run places.now)
@@ -186,7 +186,7 @@ impl<O: Outside> Evaluator<'_, O> {
         Ok(())
     }
 
-    // `exit`
+    /// `exit`
     #[cycle(evaluate)]
     fn exit(&self, value: &Option<Expression>, state: &mut State) -> Result<Signal, Halt>
         ensures { Evaluates (O.rules self.now.outside.now) (end_run value.now (goes_by self.now) state.old) result

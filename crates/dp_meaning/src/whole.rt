@@ -87,7 +87,7 @@ impl Whole<'_> {
             .each(from, line, binding, subject, body, state)
     }
 
-    // The evaluator that does it.
+    /// The evaluator that does it.
     fn evaluator<'b>(&'b self, quiet: &'b Quiet) -> Evaluator<'b, Quiet>
         ensures by { (result.bundle.now ≡ self.now.bundle.now) × (result.bound ≡ self.now.bound)
             × (result.depth ≡ self.now.depth) }

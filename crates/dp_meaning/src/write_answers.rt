@@ -39,7 +39,7 @@ pub fn write_in(
     }
 }
 
-// What an evaluation gives.
+/// What an evaluation gives.
 fn evaluate_in(
     alloc: Global,
     bundle: &Bundle,
@@ -54,7 +54,7 @@ fn evaluate_in(
     Ok(answered(value))
 }
 
-// What the value of an evaluation is, or that there is none.
+/// What the value of an evaluation is, or that there is none.
 fn answered(value: Option<Value>) -> WriteAnswer
     ensures { result ≡ answer_by value }
 {
@@ -64,7 +64,7 @@ fn answered(value: Option<Value>) -> WriteAnswer
     }
 }
 
-// What a write of a place gives.
+/// What a write of a place gives.
 fn place_in(
     alloc: Global,
     level: u32,
@@ -88,7 +88,7 @@ fn place_in(
     Ok(WriteAnswer::NoPlace)
 }
 
-// The same of a place that begins at a variable of the frame at a level.
+/// The same of a place that begins at a variable of the frame at a level.
 fn variable_in(
     alloc: Global,
     level: usize,
@@ -103,7 +103,7 @@ fn variable_in(
     keyed_in(alloc, level, &path.name, keys.as_slice(), value, state)
 }
 
-// The same under keys. A copy of the variable is written.
+/// The same under keys. A copy of the variable is written.
 fn keyed_in(
     alloc: Global,
     level: usize,
@@ -121,7 +121,7 @@ fn keyed_in(
     answer
 }
 
-// Writes a value under keys, where it can be written.
+/// Writes a value under keys, where it can be written.
 fn try_write(
     alloc: Global,
     variable: &mut Value,
@@ -138,7 +138,7 @@ fn try_write(
     }
 }
 
-// A copy of a variable of the frame at a level, null where it is missing.
+/// A copy of a variable of the frame at a level, null where it is missing.
 fn variable_at(level: usize, name: &Bytes, state: &State) -> Result<Value, Memory>
     ensures { IfOk result (λ value. value ≡ unwrap_or (read_at state.now level name.now) variant.Null) }
 {

@@ -27,7 +27,7 @@ pub(crate) fn count(args: &[&Value]) -> Result<Value, CallError>
     }
 }
 
-// The number of entries.
+/// The number of entries.
 fn entries(array: &PhpArray) -> i64
     ensures { result ≡ pos (length array.now.pairs) }
 {
@@ -64,7 +64,7 @@ pub(crate) fn value_list(alloc: Global, args: &[&Value]) -> Result<Value, CallEr
     }
 }
 
-// Keys as a list of values.
+/// Keys as a list of values.
 fn list_of_keys(alloc: Global, keys: &[Key]) -> Result<Value, CallError>
     ensures { CallAnswers result (light_array (list_of (map data_of_key keys.now))) }
 {
@@ -75,7 +75,7 @@ fn list_of_keys(alloc: Global, keys: &[Key]) -> Result<Value, CallError>
     Ok(Value::Array(list))
 }
 
-// Values as a list.
+/// Values as a list.
 fn list_of_values(alloc: Global, values: &[Value]) -> Result<Value, CallError>
     ensures { CallAnswers result (light_array (list_of (map data_of values.now))) }
 {
@@ -86,7 +86,7 @@ fn list_of_values(alloc: Global, values: &[Value]) -> Result<Value, CallError>
     Ok(Value::Array(list))
 }
 
-// Adds a value at the end of a list.
+/// Adds a value at the end of a list.
 fn append(list: &mut PhpArray, value: Value) -> Result<(), CallError>
     ensures ok { OnOk result (list.new ≡ table_push list.old (data_of value)) }
     ensures only { IfErr result (λ e. (e ≡ CallError.Memory)

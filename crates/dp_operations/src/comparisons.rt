@@ -20,7 +20,7 @@ pub(crate) fn equal(a: &Value, b: &Value) -> Result<bool, ValueError>
     }
 }
 
-// Whether two texts are equal, where none of them could be a number that the other one spells.
+/// Whether two texts are equal, where none of them could be a number that the other one spells.
 fn same_texts(a: &[u8], b: &[u8]) -> Result<bool, ValueError>
     ensures { result ≡ equal_texts a.now b.now }
 {
@@ -33,7 +33,7 @@ fn same_texts(a: &[u8], b: &[u8]) -> Result<bool, ValueError>
     Ok(false)
 }
 
-// Whether a text has a digit.
+/// Whether a text has a digit.
 fn any_digit(bytes: &[u8]) -> bool
     ensures { result ≡ has_digit bytes.now }
 {

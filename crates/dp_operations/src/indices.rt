@@ -61,7 +61,7 @@ pub enum Found<'a> {
     Entry(&'a Value),
 }
 
-// What a reading gives under indices, one after another.
+/// What a reading gives under indices, one after another.
 fn read_by(
     alloc: Global,
     holder: &Value,
@@ -114,7 +114,7 @@ pub fn under<'a>(
     }
 }
 
-// The byte of a text under an index; only an integer has a position.
+/// The byte of a text under an index; only an integer has a position.
 fn letter_at(bytes: &[u8], index: &Value) -> Option<u8>
     ensures { option_map (λ byte. text (byte ∷ [])) result ≡ letter_of bytes.now (data_of index.now) }
 {
@@ -124,7 +124,7 @@ fn letter_at(bytes: &[u8], index: &Value) -> Option<u8>
     }
 }
 
-// A byte of a text by its position, which is counted from the end where it is negative.
+/// A byte of a text by its position, which is counted from the end where it is negative.
 fn byte_at(bytes: &[u8], position: i64) -> Option<u8>
     ensures { result ≡ byte_of bytes.now position }
 {

@@ -58,7 +58,7 @@ pub fn unary(op: UnaryOp, a: &Value) -> Result<Value, ValueError>
     }
 }
 
-// The negative of an integer.
+/// The negative of an integer.
 fn negated(n: i64) -> Result<Value, ValueError>
     ensures { Gives result (whole (neg_ℤ n)) }
 {
@@ -68,7 +68,7 @@ fn negated(n: i64) -> Result<Value, ValueError>
     }
 }
 
-// One more; null becomes 1.
+/// One more; null becomes 1.
 fn increment(a: &Value) -> Result<Value, ValueError>
     ensures { Gives result (incremented (data_of a.now)) }
 {
@@ -82,7 +82,7 @@ fn increment(a: &Value) -> Result<Value, ValueError>
     }
 }
 
-// One less; null stays.
+/// One less; null stays.
 fn decrement(a: &Value) -> Result<Value, ValueError>
     ensures { Gives result (decremented (data_of a.now)) }
 {
@@ -96,7 +96,7 @@ fn decrement(a: &Value) -> Result<Value, ValueError>
     }
 }
 
-// `==`.
+/// `==`.
 fn equals(a: &Value, b: &Value) -> Result<Value, ValueError>
     ensures { Gives result (truth (equality (data_of a.now) (data_of b.now))) }
 {
@@ -106,7 +106,7 @@ fn equals(a: &Value, b: &Value) -> Result<Value, ValueError>
     }
 }
 
-// `!=`.
+/// `!=`.
 fn differs(a: &Value, b: &Value) -> Result<Value, ValueError>
     ensures { Gives result (denial (equality (data_of a.now) (data_of b.now))) }
 {
@@ -116,7 +116,7 @@ fn differs(a: &Value, b: &Value) -> Result<Value, ValueError>
     }
 }
 
-// `<`.
+/// `<`.
 fn less(a: &Value, b: &Value) -> Result<Value, ValueError>
     ensures { Gives result (by_order is_lt (order_of (data_of a.now) (data_of b.now))) }
 {
@@ -126,7 +126,7 @@ fn less(a: &Value, b: &Value) -> Result<Value, ValueError>
     }
 }
 
-// `<=`.
+/// `<=`.
 fn less_or_equal(a: &Value, b: &Value) -> Result<Value, ValueError>
     ensures { Gives result (by_order is_le (order_of (data_of a.now) (data_of b.now))) }
 {
@@ -136,7 +136,7 @@ fn less_or_equal(a: &Value, b: &Value) -> Result<Value, ValueError>
     }
 }
 
-// `>`.
+/// `>`.
 fn greater(a: &Value, b: &Value) -> Result<Value, ValueError>
     ensures { Gives result (by_order is_gt (order_of (data_of a.now) (data_of b.now))) }
 {
@@ -146,7 +146,7 @@ fn greater(a: &Value, b: &Value) -> Result<Value, ValueError>
     }
 }
 
-// `>=`.
+/// `>=`.
 fn greater_or_equal(a: &Value, b: &Value) -> Result<Value, ValueError>
     ensures { Gives result (by_order is_ge (order_of (data_of a.now) (data_of b.now))) }
 {
@@ -156,7 +156,7 @@ fn greater_or_equal(a: &Value, b: &Value) -> Result<Value, ValueError>
     }
 }
 
-// `<=>`: -1, 0 or 1.
+/// `<=>`: -1, 0 or 1.
 fn compare(a: &Value, b: &Value) -> Result<Value, ValueError>
     ensures { Gives result (sign (order_of (data_of a.now) (data_of b.now))) }
 {

@@ -26,7 +26,7 @@ pub(crate) fn part(alloc: Global, args: &[&Value]) -> Result<Value, CallError>
     }
 }
 
-// A part of a text, where the operands are a text, an integer, and an integer or null.
+/// A part of a text, where the operands are a text, an integer, and an integer or null.
 fn part_from(alloc: Global, a: &Value, b: &Value, c: &Value) -> Result<Value, CallError>
     ensures { CallAnswers result (table.part (data_of a.now) (data_of b.now) (data_of c.now)) }
 {
@@ -41,7 +41,7 @@ fn part_from(alloc: Global, a: &Value, b: &Value, c: &Value) -> Result<Value, Ca
     }
 }
 
-// The part of some bytes from an offset on, a count of bytes or all.
+/// The part of some bytes from an offset on, a count of bytes or all.
 fn cut(alloc: Global, bytes: &[u8], offset: i64, count: Option<i64>) -> Result<Value, CallError>
     ensures { CallAnswers result (Ok (text (part_of bytes.now offset count))) }
 {
@@ -50,7 +50,7 @@ fn cut(alloc: Global, bytes: &[u8], offset: i64, count: Option<i64>) -> Result<V
     Ok(Value::Text(Bytes::from_slice(alloc, &bytes[start..end])?))
 }
 
-// Where a part begins.
+/// Where a part begins.
 fn start(len: usize, offset: i64) -> usize
     ensures start { result ≡ start_of len offset }
     ensures within { result ≤ len }
@@ -62,7 +62,7 @@ fn start(len: usize, offset: i64) -> usize
     }
 }
 
-// Where a part that begins at a place ends.
+/// Where a part that begins at a place ends.
 fn end(len: usize, start: usize, count: Option<i64>) -> usize
     requires { start ≤ len }
     ensures end { result ≡ end_of len start count }
@@ -89,7 +89,7 @@ pub(crate) fn repetition(alloc: Global, args: &[&Value]) -> Result<Value, CallEr
     }
 }
 
-// Some bytes a number of times.
+/// Some bytes a number of times.
 fn repeated(alloc: Global, bytes: &[u8], count: i64) -> Result<Value, CallError>
     ensures { CallAnswers result (repetition_of bytes.now count) }
 {
@@ -103,7 +103,7 @@ fn repeated(alloc: Global, bytes: &[u8], count: i64) -> Result<Value, CallError>
     Ok(Value::Text(Bytes::of(copies(alloc, bytes, count)?)))
 }
 
-// Some bytes a number of times.
+/// Some bytes a number of times.
 fn copies(alloc: Global, bytes: &[u8], count: u64) -> Result<Vec<u8>, Memory>
     ensures { IfOk result (λ v. v.items ≡ repeated_of count bytes.now) }
 {
@@ -132,7 +132,7 @@ pub(crate) fn joining(alloc: Global, args: &[&Value]) -> Result<Value, CallError
     }
 }
 
-// The texts of values, with a text between them.
+/// The texts of values, with a text between them.
 fn joined(alloc: Global, glue: &[u8], values: &[Value]) -> Result<Value, CallError>
     ensures { CallAnswers result (joining_of (join_by glue.now (map text_of (map data_of values.now)))) }
 {
@@ -148,7 +148,7 @@ fn joined(alloc: Global, glue: &[u8], values: &[Value]) -> Result<Value, CallErr
     Ok(Value::Text(Bytes::of(bytes)))
 }
 
-// Adds bytes at the end of a text, where it does not become too heavy.
+/// Adds bytes at the end of a text, where it does not become too heavy.
 fn append(bytes: &mut Vec<u8>, more: &[u8]) -> Result<(), CallError>
     ensures ok { OnOk result ((bytes.new.items ≡ bytes.old.items ++ more.now)
         × (length bytes.new.items ≤ weight_limit)) }

@@ -40,7 +40,7 @@ pub(crate) fn first_byte(args: &[&Value]) -> Result<Value, CallError>
     }
 }
 
-// The first of some bytes, or 0.
+/// The first of some bytes, or 0.
 fn first(bytes: &[u8]) -> u8
     ensures { result ≡ table.first_byte bytes.now }
 {
@@ -81,7 +81,7 @@ pub(crate) fn quotient(args: &[&Value]) -> Result<Value, CallError>
     }
 }
 
-// The quotient of two integers, toward zero.
+/// The quotient of two integers, toward zero.
 fn divided(m: i64, n: i64) -> Result<Value, CallError>
     ensures { CallGives result (quotient_of m n) }
 {

@@ -30,7 +30,7 @@ pub(crate) fn text_bytes(alloc: Global, value: &Value) -> Result<Bytes, Memory>
     }
 }
 
-// An integer in decimal.
+/// An integer in decimal.
 fn decimal(alloc: Global, n: i64) -> Result<Bytes, Memory>
     ensures { IfOk result (λ t. t ≡ signed_decimal n) }
 {

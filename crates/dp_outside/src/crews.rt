@@ -24,10 +24,10 @@ pub(crate) struct Asked<J> {
     granted: bool,
 }
 
-// What became of a job.
+/// What became of a job.
 type Answer<J> = Result<<J as Job>::Done, J>;
 
-// A thread that runs a job, or the answer of a job that no thread runs.
+/// A thread that runs a job, or the answer of a job that no thread runs.
 type Start<J> = Result<PromisedHandle<Answer<J>, RunsOrReturns<J>>, Answer<J>>;
 
 /// Asks for the start of each job.
@@ -84,7 +84,7 @@ pub(crate) fn answers_of<R: Threads + Wait + Sync, J: Job + Send>(
     }
 }
 
-// Runs a granted job in the caller.
+/// Runs a granted job in the caller.
 fn run_one<J: Job>(one: Asked<J>) -> Answer<J>
     ensures { Settled J.may_give one.job one.granted result }
 {
@@ -92,7 +92,7 @@ fn run_one<J: Job>(one: Asked<J>) -> Answer<J>
     if granted { Ok(job.run()) } else { Err(job) }
 }
 
-// Runs the granted jobs in the caller, one after another.
+/// Runs the granted jobs in the caller, one after another.
 #[tactic(auto, using(crate::proofs::PairedLists::zip_more))]
 fn run_each<J: Job>(asked: Vec<Asked<J>>, mut answers: Vec<Answer<J>>) -> Vec<Answer<J>>
     requires empty { answers.items ≡ [] }
@@ -105,7 +105,7 @@ fn run_each<J: Job>(asked: Vec<Asked<J>>, mut answers: Vec<Answer<J>>) -> Vec<An
     answers
 }
 
-// Starts a job in a thread of its own.
+/// Starts a job in a thread of its own.
 fn start_one<'s, E, J: Job + Send + 's>(
     scope: &Scope<'s, E>,
     refused: &'s AtomicBool,
@@ -133,7 +133,7 @@ fn start_one<'s, E, J: Job + Send + 's>(
     }
 }
 
-// Starts each granted job in a thread of its own.
+/// Starts each granted job in a thread of its own.
 #[tactic(auto, using(crate::proofs::PairedLists::zip_more))]
 fn start_each<'s, E, J: Job + Send + 's>(
     scope: &Scope<'s, E>,
@@ -155,7 +155,7 @@ fn start_each<'s, E, J: Job + Send + 's>(
     started
 }
 
-// Waits for a thread, where there is one.
+/// Waits for a thread, where there is one.
 fn join_one<R: Threads, J: Job>(rt: &R, one: Start<J>) -> Answer<J>
     ensures { Answered J.may_give (λ thread. thread.promise.0.value) one result }
 {
@@ -165,7 +165,7 @@ fn join_one<R: Threads, J: Job>(rt: &R, one: Start<J>) -> Answer<J>
     }
 }
 
-// Waits for each thread.
+/// Waits for each thread.
 #[tactic(auto, using(crate::proofs::PairedLists::zip_more))]
 fn join_each<R: Threads, J: Job>(
     rt: &R,
@@ -182,7 +182,7 @@ fn join_each<R: Threads, J: Job>(
     answers
 }
 
-// As many flags as jobs, none of them set.
+/// As many flags as jobs, none of them set.
 fn flags(alloc: Global, count: usize) -> Result<Vec<AtomicBool>, Memory>
     ensures { IfOk result (λ flags. length flags.items ≡ count) }
 {
@@ -193,7 +193,7 @@ fn flags(alloc: Global, count: usize) -> Result<Vec<AtomicBool>, Memory>
     Ok(flags)
 }
 
-// Starts each granted job in a thread of its own, and waits for all.
+/// Starts each granted job in a thread of its own, and waits for all.
 fn run_scoped<'s, E, R: Threads, J: Job + Send + 's>(
     rt: &R,
     scope: &Scope<'s, E>,
@@ -213,7 +213,7 @@ fn run_scoped<'s, E, R: Threads, J: Job + Send + 's>(
     Ok(join_each(rt, started, answers))
 }
 
-// Runs each granted job in a thread of its own. A job whose thread cannot be started comes back.
+/// Runs each granted job in a thread of its own. A job whose thread cannot be started comes back.
 fn run_crew<R: Threads + Wait + Sync, J: Job + Send>(
     rt: &R,
     alloc: Global,

@@ -5,7 +5,7 @@ ghost use Rattle.dp_outside.specs.Files.{Fetches, Lacks, content_of, told};
 use crate::{Bytes1, ShelfError};
 use std::alloc::Global;
 
-// The content of the first file of this name.
+/// The content of the first file of this name.
 fn find<'a>(files: &'a [(String, Vec<u8>)], name: &str) -> Option<&'a [u8]>
     ensures { MatchOption result (content_of name.now (told files.now) ≡ None)
         (λ content. content_of name.now (told files.now) ≡ Some content.now) }

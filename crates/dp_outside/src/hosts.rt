@@ -22,14 +22,14 @@ impl Model for Host {
     ghost invariant = { λ h. (h.length ≤ 64) × IsHost (take h.length h.bytes) };
 }
 
-// Whether each byte is printable ASCII and no blank.
+/// Whether each byte is printable ASCII and no blank.
 fn are_graphic(bytes: &[u8]) -> bool
     ensures { IsTrue result ↔ All IsGraphic bytes.now }
 {
     bytes.iter().all(|&byte| 0x21 <= byte && byte <= 0x7e)
 }
 
-// Whether the bytes are the name of a machine.
+/// Whether the bytes are the name of a machine.
 fn is_host(bytes: &[u8]) -> bool
     ensures { IsTrue result ↔ IsHost bytes.now }
 {

@@ -28,7 +28,7 @@ impl Model for Pieces {
     ghost invariant = { λ p. (p.at ≤ vec_len p.bytes) × (p.used ≤ vec_len p.cuts) };
 }
 
-// The size of the next piece for a buffer of `room` bytes, and 0 counts as 1.
+/// The size of the next piece for a buffer of `room` bytes, and 0 counts as 1.
 fn size_of_next(cuts: &[usize], room: usize) -> usize
     ensures { result ≡ next_cut cuts.now room }
 {

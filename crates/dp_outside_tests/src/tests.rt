@@ -15,7 +15,7 @@ use std::test::Fail;
 use std::thread::Threads;
 use std::{fs, io};
 
-// The pieces of so many takes, each ended by '|', and '!' for a take that failed.
+/// The pieces of so many takes, each ended by '|', and '!' for a take that failed.
 fn takes<S: Source>(
     alloc: Global,
     source: &mut S,
@@ -35,7 +35,7 @@ fn takes<S: Source>(
     Ok(seen)
 }
 
-// '+' for each put that went, '!' for each that failed.
+/// '+' for each put that went, '!' for each that failed.
 fn puts<K: Sink>(alloc: Global, sink: &mut K, texts: &[&str]) -> Result<Vec<u8>, Memory> {
     let mut seen = Vec::new(alloc);
     for text in texts {
@@ -50,7 +50,7 @@ fn puts<K: Sink>(alloc: Global, sink: &mut K, texts: &[&str]) -> Result<Vec<u8>,
     Ok(seen)
 }
 
-// The bytes of the file, or a word for the refusal.
+/// The bytes of the file, or a word for the refusal.
 fn fetched<H: Shelf>(
     alloc: Global,
     shelf: &mut H,
@@ -73,7 +73,7 @@ fn two_files(alloc: Global) -> Result<Vec<(String, Vec<u8>)>, Memory> {
     Ok(files)
 }
 
-// What a source gives in so many takes, and what it has left.
+/// What a source gives in so many takes, and what it has left.
 fn source_gives(
     alloc: Global,
     bytes: &str,
@@ -123,7 +123,7 @@ fn sources_give_pieces(rt: HostRuntime) -> Result<(), Fail> {
     Ok(())
 }
 
-// What puts a sink takes, and the bytes that it has then.
+/// What puts a sink takes, and the bytes that it has then.
 fn sink_takes(
     alloc: Global,
     room: usize,
@@ -252,7 +252,7 @@ fn hosts_are_read_and_the_absent_refuse(rt: HostRuntime) -> Result<(), Fail> {
     Ok(())
 }
 
-// A reader or writer that is interrupted, works, and fails at its third call. Its first flush fails.
+/// A reader or writer that is interrupted, works, and fails at its third call. Its first flush fails.
 #[derive(Drop)]
 struct Shaky {
     calls: u8,
@@ -380,7 +380,7 @@ impl Job for Doubles {
     }
 }
 
-// Threads, or none, and each second start is refused.
+/// Threads, or none, and each second start is refused.
 #[derive(Drop)]
 struct Halves<'a, R> {
     rt: Option<&'a R>,
@@ -423,7 +423,7 @@ impl<'a, R: Threads + Wait + Sync> Spawner for Halves<'a, R> {
     }
 }
 
-// Each result of the jobs, and 0 for each that came back.
+/// Each result of the jobs, and 0 for each that came back.
 fn results<P: Spawner>(alloc: Global, spawner: &mut P, count: u32) -> Result<Vec<u64>, Memory> {
     let mut jobs = Vec::new(alloc);
     for number in 0..count {
@@ -463,13 +463,13 @@ fn jobs_run_or_come_back(rt: HostRuntime) -> Result<(), Fail> {
     Ok(())
 }
 
-// A port that nothing listens at.
+/// A port that nothing listens at.
 fn free_port<R: Sockets<Listener = TcpListener, Stream = TcpStream>>(rt: &R) -> io::Result<u16> {
     let listener = TcpListener::bind(rt, "127.0.0.1:0")?;
     Ok(listener.local_addr()?.port())
 }
 
-// What comes over a link of this net to its own gate, with '|' for each end of a take and '!' for each refusal.
+/// What comes over a link of this net to its own gate, with '|' for each end of a take and '!' for each refusal.
 fn links_to_itself<N: Net>(alloc: Global, net: &mut N, port: u16) -> Result<Vec<u8>, Fail> {
     let host = Host::of(b"127.0.0.1").ok_or("a host")?;
     let mut first = net.gate(port).ok().ok_or("a gate")?;

@@ -22,7 +22,7 @@ pub(crate) fn base64_nodes(alloc: Global, bytes: &[u8]) -> Result<Vec<Node>, Mem
     text_nodes(alloc, text.as_bytes())
 }
 
-// The number of all entries, whatever the page.
+/// The number of all entries, whatever the page.
 fn put_paging(
     alloc: Global,
     attributes: &mut Vec<(Bytes, Bytes)>,
@@ -63,7 +63,7 @@ fn put_text(alloc: Global, attributes: &mut Vec<(Bytes, Bytes)>, size: u64) -> R
     put(alloc, attributes, b"encoding", b"base64")
 }
 
-// The attributes that a value gives to its property.
+/// The attributes that a value gives to its property.
 fn put_value(
     alloc: Global,
     attributes: &mut Vec<(Bytes, Bytes)>,
@@ -86,7 +86,7 @@ fn put_value(
     }
 }
 
-// What a value puts between the tags of its property.
+/// What a value puts between the tags of its property.
 #[cycle(showing)]
 fn value_nodes(alloc: Global, shape: &Shape) -> Result<Vec<Node>, Memory>
     ensures { IfOk result (λ nodes. nodes.items ≡ (shape_part shape.now).1) }

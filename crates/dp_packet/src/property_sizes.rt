@@ -46,7 +46,7 @@ fn array_size(count: u64, page: u64, pagesize: u64) -> u64
         .saturating_add(paging_size(count, page, pagesize))
 }
 
-// The size of the attributes that a value gives to its property.
+/// The size of the attributes that a value gives to its property.
 fn value_size(shape: &Shape) -> u64
     ensures { result ≡ counted (attributes_size (shape_part shape.now).0) }
 {
@@ -71,7 +71,7 @@ fn int_size(number: i64) -> u64
     escaped_size(buffer.format(number).as_bytes())
 }
 
-// The size of what a value puts between the tags of its property.
+/// The size of what a value puts between the tags of its property.
 #[cycle(counting)]
 fn content_size(shape: &Shape) -> u64
     ensures { result ≡ counted (length (nodes_text (shape_part shape.now).1)) }

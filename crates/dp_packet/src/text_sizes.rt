@@ -14,7 +14,7 @@ use crate::sizes::{element_size, escaped_size, number_size, size_of};
 use crate::texts::refusal_name;
 use dp_value::Bytes;
 
-// The size of `xmlns` with the namespace of DBGp.
+/// The size of `xmlns` with the namespace of DBGp.
 const NAMESPACE: u64 = 33;
 
 #[tactic(auto, using(crate::proofs::SizeLaws::child_length))]

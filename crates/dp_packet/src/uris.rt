@@ -7,7 +7,7 @@ use dp_value::{Bytes, without_slash};
 use percent_encoding::{AsciiSet, NON_ALPHANUMERIC, ascii_set, percent_encode};
 use std::alloc::Global;
 
-// What does not stand for itself in the path of a URI.
+/// What does not stand for itself in the path of a URI.
 const ESCAPED: AsciiSet = ascii_set!(
     NON_ALPHANUMERIC
         .remove(b'-')

@@ -17,7 +17,7 @@ use dp_value::{Items, Memory};
 use std::alloc::Global;
 use std::ops::ControlFlow;
 
-// The arms with one more, and whether its body is open.
+/// The arms with one more, and whether its body is open.
 fn with_arm(
     arms: Items<Arm>,
     line: u32,
@@ -43,7 +43,7 @@ impl<R: Inside> Statements<R> {
         Ok(test)
     }
 
-    // The arms so far, and the next one behind the word on this line.
+    /// The arms so far, and the next one behind the word on this line.
     #[tactic(auto, unfolding(crate::specs::inner::StatementRules::next_arm))]
     fn next_arm(
         &self,
@@ -59,7 +59,7 @@ impl<R: Inside> Statements<R> {
         Ok(with_arm(arms, line, test, body)?)
     }
 
-    // The body behind an `else`.
+    /// The body behind an `else`.
     #[tactic(auto, unfolding(crate::specs::inner::StatementRules::otherwise))]
     fn otherwise(&self, tokens: &mut Tokens<'_>, arms: Items<Arm>) -> Result<Ended, Refusal>
         requires some { 0 < self.now.0 }
@@ -71,7 +71,7 @@ impl<R: Inside> Statements<R> {
         finished(self.alloc(), tokens, kind, is_open)
     }
 
-    // What stands behind an `else` on this line: a further arm, or the last body.
+    /// What stands behind an `else` on this line: a further arm, or the last body.
     #[tactic(auto, unfolding(crate::specs::inner::StatementRules::behind_else))]
     fn behind_else(
         &self,
@@ -111,7 +111,7 @@ impl<R: Inside> Statements<R> {
         Ok(ControlFlow::Break(finished(self.alloc(), tokens, kind, true)?))
     }
 
-    // What stands behind the first arm.
+    /// What stands behind the first arm.
     #[tactic(auto, unfolding(crate::specs::inner::StatementRules::arms))]
     fn arms(&self, tokens: &mut Tokens<'_>, first: (Items<Arm>, bool)) -> Result<Ended, Refusal>
         requires some { 0 < self.now.0 }

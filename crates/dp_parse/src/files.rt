@@ -19,14 +19,14 @@ use dp_value::{Items, Memory};
 use std::alloc::Global;
 use std::ops::ControlFlow;
 
-// A statement outside of loops.
+/// A statement outside of loops.
 fn outermost(alloc: Global, tokens: &mut Tokens<'_>) -> Result<Body, Refusal>
     ensures { Reads (spec.statement limits.expression_levels limits.body_levels 0 tokens.old) result tokens.new }
 {
     statement(alloc, tokens, BODY_LEVELS, 0)
 }
 
-// The statements of a function up to its closing brace.
+/// The statements of a function up to its closing brace.
 fn function_body(alloc: Global, tokens: &mut Tokens<'_>) -> Result<Items<Statement>, Refusal>
     ensures { Reads (spec.bodies (limited.body limits.body_levels 0) tokens.old) result tokens.new }
 {
@@ -132,7 +132,7 @@ fn at_end(tokens: &mut Tokens<'_>, found: Expression) -> Result<Expression, Refu
     Ok(found)
 }
 
-// A `;` or nothing, and the end.
+/// A `;` or nothing, and the end.
 #[tactic(auto, unfolding(crate::specs::inner::StatementRules::semicolon))]
 fn semicolon(tokens: &mut Tokens<'_>, found: Expression) -> Result<Expression, Refusal>
     ensures { Reads (spec.semicolon found tokens.old) result tokens.new }

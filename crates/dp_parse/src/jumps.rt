@@ -18,7 +18,7 @@ use dp_tree::{Expression, StatementKind};
 use dp_value::{Bytes, Items};
 use std::alloc::Global;
 
-// A variable in a list.
+/// A variable in a list.
 #[derive(Drop)]
 struct ListedVariable {
     alloc: Global,
@@ -34,7 +34,7 @@ impl Piece<Bytes> for ListedVariable {
     }
 }
 
-// One variable or more, and what closes them.
+/// One variable or more, and what closes them.
 fn variables(alloc: Global, tokens: &mut Tokens<'_>) -> Result<Items<Bytes>, Refusal>
     ensures { Reads (lists.plain_items (λ _. input.variable) Terminal.Semicolon tokens.old) result tokens.new }
 {
@@ -67,7 +67,7 @@ fn exit_word(tokens: &mut Tokens<'_>) -> Result<u32, Refusal>
 }
 
 impl<R: Inside> Statements<R> {
-    // How many loops a jump is about: 1, or a number up to that of the loops around it.
+    /// How many loops a jump is about: 1, or a number up to that of the loops around it.
     #[tactic(auto, unfolding(crate::specs::inner::StatementRules::levels))]
     fn levels(&self, tokens: &mut Tokens<'_>) -> Result<u32, Refusal>
         ensures { Reads (within spec.levels self.now tokens.old) result tokens.new }
@@ -112,7 +112,7 @@ impl<R: Inside> Statements<R> {
         whole(self.alloc(), tokens, StatementKind::Continue(count))
     }
 
-    // An expression, or none, and what closes it.
+    /// An expression, or none, and what closes it.
     #[tactic(auto, unfolding(crate::specs::inner::StatementRules::maybe_up_to))]
     fn maybe_up_to(
         &self,

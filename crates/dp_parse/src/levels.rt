@@ -29,7 +29,7 @@ pub(crate) fn place(alloc: Global, tokens: &mut Tokens<'_>) -> Result<Place, Ref
     dp_expressions::place(alloc, tokens, EXPRESSION_LEVELS)
 }
 
-// An expression in a list.
+/// An expression in a list.
 #[derive(Drop)]
 struct ListedExpression {
     alloc: Global,
@@ -45,7 +45,7 @@ impl Piece<Expression> for ListedExpression {
     }
 }
 
-// A place in a list.
+/// A place in a list.
 #[derive(Drop)]
 struct ListedPlace {
     alloc: Global,

@@ -34,7 +34,7 @@ fn bound_rest(alloc: Global, tokens: &mut Tokens<'_>, first: Bytes) -> Result<Bi
     })
 }
 
-// The variables that a `foreach` binds.
+/// The variables that a `foreach` binds.
 #[tactic(auto, unfolding(crate::specs::inner::StatementRules::bound))]
 fn bound(alloc: Global, tokens: &mut Tokens<'_>) -> Result<Binding, Refusal>
     ensures { Reads (spec.bound tokens.old) result tokens.new }
@@ -44,7 +44,7 @@ fn bound(alloc: Global, tokens: &mut Tokens<'_>) -> Result<Binding, Refusal>
 }
 
 impl<R: Inside> Statements<R> {
-    // The body of a loop.
+    /// The body of a loop.
     fn looped(&self, tokens: &mut Tokens<'_>) -> Result<Body, Refusal>
         requires some { 0 < self.now.0 }
         ensures { Reads (spec.head_body (limited.body self.now.0 (suc self.now.1)) tokens.old) result tokens.new }
@@ -119,7 +119,7 @@ impl<R: Inside> Statements<R> {
         self.foreach_bound(tokens, subject)
     }
 
-    // A `foreach` behind its subject.
+    /// A `foreach` behind its subject.
     fn foreach_bound(&self, tokens: &mut Tokens<'_>, subject: Expression) -> Result<Ended, Refusal>
         requires { 0 < self.now.0 }
         ensures { Reads (within spec.foreach_bound self.now subject tokens.old) result tokens.new }
@@ -130,7 +130,7 @@ impl<R: Inside> Statements<R> {
         self.foreach_body(tokens, subject, binding)
     }
 
-    // A `foreach` behind its head.
+    /// A `foreach` behind its head.
     #[tactic(auto, unfolding(crate::specs::inner::StatementRules::loop_body))]
     fn foreach_body(
         &self,

@@ -11,7 +11,7 @@ use dp_value::{Bytes, Items};
 use std::alloc::Global;
 use std::ops::ControlFlow;
 
-// The names with a parameter behind them.
+/// The names with a parameter behind them.
 fn parameter(alloc: Global, tokens: &mut Tokens<'_>, found: Names) -> Result<Names, Refusal>
     ensures { Reads (made (spec.checked found) (λ name. found ++ name ∷ []) tokens.old) result tokens.new }
 {
@@ -25,7 +25,7 @@ fn parameter(alloc: Global, tokens: &mut Tokens<'_>, found: Names) -> Result<Nam
     }
 }
 
-// The next parameter, or the end behind a comma.
+/// The next parameter, or the end behind a comma.
 fn behind_comma(
     alloc: Global,
     tokens: &mut Tokens<'_>,

@@ -67,7 +67,7 @@ impl<R: Inside> Statements<R> {
         Err(tokens.refuse())
     }
 
-    // Statements in braces, in so many loops.
+    /// Statements in braces, in so many loops.
     #[tactic(auto, unfolding(crate::specs::inner::StatementRules::braced))]
     fn braced(&self, tokens: &mut Tokens<'_>, loops: u32) -> Result<Ended, Refusal>
         requires some { 0 < self.now.0 }
@@ -143,7 +143,7 @@ impl<R: Inside> Statements<R> {
         }
     }
 
-    // A statement with the line of its first token.
+    /// A statement with the line of its first token.
     #[tactic(auto, unfolding(crate::specs::inner::StatementRules::on_its_line))]
     fn on_its_line(&self, tokens: &mut Tokens<'_>) -> Result<Body, Refusal>
         ensures { Reads (spec.on_its_line (within spec.any_statement self.now) tokens.old) result tokens.new }

@@ -16,7 +16,7 @@ use dp_rules::{Refusal, Tokens};
 use dp_tree::Expression;
 use std::alloc::Global;
 
-// The refusal of so many tokens, by the number of the token that is named.
+/// The refusal of so many tokens, by the number of the token that is named.
 fn refused(count: usize, refusal: Refusal) -> ParseError
     ensures { result ≡ told count refusal }
 {

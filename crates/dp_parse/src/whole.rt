@@ -18,7 +18,7 @@ use dp_lexer::{LexError, lex, lex_expression, line_feeds};
 use dp_tree::{Expression, File, first_double};
 use std::alloc::Global;
 
-// Why there are no tokens.
+/// Why there are no tokens.
 fn no_tokens(why: LexError) -> ParseError
     ensures { result ≡ without_tokens why }
 {

@@ -22,7 +22,7 @@ pub enum Call {
     },
 }
 
-// Whether each byte is printable ASCII and no blank.
+/// Whether each byte is printable ASCII and no blank.
 fn are_graphic(bytes: &[u8]) -> bool
     ensures { result ≡ list_all (λ b. nat_le 0x21 b && nat_le b 0x7e) bytes.now }
 {
@@ -48,14 +48,14 @@ fn are_among(letters: &[u8], options: &[(u8, Bytes)]) -> bool
     options.iter().all(|option| is_among(option.0, letters))
 }
 
-// Whether each option has one of these letters, and no letter stands twice.
+/// Whether each option has one of these letters, and no letter stands twice.
 fn fits(letters: &[u8], options: &[(u8, Bytes)]) -> bool
     ensures { result ≡ spec.fits letters.now options.now }
 {
     are_among(letters, options) && !has_duplicate(options)
 }
 
-// The key that is given, if one is.
+/// The key that is given, if one is.
 fn key_in(options: &[(u8, Bytes)]) -> Option<&[u8]>
     ensures { option_copied result ≡ spec.key_in options.now }
 {
@@ -63,7 +63,7 @@ fn key_in(options: &[(u8, Bytes)]) -> Option<&[u8]>
     if is_key(key) { Some(key) } else { None }
 }
 
-// The port that is given, if one is.
+/// The port that is given, if one is.
 fn port_in(options: &[(u8, Bytes)]) -> Option<u16>
     ensures { result ≡ spec.port_in options.now }
 {
@@ -71,7 +71,7 @@ fn port_in(options: &[(u8, Bytes)]) -> Option<u16>
     if port == 0 { None } else { Some(port as u16) }
 }
 
-// Whether several sessions at a time are taken; `None` where the options say it wrongly.
+/// Whether several sessions at a time are taken; `None` where the options say it wrongly.
 fn multiple_in(options: &[(u8, Bytes)]) -> Option<bool>
     ensures { result ≡ spec.multiple_in options.now }
 {

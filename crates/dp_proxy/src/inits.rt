@@ -10,7 +10,7 @@ use dp_markup::{MarkupError, head_attribute};
 use dp_value::Bytes;
 use std::alloc::Global;
 
-// A value that is a key.
+/// A value that is a key.
 fn key_in(value: Option<Bytes>) -> Result<Bytes, InitError>
     ensures found { IfOk result (λ key. (value ≡ Some key) × IsKey key) }
     ensures bad { IfErr result (λ e. (key : List ℕ) → value ≡ Some key → IsKey key → ⊥) }

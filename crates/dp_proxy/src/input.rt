@@ -19,7 +19,7 @@ pub(crate) enum Hearing {
     Asked,
 }
 
-// Bytes come behind those that were heard, none of which is NUL.
+/// Bytes come behind those that were heard, none of which is NUL.
 fn take_in(heard: &mut Vec<u8>, bytes: &[u8]) -> Result<Hearing, Memory>
     ensures { has_no_nul heard.old.items ≡ true → IfOk result (λ hearing.
         Hears heard.old.items (acted.Given bytes.now) hearing heard.new.items) }

@@ -21,7 +21,7 @@ pub(crate) enum Passing {
     Broken(u64),
 }
 
-// Where a link is broken: in the lane of commands, or else in that of packets. Takes no memory.
+/// Where a link is broken: in the lane of commands, or else in that of packets. Takes no memory.
 fn broken_place(up: &Lane, down: &Lane) -> Option<u64>
     ensures { (acts : List OneAct) → FollowBoth acts up.now down.now → BrokenPlace acts result }
 {
@@ -31,7 +31,7 @@ fn broken_place(up: &Lane, down: &Lane) -> Option<u64>
     }
 }
 
-// The IDE gives bytes.
+/// The IDE gives bytes.
 fn give(alloc: Global, up: &Lane, down: &mut Lane, bytes: &Bytes) -> Result<Passing, Memory>
     ensures { (acts : List OneAct) → FollowBoth acts up.now down.old → IfOk result (λ passing.
         Passes acts (acted.Given bytes.now) passing
@@ -48,7 +48,7 @@ fn give(alloc: Global, up: &Lane, down: &mut Lane, bytes: &Bytes) -> Result<Pass
     }
 }
 
-// Bytes were read of the engine.
+/// Bytes were read of the engine.
 fn read(alloc: Global, up: &mut Lane, down: &Lane, bytes: &Bytes) -> Result<Passing, Memory>
     ensures { (acts : List OneAct) → FollowBoth acts up.old down.now → IfOk result (λ passing.
         Passes acts (acted.Moved bytes.now) passing
@@ -65,7 +65,7 @@ fn read(alloc: Global, up: &mut Lane, down: &Lane, bytes: &Bytes) -> Result<Pass
     }
 }
 
-// The link closes. Takes no memory.
+/// The link closes. Takes no memory.
 fn close(up: &Lane, down: &Lane) -> Passing
     ensures { (acts : List OneAct) → FollowBoth acts up.now down.now → Passes acts acted.Closed result }
 {

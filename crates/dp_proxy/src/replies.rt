@@ -11,7 +11,7 @@ use dp_registry::{Refusal, Registry};
 use dp_value::{Bytes, Memory};
 use std::alloc::Global;
 
-// The number of a refusal. Takes no memory.
+/// The number of a refusal. Takes no memory.
 fn id_of(why: &Refusal) -> u8
     ensures { result ≡ spec.id_of why.now }
 {
@@ -25,7 +25,7 @@ fn id_of(why: &Refusal) -> u8
     }
 }
 
-// What the registry answers to the call of a host.
+/// What the registry answers to the call of a host.
 fn verdict_on(registry: &mut Registry, host: &[u8], call: &Call) -> Result<(), Refusal>
     requires host { IsHost host.now }
     requires key { spec.IsKeyed call.now }

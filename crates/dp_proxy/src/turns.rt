@@ -31,7 +31,7 @@ use dp_value::{Bytes, Memory};
 use dp_wire::packet_bytes;
 use std::alloc::Global;
 
-// Answers a command of a host, and makes the call that it names: what is sent of the reply.
+/// Answers a command of a host, and makes the call that it names: what is sent of the reply.
 fn answer(
     alloc: Global,
     registry: &mut Registry,
@@ -48,7 +48,7 @@ fn answer(
     packet_bytes(alloc, text.as_slice())
 }
 
-// An act on the link of an IDE that asks.
+/// An act on the link of an IDE that asks.
 fn ask(
     alloc: Global,
     registry: &mut Registry,
@@ -86,7 +86,7 @@ fn ask(
     }
 }
 
-// An act on the link of a session.
+/// An act on the link of a session.
 fn go_on(
     alloc: Global,
     registry: &mut Registry,
@@ -126,7 +126,7 @@ fn go_on(
     }
 }
 
-// An engine is refused.
+/// An engine is refused.
 fn refuse(why: Refusal) -> Result<Step, Memory>
     ensures known { IfOk result (λ step. why ≡ refusal.Memory → ⊥) }
     ensures step { IfOk result (λ step. step ≡ record { kept = Some keep.Over; told = Ok (effect.Turned why) }) }
@@ -140,7 +140,7 @@ fn refuse(why: Refusal) -> Result<Step, Memory>
     }
 }
 
-// An engine is given a session.
+/// An engine is given a session.
 fn welcome(alloc: Global, pass: Pass) -> Result<Step, Memory>
     ensures { IfOk result (Welcomes pass) }
 {
@@ -158,7 +158,7 @@ fn welcome(alloc: Global, pass: Pass) -> Result<Step, Memory>
     })
 }
 
-// An engine comes with a key.
+/// An engine comes with a key.
 fn admit(alloc: Global, registry: &mut Registry, key: &[u8]) -> Result<Step, Memory>
     requires { IsKey key.now }
     ensures leads { IfOk result (Leads registry.old pasts.New (acted.Engine key.now) registry.new) }
@@ -172,7 +172,7 @@ fn admit(alloc: Global, registry: &mut Registry, key: &[u8]) -> Result<Step, Mem
     }
 }
 
-// An engine comes, perhaps with no key.
+/// An engine comes, perhaps with no key.
 fn engine(alloc: Global, registry: &mut Registry, key: &[u8]) -> Result<Step, Memory>
     ensures leads { IfOk result (Leads registry.old pasts.New (acted.Engine key.now) registry.new) }
     ensures sound { IfOk result (λ step. IsSound registry.new step.kept) }
@@ -189,7 +189,7 @@ fn engine(alloc: Global, registry: &mut Registry, key: &[u8]) -> Result<Step, Me
     }
 }
 
-// An IDE connects.
+/// An IDE connects.
 fn ide(alloc: Global, host: &Bytes) -> Result<Step, Memory>
     requires { IsHost host.now }
     ensures leads { (journal : List Entry) → IfOk result (Leads journal pasts.New (acted.Ide host.now) journal) }
@@ -204,7 +204,7 @@ fn ide(alloc: Global, host: &Bytes) -> Result<Step, Memory>
     })
 }
 
-// Nothing becomes of a link that was not made.
+/// Nothing becomes of a link that was not made.
 fn unmade() -> Step
     ensures { result ≡ record { kept = None; told = Ok effect.Nothing } }
 {
@@ -214,7 +214,7 @@ fn unmade() -> Step
     }
 }
 
-// An act on a link that was not made.
+/// An act on a link that was not made.
 fn come(alloc: Global, registry: &mut Registry, act: &Act) -> Result<Step, Memory>
     requires { HasHost act.now }
     ensures leads { IfOk result (Leads registry.old pasts.New act.now registry.new) }

@@ -19,7 +19,7 @@ impl Registry {
     ghost use Rattle.dp_registry.specs.Verdicts.{is_full, is_crowded};
     ghost use Rattle.dp_registry.specs.inner.Kept.{IsIdle};
 
-    // Notes a call that changes neither who holds a key nor which sessions are live.
+    /// Notes a call that changes neither who holds a key nor which sessions are live.
     pub(crate) fn note(&mut self, entry: Entry) -> Result<(), Memory>
         requires fit { IsFit self.old entry }
         requires idle { IsIdle entry }
@@ -32,7 +32,7 @@ impl Registry {
         Ok(())
     }
 
-    // Notes a registration that is accepted.
+    /// Notes a registration that is accepted.
     pub(crate) fn hold(
         &mut self,
         host: Bytes,
@@ -59,7 +59,7 @@ impl Registry {
         Ok(())
     }
 
-    // Notes a stop that is accepted.
+    /// Notes a stop that is accepted.
     pub(crate) fn release(&mut self, host: Bytes, key: Bytes) -> Result<(), Memory>
         requires fit { IsFit self.old (entry.Stop host key 0) }
         requires room { is_full self.old ≡ false }
@@ -76,7 +76,7 @@ impl Registry {
         Ok(())
     }
 
-    // Notes that the next session is given under a key.
+    /// Notes that the next session is given under a key.
     pub(crate) fn give(&mut self, key: Bytes, host: Bytes, port: u16) -> Result<(), Memory>
         requires fit { IsFit self.old (entry.Admit key (reply.Given (next_session self.old) host port)) }
         requires room { is_crowded self.old ≡ false }
@@ -106,7 +106,7 @@ impl Registry {
     }
 }
 
-// The place of a session's admission.
+/// The place of a session's admission.
 pub(crate) fn place_at(admissions: &[usize], session: u64) -> usize
     requires { (1 ≤ session) × (session - 1 < length admissions.now) }
     ensures { slice_get admissions.now (session - 1) ≡ Some result }
@@ -114,7 +114,7 @@ pub(crate) fn place_at(admissions: &[usize], session: u64) -> usize
     admissions[(session - 1) as usize]
 }
 
-// Takes the session that the entry at a place gave out of those that are live under its key.
+/// Takes the session that the entry at a place gave out of those that are live under its key.
 pub(crate) fn end_session(journal: &[Entry], under: &mut LiveSessions, at: usize, session: u64)
     requires { at < length journal.now }
     ensures { (key : List ℕ) → admitted_key (slice_get journal.now at) ≡ Some key → (other : List ℕ)

@@ -6,10 +6,10 @@ use crate::registry::Registry;
 use dp_value::{Bytes, Memory};
 use std::alloc::Global;
 
-// The most entries that there may be, once each live session was dismissed.
+/// The most entries that there may be, once each live session was dismissed.
 const MOST_ENTRIES: usize = 262_144;
 
-// The most live sessions.
+/// The most live sessions.
 const MOST_LIVE: usize = 256;
 
 impl Registry {
@@ -43,7 +43,7 @@ impl Registry {
         }
     }
 
-    // Who holds a key: the host, the port, and whether several sessions are taken.
+    /// Who holds a key: the host, the port, and whether several sessions are taken.
     pub(crate) fn holder(&self, key: &Bytes) -> Option<(&Bytes, u16, bool)>
         ensures { option_map (λ h. holder_from (h.0.now, h.1, h.2)) result ≡ holder self.now key.now }
     {
@@ -59,7 +59,7 @@ impl Registry {
         }
     }
 
-    // The address that holds a key, where it is another.
+    /// The address that holds a key, where it is another.
     pub(crate) fn taken(
         &self,
         host: &Bytes,
@@ -77,7 +77,7 @@ impl Registry {
         Ok(Some((holder.try_clone()?, its_port)))
     }
 
-    // Whether the host holds the key that is held.
+    /// Whether the host holds the key that is held.
     pub(crate) fn is_holder(&self, host: &Bytes, key: &Bytes) -> Option<bool>
         ensures { stopped result ≡ stopping (holder self.now key.now) host.now }
     {
@@ -85,14 +85,14 @@ impl Registry {
         Some(holder == host)
     }
 
-    // The session that keeps others out under a key.
+    /// The session that keeps others out under a key.
     pub(crate) fn first_live(&self, key: &Bytes) -> Option<u64>
         ensures { result ≡ least (live_under key.now self.now) }
     {
         self.under.first(key)
     }
 
-    // What an engine that asks under a key is answered.
+    /// What an engine that asks under a key is answered.
     pub(crate) fn admission(&self, key: &Bytes) -> Result<AdmitReply, Memory>
         ensures { IfOk result (λ reply. admitted reply ≡ admitting (holder self.now key.now)
             (live_under key.now self.now) (next_session self.now)) }

@@ -115,7 +115,7 @@ impl LiveSessions {
         }
     }
 
-    // Takes a session out, and says whether none is left under the key.
+    /// Takes a session out, and says whether none is left under the key.
     fn leave(&mut self, key: &Bytes, session: u64) -> bool
         ensures none { result ≡ (length (sessions_of self.new key.now) == 0) }
         ensures left { (other : List ℕ)

@@ -132,7 +132,7 @@ pub(crate) fn is_namespace(name: &[u8]) -> bool
     same_text(name, b"xmlns") || name.starts_with(b"xmlns:")
 }
 
-// Whether the name is of another namespace than DBGp's.
+/// Whether the name is of another namespace than DBGp's.
 fn is_foreign(name: &[u8]) -> bool
     ensures { result ≡ spec.is_foreign name.now }
 {

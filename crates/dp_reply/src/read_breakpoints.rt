@@ -57,7 +57,7 @@ fn rule_in(text: &[u8]) -> Result<HitRule, ReplyError>
     }
 }
 
-// The id, what it is, and whether it is enabled.
+/// The id, what it is, and whether it is enabled.
 #[tactic(auto, unfolding(crate::specs::Readings::sort_in))]
 fn sort_in(e: &Element) -> Result<(u32, BreakKind, bool), ReplyError>
     ensures { Finds (λ sort. sort) result (spec.sort_in e.now) }
@@ -68,7 +68,7 @@ fn sort_in(e: &Element) -> Result<(u32, BreakKind, bool), ReplyError>
     Ok((id, kind, enabled))
 }
 
-// The hits, what they are compared with and how, and whether it is temporary.
+/// The hits, what they are compared with and how, and whether it is temporary.
 #[tactic(auto, unfolding(crate::specs::Readings::hits_in))]
 fn hits_in(e: &Element) -> Result<(u64, u32, HitRule, bool), ReplyError>
     ensures { Finds (λ hits. hits) result (spec.hits_in e.now) }

@@ -93,7 +93,7 @@ fn array_in(alloc: Global, e: &Element, level: usize) -> Result<Shape, ReplyErro
     })
 }
 
-// The value of a property of this type.
+/// The value of a property of this type.
 #[cycle(reading)]
 fn shape_in(alloc: Global, type_name: &[u8], e: &Element, level: usize) -> Result<Shape, ReplyError>
     ensures { Finds (λ s. s) result

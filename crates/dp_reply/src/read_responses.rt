@@ -139,7 +139,7 @@ fn rows_in(alloc: Global, nodes: &[Node]) -> Result<Body, ReplyError>
     }
 }
 
-// An error, or elements of one kind.
+/// An error, or elements of one kind.
 #[tactic(auto, unfolding(crate::specs::Readings::list_in))]
 fn list_in(alloc: Global, nodes: &[Node]) -> Result<Body, ReplyError>
     ensures { Finds (λ body. body) result (spec.list_in (contents.elements nodes.now)) }
@@ -153,7 +153,7 @@ fn list_in(alloc: Global, nodes: &[Node]) -> Result<Body, ReplyError>
     }
 }
 
-// What stands in a response.
+/// What stands in a response.
 #[tactic(auto, unfolding(crate::specs::Readings::body_of))]
 fn body_in(alloc: Global, nodes: &[Node]) -> Result<Body, ReplyError>
     ensures { Finds (λ body. body) result
@@ -167,7 +167,7 @@ fn body_in(alloc: Global, nodes: &[Node]) -> Result<Body, ReplyError>
     }
 }
 
-// Whether a response keeps the attribute of this name.
+/// Whether a response keeps the attribute of this name.
 fn is_own(name: &[u8]) -> bool
     ensures { result ≡ spec.is_own_name name.now }
 {

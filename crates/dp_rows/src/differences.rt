@@ -5,7 +5,7 @@ use crate::escapes::put_window;
 use crate::row::Row;
 use std::alloc::Global;
 
-// How many bytes a report shows, and how many of them stand before the first that differs.
+/// How many bytes a report shows, and how many of them stand before the first that differs.
 const SHOWN: usize = 100;
 
 const BEFORE: usize = 30;
@@ -16,7 +16,7 @@ pub struct Differences {
     lines: String,
 }
 
-// The place of the first byte in which two texts differ.
+/// The place of the first byte in which two texts differ.
 fn first_other(wanted: &[u8], found: &[u8]) -> usize {
     wanted
         .iter()

@@ -4,7 +4,7 @@ use crate::Memory;
 use crate::fields::{at_space, number_of};
 use std::alloc::Global;
 
-// The most bytes that one repetition gives.
+/// The most bytes that one repetition gives.
 const REPEATED: u64 = 1 << 26;
 
 /// What a text with escapes stands for.
@@ -34,7 +34,7 @@ pub(crate) fn put_text(bytes: &mut Vec<u8>, text: &[u8]) -> Result<(), Memory> {
     Ok(())
 }
 
-// Puts the byte of the escape whose letter comes first. Answers what stands behind it.
+/// Puts the byte of the escape whose letter comes first. Answers what stands behind it.
 fn put_escape<'a>(bytes: &mut Vec<u8>, text: &'a [u8]) -> Result<&'a [u8], Memory> {
     let Some((letter, behind)) = text.split_first() else {
         return Ok(text);
@@ -51,7 +51,7 @@ fn put_escape<'a>(bytes: &mut Vec<u8>, text: &'a [u8]) -> Result<&'a [u8], Memor
     Ok(behind)
 }
 
-// The value of a hexadecimal digit; of any other byte 0.
+/// The value of a hexadecimal digit; of any other byte 0.
 fn digit(byte: u8) -> u8 {
     match byte {
         b'0'..=b'9' => byte - b'0',
@@ -61,7 +61,7 @@ fn digit(byte: u8) -> u8 {
     }
 }
 
-// Puts the byte of the two digits that come first. Answers what stands behind them.
+/// Puts the byte of the two digits that come first. Answers what stands behind them.
 fn put_hexadecimal<'a>(bytes: &mut Vec<u8>, text: &'a [u8]) -> Result<&'a [u8], Memory> {
     match text.split_at_checked(2) {
         Some(([high, low], behind)) => {
@@ -72,7 +72,7 @@ fn put_hexadecimal<'a>(bytes: &mut Vec<u8>, text: &'a [u8]) -> Result<&'a [u8], 
     }
 }
 
-// What stands before the end of a repetition, and what stands behind it.
+/// What stands before the end of a repetition, and what stands behind it.
 fn at_end(text: &[u8]) -> (&[u8], &[u8]) {
     for at in 0..text.len() {
         if let Some((front, back)) = text.split_at_checked(at) {
@@ -84,7 +84,7 @@ fn at_end(text: &[u8]) -> (&[u8], &[u8]) {
     (text, &[])
 }
 
-// Puts the repetition whose number comes first. Answers what stands behind its end.
+/// Puts the repetition whose number comes first. Answers what stands behind its end.
 fn put_repeated<'a>(bytes: &mut Vec<u8>, text: &'a [u8]) -> Result<&'a [u8], Memory> {
     let (inside, behind) = at_end(text);
     let (digits, piece) = at_space(inside);
@@ -97,7 +97,7 @@ fn put_repeated<'a>(bytes: &mut Vec<u8>, text: &'a [u8]) -> Result<&'a [u8], Mem
     Ok(behind)
 }
 
-// Puts what a text without repetitions stands for.
+/// Puts what a text without repetitions stands for.
 fn put_piece(bytes: &mut Vec<u8>, text: &[u8]) -> Result<(), Memory> {
     let mut rest = text;
     for _ in 0..text.len() {
@@ -113,7 +113,7 @@ fn put_piece(bytes: &mut Vec<u8>, text: &[u8]) -> Result<(), Memory> {
     Ok(())
 }
 
-// Puts a byte as a report shows it.
+/// Puts a byte as a report shows it.
 fn put_shown(text: &mut String, byte: u8) -> Result<(), Memory> {
     match byte {
         b'\n' => text.push_str("\\n")?,

@@ -42,7 +42,7 @@ pub fn number_of(digits: &[u8]) -> Option<u64> {
     }
 }
 
-// Whether a line is a field: its name begins with a small letter.
+/// Whether a line is a field: its name begins with a small letter.
 fn is_field(line: &[u8]) -> bool {
     match line.first() {
         Some(byte) => byte.is_ascii_lowercase(),
@@ -59,7 +59,7 @@ pub fn at_space(line: &[u8]) -> (&[u8], &[u8]) {
     }
 }
 
-// The lines up to the next field.
+/// The lines up to the next field.
 fn content_of<'a>(lines: &'a [&'a [u8]]) -> &'a [&'a [u8]] {
     let count = lines.iter().take_while(|line| !is_field(line)).count();
     lines.get(..count).unwrap_or(lines)

@@ -19,7 +19,7 @@ impl RowFile {
     }
 }
 
-// The names of the files of rows in the folder where the program runs, in order.
+/// The names of the files of rows in the folder where the program runs, in order.
 fn names<R: Files + AllocGlobal + Clone + Drop>(rt: &R) -> io::Result<Vec<String>> {
     let mut names = Vec::new(rt.alloc());
     for entry in fs::read_dir(rt, ".")? {

@@ -16,9 +16,9 @@ pub(crate) fn is_content(line: &[u8]) -> bool {
     }
 }
 
-// Puts what a line of a content stands for: by its first byte, `|` and `>`, the rest of the line and a line feed, or a
-// NUL; `\`, the rest of the line, in which escapes stand; a digit, a packet, which has its length and its element
-// there.
+/// Puts what a line of a content stands for: by its first byte, `|` and `>`, the rest of the line and a line feed, or a
+/// NUL; `\`, the rest of the line, in which escapes stand; a digit, a packet, which has its length and its element
+/// there.
 fn put_line(bytes: &mut Vec<u8>, line: &[u8]) -> Result<(), Memory> {
     match line.split_first() {
         Some((b'|', rest)) => {
@@ -44,7 +44,7 @@ pub(crate) fn put_lines(bytes: &mut Vec<u8>, lines: &[&[u8]]) -> Result<(), Memo
     Ok(())
 }
 
-// Puts a packet as it stands on a wire.
+/// Puts a packet as it stands on a wire.
 fn put_packet(bytes: &mut Vec<u8>, line: &[u8]) -> Result<(), Memory> {
     let (length, element) = at_space(line);
     bytes.extend_from_slice(length)?;
@@ -55,7 +55,7 @@ fn put_packet(bytes: &mut Vec<u8>, line: &[u8]) -> Result<(), Memory> {
     Ok(())
 }
 
-// Puts an element, in which `@` behind the root's name stands for the namespace of packets.
+/// Puts an element, in which `@` behind the root's name stands for the namespace of packets.
 fn put_element(bytes: &mut Vec<u8>, element: &[u8]) -> Result<(), Memory> {
     let count = element
         .iter()

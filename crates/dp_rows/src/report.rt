@@ -30,7 +30,7 @@ impl Report {
         self.lines.as_str()
     }
 
-    // Tells what differs at a row, or that it is not understood.
+    /// Tells what differs at a row, or that it is not understood.
     fn put_other(&mut self, row: &Row<'_>, differences: &Differences) -> Result<(), Memory> {
         self.others = self.others.saturating_add(1);
         let title = String::from_utf8_lossy(self.alloc, row.title)?;

@@ -38,7 +38,7 @@ impl<'a> Row<'a> {
     }
 }
 
-// A block without the comments at its head, and how many these are.
+/// A block without the comments at its head, and how many these are.
 fn without_comments<'a>(block: &'a [&'a [u8]]) -> (usize, &'a [&'a [u8]]) {
     let comments = block
         .iter()
@@ -50,7 +50,7 @@ fn without_comments<'a>(block: &'a [&'a [u8]]) -> (usize, &'a [&'a [u8]]) {
     }
 }
 
-// The row with this title and these lines, its own and those that it shares.
+/// The row with this title and these lines, its own and those that it shares.
 fn row_of<'a>(
     alloc: Global,
     line: usize,
@@ -69,14 +69,14 @@ fn row_of<'a>(
     })
 }
 
-// The title of a block and its other lines, if it has a title.
+/// The title of a block and its other lines, if it has a title.
 fn titled<'a>(block: &'a [&'a [u8]]) -> Option<(&'a [u8], &'a [&'a [u8]])> {
     let (first, own) = block.split_first()?;
     let title = first.strip_prefix(b"= ")?;
     Some((title, own))
 }
 
-// The lines that rows share behind a block, where they shared these before it.
+/// The lines that rows share behind a block, where they shared these before it.
 fn shared_behind<'a>(shared: &'a [&'a [u8]], block: &'a [&'a [u8]]) -> &'a [&'a [u8]] {
     if block.is_empty() || titled(block).is_some() {
         shared

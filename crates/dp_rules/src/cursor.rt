@@ -35,7 +35,7 @@ impl<'a> Model for Tokens<'a> {
     ghost invariant = { λ t. t.next ≡ head t.rest.now };
 }
 
-// What sort of token comes first.
+/// What sort of token comes first.
 fn first_terminal(tokens: &[Token]) -> Terminal
     ensures { result ≡ head tokens.now }
 {

@@ -41,7 +41,7 @@ pub trait Piece<T> {
         ensures { Reads (reads self.now tokens.old) result tokens.new };
 }
 
-// The next item, or the end behind a comma.
+/// The next item, or the end behind a comma.
 fn behind_comma<T: Drop, P: Piece<T>>(
     tokens: &mut Tokens<'_>,
     close: Terminal,

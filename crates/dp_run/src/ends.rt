@@ -28,7 +28,7 @@ pub fn judge(outcome: Outcome) -> Result<u8, RunError>
     }
 }
 
-// Puts what a program wrote, and answers what its end comes to.
+/// Puts what a program wrote, and answers what its end comes to.
 fn put_end<K: Sink>(outcome: Outcome, output: &[u8], out: &mut K) -> Result<u8, RunError>
     ensures ends { MatchResult result
         (λ status. IsPut status outcome output.now (change K.taken K.faults out.old out.new))
@@ -41,7 +41,7 @@ fn put_end<K: Sink>(outcome: Outcome, output: &[u8], out: &mut K) -> Result<u8, 
     }
 }
 
-// Runs a program to its end, with a ledger for its steps.
+/// Runs a program to its end, with a ledger for its steps.
 fn run_to_end<L: Ledger>(
     alloc: Global,
     program: &Bundle,

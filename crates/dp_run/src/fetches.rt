@@ -13,7 +13,7 @@ use dp_tree::FILE_LIMIT;
 use dp_value::{Bytes, Items};
 use std::alloc::Global;
 
-// A file as a bundle takes it.
+/// A file as a bundle takes it.
 fn given(alloc: Global, name: &str, content: Vec<u8>) -> Result<(Bytes, Bytes), ProgramError>
     ensures ok { IfOk result (λ file. (file.0 ≡ name.now) × (file.1 ≡ content.items)) }
     ensures err { IfErr result (λ why. why ≡ ProgramError.Memory) }
@@ -24,7 +24,7 @@ fn given(alloc: Global, name: &str, content: Vec<u8>) -> Result<(Bytes, Bytes), 
     }
 }
 
-// Fetches the file of this number.
+/// Fetches the file of this number.
 fn fetch<H: Shelf>(
     alloc: Global,
     number: u32,
@@ -46,7 +46,7 @@ fn fetch<H: Shelf>(
     }
 }
 
-// Puts a file behind those that are fetched.
+/// Puts a file behind those that are fetched.
 fn keep(fetched: &mut Vec<(Bytes, Bytes)>, file: (Bytes, Bytes)) -> Result<(), ProgramError>
     ensures ok { OnOk result (fetched.new.items ≡ fetched.old.items ++ file ∷ []) }
     ensures err { IfErr result (λ why. why ≡ ProgramError.Memory) }
@@ -57,7 +57,7 @@ fn keep(fetched: &mut Vec<(Bytes, Bytes)>, file: (Bytes, Bytes)) -> Result<(), P
     }
 }
 
-// Fetches one file more.
+/// Fetches one file more.
 fn fetch_next<H: Shelf>(
     alloc: Global,
     name: &str,

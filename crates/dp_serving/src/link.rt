@@ -19,7 +19,7 @@ use std::alloc::{AllocError, Global};
 /// The most bytes that one session reads.
 pub const BYTE_LIMIT: usize = 4_294_967_295;
 
-// The most bytes that are read at once.
+/// The most bytes that are read at once.
 const PIECE: usize = 8192;
 
 /// Why a session that no sink has failed is over.
@@ -59,7 +59,7 @@ impl<E: Drop> From<AllocError> for Fault<E> {
     }
 }
 
-// Why no further command is answered.
+/// Why no further command is answered.
 #[derive(Debug, Drop)]
 enum Pause<E> {
     /// A command ended the session.
@@ -70,7 +70,7 @@ enum Pause<E> {
     TooLong,
 }
 
-// What one read brings.
+/// What one read brings.
 #[derive(Clone, Copy, Debug, PartialEq, Eq)]
 enum Piece {
     /// So many bytes.
@@ -81,7 +81,7 @@ enum Piece {
     Failed,
 }
 
-// Delivers an answer: prints what the program wrote, then sends the packets.
+/// Delivers an answer: prints what the program wrote, then sends the packets.
 fn deliver<T: Drop, K: Sink, E: Sink>(
     alloc: Global,
     answer: Answer<T>,
@@ -112,7 +112,7 @@ fn deliver<T: Drop, K: Sink, E: Sink>(
     }
 }
 
-// Answers each whole command that is held, up to one that ends the session.
+/// Answers each whole command that is held, up to one that ends the session.
 fn answer_held<A: Responder, K: Sink, E: Sink>(
     alloc: Global,
     talk: &mut Conversation<A>,
@@ -140,7 +140,7 @@ fn answer_held<A: Responder, K: Sink, E: Sink>(
     }
 }
 
-// Reads one piece, which follows what is held. Where memory runs out it was read and is not held.
+/// Reads one piece, which follows what is held. Where memory runs out it was read and is not held.
 fn read_piece<A: Responder, S: Source>(
     source: &mut S,
     talk: &mut Conversation<A>,
@@ -163,7 +163,7 @@ fn read_piece<A: Responder, S: Source>(
     }
 }
 
-// Sends the first packet. Where that fails, a front of it was taken.
+/// Sends the first packet. Where that fails, a front of it was taken.
 fn open<T: Drop, K: Sink>(alloc: Global, init: &[u8], sink: &mut K) -> Result<(), Fault<T>>
     requires { IsPacketText init.now }
     ensures taken { PutAppends (K.taken sink.old) (K.taken sink.new) result (packet_frame init.now) }
@@ -177,7 +177,7 @@ fn open<T: Drop, K: Sink>(alloc: Global, init: &[u8], sink: &mut K) -> Result<()
     }
 }
 
-// Sends the first packet of a session that was fed nothing, and answers each command that comes.
+/// Sends the first packet of a session that was fed nothing, and answers each command that comes.
 fn exchange<A: Responder, S: Source, K: Sink, E: Sink>(
     alloc: Global,
     talk: &mut Conversation<A>,

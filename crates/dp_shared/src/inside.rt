@@ -69,7 +69,7 @@ impl Inside {
     }
 }
 
-// What keys lead to, one after another.
+/// What keys lead to, one after another.
 fn walk<'a>(value: &'a Value, path: &[Key]) -> &'a Value
     ensures { result.now ≡ inside_of value.now path.now }
 {
@@ -79,7 +79,7 @@ fn walk<'a>(value: &'a Value, path: &[Key]) -> &'a Value
     walk(step(value, key), rest)
 }
 
-// The entry of a value under a key, or the value itself where it has none.
+/// The entry of a value under a key, or the value itself where it has none.
 fn step<'a>(value: &'a Value, key: &Key) -> &'a Value
     ensures { result.now ≡ stepped value.now key.now }
 {

@@ -24,7 +24,7 @@ pub(crate) fn refusal(value: &Value, keys: &[Option<Key>]) -> Option<WriteError>
     }
 }
 
-// Why the entry of an array under a key and those behind it cannot be removed.
+/// Why the entry of an array under a key and those behind it cannot be removed.
 #[cycle(refusing)]
 fn refusal_in(array: &PhpArray, key: &Option<Key>, rest: &[Option<Key>]) -> Option<WriteError>
     ensures { result ≡ cause_of (removed (key.now ∷ rest.now) (data_of_table array.now)) }

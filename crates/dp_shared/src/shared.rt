@@ -22,7 +22,7 @@ pub struct Shared {
     kept: Kept,
 }
 
-// How a value is kept: for one owner, or once for all of them.
+/// How a value is kept: for one owner, or once for all of them.
 #[derive(Debug, Drop)]
 enum Kept {
     Own(Value),
@@ -148,7 +148,7 @@ impl Shared {
         self.write_copy(alloc, keys, push, new)
     }
 
-    // Writes one entry of a copy that this owner has then.
+    /// Writes one entry of a copy that this owner has then.
     fn write_copy(
         &mut self,
         alloc: Global,
@@ -166,7 +166,7 @@ impl Shared {
         Ok(())
     }
 
-    // Puts a value in the place of this owner's, where it is not too heavy.
+    /// Puts a value in the place of this owner's, where it is not too heavy.
     fn replace(&mut self, alloc: Global, new: Shared) -> Result<(), WriteError>
         ensures ok { OnOk result (light (Ok (data_of new)) ≡ Ok (data_of self.new)) }
         ensures refused { IfErr result (λ e. IsCause (light (Ok (data_of new))) e) }
@@ -198,7 +198,7 @@ impl Shared {
         self.remove_in_copy(alloc, keys)
     }
 
-    // Removes the entry from a copy that this owner has then.
+    /// Removes the entry from a copy that this owner has then.
     fn remove_in_copy(&mut self, alloc: Global, keys: &[Option<Key>]) -> Result<(), WriteError>
         ensures ok { OnOk result (removed keys.now (data_of self.old) ≡ Ok (data_of self.new)) }
         ensures refused { IfErr result (λ e. IsCause (removed keys.now (data_of self.old)) e) }
@@ -215,7 +215,7 @@ impl Shared {
     }
 }
 
-// A text with a piece behind it; what is no text counts as the empty one.
+/// A text with a piece behind it; what is no text counts as the empty one.
 fn longer(alloc: Global, value: Value, piece: &[u8]) -> Result<Shared, Memory>
     ensures { IfOk result (λ longer. longer ≡ with_piece value piece.now) }
 {
@@ -227,7 +227,7 @@ fn longer(alloc: Global, value: Value, piece: &[u8]) -> Result<Shared, Memory>
     }
 }
 
-// A text of these bytes and a piece behind them.
+/// A text of these bytes and a piece behind them.
 fn extended(bytes: Vec<u8>, piece: &[u8]) -> Result<Shared, Memory>
     ensures { IfOk result (λ longer. longer ≡ variant.Text (bytes.items ++ piece.now)) }
 {
@@ -236,7 +236,7 @@ fn extended(bytes: Vec<u8>, piece: &[u8]) -> Result<Shared, Memory>
     Ok(Shared::of(Value::Text(Bytes::of(held))))
 }
 
-// A value that is kept in such a way that another owner costs no copy of it: a text or an array once for all owners.
+/// A value that is kept in such a way that another owner costs no copy of it: a text or an array once for all owners.
 fn settle(alloc: Global, value: Value) -> Result<Shared, Memory>
     ensures { IfOk result (λ settled. settled ≡ value) }
 {

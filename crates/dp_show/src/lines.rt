@@ -15,10 +15,10 @@ use dp_value::{Bytes, Memory};
 use dp_wire::Packets;
 use std::alloc::Global;
 
-// The most bytes that are read at once.
+/// The most bytes that are read at once.
 const PIECE: usize = 65_536;
 
-// The line of a packet's text: the canonical text of its element, and a line feed. `None` where the text is no markup.
+/// The line of a packet's text: the canonical text of its element, and a line feed. `None` where the text is no markup.
 fn line_of(alloc: Global, text: &[u8]) -> Result<Option<Bytes>, Memory>
     ensures { IfOk result (λ line. LineOf text.now line) }
 {
@@ -34,7 +34,7 @@ fn line_of(alloc: Global, text: &[u8]) -> Result<Option<Bytes>, Memory>
     }
 }
 
-// Shows a packet's text, whose frame begins at this offset.
+/// Shows a packet's text, whose frame begins at this offset.
 fn show_text<K: Sink>(alloc: Global, text: &[u8], offset: u64, out: &mut K) -> Result<(), ShowError>
     ensures ok { OnOk result ((line : List ℕ) × IsLine text.now line
         × Appends (K.taken out.old) (K.taken out.new) line) }
@@ -50,7 +50,7 @@ fn show_text<K: Sink>(alloc: Global, text: &[u8], offset: u64, out: &mut K) -> R
     }
 }
 
-// Shows each whole packet that is held, and drops it.
+/// Shows each whole packet that is held, and drops it.
 fn show_held<K: Sink>(alloc: Global, packets: &mut Packets, out: &mut K) -> Result<(), ShowError>
     ensures shown { OnOk result (ShowsOn packets.old packets.new (K.taken out.old) (K.taken out.new)) }
     ensures partial { OnOk result (IsPartialPacket packets.new.held) }
@@ -75,7 +75,7 @@ fn show_held<K: Sink>(alloc: Global, packets: &mut Packets, out: &mut K) -> Resu
     }
 }
 
-// Reads one piece, which follows what is held, and answers its length: 0 at the end of the input.
+/// Reads one piece, which follows what is held, and answers its length: 0 at the end of the input.
 fn read_piece<S: Source>(
     input: &mut S,
     packets: &mut Packets,

@@ -79,14 +79,14 @@ impl State {
         }
     }
 
-    // Whether a function of this file has the name of one that is declared.
+    /// Whether a function of this file has the name of one that is declared.
     fn any_declared(&self, bundle: &Bundle, file: u32) -> bool
         ensures { result ≡ has_declared bundle.now self.now.declared (functions_of bundle.now file) }
     {
         self.any_named(bundle, bundle.functions(file))
     }
 
-    // Whether one of these functions has the name of one that is declared.
+    /// Whether one of these functions has the name of one that is declared.
     fn any_named(&self, bundle: &Bundle, functions: &[Function]) -> bool
         ensures { result ≡ list_any (λ f. is_some (declared_function bundle.now f.name self.now.declared))
             functions.now }
@@ -95,7 +95,7 @@ impl State {
     }
 }
 
-// Parameters with their values.
+/// Parameters with their values.
 fn parameters(alloc: Global, names: &[Bytes], values: Items<Shared>) -> Result<Vars, Memory>
     ensures { IfOk result (λ vars. vars ≡ with_parameters names.now values []) }
 {
@@ -106,7 +106,7 @@ fn parameters(alloc: Global, names: &[Bytes], values: Items<Shared>) -> Result<V
     Ok(vars)
 }
 
-// The frame of an included file.
+/// The frame of an included file.
 fn included_frame(alloc: Global, file: u32) -> Frame
     ensures { result ≡ frame_of_file file }
 {

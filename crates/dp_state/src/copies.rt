@@ -20,7 +20,7 @@ impl Slot {
     }
 }
 
-// Gives the variable at a position of these variables to others.
+/// Gives the variable at a position of these variables to others.
 fn copy_pair(from: &Vars, at: usize, to: &mut Vars) -> Result<(), Memory>
     ensures { OnOk result (to.new ≡ with_pair from.now at to.old) }
 {
@@ -71,7 +71,7 @@ impl Frame {
     }
 }
 
-// Equal frames in the same order.
+/// Equal frames in the same order.
 fn copy_frames(alloc: Global, frames: &[Frame]) -> Result<Items<Frame>, Memory>
     ensures { IfOk result (λ copy. copy ≡ frames.now) }
 {

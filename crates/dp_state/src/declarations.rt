@@ -79,7 +79,7 @@ impl Declared {
     }
 }
 
-// The first function that has this name, of these parts.
+/// The first function that has this name, of these parts.
 fn first_named(parts: &[Part], bundle: &Bundle, name: &AnyCase<'_>) -> Option<FunctionRef>
     ensures { result ≡ declared_function bundle.now name.now (functions_in parts.now) }
 {
@@ -92,7 +92,7 @@ fn first_named(parts: &[Part], bundle: &Bundle, name: &AnyCase<'_>) -> Option<Fu
     None
 }
 
-// The first function that has this name, of one part.
+/// The first function that has this name, of one part.
 fn part_named(part: &Part, bundle: &Bundle, name: &AnyCase<'_>) -> Option<FunctionRef>
     ensures { result ≡ reference_in part.now (function_named bundle.now part.now.file name.now) }
 {

@@ -41,7 +41,7 @@ pub(crate) fn assign_in(
     }
 }
 
-// The same where the name holds no value yet.
+/// The same where the name holds no value yet.
 fn assign_new(
     alloc: Global,
     vars: &mut Vars,
@@ -96,7 +96,7 @@ pub(crate) fn append_in(
     Ok(copy)
 }
 
-// A text with a piece behind it, for two owners.
+/// A text with a piece behind it, for two owners.
 fn twice(alloc: Global, text: Shared, piece: &[u8]) -> Result<(Shared, Shared), Memory>
     ensures { IfOk result (λ both. (both.0 ≡ with_piece text piece.now) × (both.1 ≡ with_piece text piece.now)) }
 {

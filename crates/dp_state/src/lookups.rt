@@ -10,7 +10,7 @@ use crate::vars::{Slot, Vars};
 use dp_shared::Shared;
 use dp_value::Bytes;
 
-// Whether the frame at this position uses the variables of the frame below it.
+/// Whether the frame at this position uses the variables of the frame below it.
 fn shares(frames: &[Frame], at: usize) -> bool
     ensures { result ≡ shares_at frames.now at }
 {
@@ -20,7 +20,7 @@ fn shares(frames: &[Frame], at: usize) -> bool
     }
 }
 
-// The position of the frame whose variables the frame at this position uses.
+/// The position of the frame whose variables the frame at this position uses.
 #[tactic(auto, using(crate::proofs::Owners::owner_shares, crate::proofs::Owners::owner_own))]
 fn owner(frames: &[Frame], at: usize) -> usize
     ensures owner { result ≡ owner_of frames.now at }
@@ -36,7 +36,7 @@ fn owner(frames: &[Frame], at: usize) -> usize
 }
 
 impl State {
-    // The own variables of the frame at this position; those of the lowest are the global ones.
+    /// The own variables of the frame at this position; those of the lowest are the global ones.
     fn own(&self, at: usize) -> &Vars
         ensures { result.now ≡ own_variables self.now at }
     {
@@ -49,7 +49,7 @@ impl State {
         }
     }
 
-    // The position of the frame whose variables the frame at a level uses.
+    /// The position of the frame whose variables the frame at a level uses.
     pub(crate) fn owner_at(&self, level: usize) -> usize
         ensures owner { result ≡ owner_of_level self.now level }
         ensures within { result ≤ length self.now.frames - 1 }
@@ -66,7 +66,7 @@ impl State {
         self.own(self.owner_at(level))
     }
 
-    // The value of a global variable.
+    /// The value of a global variable.
     fn global(&self, name: &Bytes) -> Option<&Shared>
         ensures { option_map (λ value. value.now) result ≡ value_held (slot_of self.now.globals name.now) }
     {
@@ -95,7 +95,7 @@ impl State {
         self.read_at(0, name)
     }
 
-    // The top frame.
+    /// The top frame.
     fn top(&self) -> Option<&Frame>
         ensures { option_map (λ frame. frame.now) result ≡ top_frame self.now }
     {

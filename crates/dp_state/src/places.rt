@@ -117,7 +117,7 @@ impl State {
         }
     }
 
-    // Takes a variable of the top frame away.
+    /// Takes a variable of the top frame away.
     fn remove(&mut self, name: &Bytes)
         ensures { self.new ≡ without_variable name.now self.old }
     {
@@ -127,7 +127,7 @@ impl State {
         let _ = self.exchange_own(at, vars);
     }
 
-    // The position of the frame among whose own variables a variable at a level stands.
+    /// The position of the frame among whose own variables a variable at a level stands.
     fn home(&self, level: usize, name: &Bytes) -> usize
         ensures home { result ≡ home_of self.now level name.now }
         ensures within { result ≤ length self.now.frames - 1 }
@@ -138,7 +138,7 @@ impl State {
         self.owner_at(level)
     }
 
-    // Takes the own variables of the frame at this position out, and leaves none there.
+    /// Takes the own variables of the frame at this position out, and leaves none there.
     fn take_own(&mut self, at: usize) -> Vars
         requires { at ≤ length self.old.frames - 1 }
         ensures taken { result ≡ own_variables self.old at }
@@ -148,7 +148,7 @@ impl State {
         self.exchange_own(at, Vars::new(alloc))
     }
 
-    // Gives the frame at this position its own variables, and gives those out that it had.
+    /// Gives the frame at this position its own variables, and gives those out that it had.
     fn exchange_own(&mut self, at: usize, vars: Vars) -> Vars
         requires { at ≤ length self.old.frames - 1 }
         ensures taken { result ≡ own_variables self.old at }
@@ -165,7 +165,7 @@ impl State {
     }
 }
 
-// Gives the frame at this position its own variables, and gives those out that it had.
+/// Gives the frame at this position its own variables, and gives those out that it had.
 fn exchange_vars(frames: &mut Vec<Frame>, at: usize, vars: Vars) -> Vars
     requires { at < length frames.old.items }
     ensures taken { option_map (λ frame. frame.vars) (slice_get frames.old.items at) ≡ Some result }
@@ -174,7 +174,7 @@ fn exchange_vars(frames: &mut Vec<Frame>, at: usize, vars: Vars) -> Vars
     mem::replace(&mut frames[at].vars, vars)
 }
 
-// Whether a name is bound to the global variable of its name.
+/// Whether a name is bound to the global variable of its name.
 fn is_bound(vars: &Vars, name: &Bytes) -> bool
     ensures { result ≡ is_mark (slot_of vars.now name.now) }
 {

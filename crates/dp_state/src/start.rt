@@ -30,7 +30,7 @@ impl State {
     }
 }
 
-// The frame of the main file, on line 1.
+/// The frame of the main file, on line 1.
 fn main_frame(alloc: Global) -> Frame
     ensures { result ≡ first_frame }
 {

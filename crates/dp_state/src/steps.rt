@@ -16,7 +16,7 @@ pub const FRAME_LIMIT: usize = 100;
 pub const OUTPUT_LIMIT: usize = 16_777_216;
 
 impl State {
-    // What the state takes its memory from.
+    /// What the state takes its memory from.
     pub(crate) fn allocator(&self) -> Global {
         self.globals.allocator()
     }
@@ -86,7 +86,7 @@ impl State {
     }
 }
 
-// Gives the last frame a line.
+/// Gives the last frame a line.
 fn set_top_line(frames: &mut Vec<Frame>, line: u32)
     ensures { frames.new.items ≡ with_line line frames.old.items }
 {
@@ -97,7 +97,7 @@ fn set_top_line(frames: &mut Vec<Frame>, line: u32)
     frames[count - 1].line = line;
 }
 
-// Puts a piece behind the bytes.
+/// Puts a piece behind the bytes.
 fn append(alloc: Global, bytes: &mut Bytes, piece: &[u8]) -> Result<(), Memory>
     ensures ok { OnOk result (bytes.new ≡ bytes.old ++ piece.now) }
     ensures err { OnErr result (bytes.new ≡ bytes.old) }
@@ -108,7 +108,7 @@ fn append(alloc: Global, bytes: &mut Bytes, piece: &[u8]) -> Result<(), Memory>
     added
 }
 
-// Puts a frame behind the frames.
+/// Puts a frame behind the frames.
 fn push(alloc: Global, frames: &mut Items<Frame>, frame: Frame) -> Result<(), Memory>
     ensures ok { OnOk result (frames.new ≡ frames.old ++ frame ∷ []) }
     ensures err { OnErr result (frames.new ≡ frames.old) }

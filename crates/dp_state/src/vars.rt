@@ -38,7 +38,7 @@ impl Slot {
     ghost use Rattle.dp_state.specs.Variables.{value_held};
     ghost use Rattle.dp_state.specs.inner.Parts.{with_held};
 
-    // Puts a value in the place of the one that is held, and gives that one out.
+    /// Puts a value in the place of the one that is held, and gives that one out.
     fn exchange(&mut self, value: Shared) -> Option<Shared>
         ensures value { result ≡ value_held (Some self.old) }
         ensures exchanged { self.new ≡ with_held value self.old }
@@ -119,7 +119,7 @@ impl Vars {
         let _ = self.slots.shift_remove(name);
     }
 
-    // What the variables take their memory from.
+    /// What the variables take their memory from.
     pub(crate) fn allocator(&self) -> Global {
         *self.slots.allocator()
     }

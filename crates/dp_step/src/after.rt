@@ -80,7 +80,7 @@ pub(crate) fn receive_values<'p>(
     }
 }
 
-// An operand of an `echo` is written.
+/// An operand of an `echo` is written.
 fn echoed<'p>(
     alloc: Global,
     value: Shared,
@@ -103,7 +103,7 @@ fn echoed<'p>(
     }
 }
 
-// The program ends with a value.
+/// The program ends with a value.
 fn exit_with<'p>(value: Shared, state: &mut State) -> Result<Next<'p>, Halt>
     ensures { (setting : Setting)
         → Leads (next_rest setting) (λ k. after_rest setting any_after.ExitWith value k state.old) result state.new }
@@ -116,7 +116,7 @@ fn exit_with<'p>(value: Shared, state: &mut State) -> Result<Next<'p>, Halt>
     }
 }
 
-// A place of an `unset` is taken away.
+/// A place of an `unset` is taken away.
 fn unset_next<'p>(
     alloc: Global,
     name: &Bytes,
@@ -181,7 +181,7 @@ pub(crate) fn bind<'p>(
     }
 }
 
-// The entry at a position is bound.
+/// The entry at a position is bound.
 fn bind_at(binding: &Binding, subject: &Shared, at: usize, state: &mut State) -> Result<(), Halt>
     ensures { (entry : EntryKey × Data) → slice_get (entries subject.now) at ≡ Some entry
         → AtOnce (bind_run binding.now entry state.old) result state.new }

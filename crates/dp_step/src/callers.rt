@@ -25,7 +25,7 @@ pub(crate) fn deep_names(alloc: Global, bundle: &Bundle) -> Result<DeepNames<'_>
     Ok(deep)
 }
 
-// The names of all functions.
+/// The names of all functions.
 fn all_names(alloc: Global, bundle: &Bundle) -> Result<DeepNames<'_>, Memory> {
     let mut names = DeepNames::new(alloc);
     for file in bundle.files.as_slice() {
@@ -36,7 +36,7 @@ fn all_names(alloc: Global, bundle: &Bundle) -> Result<DeepNames<'_>, Memory> {
     Ok(names)
 }
 
-// The names of the functions that may come to a call of one of these names, or include a file.
+/// The names of the functions that may come to a call of one of these names, or include a file.
 fn names_of_callers<'p>(
     alloc: Global,
     bundle: &'p Bundle,
@@ -49,7 +49,7 @@ fn names_of_callers<'p>(
     Ok(names)
 }
 
-// Puts the names of those of these functions that may come to a call of one of these names, or include a file.
+/// Puts the names of those of these functions that may come to a call of one of these names, or include a file.
 fn add_callers<'p>(
     functions: &'p [Function],
     deep: &DeepNames<'p>,

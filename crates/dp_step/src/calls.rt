@@ -64,7 +64,7 @@ pub(crate) fn include<'p>(
     }
 }
 
-// The inclusion of the file of this number, if there is one.
+/// The inclusion of the file of this number, if there is one.
 fn included<'p>(how: Inclusion, file: Option<u32>, state: &State) -> Result<Next<'p>, Halt>
     ensures { (setting : Setting)
         → Leads (next_rest setting) (λ k. and_then (inclusion_run how file setting state.now) (to_value k)) result

@@ -11,7 +11,7 @@ use std::alloc::Global;
 use std::hash::{Hash, Hasher};
 use std::marker::Model;
 
-// A name of a function, in any case of letters.
+/// A name of a function, in any case of letters.
 #[derive(Drop)]
 struct CallName<'p> {
     bytes: &'p [u8],
@@ -64,14 +64,14 @@ impl<'p> Hash for CallName<'p> {
     }
 }
 
-// Whether two names are one, in any case of letters.
+/// Whether two names are one, in any case of letters.
 fn is_one_name(name: &[u8], other: &[u8]) -> bool
     ensures { result ≡ str_eq_ignore_ascii_case name.now other.now }
 {
     name.eq_ignore_ascii_case(other)
 }
 
-// Feeds a hasher the name in lower case.
+/// Feeds a hasher the name in lower case.
 fn feed_lowered<H: Hasher>(name: &[u8], state: &mut H)
     ensures { state.new ≡ fold H.write state.old (fed.slice fed.u8 (str_to_ascii_lowercase name.now)) }
 {

@@ -22,7 +22,7 @@ pub(crate) fn is_run_whole<'p>(deep: &DeepNames<'p>, hand: &Hand<'p>) -> bool {
     }
 }
 
-// Whether there is a statement at a position, which may not come to a deep call.
+/// Whether there is a statement at a position, which may not come to a deep call.
 fn is_shallow_at<'p>(deep: &DeepNames<'p>, all: &'p Items<Statement>, at: usize) -> bool {
     match all.as_slice().get(at) {
         Some(statement) => !statement_is_deep(deep, statement),
@@ -30,7 +30,7 @@ fn is_shallow_at<'p>(deep: &DeepNames<'p>, all: &'p Items<Statement>, at: usize)
     }
 }
 
-// Whether the tests of a loop, or what comes after its body, may come to a deep call.
+/// Whether the tests of a loop, or what comes after its body, may come to a deep call.
 fn head_is_deep<'p>(deep: &DeepNames<'p>, head: &Head<'p>) -> bool {
     match head {
         Head::While(test) => is_deep(deep, test),

@@ -52,7 +52,7 @@ impl<'p> Machine<'p> {
         Ok(outcome)
     }
 
-    // To the end.
+    /// To the end.
     fn finish(&mut self, deep: &DeepNames<'p>) -> Result<Outcome, Memory>
         ensures { IfOk result (λ end. RunsOut self.old (rest_of self.old self.old.state) end self.new) }
     {
@@ -69,7 +69,7 @@ impl<'p> Machine<'p> {
         Err(Memory)
     }
 
-    // A statement or the turns of a loop that is in hand, where no call in it is deep, and else a small step.
+    /// A statement or the turns of a loop that is in hand, where no call in it is deep, and else a small step.
     fn leap(&mut self, deep: &DeepNames<'p>) -> Result<Option<Outcome>, Memory>
         ensures { IfOk result (λ end. Leaps self.old (rest_of self.old self.old.state) end self.new) }
     {
@@ -89,7 +89,7 @@ impl<'p> Machine<'p> {
         }
     }
 
-    // The statement at a position.
+    /// The statement at a position.
     fn statement_at(
         &mut self,
         all: &'p Items<Statement>,
@@ -107,7 +107,7 @@ impl<'p> Machine<'p> {
         }
     }
 
-    // Turns of a `while` or a `for`.
+    /// Turns of a `while` or a `for`.
     fn turns(&mut self, turns: Turns<'p>, left: u64) -> Result<Option<Outcome>, Memory>
         ensures { IfOk result (λ end. Leaps self.old
             (rest_with self.old (any_hand.Turn turns.entry left) self.old.state) end self.new) }
@@ -132,7 +132,7 @@ impl<'p> Machine<'p> {
         }
     }
 
-    // Turns of a `do`.
+    /// Turns of a `do`.
     fn do_turns(&mut self, turns: DoTurns<'p>, left: u64) -> Result<Option<Outcome>, Memory>
         ensures { IfOk result (λ end. Leaps self.old
             (rest_with self.old (any_hand.DoTurn turns.entry left) self.old.state) end self.new) }
@@ -144,7 +144,7 @@ impl<'p> Machine<'p> {
         self.gave(done)
     }
 
-    // Turns of a `foreach`.
+    /// Turns of a `foreach`.
     fn entries(
         &mut self,
         turns: EachTurns<'p>,
@@ -167,7 +167,7 @@ impl<'p> Machine<'p> {
         self.gave(done)
     }
 
-    // What parts of the program are run by.
+    /// What parts of the program are run by.
     fn whole(&self) -> Whole<'p>
         ensures { result ≡ whole_of self.now }
     {
@@ -179,7 +179,7 @@ impl<'p> Machine<'p> {
         }
     }
 
-    // What was run whole gave this, which is given to what waits for it.
+    /// What was run whole gave this, which is given to what waits for it.
     fn gave(&mut self, done: Result<Signal, Halt>) -> Result<Option<Outcome>, Memory>
         ensures { (part : Part AnySignal) (s : AnyState) → HasRun self.old part done s
             → IfOk result (λ end. Leaps self.old (part_with self.old part s) end self.new) }
@@ -198,7 +198,7 @@ impl<'p> Machine<'p> {
         }
     }
 
-    // A small step with what was in hand.
+    /// A small step with what was in hand.
     fn other(&mut self, hand: Hand<'p>) -> Result<Option<Outcome>, Memory>
         ensures { IfOk result (λ end. Leaps self.old (rest_with self.old hand.entry self.old.state) end self.new) }
     {
@@ -206,7 +206,7 @@ impl<'p> Machine<'p> {
         self.onward()
     }
 
-    // A small step, and the moment to which it comes.
+    /// A small step, and the moment to which it comes.
     fn onward(&mut self) -> Result<Option<Outcome>, Memory>
         ensures { IfOk result (λ end. Leaps self.old (rest_of self.old self.old.state) end self.new) }
     {
@@ -224,7 +224,7 @@ impl<'p> Machine<'p> {
     }
 }
 
-// By how many a number has risen.
+/// By how many a number has risen.
 fn risen(before: u64, after: u64) -> u64
     ensures { result ≡ after - before }
 {

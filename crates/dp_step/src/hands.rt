@@ -46,7 +46,7 @@ pub(crate) fn first_of<'p>(
     }
 }
 
-// A part of an expression.
+/// A part of an expression.
 fn first_of_part<'p>(
     alloc: Global,
     bundle: &'p Bundle,
@@ -62,7 +62,7 @@ fn first_of_part<'p>(
     }
 }
 
-// An expression.
+/// An expression.
 fn evaluate<'p>(
     alloc: Global,
     bundle: &'p Bundle,
@@ -87,7 +87,7 @@ fn evaluate<'p>(
     }
 }
 
-// A step in an expression is one of the machine, without a moment.
+/// A step in an expression is one of the machine, without a moment.
 fn widened<'p>(next: Result<PartNext<'p>, Halt>) -> Result<Small<'p>, Halt>
     ensures { (setting : Setting) (part : Follows → Run AnySignal) (t : AnyState)
         → Leads (part_next_rest setting) part next.entry t → Goes setting part result t }
@@ -101,7 +101,7 @@ fn widened<'p>(next: Result<PartNext<'p>, Halt>) -> Result<Small<'p>, Halt>
     }
 }
 
-// What is to be done next of an expression is what is to be done next.
+/// What is to be done next of an expression is what is to be done next.
 fn widen<'p>(next: PartNext<'p>) -> Next<'p>
     ensures { (setting : Setting) (k : Follows) (s : AnyState)
         → next_rest setting result k s ≡ part_next_rest setting next.entry k s }
@@ -119,7 +119,7 @@ fn widen<'p>(next: PartNext<'p>) -> Next<'p>
     }
 }
 
-// A statement, or a part of one.
+/// A statement, or a part of one.
 fn first_of_statement<'p>(
     alloc: Global,
     bound: u64,
@@ -151,7 +151,7 @@ fn first_of_statement<'p>(
     }
 }
 
-// Turns of a loop, or an end.
+/// Turns of a loop, or an end.
 fn first_of_turn<'p>(alloc: Global, hand: Hand<'p>, state: &mut State) -> Result<Small<'p>, Halt>
     ensures { (setting : Setting) → Goes setting (λ k. hand_rest setting hand.entry k state.old) result state.new }
 {
@@ -180,7 +180,7 @@ fn first_of_turn<'p>(alloc: Global, hand: Hand<'p>, state: &mut State) -> Result
     }
 }
 
-// A step without a moment.
+/// A step without a moment.
 fn moved<'p>(next: Result<Next<'p>, Halt>) -> Result<Small<'p>, Halt>
     ensures { (setting : Setting) (part : Follows → Run AnySignal) (t : AnyState)
         → Leads (next_rest setting) part next.entry t
@@ -195,7 +195,7 @@ fn moved<'p>(next: Result<Next<'p>, Halt>) -> Result<Small<'p>, Halt>
     }
 }
 
-// The frame of a call or a file that is done goes. It gives what its statements gave, or this where they gave none.
+/// The frame of a call or a file that is done goes. It gives what its statements gave, or this where they gave none.
 fn leave<'p>(none: Shared, signal: Signal, state: &mut State) -> Next<'p>
     ensures { (setting : Setting) (k : Follows)
         → next_rest setting result k state.new ≡ given_value k (value_returned none signal) (left state.old) }
@@ -224,7 +224,7 @@ pub(crate) fn receive<'p>(
     }
 }
 
-// Something is given to an inclusion.
+/// Something is given to an inclusion.
 fn to_include<'p>(
     alloc: Global,
     bundle: &'p Bundle,
@@ -241,7 +241,7 @@ fn to_include<'p>(
     }
 }
 
-// What was given is given to what waits behind.
+/// What was given is given to what waits behind.
 fn passed_on<'p>(given: Given) -> Small<'p>
     ensures { (setting : Setting) (k : Follows) (s : AnyState) → small_rest setting result k s ≡ k given s }
 {
@@ -254,7 +254,7 @@ fn passed_on<'p>(given: Given) -> Small<'p>
     }
 }
 
-// Something is given to a statement.
+/// Something is given to a statement.
 fn to_after<'p>(
     alloc: Global,
     work: AfterValue<'p>,
@@ -273,7 +273,7 @@ fn to_after<'p>(
     }
 }
 
-// Something is given to a part that waits for values.
+/// Something is given to a part that waits for values.
 fn to_values<'p>(
     alloc: Global,
     work: ForValues<'p>,
@@ -292,7 +292,7 @@ fn to_values<'p>(
     }
 }
 
-// Something is given to a part that waits for a signal.
+/// Something is given to a part that waits for a signal.
 fn to_signal<'p>(alloc: Global, work: ForSignal<'p>, given: Given) -> Small<'p>
     ensures { (setting : Setting) (k : Follows) (s : AnyState)
         → small_rest setting result k s ≡ work_rest setting (any_work.ForSignal work.entry) k given s }

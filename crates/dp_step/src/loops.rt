@@ -42,7 +42,7 @@ pub(crate) fn turn<'p>(alloc: Global, turns: Turns<'p>, left: u64) -> Small<'p>
     }
 }
 
-// The tests of a turn, after which at most so many are left.
+/// The tests of a turn, after which at most so many are left.
 fn tests_first<'p>(alloc: Global, turns: Turns<'p>, left: u64) -> Next<'p>
     ensures { (setting : Setting) (k : Follows) (s : AnyState)
         → next_rest setting result k s ≡ and_then (evaluations (tests_of turns.entry.head) setting s)
@@ -175,7 +175,7 @@ pub(crate) fn receive_signal<'p>(alloc: Global, work: ForSignal<'p>, given: Sign
     }
 }
 
-// The body of a turn is over.
+/// The body of a turn is over.
 fn body_over<'p>(alloc: Global, turns: Turns<'p>, left: u64, given: Signal) -> Small<'p>
     ensures { (setting : Setting) (k : Follows) (s : AnyState)
         → small_rest setting result k s ≡ and_then (over given (turns_next setting turns.entry left) s) (to_signal k) }
@@ -192,7 +192,7 @@ fn body_over<'p>(alloc: Global, turns: Turns<'p>, left: u64, given: Signal) -> S
     }
 }
 
-// What comes between two turns, and then at most so many.
+/// What comes between two turns, and then at most so many.
 fn turns_on<'p>(alloc: Global, turns: Turns<'p>, left: u64) -> Next<'p>
     ensures { (setting : Setting) (k : Follows) (s : AnyState)
         → next_rest setting result k s ≡ and_then (turns_next setting turns.entry left s) (to_signal k) }
@@ -210,7 +210,7 @@ fn turns_on<'p>(alloc: Global, turns: Turns<'p>, left: u64) -> Next<'p>
     }
 }
 
-// The body of a turn of a `do` is over.
+/// The body of a turn of a `do` is over.
 fn do_over<'p>(turns: DoTurns<'p>, left: u64, given: Signal) -> Small<'p>
     ensures { (setting : Setting) (k : Follows) (s : AnyState)
         → small_rest setting result k s ≡ and_then (over given (do_test setting turns.entry left) s) (to_signal k) }
@@ -230,7 +230,7 @@ fn do_over<'p>(turns: DoTurns<'p>, left: u64, given: Signal) -> Small<'p>
     }
 }
 
-// The body of a turn of a `foreach` is over.
+/// The body of a turn of a `foreach` is over.
 fn each_over<'p>(turns: EachTurns<'p>, subject: Shared, at: usize, given: Signal) -> Small<'p>
     ensures { (setting : Setting) (k : Follows) (s : AnyState)
         → small_rest setting result k s ≡ and_then (over given (each_from setting turns.entry subject at) s)

@@ -102,7 +102,7 @@ impl<'p> Machine<'p> {
         }
     }
 
-    // Whether memory has run out.
+    /// Whether memory has run out.
     fn has_failed(&self) -> bool
         ensures failed { result ≡ true → HasFailed self.now }
         ensures not_failed { result ≡ false → HasFailed self.now → ⊥ }
@@ -121,7 +121,7 @@ impl<'p> Machine<'p> {
         Memory
     }
 
-    // Goes on to the next moment, or to the end of the program.
+    /// Goes on to the next moment, or to the end of the program.
     fn next_moment(&mut self) -> Result<Progress, Memory>
         ensures goes_on { (bundle : SomeBundle) (bound : ℕ) (writes : List NumberedWrite) (n : ℕ)
             → StandsFor bundle bound writes n self.old
@@ -157,7 +157,7 @@ impl<'p> Machine<'p> {
         }
     }
 
-    // As many small steps as lead to a moment, or to the end.
+    /// As many small steps as lead to a moment, or to the end.
     fn advance(&mut self) -> Result<Arrival, Memory>
         ensures { IfOk result (λ arrival. Arrives self.old (rest_of self.old self.old.state) arrival self.new) }
     {
@@ -181,7 +181,7 @@ impl<'p> Machine<'p> {
     }
 }
 
-// A moment is a step.
+/// A moment is a step.
 fn count<L: Ledger>(progress: &Progress, steps: &mut Steps<L>)
     ensures { steps.new ≡ steps.old + steps_of progress.now }
 {
@@ -191,7 +191,7 @@ fn count<L: Ledger>(progress: &Progress, steps: &mut Steps<L>)
     }
 }
 
-// The moment to which a small step came, if it did.
+/// The moment to which a small step came, if it did.
 fn arrival_of(moment: Option<(MomentKind, u32)>) -> Option<Arrival>
     ensures { result ≡ option_map arrived_at moment }
 {
@@ -201,7 +201,7 @@ fn arrival_of(moment: Option<(MomentKind, u32)>) -> Option<Arrival>
     }
 }
 
-// The end that a small step reached.
+/// The end that a small step reached.
 fn ended(why: Halt) -> Result<Option<Arrival>, Memory>
     ensures { IfOk result (λ arrival. IsEnd why arrival) }
 {

@@ -44,7 +44,7 @@ impl<'p> Machine<'p> {
         }
     }
 
-    // A small step with a part of an expression that was in hand.
+    /// A small step with a part of an expression that was in hand.
     fn part(&mut self, part: PartHand<'p>) -> Result<Option<(MomentKind, u32)>, Halt>
         ensures { Moves self.old (rest_with self.old (any_hand.Part part.entry) self.old.state) result self.new }
     {
@@ -55,7 +55,7 @@ impl<'p> Machine<'p> {
         }
     }
 
-    // A small step with an expression. One that changes nothing is evaluated whole, in the state as it is.
+    /// A small step with an expression. One that changes nothing is evaluated whole, in the state as it is.
     fn evaluate_whole(&mut self, e: &'p Expression) -> Result<Option<(MomentKind, u32)>, Halt>
         ensures { Moves self.old (rest_with self.old (any_hand.Part (any_part.Evaluate e.entry)) self.old.state)
             result self.new }
@@ -69,7 +69,7 @@ impl<'p> Machine<'p> {
         }
     }
 
-    // A small step with what was in hand.
+    /// A small step with what was in hand.
     fn first(&mut self, hand: Hand<'p>) -> Result<Option<(MomentKind, u32)>, Halt>
         ensures { Moves self.old (rest_with self.old hand.entry self.old.state) result self.new }
     {
@@ -79,7 +79,7 @@ impl<'p> Machine<'p> {
         }
     }
 
-    // Something is given to the innermost item of the pending work.
+    /// Something is given to the innermost item of the pending work.
     fn take(&mut self, given: Given) -> Result<Option<(MomentKind, u32)>, Halt>
         ensures { Moves self.old (rest_with self.old (any_hand.Part (any_part.Give given)) self.old.state) result
             self.new }
@@ -95,7 +95,7 @@ impl<'p> Machine<'p> {
         }
     }
 
-    // Something is given to a part that waited.
+    /// Something is given to a part that waited.
     fn pass(&mut self, work: Work<'p>, given: Given) -> Result<Option<(MomentKind, u32)>, Halt>
         ensures { Moves self.old (work_with self.old work.entry given self.old.state) result self.new }
     {
@@ -105,7 +105,7 @@ impl<'p> Machine<'p> {
         }
     }
 
-    // What a small step comes to is kept.
+    /// What a small step comes to is kept.
     fn keep(&mut self, small: Small<'p>) -> Result<Option<(MomentKind, u32)>, Halt>
         ensures { Moves self.old (small_with self.old small.entry self.old.state) result self.new }
     {
@@ -116,7 +116,7 @@ impl<'p> Machine<'p> {
         }
     }
 
-    // What is to be done next is in hand, and what waits for it is the innermost item of the pending work.
+    /// What is to be done next is in hand, and what waits for it is the innermost item of the pending work.
     fn hold(&mut self, next: Next<'p>) -> Result<(), Memory>
         ensures rest { OnOk result ((s : AnyState) → rest_of self.new s ≡ next_with self.old next.entry s) }
         ensures kept { (self.new.bundle.now ≡ self.old.bundle.now) × (self.new.bound ≡ self.old.bound)
@@ -132,7 +132,7 @@ impl<'p> Machine<'p> {
         }
     }
 
-    // This is in hand, and the innermost item of the pending work is this.
+    /// This is in hand, and the innermost item of the pending work is this.
     fn hold_both(&mut self, hand: Hand<'p>, item: Waiting<'p>) -> Result<(), Memory>
         ensures held { OnOk result ((self.new.hand ≡ hand.entry)
             × (self.new.pending.items ≡ self.old.pending.items ++ item.entry ∷ [])) }
@@ -149,7 +149,7 @@ impl<'p> Machine<'p> {
         }
     }
 
-    // A function of a file is called.
+    /// A function of a file is called.
     fn call(
         &mut self,
         file: u32,
@@ -170,7 +170,7 @@ impl<'p> Machine<'p> {
         }
     }
 
-    // A function that was entered begins with a moment on its line.
+    /// A function that was entered begins with a moment on its line.
     fn begin_body(&mut self, function: &'p Function) -> Result<Option<(MomentKind, u32)>, Halt>
         requires { 0 < self.old.depth }
         ensures { Moves self.old (body_with self.old function.now self.old.state) result self.new }
@@ -184,7 +184,7 @@ impl<'p> Machine<'p> {
         }
     }
 
-    // The file of this number is included.
+    /// The file of this number is included.
     fn include(&mut self, file: u32) -> Result<Option<(MomentKind, u32)>, Halt>
         ensures { Moves self.old (rest_with self.old (any_hand.Include file) self.old.state) result self.new }
     {
@@ -198,7 +198,7 @@ impl<'p> Machine<'p> {
         }
     }
 
-    // A file that was entered begins.
+    /// A file that was entered begins.
     fn begin_file(&mut self, file: u32) -> Result<Option<(MomentKind, u32)>, Halt>
         requires { 0 < self.old.depth }
         ensures { Moves self.old (file_with self.old file self.old.state) result self.new }
@@ -212,7 +212,7 @@ impl<'p> Machine<'p> {
         }
     }
 
-    // The body of a call is done.
+    /// The body of a call is done.
     fn end_call(&mut self, depth: u64, given: Given) -> Option<(MomentKind, u32)>
         ensures { Moves self.old (end_with self.old (any_waiting.EndCall depth) given self.old.state)
             (Ok result) self.new }
@@ -227,7 +227,7 @@ impl<'p> Machine<'p> {
         }
     }
 
-    // The statements of an included file are done.
+    /// The statements of an included file are done.
     fn end_file(&mut self, depth: u64, given: Given) -> Option<(MomentKind, u32)>
         ensures { Moves self.old (end_with self.old (any_waiting.EndFile depth) given self.old.state)
             (Ok result) self.new }
@@ -238,7 +238,7 @@ impl<'p> Machine<'p> {
     }
 }
 
-// Whether this ends a call.
+/// Whether this ends a call.
 fn ends_call(given: &Given) -> bool
     ensures { result ≡ call_ends given.now }
 {
@@ -249,7 +249,7 @@ fn ends_call(given: &Given) -> bool
     }
 }
 
-// What is in hand once the body of a call is done.
+/// What is in hand once the body of a call is done.
 fn call_hand<'p>(given: Given) -> Hand<'p>
     ensures { (setting : Setting) (depth : ℕ) (k : Follows) (s : SomeState)
         → waiting_rest setting (any_waiting.EndCall depth) k given s ≡ behind (leave_if (call_ends given) (line_of s))
@@ -262,7 +262,7 @@ fn call_hand<'p>(given: Given) -> Hand<'p>
     }
 }
 
-// What is in hand once the statements of an included file are done.
+/// What is in hand once the statements of an included file are done.
 fn file_left<'p>(given: Given) -> Hand<'p>
     ensures { (setting : Setting) (depth : ℕ) (k : Follows) (s : SomeState)
         → waiting_rest setting (any_waiting.EndFile depth) k given s ≡ hand_rest setting result k s }
@@ -281,7 +281,7 @@ pub(crate) fn put_hand<'p>(place: &mut Hand<'p>, hand: Hand<'p>)
     drop(mem::replace(place, hand));
 }
 
-// One more item is pending.
+/// One more item is pending.
 fn push_item<'p>(pending: &mut Vec<Waiting<'p>>, item: Waiting<'p>) -> Result<(), Memory>
     ensures { OnOk result (pending.new.items ≡ pending.old.items ++ item.entry ∷ []) }
 {

@@ -197,7 +197,7 @@ pub(crate) fn run_arm<'p>(alloc: Global, bound: u64, all: &'p Items<Arm>, at: us
     }
 }
 
-// `return`
+/// `return`
 fn return_value<'p>(value: &'p Option<Expression>) -> Next<'p>
     ensures { (setting : Setting) (k : Follows) (s : AnyState)
         → next_rest setting result k s ≡ and_then (return_run value.now setting s) (to_signal k) }
@@ -211,7 +211,7 @@ fn return_value<'p>(value: &'p Option<Expression>) -> Next<'p>
     }
 }
 
-// `exit`
+/// `exit`
 fn exit<'p>(value: &'p Option<Expression>) -> Next<'p>
     ensures { (setting : Setting) (k : Follows) (s : AnyState)
         → next_rest setting result k s ≡ and_then (end_run value.now setting s) (to_signal k) }
@@ -310,7 +310,7 @@ pub(crate) fn branch<'p>(
     }
 }
 
-// What an `if` does where no test holds.
+/// What an `if` does where no test holds.
 fn without_arm<'p>(otherwise: &'p Option<Boxed<Statement>>) -> Next<'p>
     ensures { (setting : Setting) (k : Follows) (s : AnyState)
         → next_rest setting result k s ≡ and_then (arms_part [] otherwise.now setting s) (to_signal k) }

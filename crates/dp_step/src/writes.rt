@@ -98,7 +98,7 @@ impl Machine<'_> {
         self.write_place(level, context, path, value)
     }
 
-    // The same.
+    /// The same.
     fn write_place(
         &mut self,
         level: u32,
@@ -122,7 +122,7 @@ impl Machine<'_> {
         }
     }
 
-    // Gives a place a value that begins at a global variable.
+    /// Gives a place a value that begins at a global variable.
     fn write_global(&mut self, path: &Path, value: Value) -> Result<(), StepError>
         requires { 0 < length self.old.state.frames }
         ensures { Writes (place_or_fault (assigned (length self.old.state.frames - 1) path.now.name
@@ -132,7 +132,7 @@ impl Machine<'_> {
         self.write_at(depth - 1, path, value)
     }
 
-    // Gives a place a value that begins at a variable of the frame at a level.
+    /// Gives a place a value that begins at a variable of the frame at a level.
     fn write_at(&mut self, level: usize, path: &Path, value: Value) -> Result<(), StepError>
         ensures { Writes (place_or_fault (assigned level path.now.name
             (keys_given path.now.keys) false value self.old.state)) result self.old self.new }
@@ -144,7 +144,7 @@ impl Machine<'_> {
         }
     }
 
-    // From now on it answers that it is out of memory.
+    /// From now on it answers that it is out of memory.
     fn failed(&mut self) -> StepError
         ensures failed { HasFailed self.new }
         ensures memory { result ≡ any_error.Memory }
@@ -166,7 +166,7 @@ impl Machine<'_> {
         self.value_of(e)
     }
 
-    // The same.
+    /// The same.
     fn value_of(&mut self, e: &Expression) -> Result<Value, StepError>
         ensures { Evaluates (evaluated (evaluation_setting self.old.bundle.now) e.now self.old.state) result self.old
             self.new }
@@ -190,14 +190,14 @@ impl Machine<'_> {
     }
 }
 
-// Another state.
+/// Another state.
 fn put_state(place: &mut State, state: State)
     ensures { place.new ≡ state }
 {
     drop(mem::replace(place, state));
 }
 
-// Gives a place a value that begins at a variable of the frame at a level.
+/// Gives a place a value that begins at a variable of the frame at a level.
 fn assign_at(
     alloc: Global,
     level: usize,

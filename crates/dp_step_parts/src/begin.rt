@@ -77,7 +77,7 @@ pub(crate) fn begin<'p>(alloc: Global, e: &'p Expression, state: &State) -> Resu
     }
 }
 
-// An operator, by its first operand.
+/// An operator, by its first operand.
 fn begin_operator<'p>(alloc: Global, e: &'p Expression) -> Next<'p>
     ensures { (setting : Setting) (k : Follows) (s : AnyState)
         → next_rest setting result k s ≡ and_then (evaluation e.now setting s) (to_value k) }
@@ -107,8 +107,8 @@ fn begin_operator<'p>(alloc: Global, e: &'p Expression) -> Next<'p>
     }
 }
 
-// A change of a place, by the indices of the place. The beginnings of a call and of an inclusion are not here: they
-// stay in hand.
+/// A change of a place, by the indices of the place. The beginnings of a call and of an inclusion are not here: they
+/// stay in hand.
 fn begin_change<'p>(alloc: Global, e: &'p Expression) -> Next<'p>
     ensures { (setting : Setting) (k : Follows) (s : AnyState)
         → next_rest setting result k s ≡ and_then (evaluation e.now setting s) (to_value k) }

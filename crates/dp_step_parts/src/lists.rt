@@ -93,7 +93,7 @@ pub(crate) fn links<'p>(left: Shared, all: &'p Items<Link>, at: usize) -> Next<'
     }
 }
 
-// A left operand, an operator with its right operand, and what is joined behind it.
+/// A left operand, an operator with its right operand, and what is joined behind it.
 fn link<'p>(left: Shared, first: &'p Link, all: &'p Items<Link>, at: usize) -> Next<'p>
     ensures { (setting : Setting) (k : Follows) (s : AnyState)
         → next_rest setting result k s ≡ and_then (link_run first.now left setting s)
@@ -109,7 +109,7 @@ fn link<'p>(left: Shared, first: &'p Link, all: &'p Items<Link>, at: usize) -> N
     }
 }
 
-// `||`: the left operand holds, or the right one decides.
+/// `||`: the left operand holds, or the right one decides.
 fn or<'p>(left: bool, right: &'p Expression, all: &'p Items<Link>, at: usize) -> Next<'p>
     ensures { (setting : Setting) (k : Follows) (s : AnyState)
         → next_rest setting result k s ≡ if left
@@ -130,7 +130,7 @@ fn or<'p>(left: bool, right: &'p Expression, all: &'p Items<Link>, at: usize) ->
     }
 }
 
-// `&&`: the left operand does not hold, or the right one decides.
+/// `&&`: the left operand does not hold, or the right one decides.
 fn and<'p>(left: bool, right: &'p Expression, all: &'p Items<Link>, at: usize) -> Next<'p>
     ensures { (setting : Setting) (k : Follows) (s : AnyState)
         → next_rest setting result k s ≡ if left
@@ -172,7 +172,7 @@ pub(crate) fn under<'p>(
     }
 }
 
-// A value inside of another is given.
+/// A value inside of another is given.
 fn taken_out<'p>(inside: Inside) -> Result<Next<'p>, Halt>
     ensures { (setting : Setting) (s : AnyState) → Leads (next_rest setting) (λ k. to_value k inside s) result s }
 {

@@ -51,7 +51,7 @@ pub fn give_to<'p>(
     }
 }
 
-// Something is given to a list of parts.
+/// Something is given to a list of parts.
 fn to_part<'p>(
     alloc: Global,
     work: ForPart<'p>,
@@ -74,7 +74,7 @@ fn to_part<'p>(
     }
 }
 
-// Something is given to an expression that waits for a value.
+/// Something is given to an expression that waits for a value.
 fn to_value<'p>(
     alloc: Global,
     work: ForValue<'p>,
@@ -97,7 +97,7 @@ fn to_value<'p>(
     }
 }
 
-// Something is given to an expression that waits for values.
+/// Something is given to an expression that waits for values.
 fn to_values<'p>(
     alloc: Global,
     work: ForValues<'p>,

@@ -71,7 +71,7 @@ pub(crate) fn receive_part<'p>(
     }
 }
 
-// A value is put under a key into a literal, which has more items.
+/// A value is put under a key into a literal, which has more items.
 fn put_item<'p>(
     alloc: Global,
     array: Value,
@@ -91,7 +91,7 @@ fn put_item<'p>(
     lengthened(made, rest, at)
 }
 
-// An operator takes both of its operands; more may be joined.
+/// An operator takes both of its operands; more may be joined.
 fn operate<'p>(
     alloc: Global,
     op: BinaryOp,
@@ -111,7 +111,7 @@ fn operate<'p>(
     linked(made, links, at)
 }
 
-// An entry of a value is read, perhaps under more indices.
+/// An entry of a value is read, perhaps under more indices.
 fn read_entry<'p>(
     alloc: Global,
     how: Reading,
@@ -131,7 +131,7 @@ fn read_entry<'p>(
     read_under(found, how, indices, at)
 }
 
-// Values and one more, and the expressions behind it.
+/// Values and one more, and the expressions behind it.
 fn more<'p>(
     before: Items<Shared>,
     value: Shared,
@@ -150,7 +150,7 @@ fn more<'p>(
     }
 }
 
-// Values, and one more.
+/// Values, and one more.
 fn longer(before: Items<Shared>, value: Shared) -> Result<Items<Shared>, Memory>
     ensures { IfOk result (λ values. values ≡ before ++ value ∷ []) }
 {
@@ -182,7 +182,7 @@ pub(crate) fn receive_value<'p>(
     }
 }
 
-// An operator takes its only operand.
+/// An operator takes its only operand.
 fn operate_alone<'p>(op: UnaryOp, value: Shared, state: &State) -> Result<Next<'p>, Halt>
     ensures { (setting : Setting)
         → Leads (next_rest setting) (λ k. value_rest setting (any_value.Unary op) value k state.now) result state.now }
@@ -192,7 +192,7 @@ fn operate_alone<'p>(op: UnaryOp, value: Shared, state: &State) -> Result<Next<'
     given(made)
 }
 
-// The right side of an assignment is written.
+/// The right side of an assignment is written.
 fn assign<'p>(
     alloc: Global,
     name: &'p Bytes,
@@ -211,7 +211,7 @@ fn assign<'p>(
     given(made)
 }
 
-// What an operator makes of an old value and the right side is written.
+/// What an operator makes of an old value and the right side is written.
 fn combine_with<'p>(
     alloc: Global,
     op: BinaryOp,
@@ -240,7 +240,7 @@ fn combine_with<'p>(
     given(made)
 }
 
-// The left operand of `??`, or the right one where it is missing.
+/// The left operand of `??`, or the right one where it is missing.
 fn coalesce<'p>(left: Shared, right: &'p Boxed<Expression>) -> Next<'p>
     ensures { (setting : Setting) (k : Follows) (s : AnyState)
         → next_rest setting result k s ≡ value_rest setting (any_value.Coalesce right.entry) left k s }
@@ -256,7 +256,7 @@ fn coalesce<'p>(left: Shared, right: &'p Boxed<Expression>) -> Next<'p>
     }
 }
 
-// The part of a conditional that its test chooses.
+/// The part of a conditional that its test chooses.
 fn choose<'p>(
     middle: &'p Option<Boxed<Expression>>,
     otherwise: &'p Boxed<Expression>,
@@ -276,7 +276,7 @@ fn choose<'p>(
     }
 }
 
-// The middle part of a conditional, or the value of its test where it has none.
+/// The middle part of a conditional, or the value of its test where it has none.
 fn chosen<'p>(middle: &'p Option<Boxed<Expression>>, test: Shared) -> Next<'p>
     ensures { (setting : Setting) (k : Follows) (s : AnyState)
         → next_rest setting result k s ≡ and_then (choice (option_map expression_run middle.now) test setting s)
@@ -319,7 +319,7 @@ pub(crate) fn receive_values<'p>(
     }
 }
 
-// A built-in function takes its arguments.
+/// A built-in function takes its arguments.
 fn call_builtin<'p>(
     alloc: Global,
     function: Builtin,
@@ -335,7 +335,7 @@ fn call_builtin<'p>(
     given(made)
 }
 
-// `++` or `--` of a place whose indices are evaluated.
+/// `++` or `--` of a place whose indices are evaluated.
 fn step<'p>(
     alloc: Global,
     op: UnaryOp,
@@ -354,7 +354,7 @@ fn step<'p>(
     given(made)
 }
 
-// The old value of a compound assignment is read.
+/// The old value of a compound assignment is read.
 fn compound<'p>(
     alloc: Global,
     op: BinaryOp,
@@ -380,7 +380,7 @@ fn compound<'p>(
     }
 }
 
-// A `??=`: its place is read.
+/// A `??=`: its place is read.
 fn coalesce_assign<'p>(
     alloc: Global,
     name: &'p Bytes,
@@ -402,7 +402,7 @@ fn coalesce_assign<'p>(
     }
 }
 
-// A `??=` whose place was read.
+/// A `??=` whose place was read.
 fn or_assign<'p>(
     name: &'p Bytes,
     indices: Items<Shared>,
@@ -425,7 +425,7 @@ fn or_assign<'p>(
     }
 }
 
-// A place of an `isset` is read.
+/// A place of an `isset` is read.
 fn isset_place<'p>(
     alloc: Global,
     name: &'p Bytes,
@@ -446,7 +446,7 @@ fn isset_place<'p>(
     }
 }
 
-// The value of a place of an `isset` was found.
+/// The value of a place of an `isset` was found.
 fn isset_found<'p>(found: Shared, rest: &'p [Place]) -> Next<'p>
     ensures { (setting : Setting) (k : Follows) (s : AnyState)
         → next_rest setting result k s ≡ if missing found then to_value k (any_kind.Bool false) s

@@ -22,7 +22,7 @@ use dp_words::Command;
 use std::alloc::Global;
 use std::sync::Wait;
 
-// The failure that an end of `show` is.
+/// The failure that an end of `show` is.
 fn failure_of(why: ShowError) -> Failure
     ensures { result ≡ failure_of why }
 {
@@ -35,7 +35,7 @@ fn failure_of(why: ShowError) -> Failure
     }
 }
 
-// Prints the element of each packet that is read.
+/// Prints the element of each packet that is read.
 fn show_all<'a, S: Source, K: Sink>(
     alloc: Global,
     input: &mut S,

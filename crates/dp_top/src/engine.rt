@@ -23,7 +23,7 @@ use std::alloc::Global;
 use std::marker::Brand;
 use std::sync::ledger::Blank;
 
-// Serves one session over a link to a machine, and takes the link back.
+/// Serves one session over a link to a machine, and takes the link back.
 fn serve_linked<'a, N: Net, K: Sink>(
     alloc: Global,
     request: Engine<'a>,
@@ -71,7 +71,7 @@ fn serve_linked<'a, N: Net, K: Sink>(
     }
 }
 
-// Serves one session over a link to an address, and takes the link back.
+/// Serves one session over a link to an address, and takes the link back.
 fn serve_over<'a, N: Net, K: Sink>(
     alloc: Global,
     request: Engine<'a>,

@@ -25,7 +25,7 @@ pub(crate) enum Reason {
 }
 
 impl Reason {
-    // Its name on the error output.
+    /// Its name on the error output.
     fn name(self) -> &'static [u8]
         ensures { result.now ≡ reason_name self }
     {
@@ -144,7 +144,7 @@ pub(crate) fn refusal(why: &ParseError) -> Failure
     }
 }
 
-// The failure that a refusal of the lexer is.
+/// The failure that a refusal of the lexer is.
 fn lexical(why: LexError) -> Failure
     ensures { result ≡ failure_of (ParseError.Lex why) }
 {
@@ -164,7 +164,7 @@ fn source(reason: Reason, number: u64) -> Failure
 }
 
 impl Failure {
-    // The status that the call answers.
+    /// The status that the call answers.
     fn status(&self) -> u8
         ensures { result ≡ status_of self.now }
     {
@@ -193,7 +193,7 @@ impl Failure {
         }
     }
 
-    // The line on the error output.
+    /// The line on the error output.
     fn line(&self, alloc: Global, file: &[u8]) -> Result<Bytes, Memory>
         ensures { IfOk result (λ line. line ≡ line_of self.now file.now) }
     {
@@ -220,7 +220,7 @@ impl Failure {
     }
 }
 
-// A line that names a file.
+/// A line that names a file.
 fn named(alloc: Global, front: &[u8], file: &[u8], back: &[u8]) -> Result<Bytes, Memory>
     ensures { IfOk result (λ line. line ≡ front.now ++ file.now ++ back.now) }
 {
@@ -230,7 +230,7 @@ fn named(alloc: Global, front: &[u8], file: &[u8], back: &[u8]) -> Result<Bytes,
     Ok(Bytes::of(line))
 }
 
-// The line on a file that is refused.
+/// The line on a file that is refused.
 fn bad_source(alloc: Global, file: &[u8], reason: &[u8], number: u64) -> Result<Bytes, Memory>
     ensures { IfOk result (λ line. line ≡ bad_source file.now reason.now number) }
 {
@@ -245,7 +245,7 @@ fn bad_source(alloc: Global, file: &[u8], reason: &[u8], number: u64) -> Result<
     Ok(Bytes::of(line))
 }
 
-// The name of a fatal fault on the error output.
+/// The name of a fatal fault on the error output.
 fn kind_name(kind: FatalKind) -> &'static [u8]
     ensures { result.now ≡ kind_name kind }
 {
@@ -266,7 +266,7 @@ fn kind_name(kind: FatalKind) -> &'static [u8]
     }
 }
 
-// The line on a fatal fault.
+/// The line on a fatal fault.
 fn fatal(alloc: Global, kind: &[u8], file: &[u8], line: u32) -> Result<Bytes, Memory>
     ensures { IfOk result (λ text. text ≡ fatal_line kind.now file.now line) }
 {
@@ -281,7 +281,7 @@ fn fatal(alloc: Global, kind: &[u8], file: &[u8], line: u32) -> Result<Bytes, Me
     Ok(Bytes::of(text))
 }
 
-// The line on a bound that was reached.
+/// The line on a bound that was reached.
 fn bound_reached(alloc: Global, steps: u64) -> Result<Bytes, Memory>
     ensures { IfOk result (λ line. line ≡ codes "bound reached after " ++ decimal steps ++ codes " steps\n") }
 {
@@ -301,7 +301,7 @@ fn bad_packet(alloc: Global, offset: u64) -> Result<Bytes, Memory>
     named(alloc, b"bad packet offset ", digits.as_bytes(), b"\n")
 }
 
-// The line on a script that is none.
+/// The line on a script that is none.
 fn bad_script(alloc: Global, line: u64) -> Result<Bytes, Memory>
     ensures { IfOk result (λ text. text ≡ script_line line) }
 {
@@ -309,7 +309,7 @@ fn bad_script(alloc: Global, line: u64) -> Result<Bytes, Memory>
     named(alloc, b"bad script line ", digits.as_bytes(), b"\n")
 }
 
-// What was found, or that nothing was.
+/// What was found, or that nothing was.
 fn found_text(found: &Option<Bytes>) -> &[u8]
     ensures { result.now ≡ found_text found.now }
 {
@@ -319,7 +319,7 @@ fn found_text(found: &Option<Bytes>) -> &[u8]
     }
 }
 
-// The line on an expectation that differs.
+/// The line on an expectation that differs.
 fn differs(alloc: Global, line: u64, wanted: &[u8], found: &[u8]) -> Result<Bytes, Memory>
     ensures { IfOk result (λ text. text ≡ codes "differs line " ++ decimal line ++ codes " wanted " ++ wanted.now
         ++ codes " found " ++ found.now ++ codes "\n") }

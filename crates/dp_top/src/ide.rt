@@ -16,7 +16,7 @@ use dp_words::Ide;
 use std::alloc::Global;
 use std::sync::Wait;
 
-// The failure that an end of playing is.
+/// The failure that an end of playing is.
 fn failure_of(why: IdeError) -> Failure
     ensures { result ≡ failure_of why }
 {
@@ -40,7 +40,7 @@ fn failure_of(why: IdeError) -> Failure
     }
 }
 
-// The script that bytes are.
+/// The script that bytes are.
 fn script_in<'a>(alloc: Global, bytes: &[u8]) -> Result<Script, Refused<'a>>
     ensures script { IfOk result (IsWholeScript bytes.now) }
     ensures bad { IfErr result (λ why. IsBadScript why.failure why.name.now bytes.now) }
@@ -54,7 +54,7 @@ fn script_in<'a>(alloc: Global, bytes: &[u8]) -> Result<Script, Refused<'a>>
     }
 }
 
-// The script of this name.
+/// The script of this name.
 fn fetch_script<'a, H: Shelf>(
     alloc: Global,
     script: &'a str,
@@ -73,7 +73,7 @@ fn fetch_script<'a, H: Shelf>(
     }
 }
 
-// Plays a script over the link that a new gate gives, and puts the link back. `None` where it gave none.
+/// Plays a script over the link that a new gate gives, and puts the link back. `None` where it gave none.
 fn meet<R: Wait + Sync, D: Gate, O: Sink>(
     rt: &R,
     alloc: Global,
@@ -104,7 +104,7 @@ fn meet<R: Wait + Sync, D: Gate, O: Sink>(
     }
 }
 
-// Plays a script over the link that a gate at this port gives, and shuts the gate. `None` where no link came.
+/// Plays a script over the link that a gate at this port gives, and shuts the gate. `None` where no link came.
 fn play_at<R: Wait + Sync, N: Net, O: Sink>(
     rt: &R,
     alloc: Global,
@@ -129,7 +129,7 @@ fn play_at<R: Wait + Sync, N: Net, O: Sink>(
     }
 }
 
-// What is reported of how a script was played.
+/// What is reported of how a script was played.
 fn judge<'a>(played: Option<Result<(), IdeError>>) -> Result<u8, Refused<'a>>
     ensures well { IfOk result (λ status. (status ≡ 0) × (played ≡ Some (Ok tt))) }
     ensures ill { IfErr result (λ why. IsToldBy played why.failure × (why.name.now ≡ [])) }

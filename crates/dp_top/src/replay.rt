@@ -33,7 +33,7 @@ use std::alloc::Global;
 use std::marker::Brand;
 use std::sync::ledger::{Blank, Ledger};
 
-// What the file of this name has.
+/// What the file of this name has.
 fn fetch_list<'a, H: Shelf>(
     alloc: Global,
     events: &'a str,
@@ -52,7 +52,7 @@ fn fetch_list<'a, H: Shelf>(
     }
 }
 
-// The list of events that bytes are.
+/// The list of events that bytes are.
 fn list_in<'a>(alloc: Global, bytes: &[u8]) -> Result<Events, Refused<'a>>
     ensures list { IfOk result (IsWholeList bytes.now) }
     ensures bad { IfErr result (λ why. IsBadList why.failure why.name.now bytes.now) }
@@ -69,7 +69,7 @@ fn list_in<'a>(alloc: Global, bytes: &[u8]) -> Result<Events, Refused<'a>>
     }
 }
 
-// Replays a list of events over a program, with a ledger for the steps of its engines.
+/// Replays a list of events over a program, with a ledger for the steps of its engines.
 fn replay_over<'a, K: Sink, L: Ledger>(
     alloc: Global,
     events: &Events,
@@ -93,7 +93,7 @@ fn replay_over<'a, K: Sink, L: Ledger>(
     }
 }
 
-// Replays what was fetched: the list is read first, then the files.
+/// Replays what was fetched: the list is read first, then the files.
 fn replay_fetched<'a, K: Sink>(
     alloc: Global,
     request: Replay<'a>,

@@ -17,7 +17,7 @@ use dp_run::{ProgramError, RunError};
 use dp_words::Program;
 use std::alloc::Global;
 
-// The name of the file of this number.
+/// The name of the file of this number.
 fn name_at(names: &[String], number: u32) -> &[u8]
     ensures { result.now ≡ name_in (map string_bytes names.now) number }
 {
@@ -27,7 +27,7 @@ fn name_at(names: &[String], number: u32) -> &[u8]
     }
 }
 
-// The failure that it is that files make no program.
+/// The failure that it is that files make no program.
 fn program_failure(why: &ProgramError) -> Failure
     ensures { result ≡ program_failure why.now }
 {
@@ -40,7 +40,7 @@ fn program_failure(why: &ProgramError) -> Failure
     }
 }
 
-// The name of the file that it is of, where it is of one, else nothing.
+/// The name of the file that it is of, where it is of one, else nothing.
 fn program_name<'a>(names: &'a [String], why: &ProgramError) -> &'a [u8]
     ensures { result.now ≡ program_name (map string_bytes names.now) why.now }
 {
@@ -63,7 +63,7 @@ pub(crate) fn told_of_files<'a>(program: Program<'a>, why: ProgramError) -> Refu
     }
 }
 
-// The failure that the end of a run is.
+/// The failure that the end of a run is.
 fn failure_of(bound: u64, why: &RunError) -> Failure
     ensures { result ≡ failure_of bound why.now }
 {
@@ -83,7 +83,7 @@ fn failure_of(bound: u64, why: &RunError) -> Failure
     }
 }
 
-// The name of the file that the end of a run is of, where it is of one, else nothing.
+/// The name of the file that the end of a run is of, where it is of one, else nothing.
 fn name_told<'a>(names: &'a [String], why: &RunError) -> &'a [u8]
     ensures { result.now ≡ name_told (map string_bytes names.now) why.now }
 {

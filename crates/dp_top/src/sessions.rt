@@ -19,7 +19,7 @@ use dp_words::{Program, Talk};
 use std::alloc::Global;
 use std::sync::ledger::{Blank, Ledger};
 
-// What the end of a program says of the command; a program that has none was stopped.
+/// What the end of a program says of the command; a program that has none was stopped.
 fn judge_end<'a>(program: Program<'a>, outcome: Option<Outcome>) -> Result<u8, Refused<'a>>
     ensures { told_in result ≡ ended (invocation_seen program.entry) outcome }
 {
@@ -32,7 +32,7 @@ fn judge_end<'a>(program: Program<'a>, outcome: Option<Outcome>) -> Result<u8, R
     }
 }
 
-// What the end of a session says of the command; a fault of the link's sink is this failure.
+/// What the end of a session says of the command; a fault of the link's sink is this failure.
 fn judge<'a>(program: Program<'a>, unsent: Failure, served: Served) -> Result<u8, Refused<'a>>
     ensures { told_in result ≡ judged_by unsent (invocation_seen program.entry) served.outcome served.end }
 {

@@ -20,16 +20,16 @@ const SCRIPT: &str = "attr idekey K\n\
     send run -i 2\n\
     attr status stopping\n";
 
-// The status where no link comes about.
+/// The status where no link comes about.
 const NO_LINK: u8 = 208;
 
-// How often the engine is run at most. The gate may not be there yet.
+/// How often the engine is run at most. The gate may not be there yet.
 const MOST_RUNS: u32 = 100_000;
 
-// How many bytes each output takes.
+/// How many bytes each output takes.
 const ROOM: usize = 4096;
 
-// What came of a call.
+/// What came of a call.
 #[derive(Drop)]
 struct Ended {
     status: u8,
@@ -45,7 +45,7 @@ fn texts(alloc: Global, words: &[&str]) -> Result<Vec<String>, Memory> {
     Ok(texts)
 }
 
-// A shelf with one file.
+/// A shelf with one file.
 fn shelf_with(alloc: Global, name: &str, content: &str) -> Result<MapShelf, Memory> {
     let mut files = Vec::new(alloc);
     files.push((
@@ -55,7 +55,7 @@ fn shelf_with(alloc: Global, name: &str, content: &str) -> Result<MapShelf, Memo
     MapShelf::new(files, Vec::new(alloc))
 }
 
-// Makes the call over the network of the system, and everything else in memory.
+/// Makes the call over the network of the system, and everything else in memory.
 fn call<R: Threads + Wait + Sync + Send + Sockets<Listener = TcpListener, Stream = TcpStream>>(
     rt: &R,
     alloc: Global,
@@ -86,7 +86,7 @@ fn call<R: Threads + Wait + Sync + Send + Sockets<Listener = TcpListener, Stream
     })
 }
 
-// Plays the script on the engine that comes.
+/// Plays the script on the engine that comes.
 fn play<R: Threads + Wait + Sync + Send + Sockets<Listener = TcpListener, Stream = TcpStream>>(
     rt: &R,
     alloc: Global,
@@ -96,7 +96,7 @@ fn play<R: Threads + Wait + Sync + Send + Sockets<Listener = TcpListener, Stream
     call(rt, alloc, &["ide", port, "script"], &mut shelf)
 }
 
-// Runs the engine, and again where no link comes about.
+/// Runs the engine, and again where no link comes about.
 fn debug<R: Threads + Wait + Sync + Send + Sockets<Listener = TcpListener, Stream = TcpStream>>(
     rt: &R,
     alloc: Global,
@@ -115,7 +115,7 @@ fn debug<R: Threads + Wait + Sync + Send + Sockets<Listener = TcpListener, Strea
     Ok(ended)
 }
 
-// A port that nothing listens at.
+/// A port that nothing listens at.
 fn free_port<R: Sockets<Listener = TcpListener, Stream = TcpStream>>(rt: &R) -> io::Result<u16> {
     let listener = TcpListener::bind(rt, "127.0.0.1:0")?;
     Ok(listener.local_addr()?.port())

@@ -6,7 +6,7 @@ ghost use Rattle.dp_tree.specs.Builtins as spec;
 
 use dp_value::Builtin;
 
-// Whether a name is this word, in any case of letters.
+/// Whether a name is this word, in any case of letters.
 fn is(name: &[u8], word: &[u8]) -> bool
     ensures { result ≡ str_eq_ignore_ascii_case name.now word.now }
 {

@@ -13,7 +13,7 @@ use dp_value::{Bytes, Memory};
 use indexmap::IndexSet;
 use std::alloc::Global;
 
-// Whether a name is that of a built-in function, or is among these names, which are in lower case.
+/// Whether a name is that of a built-in function, or is among these names, which are in lower case.
 fn is_taken(names: &IndexSet<Bytes>, name: &[u8], lower: &Bytes) -> bool
     ensures { result ≡ (is_some (builtins.builtin_of name.now) || list_any (bytes_eq lower.now) names.now.keys) }
 {

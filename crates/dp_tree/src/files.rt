@@ -23,7 +23,7 @@ impl Bundle {
         }
     }
 
-    // The position of the file of this name.
+    /// The position of the file of this name.
     fn position(&self, name: &[u8]) -> Option<usize>
         ensures { result ≡ file_named self.now name.now }
     {
@@ -48,7 +48,8 @@ impl Bundle {
     /// How many functions the file of this number has. Takes no memory: `Memory` comes only where there are more than
     /// can be numbered.
     pub fn function_count(&self, file: u32) -> Result<u32, Memory>
-        ensures { IfOk result (λ count. count ≡ count_of self.now file) }
+        ensures count { IfOk result (λ count. count ≡ count_of self.now file) }
+        ensures memory { OnErr result (u32.MAX < count_of self.now file) }
     {
         match self.files.as_slice().get(file as usize) {
             Some(file) => numbered(file.tree.functions.len()),
@@ -67,7 +68,7 @@ impl Bundle {
         }
     }
 
-    // The same without the name in lower case: the functions of the file are walked.
+    /// The same without the name in lower case: the functions of the file are walked.
     fn walk(&self, file: u32, name: &[u8]) -> Option<usize>
         ensures { result ≡ function_named self.now file name.now }
     {
@@ -85,7 +86,7 @@ impl Bundle {
     }
 }
 
-// A number of a file, or how many functions there are. More than can be numbered do not fit into memory.
+/// A number of a file, or how many functions there are. More than can be numbered do not fit into memory.
 fn numbered(number: usize) -> Result<u32, Memory>
     ensures number { IfOk result (λ n. n ≡ number) }
     ensures memory { OnErr result (u32.MAX < number) }
@@ -96,7 +97,7 @@ fn numbered(number: usize) -> Result<u32, Memory>
     }
 }
 
-// The number of the first of these functions that has this name, in any case of letters.
+/// The number of the first of these functions that has this name, in any case of letters.
 fn position_of(functions: &[Function], name: &[u8]) -> Option<usize>
     ensures { result ≡ position (λ f. str_eq_ignore_ascii_case name.now f.name) functions.now }
 {

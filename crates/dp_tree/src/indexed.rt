@@ -88,7 +88,7 @@ impl Files {
 }
 
 impl Index {
-    // What the index has for a name in lower case.
+    /// What the index has for a name in lower case.
     fn first(&self, lower: &Bytes) -> Option<usize>
         ensures { result ≡ lookup (bytes_eq lower.now) self.now.firsts.entries }
     {
@@ -96,14 +96,14 @@ impl Index {
     }
 }
 
-// The index of the file of this number.
+/// The index of the file of this number.
 fn index_at(indexes: &[Index], file: u32) -> Option<&Index>
     ensures { option_map (λ index. index.now) result ≡ slice_get indexes.now file }
 {
     indexes.get(file as usize)
 }
 
-// The indexes of these files, in their order.
+/// The indexes of these files, in their order.
 fn indexes_of(alloc: Global, files: &[BundleFile]) -> Result<Vec<Index>, Memory>
     ensures { IfOk result (λ indexes. AreIndexed files.now indexes.items) }
 {
@@ -114,7 +114,7 @@ fn indexes_of(alloc: Global, files: &[BundleFile]) -> Result<Vec<Index>, Memory>
     Ok(indexes)
 }
 
-// The index of these functions.
+/// The index of these functions.
 fn index_of(alloc: Global, functions: &[Function]) -> Result<Index, Memory>
     ensures { IfOk result (λ index. IsIndex functions.now index.firsts.entries) }
 {
@@ -126,14 +126,14 @@ fn index_of(alloc: Global, functions: &[Function]) -> Result<Index, Memory>
     Ok(Index { firsts })
 }
 
-// Whether a name in lower case has a number.
+/// Whether a name in lower case has a number.
 fn has(firsts: &IndexMap<Bytes, usize>, lower: &Bytes) -> bool
     ensures { result ≡ is_some (lookup (bytes_eq lower.now) firsts.now.entries) }
 {
     firsts.contains_key(lower)
 }
 
-// Gives a name in lower case this number, unless it has one.
+/// Gives a name in lower case this number, unless it has one.
 fn keep_first(
     firsts: &mut IndexMap<Bytes, usize>,
     lower: Bytes,

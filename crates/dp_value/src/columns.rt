@@ -175,7 +175,7 @@ pub(crate) fn first_entry(alloc: Global, key: Key, value: Value) -> Result<Box<C
     Ok(Box::new(alloc, columns)?)
 }
 
-// The largest integer key ever used, once this key is used too.
+/// The largest integer key ever used, once this key is used too.
 fn raised(largest: Option<i64>, key: &Key) -> Option<i64>
     ensures { result ≡ raised_by largest key.now }
 {

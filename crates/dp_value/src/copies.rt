@@ -66,7 +66,7 @@ impl Columns {
     }
 }
 
-// A set of these keys, in the same order.
+/// A set of these keys, in the same order.
 fn copy_keys(alloc: Global, keys: &[Key]) -> Result<IndexSet<Key>, Memory>
     requires { IsDistinct key_eq keys.now }
     ensures { IfOk result (λ copy. copy.keys ≡ keys.now) }

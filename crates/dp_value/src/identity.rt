@@ -24,7 +24,7 @@ pub fn same(a: &Value, b: &Value) -> bool
     }
 }
 
-// Whether two arrays have the same pairs in the same order.
+/// Whether two arrays have the same pairs in the same order.
 #[cycle(comparing)]
 fn same_entries(a: &PhpArray, b: &PhpArray) -> bool
     ensures { result ≡ identical_entries (entries_of a.now.pairs) (entries_of b.now.pairs) }
@@ -38,7 +38,7 @@ fn same_entries(a: &PhpArray, b: &PhpArray) -> bool
     }
 }
 
-// Whether two arrays have the same pairs in the same order, by their columns.
+/// Whether two arrays have the same pairs in the same order, by their columns.
 #[cycle(comparing)]
 fn same_columns(a: &Columns, b: &Columns) -> bool
     ensures { result ≡ identical_entries (entries_of a.now.pairs) (entries_of b.now.pairs) }

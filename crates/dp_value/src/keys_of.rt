@@ -29,7 +29,7 @@ pub fn key_of(alloc: Global, value: &Value) -> Result<Key, ValueError>
     }
 }
 
-// The key that a text becomes.
+/// The key that a text becomes.
 fn text_key(alloc: Global, bytes: &[u8]) -> Result<Key, Memory>
     ensures { IfOk result (λ k. k ≡ key_of_text bytes.now) }
 {
@@ -50,7 +50,7 @@ pub fn int_of_text(bytes: &[u8]) -> Option<i64>
     text.parse::<i64>().ok()
 }
 
-// Whether a text is `0`, or an optional minus and digits that do not begin with 0.
+/// Whether a text is `0`, or an optional minus and digits that do not begin with 0.
 fn has_int_form(bytes: &[u8]) -> bool
     ensures { result ≡ is_int_form bytes.now }
 {
@@ -71,7 +71,7 @@ pub(crate) fn starts_above_zero(bytes: &[u8]) -> bool
     }
 }
 
-// Whether each byte is a digit.
+/// Whether each byte is a digit.
 fn all_digits(bytes: &[u8]) -> bool
     ensures { result ≡ list_all is_ascii_digit bytes.now }
 {

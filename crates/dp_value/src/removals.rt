@@ -30,7 +30,7 @@ pub fn remove_at(value: &mut Value, keys: &[Option<Key>]) -> Result<(), WriteErr
     }
 }
 
-// Removes the entry of an array under a key and those behind it.
+/// Removes the entry of an array under a key and those behind it.
 #[cycle(removing)]
 fn remove_from(
     array: &mut PhpArray,

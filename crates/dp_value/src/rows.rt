@@ -35,7 +35,7 @@ pub(crate) fn place(keys: &IndexSet<Key>, gone: usize, key: &Key) -> Option<usiz
     Some(row - gone)
 }
 
-// The row of a key among all, also those that are removed.
+/// The row of a key among all, also those that are removed.
 fn row_of(keys: &IndexSet<Key>, key: &Key) -> Option<usize>
     ensures place { MatchOption result (IsAbsent (key_eq key.now) keys.now.keys)
         (IsFirst (key_eq key.now) keys.now.keys) }
@@ -119,7 +119,7 @@ pub(crate) fn take_out(
     weight
 }
 
-// Takes a row out of those that are left: the first of more than a few by a mark, any other by closing up.
+/// Takes a row out of those that are left: the first of more than a few by a mark, any other by closing up.
 fn take_row(keys: &mut IndexSet<Key>, values: &mut Vec<Value>, gone: &mut usize, at: usize)
     requires within { gone.old + at < length keys.old.keys }
     requires same_length { length values.old.items ≡ length keys.old.keys }
@@ -138,7 +138,7 @@ fn take_row(keys: &mut IndexSet<Key>, values: &mut Vec<Value>, gone: &mut usize,
     let _ = values.remove(*gone + at);
 }
 
-// Clears the rows that are removed already where they are as many as those left.
+/// Clears the rows that are removed already where they are as many as those left.
 fn clear_many(keys: &mut IndexSet<Key>, values: &mut Vec<Value>, gone: &mut usize)
     requires same_length { length values.old.items ≡ length keys.old.keys }
     requires nulls { AreNull gone.old values.old.items }
@@ -152,7 +152,7 @@ fn clear_many(keys: &mut IndexSet<Key>, values: &mut Vec<Value>, gone: &mut usiz
     }
 }
 
-// Clears the rows that are removed already.
+/// Clears the rows that are removed already.
 fn clear(keys: &mut IndexSet<Key>, values: &mut Vec<Value>, gone: &mut usize)
     requires same_length { length values.old.items ≡ length keys.old.keys }
     requires nulls { AreNull gone.old values.old.items }

@@ -31,7 +31,7 @@ pub fn write_at(
     write(alloc, value, keys, push, new, 0)
 }
 
-// Writes one entry of a value beside which so much else weighs.
+/// Writes one entry of a value beside which so much else weighs.
 #[cycle(writing)]
 fn write(
     alloc: Global,
@@ -62,7 +62,7 @@ fn write(
     }
 }
 
-// A new array with one entry.
+/// A new array with one entry.
 #[cycle(writing)]
 fn write_new(
     alloc: Global,
@@ -80,7 +80,7 @@ fn write_new(
     Ok(array)
 }
 
-// Writes one entry of an array.
+/// Writes one entry of an array.
 #[cycle(writing)]
 fn write_into(
     alloc: Global,
@@ -112,14 +112,14 @@ fn write_into(
     result
 }
 
-// What weighs beside the value under a key, or the largest `u64` where it is more.
+/// What weighs beside the value under a key, or the largest `u64` where it is more.
 fn beside_entry(array: &PhpArray, key: &Key, beside: u64) -> u64
     ensures { result ≡ min (beside + pairs_weight (put array.now.pairs key.now null)) u64.MAX }
 {
     array.weight_with(key, &Value::Null).saturating_add(beside)
 }
 
-// Puts a value in the place of another, where it is not too heavy.
+/// Puts a value in the place of another, where it is not too heavy.
 fn replace(value: &mut Value, new: Value, beside: u64) -> Result<(), WriteError>
     ensures ok { OnOk result (within beside (Ok (data_of new)) ≡ Ok (data_of value.new)) }
     ensures refused { IfErr result (λ e. IsCause (within beside (Ok (data_of new))) e) }
@@ -132,7 +132,7 @@ fn replace(value: &mut Value, new: Value, beside: u64) -> Result<(), WriteError>
     Ok(())
 }
 
-// Pushes a value into an array beside which so much else weighs.
+/// Pushes a value into an array beside which so much else weighs.
 fn push_into(array: &mut PhpArray, new: Value, beside: u64) -> Result<(), WriteError>
     ensures ok { OnOk result (within beside (pushed (data_of new) array.old) ≡ Ok (data_of_table array.new)) }
     ensures refused { IfErr result (λ e. IsCause (within beside (pushed (data_of new) array.old)) e) }
@@ -148,7 +148,7 @@ fn push_into(array: &mut PhpArray, new: Value, beside: u64) -> Result<(), WriteE
     set_entry(array, key, new)
 }
 
-// The key under which a pushed value goes.
+/// The key under which a pushed value goes.
 fn next_key(array: &PhpArray) -> Option<Key>
     ensures { (d : Data) → pushed d array.now ≡ put_under result d array.now }
 {
@@ -159,7 +159,7 @@ fn next_key(array: &PhpArray) -> Option<Key>
     }
 }
 
-// Puts a value under a key, where it is not too heavy.
+/// Puts a value under a key, where it is not too heavy.
 fn set_entry(array: &mut PhpArray, key: Key, value: Value) -> Result<(), WriteError>
     requires { pairs_weight (put array.old.pairs key (data_of value)) ≤ weight_limit }
     ensures ok { OnOk result (array.new ≡ table_set array.old key (data_of value)) }

@@ -13,7 +13,7 @@ use dp_state::Path;
 use dp_value::{Bytes, Items, Key, int_of_text};
 use std::alloc::Global;
 
-// The bytes between quotes, behind the opening one.
+/// The bytes between quotes, behind the opening one.
 fn text(alloc: Global, quote: u8, bytes: &[u8]) -> Result<Vec<u8>, Memory>
     ensures { IfOk result (λ text. text.items ≡ text_taken quote bytes.now) }
 {
@@ -32,7 +32,7 @@ fn text(alloc: Global, quote: u8, bytes: &[u8]) -> Result<Vec<u8>, Memory>
     Ok(text)
 }
 
-// The key that a text becomes.
+/// The key that a text becomes.
 fn key_of(text: Vec<u8>) -> Key
     ensures { result ≡ key_of_text text.items }
 {
@@ -42,7 +42,7 @@ fn key_of(text: Vec<u8>) -> Key
     }
 }
 
-// The key that is spelt so.
+/// The key that is spelt so.
 fn key(alloc: Global, spelling: Spelling) -> Result<Key, Memory>
     ensures { IfOk result (λ key. key ≡ key_meant spelling.entry) }
 {
@@ -52,7 +52,7 @@ fn key(alloc: Global, spelling: Spelling) -> Result<Key, Memory>
     }
 }
 
-// The keys of indices.
+/// The keys of indices.
 fn keys(alloc: Global, bytes: &[u8]) -> Result<Vec<Key>, Memory>
     ensures { IfOk result (λ keys. keys.items ≡ keys_taken bytes.now) }
 {

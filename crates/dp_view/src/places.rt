@@ -10,7 +10,7 @@ use crate::errors::ViewError;
 use dp_state::{Path, Slot, State, Vars};
 use dp_value::{Bytes, Key, Value};
 
-// The variables of the context with this id.
+/// The variables of the context with this id.
 fn variables_of(state: &State, level: usize, id: u32) -> Option<&Vars>
     ensures { option_map (λ v. v.now) result ≡ spec.variables_of state.now level id }
 {
@@ -35,7 +35,7 @@ pub fn shown_variables(state: &State, level: u32, id: u32) -> Result<&Vars, View
     }
 }
 
-// The value of a global variable.
+/// The value of a global variable.
 fn global_value<'s>(globals: &'s Vars, name: &Bytes) -> Option<&'s Value>
     ensures { option_map (λ v. v.now) result ≡ value_held (slot_of globals.now name.now) }
 {
@@ -56,7 +56,7 @@ pub fn slot_value<'s>(globals: &'s Vars, name: &Bytes, slot: &'s Slot) -> Option
     }
 }
 
-// The value of a variable among these.
+/// The value of a variable among these.
 fn variable_value<'s>(globals: &'s Vars, variables: &'s Vars, name: &Bytes) -> Option<&'s Value>
     ensures { option_map (λ v. v.now) result ≡ value_in globals.now variables.now name.now }
 {
@@ -66,7 +66,7 @@ fn variable_value<'s>(globals: &'s Vars, variables: &'s Vars, name: &Bytes) -> O
     }
 }
 
-// What stands under a key in a value, if it is an array.
+/// What stands under a key in a value, if it is an array.
 fn entry_of<'v>(value: &'v Value, key: &Key) -> Option<&'v Value>
     ensures { option_map (λ v. data_of v.now) result ≡ spec.entry_of key.now (data_of value.now) }
 {
@@ -76,7 +76,7 @@ fn entry_of<'v>(value: &'v Value, key: &Key) -> Option<&'v Value>
     }
 }
 
-// What stands under keys in a value.
+/// What stands under keys in a value.
 fn value_under<'v>(value: &'v Value, keys: &[Key]) -> Option<&'v Value>
     ensures { option_map (λ v. data_of v.now) result ≡ spec.value_under keys.now (data_of value.now) }
 {
@@ -90,7 +90,7 @@ fn value_under<'v>(value: &'v Value, keys: &[Key]) -> Option<&'v Value>
     Some(found)
 }
 
-// What stands at a path among these variables.
+/// What stands at a path among these variables.
 fn value_among<'s>(globals: &'s Vars, variables: &'s Vars, path: &Path) -> Option<&'s Value>
     ensures { option_map (λ v. data_of v.now) result ≡ spec.value_among globals.now path.now variables.now }
 {

@@ -18,7 +18,7 @@ use dp_state::{Path, State};
 use dp_value::{Bytes, Items, Key, PhpArray, Value};
 use std::alloc::Global;
 
-// The first bytes of a text, at most so many.
+/// The first bytes of a text, at most so many.
 fn front(alloc: Global, bytes: &[u8], most: u64) -> Result<Bytes, Memory>
     ensures { IfOk result (λ f. f ≡ take most bytes.now) }
 {
@@ -43,7 +43,7 @@ pub fn page_end(array: &PhpArray, start: usize, size: u64) -> usize
     len.min(start.saturating_add(size as usize))
 }
 
-// The property of an entry, of which so many levels of arrays are shown.
+/// The property of an entry, of which so many levels of arrays are shown.
 #[cycle(nesting)]
 fn entry(
     alloc: Global,
@@ -66,7 +66,7 @@ fn entry(
     })
 }
 
-// Puts the property of the entry at a position behind others.
+/// Puts the property of the entry at a position behind others.
 #[cycle(nesting)]
 fn put_entry(
     alloc: Global,
@@ -88,7 +88,7 @@ fn put_entry(
     Ok(())
 }
 
-// The properties of the entries of an array from a position up to another one.
+/// The properties of the entries of an array from a position up to another one.
 #[cycle(nesting)]
 fn entries(
     alloc: Global,
@@ -110,7 +110,7 @@ fn entries(
     Ok(made)
 }
 
-// What is shown in an array where so many levels are left.
+/// What is shown in an array where so many levels are left.
 #[cycle(nesting)]
 fn nested(
     alloc: Global,
@@ -132,7 +132,7 @@ fn nested(
     entries(alloc, p, levels - 1, full, array, start, end)
 }
 
-// What is shown of a value with this full name, of whose own entries this page is shown.
+/// What is shown of a value with this full name, of whose own entries this page is shown.
 #[cycle(nesting)]
 fn shape(
     alloc: Global,
@@ -182,7 +182,7 @@ pub(crate) fn property_of(
     })
 }
 
-// A property without names.
+/// A property without names.
 fn bare(shape: Shape) -> Property
     ensures { result ≡ record { name = None; fullname = None; shape = shape } }
 {
@@ -208,7 +208,7 @@ pub fn shown(alloc: Global, value: &Value, p: &Paging) -> Result<Property, Memor
     }
 }
 
-// The property of the value at a path.
+/// The property of the value at a path.
 fn property_at(alloc: Global, path: &Path, p: &Paging, value: &Value) -> Result<Property, Memory>
     ensures made { IfOk result (λ made. made ≡ spec.path_property path.now p.now (data_of value.now)) }
     ensures keyed { OnOk result (IsKeyed p.now.children p.now.page p.now.depth (data_of value.now)) }

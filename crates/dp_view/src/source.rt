@@ -4,7 +4,7 @@ ghost use Rattle.std.specs.Prelude.{◌≡◌, ◌≤◌, length};
 ghost use Rattle.dp_view.specs.Source as spec;
 ghost use Rattle.dp_view.specs.inner.Lines as inner;
 
-// How many bytes the first lines of a text have, so many.
+/// How many bytes the first lines of a text have, so many.
 fn lines_length(text: &[u8], count: u32) -> usize
     ensures length { result ≡ inner.lines_length count text.now }
     ensures within { result ≤ length text.now }

@@ -10,7 +10,7 @@ ghost use Rattle.dp_view.specs.inner.Items.{behind_items, key_meant, keys_taken,
 use crate::sorts::{Sort, is_start, run};
 use dp_value::int_of_text;
 
-// The most bytes of a name.
+/// The most bytes of a name.
 const LONGEST: usize = 255;
 
 /// How a key is spelt between brackets.
@@ -21,7 +21,7 @@ pub(crate) enum Spelling<'n> {
     Text(u8, &'n [u8]),
 }
 
-// What stands behind this byte.
+/// What stands behind this byte.
 fn behind(b: u8, bytes: &[u8]) -> Option<&[u8]>
     ensures { option_map (λ rest. rest.now) result ≡ spec.behind b bytes.now }
 {
@@ -40,7 +40,7 @@ fn without_dollar(bytes: &[u8]) -> &[u8]
     }
 }
 
-// The name of the variable that stands here.
+/// The name of the variable that stands here.
 #[tactic(auto, unfolding(crate::specs::NameReader::name_at))]
 fn name(bytes: &[u8]) -> Option<(&[u8], &[u8])>
     ensures { option_map (λ found. (found.0.now, found.1.now)) result ≡ name_at bytes.now }
@@ -57,7 +57,7 @@ fn name(bytes: &[u8]) -> Option<(&[u8], &[u8])>
     }
 }
 
-// The byte that a backslash and this byte stand for between quotes.
+/// The byte that a backslash and this byte stand for between quotes.
 fn pair(quote: u8, c: u8) -> Option<u8>
     ensures { result ≡ pair_of quote c }
 {
@@ -95,7 +95,7 @@ pub(crate) fn byte(quote: u8, bytes: &[u8]) -> Option<(Option<u8>, &[u8])>
     }
 }
 
-// What stands behind the bytes between quotes: the closing quote, or nothing.
+/// What stands behind the bytes between quotes: the closing quote, or nothing.
 fn behind_text(quote: u8, bytes: &[u8]) -> Option<&[u8]>
     ensures { option_map (λ rest. rest.now) result ≡
         behind_items (byte_at quote) (length bytes.now) bytes.now }
@@ -111,7 +111,7 @@ fn behind_text(quote: u8, bytes: &[u8]) -> Option<&[u8]>
     Some(rest)
 }
 
-// The key whose opening quote stands before these bytes.
+/// The key whose opening quote stands before these bytes.
 fn quoted(quote: u8, bytes: &[u8]) -> Option<(Spelling, &[u8])>
     ensures { option_map (λ found. (key_meant found.0, found.1.now)) result ≡ quoted_at quote bytes.now }
 {
@@ -119,7 +119,7 @@ fn quoted(quote: u8, bytes: &[u8]) -> Option<(Spelling, &[u8])>
     Some((Spelling::Text(quote, bytes), rest))
 }
 
-// The integer that stands here.
+/// The integer that stands here.
 #[tactic(auto, unfolding(crate::specs::NameReader::int_at))]
 fn int(bytes: &[u8]) -> Option<(Spelling, &[u8])>
     ensures { option_map (λ found. (key_meant found.0, found.1.now)) result ≡ int_at bytes.now }
@@ -131,7 +131,7 @@ fn int(bytes: &[u8]) -> Option<(Spelling, &[u8])>
     }
 }
 
-// The key whose opening bracket stands before these bytes.
+/// The key whose opening bracket stands before these bytes.
 #[tactic(auto, unfolding(crate::specs::NameReader::key_at))]
 fn key(bytes: &[u8]) -> Option<(Spelling, &[u8])>
     ensures { option_map (λ found. (key_meant found.0, found.1.now)) result ≡ key_at bytes.now }
@@ -156,7 +156,7 @@ pub(crate) fn index(bytes: &[u8]) -> Option<(Option<Spelling>, &[u8])>
     Some((Some(key), rest))
 }
 
-// Whether indices stand up to the end.
+/// Whether indices stand up to the end.
 fn indices(bytes: &[u8]) -> bool
     ensures { (if result then Some (keys_taken bytes.now) else None) ≡ keys_at bytes.now }
 {

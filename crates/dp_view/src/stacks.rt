@@ -32,7 +32,7 @@ fn file_name(bundle: &Bundle, file: u32) -> &[u8]
     }
 }
 
-// The line of a frame at a level.
+/// The line of a frame at a level.
 fn line(alloc: Global, bundle: &Bundle, level: u32, frame: &Frame) -> Result<StackLine, Memory>
     ensures { IfOk result (λ line. line ≡ spec.stack_line bundle.now level frame.now) }
 {
@@ -46,7 +46,7 @@ fn line(alloc: Global, bundle: &Bundle, level: u32, frame: &Frame) -> Result<Sta
     })
 }
 
-// The frame at a level.
+/// The frame at a level.
 fn frame_at(frames: &[Frame], level: usize) -> Option<&Frame>
     ensures { option_map (λ f. f.now) result ≡ slice_get (reverse frames.now) level }
 {
@@ -56,7 +56,7 @@ fn frame_at(frames: &[Frame], level: usize) -> Option<&Frame>
     frames.get(frames.len() - 1 - level)
 }
 
-// The line of a level of 32 bits. There is no memory for the lines of more frames.
+/// The line of a level of 32 bits. There is no memory for the lines of more frames.
 fn line_at(alloc: Global, bundle: &Bundle, level: usize, frame: &Frame) -> Result<StackLine, Memory>
     ensures { IfOk result (λ line. line ≡ spec.stack_line bundle.now level frame.now) }
 {
@@ -66,7 +66,7 @@ fn line_at(alloc: Global, bundle: &Bundle, level: usize, frame: &Frame) -> Resul
     }
 }
 
-// Puts the line of a level behind others.
+/// Puts the line of a level behind others.
 fn put_line(
     alloc: Global,
     bundle: &Bundle,
@@ -83,7 +83,7 @@ fn put_line(
     Ok(())
 }
 
-// The lines of all levels.
+/// The lines of all levels.
 fn all_lines(alloc: Global, bundle: &Bundle, frames: &[Frame]) -> Result<Vec<StackLine>, Memory>
     ensures { IfOk result (λ lines. lines.items ≡ spec.lines_from bundle.now 0 (reverse frames.now)) }
 {
@@ -94,7 +94,7 @@ fn all_lines(alloc: Global, bundle: &Bundle, frames: &[Frame]) -> Result<Vec<Sta
     Ok(lines)
 }
 
-// The line of one level.
+/// The line of one level.
 fn one_line(
     alloc: Global,
     bundle: &Bundle,

@@ -22,7 +22,7 @@ pub struct ShownValue {
     pub text: Bytes,
 }
 
-// Puts an attribute behind others.
+/// Puts an attribute behind others.
 fn put(
     alloc: Global,
     attributes: &mut Vec<(Bytes, Bytes)>,
@@ -40,7 +40,7 @@ fn put(
     Ok(())
 }
 
-// The attribute of a type alone.
+/// The attribute of a type alone.
 fn of_type(alloc: Global, name: &[u8]) -> Result<Vec<(Bytes, Bytes)>, Memory>
     ensures { IfOk result (λ attributes. attributes.items ≡ type_of name.now) }
 {
@@ -49,7 +49,7 @@ fn of_type(alloc: Global, name: &[u8]) -> Result<Vec<(Bytes, Bytes)>, Memory>
     Ok(attributes)
 }
 
-// The attributes of a text of this length.
+/// The attributes of a text of this length.
 fn of_text(alloc: Global, size: usize) -> Result<Vec<(Bytes, Bytes)>, Memory>
     ensures { IfOk result (λ attributes. attributes.items ≡ text_attributes size) }
 {
@@ -78,7 +78,7 @@ fn attributes_of(alloc: Global, value: &Value) -> Result<Vec<(Bytes, Bytes)>, Me
     }
 }
 
-// The first bytes of a text, at most so many, or all.
+/// The first bytes of a text, at most so many, or all.
 fn front_of(bytes: &[u8], most: Option<u64>) -> &[u8]
     ensures { result.now ≡ spec.front_of most bytes.now }
 {
@@ -88,7 +88,7 @@ fn front_of(bytes: &[u8], most: Option<u64>) -> &[u8]
     }
 }
 
-// Bytes in base64, with padding.
+/// Bytes in base64, with padding.
 fn base64_of(alloc: Global, bytes: &[u8]) -> Result<Bytes, Memory>
     ensures { IfOk result (λ text. text ≡ base64 bytes.now) }
 {

@@ -24,7 +24,7 @@ use dp_tree::Bundle;
 use dp_value::{Bytes, Items, Value};
 use std::alloc::Global;
 
-// A context by its name and id.
+/// A context by its name and id.
 fn named(alloc: Global, name: &[u8], id: u32) -> Result<(Bytes, u32), Memory>
     ensures { IfOk result (λ c. c ≡ (name.now, id)) }
 {
@@ -47,7 +47,7 @@ pub fn contexts(alloc: Global) -> Result<Items<(Bytes, u32)>, ViewError>
     Ok(all_contexts(alloc)?)
 }
 
-// The property of a variable with this value.
+/// The property of a variable with this value.
 fn variable(alloc: Global, p: &Paging, name: &[u8], value: &Value) -> Result<Property, Memory>
     ensures made { IfOk result (λ made. made ≡
         spec.path_property (spec.variable_path name.now) p.now (data_of value.now)) }
@@ -58,7 +58,7 @@ fn variable(alloc: Global, p: &Paging, name: &[u8], value: &Value) -> Result<Pro
     property_of(alloc, p, Some(own), Some(full), value)
 }
 
-// Puts the property of the variable at a position behind others, if it has a value.
+/// Puts the property of the variable at a position behind others, if it has a value.
 fn put_variable(
     alloc: Global,
     p: &Paging,

@@ -16,10 +16,10 @@ use dp_wire::PACKET_LIMIT;
 use itoa::Buffer;
 use std::alloc::Global;
 
-// The most bytes of a packet's text.
+/// The most bytes of a packet's text.
 const LIMIT: u32 = PACKET_LIMIT as u32;
 
-// Puts an attribute behind others.
+/// Puts an attribute behind others.
 fn put(
     alloc: Global,
     attributes: &mut Vec<(Bytes, Bytes)>,
@@ -92,7 +92,7 @@ pub(crate) fn respond(
     })
 }
 
-// A response, or 300 where it is not short.
+/// A response, or 300 where it is not short.
 fn short_or_refused(response: Response, is_short: bool) -> Result<Response, ViewError>
     ensures { AnswersSurely (λ r. r) result (if is_short then Ok response else Err 300) }
 {
@@ -118,7 +118,7 @@ pub(crate) fn limited(response: Response) -> Result<Response, ViewError>
     }
 }
 
-// The size of a response without attributes of its own and without a body.
+/// The size of a response without attributes of its own and without a body.
 #[tactic(auto, using(crate::proofs::Sizes::bare_is))]
 fn bare_size(to: &Addressee) -> u64
     ensures size { result ≡ around to.now.command to.now.id [] }
@@ -128,7 +128,7 @@ fn bare_size(to: &Addressee) -> u64
         + short_size(b"transaction_id", to.id.as_slice())
 }
 
-// The size of the attribute that names a context.
+/// The size of the attribute that names a context.
 fn context_size(id: u32) -> u64
     ensures size { result ≡ length (attribute_text (codes "context", decimal id)) }
     ensures small { result ≤ 500 }

@@ -15,7 +15,7 @@ use dp_value::{Bytes, Memory};
 use dp_view::{ViewError, source_lines};
 use std::alloc::Global;
 
-// The text of the file of this number.
+/// The text of the file of this number.
 fn text_of(bundle: &Bundle, file: u32) -> Option<&[u8]>
     ensures { option_map (λ t. t.now) result ≡ option_map (λ f. f.text) (slice_get bundle.now.files file) }
 {
@@ -25,7 +25,7 @@ fn text_of(bundle: &Bundle, file: u32) -> Option<&[u8]>
     }
 }
 
-// The text of the file that a value names.
+/// The text of the file that a value names.
 fn text_named<'b>(
     alloc: Global,
     bundle: &'b Bundle,
@@ -40,7 +40,7 @@ fn text_named<'b>(
     }
 }
 
-// The text of the file that is asked for: the one of the moment where none is given.
+/// The text of the file that is asked for: the one of the moment where none is given.
 fn text_asked<'b>(
     alloc: Global,
     bundle: &'b Bundle,
@@ -65,7 +65,7 @@ fn is_zero(line: Option<u32>) -> bool
     }
 }
 
-// Bytes in base64, with padding.
+/// Bytes in base64, with padding.
 fn base64_of(alloc: Global, bytes: &[u8]) -> Result<Bytes, Memory>
     ensures { IfOk result (λ text. text ≡ base64 bytes.now) }
 {
@@ -73,7 +73,7 @@ fn base64_of(alloc: Global, bytes: &[u8]) -> Result<Bytes, Memory>
     Ok(Bytes::of(text.into_bytes()))
 }
 
-// The lines that are asked for of a text.
+/// The lines that are asked for of a text.
 fn lines_response(
     alloc: Global,
     range: &SourceRange,
@@ -88,7 +88,7 @@ fn lines_response(
     limited(respond(alloc, to, attributes, Body::Plain(lines))?)
 }
 
-// The same of the text of the file that is asked for, if there is one.
+/// The same of the text of the file that is asked for, if there is one.
 fn file_response(
     alloc: Global,
     bundle: &Bundle,

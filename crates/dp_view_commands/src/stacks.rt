@@ -16,7 +16,7 @@ use dp_value::{Bytes, Items, Memory};
 use dp_view::{ViewError, contexts, stack};
 use std::alloc::Global;
 
-// The number of frames as an attribute.
+/// The number of frames as an attribute.
 fn depth_attributes(alloc: Global, state: &State) -> Result<Items<(Bytes, Bytes)>, Memory>
     ensures { IfOk result (λ made. (made, body.Nothing) ≡ spec.depth_part state.now) }
 {

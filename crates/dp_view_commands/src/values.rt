@@ -20,7 +20,7 @@ use dp_view::{Paging, ShownValue, ViewError, named_value};
 use dp_view_limits::{limited_context, limited_property};
 use std::alloc::Global;
 
-// How much is shown of values.
+/// How much is shown of values.
 fn paging(features: &Features, most: Option<u32>, page: u32) -> Paging
     ensures { result ≡ spec.paging features.now most page }
 {
@@ -32,7 +32,7 @@ fn paging(features: &Features, most: Option<u32>, page: u32) -> Paging
     }
 }
 
-// The response that shows properties, which it has room for.
+/// The response that shows properties, which it has room for.
 fn filled(
     alloc: Global,
     to: &Addressee,
@@ -45,7 +45,7 @@ fn filled(
     Ok(respond(alloc, to, attributes, Body::Properties(shown))?)
 }
 
-// The same with the number of a context.
+/// The same with the number of a context.
 fn context_filled(
     alloc: Global,
     to: &Addressee,
@@ -80,7 +80,7 @@ pub(crate) fn context_response(
     }
 }
 
-// One property.
+/// One property.
 fn alone(alloc: Global, made: Property) -> Result<Items<Property>, Memory>
     ensures { IfOk result (λ all. all ≡ made ∷ []) }
 {
@@ -89,7 +89,7 @@ fn alone(alloc: Global, made: Property) -> Result<Items<Property>, Memory>
     Ok(Items::of(all))
 }
 
-// The response that shows one property.
+/// The response that shows one property.
 fn property_filled(alloc: Global, to: &Addressee, made: Property) -> Result<Response, ViewError>
     ensures { Gives (spec.response_with to.now.command to.now.id ([], body.Properties (made ∷ []))) result }
 {

@@ -15,7 +15,7 @@ use dp_tree::Bundle;
 use dp_view::ViewError;
 use std::alloc::Global;
 
-// The response to a command that looks at a program, or the code of its refusal.
+/// The response to a command that looks at a program, or the code of its refusal.
 #[tactic(auto, unfolding(crate::specs::Views::view_response, crate::specs::Views::view_refusal))]
 fn look(
     alloc: Global,

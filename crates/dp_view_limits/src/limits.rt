@@ -19,7 +19,7 @@ use dp_value::{Items, Value};
 use dp_view::{Paging, ViewError, context, named_path, property, shown, shown_variables, value_at};
 use std::alloc::Global;
 
-// The property of what stands at a path, in at most so many bytes.
+/// The property of what stands at a path, in at most so many bytes.
 fn property_within(
     alloc: Global,
     state: &State,

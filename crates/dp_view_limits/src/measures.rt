@@ -18,7 +18,7 @@ use dp_state::{Path, Vars};
 use dp_value::{Key, PhpArray, Value};
 use dp_view::{Paging, page_end, page_start, slot_value};
 
-// The length of the full name of an entry, where that of its array is known, and what is left behind its attribute.
+/// The length of the full name of an entry, where that of its array is known, and what is left behind its attribute.
 fn after_full(full: Option<u32>, key: &Key, left: u32) -> Option<(Option<u32>, u32)>
     ensures { spec.LeavesNamed left (spec.full_behind full key.now) result }
 {
@@ -30,7 +30,7 @@ fn after_full(full: Option<u32>, key: &Key, left: u32) -> Option<(Option<u32>, u
     Some((Some(n + (before - rest)), rest))
 }
 
-// What is left behind an entry, of which so many levels of arrays are shown.
+/// What is left behind an entry, of which so many levels of arrays are shown.
 #[cycle(measuring)]
 fn after_entry(
     p: &Paging,
@@ -48,7 +48,7 @@ fn after_entry(
     after_value(p, 0, levels, full, value, rest)
 }
 
-// What is left behind the entry at a position, if there is one.
+/// What is left behind the entry at a position, if there is one.
 #[cycle(measuring)]
 fn after_place(
     p: &Paging,
@@ -67,7 +67,7 @@ fn after_place(
     }
 }
 
-// What is left behind the entries from a position up to another one.
+/// What is left behind the entries from a position up to another one.
 #[cycle(measuring)]
 fn after_entries(
     p: &Paging,
@@ -88,7 +88,7 @@ fn after_entries(
     Some(rest)
 }
 
-// What is left behind what is shown in an array where so many levels are left.
+/// What is left behind what is shown in an array where so many levels are left.
 #[cycle(measuring)]
 fn after_nested(
     p: &Paging,
@@ -109,7 +109,7 @@ fn after_nested(
     after_entries(p, levels - 1, full, array, start, end, left)
 }
 
-// What is left behind what a value adds to its property.
+/// What is left behind what a value adds to its property.
 #[cycle(measuring)]
 fn after_value(
     p: &Paging,
@@ -134,14 +134,14 @@ fn after_value(
     }
 }
 
-// What is left behind a property without names.
+/// What is left behind a property without names.
 fn after_shown(p: &Paging, value: &Value, left: u32) -> Option<u32>
     ensures { spec.Leaves left (spec.named_size p.now None None (data_of value.now)) result }
 {
     after_value(p, p.page, p.depth, None, value, less(left, 21)?)
 }
 
-// What is left behind the rest of a property whose name is counted, of the value at a path.
+/// What is left behind the rest of a property whose name is counted, of the value at a path.
 fn after_path(path: &Path, p: &Paging, value: &Value, left: u32) -> Option<u32>
     ensures { spec.Leaves left (spec.named_size p.now (Some (spec.text_size (names.own_name path.now)))
         (Some (spec.text_size (names.full_name path.now))) (data_of value.now)) result }
@@ -151,7 +151,7 @@ fn after_path(path: &Path, p: &Paging, value: &Value, left: u32) -> Option<u32>
     after_value(p, p.page, p.depth, Some(before - rest), value, rest)
 }
 
-// What is left behind the property of a variable with this value.
+/// What is left behind the property of a variable with this value.
 fn after_named(name: &[u8], p: &Paging, value: &Value, left: u32) -> Option<u32>
     ensures { spec.Leaves left (spec.named_size p.now (Some (spec.text_size (names.variable_name name.now)))
         (Some (spec.text_size (names.variable_name name.now))) (data_of value.now)) result }
@@ -163,7 +163,7 @@ fn after_named(name: &[u8], p: &Paging, value: &Value, left: u32) -> Option<u32>
     after_value(p, p.page, p.depth, Some(size), value, rest)
 }
 
-// What is left behind the property of the variable at a position, if it has a value.
+/// What is left behind the property of the variable at a position, if it has a value.
 fn after_variable(p: &Paging, globals: &Vars, variables: &Vars, at: usize, left: u32) -> Option<u32>
     ensures { spec.Leaves left
         (option_map_or (spec.variable_size p.now globals.now) (slice_get variables.now at) 0) result }
@@ -177,7 +177,7 @@ fn after_variable(p: &Paging, globals: &Vars, variables: &Vars, at: usize, left:
     }
 }
 
-// What is left behind the properties of variables.
+/// What is left behind the properties of variables.
 fn after_variables(p: &Paging, globals: &Vars, variables: &Vars, left: u32) -> Option<u32>
     ensures { spec.Leaves left (sum_by (spec.variable_size p.now globals.now) variables.now) result }
 {

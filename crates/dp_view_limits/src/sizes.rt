@@ -31,14 +31,14 @@ pub(crate) fn after_text(bytes: &[u8], left: u32) -> Option<u32>
     less(left, escaped_size(bytes))
 }
 
-// The base64 of bytes.
+/// The base64 of bytes.
 fn after_base64(bytes: &[u8], left: u32) -> Option<u32>
     ensures { spec.Leaves left (spec.text_size (base64 bytes.now)) result }
 {
     less(left, base64_size(bytes))
 }
 
-// The decimal of a number.
+/// The decimal of a number.
 fn after_number(n: u64, left: u32) -> Option<u32>
     ensures { spec.Leaves left (spec.text_size (decimal n)) result }
 {
@@ -64,7 +64,7 @@ pub(crate) fn after_key(key: &Key, left: u32) -> Option<u32>
     }
 }
 
-// How long a byte between the quotes of an index is.
+/// How long a byte between the quotes of an index is.
 fn quoted_byte_size(b: u8) -> u64
     ensures { result ≡ spec.text_size (in_quotes b) }
 {
@@ -81,7 +81,7 @@ fn quoted_byte_size(b: u8) -> u64
     }
 }
 
-// A text between the quotes of an index.
+/// A text between the quotes of an index.
 fn after_quoted(bytes: &[u8], left: u32) -> Option<u32>
     ensures { spec.Leaves left (spec.text_size (flat_map in_quotes bytes.now)) result }
 {
@@ -92,7 +92,7 @@ fn after_quoted(bytes: &[u8], left: u32) -> Option<u32>
     Some(rest)
 }
 
-// An integer between brackets.
+/// An integer between brackets.
 #[tactic(auto, using(crate::proofs::Escapes::int_index_size))]
 fn after_int_index(n: i64, left: u32) -> Option<u32>
     ensures { spec.Leaves left (spec.text_size (names.int_index n)) result }
@@ -100,7 +100,7 @@ fn after_int_index(n: i64, left: u32) -> Option<u32>
     after_int(n, less(left, 2)?)
 }
 
-// A text between brackets and quotes.
+/// A text between brackets and quotes.
 #[tactic(auto, using(crate::proofs::Escapes::text_index_size))]
 fn after_text_index(bytes: &[u8], left: u32) -> Option<u32>
     ensures { spec.Leaves left (spec.text_size (names.text_index bytes.now)) result }
@@ -118,7 +118,7 @@ pub(crate) fn after_index(key: &Key, left: u32) -> Option<u32>
     }
 }
 
-// The indices of keys.
+/// The indices of keys.
 fn after_indices(keys: &[Key], left: u32) -> Option<u32>
     ensures { spec.Leaves left (spec.text_size (flat_map names.index_of keys.now)) result }
 {

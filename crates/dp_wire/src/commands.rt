@@ -16,7 +16,7 @@ use std::ops::Range;
 /// The most bytes of a command, without its NUL.
 pub const COMMAND_LIMIT: usize = 1_048_576;
 
-// One byte more than a command may have.
+/// One byte more than a command may have.
 const TOO_LONG: WireError = WireError::TooLong { length: 1_048_577 };
 
 /// Splits a stream into commands, each ended by a NUL. Contracts see the bytes that are held, and how many were dropped
@@ -87,7 +87,7 @@ impl Commands {
         Ok(())
     }
 
-    // Gives up the bytes that were dropped, where they are at least half: this costs no more than they did.
+    /// Gives up the bytes that were dropped, where they are at least half: this costs no more than they did.
     fn forget_dropped(&mut self)
         ensures { self.new ≡ self.old }
     {
@@ -152,7 +152,7 @@ pub(crate) fn drop_first(bytes: &mut Vec<u8>, count: usize)
     bytes.drain(..count);
 }
 
-// The place of the first NUL once the piece follows what is held.
+/// The place of the first NUL once the piece follows what is held.
 fn first_with(first: Option<usize>, held: &[u8], piece: &[u8]) -> Option<usize>
     requires { FirstNul held.now first }
     ensures { FirstNul (held.now ++ piece.now) result }

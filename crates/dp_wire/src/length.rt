@@ -43,7 +43,7 @@ pub(crate) fn read_length(bytes: &[u8]) -> Length
     Length::Unfinished
 }
 
-// The digit that the byte is, where a length whose digits so far spell this number goes on with it.
+/// The digit that the byte is, where a length whose digits so far spell this number goes on with it.
 fn next_digit(number: usize, byte: u8) -> Option<usize>
     ensures some { IfSome result (λ digit. (digit < 10) × (byte ≡ 48 + digit) × (0 < number + digit)) }
     ensures none { IsNone result → MayFollow number byte → (byte ≡ 0) × (0 < number) }

@@ -75,7 +75,7 @@ impl Packets {
         Ok(())
     }
 
-    // Gives up the bytes that were dropped, where they are at least half: this costs no more than they did.
+    /// Gives up the bytes that were dropped, where they are at least half: this costs no more than they did.
     fn forget_dropped(&mut self)
         ensures { self.new ≡ self.old }
     {
@@ -135,7 +135,7 @@ impl Packets {
         }
     }
 
-    // The place in the stream of the byte held at this index.
+    /// The place in the stream of the byte held at this index.
     fn place(&self, index: usize) -> u64
         ensures { result ≡ place_of self.now index }
     {

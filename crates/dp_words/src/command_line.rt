@@ -79,7 +79,7 @@ pub enum Command<'a> {
     Show,
 }
 
-// Whether the bytes are the key of an IDE.
+/// Whether the bytes are the key of an IDE.
 fn is_key(key: &[u8]) -> bool
     ensures { IsTrue result ↔ IsKey key.now }
 {
@@ -110,7 +110,7 @@ pub(crate) const DEFAULT_BOUND: u64 = 1_000_000;
 /// The most moments that the words may ask for.
 pub(crate) const BOUND_LIMIT: u64 = 100_000_000;
 
-// The bound that a word is: a decimal from 1 to the most.
+/// The bound that a word is: a decimal from 1 to the most.
 fn read_bound(word: &str) -> Option<u64>
     ensures { result ≡ bound_of word.now }
 {
@@ -125,7 +125,7 @@ fn read_bound(word: &str) -> Option<u64>
     }
 }
 
-// The program of these files, where they are names of files.
+/// The program of these files, where they are names of files.
 fn program_of(program: Program<'_>) -> Option<Program<'_>>
     ensures found { IfSome result (λ p. (invocation_seen p ≡ invocation_seen program.entry)
         × AreFileWords (invocation_seen p).names) }
@@ -137,7 +137,7 @@ fn program_of(program: Program<'_>) -> Option<Program<'_>>
     None
 }
 
-// The bound that a word gives, or that which stands where none is given.
+/// The bound that a word gives, or that which stands where none is given.
 fn bound_given(word: Option<&str>) -> Option<u64>
     ensures { result ≡ bound_in (option_map (λ w. w.now) word.entry) }
 {
@@ -147,7 +147,7 @@ fn bound_given(word: Option<&str>) -> Option<u64>
     }
 }
 
-// The program of the words, as names, with their bound.
+/// The program of the words, as names, with their bound.
 fn program_in<'a>(parsed: Parsed<'a>) -> Option<Program<'a>>
     ensures { option_map invocation_seen result ≡ invocation_in (parsed_told parsed.entry) }
 {
@@ -158,7 +158,7 @@ fn program_in<'a>(parsed: Parsed<'a>) -> Option<Program<'a>>
     })
 }
 
-// What the words behind `run` ask for.
+/// What the words behind `run` ask for.
 fn read_run<'a>(parsed: Parsed<'a>) -> Option<Program<'a>>
     ensures found { IfSome result (λ p. (behind : List (List ℕ))
         → invocation_of behind ≡ invocation_in (parsed_told parsed.entry)
@@ -172,7 +172,7 @@ fn read_run<'a>(parsed: Parsed<'a>) -> Option<Program<'a>>
     }
 }
 
-// The session of this key over the program of these files.
+/// The session of this key over the program of these files.
 fn talk_of<'a>(key: &'a str, program: Program<'a>) -> Option<Talk<'a>>
     ensures found { IfSome result (λ t. (t.key.now ≡ key.now)
         × (invocation_seen t.program ≡ invocation_seen program.entry)
@@ -191,7 +191,7 @@ fn talk_of<'a>(key: &'a str, program: Program<'a>) -> Option<Talk<'a>>
     }
 }
 
-// What the words behind `talk` ask for.
+/// What the words behind `talk` ask for.
 fn read_talk<'a>(parsed: Parsed<'a>) -> Option<Talk<'a>>
     ensures found { IfSome result (λ t. (behind : List (List ℕ))
         → invocation_of behind ≡ invocation_in (parsed_told parsed.entry)
@@ -209,10 +209,10 @@ fn read_talk<'a>(parsed: Parsed<'a>) -> Option<Talk<'a>>
     }
 }
 
-// The most that a port may be.
+/// The most that a port may be.
 const PORT_LIMIT: u64 = 65_535;
 
-// The port that a word is: a decimal from 1 to the most.
+/// The port that a word is: a decimal from 1 to the most.
 fn read_port(word: &str) -> Option<u16>
     ensures { result ≡ port_of word.now }
 {
@@ -227,7 +227,7 @@ fn read_port(word: &str) -> Option<u16>
     }
 }
 
-// The address that two words are.
+/// The address that two words are.
 fn address_of<'a>(host: &'a str, port: &str) -> Option<Address<'a>>
     ensures found { IfSome result (λ a. (a.host.now ≡ host.now) × IsHostWord host.now
         × (port_of port.now ≡ Some a.port)) }
@@ -245,7 +245,7 @@ fn address_of<'a>(host: &'a str, port: &str) -> Option<Address<'a>>
     }
 }
 
-// The session of a key over a program, and where its IDE waits.
+/// The session of a key over a program, and where its IDE waits.
 fn engine_of<'a>(
     host: &'a str,
     port: &str,
@@ -268,7 +268,7 @@ fn engine_of<'a>(
     }
 }
 
-// What the words behind `engine` ask for.
+/// What the words behind `engine` ask for.
 fn read_engine<'a>(parsed: Parsed<'a>) -> Option<Engine<'a>>
     ensures found { IfSome result (λ e. (behind : List (List ℕ))
         → invocation_of behind ≡ invocation_in (parsed_told parsed.entry)
@@ -290,7 +290,7 @@ fn read_engine<'a>(parsed: Parsed<'a>) -> Option<Engine<'a>>
     }
 }
 
-// The script that is played over a link to a port.
+/// The script that is played over a link to a port.
 fn ide_of<'a>(number: &str, script: &'a str) -> Option<Ide<'a>>
     ensures found { IfSome result (λ i. (i.script.now ≡ script.now) × (port_of number.now ≡ Some i.port)
         × IsFileWord script.now) }
@@ -305,7 +305,7 @@ fn ide_of<'a>(number: &str, script: &'a str) -> Option<Ide<'a>>
     }
 }
 
-// The script of two words.
+/// The script of two words.
 fn script_of<'a>(words: &'a [String]) -> Option<Ide<'a>>
     ensures found { IfSome result (λ i. (number : List ℕ) × (map string_bytes words.now ≡ number ∷ i.script.now ∷ [])
         × (port_of number ≡ Some i.port) × IsFileWord i.script.now) }
@@ -318,7 +318,7 @@ fn script_of<'a>(words: &'a [String]) -> Option<Ide<'a>>
     }
 }
 
-// What `ide` asks for, where no bound is given.
+/// What `ide` asks for, where no bound is given.
 fn read_ide<'a>(parsed: Parsed<'a>) -> Option<Ide<'a>>
     ensures found { IfSome result (λ i. (words : List (List ℕ)) → IsParsed words (parsed_told parsed.entry)
         → parsed.entry.name.now ≡ codes "ide"
@@ -333,7 +333,7 @@ fn read_ide<'a>(parsed: Parsed<'a>) -> Option<Ide<'a>>
     script_of(parsed.words)
 }
 
-// The events of a list over the program of these files.
+/// The events of a list over the program of these files.
 fn replay_of<'a>(events: &'a str, program: Program<'a>) -> Option<Replay<'a>>
     ensures found { IfSome result (λ r. (r.events.now ≡ events.now)
         × (invocation_seen r.program ≡ invocation_seen program.entry)
@@ -349,7 +349,7 @@ fn replay_of<'a>(events: &'a str, program: Program<'a>) -> Option<Replay<'a>>
     }
 }
 
-// What the words behind `replay` ask for.
+/// What the words behind `replay` ask for.
 fn read_replay<'a>(parsed: Parsed<'a>) -> Option<Replay<'a>>
     ensures found { IfSome result (λ r. (behind : List (List ℕ))
         → invocation_of behind ≡ invocation_in (parsed_told parsed.entry)
@@ -366,14 +366,14 @@ fn read_replay<'a>(parsed: Parsed<'a>) -> Option<Replay<'a>>
     }
 }
 
-// Whether nothing stands behind the command.
+/// Whether nothing stands behind the command.
 fn is_alone(parsed: Parsed<'_>) -> bool
     ensures { IsTrue result ↔ (((parsed_told parsed.entry).bound ≡ None) × ((parsed_told parsed.entry).words ≡ [])) }
 {
     parsed.bound.is_none() && parsed.words.is_empty()
 }
 
-// What `show` asks for, behind which nothing stands.
+/// What `show` asks for, behind which nothing stands.
 fn read_show<'a>(parsed: Parsed<'a>) -> Option<Command<'a>>
     ensures found { IfSome result (λ command. (words : List (List ℕ)) → IsParsed words (parsed_told parsed.entry)
         → parsed.entry.name.now ≡ codes "show"
@@ -388,7 +388,7 @@ fn read_show<'a>(parsed: Parsed<'a>) -> Option<Command<'a>>
     }
 }
 
-// What is asked for that is read so.
+/// What is asked for that is read so.
 fn command_of<'a>(parsed: Parsed<'a>) -> Option<Command<'a>>
     ensures found { IfSome result (λ command. (words : List (List ℕ)) → IsParsed words (parsed_told parsed.entry)
         → IsInvocation words (task_of command)) }

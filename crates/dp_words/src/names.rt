@@ -46,7 +46,7 @@ pub(crate) fn is_file(word: &str) -> bool
     is_file_name(word.as_bytes()) && !is_option(word.as_bytes())
 }
 
-// Whether each word is the name of a file, and asks for no option.
+/// Whether each word is the name of a file, and asks for no option.
 fn are_named(words: &[String]) -> bool
     ensures { IsTrue result ↔ All (λ word. IsFileWord (string_bytes word)) words.now }
 {
@@ -58,7 +58,7 @@ fn are_named(words: &[String]) -> bool
     true
 }
 
-// Whether a name is apart from others.
+/// Whether a name is apart from others.
 fn is_apart(name: &str, others: &[String]) -> bool
     ensures { result ≡ list_all (λ other. not (bytes_eq (bare name.now) (bare (string_bytes other)))) others.now }
 {
@@ -67,7 +67,7 @@ fn is_apart(name: &str, others: &[String]) -> bool
         .all(|other| !are_alike(name.as_bytes(), other.as_bytes()))
 }
 
-// Whether no two names are the same without one leading `/` of each.
+/// Whether no two names are the same without one leading `/` of each.
 #[tactic(auto, using(crate::proofs::NameLaws::apart_cons))]
 fn are_apart(names: &[String]) -> bool
     ensures { result ≡ all_apart (map string_bytes names.now) }

@@ -24,7 +24,7 @@ pub(crate) struct Parsed<'a> {
     pub(crate) words: &'a [String],
 }
 
-// One word or more.
+/// One word or more.
 fn words_argument<'a>(alloc: Global) -> Arg<'a>
     ensures rule { rule_of result ≡ shape.words_rule }
     ensures local { result.global ≡ false }
@@ -35,7 +35,7 @@ fn words_argument<'a>(alloc: Global) -> Arg<'a>
         .required(true)
 }
 
-// A bound before the words.
+/// A bound before the words.
 fn bound_argument<'a>(alloc: Global) -> Arg<'a>
     ensures rule { rule_of result ≡ shape.bound_rule }
     ensures local { result.global ≡ false }
@@ -45,14 +45,14 @@ fn bound_argument<'a>(alloc: Global) -> Arg<'a>
         .action(ArgAction::Set)
 }
 
-// A command with words behind it.
+/// A command with words behind it.
 fn unbounded<'a>(alloc: Global, name: &'a str) -> Result<Command<'a>, AllocError>
     ensures { IfOk result (λ c. shape_of c ≡ shape.unbounded name.entry.now) }
 {
     Command::new(alloc, name).arg(words_argument(alloc))
 }
 
-// A command with a bound, if it is given, and words behind it.
+/// A command with a bound, if it is given, and words behind it.
 fn bounded<'a>(alloc: Global, name: &'a str) -> Result<Command<'a>, AllocError>
     ensures { IfOk result (λ c. shape_of c ≡ shape.bounded name.entry.now) }
 {
@@ -61,7 +61,7 @@ fn bounded<'a>(alloc: Global, name: &'a str) -> Result<Command<'a>, AllocError>
         .arg(words_argument(alloc))
 }
 
-// The program's own name, and how its words are read.
+/// The program's own name, and how its words are read.
 fn settings<'a>(alloc: Global) -> Command<'a>
     ensures { app_of result ≡ shape.settings }
 {
@@ -73,7 +73,7 @@ fn settings<'a>(alloc: Global) -> Command<'a>
         .subcommand_required(true)
 }
 
-// The commands of the program.
+/// The commands of the program.
 fn program<'a>(alloc: Global) -> Result<Command<'a>, AllocError>
     ensures { IfOk result (λ c. app_of c ≡ shape.program) }
 {
@@ -86,7 +86,7 @@ fn program<'a>(alloc: Global) -> Result<Command<'a>, AllocError>
         .subcommand(Command::new(alloc, "show"))
 }
 
-// How many words stand behind the command, by its matches.
+/// How many words stand behind the command, by its matches.
 fn word_count(inner: &ArgMatches) -> usize
     ensures { result ≡ count_in (rows_of (found_of inner.now)) }
 {
@@ -96,14 +96,14 @@ fn word_count(inner: &ArgMatches) -> usize
     }
 }
 
-// The bound that stands before them, by its matches.
+/// The bound that stands before them, by its matches.
 fn bound_in<'a>(inner: &ArgMatches<'a>) -> Option<&'a str>
     ensures { option_map (λ word. word.now) result ≡ first_of (codes "bound") (rows_of (found_of inner.now)) }
 {
     inner.get_str("bound")
 }
 
-// The last of the words.
+/// The last of the words.
 fn last_words(words: &[String], count: usize) -> &[String]
     requires { count ≤ length words.now }
     ensures { result.now ≡ drop (length words.now - count) words.now }
@@ -111,7 +111,7 @@ fn last_words(words: &[String], count: usize) -> &[String]
     &words[words.len() - count..]
 }
 
-// What was read, by its matches.
+/// What was read, by its matches.
 fn parsed_in<'a>(words: &'a [String], matches: &ArgMatches<'a>) -> Option<Parsed<'a>>
     requires rows { AreRows (map string_bytes words.now) matches.now }
     ensures parsed { IfSome result (λ p. IsParsed (map string_bytes words.entry.now) (parsed_told p)) }
@@ -141,7 +141,7 @@ pub(crate) fn parse<'a>(alloc: Global, words: &'a [String]) -> Result<Option<Par
     }
 }
 
-// Words that are not read, unless memory ran out.
+/// Words that are not read, unless memory ran out.
 fn refused<'a>(why: Error) -> Result<Option<Parsed<'a>>, Memory>
     ensures { MatchResult result (λ read. (read ≡ None) × (kind_of why ≢ OutOfMemory))
         (λ _. kind_of why ≡ OutOfMemory) }

@@ -7,7 +7,7 @@ ghost use Rattle.dp_words.specs.Plain as spec;
 
 use crate::names::is_option;
 
-// Whether a word is not empty and asks for no option.
+/// Whether a word is not empty and asks for no option.
 fn is_plain(word: &str) -> bool
     ensures { result ≡ spec.is_plain word.now }
 {
@@ -20,21 +20,21 @@ fn all_plain(words: &[String]) -> bool
     words.iter().all(|word| is_plain(word.as_str()))
 }
 
-// Whether a command of this name may have a bound.
+/// Whether a command of this name may have a bound.
 fn has_bound(name: &str) -> bool
     ensures { result ≡ spec.has_bound name.now }
 {
     name == "run" || name == "talk" || name == "engine" || name == "replay"
 }
 
-// Whether a word and others are plain.
+/// Whether a word and others are plain.
 fn are_both(word: &str, others: &[String]) -> bool
     ensures { result ≡ (spec.is_plain word.now && list_all (λ other. spec.is_plain (string_bytes other)) others.now) }
 {
     is_plain(word) && all_plain(others)
 }
 
-// Whether three parts of the words behind such a command are plain, but for a bound in its place.
+/// Whether three parts of the words behind such a command are plain, but for a bound in its place.
 fn are_fit(word: &str, number: &str, others: &[String]) -> bool
     ensures { result ≡ (if bytes_eq word.now (codes "--bound")
         then (spec.is_plain number.now && list_all (λ other. spec.is_plain (string_bytes other)) others.now)
@@ -48,7 +48,7 @@ fn are_fit(word: &str, number: &str, others: &[String]) -> bool
     }
 }
 
-// Whether the words behind such a command are plain, but for a bound in its place.
+/// Whether the words behind such a command are plain, but for a bound in its place.
 #[tactic(auto, using(crate::proofs::NameLaws::plain_map))]
 fn are_bounded(words: &[String]) -> bool
     ensures { result ≡ spec.are_bounded (map string_bytes words.now) }

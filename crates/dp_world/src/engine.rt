@@ -121,7 +121,7 @@ impl<'a> Engine<'a> {
         self.answer_all(alloc, commands, steps)
     }
 
-    // Answers whole commands, each with its NUL, up to one that ends the session.
+    /// Answers whole commands, each with its NUL, up to one that ends the session.
     fn answer_all<L: Ledger>(
         &mut self,
         alloc: Global,
@@ -140,7 +140,7 @@ impl<'a> Engine<'a> {
         Ok(())
     }
 
-    // Answers a command, unless one has ended the session.
+    /// Answers a command, unless one has ended the session.
     fn answer<L: Ledger>(
         &mut self,
         alloc: Global,
@@ -194,7 +194,7 @@ impl<'a> Engine<'a> {
     }
 }
 
-// Puts the packets of these texts behind what is there.
+/// Puts the packets of these texts behind what is there.
 fn put_packets(alloc: Global, texts: &[Bytes], sent: &mut Vec<u8>) -> Result<(), Memory>
     requires { AllByRecursion IsPacketText texts.now }
     ensures { OnOk result (sent.new.items ≡ sent.old.items ++ flat_map packet_frame texts.now) }
@@ -206,7 +206,7 @@ fn put_packets(alloc: Global, texts: &[Bytes], sent: &mut Vec<u8>) -> Result<(),
     Ok(())
 }
 
-// Runs the program on to its end, unless a command has killed it.
+/// Runs the program on to its end, unless a command has killed it.
 fn run_out<L: Ledger>(
     session: Session<'_>,
     ended: Option<SessionEnd>,
@@ -227,7 +227,7 @@ fn run_out<L: Ledger>(
     }
 }
 
-// Runs the program on to its end.
+/// Runs the program on to its end.
 fn run_on<L: Ledger>(
     session: Session<'_>,
     own: &mut Vec<u8>,
@@ -241,7 +241,7 @@ fn run_on<L: Ledger>(
     Ok(Some(outcome))
 }
 
-// The first of whole commands, without its NUL, and those behind it; none of no commands.
+/// The first of whole commands, without its NUL, and those behind it; none of no commands.
 fn first_command(commands: &[u8]) -> Option<(&[u8], &[u8])>
     requires { rest_of commands.now ≡ [] }
     ensures { MatchOption result (commands_in commands.now ≡ []) (λ first.

@@ -22,7 +22,7 @@ fn digit(number: u8) -> u8
     }
 }
 
-// Two digits for each byte.
+/// Two digits for each byte.
 fn put_digits(text: &mut Vec<u8>, bytes: &[u8]) -> Result<(), Memory>
     ensures { OnOk result (text.new.items
         ≡ text.old.items ++ flat_map (λ b. digit_of (b / 16) ∷ digit_of (b % 16) ∷ []) bytes.now) }
@@ -60,7 +60,7 @@ fn put(text: &mut Vec<u8>, bytes: &[u8]) -> Result<(), Memory>
     Ok(())
 }
 
-// A line of a word and bytes in hexadecimal.
+/// A line of a word and bytes in hexadecimal.
 fn hex_line(text: &mut Vec<u8>, word: &[u8], bytes: &[u8]) -> Result<(), Memory>
     ensures { OnOk result (text.new.items ≡ text.old.items ++ spec.line word.now (hex bytes.now)) }
 {
@@ -70,7 +70,7 @@ fn hex_line(text: &mut Vec<u8>, word: &[u8], bytes: &[u8]) -> Result<(), Memory>
     put(text, b"\n")
 }
 
-// A line of a word and a number.
+/// A line of a word and a number.
 fn number_line(text: &mut Vec<u8>, word: &[u8], number: u64) -> Result<(), Memory>
     ensures { OnOk result (text.new.items ≡ text.old.items ++ spec.line word.now (decimal number)) }
 {
@@ -82,7 +82,7 @@ fn number_line(text: &mut Vec<u8>, word: &[u8], number: u64) -> Result<(), Memor
 
 // ---- an IDE that asked
 
-// A line of a word, a link and the host of its IDE.
+/// A line of a word, a link and the host of its IDE.
 fn host_line(text: &mut Vec<u8>, word: &[u8], link: u32, host: &[u8]) -> Result<(), Memory>
     ensures { OnOk result (text.new.items
         ≡ text.old.items ++ spec.line word.now (decimal link ++ codes " from " ++ host.now)) }
@@ -110,7 +110,7 @@ pub(crate) fn registration(
 
 // ---- an engine that came
 
-// The line of an engine, as far as its key.
+/// The line of an engine, as far as its key.
 fn put_session(text: &mut Vec<u8>, link: u32, key: &[u8]) -> Result<(), Memory>
     ensures { OnOk result (text.new.items
         ≡ text.old.items ++ (codes "session " ++ decimal link ++ codes " key " ++ key.now)) }

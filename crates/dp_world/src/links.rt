@@ -24,7 +24,7 @@ use indexmap::IndexMap;
 use std::alloc::Global;
 use std::sync::ledger::Ledger;
 
-// The next bytes of the engine of a link, at most so many; none where it has no session.
+/// The next bytes of the engine of a link, at most so many; none where it has no session.
 fn read(
     alloc: Global,
     links: &mut IndexMap<u32, Shown>,
@@ -77,7 +77,7 @@ pub(crate) fn makes(act: &Act) -> bool
     }
 }
 
-// What is shown of an engine that came with a key, by what the proxy was reported.
+/// What is shown of an engine that came with a key, by what the proxy was reported.
 fn joined<'a>(
     alloc: Global,
     bundle: &'a Bundle,
@@ -113,7 +113,7 @@ fn joined<'a>(
     }
 }
 
-// What is shown of a link that an event may make, by what the proxy was reported.
+/// What is shown of a link that an event may make, by what the proxy was reported.
 fn opened<'a>(
     alloc: Global,
     bundle: &'a Bundle,
@@ -139,7 +139,7 @@ fn opened<'a>(
     }
 }
 
-// Puts what is shown of a link that was not made behind the others, if something is.
+/// Puts what is shown of a link that was not made behind the others, if something is.
 fn put<'a>(
     links: &mut IndexMap<u32, Shown<'a>>,
     link: u32,

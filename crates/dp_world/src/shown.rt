@@ -50,7 +50,7 @@ impl<'a> Shown<'a> {
         }
     }
 
-    // An IDE that asked is sent this.
+    /// An IDE that asked is sent this.
     fn reply_with(&mut self, frame: Bytes)
         ensures { self.new ≡ replied self.old frame }
     {
@@ -59,7 +59,7 @@ impl<'a> Shown<'a> {
         }
     }
 
-    // The IDE of a session receives these frames.
+    /// The IDE of a session receives these frames.
     fn receive(&mut self, frames: &[u8])
         requires { IsTaken self.old (told.ToIde frames.now) }
         ensures { self.new ≡ received self.old frames.now }
@@ -75,7 +75,7 @@ impl<'a> Shown<'a> {
         }
     }
 
-    // The engine of a session takes these whole commands.
+    /// The engine of a session takes these whole commands.
     fn take<L: Ledger>(
         &mut self,
         alloc: Global,

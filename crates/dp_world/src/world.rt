@@ -27,7 +27,7 @@ pub(crate) struct World<'a> {
 }
 
 impl<'a> World<'a> {
-    // Before any event. Takes no memory.
+    /// Before any event. Takes no memory.
     fn new(alloc: Global) -> World<'a>
         ensures { (bundle : Program) (bound : ℕ) → WorldStands bundle bound [] result.proxy result.links.entries }
     {
@@ -37,7 +37,7 @@ impl<'a> World<'a> {
         }
     }
 
-    // Takes one event. Once memory ran out it has failed for good.
+    /// Takes one event. Once memory ran out it has failed for good.
     fn take<L: Ledger>(
         &mut self,
         alloc: Global,

@@ -23,7 +23,7 @@ use indexmap::IndexMap;
 use std::alloc::Global;
 use std::sync::ledger::Ledger;
 
-// Puts the lines of a session, whose program runs on to its end.
+/// Puts the lines of a session, whose program runs on to its end.
 fn session<L: Ledger>(
     text: &mut Vec<u8>,
     link: u32,
@@ -41,7 +41,7 @@ fn session<L: Ledger>(
     service(text, &end)
 }
 
-// Puts the lines of one link.
+/// Puts the lines of one link.
 fn put_lines<L: Ledger>(
     text: &mut Vec<u8>,
     link: u32,
@@ -73,7 +73,7 @@ fn put_lines<L: Ledger>(
     }
 }
 
-// Writes the lines of one link.
+/// Writes the lines of one link.
 fn write_one<K: Sink, L: Ledger>(
     alloc: Global,
     link: u32,
@@ -93,7 +93,7 @@ fn write_one<K: Sink, L: Ledger>(
     }
 }
 
-// Writes the lines of these links, in their order.
+/// Writes the lines of these links, in their order.
 fn write_all<K: Sink, L: Ledger>(
     alloc: Global,
     links: IndexMap<u32, Shown>,

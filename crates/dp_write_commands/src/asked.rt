@@ -53,7 +53,7 @@ fn null_in(bytes: &[u8]) -> Option<Given>
     }
 }
 
-// What bytes give by a type.
+/// What bytes give by a type.
 fn given_as(kind: &[u8], bytes: &[u8]) -> Option<Given>
     ensures { option_map (value_of_given bytes.now) result ≡ spec.value_as kind.now bytes.now }
 {
@@ -72,7 +72,7 @@ fn given_as(kind: &[u8], bytes: &[u8]) -> Option<Given>
     None
 }
 
-// The same where the type may be missing.
+/// The same where the type may be missing.
 fn given_by(kind: &Option<Bytes>, bytes: &[u8]) -> Option<Given>
     ensures { option_map (value_of_given bytes.now) result ≡ spec.value_given kind.now bytes.now }
 {
@@ -82,7 +82,7 @@ fn given_by(kind: &Option<Bytes>, bytes: &[u8]) -> Option<Given>
     }
 }
 
-// Whether a length that is given is that of the bytes.
+/// Whether a length that is given is that of the bytes.
 fn has_length(given: Option<u32>, bytes: &[u8]) -> bool
     ensures { result ≡ spec.has_length given bytes.now }
 {
@@ -113,7 +113,7 @@ pub(crate) fn value_of(alloc: Global, given: Given, bytes: &[u8]) -> Result<Valu
     }
 }
 
-// Whether nothing is written to a variable of this name.
+/// Whether nothing is written to a variable of this name.
 fn is_reserved(name: &[u8]) -> bool
     ensures { result ≡ spec.is_reserved name.now }
 {
@@ -147,7 +147,7 @@ pub(crate) fn path_asked(
     }
 }
 
-// Why there is no tree: 206, or out of memory.
+/// Why there is no tree: 206, or out of memory.
 fn no_expression(why: ParseError) -> ViewError
     ensures { result ≡ error_of why }
 {

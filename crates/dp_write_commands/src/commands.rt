@@ -31,7 +31,7 @@ pub struct Written {
     pub write: Write,
 }
 
-// A response where what it tells was done.
+/// A response where what it tells was done.
 fn if_done(done: Result<(), ViewError>, response: Response) -> Result<Response, ViewError>
     ensures { result ≡ with_response response done }
 {
@@ -41,7 +41,7 @@ fn if_done(done: Result<(), ViewError>, response: Response) -> Result<Response, 
     }
 }
 
-// Gives a place a value, and tells it.
+/// Gives a place a value, and tells it.
 #[tactic(auto, using(crate::proofs::MadeWrites::place_tried))]
 fn make_place(
     alloc: Global,
@@ -62,7 +62,7 @@ fn make_place(
     if_done(done, response)
 }
 
-// Keeps what an evaluation left, where it is reported.
+/// Keeps what an evaluation left, where it is reported.
 fn keep(
     made: Result<Response, ViewError>,
     after: State,
@@ -83,7 +83,7 @@ fn keep(
     }
 }
 
-// Evaluates an expression, and tells its value.
+/// Evaluates an expression, and tells its value.
 #[tactic(auto, using(crate::proofs::MadeWrites::evaluation_tried))]
 fn make_evaluation(
     alloc: Global,
@@ -100,7 +100,7 @@ fn make_evaluation(
     keep(made, after, state)
 }
 
-// A response with the write that it tells.
+/// A response with the write that it tells.
 fn told(made: Result<Response, ViewError>, write: Write) -> Result<Written, ViewError>
     ensures { result ≡ with_write write made }
 {
@@ -110,7 +110,7 @@ fn told(made: Result<Response, ViewError>, write: Write) -> Result<Written, View
     }
 }
 
-// property_set of a value at a path.
+/// property_set of a value at a path.
 fn put_property(
     alloc: Global,
     bundle: &Bundle,
@@ -140,7 +140,7 @@ fn put_property(
     told(made, write)
 }
 
-// property_set of what is given at a path.
+/// property_set of what is given at a path.
 fn set_property(
     alloc: Global,
     bundle: &Bundle,
@@ -162,7 +162,7 @@ fn set_property(
     }
 }
 
-// property_set of what is given.
+/// property_set of what is given.
 fn place_property(
     alloc: Global,
     bundle: &Bundle,
@@ -185,7 +185,7 @@ fn place_property(
     }
 }
 
-// property_set.
+/// property_set.
 fn write_property(
     alloc: Global,
     bundle: &Bundle,
@@ -205,7 +205,7 @@ fn write_property(
     }
 }
 
-// eval of an expression.
+/// eval of an expression.
 fn evaluate(
     alloc: Global,
     bundle: &Bundle,
@@ -223,7 +223,7 @@ fn evaluate(
     told(made, Write::Evaluate(e))
 }
 
-// eval.
+/// eval.
 fn write_evaluation(
     alloc: Global,
     bundle: &Bundle,
@@ -241,7 +241,7 @@ fn write_evaluation(
     }
 }
 
-// The same without what is known of responses and codes.
+/// The same without what is known of responses and codes.
 #[tactic(auto, unfolding(crate::specs::Asked::write_asked, crate::specs::Responses::write_response))]
 fn make_write(
     alloc: Global,

@@ -11,7 +11,7 @@ use dp_value::{Key, Memory, Value};
 use dp_view::ViewError;
 use std::alloc::Global;
 
-// Keys that are there.
+/// Keys that are there.
 fn given_keys(alloc: Global, keys: &[Key]) -> Result<Vec<Option<Key>>, Memory>
     ensures { IfOk result (λ given. given.items ≡ all_given keys.now) }
 {
@@ -22,7 +22,7 @@ fn given_keys(alloc: Global, keys: &[Key]) -> Result<Vec<Option<Key>>, Memory>
     Ok(given)
 }
 
-// Gives a place under keys a value, where it can hold it.
+/// Gives a place under keys a value, where it can hold it.
 fn put_keyed(
     state: &mut State,
     level: usize,
@@ -41,7 +41,7 @@ fn put_keyed(
     }
 }
 
-// Gives a place that begins at a variable of the frame at a level a value.
+/// Gives a place that begins at a variable of the frame at a level a value.
 fn put_at(
     alloc: Global,
     state: &mut State,

@@ -16,10 +16,10 @@ use dp_view_limits::limited_shown;
 use dp_wire::PACKET_LIMIT;
 use std::alloc::Global;
 
-// The most bytes of a packet's text.
+/// The most bytes of a packet's text.
 const LIMIT: u32 = PACKET_LIMIT as u32;
 
-// That a command succeeds, as an attribute.
+/// That a command succeeds, as an attribute.
 fn attributes(alloc: Global) -> Result<Items<(Bytes, Bytes)>, Memory>
     ensures { IfOk result (λ made. made ≡ (codes "success", codes "1") ∷ []) }
 {
@@ -45,7 +45,7 @@ pub(crate) fn success(alloc: Global, to: &Addressee, body: Body) -> Result<Respo
     })
 }
 
-// How much is shown of a value.
+/// How much is shown of a value.
 fn paging(features: &Features) -> Paging
     ensures { result ≡ spec.paging features.now }
 {
@@ -57,7 +57,7 @@ fn paging(features: &Features) -> Paging
     }
 }
 
-// How many bytes the value may have in the response to an evaluation.
+/// How many bytes the value may have in the response to an evaluation.
 #[tactic(auto, using(crate::proofs::Sizes::around_is))]
 fn room(to: &Addressee) -> u32
     ensures { result + around to.now.command to.now.id ≡ packet_limit }
@@ -67,7 +67,7 @@ fn room(to: &Addressee) -> u32
     LIMIT - (110 + names) as u32
 }
 
-// One property.
+/// One property.
 fn alone(alloc: Global, made: Property) -> Result<Body, Memory>
     ensures { IfOk result (λ all. all ≡ body.Properties (made ∷ [])) }
 {
@@ -76,7 +76,7 @@ fn alone(alloc: Global, made: Property) -> Result<Body, Memory>
     Ok(Body::Properties(Items::of(all)))
 }
 
-// The response that shows one property, which it has room for.
+/// The response that shows one property, which it has room for.
 fn showing(alloc: Global, to: &Addressee, made: Property) -> Result<Response, ViewError>
     ensures { Gives (spec.success to.now.command to.now.id (body.Properties (made ∷ []))) result }
 {
@@ -84,7 +84,7 @@ fn showing(alloc: Global, to: &Addressee, made: Property) -> Result<Response, Vi
     Ok(success(alloc, to, body)?)
 }
 
-// The response that shows a value. That it is too long is found before it is made.
+/// The response that shows a value. That it is too long is found before it is made.
 fn value_response(
     alloc: Global,
     features: &Features,
