@@ -66,8 +66,8 @@ joined-one done made (Ok more) = ap Ok (sym (append_assoc done (made ∷ []) mor
 joined-one done made (Err why) = refl
 
 -- made of these files, or out of memory
-abbrev pub IsMade : List Given → Result Bundle BundleError → Type 0
-IsMade files result = (result ≡ Err Memory) ⊎ Makes files result
+abbrev pub IsMadeOrStarved : List Given → Result Bundle BundleError → Type 0
+IsMadeOrStarved files result = (result ≡ Err Memory) ⊎ Makes files result
 
 abbrev bundle_in : Result (List BundleFile) BundleError → Result Bundle BundleError
 bundle_in (Ok files) = Ok (record { files = files })
@@ -85,14 +85,14 @@ pub record Leaves (number : ℕ) (done : List BundleFile) (rest : List Given)
   pub same : r ≡ joined done left
 
 -- what all files make is what the rest makes, behind those that are made
-pub record Stands (files : List Given) (done : List BundleFile) (rest : List Given) : Type 0 where
+pub record IsReadSoFar (files : List Given) (done : List BundleFile) (rest : List Given) : Type 0 where
   pub counted : length done + length rest ≡ length files
   pub made : (r : Result (List BundleFile) BundleError) → MakesFrom (length done) rest r
       → MakesFrom 0 files (joined done r)
   pub only : (r : Result (List BundleFile) BundleError) → MakesFrom 0 files r → Leaves (length done) done rest r
 
-pub stands_first : (files : List Given) → Stands files [] files
-stands_first files = record {
+pub read_first : (files : List Given) → IsReadSoFar files [] files
+read_first files = record {
   counted = omega arith;
   made = λ r h. subst (MakesFrom 0 files) (sym (joined-nothing r)) h;
   only = λ r h. record { left = r; makes = h; same = sym (joined-nothing r) };
@@ -117,20 +117,20 @@ only_one number given rest made one none (Err why) h = elim h [
 ]
 
 module _ (files : List Given) (done : List BundleFile) (given : Given) (rest : List Given)
-    (stands : Stands files done (given ∷ rest)) where
+    (so_far : IsReadSoFar files done (given ∷ rest)) where
   -- the next file is made
-  pub stands_next : (made : BundleFile) → IsBundleFile given made
+  pub read_next : (made : BundleFile) → IsBundleFile given made
       → ((other : BundleFile) → IsBundleFile given other → made ≡ other)
-      → ((why : BundleError) → IsRefused (length done) given.1 why → ⊥) → Stands files (done ++ made ∷ []) rest
-  stands_next made is one none =
+      → ((why : BundleError) → IsRefused (length done) given.1 why → ⊥) → IsReadSoFar files (done ++ made ∷ []) rest
+  read_next made is one none =
       let longer : length (done ++ made ∷ []) ≡ suc (length done) = omega (arith, length_push done made) in
       record {
-        counted = let c : length done + suc (length rest) ≡ length files = stands.counted in omega (arith, longer);
+        counted = let c : length done + suc (length rest) ≡ length files = so_far.counted in omega (arith, longer);
         made = λ r h. subst (MakesFrom 0 files) (joined-one done made r)
-            (stands.made (joined (made ∷ []) r) (made_one (length done) given rest made r is
+            (so_far.made (joined (made ∷ []) r) (made_one (length done) given rest made r is
             (subst (λ n. MakesFrom n rest r) longer h)));
         only = λ r h.
-            let before = stands.only r h in
+            let before = so_far.only r h in
             let last = only_one (length done) given rest made one none before.left before.makes in
             record {
               left = last.left;
@@ -155,21 +155,22 @@ module _ (files : List Given) (done : List BundleFile) (given : Given) (rest : L
     ]
 
     pub refused_only : (asked : Result Bundle BundleError) → Makes files asked → IsAnswer asked (Err why)
-    refused_only asked h = let l = stands.only (files_in asked) h in elim (left_refused l.left l.makes) [
+    refused_only asked h = let l = so_far.only (files_in asked) h in elim (left_refused l.left l.makes) [
       | inl same ↦ inl (ap bundle_in (same ∙ sym l.same) ∙ bundle_in-files_in asked)
       | inr memory ↦ inr (ap Err memory)
     ]
 
-  pub refused_made : (why : BundleError) → (why ≡ Memory) ⊎ IsRefused (length done) given.1 why → IsMade files (Err why)
+  pub refused_made : (why : BundleError) → (why ≡ Memory) ⊎ IsRefused (length done) given.1 why → IsMadeOrStarved files
+      (Err why)
   refused_made why cause = elim cause [
     | inl memory ↦ inl (ap Err memory)
-    | inr refused ↦ inr (stands.made (Err why) (inl refused))
+    | inr refused ↦ inr (so_far.made (Err why) (inl refused))
   ]
 
 -- all files are made
-module _ (files : List Given) (done : List BundleFile) (stands : Stands files done []) where
-  pub all_made : IsMade files (Ok (record { files = done }))
-  all_made = inr (subst (λ l. MakesFrom 0 files (Ok l)) (append-nil done) (stands.made (Ok []) tt))
+module _ (files : List Given) (done : List BundleFile) (so_far : IsReadSoFar files done []) where
+  pub all_made : IsMadeOrStarved files (Ok (record { files = done }))
+  all_made = inr (subst (λ l. MakesFrom 0 files (Ok l)) (append-nil done) (so_far.made (Ok []) tt))
 
   left_made : (left : Result (List BundleFile) BundleError) → MakesFrom (length done) [] left
       → joined done left ≡ Ok done
@@ -178,5 +179,5 @@ module _ (files : List Given) (done : List BundleFile) (stands : Stands files do
   left_made (Err why) h = absurd h
 
   pub all_only : (asked : Result Bundle BundleError) → Makes files asked → IsAnswer asked (Ok (record { files = done }))
-  all_only asked h = let l = stands.only (files_in asked) h in
+  all_only asked h = let l = so_far.only (files_in asked) h in
       inl (ap bundle_in (sym (left_made l.left l.makes) ∙ sym l.same) ∙ bundle_in-files_in asked)
