@@ -33,23 +33,23 @@ module _ (id : ℕ) where
       (λ i. cond (other i) (changed c b) b ∷ changed_none c (b.id + 1) held next (omega arith) a.1 i)
 
   -- the breakpoint of the id stands at a place
-  pub record StandsAt (held : List Breakpoint) (at : ℕ) : Type 0 where
+  pub record IsFoundAt (held : List Breakpoint) (at : ℕ) : Type 0 where
     pub within : at < length held
     pub found : (d : Breakpoint) → held_as held id ≡ Some (get_or held at d)
     pub removed : take at held ++ drop (suc at) held ≡ kept held
     pub changes : (c : BreakChange) (d : Breakpoint) → set held at (changed c (get_or held at d)) ≡ with_changed c held
 
-  abbrev pub StandsFrom : ℕ → List Breakpoint → ℕ → Type 0
-  StandsFrom k held at = (i : ℕ) × (at ≡ k + i) × StandsAt held i
+  abbrev pub IsFoundFrom : ℕ → List Breakpoint → ℕ → Type 0
+  IsFoundFrom k held at = (i : ℕ) × (at ≡ k + i) × IsFoundAt held i
 
-  pub stands_from : (k least : ℕ) (held : List Breakpoint) (next at : ℕ) → Ascend least held next
-      → position_from (λ b. b.id == id) k held ≡ Some at → StandsFrom k held at
-  stands_from k least [] next at a e = absurd cc
-  stands_from k least (b ∷ held) next at a e =
-      cases (b.id == id) refl e (λ f. stands_from (k + 1) (b.id + 1) held next at a.1 f) where
+  pub found_from : (k least : ℕ) (held : List Breakpoint) (next at : ℕ) → Ascend least held next
+      → position_from (λ b. b.id == id) k held ≡ Some at → IsFoundFrom k held at
+  found_from k least [] next at a e = absurd cc
+  found_from k least (b ∷ held) next at a e =
+      cases (b.id == id) refl e (λ f. found_from (k + 1) (b.id + 1) held next at a.1 f) where
         cases : (t : Bool) → (b.id == id) ≡ t → cond t (Some k) (position_from (λ c. c.id == id) (k + 1) held) ≡ Some at
-            → (position_from (λ c. c.id == id) (k + 1) held ≡ Some at → StandsFrom (k + 1) held at)
-            → StandsFrom k (b ∷ held) at
+            → (position_from (λ c. c.id == id) (k + 1) held ≡ Some at → IsFoundFrom (k + 1) held at)
+            → IsFoundFrom k (b ∷ held) at
         cases true is f later =
             let same : k ≡ at = cc in
             let equal = eqb-true b.id id is in (

@@ -11,12 +11,12 @@ use Rattle.dp_parse.specs.ExpressionIn.{expression_in}
 use Rattle.dp_tree.specs.declared.tree.Expression.{Expression}
 use Rattle.dp_tree.specs.Purity.{is_pure}
 use Rattle.dp_break.specs.declared.breakpoint.BreakRequest.{BreakRequest}
-use Rattle.dp_break.specs.Changes.{IsRequest, asked}
+use Rattle.dp_break.specs.Changes.{IsRequest, new_breakpoint}
 use Rattle.dp_break.specs.Conditions.{condition_of, expression_limit, has_no_tree, if_pure, is_too_long, tree_of}
 use Rattle.dp_break.specs.declared.errors.BreakError.{BreakError}
 use Rattle.dp_break.specs.declared.errors.BreakError.TheVariants as error
 use Rattle.dp_break.specs.Hits.{is_of_function}
-use Rattle.dp_break.specs.Refusals.{asked_line_refusal, cannot_be_held, code_if, place_refusal, plain_refusal}
+use Rattle.dp_break.specs.Refusals.{cannot_be_held, code_if, place_refusal, plain_refusal, requested_line_refusal}
 use Rattle.dp_break.specs.Tables.{IsSound, Table, breakpoint_limit, last_id, name_limit}
 use Rattle.dp_break.specs.inner.Causes.{IsNoTree, error_of, pure_or_refused}
 
@@ -102,7 +102,7 @@ pure_held (Some text) e h = condition_pure text e h
 module _ (bundle : Bundle) (t : Table) (r : BreakRequest) where
   can_be_held : place_refusal bundle t r ≡ None → cannot_be_held t r ≡ false
   can_be_held e = cases (cannot_be_held t r) e where
-    cases : (c : Bool) → cond c (Some 200) (asked_line_refusal bundle (Some r.file) r.line) ≡ None → c ≡ false
+    cases : (c : Bool) → cond c (Some 200) (requested_line_refusal bundle (Some r.file) r.line) ≡ None → c ≡ false
     cases true f = absurd cc
     cases false f = refl
 
@@ -119,7 +119,7 @@ module _ (bundle : Bundle) (t : Table) (r : BreakRequest) where
 
   pub sound_request : (tree : Option Expression) → IsRequest bundle r → place_refusal bundle t r ≡ None
       → tree ≡ tree_of r.expression → has_no_tree r.expression ≡ false
-      → IsSound (asked t.next tree r)
+      → IsSound (new_breakpoint t.next tree r)
   sound_request tree request accepted is_tree formed =
       let free = or_parts (nat_le breakpoint_limit (length t.held) || t.next == last_id)
       (option_map_or (λ n. nat_lt name_limit (length n)) r.function false) (can_be_held accepted) in record {

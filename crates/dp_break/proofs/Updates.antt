@@ -13,21 +13,21 @@ use Rattle.dp_break.specs.declared.breakpoint.Breakpoint.{Breakpoint}
 use Rattle.dp_break.specs.declared.errors.BreakError.TheVariants as error
 use Rattle.dp_break.specs.Changes.{changed, held_as, line_given_or, with_change, without}
 use Rattle.dp_break.specs.Hits.{is_of_function}
-use Rattle.dp_break.specs.Refusals.{answer_of, asked_line_refusal, change_refusal, update_refusal}
+use Rattle.dp_break.specs.Refusals.{answer_of, change_refusal, requested_line_refusal, update_refusal}
 use Rattle.dp_break.specs.Tables.{Ascend, IsSound, IsTable, has_parts}
-use Rattle.dp_break.proofs.Lookups.{StandsAt, kept, missing_from, stands_from, with_changed}
+use Rattle.dp_break.proofs.Lookups.{IsFoundAt, found_from, kept, missing_from, with_changed}
 use Rattle.dp_break.proofs.TableLaws.{Ascend-map, filtered_table, table}
 
 module _ (id : ℕ) (held : List Breakpoint) (next : ℕ) where
   abbrev pub place : Option ℕ
   place = position (λ b. b.id == id) held
 
-  stands_at : (at : ℕ) → Ascend 1 held next → place ≡ Some at → StandsAt id held at
-  stands_at at a e =
-      let there = stands_from id 0 1 held next at a (sym (position_from-zero (λ (b : Breakpoint). b.id == id) held) ∙ e)
+  found_at : (at : ℕ) → Ascend 1 held next → place ≡ Some at → IsFoundAt id held at
+  found_at at a e =
+      let there = found_from id 0 1 held next at a (sym (position_from-zero (λ (b : Breakpoint). b.id == id) held) ∙ e)
       in
       let same : there.0 ≡ at = omega (arith, there.1) in
-      subst (λ (k : ℕ). StandsAt id held k) same there.2
+      subst (λ (k : ℕ). IsFoundAt id held k) same there.2
 
   missing : place ≡ None → (held_as held id ≡ None) × (kept id held ≡ held)
   missing e = missing_from id 0 held (sym (position_from-zero (λ (b : Breakpoint). b.id == id) held) ∙ e)
@@ -41,19 +41,19 @@ module _ (id : ℕ) (held : List Breakpoint) (next : ℕ) where
   left_none e = ap (λ l. table l next) (sym (missing e).1)
 
   module _ (at : ℕ) (t : IsTable (table held next)) (e : place ≡ Some at) where
-    abbrev stands : StandsAt id held at
-    stands = stands_at at t.ascend e
+    abbrev there : IsFoundAt id held at
+    there = found_at at t.ascend e
 
     pub found_some : true ≡ is_some (held_as held id)
     found_some = elim held as (λ (l : List Breakpoint). l ≡ held → true ≡ is_some (held_as held id)) [
-      | [] ↦ (λ same. let w = stands.within in let none : length held ≡ 0 = sym (ap length same) in absurd
+      | [] ↦ (λ same. let w = there.within in let none : length held ≡ 0 = sym (ap length same) in absurd
           (omega arith))
-      | b ∷ more ↦ (λ same. sym (ap is_some (stands.found b)))
+      | b ∷ more ↦ (λ same. sym (ap is_some (there.found b)))
     ] refl
 
     pub left_some : (left : List Breakpoint) → left ≡ take at held ++ drop (suc at) held
         → table left next ≡ without id (table held next)
-    left_some left is = ap (λ l. table l next) (is ∙ stands.removed)
+    left_some left is = ap (λ l. table l next) (is ∙ there.removed)
 
     pub removed_table : (left : List Breakpoint) → left ≡ take at held ++ drop (suc at) held → IsTable (table left next)
     removed_table left is =
@@ -61,7 +61,7 @@ module _ (id : ℕ) (held : List Breakpoint) (next : ℕ) where
         let few = length-filter p held in
         let most = count_by-le-length p held in
         let short : length (filter p held) ≤ length held = omega arith in
-        subst (λ l. IsTable (table l next)) (sym (is ∙ stands.removed)) (filtered_table p held next t short)
+        subst (λ l. IsTable (table l next)) (sym (is ∙ there.removed)) (filtered_table p held next t short)
 
     pub removed_shorter : (left : List Breakpoint) (most : ℕ) → left ≡ take at held ++ drop (suc at) held
         → length held ≤ most → length left ≤ most
@@ -69,20 +69,20 @@ module _ (id : ℕ) (held : List Breakpoint) (next : ℕ) where
         let p : Breakpoint → Bool = λ b. not (b.id == id) in
         let few = length-filter p held in
         let fewer = count_by-le-length p held in
-        let same = ap length (is ∙ stands.removed) in
+        let same = ap length (is ∙ there.removed) in
         omega arith
 
     -- ---- changes
 
     module _ (bundle : Bundle) (c : BreakChange) (b : Breakpoint) (read : b ≡ get_or held at b) where
       found_here : held_as held id ≡ Some b
-      found_here = stands.found b ∙ ap (λ (x : Breakpoint). Some x) (sym read)
+      found_here = there.found b ∙ ap (λ (x : Breakpoint). Some x) (sym read)
 
       pub change_answer : answer_of (change_refusal bundle c b) ≡ answer_of (update_refusal bundle c (held_as held id))
       change_answer = sym (ap (λ (o : Option Breakpoint). answer_of (update_refusal bundle c o)) found_here)
 
       changes_here : set held at (changed c b) ≡ with_changed id c held
-      changes_here = ap (λ (x : Breakpoint). set held at (changed c x)) read ∙ stands.changes c b
+      changes_here = ap (λ (x : Breakpoint). set held at (changed c x)) read ∙ there.changes c b
 
       pub change_left : table (set held at (changed c b)) next ≡ with_change id c (table held next)
       change_left = ap (λ l. table l next) changes_here
@@ -101,7 +101,7 @@ module _ (id : ℕ) (held : List Breakpoint) (next : ℕ) where
             elim (x.id == id) as (λ (v : Bool). (cond v (changed c x) x).id ≡ x.id) [ true ↦ refl | false ↦ refl ]
 
       pub sound_here : IsSound b
-      sound_here = subst IsSound (sym read) (All-get_or IsSound held at b stands.within t.sound)
+      sound_here = subst IsSound (sym read) (All-get_or IsSound held at b there.within t.sound)
 
   pub missing_answer : (bundle : Bundle) (c : BreakChange) → place ≡ None
       → Err (error.Code 205) ≡ answer_of (update_refusal bundle c (held_as held id))
@@ -132,6 +132,6 @@ changed_sound bundle c b accepted s = record {
   tree = s.tree;
   formed = s.formed;
 } where
-  cases : (t : Bool) → cond t (Some 3) (asked_line_refusal bundle b.file c.line) ≡ None → t ≡ false
+  cases : (t : Bool) → cond t (Some 3) (requested_line_refusal bundle b.file c.line) ≡ None → t ≡ false
   cases true f = absurd cc
   cases false f = refl

@@ -24,8 +24,8 @@ pub record IsRequest (bundle : Bundle) (r : BreakRequest) : Type 0 where
   pub anyfile : r.anyfile ≡ true → is_of_function r.kind ≡ true
 
 -- the breakpoint that is asked for, with this id and the tree of its expression; it has not hit yet
-abbrev pub asked : ℕ → Option Expression → BreakRequest → Breakpoint
-asked id tree r = record {
+abbrev pub new_breakpoint : ℕ → Option Expression → BreakRequest → Breakpoint
+new_breakpoint id tree r = record {
   id = id;
   kind = r.kind;
   enabled = r.enabled;
@@ -49,7 +49,7 @@ pub record Adds (bundle : Bundle) (before : Table) (r : BreakRequest) (id : ℕ)
     (after : Table) : Type 0 where
   pub accepted : request_refusal bundle before r ≡ None
   pub numbered : id ≡ before.next
-  pub held : after ≡ with_new (asked before.next (tree_of r.expression) r) before
+  pub held : after ≡ with_new (new_breakpoint before.next (tree_of r.expression) r) before
 
 -- ---- a change
 

@@ -75,8 +75,8 @@ hits bundle at b =
     b.enabled && is_place_of b at.0 && option_map_or (λ e. is_true_in bundle e at.1) b.parsed true
 
 -- whether it hits there depends on its expression
-abbrev pub asks_expression : Moment → Breakpoint → Bool
-asks_expression moment b = b.enabled && is_place_of b moment && is_some b.parsed
+abbrev pub depends_on_expression : Moment → Breakpoint → Bool
+depends_on_expression moment b = b.enabled && is_place_of b moment && is_some b.parsed
 
 -- its hit rule holds of a count; with the hit value 0 it always does
 abbrev pub rule_holds : HitRule → ℕ → ℕ → Bool

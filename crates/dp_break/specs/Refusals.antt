@@ -24,10 +24,10 @@ line_refusal file line =
     else Some 203
 
 -- a line that was asked for, if one was, of the file of this number
-abbrev pub asked_line_refusal : Bundle → Option ℕ → Option ℕ → Option ℕ
-asked_line_refusal bundle (Some file) (Some line) =
+abbrev pub requested_line_refusal : Bundle → Option ℕ → Option ℕ → Option ℕ
+requested_line_refusal bundle (Some file) (Some line) =
     option_map_or (λ f. line_refusal f.tree line) (slice_get bundle.files file) (Some 202)
-asked_line_refusal bundle file line = None
+requested_line_refusal bundle file line = None
 
 -- ---- new breakpoints
 
@@ -40,7 +40,7 @@ cannot_be_held t r =
 -- the first of the codes 200, 202 and 203 whose test holds
 abbrev pub place_refusal : Bundle → Table → BreakRequest → Option ℕ
 place_refusal bundle t r =
-    if cannot_be_held t r then Some 200 else asked_line_refusal bundle (Some r.file) r.line
+    if cannot_be_held t r then Some 200 else requested_line_refusal bundle (Some r.file) r.line
 
 -- the code where a test holds
 abbrev pub code_if : Bool → ℕ → Option ℕ
@@ -67,7 +67,7 @@ IsCause refusal error.Memory = ⊤
 abbrev pub change_refusal : Bundle → BreakChange → Breakpoint → Option ℕ
 change_refusal bundle c b =
     if is_of_function b.kind && is_some c.line then Some 3
-    else asked_line_refusal bundle b.file c.line
+    else requested_line_refusal bundle b.file c.line
 
 -- there is no such breakpoint: 205
 abbrev pub update_refusal : Bundle → BreakChange → Option Breakpoint → Option ℕ

@@ -4,7 +4,7 @@ ghost use Rattle.std.specs.Prelude.{◌≡◌, ◌==◌, ◌<◌, ◌≤◌, tru
 ghost use Rattle.std.specs.Prelude.{IfOk, IfSome, OnOk, OnErr, Err};
 ghost use Rattle.std.specs.List.{list_any};
 ghost use Rattle.dp_break.specs.Changes.{Adds, IsRequest, held_as, with_change, with_new, without};
-ghost use Rattle.dp_break.specs.Hits.{asks_expression, hits};
+ghost use Rattle.dp_break.specs.Hits.{depends_on_expression, hits};
 ghost use Rattle.dp_break.specs.StopRule.{held_after, one_stops};
 ghost use Rattle.dp_break.specs.Refusals.{IsCause, answer_of, change_refusal, place_refusal, plain_refusal};
 ghost use Rattle.dp_break.specs.Refusals.{request_refusal, update_refusal};
@@ -14,9 +14,9 @@ use crate::breakpoint::{BreakChange, BreakRequest, Breakpoint};
 use crate::conditions::tree_of;
 use crate::errors::BreakError;
 use crate::hits::is_of_function;
-use crate::lines::asked_line_refusal;
+use crate::lines::requested_line_refusal;
 use crate::moments::{any_hits, discard, mark, settle};
-use crate::new_breakpoints::asked;
+use crate::new_breakpoints::new_breakpoint;
 use dp_state::{Moment, State};
 use dp_tree::Bundle;
 use dp_value::Memory;
@@ -79,7 +79,7 @@ fn refused_change(bundle: &Bundle, change: BreakChange, breakpoint: &Breakpoint)
     if is_of_function(breakpoint.kind) && change.line.is_some() {
         return Some(3);
     }
-    asked_line_refusal(bundle, breakpoint.file, change.line)
+    requested_line_refusal(bundle, breakpoint.file, change.line)
 }
 
 impl Breaks {
@@ -136,7 +136,7 @@ impl Breaks {
         }
         let tree = tree_of(self.alloc, &request.expression)?;
         let id = self.next;
-        self.hold(asked(id, tree, request))?;
+        self.hold(new_breakpoint(id, tree, request))?;
         Ok(id)
     }
 
@@ -152,7 +152,7 @@ impl Breaks {
                 return Some(200);
             }
         }
-        asked_line_refusal(bundle, Some(request.file), request.line)
+        requested_line_refusal(bundle, Some(request.file), request.line)
     }
 
     /// Holds a breakpoint that has the next id.
@@ -221,7 +221,7 @@ impl Breaks {
     ) -> Result<bool, Memory>
         ensures hit { IfOk result (λ hit. hit ≡ list_any (hits bundle.now (moment.now, state.old)) self.now.held) }
         ensures same { OnOk result (state.new ≡ state.old) }
-        ensures memory { OnErr result (list_any (asks_expression moment.now) self.now.held ≡ true) }
+        ensures memory { OnErr result (list_any (depends_on_expression moment.now) self.now.held ≡ true) }
     {
         any_hits(self.alloc, bundle, moment, state, self.held.as_slice())
     }
@@ -242,7 +242,7 @@ impl Breaks {
             stop ≡ one_stops bundle.now self.old.held [] (moment.now, state.old)) }
         ensures same { OnOk result (state.new ≡ state.old) }
         ensures unchanged { OnErr result (self.new ≡ self.old) }
-        ensures memory { OnErr result (list_any (asks_expression moment.now) self.old.held ≡ true) }
+        ensures memory { OnErr result (list_any (depends_on_expression moment.now) self.old.held ≡ true) }
     {
         let alloc = self.alloc;
         mark(

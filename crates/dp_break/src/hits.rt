@@ -86,7 +86,7 @@ pub(crate) fn is_hit(
     requires { IsSound breakpoint.now }
     ensures hits { IfOk result (λ hit. hit ≡ spec.hits bundle.now (moment.now, state.old) breakpoint.now) }
     ensures same { OnOk result (state.new ≡ state.old) }
-    ensures memory { OnErr result (spec.asks_expression moment.now breakpoint.now ≡ true) }
+    ensures memory { OnErr result (spec.depends_on_expression moment.now breakpoint.now ≡ true) }
 {
     if !breakpoint.enabled || !is_place_of(breakpoint, moment) {
         return Ok(false);

@@ -19,12 +19,12 @@ fn line_refusal(file: &File, line: u32) -> Option<u16>
 }
 
 /// The same for a line that was asked for, if one was, of the file of this number. Takes no memory.
-pub(crate) fn asked_line_refusal(
+pub(crate) fn requested_line_refusal(
     bundle: &Bundle,
     file: Option<u32>,
     line: Option<u32>,
 ) -> Option<u16>
-    ensures { result ≡ spec.asked_line_refusal bundle.now file line }
+    ensures { result ≡ spec.requested_line_refusal bundle.now file line }
 {
     let (Some(file), Some(line)) = (file, line) else {
         return None;

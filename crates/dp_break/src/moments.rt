@@ -3,7 +3,7 @@
 ghost use Rattle.std.specs.Prelude.{◌≡◌, ◌+◌, ◌<◌, ◌≤◌, true, ◌&&◌, length, map, take, drop, ◌++◌, slice_index_or, All};
 ghost use Rattle.std.specs.Prelude.{IfOk, OnErr, OnOk};
 ghost use Rattle.std.specs.List.{list_any};
-ghost use Rattle.dp_break.specs.Hits.{asks_expression, hits};
+ghost use Rattle.dp_break.specs.Hits.{depends_on_expression, hits};
 ghost use Rattle.dp_break.specs.inner.Marks.{one_settled, settled, settled_one, some_settled_stops, stops_once_more};
 ghost use Rattle.dp_break.specs.Tables.{IsSound};
 
@@ -26,7 +26,7 @@ pub(crate) fn any_hits(
     requires { All IsSound held.now }
     ensures hit { IfOk result (λ hit. hit ≡ list_any (hits bundle.now (moment.now, state.old)) held.now) }
     ensures same { OnOk result (state.new ≡ state.old) }
-    ensures memory { OnErr result (list_any (asks_expression moment.now) held.now ≡ true) }
+    ensures memory { OnErr result (list_any (depends_on_expression moment.now) held.now ≡ true) }
 {
     for at in 0..held.len() {
         if is_hit(alloc, bundle, moment, state, &held[at])? {
@@ -51,7 +51,7 @@ pub(crate) fn mark(
     ensures marked { OnOk result
         (take (length held.now) marks.new ≡ map (hits bundle.now (moment.now, state.old)) held.now) }
     ensures same { OnOk result (state.new ≡ state.old) }
-    ensures memory { OnErr result (list_any (asks_expression moment.now) held.now ≡ true) }
+    ensures memory { OnErr result (list_any (depends_on_expression moment.now) held.now ≡ true) }
 {
     for at in 0..held.len() {
         marks[at] = is_hit(alloc, bundle, moment, state, &held[at])?;

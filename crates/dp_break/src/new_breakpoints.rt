@@ -7,8 +7,8 @@ use crate::breakpoint::{BreakRequest, Breakpoint};
 use dp_tree::Expression;
 
 /// The breakpoint that is asked for, with this id and the tree of its expression. Takes no memory.
-pub(crate) fn asked(id: u32, tree: Option<Expression>, request: BreakRequest) -> Breakpoint
-    ensures { result ≡ spec.asked id tree request }
+pub(crate) fn new_breakpoint(id: u32, tree: Option<Expression>, request: BreakRequest) -> Breakpoint
+    ensures { result ≡ spec.new_breakpoint id tree request }
 {
     let file = if request.anyfile {
         None

@@ -6,7 +6,7 @@ use Rattle.std.specs.Option.{option_map_or, option_or}
 use Rattle.dp_break.specs.declared.breakpoint.Breakpoint.{Breakpoint}
 use Rattle.dp_break.specs.declared.breakpoint.BreakRequest.{BreakRequest}
 use Rattle.dp_break.specs.Changes.{held_as}
-use Rattle.dp_break.specs.Refusals.{asked_line_refusal, code_if, line_refusal, place_refusal, request_refusal}
+use Rattle.dp_break.specs.Refusals.{code_if, line_refusal, place_refusal, request_refusal, requested_line_refusal}
 use Rattle.dp_break.specs.Tables.{Table}
 use Rattle.dp_command.specs.declared.command.BreakpointSet.{BreakpointSet}
 use Rattle.dp_command.specs.declared.command.BreakpointUpdate.{BreakpointUpdate}
@@ -61,7 +61,7 @@ known code p q = (p, q)
 
 -- ---- lines, words, and what is held
 
-known_line : (bundle : Bundle) (file line : Option ℕ) → AreKnown (asked_line_refusal bundle file line)
+known_line : (bundle : Bundle) (file line : Option ℕ) → AreKnown (requested_line_refusal bundle file line)
 known_line bundle None line = known_none
 known_line bundle (Some file) None = known_none
 known_line bundle (Some file) (Some line) =

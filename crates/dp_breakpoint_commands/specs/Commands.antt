@@ -4,7 +4,7 @@
 use Rattle.std.specs.Prelude.{ℕ, nat_le, Bool, true, false, List, [], ◌∷◌, ◌++◌, length, map, take_while, Option, Some, None, is_none, unwrap_or, codes, decimal}
 use Rattle.std.specs.Option.{option_map_or, option_or}
 use Rattle.dp_break.specs.declared.breakpoint.Breakpoint.{Breakpoint}
-use Rattle.dp_break.specs.Changes.{asked, held_as, with_change, with_new, without}
+use Rattle.dp_break.specs.Changes.{held_as, new_breakpoint, with_change, with_new, without}
 use Rattle.dp_break.specs.Conditions.{tree_of}
 use Rattle.dp_break.specs.StopRule.{each_in}
 use Rattle.dp_break.specs.Refusals.{change_refusal, code_if, plain_refusal, request_refusal}
@@ -84,7 +84,8 @@ names_uri other = false
 
 abbrev pub set_table : Bundle → ℕ → BreakpointSet → Table → Table
 set_table bundle here set t =
-    let r = setting.request bundle here set in with_new (asked t.next (tree_of r.expression) r) t
+    let r = setting.request bundle here set in
+    with_new (new_breakpoint t.next (tree_of r.expression) r) t
 
 abbrev pub acted_on : BreakpointAction → ℕ → Table → Table
 acted_on Get id t = t

@@ -9,7 +9,7 @@ pub hold-requires-clause-sound : goal.hold-requires-clause-sound
 hold-requires-clause-sound c =
     let accepted = subst (λ (t : Table). place_refusal c.args.bundle.now t c.args.request ≡ None) (sym c.self.view_is)
     (sym c.refused_request.ensures ∙ c.in-None.is) in
-    subst IsSound (sym c.asked.ensures)
+    subst IsSound (sym c.new_breakpoint.ensures)
     (sound_request c.args.bundle.now (table c.self.inside.held.items c.self.inside.next) c.args.request
     c.in_ok-tree.tree c.requires accepted c.in_ok-tree.ensures.found c.in_ok-tree.ensures.formed)
 
