@@ -6,7 +6,7 @@ use std::alloc::AllocError;
 
 /// Why a text has no tokens.
 #[derive(Clone, Copy, Debug, PartialEq, Eq)]
-pub(crate) enum Fault {
+pub enum Fault {
     BadByte,
     OpenString,
     OpenComment,

@@ -19,6 +19,7 @@ mod spelling;
 mod token;
 
 pub use errors::LexError;
+pub use fault::Fault;
 pub use laws::tokens_are_told;
 pub use lexer::{lex, lex_expression, line_feeds};
 pub use reserved::is_reserved;
