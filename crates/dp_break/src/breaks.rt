@@ -210,37 +210,24 @@ impl Breaks {
         }
     }
 
-    /// Whether a breakpoint hits at a moment in this state, which is lent so that expressions can be evaluated in it,
-    /// and left as it was. Memory is wanted only where an enabled breakpoint whose place is that of the moment has an
-    /// expression.
-    pub fn is_hit(
-        &self,
-        bundle: &Bundle,
-        moment: &Moment,
-        state: &mut State,
-    ) -> Result<bool, Memory>
-        ensures hit { IfOk result (λ hit. hit ≡ list_any (hits bundle.now (moment.now, state.old)) self.now.held) }
-        ensures same { OnOk result (state.new ≡ state.old) }
+    /// Whether a breakpoint hits at a moment in this state, in which expressions are evaluated. Memory is wanted only
+    /// where an enabled breakpoint whose place is that of the moment has an expression.
+    pub fn is_hit(&self, bundle: &Bundle, moment: &Moment, state: &State) -> Result<bool, Memory>
+        ensures hit { IfOk result (λ hit. hit ≡ list_any (hits bundle.now (moment.now, state.now)) self.now.held) }
         ensures memory { OnErr result (list_any (depends_on_expression moment.now) self.now.held ≡ true) }
     {
         any_hits(self.alloc, bundle, moment, state, self.held.as_slice())
     }
 
     /// Counts the hits of a moment in this state, takes out the temporary breakpoints that stop, and says whether one
-    /// stops. The state is lent and left as it was. Memory is wanted only where an enabled breakpoint whose place is
-    /// that of the moment has an expression; where it runs out, no breakpoint has changed.
-    pub fn pass(
-        &mut self,
-        bundle: &Bundle,
-        moment: &Moment,
-        state: &mut State,
-    ) -> Result<bool, Memory>
+    /// stops. Memory is wanted only where an enabled breakpoint whose place is that of the moment has an expression;
+    /// where it runs out, no breakpoint has changed.
+    pub fn pass(&mut self, bundle: &Bundle, moment: &Moment, state: &State) -> Result<bool, Memory>
         ensures held { OnOk result (self.new ≡ record self.old {
-          held = held_after bundle.now ((moment.now, state.old) ∷ []) self.old.held;
+          held = held_after bundle.now ((moment.now, state.now) ∷ []) self.old.held;
         }) }
         ensures stop { IfOk result (λ stop.
-            stop ≡ one_stops bundle.now self.old.held [] (moment.now, state.old)) }
-        ensures same { OnOk result (state.new ≡ state.old) }
+            stop ≡ one_stops bundle.now self.old.held [] (moment.now, state.now)) }
         ensures unchanged { OnErr result (self.new ≡ self.old) }
         ensures memory { OnErr result (list_any (depends_on_expression moment.now) self.old.held ≡ true) }
     {

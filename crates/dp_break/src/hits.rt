@@ -1,6 +1,6 @@
 //! When a breakpoint hits, and when it stops.
 
-ghost use Rattle.std.specs.Prelude.{◌≡◌, true, IfOk, OnErr, OnOk};
+ghost use Rattle.std.specs.Prelude.{◌≡◌, true, IfOk, OnErr};
 ghost use Rattle.dp_break.specs.Hits as spec;
 ghost use Rattle.dp_break.specs.Tables.{IsSound};
 
@@ -74,18 +74,16 @@ fn is_place_of(breakpoint: &Breakpoint, moment: &Moment) -> bool
     }
 }
 
-/// Whether a breakpoint hits at a moment in a state, which is lent and left as it was. Memory is wanted only where that
-/// depends on its expression.
+/// Whether a breakpoint hits at a moment in a state. Memory is wanted only where that depends on its expression.
 pub(crate) fn is_hit(
     alloc: Global,
     bundle: &Bundle,
     moment: &Moment,
-    state: &mut State,
+    state: &State,
     breakpoint: &Breakpoint,
 ) -> Result<bool, Memory>
     requires { IsSound breakpoint.now }
-    ensures hits { IfOk result (λ hit. hit ≡ spec.hits bundle.now (moment.now, state.old) breakpoint.now) }
-    ensures same { OnOk result (state.new ≡ state.old) }
+    ensures hits { IfOk result (λ hit. hit ≡ spec.hits bundle.now (moment.now, state.now) breakpoint.now) }
     ensures memory { OnErr result (spec.depends_on_expression moment.now breakpoint.now ≡ true) }
 {
     if !breakpoint.enabled || !is_place_of(breakpoint, moment) {

@@ -14,18 +14,17 @@ use dp_tree::Bundle;
 use dp_value::Memory;
 use std::alloc::Global;
 
-/// Whether one of the breakpoints hits at a moment in a state, which is lent and left as it was. Memory is wanted only
-/// where one of them asks its expression.
+/// Whether one of the breakpoints hits at a moment in a state. Memory is wanted only where one of them asks its
+/// expression.
 pub(crate) fn any_hits(
     alloc: Global,
     bundle: &Bundle,
     moment: &Moment,
-    state: &mut State,
+    state: &State,
     held: &[Breakpoint],
 ) -> Result<bool, Memory>
     requires { All IsSound held.now }
-    ensures hit { IfOk result (λ hit. hit ≡ list_any (hits bundle.now (moment.now, state.old)) held.now) }
-    ensures same { OnOk result (state.new ≡ state.old) }
+    ensures hit { IfOk result (λ hit. hit ≡ list_any (hits bundle.now (moment.now, state.now)) held.now) }
     ensures memory { OnErr result (list_any (depends_on_expression moment.now) held.now ≡ true) }
 {
     for at in 0..held.len() {
@@ -36,21 +35,20 @@ pub(crate) fn any_hits(
     Ok(false)
 }
 
-/// Marks the places of the breakpoints that hit at a moment in a state, which is lent and left as it was. Memory is
-/// wanted only where one of them asks its expression.
+/// Marks the places of the breakpoints that hit at a moment in a state. Memory is wanted only where one of them asks
+/// its expression.
 pub(crate) fn mark(
     alloc: Global,
     bundle: &Bundle,
     moment: &Moment,
-    state: &mut State,
+    state: &State,
     held: &[Breakpoint],
     marks: &mut [bool],
 ) -> Result<(), Memory>
     requires room { length held.now ≤ length marks.old }
     requires sound { All IsSound held.now }
     ensures marked { OnOk result
-        (take (length held.now) marks.new ≡ map (hits bundle.now (moment.now, state.old)) held.now) }
-    ensures same { OnOk result (state.new ≡ state.old) }
+        (take (length held.now) marks.new ≡ map (hits bundle.now (moment.now, state.now)) held.now) }
     ensures memory { OnErr result (list_any (depends_on_expression moment.now) held.now ≡ true) }
 {
     for at in 0..held.len() {

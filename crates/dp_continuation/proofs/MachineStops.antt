@@ -96,8 +96,11 @@ module _ (mode : Moment → Bool) (bundle : Bundle) (bound : ℕ) (writes : List
           ∙ ap (λ (l : List Breakpoint). record before { held = l })
           (found-held bundle mode before.held n (drop n moments))
 
-    -- the state is lent, and left as it was
-    module _ (lent program : State) (same : lent ≡ new.state) (kept : program ≡ lent) (passed : Table)
+    pub reaches-of : 0 < length bundle.files → IsOf bundle new.state
+    reaches-of some = (now-can bundle bound writes some (suc way.at) new.state comes.1.state).0
+
+    -- the breakpoints were asked in the state of the moment, which is lent to them
+    module _ (lent : State) (same : lent ≡ new.state) (passed : Table)
         (counts : passed ≡ record table { held = held_after bundle ((moment, lent) ∷ []) table.held })
         (b : Bool) (is : b ≡ (mode moment || one_stops bundle table.held [] (moment, lent))) where
       is-here : b ≡ (mode moment || one_stops bundle table.held [] here)
@@ -107,27 +110,16 @@ module _ (mode : Moment → Bool) (bundle : Bundle) (bound : ℕ) (writes : List
       counts-here = counts
           ∙ ap (λ (s : State). record table { held = held_after bundle ((moment, s) ∷ []) table.held }) same
 
-      pub passes : b ≡ false → IsOnWay n before passed (record new { state = program }) begun after
-      passes off =
-          subst (λ (t : Table). IsOnWay n before t (record new { state = program }) begun after) (sym counts-here)
-          (subst (λ (s : State). IsOnWay n before left (record new { state = s }) begun after) (sym (kept ∙ same))
-          (goes-past b is-here off))
+      pub passes : b ≡ false → IsOnWay n before passed new begun after
+      passes off = subst (λ (t : Table). IsOnWay n before t new begun after) (sym counts-here) (goes-past b is-here off)
 
       pub reaches : b ≡ true
           → Reaches bundle bound writes (stop_past mode bundle bound writes before.held n)
-          (reached.Moment moment.number moment.depth) (record new { state = program })
-      reaches on =
-          subst (λ (s : State). Reaches bundle bound writes (stop_past mode bundle bound writes before.held n)
-          (reached.Moment moment.number moment.depth) (record new { state = s }))
-          (sym (kept ∙ same)) (stops-there b is-here on)
+          (reached.Moment moment.number moment.depth) new
+      reaches on = stops-there b is-here on
 
       pub reaches-with : b ≡ true → passed ≡ table_past mode bundle bound writes before n
       reaches-with on = counts-here ∙ stops-with b is-here on
-
-      pub reaches-of : 0 < length bundle.files → IsOf bundle program
-      reaches-of some =
-          subst (IsOf bundle) (sym (kept ∙ same))
-          (now-can bundle bound writes some (suc way.at) new.state comes.1.state).0
 
   -- ---- the end
 

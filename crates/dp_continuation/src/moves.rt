@@ -26,15 +26,14 @@ fn pass(
     mode: Continuation,
     depth: u32,
     moment: &Moment,
-    program: &mut State,
+    program: &State,
     breaks: &mut Breaks,
 ) -> Result<bool, Memory>
     ensures stop { IfOk result (λ stop. stop ≡ (stops mode depth moment.now
-        || one_stops bundle.now breaks.old.held [] (moment.now, program.old))) }
+        || one_stops bundle.now breaks.old.held [] (moment.now, program.now))) }
     ensures breaks { OnOk result (breaks.new ≡ record breaks.old {
-      held = held_after bundle.now ((moment.now, program.old) ∷ []) breaks.old.held;
+      held = held_after bundle.now ((moment.now, program.now) ∷ []) breaks.old.held;
     }) }
-    ensures same { OnOk result (program.new ≡ program.old) }
 {
     let stop = breaks.pass(bundle, moment, program)?;
     Ok(is_stop(mode, depth, moment) || stop)
@@ -93,7 +92,7 @@ fn go_on_watched<L: Ledger>(
     for _ in 0..u64::MAX {
         match machine.step(steps)? {
             Progress::At(moment) => {
-                if pass(bundle, mode, depth, &moment, machine.state_mut(), breaks)? {
+                if pass(bundle, mode, depth, &moment, machine.state(), breaks)? {
                     return Ok(Reached::Moment {
                         number: moment.number,
                         depth: moment.depth,

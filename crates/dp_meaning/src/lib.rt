@@ -30,7 +30,7 @@ pub use moments::moment_of;
 pub use runs::{run_to, run_until};
 pub use stop::Stop;
 pub use stops::Stops;
-pub use values::value_in;
+pub use values::{shared_value_in, value_in};
 pub use whole::Whole;
 pub use write_answers::write_in;
 pub use writes::{NumberedWrite, Write, WriteAnswer, WriteFault};

@@ -254,8 +254,8 @@ impl Session {
                 number,
                 BOUND,
             )? {
-                Stop::At(moment, mut state) => {
-                    if self.breaks.pass(&self.bundle, &moment, &mut state)? {
+                Stop::At(moment, state) => {
+                    if self.breaks.pass(&self.bundle, &moment, &state)? {
                         write!(text, " {number}")?;
                     }
                 }

@@ -45,10 +45,7 @@ fn pure_value(
     if !is_pure(expression) {
         return Ok(None);
     }
-    match value_in(alloc, state, bundle, expression)? {
-        Some(value) => Ok(Some(value.into_value()?)),
-        None => Ok(None),
-    }
+    value_in(alloc, state, bundle, expression)
 }
 
 /// The value of the expression of a text, if it is one that changes nothing, in a state.

@@ -5,4 +5,4 @@ use Rattle.dp_break.proofs.moments.any_hits.Given as goal
 
 abbrev pub invariant-loop-at : goal.invariant-loop-at
 invariant-loop-at l =
-    (l.state ≡ l.initial.state) × (list_any (hits l.bundle (l.moment, l.initial.state)) (take l.at l.held) ≡ false)
+    list_any (hits l.bundle (l.moment, l.state)) (take l.at l.held) ≡ false

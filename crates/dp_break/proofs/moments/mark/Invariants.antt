@@ -4,5 +4,4 @@ use Rattle.dp_break.proofs.moments.mark.Given as goal
 
 abbrev pub invariant-loop-at : goal.invariant-loop-at
 invariant-loop-at l =
-    (l.state ≡ l.initial.state)
-    × (take l.at l.marks ≡ map (hits l.bundle (l.moment, l.initial.state)) (take l.at l.held))
+    take l.at l.marks ≡ map (hits l.bundle (l.moment, l.state)) (take l.at l.held)

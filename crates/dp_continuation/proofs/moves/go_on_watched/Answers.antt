@@ -17,8 +17,8 @@ returns-then-branch-clause-reached g c = λ bound writes n stands.
     let comes = rw c.in-At.is at (c.in_ok-moment.ensures.goes_on c.args.bundle.now bound writes way.at way.stands) in
     let one = rw c.in-At.is at c.in_ok-moment.ensures.counted in
     let pass = c.in_ok-pass-in-At.ensures in
-    reaches _ _ _ _ _ _ _ _ _ _ way c.in-At.moment c.step.new.self comes _ one c.state_mut.result.now c.pass.new.program
-    c.state_mut.ensures.state pass.same c.pass.new.breaks pass.breaks _ pass.stop c.if-branch.true
+    reaches _ _ _ _ _ _ _ _ _ _ way c.in-At.moment c.step.new.self comes _ one c.state.result.now c.state.ensures
+    c.pass.new.breaks pass.breaks _ pass.stop c.if-branch.true
 
 pub returns-then-branch-clause-breaks : goal.returns-then-branch-clause-breaks
 returns-then-branch-clause-breaks g c = λ bound writes n stands.
@@ -26,19 +26,15 @@ returns-then-branch-clause-breaks g c = λ bound writes n stands.
     let comes = rw c.in-At.is at (c.in_ok-moment.ensures.goes_on c.args.bundle.now bound writes way.at way.stands) in
     let one = rw c.in-At.is at c.in_ok-moment.ensures.counted in
     let pass = c.in_ok-pass-in-At.ensures in
-    reaches-with _ _ _ _ _ _ _ _ _ _ way c.in-At.moment c.step.new.self comes _ one c.state_mut.result.now
-    c.pass.new.program
-    c.state_mut.ensures.state pass.same c.pass.new.breaks pass.breaks _ pass.stop c.if-branch.true
+    reaches-with _ _ _ _ _ _ _ _ _ _ way c.in-At.moment c.step.new.self comes _ one c.state.result.now c.state.ensures
+    c.pass.new.breaks pass.breaks _ pass.stop c.if-branch.true
 
 pub returns-then-branch-clause-of : goal.returns-then-branch-clause-of
 returns-then-branch-clause-of g c = λ bound writes n stands.
     let way = c.loop.invariant bound writes n stands in
     let comes = rw c.in-At.is at (c.in_ok-moment.ensures.goes_on c.args.bundle.now bound writes way.at way.stands) in
     let one = rw c.in-At.is at c.in_ok-moment.ensures.counted in
-    let pass = c.in_ok-pass-in-At.ensures in
-    reaches-of _ _ _ _ _ _ _ _ _ _ way c.in-At.moment c.step.new.self comes _ one c.state_mut.result.now
-    c.pass.new.program
-    c.state_mut.ensures.state pass.same c.pass.new.breaks pass.breaks _ pass.stop
+    reaches-of _ _ _ _ _ _ _ _ _ _ way c.in-At.moment c.step.new.self comes _ one
 
 pub returns-then-branch-clause-counted : goal.returns-then-branch-clause-counted
 returns-then-branch-clause-counted g c = λ bound writes n stands.
@@ -53,8 +49,8 @@ loop-preserved g c = λ bound writes n stands.
     let comes = rw c.in-At.is at (c.in_ok-moment.ensures.goes_on c.args.bundle.now bound writes way.at way.stands) in
     let one = rw c.in-At.is at c.in_ok-moment.ensures.counted in
     let pass = c.in_ok-pass-in-At.ensures in
-    passes _ _ _ _ _ _ _ _ _ _ way c.in-At.moment c.step.new.self comes _ one c.state_mut.result.now c.pass.new.program
-    c.state_mut.ensures.state pass.same c.pass.new.breaks pass.breaks _ pass.stop c.if-branch.false
+    passes _ _ _ _ _ _ _ _ _ _ way c.in-At.moment c.step.new.self comes _ one c.state.result.now c.state.ensures
+    c.pass.new.breaks pass.breaks _ pass.stop c.if-branch.false
 
 pub returns-in-Ended-clause-reached : goal.returns-in-Ended-clause-reached
 returns-in-Ended-clause-reached g c = λ bound writes n stands.

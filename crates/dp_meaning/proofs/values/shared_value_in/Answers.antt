@@ -1,6 +1,6 @@
 use Rattle.dp_meaning.specs.Writes.{evaluation_setting}
 use Rattle.dp_meaning.proofs.ValueLaws.{value-given, value-missing, value-stops}
-use Rattle.dp_meaning.proofs.values.value_in.Goals as goal
+use Rattle.dp_meaning.proofs.values.shared_value_in.Goals as goal
 
 pub returns-in-Ok : goal.returns-in-Ok
 returns-in-Ok c =
