@@ -25,10 +25,10 @@ use Rattle.dp_run.specs.declared.errors.ProgramError.{ProgramError}
 use Rattle.dp_run.specs.declared.errors.ProgramError.TheVariants as none
 use Rattle.dp_run.specs.declared.errors.RunError.{RunError}
 use Rattle.dp_run.specs.declared.errors.RunError.TheVariants as run
-use Rattle.dp_run.specs.Programs.{AreFetched, Asks, Comes, Files, Holds, IsHeld, NamesMake, NoProgram, Told, is_bad_file, IsMade, IsRefused, IsUnread}
+use Rattle.dp_run.specs.Programs.{AreFetched, Comes, Files, FilesMake, IsComplete, IsRefused, IsUnmade, IsUnread, NamesMake, ProgramCaused, RequestedNames, RequestsFiles, is_bad_file}
 use Rattle.dp_run.specs.Programs.{refusal}
 use Rattle.dp_run.specs.Runs.{Ends, RunCaused, Runs, judged, of_program}
-use Rattle.dp_run.specs.inner.Steps.{FetchCaused, IsNext, IsPlainPut, IsPlainUnput}
+use Rattle.dp_run.specs.inner.Steps.{FetchCaused, IsNext, RunFailed, RunWrites}
 
 -- ---- what is fetched, one file after another
 
@@ -58,7 +58,8 @@ fetched_count files names fetched are = sym (length-map fetched (λ (f : Given).
 -- why one file was not fetched is why there is no program
 pub not_fetched : (why : ProgramError) (number : ℕ) (name : List ℕ) (files : Files) (first before after : ℕ)
     (names : List (List ℕ)) → FetchCaused why number name files before after
-    → first ≤ before → Comes files names number → get_or names number [] ≡ name → NoProgram why files first after names
+    → first ≤ before → Comes files names number → get_or names number [] ≡ name
+        → ProgramCaused why files first after names
 not_fetched (none.Shelf file) number name files first before after names h later comes at =
     (subst (Comes files names) (sym h.0) comes, omega (arith, h.1, later))
 not_fetched (none.Missing file) number name files first before after names h later comes at =
@@ -120,32 +121,32 @@ module _ (files : Files) (names : List (String Global)) (i : ℕ) (fetched : Lis
   pub none_more : (why : ProgramError) (item : String Global) (first before after : ℕ) → item ≡ get_or names i item
       → first ≤ before
       → FetchCaused why (length fetched) (string_bytes item) files before after
-      → NoProgram why files first after (map string_bytes names)
+      → ProgramCaused why files first after (map string_bytes names)
   none_more why item first before after is later h =
       not_fetched why i (string_bytes item) files first before after (map string_bytes names)
       (subst (λ n. FetchCaused why n (string_bytes item) files before after) so_many h) later comes
       (get_or-map string_bytes names i item [] more ∙ ap string_bytes (sym is))
 
   -- one name more was asked for
-  pub asked_more : (item : String Global) (start before after : Told) → item ≡ get_or names i item
+  pub requested_more : (item : String Global) (start before after : RequestedNames) → item ≡ get_or names i item
       → before ≡ grown start (map string_bytes (take i names))
       → after ≡ grown before (string_bytes item ∷ []) → after ≡ grown start (map string_bytes (take (i + 1) names))
-  asked_more item start before after is far one =
-      one ∙ ap (λ (told : Told). grown told (string_bytes item ∷ [])) far
+  requested_more item start before after is far one =
+      one ∙ ap (λ (told : RequestedNames). grown told (string_bytes item ∷ [])) far
       ∙ grown_again start (map string_bytes (take i names)) (string_bytes item ∷ [])
       ∙ ap (grown start) (sym (path_more item is))
 
   -- and it is the last, where its file was not fetched
-  pub asked_last : (why : ProgramError) (item : String Global) (first last : ℕ) (start after : Told)
+  pub requested_last : (why : ProgramError) (item : String Global) (first last : ℕ) (start after : RequestedNames)
       → after ≡ grown start (map string_bytes (take (i + 1) names))
       → FetchCaused why (length fetched) (string_bytes item) files first last
-      → Asks {A = List Given} (Err why) start after (map string_bytes names)
-  asked_last why item first last start after far h = by why h where
+      → RequestsFiles {A = List Given} (Err why) start after (map string_bytes names)
+  requested_last why item first last start after far h = by why h where
     upto : after ≡ grown start (take (i + 1) (map string_bytes names))
     upto = far ∙ ap (grown start) (sym (take-map string_bytes (i + 1) names))
 
     by : (why : ProgramError) → FetchCaused why (length fetched) (string_bytes item) files first last
-        → Asks {A = List Given} (Err why) start after (map string_bytes names)
+        → RequestsFiles {A = List Given} (Err why) start after (map string_bytes names)
     by (none.Shelf file) h = upto ∙ ap (λ n. grown start (take (n + 1) (map string_bytes names))) (sym (h.0 ∙ so_many))
     by (none.Missing file) h = upto
         ∙ ap (λ n. grown start (take (n + 1) (map string_bytes names))) (sym (h.0 ∙ so_many))
@@ -153,10 +154,10 @@ module _ (files : Files) (names : List (String Global)) (i : ℕ) (fetched : Lis
     by (none.Source file why) h = absurd h
     by none.Memory h = (i + 1, upto)
 
-pub all_asked : (names : List (String Global)) (i : ℕ) (start after : Told)
+pub all_requested : (names : List (String Global)) (i : ℕ) (start after : RequestedNames)
     → after ≡ grown start (map string_bytes (take i names)) → length names ≤ i
     → after ≡ grown start (map string_bytes names)
-all_asked names i start after far over = far
+all_requested names i start after far over = far
     ∙ ap (λ (l : List (String Global)). grown start (map string_bytes l)) (take_all i names over)
 
 pub all_fetched : (files : Files) (names : List (String Global)) (i : ℕ) (fetched : List Given)
@@ -176,7 +177,7 @@ abbrev unmade_by : BundleError → Result Bundle BundleError
 unmade_by why = Err why
 
 pub made_err : (fetched : List Given) (why : BundleError) → (unmade_by why ≡ unmade_by unmade.Memory)
-    ⊎ Makes fetched (Err why) → IsMade fetched (refusal why)
+    ⊎ Makes fetched (Err why) → IsUnmade fetched (refusal why)
 made_err fetched why (inl e) = let same : why ≡ unmade.Memory = cc in inl (ap refusal same)
 made_err fetched why (inr makes) = inr (why, makes, refl)
 
@@ -209,15 +210,15 @@ module _ (files : Files) (before after : ℕ) (names : List (List ℕ)) where
     made_of : (made : Result Bundle BundleError) → Makes fetched made → NamesMake files names made
     made_of made h = record { fetched = fetched; are = are; makes = h }
 
-    refused_none : (e : BundleError) → Makes fetched (Err e) → NoProgram (refusal e) files before after names
+    refused_none : (e : BundleError) → Makes fetched (Err e) → ProgramCaused (refusal e) files before after names
     refused_none (unmade.Source file why) h = made_of _ h
     refused_none (unmade.TooLong file) h = made_of _ h
     refused_none unmade.Memory h = tt
 
     -- files that make none
-    unmade_none : (why : ProgramError) → IsMade fetched why → NoProgram why files before after names
-    unmade_none why (inl e) = subst (λ (w : ProgramError). NoProgram w files before after names) (sym e) tt
-    unmade_none why (inr (e, makes, same)) = subst (λ (w : ProgramError). NoProgram w files before after names)
+    unmade_none : (why : ProgramError) → IsUnmade fetched why → ProgramCaused why files before after names
+    unmade_none why (inl e) = subst (λ (w : ProgramError). ProgramCaused w files before after names) (sym e) tt
+    unmade_none why (inr (e, makes, same)) = subst (λ (w : ProgramError). ProgramCaused w files before after names)
         (sym same) (refused_none e makes)
 
     pub program_made : (result : Result Bundle ProgramError) → IfOk result (λ program. Makes fetched (Ok program))
@@ -230,8 +231,8 @@ module _ (files : Files) (before after : ℕ) (names : List (List ℕ)) where
     program_named (Ok program) h = names_made 0 fetched program.files h ∙ are.named
     program_named (Err why) h = tt
 
-    pub program_caused : (result : Result Bundle ProgramError) → IfErr result (λ why. IsMade fetched why)
-        → IfErr result (λ why. NoProgram why files before after names)
+    pub program_caused : (result : Result Bundle ProgramError) → IfErr result (λ why. IsUnmade fetched why)
+        → IfErr result (λ why. ProgramCaused why files before after names)
     program_caused (Ok program) h = tt
     program_caused (Err why) h = unmade_none why h
 
@@ -245,7 +246,7 @@ module _ (files : Files) (before after : ℕ) (names : List (List ℕ)) (bound :
     ended outcome is wrote = record { program = program; made = made; is_end = is; wrote = wrote }
 
     -- a program that was run to its end
-    put_run : (status : ℕ) → IsPlainPut status program bound out → Runs status files names bound out
+    put_run : (status : ℕ) → RunWrites status program bound out → Runs status files names bound out
     put_run status h = record { outcome = _; ends = ended _ refl h.0; is_status = h.1 }
 
     by_end : (why : RunError) (outcome : Outcome) → Ends outcome files names bound out → judged outcome ≡ Err why
@@ -259,22 +260,22 @@ module _ (files : Files) (before after : ℕ) (names : List (List ℕ)) (bound :
         subst (λ (w : RunError). RunCaused w files before after names bound out) same ends
 
     -- one whose end is a failure, or whose output failed
-    unput_run : (why : RunError) → IsPlainUnput why program bound out → RunCaused why files before after names bound out
-    unput_run why (inl e) = subst (λ (w : RunError). RunCaused w files before after names bound out) (sym e.0) e.1
-    unput_run why (inr (inl h)) = by_end why _ (ended _ refl h.0) h.1
-    unput_run why (inr (inr h)) =
+    failed_run : (why : RunError) → RunFailed why program bound out → RunCaused why files before after names bound out
+    failed_run why (inl e) = subst (λ (w : RunError). RunCaused w files before after names bound out) (sym e.0) e.1
+    failed_run why (inr (inl h)) = by_end why _ (ended _ refl h.0) h.1
+    failed_run why (inr (inr h)) =
         subst (λ (w : RunError). RunCaused w files before after names bound out) (sym h.0)
         (record { program = program; made = made; wrote = h.1 }, h.2)
 
     pub ends_run : (result : Result ℕ RunError)
-        → MatchResult result (λ status. IsPlainPut status program bound out) (λ why. IsPlainUnput why program bound out)
+        → MatchResult result (λ status. RunWrites status program bound out) (λ why. RunFailed why program bound out)
         → MatchResult result (λ status. Runs status files names bound out)
         (λ why. RunCaused why files before after names bound out)
     ends_run (Ok status) h = put_run status h
-    ends_run (Err why) h = unput_run why h
+    ends_run (Err why) h = failed_run why h
 
 -- the status of a program is one of 200
-pub put_small : (status : ℕ) (program : Bundle) (bound : ℕ) (out : Change) → IsPlainPut status program bound out
+pub put_small : (status : ℕ) (program : Bundle) (bound : ℕ) (out : Change) → RunWrites status program bound out
     → status ≤ 199
 put_small status program bound out h = by (outcome_of (plain program bound).end) refl h.1 where
   by : (outcome : Outcome) → outcome_of (plain program bound).end ≡ outcome → judged outcome ≡ Ok status → status ≤ 199
@@ -284,7 +285,7 @@ put_small status program bound out h = by (outcome_of (plain program bound).end)
   by way.Bound is e = absurd (cc)
 
 pub small_status : (program : Bundle) (bound : ℕ) (out : Change) (result : Result ℕ RunError)
-    → MatchResult result (λ status. IsPlainPut status program bound out) (λ why. IsPlainUnput why program bound out)
+    → MatchResult result (λ status. RunWrites status program bound out) (λ why. RunFailed why program bound out)
     → IfOk result (λ status. status ≤ 199)
 small_status program bound out (Ok status) h = put_small status program bound out h
 small_status program bound out (Err why) h = tt
@@ -298,81 +299,84 @@ judged_of why (way.Fatal kind file line) e =
 judged_of why way.Bound e = let same : run.Bound ≡ why = cc in
     sym (ap (λ (w : RunError). of_program {A = ℕ} (Err w)) same)
 
-unput_of : (why : RunError) (program : Bundle) (bound : ℕ) (out : Change) → IsPlainUnput why program bound out
+failed_of : (why : RunError) (program : Bundle) (bound : ℕ) (out : Change) → RunFailed why program bound out
     → of_program {A = ℕ} (Err why) ≡ Ok tt
-unput_of why program bound out (inl e) = ap (λ (w : RunError). of_program {A = ℕ} (Err w)) e.0
-unput_of why program bound out (inr (inl h)) = judged_of why (outcome_of (plain program bound).end) h.1
-unput_of why program bound out (inr (inr h)) = ap (λ (w : RunError). of_program {A = ℕ} (Err w)) h.0
+failed_of why program bound out (inl e) = ap (λ (w : RunError). of_program {A = ℕ} (Err w)) e.0
+failed_of why program bound out (inr (inl h)) = judged_of why (outcome_of (plain program bound).end) h.1
+failed_of why program bound out (inr (inr h)) = ap (λ (w : RunError). of_program {A = ℕ} (Err w)) h.0
 
 run_of : (program : Bundle) (bound : ℕ) (out : Change) (result : Result ℕ RunError)
-    → MatchResult result (λ status. IsPlainPut status program bound out) (λ why. IsPlainUnput why program bound out)
+    → MatchResult result (λ status. RunWrites status program bound out) (λ why. RunFailed why program bound out)
     → of_program result ≡ Ok tt
 run_of program bound out (Ok status) ends = refl
-run_of program bound out (Err why) ends = unput_of why program bound out ends
+run_of program bound out (Err why) ends = failed_of why program bound out ends
 
 -- what the files make decides what may fail
-pub held_run : (asked : Result Bundle BundleError) (program : Bundle) (bound : ℕ) (out : Change) (before after : ℕ)
+pub complete_run : (asked : Result Bundle BundleError) (program : Bundle) (bound : ℕ) (out : Change) (before after : ℕ)
     (result : Result ℕ RunError)
-    → IsHeld {A = Bundle} asked (Ok program) before after
-    → MatchResult result (λ status. IsPlainPut status program bound out) (λ why. IsPlainUnput why program bound out)
-    → IsHeld asked (of_program result) before after
-held_run (Ok made) program bound out before after result held ends =
-    subst (λ r. IsHeld (Ok made) r before after) (sym (run_of program bound out result ends)) tt
-held_run (Err e) program bound out before after result held ends = absurd held
+    → IsComplete {A = Bundle} asked (Ok program) before after
+    → MatchResult result (λ status. RunWrites status program bound out) (λ why. RunFailed why program bound out)
+    → IsComplete asked (of_program result) before after
+complete_run (Ok made) program bound out before after result held ends =
+    subst (λ r. IsComplete (Ok made) r before after) (sym (run_of program bound out result ends)) tt
+complete_run (Err e) program bound out before after result held ends = absurd held
 
-pub held_none : (asked : Result Bundle BundleError) (why : ProgramError) (before after : ℕ)
-    → IsHeld {A = Bundle} asked (Err why) before after
-    → IsHeld asked (of_program {A = ℕ} (Err (run.Program why))) before after
-held_none (Ok made) why before after h = h
-held_none (Err e) why before after h = h
+pub complete_none : (asked : Result Bundle BundleError) (why : ProgramError) (before after : ℕ)
+    → IsComplete {A = Bundle} asked (Err why) before after
+    → IsComplete asked (of_program {A = ℕ} (Err (run.Program why))) before after
+complete_none (Ok made) why before after h = h
+complete_none (Err e) why before after h = h
 
 -- what is asked for
-pub asked_run : (program : Bundle) (bound : ℕ) (out : Change) (result : Result ℕ RunError) (start after : Told)
+pub requested_run : (program : Bundle) (bound : ℕ) (out : Change) (result : Result ℕ RunError)
+    (start after : RequestedNames)
     (names : List (List ℕ))
     → after ≡ grown start names
-    → MatchResult result (λ status. IsPlainPut status program bound out) (λ why. IsPlainUnput why program bound out)
-    → Asks (of_program result) start after names
-asked_run program bound out result start after names all ends = subst (λ r. Asks r start after names)
+    → MatchResult result (λ status. RunWrites status program bound out) (λ why. RunFailed why program bound out)
+    → RequestsFiles (of_program result) start after names
+requested_run program bound out result start after names all ends = subst (λ r. RequestsFiles r start after names)
     (sym (run_of program bound out result ends)) all
 
-pub asked_none : (why : ProgramError) (start after : Told) (names : List (List ℕ))
-    → Asks {A = Bundle} (Err why) start after names
-    → Asks (of_program {A = ℕ} (Err (run.Program why))) start after names
-asked_none (none.Shelf file) start after names h = h
-asked_none (none.Missing file) start after names h = h
-asked_none (none.TooLong file) start after names h = h
-asked_none (none.Source file why) start after names h = h
-asked_none none.Memory start after names h = h
+pub requested_none : (why : ProgramError) (start after : RequestedNames) (names : List (List ℕ))
+    → RequestsFiles {A = Bundle} (Err why) start after names
+    → RequestsFiles (of_program {A = ℕ} (Err (run.Program why))) start after names
+requested_none (none.Shelf file) start after names h = h
+requested_none (none.Missing file) start after names h = h
+requested_none (none.TooLong file) start after names h = h
+requested_none (none.Source file why) start after names h = h
+requested_none none.Memory start after names h = h
 
 -- where all were asked for, whatever the files make
-pub asked_made : (fetched : List Given) (result : Result Bundle ProgramError) (start after : Told)
-    (names : List (List ℕ)) → IfErr result (λ why. IsMade fetched why)
-    → after ≡ grown start names → Asks result start after names
-asked_made fetched (Ok program) start after names made all = all
-asked_made fetched (Err why) start after names made all = by why made where
+pub requested_made : (fetched : List Given) (result : Result Bundle ProgramError) (start after : RequestedNames)
+    (names : List (List ℕ)) → IfErr result (λ why. IsUnmade fetched why)
+    → after ≡ grown start names → RequestsFiles result start after names
+requested_made fetched (Ok program) start after names made all = all
+requested_made fetched (Err why) start after names made all = by why made where
   whole : after ≡ grown start (take (length names) names)
   whole = all ∙ ap (grown start) (sym (take_all (length names) names (omega arith)))
 
-  refused : (e : BundleError) → Asks {A = Bundle} (Err (refusal e)) start after names
+  refused : (e : BundleError) → RequestsFiles {A = Bundle} (Err (refusal e)) start after names
   refused (unmade.Source file why) = all
   refused (unmade.TooLong file) = all
   refused unmade.Memory = (length names, whole)
 
-  by : (why : ProgramError) → IsMade fetched why → Asks {A = Bundle} (Err why) start after names
-  by why (inl e) = subst (λ (w : ProgramError). Asks {A = Bundle} (Err w) start after names) (sym e)
+  by : (why : ProgramError) → IsUnmade fetched why → RequestsFiles {A = Bundle} (Err why) start after names
+  by why (inl e) = subst (λ (w : ProgramError). RequestsFiles {A = Bundle} (Err w) start after names) (sym e)
       (length names, whole)
-  by why (inr (e, makes, same)) = subst (λ (w : ProgramError). Asks {A = Bundle} (Err w) start after names) (sym same)
+  by why (inr (e, makes, same)) = subst (λ (w : ProgramError). RequestsFiles {A = Bundle} (Err w) start after names)
+      (sym same)
       (refused e)
 
 -- Whatever comes of it, the names that were asked for are the first of these.
-pub asks_first : {A : Type 0} (result : Result A ProgramError) (start after : Told) (names : List (List ℕ))
-    → Asks result start after names
+pub requests_first : {A : Type 0} (result : Result A ProgramError) (start after : RequestedNames)
+    (names : List (List ℕ))
+    → RequestsFiles result start after names
     → (count : ℕ) × (after ≡ grown start (take count names))
-asks_first result start after names asks = by result asks where
+requests_first result start after names asks = by result asks where
   whole : after ≡ grown start names → after ≡ grown start (take (length names) names)
   whole all = all ∙ ap (grown start) (sym (take_all (length names) names (omega arith)))
 
-  by : {A : Type 0} (result : Result A ProgramError) → Asks result start after names → (count : ℕ)
+  by : {A : Type 0} (result : Result A ProgramError) → RequestsFiles result start after names → (count : ℕ)
       × (after ≡ grown start (take count names))
   by (Ok a) h = (length names, whole h)
   by (Err (none.Shelf file)) h = (file + 1, h)
@@ -424,9 +428,9 @@ not_lacked : (files : Files) (name content : List ℕ) → IsSome files → Fetc
 not_lacked None name content tells p q = let no : false ≡ true = tells in cc
 not_lacked (Some files) name content tells p q = let same : Some p.0 ≡ None = sym p.1 ∙ q in cc
 
-held_not_lacked : (files : Files) (names : List (List ℕ)) (made : Result Bundle BundleError) (k : ℕ)
-    → Holds files names made → k < length names → Lacks files (get_or names k []) → ⊥
-held_not_lacked files names made k held below lacks =
+complete_not_lacked : (files : Files) (names : List (List ℕ)) (made : Result Bundle BundleError) (k : ℕ)
+    → FilesMake files names made → k < length names → Lacks files (get_or names k []) → ⊥
+complete_not_lacked files names made k held below lacks =
     let fetched = held.make.fetched in
     let named = held.make.are.named in
     let within : k < length fetched = omega (arith, below, fetched_count files names fetched held.make.are) in
@@ -438,32 +442,32 @@ held_not_lacked files names made k held below lacks =
     (held.make.are.contents k ([], []) within)) lacks
 
 -- the run of files that a shelf holds
-pub held_fetched : {A : Type 0} (files : Files) (names : List (List ℕ)) (fetched : List Given) (before after : ℕ)
+pub complete_fetched : {A : Type 0} (files : Files) (names : List (List ℕ)) (fetched : List Given) (before after : ℕ)
     (asked : Result Bundle BundleError) (result : Result A ProgramError)
     → AreFetched files names fetched → ((a : Result Bundle BundleError) → Makes fetched a → IsRefused a result)
-    → Holds files names asked → IsHeld asked result before after
-held_fetched files names fetched before after asked result are only held =
+    → FilesMake files names asked → IsComplete asked result before after
+complete_fetched files names fetched before after asked result are only held =
     by asked result
     (only asked
     (subst (λ (l : List Given). Makes l asked)
     (one_fetched files names held.make.fetched fetched held.tells held.make.are are) held.make.makes)) where
       by : {A : Type 0} (asked : Result Bundle BundleError) (result : Result A ProgramError) → IsRefused asked result
-          → IsHeld asked result before after
+          → IsComplete asked result before after
       by (Ok program) result h = h
       by (Err e) (Ok a) h = h
       by (Err e) (Err why) (inl same) = inl same
       by (Err e) (Err why) (inr same) = inr (inl same)
 
 -- the same where they were not fetched
-pub held_unfetched : (A : Type 0) (files : Files) (names : List (List ℕ)) (before after : ℕ)
+pub complete_unfetched : (A : Type 0) (files : Files) (names : List (List ℕ)) (before after : ℕ)
     (asked : Result Bundle BundleError) (why : ProgramError)
-    → NoProgram why files before after names → IsUnread why → Holds files names asked
-    → IsHeld {A = A} asked (Err why) before after
-held_unfetched A files names before after asked (none.Missing file) h unread held =
-    absurd (held_not_lacked files names asked file held h.0.below h.1)
-held_unfetched A files names before after asked (none.TooLong file) h unread held = absurd unread
-held_unfetched A files names before after asked (none.Source file why) h unread held = absurd unread
-held_unfetched A files names before after (Ok program) (none.Shelf file) h unread held = refl
-held_unfetched A files names before after (Ok program) none.Memory h unread held = refl
-held_unfetched A files names before after (Err e) (none.Shelf file) h unread held = inr (inr h.1)
-held_unfetched A files names before after (Err e) none.Memory h unread held = inr (inl refl)
+    → ProgramCaused why files before after names → IsUnread why → FilesMake files names asked
+    → IsComplete {A = A} asked (Err why) before after
+complete_unfetched A files names before after asked (none.Missing file) h unread held =
+    absurd (complete_not_lacked files names asked file held h.0.below h.1)
+complete_unfetched A files names before after asked (none.TooLong file) h unread held = absurd unread
+complete_unfetched A files names before after asked (none.Source file why) h unread held = absurd unread
+complete_unfetched A files names before after (Ok program) (none.Shelf file) h unread held = refl
+complete_unfetched A files names before after (Ok program) none.Memory h unread held = refl
+complete_unfetched A files names before after (Err e) (none.Shelf file) h unread held = inr (inr h.1)
+complete_unfetched A files names before after (Err e) none.Memory h unread held = inr (inl refl)

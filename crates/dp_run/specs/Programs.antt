@@ -36,7 +36,8 @@ pub record NamesMake (files : Files) (names : List (List ℕ))
     pub makes : Makes fetched made
 
 -- the shelf tells its files, and those of these names make this
-pub record Holds (files : Files) (names : List (List ℕ)) (made : Result Bundle BundleError) : Type 0
+pub record FilesMake (files : Files) (names : List (List ℕ))
+    (made : Result Bundle BundleError) : Type 0
   where
     pub tells : IsSome files
     pub make : NamesMake files names made
@@ -50,32 +51,34 @@ pub record Comes (files : Files) (names : List (List ℕ)) (file : ℕ) : Type 0
   pub are : AreFetched files (take file names) before
 
 -- why the files of these names were not fetched, or make no program
-abbrev pub NoProgram : ProgramError → Files → ℕ → ℕ → List (List ℕ) → Type 0
-NoProgram (Shelf file) files before after names = Comes files names file × Rose before after
-NoProgram (Missing file) files before after names =
+abbrev pub ProgramCaused : ProgramError → Files → ℕ → ℕ → List (List ℕ) → Type 0
+ProgramCaused (Shelf file) files before after names = Comes files names file × Rose before after
+ProgramCaused (Missing file) files before after names =
     Comes files names file × Lacks files (get_or names file [])
-NoProgram (TooLong file) files before after names =
+ProgramCaused (TooLong file) files before after names =
     NamesMake files names (Err (unmade.TooLong file))
-NoProgram (Source file why) files before after names =
+ProgramCaused (Source file why) files before after names =
     NamesMake files names (Err (unmade.Source file why))
-NoProgram Memory files before after names = ⊤
+ProgramCaused Memory files before after names = ⊤
 
 -- ---- which files are asked for
 
 -- the names that a shelf was asked for, where it tells them
-abbrev pub Told : Type 0
-Told = Option (List (List ℕ))
+abbrev pub RequestedNames : Type 0
+RequestedNames = Option (List (List ℕ))
 
 -- These names were asked for, each once, in their order, and no other: all of them, or those up to
 -- the file that was not
 -- fetched. Where memory ran out it may have been any number of them.
-abbrev pub Asks : {A : Type 0} → Result A ProgramError → Told → Told → List (List ℕ) → Type 0
-Asks (Ok a) before after names = after ≡ grown before names
-Asks (Err (Shelf file)) before after names = after ≡ grown before (take (file + 1) names)
-Asks (Err (Missing file)) before after names = after ≡ grown before (take (file + 1) names)
-Asks (Err (TooLong file)) before after names = after ≡ grown before names
-Asks (Err (Source file why)) before after names = after ≡ grown before names
-Asks (Err Memory) before after names = (count : ℕ) × (after ≡ grown before (take count names))
+abbrev pub RequestsFiles : {A : Type 0} → Result A ProgramError → RequestedNames → RequestedNames
+    → List (List ℕ) → Type 0
+RequestsFiles (Ok a) before after names = after ≡ grown before names
+RequestsFiles (Err (Shelf file)) before after names = after ≡ grown before (take (file + 1) names)
+RequestsFiles (Err (Missing file)) before after names = after ≡ grown before (take (file + 1) names)
+RequestsFiles (Err (TooLong file)) before after names = after ≡ grown before names
+RequestsFiles (Err (Source file why)) before after names = after ≡ grown before names
+RequestsFiles (Err Memory) before after names =
+    (count : ℕ) × (after ≡ grown before (take count names))
 
 -- ---- completeness
 
@@ -95,10 +98,10 @@ refusal unmade.Memory = Memory
 
 -- Where the files make a program, none is reported as bad; where they make a refusal, that is
 -- reported, unless the shelf or memory failed.
-abbrev pub IsHeld : {A : Type 0} → Result Bundle BundleError → Result A ProgramError → ℕ → ℕ
+abbrev pub IsComplete : {A : Type 0} → Result Bundle BundleError → Result A ProgramError → ℕ → ℕ
     → Type 0
-IsHeld (Ok program) result before after = IfErr result (λ why. is_bad_file why ≡ false)
-IsHeld (Err e) result before after =
+IsComplete (Ok program) result before after = IfErr result (λ why. is_bad_file why ≡ false)
+IsComplete (Err e) result before after =
     MatchResult result (λ _. ⊥) (λ why. (why ≡ refusal e) ⊎ (why ≡ Memory) ⊎ Rose before after)
 
 -- ---- in two steps: the files are fetched, and then they make a program
@@ -110,8 +113,8 @@ IsUnread (Source file why) = ⊥
 IsUnread why = ⊤
 
 -- why fetched files make no program
-abbrev pub IsMade : List Given → ProgramError → Type 0
-IsMade fetched why =
+abbrev pub IsUnmade : List Given → ProgramError → Type 0
+IsUnmade fetched why =
     (why ≡ Memory) ⊎ ((e : BundleError) × Makes fetched (Err e) × (why ≡ refusal e))
 
 -- what fetched files make is answered, or memory ran out

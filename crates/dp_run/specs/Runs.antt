@@ -12,7 +12,7 @@ use Rattle.dp_run.specs.declared.errors.ProgramError.{ProgramError}
 use Rattle.dp_run.specs.declared.errors.RunError.{RunError}
 use Rattle.dp_run.specs.declared.errors.RunError.TheVariants.{Program, Fatal, Bound, OutFault}
 use Rattle.dp_run.specs.declared.errors.RunError.TheVariants.{Memory}
-use Rattle.dp_run.specs.Programs.{Files, NamesMake, NoProgram}
+use Rattle.dp_run.specs.Programs.{Files, NamesMake, ProgramCaused}
 
 -- the program of these files ended so, and all that it wrote was put
 pub record Ends (outcome : Outcome) (files : Files) (names : List (List ℕ)) (bound : ℕ)
@@ -45,7 +45,7 @@ pub record Runs (status : ℕ) (files : Files) (names : List (List ℕ)) (bound 
 -- why the run failed
 abbrev pub RunCaused : RunError → Files → ℕ → ℕ → List (List ℕ) → ℕ → Change → Type 0
 RunCaused (Program why) files before after names bound out =
-    NoProgram why files before after names × IsUntouched out
+    ProgramCaused why files before after names × IsUntouched out
 RunCaused (Fatal kind file line) files before after names bound out =
     Ends (way.Fatal kind file line) files names bound out
 RunCaused Bound files before after names bound out = Ends way.Bound files names bound out

@@ -4,7 +4,7 @@ ghost use Rattle.std.specs.Prelude.{◌≡◌, ◌<◌, ◌≤◌, IfOk, MatchRe
 ghost use Rattle.dp_meaning.specs.Trace.{outcome_of, plain};
 ghost use Rattle.dp_outside.specs.Changes.{change};
 ghost use Rattle.dp_run.specs.Runs.{judged};
-ghost use Rattle.dp_run.specs.inner.Steps.{IsPut, IsUnput, IsPlainPut, IsPlainUnput};
+ghost use Rattle.dp_run.specs.inner.Steps.{EndFailed, EndWritten, RunFailed, RunWrites};
 
 use crate::errors::RunError;
 use dp_outside::Sink;
@@ -31,8 +31,8 @@ pub fn judge(outcome: Outcome) -> Result<u8, RunError>
 /// Puts what a program wrote, and answers what its end comes to.
 fn put_end<K: Sink>(outcome: Outcome, output: &[u8], out: &mut K) -> Result<u8, RunError>
     ensures ends { MatchResult result
-        (λ status. IsPut status outcome output.now (change K.taken K.faults out.old out.new))
-        (λ why. IsUnput why outcome output.now (change K.taken K.faults out.old out.new)) }
+        (λ status. EndWritten status outcome output.now (change K.taken K.faults out.old out.new))
+        (λ why. EndFailed why outcome output.now (change K.taken K.faults out.old out.new)) }
     ensures later { K.faults out.old ≤ K.faults out.new }
 {
     match out.put(output) {
@@ -75,8 +75,8 @@ pub(crate) fn run_program<K: Sink>(
     out: &mut K,
 ) -> Result<u8, RunError>
     ensures ends { MatchResult result
-        (λ status. IsPlainPut status program.now bound (change K.taken K.faults out.old out.new))
-        (λ why. IsPlainUnput why program.now bound (change K.taken K.faults out.old out.new)) }
+        (λ status. RunWrites status program.now bound (change K.taken K.faults out.old out.new))
+        (λ why. RunFailed why program.now bound (change K.taken K.faults out.old out.new)) }
     ensures later { K.faults out.old ≤ K.faults out.new }
 {
     // Nobody asks for the steps.

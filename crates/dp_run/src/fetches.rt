@@ -4,7 +4,7 @@ ghost use Rattle.std.specs.Prelude.{◌≡◌, ◌≤◌, ◌<◌, ◌++◌, ◌
 ghost use Rattle.dp_outside.specs.Files.{Fetches};
 ghost use Rattle.dp_outside.specs.Reports.{grown};
 ghost use Rattle.dp_tree.specs.FileNames.{file_limit};
-ghost use Rattle.dp_run.specs.Programs.{AreFetched, Asks, IsUnread, NoProgram};
+ghost use Rattle.dp_run.specs.Programs.{AreFetched, IsUnread, ProgramCaused, RequestsFiles};
 ghost use Rattle.dp_run.specs.inner.Steps.{FetchCaused, IsNext};
 
 use crate::errors::ProgramError;
@@ -14,7 +14,7 @@ use dp_value::{Bytes, Items};
 use std::alloc::Global;
 
 /// A file as a bundle takes it.
-fn given(alloc: Global, name: &str, content: Vec<u8>) -> Result<(Bytes, Bytes), ProgramError>
+fn bundle_entry(alloc: Global, name: &str, content: Vec<u8>) -> Result<(Bytes, Bytes), ProgramError>
     ensures ok { IfOk result (λ file. (file.0 ≡ name.now) × (file.1 ≡ content.items)) }
     ensures err { IfErr result (λ why. why ≡ ProgramError.Memory) }
 {
@@ -39,7 +39,7 @@ fn fetch<H: Shelf>(
     ensures asked { H.fetched shelf.new ≡ grown (H.fetched shelf.old) (name.now ∷ []) }
 {
     match shelf.fetch(alloc, name, FILE_LIMIT) {
-        Ok(content) => given(alloc, name, content.into_vec()),
+        Ok(content) => bundle_entry(alloc, name, content.into_vec()),
         Err(ShelfError::Failed) => Err(ProgramError::Shelf { file: number }),
         Err(ShelfError::Missing) => Err(ProgramError::Missing { file: number }),
         Err(ShelfError::Memory) => Err(ProgramError::Memory),
@@ -86,12 +86,12 @@ pub fn fetch_files<H: Shelf>(
 ) -> Result<Items<(Bytes, Bytes)>, ProgramError>
     requires { length names.now ≤ 64 }
     ensures ok { IfOk result (λ fetched. AreFetched (H.files shelf.old) (map string_bytes names.now) fetched) }
-    ensures err { IfErr result (λ why. NoProgram why (H.files shelf.old) (H.faults shelf.old) (H.faults shelf.new)
+    ensures err { IfErr result (λ why. ProgramCaused why (H.files shelf.old) (H.faults shelf.old) (H.faults shelf.new)
         (map string_bytes names.now)) }
     ensures unread { IfErr result IsUnread }
     ensures later { H.faults shelf.old ≤ H.faults shelf.new }
     ensures files { H.files shelf.new ≡ H.files shelf.old }
-    ensures asked { Asks result (H.fetched shelf.old) (H.fetched shelf.new) (map string_bytes names.now) }
+    ensures asked { RequestsFiles result (H.fetched shelf.old) (H.fetched shelf.new) (map string_bytes names.now) }
 {
     let mut fetched = Vec::new(alloc);
     for name in names {

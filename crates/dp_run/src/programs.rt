@@ -5,7 +5,7 @@ ghost use Rattle.dp_bundle.specs.Bundles.{AreForBundle, Makes};
 ghost use Rattle.dp_tree.specs.FileNames.{AreFileNames};
 ghost use Rattle.dp_tree.specs.declared.bundle.Bundle.{Bundle as Program};
 ghost use Rattle.dp_bundle.specs.declared.errors.BundleError.{BundleError as Unmade};
-ghost use Rattle.dp_run.specs.Programs.{Asks, Holds, IsHeld, IsMade, IsRefused, NamesMake, NoProgram};
+ghost use Rattle.dp_run.specs.Programs.{FilesMake, IsComplete, IsRefused, IsUnmade, NamesMake, ProgramCaused, RequestsFiles};
 
 use crate::errors::ProgramError;
 use crate::fetches::fetch_files;
@@ -20,7 +20,7 @@ pub fn make_program(alloc: Global, fetched: Items<(Bytes, Bytes)>) -> Result<Bun
     requires { AreForBundle fetched }
     ensures ok { IfOk result (λ program. Makes fetched (Ok program)) }
     ensures named { IfOk result (λ program. map (λ file. file.name) program.files ≡ map (λ file. file.0) fetched) }
-    ensures err { IfErr result (λ why. IsMade fetched why) }
+    ensures err { IfErr result (λ why. IsUnmade fetched why) }
     // Files make one thing alone.
     ensures only { (asked : Result Program Unmade) → Makes fetched asked → IsRefused asked result }
 {
@@ -41,13 +41,13 @@ pub fn fetch_program<H: Shelf>(
     requires { AreFileNames (map string_bytes names.now) }
     ensures made { IfOk result (λ program. NamesMake (H.files shelf.old) (map string_bytes names.now) (Ok program)) }
     ensures named { IfOk result (λ program. map (λ file. file.name) program.files ≡ map string_bytes names.now) }
-    ensures cause { IfErr result (λ why. NoProgram why (H.files shelf.old) (H.faults shelf.old) (H.faults shelf.new)
+    ensures cause { IfErr result (λ why. ProgramCaused why (H.files shelf.old) (H.faults shelf.old) (H.faults shelf.new)
         (map string_bytes names.now)) }
     // Only these files are asked for, each once, in order: all of them, or those up to one that is not fetched.
-    ensures asked { Asks result (H.fetched shelf.old) (H.fetched shelf.new) (map string_bytes names.now) }
+    ensures asked { RequestsFiles result (H.fetched shelf.old) (H.fetched shelf.new) (map string_bytes names.now) }
     // What the files of a shelf that tells them make is answered, unless the shelf or memory fails.
-    ensures held { (asked : Result Program Unmade) → Holds (H.files shelf.old) (map string_bytes names.now) asked
-        → IsHeld asked result (H.faults shelf.old) (H.faults shelf.new) }
+    ensures held { (asked : Result Program Unmade) → FilesMake (H.files shelf.old) (map string_bytes names.now) asked
+        → IsComplete asked result (H.faults shelf.old) (H.faults shelf.new) }
     ensures later { H.faults shelf.old ≤ H.faults shelf.new }
     ensures files { H.files shelf.new ≡ H.files shelf.old }
 {

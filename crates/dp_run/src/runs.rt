@@ -5,7 +5,7 @@ ghost use Rattle.dp_outside.specs.Changes.{change};
 ghost use Rattle.dp_tree.specs.FileNames.{AreFileNames};
 ghost use Rattle.dp_tree.specs.declared.bundle.Bundle.{Bundle as Program};
 ghost use Rattle.dp_bundle.specs.declared.errors.BundleError.{BundleError as Unmade};
-ghost use Rattle.dp_run.specs.Programs.{Asks, Holds, IsHeld};
+ghost use Rattle.dp_run.specs.Programs.{FilesMake, IsComplete, RequestsFiles};
 ghost use Rattle.dp_run.specs.Runs.{Runs, RunCaused, of_program};
 
 use crate::ends::run_program;
@@ -33,10 +33,11 @@ pub fn run<H: Shelf, K: Sink>(
         (map string_bytes names.now) bound (change K.taken K.faults out.old out.new)) }
     ensures status { IfOk result (λ status. status ≤ 199) }
     // Only these files are asked for, each once, in order: all of them, or those up to one that is not fetched.
-    ensures asked { Asks (of_program result) (H.fetched shelf.old) (H.fetched shelf.new) (map string_bytes names.now) }
+    ensures asked { RequestsFiles (of_program result) (H.fetched shelf.old) (H.fetched shelf.new)
+        (map string_bytes names.now) }
     // What the files of a shelf that tells them make is answered, unless the shelf or memory fails.
-    ensures held { (asked : Result Program Unmade) → Holds (H.files shelf.old) (map string_bytes names.now) asked
-        → IsHeld asked (of_program result) (H.faults shelf.old) (H.faults shelf.new) }
+    ensures held { (asked : Result Program Unmade) → FilesMake (H.files shelf.old) (map string_bytes names.now) asked
+        → IsComplete asked (of_program result) (H.faults shelf.old) (H.faults shelf.new) }
     ensures shelf_later { H.faults shelf.old ≤ H.faults shelf.new }
     ensures files { H.files shelf.new ≡ H.files shelf.old }
     ensures out_later { K.faults out.old ≤ K.faults out.new }

@@ -7,7 +7,7 @@ use Rattle.dp_outside.specs.Links.{CountsReturned, Link}
 use Rattle.dp_outside.specs.Reports.{grown}
 use Rattle.dp_tree.specs.declared.bundle.Bundle.{Bundle}
 use Rattle.dp_run.specs.declared.errors.ProgramError.{ProgramError}
-use Rattle.dp_run.specs.Programs.{NamesMake, NoProgram}
+use Rattle.dp_run.specs.Programs.{NamesMake, ProgramCaused}
 use Rattle.dp_top.specs.declared.failures.Failure.TheVariants as failure
 use Rattle.dp_top.specs.declared.failures.Refused.{Refused}
 use Rattle.dp_words.specs.CommandLine.{Address, Invocation}
@@ -155,7 +155,7 @@ module _ (address : Address) (key : List ℕ) (ask : Invocation) (old new : Seen
   })))
 
   pub none_engaged : (refused : Refused) (why : ProgramError)
-      → NoProgram why old.shelf.files old.shelf.faults new.shelf.faults ask.names
+      → ProgramCaused why old.shelf.files old.shelf.faults new.shelf.faults ask.names
       → IsProgramTold refused.failure refused.name.now ask why → IsIdle old new
       → EngineFails refused.failure refused.name.now address key ask old new
   none_engaged refused why caused told idle =

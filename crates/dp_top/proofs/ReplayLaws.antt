@@ -13,7 +13,7 @@ use Rattle.dp_lists.specs.Lists.{IsFirstBad}
 use Rattle.dp_lists.proofs.ListLaws.{bad_excludes}
 use Rattle.dp_run.specs.declared.errors.ProgramError.{ProgramError}
 use Rattle.dp_run.specs.declared.errors.ProgramError.TheVariants as none
-use Rattle.dp_run.specs.Programs.{AreFetched, Files, IsHeld as IsRunHeld, IsMade, IsUnread, NamesMake, NoProgram, Told}
+use Rattle.dp_run.specs.Programs.{AreFetched, Files, IsComplete as IsRunHeld, IsUnmade, IsUnread, NamesMake, ProgramCaused, RequestedNames}
 use Rattle.dp_run.proofs.RunLaws.{program_caused, program_made}
 use Rattle.dp_world.specs.declared.errors.ReplayError.TheVariants as ends
 use Rattle.dp_world.specs.Replays.{Replays}
@@ -178,7 +178,7 @@ module _ (files : Files) (before after : ℕ) (events : List ℕ) (ask : Invocat
 
     module _ (fetched : List Given) (are : AreFetched files ask.names fetched) where
       -- the files make no program
-      pub unmade_fails : (cause : ProgramError) (why : Failure) (name : List ℕ) → IsMade fetched cause
+      pub unmade_fails : (cause : ProgramError) (why : Failure) (name : List ℕ) → IsUnmade fetched cause
           → IsProgramTold why name ask cause → IsUntouched out
           → ReplayFails why name events ask files before after out
       unmade_fails cause why name made told idle =
@@ -234,8 +234,8 @@ module _ (files : Files) (before after : ℕ) (events : List ℕ) (ask : Invocat
               ),
             )
 
-  pub since : (first : ℕ) → before ≤ first → (c : ProgramError) → NoProgram c files first after ask.names
-      → NoProgram c files before after ask.names
+  pub since : (first : ℕ) → before ≤ first → (c : ProgramError) → ProgramCaused c files first after ask.names
+      → ProgramCaused c files before after ask.names
   since first earlier (none.Shelf file) h = (h.0, (let rose = h.1 in omega arith))
   since first earlier (none.Missing file) h = h
   since first earlier (none.TooLong file) h = h
@@ -244,7 +244,7 @@ module _ (files : Files) (before after : ℕ) (events : List ℕ) (ask : Invocat
 
   -- the files were not fetched
   pub unfetched_fails : (cause : ProgramError) (why : Failure) (name : List ℕ) (first : ℕ) → before ≤ first
-      → NoProgram cause files first after ask.names → IsUnread cause
+      → ProgramCaused cause files first after ask.names → IsUnread cause
       → IsProgramTold why name ask cause → IsUntouched out → ReplayFails why name events ask files before after out
   unfetched_fails cause why name first earlier caused unread told idle =
       inr (inr (inl (
@@ -273,16 +273,18 @@ status_small (Err why) events ask files before after out h = tt
 
 -- ---- which files are fetched
 
-grown_twice : (told : Told) (first : List ℕ) (names : List (List ℕ))
+grown_twice : (told : RequestedNames) (first : List ℕ) (names : List (List ℕ))
     → grown (grown told (first ∷ [])) names ≡ grown told (first ∷ names)
 grown_twice None first names = refl
 grown_twice (Some told) first names = ap Some (append_assoc told (first ∷ []) names)
 
-pub only_first : (before after : Told) (first : List ℕ) (names : List (List ℕ)) → after ≡ grown before (first ∷ [])
+pub only_first : (before after : RequestedNames) (first : List ℕ) (names : List (List ℕ)) → after ≡ grown before
+    (first ∷ [])
     → OnlyFetched (first ∷ names) before after
 only_first before after first names e = (1, e)
 
-pub first_and : (before mid after : Told) (first : List ℕ) (names : List (List ℕ)) → mid ≡ grown before (first ∷ [])
+pub first_and : (before mid after : RequestedNames) (first : List ℕ) (names : List (List ℕ)) → mid ≡ grown before
+    (first ∷ [])
     → OnlyFetched names mid after → OnlyFetched (first ∷ names) before after
 first_and before mid after first names e h =
-    (suc h.0, h.1 ∙ ap (λ (t : Told). grown t (take h.0 names)) e ∙ grown_twice before first (take h.0 names))
+    (suc h.0, h.1 ∙ ap (λ (t : RequestedNames). grown t (take h.0 names)) e ∙ grown_twice before first (take h.0 names))

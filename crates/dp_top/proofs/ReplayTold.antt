@@ -8,8 +8,8 @@ use Rattle.dp_tree.specs.declared.bundle.Bundle.{Bundle}
 use Rattle.dp_lists.specs.declared.event.Event.{Event}
 use Rattle.dp_run.specs.declared.errors.ProgramError.{ProgramError}
 use Rattle.dp_run.specs.declared.errors.ProgramError.TheVariants as none
-use Rattle.dp_run.specs.Programs.{Files, Holds, IsHeld as IsRunHeld, NoProgram, refusal}
-use Rattle.dp_run.proofs.RunLaws.{held_unfetched}
+use Rattle.dp_run.specs.Programs.{Files, FilesMake, IsComplete as IsRunHeld, ProgramCaused, refusal}
+use Rattle.dp_run.proofs.RunLaws.{complete_unfetched}
 use Rattle.dp_top.specs.declared.failures.Failure.{Failure}
 use Rattle.dp_top.specs.declared.failures.Failure.TheVariants as failure
 use Rattle.dp_top.specs.declared.failures.Refused.{Refused}
@@ -41,7 +41,7 @@ never_missing (Err e) file before after (inr (inr rose)) = rose
 
 module _ (files : Files) (before after : ℕ) (out : Change) (events : List ℕ) (ask : Invocation) (line : ℕ)
     (made : Result Bundle BundleError) (bad : IsNoList files events line)
-    (holds : Holds files ask.names made) where
+    (holds : FilesMake files ask.names made) where
   never_held : (list : List Event) → IsHeldList files events list → ⊥
   never_held list held = held_or_bad files events bad.content list line holds.tells held bad.fetched bad.bad
 
@@ -64,11 +64,11 @@ module _ (files : Files) (before after : ℕ) (out : Change) (events : List ℕ)
   no_files : (why : Failure) (name : List ℕ) (u : IsUnmade why name events ask files before after)
       → IsListEnd why before after
   no_files why name u = by u.cause u.caused u.read u.told.0 where
-    by : (cause : ProgramError) → NoProgram cause files before after ask.names → ReadBefore cause files events
+    by : (cause : ProgramError) → ProgramCaused cause files before after ask.names → ReadBefore cause files events
         → why ≡ program_failure cause → IsListEnd why before after
     by (none.Shelf file) caused read told = inr (inr caused.1)
     by (none.Missing file) caused read told =
-        inr (inr (never_missing made file before after (held_unfetched Bundle files ask.names before after made
+        inr (inr (never_missing made file before after (complete_unfetched Bundle files ask.names before after made
         (none.Missing file) caused tt holds)))
     by (none.TooLong file) caused read told = absurd (never_held read.0 read.1)
     by (none.Source file cause) caused read told = absurd (never_held read.0 read.1)
@@ -94,7 +94,8 @@ module _ (status : ℕ) (words : List (List ℕ)) (task : Task) (old new : Seen)
 
   pub list_refused_told : (events : List ℕ) (ask : Invocation) (line : ℕ) (made : Result Bundle BundleError)
       → IsReplay words events ask → IsNoList old.shelf.files events line
-      → Holds old.shelf.files ask.names made → (status ≡ 204) ⊎ (status ≡ 209) ⊎ Rose old.shelf.faults new.shelf.faults
+      → FilesMake old.shelf.files ask.names made → (status ≡ 204) ⊎ (status ≡ 209)
+          ⊎ Rose old.shelf.faults new.shelf.faults
   list_refused_told events ask line made is bad holds =
       by told (list_end old.shelf.files old.shelf.faults new.shelf.faults
       (changed old.out new.out) events ask line made bad holds refused.failure refused.name.now
@@ -196,7 +197,7 @@ module _ (status : ℕ) (words : List (List ℕ)) (task : Task) (old new : Seen)
 
   pub list_refused_done : (events : List ℕ) (ask : Invocation) (line : ℕ) (made : Result Bundle BundleError)
       → IsReplay words events ask → IsNoList old.shelf.files events line
-      → Holds old.shelf.files ask.names made → ⊥
+      → FilesMake old.shelf.files ask.names made → ⊥
   list_refused_done events ask line made is bad holds =
       let r = (replays_so events ask is).1 in
       held_or_bad old.shelf.files events bad.content r.events line holds.tells r.held bad.fetched bad.bad

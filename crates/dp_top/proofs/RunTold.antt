@@ -14,7 +14,7 @@ use Rattle.dp_run.specs.declared.errors.ProgramError.{ProgramError}
 use Rattle.dp_run.specs.declared.errors.ProgramError.TheVariants as none
 use Rattle.dp_run.specs.declared.errors.RunError.{RunError}
 use Rattle.dp_run.specs.declared.errors.RunError.TheVariants as run
-use Rattle.dp_run.specs.Programs.{Asks, IsHeld as IsRunHeld, Told, is_bad_file, refusal}
+use Rattle.dp_run.specs.Programs.{IsComplete as IsRunHeld, RequestedNames, RequestsFiles, is_bad_file, refusal}
 use Rattle.dp_run.specs.Runs.{of_program}
 use Rattle.dp_top.specs.declared.failures.Refused.{Refused}
 use Rattle.dp_words.specs.CommandLine.{Invocation}
@@ -83,13 +83,13 @@ held_run bound asked run.Memory refused before after told h =
 -- ---- what was fetched
 
 -- all names are the first of them
-all_fetched : (before after : Told) (names : List (List ℕ)) → after ≡ grown before names
+all_fetched : (before after : RequestedNames) (names : List (List ℕ)) → after ≡ grown before names
     → (count : ℕ) × (after ≡ grown before (take count names))
 all_fetched before after names e =
     (length names, e ∙ ap (grown before) (sym (take_all (length names) names (omega arith))))
 
-pub fetched : (A : Type 0) (result : Result A ProgramError) (before after : Told) (ask : Invocation)
-    → Asks result before after ask.names → IsFetched (Some ask) before after
+pub fetched : (A : Type 0) (result : Result A ProgramError) (before after : RequestedNames) (ask : Invocation)
+    → RequestsFiles result before after ask.names → IsFetched (Some ask) before after
 fetched A (Ok a) before after ask e = all_fetched before after ask.names e
 fetched A (Err (none.Shelf file)) before after ask e = (file + 1, e)
 fetched A (Err (none.Missing file)) before after ask e = (file + 1, e)
@@ -98,6 +98,6 @@ fetched A (Err (none.Source file why)) before after ask e = all_fetched before a
 fetched A (Err none.Memory) before after ask e = e
 
 -- nothing was
-pub nothing_fetched : (asked : Option Invocation) (told : Told) → IsFetched asked told told
+pub nothing_fetched : (asked : Option Invocation) (told : RequestedNames) → IsFetched asked told told
 nothing_fetched None told = refl
 nothing_fetched (Some ask) told = (0, grown_by_none told)

@@ -17,7 +17,7 @@ use Rattle.dp_engine.specs.Session.{State, outcome_of}
 use Rattle.dp_meaning.proofs.Exits.{exit_small}
 use Rattle.dp_run.specs.declared.errors.RunError.{RunError}
 use Rattle.dp_run.specs.declared.errors.ProgramError.{ProgramError}
-use Rattle.dp_run.specs.Programs.{IsHeld as IsRunHeld, NamesMake, NoProgram}
+use Rattle.dp_run.specs.Programs.{IsComplete as IsRunHeld, NamesMake, ProgramCaused}
 use Rattle.dp_run.specs.Runs.{judged as judged_end}
 use Rattle.dp_state.specs.declared.moments.Outcome.{Outcome}
 use Rattle.dp_state.specs.declared.moments.Outcome.TheVariants as way
@@ -154,7 +154,7 @@ module _ (key : List ℕ) (ask : Invocation) (old new : Seen) where
       }))
 
   pub none_served : (refused : Refused) (why : ProgramError)
-      → NoProgram why old.shelf.files old.shelf.faults new.shelf.faults ask.names
+      → ProgramCaused why old.shelf.files old.shelf.faults new.shelf.faults ask.names
       → IsProgramTold refused.failure refused.name.now ask why → AreIdle old new
       → TalkFails refused.failure refused.name.now key ask old new
   none_served refused why caused told idle =

@@ -17,7 +17,7 @@ use Rattle.dp_run.specs.declared.errors.ProgramError.{ProgramError}
 use Rattle.dp_run.specs.declared.errors.ProgramError.TheVariants as none
 use Rattle.dp_run.specs.declared.errors.RunError.{RunError}
 use Rattle.dp_run.specs.declared.errors.RunError.TheVariants as end
-use Rattle.dp_run.specs.Programs.{Files, Holds, NoProgram, Told as FetchedTold}
+use Rattle.dp_run.specs.Programs.{Files, FilesMake, ProgramCaused, RequestedNames as FetchedTold}
 use Rattle.dp_run.specs.Runs.{RunCaused}
 use Rattle.dp_state.specs.declared.moments.Outcome.{Outcome}
 use Rattle.dp_state.specs.declared.moments.Outcome.TheVariants as way
@@ -317,7 +317,7 @@ caused_of status words old new f task asks =
 -- files that are not told as bad, on a shelf that did not fail, make a program unless memory runs out
 pub no_program : (failed : Failure) (files : Files) (before after : ℕ) (names : List (List ℕ)) → IsGood failed
     → (Rose before after → ⊥) → (why : ProgramError)
-    → NoProgram why files before after names → failed ≡ program_failure why → status_of failed ≡ 209
+    → ProgramCaused why files before after names → failed ≡ program_failure why → status_of failed ≡ 209
 no_program failed files before after names good shelf (none.Shelf file) caused told = absurd (shelf caused.1)
 no_program failed files before after names good shelf (none.Missing file) caused told = absurd (good.1 told)
 no_program failed files before after names good shelf (none.TooLong file) caused told =
@@ -334,7 +334,7 @@ module _ (failed : Failure) (name key : List ℕ) (ask : Invocation) (old new : 
   abbrev IsTalkEnd : Failure → Type 0
   IsTalkEnd f = (status_of f ≡ 207) ⊎ (status_of f ≡ 210) ⊎ (status_of f ≡ 255) ⊎ (status_of f ≡ 209)
 
-  unserved : (why : ProgramError) → NoProgram why old.shelf.files old.shelf.faults new.shelf.faults ask.names
+  unserved : (why : ProgramError) → ProgramCaused why old.shelf.files old.shelf.faults new.shelf.faults ask.names
       → failed ≡ program_failure why → IsTalkEnd failed
   unserved why caused told = inr (inr (inr (no_program failed _ _ _ ask.names good none.shelf why caused told)))
 
@@ -407,7 +407,7 @@ pub complete_talk_told : (status : ℕ) (words : List (List ℕ)) (task : Task) 
     → Caused refused.failure refused.name.now task old new → IsNoBadTask task refused old new
     → ((status ≡ status_of refused.failure) × A) ⊎ ((status ≡ 209) × B)
     → (key : List ℕ) (ask : Invocation) (program : Bundle) → IsTalk words key ask
-    → Holds old.shelf.files ask.names (Ok program) → NoneRose old new
+    → FilesMake old.shelf.files ask.names (Ok program) → NoneRose old new
     → (status ≤ 199) ⊎ (status ≡ 207) ⊎ (status ≡ 210) ⊎ (status ≡ 255) ⊎ (status ≡ 209)
 complete_talk_told status words task old new refused A B asks caused held told key ask program is holds none =
     let same = one_task words task (talk key ask) asks is in
@@ -499,7 +499,7 @@ pub complete_engine_told : (status : ℕ) (words : List (List ℕ)) (task : Task
     → Caused refused.failure refused.name.now task old new → IsNoBadTask task refused old new
     → ((status ≡ status_of refused.failure) × A) ⊎ ((status ≡ 209) × B)
     → (address : Address) (key : List ℕ) (ask : Invocation) (program : Bundle) → IsEngine words address key ask
-    → Holds old.shelf.files ask.names (Ok program) → NoneRose old new
+    → FilesMake old.shelf.files ask.names (Ok program) → NoneRose old new
     → (status ≤ 199) ⊎ (status ≡ 207) ⊎ (status ≡ 210) ⊎ (status ≡ 255) ⊎ (status ≡ 209)
 complete_engine_told status words task old new refused A B asks caused held told address key ask program is holds none =
     let same = one_task words task (engine address key ask) asks is in
@@ -577,7 +577,7 @@ pub complete_run_told : (status : ℕ) (words : List (List ℕ)) (task : Task) (
     (A B : Type 0) → IsInvocation words task
     → Caused refused.failure refused.name.now task old new → IsNoBadTask task refused old new
     → ((status ≡ status_of refused.failure) × A) ⊎ ((status ≡ 209) × B)
-    → (ask : Invocation) (program : Bundle) → IsRun words ask → Holds old.shelf.files ask.names (Ok program)
+    → (ask : Invocation) (program : Bundle) → IsRun words ask → FilesMake old.shelf.files ask.names (Ok program)
     → NoneRose old new
     → (status ≤ 199) ⊎ (status ≡ 255) ⊎ (status ≡ 209)
 complete_run_told status words task old new refused A B asks caused held told ask program is holds none =

@@ -5,7 +5,7 @@ use Rattle.dp_tree.specs.declared.bundle.Bundle.{Bundle}
 use Rattle.dp_engine.specs.declared.service.Served.{Served}
 use Rattle.dp_engine.specs.Service.{Serves}
 use Rattle.dp_run.specs.declared.errors.ProgramError.{ProgramError}
-use Rattle.dp_run.specs.Programs.{NamesMake, NoProgram}
+use Rattle.dp_run.specs.Programs.{NamesMake, ProgramCaused}
 use Rattle.dp_top.specs.declared.failures.Failure.{Failure}
 use Rattle.dp_top.specs.declared.failures.Failure.TheVariants as failure
 use Rattle.dp_words.specs.CommandLine.{Address, Invocation}
@@ -53,7 +53,7 @@ pub record IsIdle (old new : Seen) : Type 0 where
 pub record IsUnserved (why : Failure) (name : List ℕ) (ask : Invocation)
     (old new : Seen) : Type 0 where
   pub cause : ProgramError
-  pub caused : NoProgram cause old.shelf.files old.shelf.faults new.shelf.faults ask.names
+  pub caused : ProgramCaused cause old.shelf.files old.shelf.faults new.shelf.faults ask.names
   pub told : IsProgramTold why name ask cause
   pub idle : IsIdle old new
 

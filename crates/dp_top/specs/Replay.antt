@@ -8,7 +8,7 @@ use Rattle.dp_lists.specs.declared.event.Event.{Event}
 use Rattle.dp_lists.specs.Lists.{IsFirstBad, IsList}
 use Rattle.dp_run.specs.declared.errors.ProgramError.{ProgramError}
 use Rattle.dp_run.specs.declared.errors.ProgramError.TheVariants as none
-use Rattle.dp_run.specs.Programs.{Files, NamesMake, NoProgram}
+use Rattle.dp_run.specs.Programs.{Files, NamesMake, ProgramCaused}
 use Rattle.dp_world.specs.declared.errors.ReplayError.{ReplayError}
 use Rattle.dp_world.specs.declared.errors.ReplayError.TheVariants as ends
 use Rattle.dp_world.specs.Replays.{Replays}
@@ -76,7 +76,7 @@ ReadBefore why files name = Unit {0}
 pub record IsUnmade (why : Failure) (name events : List ℕ) (ask : Invocation) (files : Files)
     (before after : ℕ) : Type 0 where
   pub cause : ProgramError
-  pub caused : NoProgram cause files before after ask.names
+  pub caused : ProgramCaused cause files before after ask.names
   pub read : ReadBefore cause files events
   pub told : IsProgramTold why name ask cause
 

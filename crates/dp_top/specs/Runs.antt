@@ -6,7 +6,7 @@ use Rattle.dp_run.specs.declared.errors.ProgramError.{ProgramError}
 use Rattle.dp_run.specs.declared.errors.ProgramError.TheVariants as none
 use Rattle.dp_run.specs.declared.errors.RunError.{RunError}
 use Rattle.dp_run.specs.declared.errors.RunError.TheVariants as run
-use Rattle.dp_run.specs.Programs.{Files, Told}
+use Rattle.dp_run.specs.Programs.{Files, RequestedNames}
 use Rattle.dp_run.specs.Runs.{RunCaused}
 use Rattle.dp_top.specs.declared.failures.Failure.{Failure}
 use Rattle.dp_top.specs.declared.failures.Failure.TheVariants.{TooLong, ShelfFailed, NoFile, Fatal, Bound, Output, Memory}
@@ -40,12 +40,12 @@ IsProgramTold failure name ask why =
     (failure ≡ program_failure why) × (name ≡ program_name ask.names why)
 
 -- Of these names files are fetched, each once, in their order: all, or the first of them.
-abbrev pub AreFetched : List (List ℕ) → Told → Told → Type 0
+abbrev pub AreFetched : List (List ℕ) → RequestedNames → RequestedNames → Type 0
 AreFetched names before after = (count : ℕ) × (after ≡ grown before (take count names))
 
 -- Only files of a program that is asked for are fetched. Where no program is asked for nothing is
 -- fetched.
-abbrev pub IsFetched : Option Invocation → Told → Told → Type 0
+abbrev pub IsFetched : Option Invocation → RequestedNames → RequestedNames → Type 0
 IsFetched None before after = after ≡ before
 IsFetched (Some ask) before after = AreFetched ask.names before after
 

@@ -8,7 +8,7 @@ use Rattle.dp_engine.specs.declared.service.Served.{Served}
 use Rattle.dp_engine.specs.Service.{Serves}
 use Rattle.dp_run.specs.declared.errors.RunError.{RunError}
 use Rattle.dp_run.specs.declared.errors.ProgramError.{ProgramError}
-use Rattle.dp_run.specs.Programs.{NamesMake, NoProgram}
+use Rattle.dp_run.specs.Programs.{NamesMake, ProgramCaused}
 use Rattle.dp_run.specs.Runs.{judged as judged_end}
 use Rattle.dp_serving.specs.Service.{byte_limit}
 use Rattle.dp_state.specs.declared.moments.Outcome.{Outcome}
@@ -83,7 +83,7 @@ AreIdle old new =
 pub record IsUnserved (why : Failure) (name : List ℕ) (ask : Invocation)
     (old new : Seen) : Type 0 where
   pub cause : ProgramError
-  pub caused : NoProgram cause old.shelf.files old.shelf.faults new.shelf.faults ask.names
+  pub caused : ProgramCaused cause old.shelf.files old.shelf.faults new.shelf.faults ask.names
   pub told : IsProgramTold why name ask cause
   pub idle : AreIdle old new
 

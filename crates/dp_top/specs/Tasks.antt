@@ -12,7 +12,7 @@ use Rattle.dp_top.specs.Ide.{Plays, IdeFails}
 use Rattle.dp_top.specs.Replay.{DoesReplay, ReplayFails}
 use Rattle.dp_top.specs.Failures.{status_of, line_of, Says}
 use Rattle.dp_run.specs.Runs.{Runs}
-use Rattle.dp_run.specs.Programs.{Told}
+use Rattle.dp_run.specs.Programs.{RequestedNames}
 use Rattle.dp_top.specs.Runs.{AreFetched, IsFetched, RunFails}
 use Rattle.dp_top.specs.Seen.{Seen, Stream, changed}
 use Rattle.dp_top.specs.Talk.{Talks, TalkFails}
@@ -88,7 +88,7 @@ Caused failure name show old new =
     × IsStill old.err new.err × IsOffline old new
 
 -- only files that a task names are fetched, each once, in their order
-abbrev pub IsFetchedFor : Task → Told → Told → Type 0
+abbrev pub IsFetchedFor : Task → RequestedNames → RequestedNames → Type 0
 IsFetchedFor (ide port script) before after = AreFetched (script ∷ []) before after
 IsFetchedFor (replay events ask) before after = AreFetched (events ∷ ask.names) before after
 IsFetchedFor task before after = IsFetched (invocation_in task) before after

@@ -6,7 +6,7 @@ ghost use Rattle.dp_outside.specs.Reports.{grown};
 ghost use Rattle.dp_bundle.specs.Bundles.{AreForBundle};
 ghost use Rattle.dp_bundle.specs.declared.errors.BundleError.{BundleError as Unmade};
 ghost use Rattle.dp_lists.specs.declared.event.Event.{Event};
-ghost use Rattle.dp_run.specs.Programs.{Holds};
+ghost use Rattle.dp_run.specs.Programs.{FilesMake};
 ghost use Rattle.dp_tree.specs.declared.bundle.Bundle.{Bundle as Made};
 ghost use Rattle.dp_tree.specs.FileNames.{AreFileNames};
 ghost use Rattle.dp_words.specs.CommandLine.{AreFileWords};
@@ -140,7 +140,7 @@ pub(crate) fn replay<'a, H: Shelf, K: Sink>(
     ensures status { IfOk result (λ status. status ≤ 199) }
     // Files that make a program are no bad source, and those that make none are one, unless the shelf failed.
     ensures held { (asked : Result Made Unmade)
-        → Holds (H.files shelf.old) (invocation_seen request.entry.program).names asked
+        → FilesMake (H.files shelf.old) (invocation_seen request.entry.program).names asked
         → (list : List Event) → IsHeldList (H.files shelf.old) request.entry.events.now list
         → IsHeld asked result (H.faults shelf.old) (H.faults shelf.new) }
     ensures fetched { AreFetched (request.entry.events.now ∷ (invocation_seen request.entry.program).names)

@@ -3,7 +3,7 @@ ghost use Rattle.std.specs.Prelude.{◌≡◌, ◌≤◌, map, string_bytes, Som
 ghost use Rattle.dp_outside.specs.Changes.{change};
 ghost use Rattle.dp_tree.specs.declared.bundle.Bundle.{Bundle};
 ghost use Rattle.dp_bundle.specs.declared.errors.BundleError.{BundleError as Unmade};
-ghost use Rattle.dp_run.specs.Programs.{Holds};
+ghost use Rattle.dp_run.specs.Programs.{FilesMake};
 ghost use Rattle.dp_run.specs.Runs.{Runs};
 ghost use Rattle.dp_words.specs.CommandLine.{AreFileWords};
 ghost use Rattle.dp_words.specs.Commands.{invocation_seen};
@@ -125,7 +125,7 @@ pub(crate) fn run<'a, H: Shelf, K: Sink>(
         (invocation_seen program.entry) (change K.taken K.faults out.old out.new)) }
     ensures status { IfOk result (λ status. status ≤ 199) }
     ensures held { (asked : Result Bundle Unmade)
-        → Holds (H.files shelf.old) (invocation_seen program.entry).names asked
+        → FilesMake (H.files shelf.old) (invocation_seen program.entry).names asked
         → IsHeld asked result (H.faults shelf.old) (H.faults shelf.new) }
     ensures fetched { IsFetched (Some (invocation_seen program.entry)) (H.fetched shelf.old) (H.fetched shelf.new) }
     ensures shelf_later { H.faults shelf.old ≤ H.faults shelf.new }

@@ -10,7 +10,7 @@ ghost use Rattle.dp_words.specs.CommandLine.{IsInvocation};
 ghost use Rattle.dp_words.specs.CommandLine.{invocation_in, uses_net};
 ghost use Rattle.dp_words.specs.Plain.{are_plain};
 ghost use Rattle.dp_top.specs.Failures.{Says};
-ghost use Rattle.dp_run.specs.Programs.{Holds};
+ghost use Rattle.dp_run.specs.Programs.{FilesMake};
 ghost use Rattle.dp_ide.specs.declared.instruction.Instruction.{Instruction};
 ghost use Rattle.dp_lists.specs.declared.event.Event.{Event};
 ghost use Rattle.dp_top.specs.Ide.{IsHeldScript, IsNoScript};
@@ -92,7 +92,7 @@ pub fn top<R: Wait + Sync, H: Shelf, S: Source, K: Sink, E: Sink, N: Net, P: Spa
     // Where the shelf tells the files, they make a program, and no count rose, it is run to its end, and all that it
     // wrote is put.
     ensures complete_run { (ask : Invocation) (program : Bundle) → IsRun (map string_bytes words.now) ask
-        → Holds (H.files shelf.old) ask.names (Ok program)
+        → FilesMake (H.files shelf.old) ask.names (Ok program)
         → NoneRose (seen H.Shelf S.Source K.Sink E.Sink N.Dialer N.shut_doors shelf.old input.old out.old err.old
         net.old)
         (seen H.Shelf S.Source K.Sink E.Sink N.Dialer N.shut_doors shelf.new input.new out.new err.new net.new)
@@ -100,7 +100,7 @@ pub fn top<R: Wait + Sync, H: Shelf, S: Source, K: Sink, E: Sink, N: Net, P: Spa
     // Likewise the session is served whole, or what is no command is reported.
     ensures complete_talk { (key : List ℕ) (ask : Invocation) (program : Bundle)
         → IsTalk (map string_bytes words.now) key ask
-        → Holds (H.files shelf.old) ask.names (Ok program)
+        → FilesMake (H.files shelf.old) ask.names (Ok program)
         → NoneRose (seen H.Shelf S.Source K.Sink E.Sink N.Dialer N.shut_doors shelf.old input.old out.old err.old
         net.old)
         (seen H.Shelf S.Source K.Sink E.Sink N.Dialer N.shut_doors shelf.new input.new out.new err.new net.new)
@@ -108,7 +108,7 @@ pub fn top<R: Wait + Sync, H: Shelf, S: Source, K: Sink, E: Sink, N: Net, P: Spa
     // Likewise over a link that was dialled.
     ensures complete_engine { (address : Address) (key : List ℕ) (ask : Invocation) (program : Bundle)
         → IsEngine (map string_bytes words.now) address key ask
-        → Holds (H.files shelf.old) ask.names (Ok program)
+        → FilesMake (H.files shelf.old) ask.names (Ok program)
         → NoneRose (seen H.Shelf S.Source K.Sink E.Sink N.Dialer N.shut_doors shelf.old input.old out.old err.old
         net.old)
         (seen H.Shelf S.Source K.Sink E.Sink N.Dialer N.shut_doors shelf.new input.new out.new err.new net.new)
@@ -117,7 +117,7 @@ pub fn top<R: Wait + Sync, H: Shelf, S: Source, K: Sink, E: Sink, N: Net, P: Spa
     ensures refused { (task : Task) (ask : Invocation) (why : BundleError)
         → IsInvocation (map string_bytes words.now) task
         → invocation_in task ≡ Some ask
-        → Holds (H.files shelf.old) ask.names (Err why)
+        → FilesMake (H.files shelf.old) ask.names (Err why)
         → (result ≡ 201) ⊎ (result ≡ 209) ⊎ Rose (H.faults shelf.old) (H.faults shelf.new) }
     // Where no count rose, every packet is shown, or the input ended inside one, or what is no packet is reported.
     ensures complete_show { IsInvocation (map string_bytes words.now) Task.show
@@ -148,7 +148,7 @@ pub fn top<R: Wait + Sync, H: Shelf, S: Source, K: Sink, E: Sink, N: Net, P: Spa
     // long, unless the shelf fails or lacks a file of the program.
     ensures list_refused { (events : List ℕ) (ask : Invocation) (line : ℕ) (made : Result Bundle BundleError)
         → IsReplay (map string_bytes words.now) events ask → IsNoList (H.files shelf.old) events line
-        → Holds (H.files shelf.old) ask.names made
+        → FilesMake (H.files shelf.old) ask.names made
         → (result ≡ 204) ⊎ (result ≡ 209) ⊎ Rose (H.faults shelf.old) (H.faults shelf.new) }
     ensures list_held { (events : List ℕ) (ask : Invocation) (list : List Event)
         → IsReplay (map string_bytes words.now) events ask
@@ -156,12 +156,12 @@ pub fn top<R: Wait + Sync, H: Shelf, S: Source, K: Sink, E: Sink, N: Net, P: Spa
     // Where it is one, files that make no program are reported, unless the shelf fails first.
     ensures replay_refused { (events : List ℕ) (ask : Invocation) (list : List Event) (why : BundleError)
         → IsReplay (map string_bytes words.now) events ask → IsHeldList (H.files shelf.old) events list
-        → Holds (H.files shelf.old) ask.names (Err why)
+        → FilesMake (H.files shelf.old) ask.names (Err why)
         → (result ≡ 201) ⊎ (result ≡ 209) ⊎ Rose (H.faults shelf.old) (H.faults shelf.new) }
     // Where they make one, and no count rose, the whole transcript is put.
     ensures complete_replay { (events : List ℕ) (ask : Invocation) (list : List Event) (program : Bundle)
         → IsReplay (map string_bytes words.now) events ask → IsHeldList (H.files shelf.old) events list
-        → Holds (H.files shelf.old) ask.names (Ok program)
+        → FilesMake (H.files shelf.old) ask.names (Ok program)
         → NoneRose (seen H.Shelf S.Source K.Sink E.Sink N.Dialer N.shut_doors shelf.old input.old out.old err.old
         net.old)
         (seen H.Shelf S.Source K.Sink E.Sink N.Dialer N.shut_doors shelf.new input.new out.new err.new net.new)

@@ -32,23 +32,23 @@ FetchCaused (none.Source file why) number name files before after = ⊥
 FetchCaused none.Memory number name files before after = ⊤
 
 -- what a program wrote was put, and it ended so
-abbrev pub IsPut : ℕ → Outcome → List ℕ → Change → Type 0
-IsPut status outcome output out =
+abbrev pub EndWritten : ℕ → Outcome → List ℕ → Change → Type 0
+EndWritten status outcome output out =
     Appends out.told_before out.told output × (judged outcome ≡ Ok status)
 
 -- what a program wrote was put and it ended so, or the output failed
-abbrev pub IsUnput : RunError → Outcome → List ℕ → Change → Type 0
-IsUnput why outcome output out =
+abbrev pub EndFailed : RunError → Outcome → List ℕ → Change → Type 0
+EndFailed why outcome output out =
     (Appends out.told_before out.told output × (judged outcome ≡ Err why))
     ⊎ ((why ≡ OutFault) × AppendsFront out.told_before out.told output
     × Rose out.faults_before out.faults)
 
 -- the same of a run of this program
-abbrev pub IsPlainPut : ℕ → Bundle → ℕ → Change → Type 0
-IsPlainPut status program bound out =
-    IsPut status (outcome_of (plain program bound).end) (plain program bound).state.output out
+abbrev pub RunWrites : ℕ → Bundle → ℕ → Change → Type 0
+RunWrites status program bound out =
+    EndWritten status (outcome_of (plain program bound).end) (plain program bound).state.output out
 
-abbrev pub IsPlainUnput : RunError → Bundle → ℕ → Change → Type 0
-IsPlainUnput why program bound out =
+abbrev pub RunFailed : RunError → Bundle → ℕ → Change → Type 0
+RunFailed why program bound out =
     ((why ≡ Memory) × IsUntouched out)
-    ⊎ IsUnput why (outcome_of (plain program bound).end) (plain program bound).state.output out
+    ⊎ EndFailed why (outcome_of (plain program bound).end) (plain program bound).state.output out

@@ -6,7 +6,7 @@ use Rattle.dp_bundle.specs.Bundles.{Given}
 use Rattle.dp_lists.specs.declared.event.Event.{Event}
 use Rattle.dp_lists.specs.Lists.{IsList}
 use Rattle.dp_bundle.specs.declared.errors.BundleError.{BundleError}
-use Rattle.dp_run.specs.Programs.{AreFetched, Files, Holds}
+use Rattle.dp_run.specs.Programs.{AreFetched, Files, FilesMake}
 use Rattle.dp_tree.specs.declared.bundle.Bundle.{Bundle}
 use Rattle.dp_world.specs.declared.errors.ReplayError.TheVariants as ends
 use Rattle.dp_world.specs.Replays.{Replays}
@@ -54,7 +54,7 @@ abbrev pub HeldFetched : Result ℕ Refused → List ℕ → List ℕ → List G
 HeldFetched result events content fetched ask =
     (files : Files) (before after : ℕ) → Fetches files events lines_limit content
     → AreFetched files ask.names fetched → (asked : Result Bundle BundleError)
-    → Holds files ask.names asked → (list : List Event) → IsHeldList files events list
+    → FilesMake files ask.names asked → (list : List Event) → IsHeldList files events list
     → IsHeld asked result before after
 
 -- likewise of what was fetched of any shelf that holds it

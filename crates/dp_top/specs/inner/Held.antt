@@ -6,7 +6,7 @@ use Rattle.dp_bundle.specs.declared.errors.BundleError.{BundleError}
 use Rattle.dp_top.specs.declared.failures.Failure.{Failure}
 use Rattle.dp_top.specs.declared.failures.Failure.TheVariants.{NoFile, Memory}
 use Rattle.dp_top.specs.declared.failures.Refused.{Refused}
-use Rattle.dp_run.specs.Programs.{Holds}
+use Rattle.dp_run.specs.Programs.{FilesMake}
 use Rattle.dp_words.specs.CommandLine.{Invocation}
 use Rattle.dp_lists.specs.declared.event.Event.{Event}
 use Rattle.dp_top.specs.Failures.{status_of}
@@ -32,12 +32,12 @@ IsHeld (Err e) result before after =
 -- likewise where the shelf tells the files of the program, and a list of events
 pub record AreHeldWith {A : Type 0} (events : List ℕ) (ask : Invocation) (result : Result A Refused)
     (old new : Seen) : Type 0 where
-  pub by_files : (asked : Result Bundle BundleError) → Holds old.shelf.files ask.names asked
+  pub by_files : (asked : Result Bundle BundleError) → FilesMake old.shelf.files ask.names asked
       → (list : List Event) → IsHeldList old.shelf.files events list
       → IsHeld asked result old.shelf.faults new.shelf.faults
 
 -- likewise where the shelf tells the files of the program
 pub record AreHeld {A : Type 0} (ask : Invocation) (result : Result A Refused)
     (old new : Seen) : Type 0 where
-  pub by_files : (asked : Result Bundle BundleError) → Holds old.shelf.files ask.names asked
+  pub by_files : (asked : Result Bundle BundleError) → FilesMake old.shelf.files ask.names asked
       → IsHeld asked result old.shelf.faults new.shelf.faults

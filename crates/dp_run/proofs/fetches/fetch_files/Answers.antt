@@ -3,8 +3,8 @@ use Rattle.dp_outside.specs.Reports.{grown}
 use Rattle.dp_run.proofs.GrownNames.{grown_by_none}
 use Rattle.dp_run.specs.Programs.{AreFetched}
 use Rattle.dp_run.specs.inner.Steps.{FetchCaused, IsNext}
-use Rattle.dp_run.proofs.RunLaws.{fetched_none, so_many, one_more, none_more, all_fetched, all_asked, asked_last}
-use Rattle.dp_run.proofs.RunLaws.{asked_more, unread}
+use Rattle.dp_run.proofs.RunLaws.{fetched_none, so_many, one_more, none_more, all_fetched, all_requested, requested_last}
+use Rattle.dp_run.proofs.RunLaws.{requested_more, unread}
 use Rattle.dp_run.proofs.fetches.fetch_files.Goals as goal
 
 pub loop-name-init : goal.loop-name-init
@@ -44,11 +44,11 @@ returns-in-Err-clause-asked g c =
     let asked =
     subst (λ (name : List ℕ). g.H.Shelf.fetched c.fetch_next.new.shelf ≡ grown (g.H.Shelf.fetched c.loop-name.shelf)
     (name ∷ [])) c.as_str.ensures.value c.fetch_next.ensures.asked in
-    let far = asked_more files c.args.names.now c.loop-name.name-index c.loop-name.fetched.items c.loop-name.invariant.2
-    c.loop-name-test.true
+    let far = requested_more files c.args.names.now c.loop-name.name-index c.loop-name.fetched.items
+    c.loop-name.invariant.2 c.loop-name-test.true
     c.name-item.result start (g.H.Shelf.fetched c.loop-name.shelf) (g.H.Shelf.fetched c.fetch_next.new.shelf)
     c.name-item.is c.loop-name.invariant.3 asked in
-    asked_last files c.args.names.now c.loop-name.name-index c.loop-name.fetched.items c.loop-name.invariant.2
+    requested_last files c.args.names.now c.loop-name.name-index c.loop-name.fetched.items c.loop-name.invariant.2
     c.loop-name-test.true
     c.in-Err.why c.name-item.result before after start (g.H.Shelf.fetched c.fetch_next.new.shelf) far
     (subst (λ fs. FetchCaused c.in-Err.why (length c.loop-name.fetched.items) (string_bytes c.name-item.result) fs
@@ -70,7 +70,7 @@ loop-name-preserved g c =
           c.fetch_next.new.fetched.items) c.loop-name.invariant.1
           (subst (λ (name : List ℕ). IsNext (g.H.Shelf.files c.loop-name.shelf) name c.loop-name.fetched.items
           c.fetch_next.new.fetched.items) c.as_str.ensures.value c.in-Ok.ensures.ok)),
-      asked_more files c.args.names.now c.loop-name.name-index c.loop-name.fetched.items c.loop-name.invariant.2
+      requested_more files c.args.names.now c.loop-name.name-index c.loop-name.fetched.items c.loop-name.invariant.2
           c.loop-name-test.true
           c.name-item.result (g.H.Shelf.fetched c.args.shelf.now) (g.H.Shelf.fetched c.loop-name.shelf)
           (g.H.Shelf.fetched c.fetch_next.new.shelf) c.name-item.is c.loop-name.invariant.3
@@ -86,5 +86,5 @@ returns-clause-ok g c =
     c.loop-name-test.false)
 
 pub returns-clause-asked : goal.returns-clause-asked
-returns-clause-asked g c = all_asked c.args.names.now c.loop-name.name-index _ _ c.loop-name.invariant.3
+returns-clause-asked g c = all_requested c.args.names.now c.loop-name.name-index _ _ c.loop-name.invariant.3
     c.loop-name-test.false

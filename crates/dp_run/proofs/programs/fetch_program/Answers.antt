@@ -1,6 +1,6 @@
 use Rattle.std.proofs.Common.{map, string_bytes}
 use Rattle.dp_tree.specs.declared.bundle.Bundle.{Bundle}
-use Rattle.dp_run.proofs.RunLaws.{asked_made, for_bundle, held_fetched, held_unfetched, program_caused, program_made}
+use Rattle.dp_run.proofs.RunLaws.{complete_fetched, complete_unfetched, for_bundle, program_caused, program_made, requested_made}
 use Rattle.dp_run.proofs.RunLaws.{program_named}
 use Rattle.dp_run.proofs.programs.fetch_program.Goals as goal
 
@@ -29,16 +29,16 @@ returns-in-Ok-clause-cause g c =
 
 pub returns-in-Ok-clause-held : goal.returns-in-Ok-clause-held
 returns-in-Ok-clause-held g c asked held =
-    held_fetched (g.H.Shelf.files c.args.shelf.now) (map string_bytes c.args.names.now) c.in-Ok.fetched
+    complete_fetched (g.H.Shelf.files c.args.shelf.now) (map string_bytes c.args.names.now) c.in-Ok.fetched
     (g.H.Shelf.faults c.args.shelf.now) (g.H.Shelf.faults c.fetch_files.new.shelf)
     asked c.make_program.result c.in-Ok.ensures.ok c.make_program.ensures.only held
 
 pub returns-in-Ok-clause-asked : goal.returns-in-Ok-clause-asked
 returns-in-Ok-clause-asked g c =
-    asked_made c.in-Ok.fetched c.make_program.result _ _ _ c.make_program.ensures.err c.in-Ok.ensures.asked
+    requested_made c.in-Ok.fetched c.make_program.result _ _ _ c.make_program.ensures.err c.in-Ok.ensures.asked
 
 pub returns-in-Err-clause-held : goal.returns-in-Err-clause-held
 returns-in-Err-clause-held g c asked held =
-    held_unfetched Bundle (g.H.Shelf.files c.args.shelf.now) (map string_bytes c.args.names.now)
+    complete_unfetched Bundle (g.H.Shelf.files c.args.shelf.now) (map string_bytes c.args.names.now)
     (g.H.Shelf.faults c.args.shelf.now) (g.H.Shelf.faults c.fetch_files.new.shelf)
     asked c.in-Err.why c.in-Err.ensures.err c.in-Err.ensures.unread held

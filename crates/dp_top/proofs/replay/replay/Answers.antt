@@ -2,8 +2,8 @@ use Rattle.std.proofs.Common.{◌≡◌, List, ℕ, Ok, Err, map, string_bytes, 
 use Rattle.std.specs.Prelude.{⊤}
 use Rattle.dp_outside.specs.Changes.{change}
 use Rattle.dp_outside.specs.Files.{Fetches}
-use Rattle.dp_run.specs.Programs.{AreFetched, Files, NoProgram}
-use Rattle.dp_run.proofs.RunLaws.{for_bundle, held_unfetched}
+use Rattle.dp_run.specs.Programs.{AreFetched, Files, ProgramCaused}
+use Rattle.dp_run.proofs.RunLaws.{complete_unfetched, for_bundle}
 use Rattle.dp_tree.specs.declared.bundle.Bundle.{Bundle}
 use Rattle.dp_words.specs.Commands.{invocation_seen}
 use Rattle.dp_words.proofs.NameLaws.{names_of}
@@ -71,7 +71,8 @@ returns-clause-ends g c =
     (change g.K.Sink.taken g.K.Sink.faults c.args.out.now c.args.out.now) why c.told_of_files.result.failure
     c.told_of_files.result.name.now
     first c.in-Ok.ensures.later
-    (subst (λ (f : Files). NoProgram why f first after names) c.in-Ok.ensures.files c.in-Err-fetch_files.ensures.err)
+    (subst (λ (f : Files). ProgramCaused why f first after names) c.in-Ok.ensures.files
+    c.in-Err-fetch_files.ensures.err)
     c.in-Err-fetch_files.ensures.unread c.told_of_files.ensures (refl, refl)
 
 pub returns-clause-fetched : goal.returns-clause-fetched
@@ -109,8 +110,9 @@ returns-clause-held g c = λ asked holds list held.
     let after = g.H.Shelf.faults c.fetch_files.new.shelf in
     let out = change g.K.Sink.taken g.K.Sink.faults c.args.out.now c.args.out.now in
     held_failure Bundle asked why c.told_of_files.result before after c.told_of_files.ensures.0
-    (held_unfetched Bundle files names before after asked why
+    (complete_unfetched Bundle files names before after asked why
     (since files before after c.args.request.events.now (invocation_seen c.args.request.program) out first
     c.in-Ok.ensures.later why
-    (subst (λ (f : Files). NoProgram why f first after names) c.in-Ok.ensures.files c.in-Err-fetch_files.ensures.err))
+    (subst (λ (f : Files). ProgramCaused why f first after names) c.in-Ok.ensures.files
+    c.in-Err-fetch_files.ensures.err))
     c.in-Err-fetch_files.ensures.unread holds)

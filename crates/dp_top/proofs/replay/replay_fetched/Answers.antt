@@ -1,5 +1,5 @@
 use Rattle.std.proofs.Common.{Ok, Err, refl}
-use Rattle.dp_run.proofs.RunLaws.{held_fetched}
+use Rattle.dp_run.proofs.RunLaws.{complete_fetched}
 use Rattle.dp_tree.specs.declared.bundle.Bundle.{Bundle}
 use Rattle.dp_top.proofs.RunTold.{held_failure}
 use Rattle.dp_outside.specs.Changes.{change}
@@ -43,13 +43,13 @@ returns-in-Ok-make_program-clause-held g c = λ files before after fetched are a
     over_held asked c.in-Ok-make_program.bundle c.replay_over.result c.in-Ok.events c.args.request.program.bound before
     after
     (change g.K.Sink.taken g.K.Sink.faults c.args.out.now c.replay_over.new.out)
-    (held_fetched files (invocation_seen c.args.request.program).names c.args.fetched before after asked
+    (complete_fetched files (invocation_seen c.args.request.program).names c.args.fetched before after asked
     (Ok c.in-Ok-make_program.bundle) are
     c.in-Ok-make_program.ensures.only holds) c.replay_over.ensures.ends
 
 pub returns-clause-held : goal.returns-clause-held
 returns-clause-held g c = λ files before after fetched are asked holds list held.
     held_failure Bundle asked c.in-Err-make_program.why c.told_of_files.result before after c.told_of_files.ensures.0
-    (held_fetched {A = Bundle} files (invocation_seen c.args.request.program).names c.args.fetched before after asked
-    (Err c.in-Err-make_program.why) are
+    (complete_fetched {A = Bundle} files (invocation_seen c.args.request.program).names c.args.fetched before after
+    asked (Err c.in-Err-make_program.why) are
     c.in-Err-make_program.ensures.only holds)
