@@ -5,7 +5,8 @@ ghost use Rattle.dp_bundle.specs.Bundles.{AreForBundle, Makes};
 ghost use Rattle.dp_tree.specs.FileNames.{AreFileNames};
 ghost use Rattle.dp_tree.specs.declared.bundle.Bundle.{Bundle as Program};
 ghost use Rattle.dp_bundle.specs.declared.errors.BundleError.{BundleError as Unmade};
-ghost use Rattle.dp_run.specs.Programs.{FilesMake, IsComplete, IsRefused, IsUnmade, NamesMake, ProgramCaused, RequestsFiles};
+ghost use Rattle.dp_run.specs.Programs.{FilesMake, IsComplete, IsRefused, IsUnmade, NamesMake, ProgramCaused};
+ghost use Rattle.dp_run.specs.Programs.{RequestsFiles};
 
 use crate::errors::ProgramError;
 use crate::fetches::fetch_files;

@@ -13,7 +13,7 @@ use Rattle.dp_serving.specs.declared.responder.Answer.{Answer}
 use Rattle.dp_serving.specs.Folds.{Reply, replies, reply_of}
 use Rattle.dp_serving.specs.Service.{CutBy, IsCut, IsLeftIn}
 use Rattle.dp_serving.proofs.FrontLaws.{front_none, front_after}
-use Rattle.dp_serving.proofs.ServiceLaws.{Joins, replies_join, replies_one, stands_all, talk_fed}
+use Rattle.dp_serving.proofs.ServiceLaws.{Joins, replies_join, replies_one, taken_all, talk_fed}
 
 module _ {S E X Y : Type 0} (step : S → List ℕ → Reply S E) (told : X → Option (List ℕ)) (faults : X → ℕ)
     (prints : Y → Option (List ℕ)) (fails : Y → ℕ) where
@@ -109,7 +109,7 @@ module _ {S E X Y : Type 0} (step : S → List ℕ → Reply S E) (told : X → 
         taken = r.taken ++ c.taken;
         later = c.later ++ others;
         first =
-            stands_all bytes held r.taken r.stands
+            taken_all bytes held r.taken r.stands
             ∙ ap (λ l. r.taken ++ l) (comes ∙ ap (λ l. l ++ others) c.first ∙ append_assoc c.taken c.later others)
             ∙ sym (append_assoc r.taken c.taken (c.later ++ others));
         sent =
@@ -140,7 +140,7 @@ module _ {S E X Y : Type 0} (step : S → List ℕ → Reply S E) (told : X → 
         taken = talk.taken ++ c.taken;
         later = c.later;
         first =
-            stands_all read held talk.taken talk.stands ∙ ap (λ l. talk.taken ++ l) c.first
+            taken_all read held talk.taken talk.stands ∙ ap (λ l. talk.taken ++ l) c.first
             ∙ sym (append_assoc talk.taken c.taken c.later);
         sent =
             subst (AppendsFront (told x0) (told x2)) (sym packets)

@@ -11,7 +11,7 @@ use Rattle.dp_serving.specs.inner.Exchanges.{HasTaken, Converses}
 use Rattle.dp_serving.specs.Folds.{Reply, replies}
 use Rattle.dp_serving.specs.Growth.{served}
 use Rattle.dp_serving.specs.Service.{EndsBy, IsReadUpTo, IsServed, piece_limit}
-use Rattle.dp_serving.proofs.ServiceLaws.{followed_over, replies_append, stands_all}
+use Rattle.dp_serving.proofs.ServiceLaws.{followed_over, replies_append, taken_all}
 
 abbrev NoMore : List ℕ → Type 0
 NoMore held = (text more : List ℕ) → IsCommand text → held ≡ command_frame text ++ more → ⊥
@@ -46,7 +46,7 @@ module _ {S E : Type 0} (step : S → List ℕ → Reply S E) (start : S) (read 
   over_ended : (end : E) → (replies step start taken).ended ≡ Some end
       → served step start read ≡ replies step start taken
   over_ended end e =
-      ap (replies step start) (stands_all read held taken stands) ∙ replies_append step start taken (commands_in held)
+      ap (replies step start) (taken_all read held taken stands) ∙ replies_append step start taken (commands_in held)
       ∙ followed_over (replies step start taken) (replies step (replies step start taken).state (commands_in held)) end
       e
 
@@ -57,7 +57,7 @@ module _ {S E : Type 0} (step : S → List ℕ → Reply S E) (start : S) (read 
 
   over_left : NoMore held → served step start read ≡ replies step start taken
   over_left none =
-      ap (replies step start) (stands_all read held taken stands ∙ ap (λ l. taken ++ l) (no_commands none)
+      ap (replies step start) (taken_all read held taken stands ∙ ap (λ l. taken ++ l) (no_commands none)
       ∙ append-nil taken)
 
   over_cases : IsOver (replies step start taken).ended held → served step start read ≡ replies step start taken

@@ -1,7 +1,7 @@
 -- More commands only add.
 use Rattle.std.proofs.Common.{◌≡◌, ℕ, Bool, true, false, cond, leb, eqb, List, [], ◌∷◌, ◌++◌, length, Option, None, Some, refl, sym, ap, ◌∙◌, subst, append_assoc, append-nil}
 use Rattle.dp_wire.specs.Frames.{command_limit, commands_in, ended_texts, widened, up_to_limit}
-use Rattle.dp_serving.specs.Folds.{Reply, quiet, unless_ended, followed, replies}
+use Rattle.dp_serving.specs.Folds.{Reply, nothing_sent, unless_ended, followed, replies}
 use Rattle.dp_serving.specs.Growth.{served, GoesOn}
 
 -- ---- the commands of more bytes
@@ -41,8 +41,8 @@ commands_extend bytes more =
 -- ---- what more commands lead to
 
 module _ {S E : Type 0} where
-  goes_on_quiet : (state : S) (second : Reply S E) → GoesOn (quiet state) second
-  goes_on_quiet state second = record {
+  goes_on_nothing : (state : S) (second : Reply S E) → GoesOn (nothing_sent state) second
+  goes_on_nothing state second = record {
     packets = second.packets;
     program = second.program;
     more_packets = refl;
@@ -82,7 +82,7 @@ module _ {S E : Type 0} where
 
   replies_go_on : (step : S → List ℕ → Reply S E) (state : S) (lines others : List (List ℕ))
       → GoesOn (replies step state lines) (replies step state (lines ++ others))
-  replies_go_on step state [] others = goes_on_quiet state (replies step state others)
+  replies_go_on step state [] others = goes_on_nothing state (replies step state others)
   replies_go_on step state (line ∷ lines) others =
       goes_on_followed (step state line) (replies step (step state line).state lines)
       (replies step (step state line).state (lines ++ others))

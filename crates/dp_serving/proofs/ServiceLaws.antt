@@ -10,7 +10,7 @@ use Rattle.dp_wire.proofs.FrameLaws.{commands-text}
 use Rattle.dp_wire.proofs.SplitLaws.{framed}
 use Rattle.dp_serving.specs.inner.Exchanges.{HasTaken, Delivers, DeliversAnswer, Reached, Conversation}
 use Rattle.dp_serving.specs.declared.responder.Answer.{Answer}
-use Rattle.dp_serving.specs.Folds.{Reply, quiet, unless_ended, followed, replies, reply_of}
+use Rattle.dp_serving.specs.Folds.{Reply, nothing_sent, unless_ended, followed, replies, reply_of}
 
 -- ---- replies
 
@@ -42,10 +42,10 @@ module _ {S E : Type 0} where
   followed_over first next end e = ap (λ (o : Option E). unless_ended o first next) e
 
   -- nothing follows
-  pub followed_none : (first : Reply S E) → followed first (quiet first.state) ≡ first
+  pub followed_none : (first : Reply S E) → followed first (nothing_sent first.state) ≡ first
   followed_none first = by first.packets first.program first.state first.ended where
     by : (ps : List (List ℕ)) (bs : List ℕ) (s : S) (ended : Option E)
-        → followed (reply ps bs s ended) (quiet s) ≡ reply ps bs s ended
+        → followed (reply ps bs s ended) (nothing_sent s) ≡ reply ps bs s ended
     by ps bs s (Some e) = refl
     by ps bs s None = λ i. reply (append-nil ps i) (append-nil bs i) s None
 
@@ -94,23 +94,23 @@ module _ {S E : Type 0} where
 -- ---- the commands taken
 
 -- nothing was taken yet
-pub stands_first : (bytes : List ℕ) → HasTaken bytes bytes []
-stands_first bytes = record { each = tt; whole = refl; first = λ more. refl }
+pub taken_first : (bytes : List ℕ) → HasTaken bytes bytes []
+taken_first bytes = record { each = tt; whole = refl; first = λ more. refl }
 
 -- one command
-pub stands_one : (held line rest : List ℕ) → BeginsCommand held line rest
+pub taken_one : (held line rest : List ℕ) → BeginsCommand held line rest
     → ((more : List ℕ) → commands_in (held ++ more) ≡ line ∷ commands_in (rest ++ more)) → HasTaken held rest
     (line ∷ [])
-stands_one held line rest begins first = record {
+taken_one held line rest begins first = record {
   each = (begins.is_text, tt);
   whole = begins.whole ∙ ap (λ l. l ++ rest) (sym (append-nil (command_frame line)));
   first = first;
 }
 
 -- more commands were taken from what was held
-pub stands_joined : (read held rest : List ℕ) (taken more : List (List ℕ)) → HasTaken read held taken
+pub taken_joined : (read held rest : List ℕ) (taken more : List (List ℕ)) → HasTaken read held taken
     → HasTaken held rest more → HasTaken read rest (taken ++ more)
-stands_joined read held rest taken more s t = record {
+taken_joined read held rest taken more s t = record {
   each = each_joined taken more s.each t.each;
   whole =
       s.whole ∙ ap (λ l. flat_map command_frame taken ++ l) t.whole
@@ -126,15 +126,15 @@ stands_joined read held rest taken more s t = record {
   each_joined (line ∷ lines) others p q = (p.0, each_joined lines others p.1 q)
 
 -- one command, told by what it leaves
-pub stands_first_of : (held line rest : List ℕ) → BeginsCommand held line rest → HasTaken held rest (line ∷ [])
-stands_first_of held line rest b = stands_one held line rest b (λ more.
+pub taken_first_of : (held line rest : List ℕ) → BeginsCommand held line rest → HasTaken held rest (line ∷ [])
+taken_first_of held line rest b = taken_one held line rest b (λ more.
     ap commands_in (ap (λ l. l ++ more) (b.whole ∙ framed line rest) ∙ append_assoc line (0 ∷ rest) more)
     ∙ commands-text line (rest ++ more) b.is_text.no_nul b.is_text.fits)
 
 -- a piece more was read
-pub stands_fed : (read held piece : List ℕ) (taken : List (List ℕ)) → HasTaken read held taken
+pub taken_fed : (read held piece : List ℕ) (taken : List (List ℕ)) → HasTaken read held taken
     → HasTaken (read ++ piece) (held ++ piece) taken
-stands_fed read held piece taken s = record {
+taken_fed read held piece taken s = record {
   each = s.each;
   whole = ap (λ l. l ++ piece) s.whole ∙ append_assoc (flat_map command_frame taken) held piece;
   first =
@@ -143,14 +143,14 @@ stands_fed read held piece taken s = record {
 }
 
 -- the commands among all the bytes read
-pub stands_all : (read held : List ℕ) (taken : List (List ℕ)) → HasTaken read held taken
+pub taken_all : (read held : List ℕ) (taken : List (List ℕ)) → HasTaken read held taken
     → commands_in read ≡ taken ++ commands_in held
-stands_all read held taken s =
+taken_all read held taken s =
     ap commands_in (sym (append-nil read)) ∙ s.first [] ∙ ap (λ l. taken ++ commands_in l) (append-nil held)
 
 -- the command at the front is the first of those that are held
 pub front_comes : (held line rest : List ℕ) → BeginsCommand held line rest → commands_in held ≡ line ∷ commands_in rest
-front_comes held line rest b = stands_all held rest (line ∷ []) (stands_first_of held line rest b)
+front_comes held line rest b = taken_all held rest (line ∷ []) (taken_first_of held line rest b)
 
 -- ---- answering what is held
 
@@ -184,7 +184,7 @@ module _ {S E X Y : Type 0} (step : S → List ℕ → Reply S E) (told : X → 
   reached_first start held x y = (
     record {
       taken = [];
-      stands = stands_first held;
+      stands = taken_first held;
       delivers = record { sent = Appends-nil (told x); printed = Appends-nil (prints y) };
       is_state = refl;
     },
@@ -206,7 +206,7 @@ module _ {S E X Y : Type 0} (step : S → List ℕ → Reply S E) (told : X → 
       (sym one) d in (
         record {
           taken = r.taken ++ line ∷ [];
-          stands = stands_joined bytes held rest r.taken (line ∷ []) r.stands stands;
+          stands = taken_joined bytes held rest r.taken (line ∷ []) r.stands stands;
           delivers =
               delivers_joined (replies step start r.taken) (replies step state (line ∷ []))
               (replies step start (r.taken ++ line ∷ [])) x0 x1 x2 y0 y1 y2 joins r.delivers next;
@@ -261,7 +261,7 @@ module _ {S E W X Y : Type 0} (step : S → List ℕ → Reply S E) (left : W �
     record {
       taken = [];
       consumed = Consumes-nil (left w);
-      stands = stands_first [];
+      stands = taken_first [];
       sent = subst (Appends (told x0) (told x1)) (sym (append-nil (packet_frame init))) sent;
       printed = Appends-nil (prints y);
       is_state = refl;
@@ -281,7 +281,7 @@ module _ {S E W X Y : Type 0} (step : S → List ℕ → Reply S E) (left : W �
       consumed = Consumes-trans (left w0) (left w1) (left w2) read piece talk.consumed came;
       stands =
           subst (λ (l : List ℕ). HasTaken (read ++ piece) l talk.taken) (sym is_now)
-          (stands_fed read held piece talk.taken talk.stands);
+          (taken_fed read held piece talk.taken talk.stands);
       sent = talk.sent;
       printed = talk.printed;
       is_state = talk.is_state;
@@ -326,7 +326,7 @@ module _ {S E W X Y : Type 0} (step : S → List ℕ → Reply S E) (left : W �
         record {
           taken = talk.taken ++ reached.taken;
           consumed = talk.consumed;
-          stands = stands_joined read held rest talk.taken reached.taken talk.stands reached.stands;
+          stands = taken_joined read held rest talk.taken reached.taken talk.stands reached.stands;
           sent =
               subst (Appends (told x0) (told x2)) (sym packets)
               (Appends-trans (told x0) (told x1) (told x2) _ _ talk.sent reached.delivers.sent);

@@ -12,8 +12,8 @@ pub record Reply (S E : Type 0) : Type 0 where
   pub ended : Option E
 
 -- no command: nothing is sent
-abbrev pub quiet : {S E : Type 0} → S → Reply S E
-quiet state = record { packets = []; program = []; state = state; ended = None }
+abbrev pub nothing_sent : {S E : Type 0} → S → Reply S E
+nothing_sent state = record { packets = []; program = []; state = state; ended = None }
 
 abbrev pub unless_ended : {S E : Type 0} → Option E → Reply S E → Reply S E → Reply S E
 unless_ended (Some end) first rest = first
@@ -30,7 +30,7 @@ followed first rest = unless_ended first.ended first rest
 
 -- what the commands lead to, from this state on
 abbrev pub replies : {S E : Type 0} → (S → List ℕ → Reply S E) → S → List (List ℕ) → Reply S E
-replies step state [] = quiet state
+replies step state [] = nothing_sent state
 replies step state (line ∷ lines) =
     followed (step state line) (replies step (step state line).state lines)
 

@@ -2,7 +2,7 @@
 ghost use Rattle.std.specs.Prelude.{◌≡◌, ◌≤◌, ℕ, map, Ok, Some, IfOk, MatchResult};
 ghost use Rattle.dp_outside.specs.Changes.{change};
 ghost use Rattle.dp_words.specs.CommandLine.{IsHostWord, IsSession};
-ghost use Rattle.dp_words.specs.Commands.{address_told, invocation_seen};
+ghost use Rattle.dp_words.specs.Commands.{address_seen, invocation_seen};
 ghost use Rattle.dp_tree.specs.declared.bundle.Bundle.{Bundle as Made};
 ghost use Rattle.dp_top.specs.Engine.{Engages, EngineFails};
 ghost use Rattle.dp_top.specs.Runs.{IsFetched};
@@ -36,12 +36,12 @@ fn serve_linked<'a, N: Net, K: Sink>(
     requires session { IsSession request.talk.key.now (invocation_seen request.talk.program) }
     requires named { map (λ file. file.name) bundle.now.files ≡ (invocation_seen request.talk.program).names }
     ensures ends { MatchResult result
-        (λ status. EngagedSo status bundle.now (address_told request.entry.address) request.entry.talk.key.now
+        (λ status. EngagedSo status bundle.now (address_seen request.entry.address) request.entry.talk.key.now
         (invocation_seen request.entry.talk.program)
         (change K.taken K.faults out.old out.new) (net_seen N.Dialer N.shut_doors net.old)
         (net_seen N.Dialer N.shut_doors net.new))
         (λ why. UnengagedSo why.failure why.name.now bundle.now
-        (address_told request.entry.address) request.entry.talk.key.now (invocation_seen request.entry.talk.program)
+        (address_seen request.entry.address) request.entry.talk.key.now (invocation_seen request.entry.talk.program)
         (change K.taken K.faults out.old out.new) (net_seen N.Dialer N.shut_doors net.old)
         (net_seen N.Dialer N.shut_doors net.new)) }
     ensures status { IfOk result (λ status. status ≤ 199) }
@@ -83,12 +83,12 @@ fn serve_over<'a, N: Net, K: Sink>(
     requires session { IsSession request.talk.key.now (invocation_seen request.talk.program) }
     requires named { map (λ file. file.name) bundle.now.files ≡ (invocation_seen request.talk.program).names }
     ensures ends { MatchResult result
-        (λ status. EngagedSo status bundle.now (address_told request.entry.address) request.entry.talk.key.now
+        (λ status. EngagedSo status bundle.now (address_seen request.entry.address) request.entry.talk.key.now
         (invocation_seen request.entry.talk.program)
         (change K.taken K.faults out.old out.new) (net_seen N.Dialer N.shut_doors net.old)
         (net_seen N.Dialer N.shut_doors net.new))
         (λ why. UnengagedSo why.failure why.name.now bundle.now
-        (address_told request.entry.address) request.entry.talk.key.now (invocation_seen request.entry.talk.program)
+        (address_seen request.entry.address) request.entry.talk.key.now (invocation_seen request.entry.talk.program)
         (change K.taken K.faults out.old out.new) (net_seen N.Dialer N.shut_doors net.old)
         (net_seen N.Dialer N.shut_doors net.new)) }
     ensures status { IfOk result (λ status. status ≤ 199) }
@@ -113,10 +113,10 @@ pub(crate) fn engine<'a, H: Shelf, S: Source, K: Sink, E: Sink, N: Net>(
     requires host { IsHostWord request.address.host.now }
     requires session { IsSession request.talk.key.now (invocation_seen request.talk.program) }
     ensures ends { MatchResult result
-        (λ status. Engages status (address_told request.entry.address) request.entry.talk.key.now
+        (λ status. Engages status (address_seen request.entry.address) request.entry.talk.key.now
         (invocation_seen request.entry.talk.program)
         objects.old.seen objects.new.seen)
-        (λ why. EngineFails why.failure why.name.now (address_told request.entry.address) request.entry.talk.key.now
+        (λ why. EngineFails why.failure why.name.now (address_seen request.entry.address) request.entry.talk.key.now
         (invocation_seen request.entry.talk.program) objects.old.seen objects.new.seen) }
     ensures status { IfOk result (λ status. status ≤ 199) }
     // Files that make a program are no bad source, and those that make none are one, unless the shelf failed.

@@ -10,7 +10,7 @@ use Rattle.clap.specs.Faults.{fault_of}
 use Rattle.clap.specs.Lexer.{usize_max}
 use Rattle.clap.specs.Simple.{Shape, subcommand_of}
 use Rattle.clap.specs.Walk.{Row, Text, answers_to}
-use Rattle.dp_words.specs.CommandLine.{Invocation, IsInvocation, Task, Address, Dials, IsFileWord, IsKey, Replays, run, talk, engine, ide, replay, show, IsIde, invocation_of, bound_limit, bound_of, default_bound, is_option, not_zero, port_limit, port_of, with_bound}
+use Rattle.dp_words.specs.CommandLine.{Invocation, IsInvocation, Task, Address, EngineWords, IsFileWord, IsKey, ReplayWords, run, talk, engine, ide, replay, show, IsIde, invocation_of, bound_limit, bound_of, default_bound, is_option, not_zero, port_limit, port_of, with_bound}
 use Rattle.dp_value.specs.Decimals.{decimal_in}
 use Rattle.std.proofs.lemmas.Bool.Decides.{nat_tests}
 use Rattle.dp_words.specs.inner.Parsed.{IsParsed, Parsed, invocation_in}
@@ -456,7 +456,7 @@ not_named name task e n =
 pub no_engine_read : (words : List Text) (task : Task) (p : Parsed) → IsParsed words p → p.name ≡ codes "engine"
     → ((behind : List Text) (address : Address) (key : List ℕ) (ask : Invocation)
     → invocation_of behind ≡ invocation_in p
-    → Dials behind address key ask → ⊥) → IsInvocation words task → ⊥
+    → EngineWords behind address key ask → ⊥) → IsInvocation words task → ⊥
 no_engine_read words (engine address key ask) p is name none asks =
     none asks.behind address key ask (ap invocation_of (sym (behind_read words (engine address key ask) p is asks))
     ∙ is.asked)
@@ -489,7 +489,7 @@ no_ide_read words show p is name none asks =
 
 pub no_replay_read : (words : List Text) (task : Task) (p : Parsed) → IsParsed words p → p.name ≡ codes "replay"
     → ((behind : List Text) (events : List ℕ) (ask : Invocation) → invocation_of behind ≡ invocation_in p
-    → Replays behind events ask → ⊥)
+    → ReplayWords behind events ask → ⊥)
     → IsInvocation words task → ⊥
 no_replay_read words (replay events ask) p is name none asks =
     none asks.behind events ask (ap invocation_of (sym (behind_read words (replay events ask) p is asks)) ∙ is.asked)

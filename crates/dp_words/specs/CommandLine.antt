@@ -84,7 +84,7 @@ pub record AreFileWords (names : List (List ℕ)) : Type 0 where
   pub apart : are_apart names ≡ true
 
 -- what stands behind `run`
-pub record Follows (words : List (List ℕ)) (ask : Invocation) : Type 0 where
+pub record RunWords (words : List (List ℕ)) (ask : Invocation) : Type 0 where
   pub asked : invocation_of words ≡ Some ask
   pub files : AreFileWords ask.names
 
@@ -92,7 +92,7 @@ pub record Follows (words : List (List ℕ)) (ask : Invocation) : Type 0 where
 pub record IsRun (words : List (List ℕ)) (ask : Invocation) : Type 0 where
   pub behind : List (List ℕ)
   pub words_are : words ≡ codes "run" ∷ behind
-  pub follows : Follows behind ask
+  pub follows : RunWords behind ask
 
 -- the session of a key over a program
 pub record IsSession (key : List ℕ) (ask : Invocation) : Type 0 where
@@ -101,7 +101,7 @@ pub record IsSession (key : List ℕ) (ask : Invocation) : Type 0 where
   pub files : AreFileWords ask.names
 
 -- what stands behind `talk`
-pub record Speaks (words : List (List ℕ)) (key : List ℕ) (ask : Invocation) : Type 0 where
+pub record TalkWords (words : List (List ℕ)) (key : List ℕ) (ask : Invocation) : Type 0 where
   pub asked : invocation_of words ≡ Some (record { bound = ask.bound; names = key ∷ ask.names })
   pub session : IsSession key ask
 
@@ -109,7 +109,7 @@ pub record Speaks (words : List (List ℕ)) (key : List ℕ) (ask : Invocation) 
 pub record IsTalk (words : List (List ℕ)) (key : List ℕ) (ask : Invocation) : Type 0 where
   pub behind : List (List ℕ)
   pub words_are : words ≡ codes "talk" ∷ behind
-  pub speaks : Speaks behind key ask
+  pub speaks : TalkWords behind key ask
 
 -- a word that is the name or address of a machine, and asks for no option
 pub record IsHostWord (word : List ℕ) : Type 0 where
@@ -129,7 +129,7 @@ pub record Address : Type 0 where
   pub port : ℕ
 
 -- what stands behind `engine`
-pub record Dials (words : List (List ℕ)) (address : Address) (key : List ℕ) (ask : Invocation)
+pub record EngineWords (words : List (List ℕ)) (address : Address) (key : List ℕ) (ask : Invocation)
     : Type 0 where
   pub number : List ℕ
   pub asked : invocation_of words
@@ -143,7 +143,7 @@ pub record IsEngine (words : List (List ℕ)) (address : Address) (key : List �
     : Type 0 where
   pub behind : List (List ℕ)
   pub words_are : words ≡ codes "engine" ∷ behind
-  pub dials : Dials behind address key ask
+  pub dials : EngineWords behind address key ask
 
 -- the words are `ide PORT SCRIPT`
 pub record IsIde (words : List (List ℕ)) (port : ℕ) (script : List ℕ) : Type 0 where
@@ -153,7 +153,7 @@ pub record IsIde (words : List (List ℕ)) (port : ℕ) (script : List ℕ) : Ty
   pub is_script : IsFileWord script
 
 -- what stands behind `replay`
-pub record Replays (words : List (List ℕ)) (events : List ℕ) (ask : Invocation) : Type 0 where
+pub record ReplayWords (words : List (List ℕ)) (events : List ℕ) (ask : Invocation) : Type 0 where
   pub asked : invocation_of words ≡ Some (record { bound = ask.bound; names = events ∷ ask.names })
   pub is_events : IsFileWord events
   pub files : AreFileWords ask.names
@@ -162,7 +162,7 @@ pub record Replays (words : List (List ℕ)) (events : List ℕ) (ask : Invocati
 pub record IsReplay (words : List (List ℕ)) (events : List ℕ) (ask : Invocation) : Type 0 where
   pub behind : List (List ℕ)
   pub words_are : words ≡ codes "replay" ∷ behind
-  pub replays : Replays behind events ask
+  pub replays : ReplayWords behind events ask
 
 -- ---- what is asked for
 
@@ -192,15 +192,15 @@ invocation_in (ide port script) = None
 invocation_in (replay events ask) = None
 invocation_in show = None
 
-abbrev pub names_asked : Option Invocation → List (List ℕ)
-names_asked None = []
-names_asked (Some ask) = ask.names
+abbrev pub requested_names : Option Invocation → List (List ℕ)
+requested_names None = []
+requested_names (Some ask) = ask.names
 
 -- the names of the files that it is for, in order
 abbrev pub files_in : Task → List (List ℕ)
 files_in (ide port script) = script ∷ []
 files_in (replay events ask) = events ∷ ask.names
-files_in task = names_asked (invocation_in task)
+files_in task = requested_names (invocation_in task)
 
 -- whether it is done over the network
 abbrev pub uses_net : Task → Bool

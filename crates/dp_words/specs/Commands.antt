@@ -12,15 +12,15 @@ invocation_seen program =
     record { bound = program.bound; names = map string_bytes program.files.now }
 
 -- the address of an IDE
-abbrev pub address_told : CodeAddress → Address
-address_told address = record { host = address.host.now; port = address.port }
+abbrev pub address_seen : CodeAddress → Address
+address_seen address = record { host = address.host.now; port = address.port }
 
 -- a command
 abbrev pub task_of : Command → Task
 task_of (told.Run program) = run (invocation_seen program)
 task_of (told.Talk request) = talk request.key.now (invocation_seen request.program)
 task_of (told.Engine request) =
-    engine (address_told request.address) request.talk.key.now
+    engine (address_seen request.address) request.talk.key.now
     (invocation_seen request.talk.program)
 task_of (told.Ide request) = ide request.port request.script.now
 task_of (told.Replay request) = replay request.events.now (invocation_seen request.program)

@@ -4,13 +4,12 @@ ghost use Rattle.std.specs.Prelude.{IfNone};
 ghost use Rattle.std.specs.Prelude.{Ok, codes, map, string_bytes};
 ghost use Rattle.std.specs.List.{list_all};
 ghost use Rattle.std.specs.Option.{option_map};
-ghost use Rattle.dp_words.specs.CommandLine.{Address as AnyAddress, AreFileWords, Invocation, IsInvocation, Dials};
-ghost use Rattle.dp_words.specs.CommandLine.{Follows};
-ghost use Rattle.dp_words.specs.CommandLine.{IsFileWord, IsHostWord, IsIde, IsKey, IsSession, Replays, Speaks, Task};
-ghost use Rattle.dp_words.specs.CommandLine.{invocation_of, between, bound_of, port_of};
-ghost use Rattle.dp_words.specs.Commands.{address_told, invocation_seen, task_of};
+ghost use Rattle.dp_words.specs.CommandLine.{Address as AnyAddress, AreFileWords, EngineWords, Invocation, IsFileWord};
+ghost use Rattle.dp_words.specs.CommandLine.{IsHostWord, IsIde, IsInvocation, IsKey, IsSession, ReplayWords, RunWords};
+ghost use Rattle.dp_words.specs.CommandLine.{TalkWords, Task, between, bound_of, invocation_of, port_of};
+ghost use Rattle.dp_words.specs.Commands.{address_seen, invocation_seen, task_of};
 ghost use Rattle.dp_words.specs.Plain.{are_plain};
-ghost use Rattle.dp_words.specs.inner.Commands.{parsed_told};
+ghost use Rattle.dp_words.specs.inner.Commands.{parsed_seen};
 ghost use Rattle.dp_words.specs.inner.Parsed.{IsParsed, invocation_in, bound_in};
 
 use crate::names::{are_files, is_file, is_option};
@@ -149,7 +148,7 @@ fn bound_given(word: Option<&str>) -> Option<u64>
 
 /// The program of the words, as names, with their bound.
 fn program_in<'a>(parsed: Parsed<'a>) -> Option<Program<'a>>
-    ensures { option_map invocation_seen result ≡ invocation_in (parsed_told parsed.entry) }
+    ensures { option_map invocation_seen result ≡ invocation_in (parsed_seen parsed.entry) }
 {
     let bound = bound_given(parsed.bound)?;
     Some(Program {
@@ -161,10 +160,10 @@ fn program_in<'a>(parsed: Parsed<'a>) -> Option<Program<'a>>
 /// What the words behind `run` ask for.
 fn read_run<'a>(parsed: Parsed<'a>) -> Option<Program<'a>>
     ensures found { IfSome result (λ p. (behind : List (List ℕ))
-        → invocation_of behind ≡ invocation_in (parsed_told parsed.entry)
-        → Follows behind (invocation_seen p)) }
+        → invocation_of behind ≡ invocation_in (parsed_seen parsed.entry)
+        → RunWords behind (invocation_seen p)) }
     ensures none { IfNone result ((behind : List (List ℕ)) (ask : Invocation)
-        → invocation_of behind ≡ invocation_in (parsed_told parsed.entry) → Follows behind ask → ⊥) }
+        → invocation_of behind ≡ invocation_in (parsed_seen parsed.entry) → RunWords behind ask → ⊥) }
 {
     match program_in(parsed) {
         None => None,
@@ -194,11 +193,11 @@ fn talk_of<'a>(key: &'a str, program: Program<'a>) -> Option<Talk<'a>>
 /// What the words behind `talk` ask for.
 fn read_talk<'a>(parsed: Parsed<'a>) -> Option<Talk<'a>>
     ensures found { IfSome result (λ t. (behind : List (List ℕ))
-        → invocation_of behind ≡ invocation_in (parsed_told parsed.entry)
-        → Speaks behind t.key.now (invocation_seen t.program)) }
+        → invocation_of behind ≡ invocation_in (parsed_seen parsed.entry)
+        → TalkWords behind t.key.now (invocation_seen t.program)) }
     ensures none { IfNone result ((behind key : _) (ask : Invocation)
-        → invocation_of behind ≡ invocation_in (parsed_told parsed.entry)
-        → Speaks behind key ask → ⊥) }
+        → invocation_of behind ≡ invocation_in (parsed_seen parsed.entry)
+        → TalkWords behind key ask → ⊥) }
 {
     match program_in(parsed) {
         None => None,
@@ -271,10 +270,10 @@ fn engine_of<'a>(
 /// What the words behind `engine` ask for.
 fn read_engine<'a>(parsed: Parsed<'a>) -> Option<Engine<'a>>
     ensures found { IfSome result (λ e. (behind : List (List ℕ))
-        → invocation_of behind ≡ invocation_in (parsed_told parsed.entry)
-        → Dials behind (address_told e.address) e.talk.key.now (invocation_seen e.talk.program)) }
+        → invocation_of behind ≡ invocation_in (parsed_seen parsed.entry)
+        → EngineWords behind (address_seen e.address) e.talk.key.now (invocation_seen e.talk.program)) }
     ensures none { IfNone result ((behind : List (List ℕ)) (address : AnyAddress) (key : List ℕ) (ask : Invocation)
-        → invocation_of behind ≡ invocation_in (parsed_told parsed.entry) → Dials behind address key ask → ⊥) }
+        → invocation_of behind ≡ invocation_in (parsed_seen parsed.entry) → EngineWords behind address key ask → ⊥) }
 {
     match program_in(parsed) {
         None => None,
@@ -320,11 +319,11 @@ fn script_of<'a>(words: &'a [String]) -> Option<Ide<'a>>
 
 /// What `ide` asks for, where no bound is given.
 fn read_ide<'a>(parsed: Parsed<'a>) -> Option<Ide<'a>>
-    ensures found { IfSome result (λ i. (words : List (List ℕ)) → IsParsed words (parsed_told parsed.entry)
+    ensures found { IfSome result (λ i. (words : List (List ℕ)) → IsParsed words (parsed_seen parsed.entry)
         → parsed.entry.name.now ≡ codes "ide"
         → IsIde words i.port i.script.now) }
     ensures none { IfNone result ((words : List (List ℕ)) (port : ℕ) (script : List ℕ)
-        → IsParsed words (parsed_told parsed.entry)
+        → IsParsed words (parsed_seen parsed.entry)
         → IsIde words port script → ⊥) }
 {
     if parsed.bound.is_some() {
@@ -352,10 +351,10 @@ fn replay_of<'a>(events: &'a str, program: Program<'a>) -> Option<Replay<'a>>
 /// What the words behind `replay` ask for.
 fn read_replay<'a>(parsed: Parsed<'a>) -> Option<Replay<'a>>
     ensures found { IfSome result (λ r. (behind : List (List ℕ))
-        → invocation_of behind ≡ invocation_in (parsed_told parsed.entry)
-        → Replays behind r.events.now (invocation_seen r.program)) }
+        → invocation_of behind ≡ invocation_in (parsed_seen parsed.entry)
+        → ReplayWords behind r.events.now (invocation_seen r.program)) }
     ensures none { IfNone result ((behind : List (List ℕ)) (events : List ℕ) (ask : Invocation)
-        → invocation_of behind ≡ invocation_in (parsed_told parsed.entry) → Replays behind events ask → ⊥) }
+        → invocation_of behind ≡ invocation_in (parsed_seen parsed.entry) → ReplayWords behind events ask → ⊥) }
 {
     match program_in(parsed) {
         None => None,
@@ -368,17 +367,17 @@ fn read_replay<'a>(parsed: Parsed<'a>) -> Option<Replay<'a>>
 
 /// Whether nothing stands behind the command.
 fn is_alone(parsed: Parsed<'_>) -> bool
-    ensures { IsTrue result ↔ (((parsed_told parsed.entry).bound ≡ None) × ((parsed_told parsed.entry).words ≡ [])) }
+    ensures { IsTrue result ↔ (((parsed_seen parsed.entry).bound ≡ None) × ((parsed_seen parsed.entry).words ≡ [])) }
 {
     parsed.bound.is_none() && parsed.words.is_empty()
 }
 
 /// What `show` asks for, behind which nothing stands.
 fn read_show<'a>(parsed: Parsed<'a>) -> Option<Command<'a>>
-    ensures found { IfSome result (λ command. (words : List (List ℕ)) → IsParsed words (parsed_told parsed.entry)
+    ensures found { IfSome result (λ command. (words : List (List ℕ)) → IsParsed words (parsed_seen parsed.entry)
         → parsed.entry.name.now ≡ codes "show"
         → IsInvocation words (task_of command)) }
-    ensures none { IfNone result ((words : List (List ℕ)) → IsParsed words (parsed_told parsed.entry)
+    ensures none { IfNone result ((words : List (List ℕ)) → IsParsed words (parsed_seen parsed.entry)
         → IsInvocation words Task.show → ⊥) }
 {
     if is_alone(parsed) {
@@ -390,9 +389,9 @@ fn read_show<'a>(parsed: Parsed<'a>) -> Option<Command<'a>>
 
 /// What is asked for that is read so.
 fn command_of<'a>(parsed: Parsed<'a>) -> Option<Command<'a>>
-    ensures found { IfSome result (λ command. (words : List (List ℕ)) → IsParsed words (parsed_told parsed.entry)
+    ensures found { IfSome result (λ command. (words : List (List ℕ)) → IsParsed words (parsed_seen parsed.entry)
         → IsInvocation words (task_of command)) }
-    ensures none { IfNone result ((words : List (List ℕ)) (task : Task) → IsParsed words (parsed_told parsed.entry)
+    ensures none { IfNone result ((words : List (List ℕ)) (task : Task) → IsParsed words (parsed_seen parsed.entry)
         → IsInvocation words task → ⊥) }
 {
     if parsed.name == "run" {

@@ -6,7 +6,7 @@ ghost use Rattle.clap.specs.Words.{app_of, first_of, found_of, kind_of, rows_of,
 ghost use Rattle.clap.specs.declared.error.kind.ErrorKind.TheVariants.{OutOfMemory};
 ghost use Rattle.dp_words.specs.CommandLine.{IsInvocation, Task};
 ghost use Rattle.dp_words.specs.inner.Parsed.{IsParsed};
-ghost use Rattle.dp_words.specs.inner.Commands.{parsed_told};
+ghost use Rattle.dp_words.specs.inner.Commands.{parsed_seen};
 ghost use Rattle.dp_words.specs.Plain as plain;
 ghost use Rattle.dp_words.specs.inner.Rows.{AreRows, count_in};
 ghost use Rattle.dp_words.specs.inner.Shapes as shape;
@@ -114,7 +114,7 @@ fn last_words(words: &[String], count: usize) -> &[String]
 /// What was read, by its matches.
 fn parsed_in<'a>(words: &'a [String], matches: &ArgMatches<'a>) -> Option<Parsed<'a>>
     requires rows { AreRows (map string_bytes words.now) matches.now }
-    ensures parsed { IfSome result (λ p. IsParsed (map string_bytes words.entry.now) (parsed_told p)) }
+    ensures parsed { IfSome result (λ p. IsParsed (map string_bytes words.entry.now) (parsed_seen p)) }
     ensures some { is_some result ≡ true }
 {
     match matches.subcommand() {
@@ -132,7 +132,7 @@ fn parsed_in<'a>(words: &'a [String], matches: &ArgMatches<'a>) -> Option<Parsed
 pub(crate) fn parse<'a>(alloc: Global, words: &'a [String]) -> Result<Option<Parsed<'a>>, Memory>
     requires plain { plain.are_plain (map string_bytes words.now) ≡ true }
     ensures found { IfOk result (λ read. IfSome read (λ p.
-        IsParsed (map string_bytes words.entry.now) (parsed_told p))) }
+        IsParsed (map string_bytes words.entry.now) (parsed_seen p))) }
     ensures none { result ≡ Ok None → (task : Task) → IsInvocation (map string_bytes words.now) task → ⊥ }
 {
     match program(alloc)?.try_get_matches_from(words) {

@@ -4,7 +4,7 @@ use Rattle.dp_wire.specs.Frames.{commands_in}
 use Rattle.dp_serving.specs.declared.link.Fault.TheVariants.{Memory}
 use Rattle.dp_serving.specs.Folds.{Reply, replies}
 use Rattle.dp_serving.proofs.CutLaws.{cut_after, cut_answer, cut_before}
-use Rattle.dp_serving.proofs.ServiceLaws.{delivers_reply, reached_first, reached_kept, reached_next, front_comes, stands_first_of}
+use Rattle.dp_serving.proofs.ServiceLaws.{delivers_reply, reached_first, reached_kept, reached_next, front_comes, taken_first_of}
 use Rattle.dp_serving.proofs.link.answer_held.Goals as goal
 
 -- an answer that is a reply tells its end and its state
@@ -94,7 +94,7 @@ returns-in-Some-clause-ok g c =
     c.args.talk.now.session c.commands.talk.session c.next.new.self.session c.args.talk.now.held.held
     c.commands.talk.held.held first.line c.next.new.self.held.held
     c.args.sink.now c.commands.sink c.deliver.new.sink c.args.out.now c.commands.out c.deliver.new.out
-    c.commands.invariant.2.0 c.commands.invariant.2.1 (stands_first_of c.commands.talk.held.held first.line
+    c.commands.invariant.2.0 c.commands.invariant.2.1 (taken_first_of c.commands.talk.held.held first.line
     c.next.new.self.held.held first.begins) (state_is first.is)
     (delivers_reply g.A.Responder.step g.K.Sink.taken g.K.Sink.faults g.E.Sink.taken g.E.Sink.faults
     c.in-Answered.answer c.next.new.self.session _ _ _ first.is c.in_ok-end.ensures.delivers) in
@@ -107,7 +107,7 @@ commands-preserved g c =
     c.args.talk.now.session c.commands.talk.session c.next.new.self.session c.args.talk.now.held.held
     c.commands.talk.held.held first.line c.next.new.self.held.held
     c.args.sink.now c.commands.sink c.deliver.new.sink c.args.out.now c.commands.out c.deliver.new.out
-    c.commands.invariant.2.0 c.commands.invariant.2.1 (stands_first_of c.commands.talk.held.held first.line
+    c.commands.invariant.2.0 c.commands.invariant.2.1 (taken_first_of c.commands.talk.held.held first.line
     c.next.new.self.held.held first.begins) (state_is first.is)
     (delivers_reply g.A.Responder.step g.K.Sink.taken g.K.Sink.faults g.E.Sink.taken g.E.Sink.faults
     c.in-Answered.answer c.next.new.self.session _ _ _ first.is c.in_ok-end.ensures.delivers) in (

@@ -1,6 +1,6 @@
 use Rattle.std.proofs.Common.{Ok, Err, refl}
 use Rattle.dp_tree.specs.declared.bundle.Bundle.{Bundle}
-use Rattle.dp_words.specs.Commands.{address_told, invocation_seen}
+use Rattle.dp_words.specs.Commands.{address_seen, invocation_seen}
 use Rattle.dp_words.proofs.NameLaws.{names_of}
 use Rattle.dp_top.proofs.RunTold.{fetched, held_failure}
 use Rattle.dp_top.proofs.TalkLaws.{held_served}
@@ -12,7 +12,7 @@ fetch_program-requires g c = names_of c.args.request.talk.program.files.now c.re
 
 pub returns-in-Ok-clause-ends : goal.returns-in-Ok-clause-ends
 returns-in-Ok-clause-ends g c = rw (← c.objects.view_is)
-    (program_engaged (address_told c.args.request.address) c.args.request.talk.key.now
+    (program_engaged (address_seen c.args.request.address) c.args.request.talk.key.now
     (invocation_seen c.args.request.talk.program) _ _ (record { input = (refl, refl); err = (refl, refl) })
     c.in-Ok.bundle c.in-Ok.ensures.made c.serve_over.result c.serve_over.ensures.ends)
 
@@ -25,7 +25,7 @@ returns-in-Ok-clause-held g c = rw (← c.objects.view_is) (record {
 
 pub returns-in-Err-clause-ends : goal.returns-in-Err-clause-ends
 returns-in-Err-clause-ends g c = rw (← c.objects.view_is)
-    (none_engaged (address_told c.args.request.address) c.args.request.talk.key.now
+    (none_engaged (address_seen c.args.request.address) c.args.request.talk.key.now
     (invocation_seen c.args.request.talk.program) _ _ (record { input = (refl, refl); err = (refl, refl) })
     c.told_of_files.result c.in-Err.why c.in-Err.ensures.cause c.told_of_files.ensures
     (record { net = refl; out = (refl, refl); apart = record { input = (refl, refl); err = (refl, refl) } }))
