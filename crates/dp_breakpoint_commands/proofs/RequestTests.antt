@@ -19,7 +19,7 @@ use Rattle.dp_breakpoint_commands.specs.declared.errors.BreakpointError.TheVaria
 use Rattle.dp_file_uris.specs.Files.{name_in, requested_file}
 use Rattle.dp_file_uris.proofs.FoundFiles.{like_below}
 use Rattle.dp_breakpoint_commands.specs.Requests.{file_tests, has_malformed_part, has_part_too_many, lacks_part, of_kind, refusal, request, word_tests}
-use Rattle.dp_breakpoint_commands.specs.Answers.{IsCause, IsCode, error_of}
+use Rattle.dp_breakpoint_commands.specs.Causes.{IsCause, IsCode, error_of}
 use Rattle.dp_breakpoint_commands.specs.Commands.{plain_set_refusal}
 use Rattle.dp_command.specs.Tests.{Test, first_code}
 use Rattle.dp_breakpoint_commands.specs.Words.{has_no_meaning, kind_named, meant, number_in, state_named}

@@ -1,6 +1,6 @@
 -- What the breakpoint commands ask of a program.
 pub mod Words
-pub mod Answers
+pub mod Causes
 pub mod Requests
 pub mod Updates
 pub mod Lines

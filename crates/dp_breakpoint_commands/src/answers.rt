@@ -2,7 +2,7 @@
 
 ghost use Rattle.std.specs.Prelude.{◌≡◌, ◌<◌, ◌≤◌, Err, None, ℕ, false, length, map, IfErr, IfOk, IfSome, OnOk};
 ghost use Rattle.dp_break.specs.Changes.{held_as, with_change, without};
-ghost use Rattle.dp_breakpoint_commands.specs.Answers.{IsCause};
+ghost use Rattle.dp_breakpoint_commands.specs.Causes.{IsCause};
 ghost use Rattle.dp_breakpoint_commands.specs.Updates.{change};
 ghost use Rattle.dp_breakpoint_commands.specs.Commands as spec;
 ghost use Rattle.dp_packet.specs.declared.packet.Packet.TheVariants as packet;

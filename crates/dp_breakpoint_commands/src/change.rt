@@ -2,7 +2,7 @@
 
 ghost use Rattle.std.specs.Prelude.{◌≡◌};
 ghost use Rattle.dp_breakpoint_commands.specs.Updates as spec;
-ghost use Rattle.dp_breakpoint_commands.specs.Answers.{answer_of};
+ghost use Rattle.dp_breakpoint_commands.specs.Causes.{answer_of};
 ghost use Rattle.dp_command.specs.Tests.{first_code};
 
 use crate::errors::BreakpointError;

@@ -29,7 +29,7 @@ impl From<Memory> for BreakpointError {
 }
 
 impl From<BreakError> for BreakpointError {
-    ghost use Rattle.dp_breakpoint_commands.specs.Answers.{error_of};
+    ghost use Rattle.dp_breakpoint_commands.specs.Causes.{error_of};
 
     ghost from_gives = { λ why e. e ≡ error_of why };
 

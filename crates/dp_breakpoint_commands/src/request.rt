@@ -3,7 +3,7 @@
 ghost use Rattle.std.specs.Prelude.{◌≡◌, ◌<◌, ◌≤◌, Err, None, false, length, IfErr, IfOk, IfSome, OnOk};
 ghost use Rattle.std.specs.Option.{option_map_or};
 ghost use Rattle.dp_breakpoint_commands.specs.Requests as spec;
-ghost use Rattle.dp_breakpoint_commands.specs.Answers.{IsCause, IsCode};
+ghost use Rattle.dp_breakpoint_commands.specs.Causes.{IsCause, IsCode};
 ghost use Rattle.dp_breakpoint_commands.specs.inner.Meant as inner;
 ghost use Rattle.dp_command.specs.Tests.{first_code};
 ghost use Rattle.dp_file_uris.specs.Files.{is_uri, requested_file as named_file};

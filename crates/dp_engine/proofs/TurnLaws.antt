@@ -45,7 +45,7 @@ use Rattle.dp_step.specs.declared.machine.Machine.{Machine}
 use Rattle.dp_step.specs.Stands.{StandsFor}
 use Rattle.dp_step.proofs.MachineSteps.{of_image}
 use Rattle.dp_view_commands.specs.Views.{code_in, view_refusal, view_response}
-use Rattle.dp_write_commands.specs.Asked.{write_asked}
+use Rattle.dp_write_commands.specs.Requests.{requested_write}
 use Rattle.dp_write_commands.specs.Responses.{code_in as code_written, write_refusal, write_response}
 use Rattle.dp_engine.specs.declared.session.SessionEnd.{SessionEnd}
 use Rattle.dp_engine.specs.declared.session.SessionEnd.TheVariants.{Finished}
@@ -317,7 +317,7 @@ write_refused state name id r code side e = write_first state name id r side ∙
 pub write_told : {E : Type 0} (state next : State) (name id : Text) (r : Request) (w : Write) (response : Response)
     (made : Result Made E) → side_of r ≡ Writes
     → write_response state.bundle state.features (program_of state) name id r ≡ Ok response
-    → write_asked (program_of state) r ≡ Ok w → next ≡ with_write w state
+    → requested_write (program_of state) r ≡ Ok w → next ≡ with_write w state
     → IfOk made (Tells response None) → IfOk made (IsTurn (answered name id r state) next)
 unfolding write_refusal
 write_told state next name id r w response made side e asked is t =
@@ -471,7 +471,7 @@ module _ (bundle : Bundle) (bound : ℕ) (writes : List NumberedWrite) (moment :
   write_is_told after kept command id r response made same side is t =
       write_told state (with_kept kept) command id r is.write response made side
       (ap (λ (p : Program_state). write_response bundle features p command id r) (sym same) ∙ is.told)
-      (ap (λ (p : Program_state). write_asked p r) (sym same) ∙ is.asks)
+      (ap (λ (p : Program_state). requested_write p r) (sym same) ∙ is.asks)
       (ap with_kept is.list) t
 
   pub write_is_refused : (command id : Text) (r : Request) (code : ℕ) → machine.state ≡ program_of state

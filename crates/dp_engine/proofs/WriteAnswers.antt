@@ -17,7 +17,7 @@ use Rattle.dp_tree.specs.declared.bundle.Bundle.{Bundle}
 use Rattle.dp_value.specs.declared.value.Value.{Value}
 use Rattle.dp_view.specs.Answers.{and_then}
 use Rattle.dp_wire.specs.Frames.{packet_limit}
-use Rattle.dp_write_commands.specs.Asked.{write_asked}
+use Rattle.dp_write_commands.specs.Requests.{requested_write}
 use Rattle.dp_write_commands.specs.Responses.{responding, response_to, value_response, within_limit, write_response}
 use Rattle.dp_write_commands.proofs.Sent.{code as short_code}
 use Rattle.dp_engine.specs.inner.Sizes.{IsCode}
@@ -43,8 +43,9 @@ module _ (bundle : Bundle) (features : Features) (s : State) (command id : Text)
 
   response_told : IsTold (write_response bundle features s command id asked)
   unfolding write_response
-  response_told = by (write_asked s asked) refl where
-    by : (w : Result Write ℕ) → write_asked s asked ≡ w → IsTold (and_then (responding bundle features s command id) w)
+  response_told = by (requested_write s asked) refl where
+    by : (w : Result Write ℕ) → requested_write s asked ≡ w → IsTold
+        (and_then (responding bundle features s command id) w)
     by (Ok w) is = answer_told (answer_in (evaluation_setting bundle) w s)
     by (Err k) is =
         short_code bundle features s [] [] asked (omega arith) (omega arith) k

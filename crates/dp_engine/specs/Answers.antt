@@ -26,7 +26,7 @@ use Rattle.dp_packet.specs.Parts.{Text, flag}
 use Rattle.dp_serving.specs.Folds.{Reply}
 use Rattle.dp_view_commands.specs.Views.{view_response}
 use Rattle.dp_wire.specs.Frames.{packet_limit}
-use Rattle.dp_write_commands.specs.Asked.{write_asked}
+use Rattle.dp_write_commands.specs.Requests.{requested_write}
 use Rattle.dp_write_commands.specs.Responses.{write_response}
 use Rattle.dp_engine.specs.declared.session.SessionEnd.{SessionEnd}
 use Rattle.dp_engine.specs.declared.session.SessionEnd.TheVariants.{Finished, Killed, Detached}
@@ -192,7 +192,8 @@ kept_if told asked state = state
 abbrev pub written : Text → Text → Request → State → Turn
 written command id r state =
     let told = write_response state.bundle state.features (program_of state) command id r in
-    goes_on (response_in command id told) (kept_if told (write_asked (program_of state) r) state)
+    goes_on (response_in command id told)
+        (kept_if told (requested_write (program_of state) r) state)
 
 -- ---- commands
 

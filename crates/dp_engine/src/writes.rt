@@ -2,7 +2,7 @@
 ghost use Rattle.std.specs.Prelude.{◌≡◌, ◌∷◌, ◌++◌, ◌<◌, [], vec_capacity, vec_len, IfOk};
 ghost use Rattle.dp_engine.specs.inner.KeptWrites.{Accepts};
 ghost use Rattle.dp_view.specs.Answers.{HasKnownCode};
-ghost use Rattle.dp_write_commands.specs.Answers.{IsSent};
+ghost use Rattle.dp_write_commands.specs.Results.{IsSent};
 
 use dp_command::{Addressee, Request};
 use dp_features::Features;

@@ -59,7 +59,7 @@ fetched_count files names fetched are = sym (length-map fetched (λ (f : Given).
 pub not_fetched : (why : ProgramError) (number : ℕ) (name : List ℕ) (files : Files) (first before after : ℕ)
     (names : List (List ℕ)) → FetchCaused why number name files before after
     → first ≤ before → Comes files names number → get_or names number [] ≡ name
-        → ProgramCaused why files first after names
+    → ProgramCaused why files first after names
 not_fetched (none.Shelf file) number name files first before after names h later comes at =
     (subst (Comes files names) (sym h.0) comes, omega (arith, h.1, later))
 not_fetched (none.Missing file) number name files first before after names h later comes at =

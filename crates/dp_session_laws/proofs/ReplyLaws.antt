@@ -20,7 +20,7 @@ use Rattle.dp_packet.specs.declared.packet.Response.{Response}
 use Rattle.dp_packet.specs.Parts.{Text}
 use Rattle.dp_view.specs.Answers.{and_then}
 use Rattle.dp_view_commands.specs.Views.{code_in, view_refusal, view_response}
-use Rattle.dp_write_commands.specs.Asked.{write_asked}
+use Rattle.dp_write_commands.specs.Requests.{requested_write}
 use Rattle.dp_write_commands.specs.Responses.{code_in as code_written, responding, write_refusal, write_response}
 use Rattle.dp_engine.specs.declared.sides.Side.{Side}
 use Rattle.dp_engine.specs.declared.sides.Side.TheVariants.{Session, Breakpoints, Program, Writes}
@@ -116,7 +116,7 @@ module _ (state : State) (bytes : List ℕ) (line : Line) (command : Command) (t
       let kept = made_kept line.name command.id state (responding state.bundle state.features
       (program_of state) line.name command.id)
       (write_response state.bundle state.features (program_of state) line.name command.id command.request)
-      (write_asked (program_of state) command.request) refl none in
+      (requested_write (program_of state) command.request) refl none in
       subst (IsAccepted state line command) (sym same) (record
       { write = kept.write; asked = kept.is_asked; response = kept.response; kept = kept.kept })
 

@@ -33,7 +33,7 @@ use Rattle.dp_break.specs.Tables.{Table}
 use Rattle.dp_state.specs.declared.state.State.{State as ProgramState}
 use Rattle.dp_state.specs.States.{opening as first_state}
 use Rattle.dp_wire.specs.Frames.{commands_in}
-use Rattle.dp_write_commands.specs.Asked.{write_asked}
+use Rattle.dp_write_commands.specs.Requests.{requested_write}
 use Rattle.dp_write_commands.specs.Responses.{write_response}
 use Rattle.dp_engine.specs.declared.session.SessionEnd.{SessionEnd}
 use Rattle.dp_engine.specs.declared.session.SessionEnd.TheVariants.{Finished, Killed, Detached}
@@ -90,7 +90,7 @@ done_moves Breakpoints command id r state h = holds _
 done_moves Program command id r state h = stays
 done_moves Writes command id r state h =
     by (write_response state.bundle state.features (program_of state) command id r)
-    (write_asked (program_of state) r) where
+    (requested_write (program_of state) r) where
       by : (told : Result Response ℕ) (w : Result Write ℕ) → Moves state (kept_if told w state)
       by (Ok r) (Ok w) = writes_on w (h refl)
       by (Ok r) (Err code) = stays

@@ -63,7 +63,7 @@ use Rattle.dp_engine.specs.States.{phase_name, reason_name}
 use Rattle.dp_engine.proofs.ResponseSizes.{fault_fits, feature_fits_if, init_fits, refusal_is_code, request_short, set_fits, status_fits, success_fits}
 use Rattle.dp_engine.proofs.StreamPackets.{both_texts, sent_texts}
 use Rattle.dp_view_commands.proofs.Sent.{code as shows_code, sent as shows}
-use Rattle.dp_write_commands.specs.Asked.{write_asked}
+use Rattle.dp_write_commands.specs.Requests.{requested_write}
 use Rattle.dp_write_commands.specs.Responses.{write_response}
 use Rattle.dp_write_commands.proofs.Sent.{sent as writes}
 use Rattle.dp_engine.proofs.WriteAnswers.{known_code}
@@ -371,7 +371,7 @@ module _ (command id : Text) (p : length command ≤ 64) (q : length id ≤ 64) 
     fits = written_fits r _ refl;
     next =
         kept_usual (write_response state.bundle state.features (program_of state) command id r)
-        (write_asked (program_of state) r);
+        (requested_write (program_of state) r);
   }
 
 module _ (state : State) (h : IsUsual state) where

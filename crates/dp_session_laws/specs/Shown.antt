@@ -12,7 +12,7 @@ use Rattle.dp_meaning.specs.Trace.{now, program_trace}
 use Rattle.dp_state.specs.declared.state.State.{State as Program}
 use Rattle.dp_state.specs.States.{opening as first_state}
 use Rattle.dp_view_commands.specs.Views.{view_response}
-use Rattle.dp_write_commands.specs.Asked.{write_asked}
+use Rattle.dp_write_commands.specs.Requests.{requested_write}
 use Rattle.dp_write_commands.specs.Responses.{write_response}
 use Rattle.dp_engine.specs.declared.sides.Side.TheVariants.{Writes}
 use Rattle.dp_engine.specs.declared.states.Phase.{Phase}
@@ -58,7 +58,7 @@ pub record IsShown (state : State) (line : Line) (command : Command) (t : Turn) 
 -- the moment where the session stands and after those before it.
 pub record IsAccepted (state : State) (line : Line) (command : Command) (t : Turn) : Type 0 where
   pub write : Write
-  pub asked : write_asked (program_of state) command.request ≡ Ok write
+  pub asked : requested_write (program_of state) command.request ≡ Ok write
   pub response : write_response state.bundle state.features (program_of state) line.name command.id
       command.request ≡ Ok t.response
   pub kept : t.next ≡ with_write write state

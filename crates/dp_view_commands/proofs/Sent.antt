@@ -26,54 +26,55 @@ use Rattle.dp_view.specs.Properties.{context_at}
 use Rattle.dp_view.specs.NameReader.{path_at}
 use Rattle.dp_view.specs.Stacks.{stack_at}
 use Rattle.dp_wire.specs.Frames.{packet_limit}
-use Rattle.dp_view_commands.specs.Answers.{Answers, HasKnownCode, IsSent}
-use Rattle.dp_view_commands.specs.Views.{Part, file_asked, is_short, is_zero, lines_part, part_of, response_with, view_response, within_limit}
+use Rattle.dp_view_commands.specs.Results.{Answers, HasKnownCode, IsSent}
+use Rattle.dp_view_commands.specs.Views.{Part, is_short, is_zero, lines_part, part_of, response_with, source_file, view_response, within_limit}
 
 -- ---- a value of which something holds, or a code that has a message
 
 abbrev IsKnown : ℕ → Type 0
 IsKnown code = (is_some_text (message_of code) ≡ true) × (code < 1000)
 
-abbrev Holds : {A : Type 0} → (A → Type 0) → Result A ℕ → Type 0
-Holds P (Ok a) = P a
-Holds P (Err code) = IsKnown code
+abbrev IsKnownOr : {A : Type 0} → (A → Type 0) → Result A ℕ → Type 0
+IsKnownOr P (Ok a) = P a
+IsKnownOr P (Err code) = IsKnown code
 
 abbrev Any : {A : Type 0} → A → Type 0
 Any a = Unit {0}
 
-then_holds : {A B : Type 0} (Q : B → Type 0) (f : A → Result B ℕ) (r : Result A ℕ) → Holds Any r
-    → ((a : A) → Holds Q (f a)) → Holds Q (and_then f r)
-then_holds Q f (Ok a) p q = q a
-then_holds Q f (Err code) p q = p
+then_known : {A B : Type 0} (Q : B → Type 0) (f : A → Result B ℕ) (r : Result A ℕ) → IsKnownOr Any r
+    → ((a : A) → IsKnownOr Q (f a)) → IsKnownOr Q (and_then f r)
+then_known Q f (Ok a) p q = q a
+then_known Q f (Err code) p q = p
 
-or_holds : {A : Type 0} (o : Option A) (code : ℕ) → IsKnown code → Holds Any (ok_or o code)
-or_holds None code k = k
-or_holds (Some a) code k = tt
+or_known : {A : Type 0} (o : Option A) (code : ℕ) → IsKnown code → IsKnownOr Any (ok_or o code)
+or_known None code k = k
+or_known (Some a) code k = tt
 
-if_holds : {A : Type 0} (P : A → Type 0) (b : Bool) (x y : Result A ℕ) → Holds P x → Holds P y → Holds P (cond b x y)
-if_holds P true x y p q = p
-if_holds P false x y p q = q
+if_known : {A : Type 0} (P : A → Type 0) (b : Bool) (x y : Result A ℕ) → IsKnownOr P x → IsKnownOr P y → IsKnownOr P
+    (cond b x y)
+if_known P true x y p q = p
+if_known P false x y p q = q
 
 -- ---- what is shown
 
-variables_hold : (s : State) (level id : ℕ) → Holds Any (shown_variables s level id)
-variables_hold s level id =
-    if_holds Any (nat_lt level (length s.frames)) (ok_or (variables_of s level id) 302) (Err 301)
-    (or_holds (variables_of s level id) 302 (refl, omega arith)) (refl, omega arith)
+variables_known : (s : State) (level id : ℕ) → IsKnownOr Any (shown_variables s level id)
+variables_known s level id =
+    if_known Any (nat_lt level (length s.frames)) (ok_or (variables_of s level id) 302) (Err 301)
+    (or_known (variables_of s level id) 302 (refl, omega arith)) (refl, omega arith)
 
-value_holds : (s : State) (level id : ℕ) (path : Path) → Holds Any (value_at s level id path)
-value_holds s level id path =
-    then_holds Any _ (shown_variables s level id) (variables_hold s level id)
-    (λ variables. or_holds (value_among s.globals path variables) 300 (refl, omega arith))
+value_known : (s : State) (level id : ℕ) (path : Path) → IsKnownOr Any (value_at s level id path)
+value_known s level id path =
+    then_known Any _ (shown_variables s level id) (variables_known s level id)
+    (λ variables. or_known (value_among s.globals path variables) 300 (refl, omega arith))
 
-path_holds : (s : State) (level id : ℕ) (name : Text) → Holds Any (named_path s level id name)
-path_holds s level id name =
-    then_holds Any _ (shown_variables s level id) (variables_hold s level id)
-    (λ variables. or_holds (path_at name) 300 (refl, omega arith))
+path_known : (s : State) (level id : ℕ) (name : Text) → IsKnownOr Any (named_path s level id name)
+path_known s level id name =
+    then_known Any _ (shown_variables s level id) (variables_known s level id)
+    (λ variables. or_known (path_at name) 300 (refl, omega arith))
 
-stack_holds : (bundle : Bundle) (s : State) (level : Option ℕ) → Holds Any (stack_at bundle s level)
-stack_holds bundle s None = tt
-stack_holds bundle s (Some level) = or_holds _ 301 (refl, omega arith)
+stack_known : (bundle : Bundle) (s : State) (level : Option ℕ) → IsKnownOr Any (stack_at bundle s level)
+stack_known bundle s None = tt
+stack_known bundle s (Some level) = or_known _ 301 (refl, omega arith)
 
 abbrev IsPlain : Body → Type 0
 IsPlain (body.Fault code) = ⊥
@@ -82,49 +83,49 @@ IsPlain other = Unit {0}
 abbrev IsPlainPart : Part → Type 0
 IsPlainPart part = IsPlain part.1
 
-lines_hold : (range : SourceRange) (t : Option Text) → Holds IsPlainPart (lines_part range t)
-lines_hold range None = (refl, omega arith)
-lines_hold range (Some t) = tt
+lines_known : (range : SourceRange) (t : Option Text) → IsKnownOr IsPlainPart (lines_part range t)
+lines_known range None = (refl, omega arith)
+lines_known range (Some t) = tt
 
-part_holds : (bundle : Bundle) (here : ℕ) (features : Features) (s : State) (asked : Request)
-    → Holds IsPlainPart (part_of bundle here features s asked)
-part_holds bundle here features s request.StackDepth = tt
-part_holds bundle here features s (request.StackGet level) =
-    then_holds IsPlainPart _ (stack_at bundle s level) (stack_holds bundle s level) (λ lines. tt)
-part_holds bundle here features s request.ContextNames = tt
-part_holds bundle here features s (request.ContextGet level id) =
-    then_holds IsPlainPart _ (context_at s level id _) (then_holds Any _ (shown_variables s level id)
-    (variables_hold s level id) (λ variables. tt)) (λ shown. tt)
-part_holds bundle here features s (request.PropertyGet place page most) =
-    then_holds IsPlainPart _ (named_property s place.level place.context place.name _)
-    (then_holds Any _ (named_path s place.level place.context place.name)
-    (path_holds s place.level place.context place.name)
-    (λ path. then_holds Any _ (value_at s place.level place.context path) (value_holds s place.level place.context path)
+part_known : (bundle : Bundle) (here : ℕ) (features : Features) (s : State) (asked : Request)
+    → IsKnownOr IsPlainPart (part_of bundle here features s asked)
+part_known bundle here features s request.StackDepth = tt
+part_known bundle here features s (request.StackGet level) =
+    then_known IsPlainPart _ (stack_at bundle s level) (stack_known bundle s level) (λ lines. tt)
+part_known bundle here features s request.ContextNames = tt
+part_known bundle here features s (request.ContextGet level id) =
+    then_known IsPlainPart _ (context_at s level id _) (then_known Any _ (shown_variables s level id)
+    (variables_known s level id) (λ variables. tt)) (λ shown. tt)
+part_known bundle here features s (request.PropertyGet place page most) =
+    then_known IsPlainPart _ (named_property s place.level place.context place.name _)
+    (then_known Any _ (named_path s place.level place.context place.name)
+    (path_known s place.level place.context place.name)
+    (λ path. then_known Any _ (value_at s place.level place.context path) (value_known s place.level place.context path)
     (λ d. tt)))
     (λ shown. tt)
-part_holds bundle here features s (request.PropertyValue place most) =
-    then_holds IsPlainPart _ (named_value s place.level place.context place.name most)
-    (then_holds Any _ (named_path s place.level place.context place.name)
-    (path_holds s place.level place.context place.name)
-    (λ path. then_holds Any _ (value_at s place.level place.context path) (value_holds s place.level place.context path)
+part_known bundle here features s (request.PropertyValue place most) =
+    then_known IsPlainPart _ (named_value s place.level place.context place.name most)
+    (then_known Any _ (named_path s place.level place.context place.name)
+    (path_known s place.level place.context place.name)
+    (λ path. then_known Any _ (value_at s place.level place.context path) (value_known s place.level place.context path)
     (λ d. tt)))
     (λ shown. tt)
-part_holds bundle here features s (request.Source range) =
-    if_holds IsPlainPart (is_zero range.first || is_zero range.last) (Err 3)
-    (lines_part range (option_map (λ f. f.text) (file_asked bundle here range.file))) (refl, omega arith)
-    (lines_hold range (option_map (λ f. f.text) (file_asked bundle here range.file)))
-part_holds bundle here features s request.Status = (refl, omega arith)
-part_holds bundle here features s (request.FeatureGet name) = (refl, omega arith)
-part_holds bundle here features s (request.FeatureSet name value) = (refl, omega arith)
-part_holds bundle here features s (request.Continue mode) = (refl, omega arith)
-part_holds bundle here features s (request.Finish finish) = (refl, omega arith)
-part_holds bundle here features s (request.BreakpointSet set) = (refl, omega arith)
-part_holds bundle here features s (request.Breakpoint action id) = (refl, omega arith)
-part_holds bundle here features s (request.BreakpointUpdate update) = (refl, omega arith)
-part_holds bundle here features s request.BreakpointList = (refl, omega arith)
-part_holds bundle here features s (request.PropertySet set) = (refl, omega arith)
-part_holds bundle here features s (request.Redirect stream mode) = (refl, omega arith)
-part_holds bundle here features s (request.Eval expression) = (refl, omega arith)
+part_known bundle here features s (request.Source range) =
+    if_known IsPlainPart (is_zero range.first || is_zero range.last) (Err 3)
+    (lines_part range (option_map (λ f. f.text) (source_file bundle here range.file))) (refl, omega arith)
+    (lines_known range (option_map (λ f. f.text) (source_file bundle here range.file)))
+part_known bundle here features s request.Status = (refl, omega arith)
+part_known bundle here features s (request.FeatureGet name) = (refl, omega arith)
+part_known bundle here features s (request.FeatureSet name value) = (refl, omega arith)
+part_known bundle here features s (request.Continue mode) = (refl, omega arith)
+part_known bundle here features s (request.Finish finish) = (refl, omega arith)
+part_known bundle here features s (request.BreakpointSet set) = (refl, omega arith)
+part_known bundle here features s (request.Breakpoint action id) = (refl, omega arith)
+part_known bundle here features s (request.BreakpointUpdate update) = (refl, omega arith)
+part_known bundle here features s request.BreakpointList = (refl, omega arith)
+part_known bundle here features s (request.PropertySet set) = (refl, omega arith)
+part_known bundle here features s (request.Redirect stream mode) = (refl, omega arith)
+part_known bundle here features s (request.Eval expression) = (refl, omega arith)
 
 -- ---- responses
 
@@ -140,9 +141,9 @@ words (body.Breakpoints lines) p = refl
 no_fault : (b : Body) → IsPlain b → (code : ℕ) → b ≢ body.Fault code
 no_fault b p code e = subst IsPlain e p
 
-limit_holds : (r : Response) → IsPlain r.body → Holds IsSent (within_limit r)
-limit_holds r plain = by (is_short r) refl where
-  by : (t : Bool) → is_short r ≡ t → Holds IsSent (cond t (Ok r) (Err 300))
+limit_known : (r : Response) → IsPlain r.body → IsKnownOr IsSent (within_limit r)
+limit_known r plain = by (is_short r) refl where
+  by : (t : Bool) → is_short r ≡ t → IsKnownOr IsSent (cond t (Ok r) (Err 300))
   by true t =
       record {
         known = words r.body plain;
@@ -152,24 +153,24 @@ limit_holds r plain = by (is_short r) refl where
       }
   by false t = (refl, omega arith)
 
-answered_holds : (command id : Text) (part : Result Part ℕ) → Holds IsPlainPart part
-    → Holds IsSent (and_then (λ p. within_limit (response_with command id p)) part)
-answered_holds command id (Ok part) plain = limit_holds (response_with command id part) plain
-answered_holds command id (Err code) known = known
+answered_known : (command id : Text) (part : Result Part ℕ) → IsKnownOr IsPlainPart part
+    → IsKnownOr IsSent (and_then (λ p. within_limit (response_with command id p)) part)
+answered_known command id (Ok part) plain = limit_known (response_with command id part) plain
+answered_known command id (Err code) known = known
 
-response_holds : (bundle : Bundle) (here : ℕ) (features : Features) (s : State) (command id : Text) (asked : Request)
-    → Holds IsSent (view_response bundle here features s command id asked)
+response_known : (bundle : Bundle) (here : ℕ) (features : Features) (s : State) (command id : Text) (asked : Request)
+    → IsKnownOr IsSent (view_response bundle here features s command id asked)
 unfolding view_response
-response_holds bundle here features s command id asked =
-    answered_holds command id (part_of bundle here features s asked) (part_holds bundle here features s asked)
+response_known bundle here features s command id asked =
+    answered_known command id (part_of bundle here features s asked) (part_known bundle here features s asked)
 
 module _ (bundle : Bundle) (here : ℕ) (features : Features) (s : State) (command id : Text) (asked : Request) where
   pub sent : (r : Response) → view_response bundle here features s command id asked ≡ Ok r → IsSent r
-  sent r e = subst (Holds IsSent) e (response_holds bundle here features s command id asked)
+  sent r e = subst (IsKnownOr IsSent) e (response_known bundle here features s command id asked)
 
   pub code : (k : ℕ) → view_response bundle here features s command id asked ≡ Err k
       → (is_some_text (message_of k) ≡ true) × (k < 1000)
-  code k e = subst (Holds IsSent) e (response_holds bundle here features s command id asked)
+  code k e = subst (IsKnownOr IsSent) e (response_known bundle here features s command id asked)
 
   -- what a call answers
   pub answer_sent : (result : Result Response ViewError)

@@ -1,3 +1,3 @@
 pub mod Views
-pub mod Answers
+pub mod Results
 pub mod inner

@@ -79,9 +79,9 @@ value_part s place most =
 -- ---- the text of a file
 
 -- the file that is asked for: the one of the moment where none is given
-abbrev pub file_asked : Bundle → ℕ → Option Text → Option BundleFile
-file_asked bundle here None = slice_get bundle.files here
-file_asked bundle here (Some value) =
+abbrev pub source_file : Bundle → ℕ → Option Text → Option BundleFile
+source_file bundle here None = slice_get bundle.files here
+source_file bundle here (Some value) =
     option_and_then (slice_get bundle.files) (requested_file bundle value)
 
 abbrev pub is_zero : Option ℕ → Bool
@@ -101,7 +101,7 @@ lines_part range file =
 abbrev pub source_part : Bundle → ℕ → SourceRange → Result Part ℕ
 source_part bundle here range =
     if is_zero range.first || is_zero range.last then Err 3
-    else lines_part range (option_map (λ f. f.text) (file_asked bundle here range.file))
+    else lines_part range (option_map (λ f. f.text) (source_file bundle here range.file))
 
 -- ---- responses
 

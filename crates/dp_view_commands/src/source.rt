@@ -2,7 +2,7 @@
 
 ghost use Rattle.std.specs.Prelude.{◌≡◌, ◌||◌, if◌then◌else◌, option_map, slice_get, Err, None, Some, IfOk, IfSome};
 ghost use Rattle.dp_packet.specs.Parts.{base64};
-ghost use Rattle.dp_view_commands.specs.Answers.{Answers};
+ghost use Rattle.dp_view_commands.specs.Results.{Answers};
 ghost use Rattle.dp_view_commands.specs.Views as spec;
 
 use crate::packets::{encoded, limited, respond};
@@ -32,7 +32,7 @@ fn text_named<'b>(
     value: &[u8],
 ) -> Result<Option<&'b [u8]>, Memory>
     ensures { IfOk result (λ found. option_map (λ t. t.now) found
-        ≡ option_map (λ f. f.text) (spec.file_asked bundle.now 0 (Some value.now))) }
+        ≡ option_map (λ f. f.text) (spec.source_file bundle.now 0 (Some value.now))) }
 {
     match requested_file(alloc, bundle, value)? {
         Some(file) => Ok(text_of(bundle, file)),
@@ -41,14 +41,14 @@ fn text_named<'b>(
 }
 
 /// The text of the file that is asked for: the one of the moment where none is given.
-fn text_asked<'b>(
+fn source_text<'b>(
     alloc: Global,
     bundle: &'b Bundle,
     here: u32,
     file: &Option<Bytes>,
 ) -> Result<Option<&'b [u8]>, Memory>
     ensures { IfOk result (λ found. option_map (λ t. t.now) found
-        ≡ option_map (λ f. f.text) (spec.file_asked bundle.now here file.now)) }
+        ≡ option_map (λ f. f.text) (spec.source_file bundle.now here file.now)) }
 {
     match file {
         Some(value) => text_named(alloc, bundle, value.as_slice()),
@@ -97,9 +97,9 @@ fn file_response(
     to: &Addressee,
 ) -> Result<Response, ViewError>
     ensures answer { Answers result (spec.answered to.now.command to.now.id
-        (spec.lines_part range.now (option_map (λ f. f.text) (spec.file_asked bundle.now here range.now.file)))) }
+        (spec.lines_part range.now (option_map (λ f. f.text) (spec.source_file bundle.now here range.now.file)))) }
 {
-    match text_asked(alloc, bundle, here, &range.file)? {
+    match source_text(alloc, bundle, here, &range.file)? {
         Some(text) => lines_response(alloc, range, text, to),
         None => Err(ViewError::Code(100)),
     }

@@ -4,7 +4,7 @@ ghost use Rattle.std.specs.Prelude.{◌≡◌, [], Err, Ok, IfOk, IfSome};
 ghost use Rattle.dp_packet.specs.declared.packet.Body.TheVariants as body;
 ghost use Rattle.dp_view.specs.Places.{contexts as all_contexts};
 ghost use Rattle.dp_view.specs.Stacks.{stack_at};
-ghost use Rattle.dp_view_commands.specs.Answers.{Answers};
+ghost use Rattle.dp_view_commands.specs.Results.{Answers};
 ghost use Rattle.dp_view_commands.specs.Views as spec;
 
 use crate::packets::{limited, none, number, respond};

@@ -5,7 +5,7 @@ ghost use Rattle.dp_packet.specs.declared.packet.Body.TheVariants as body;
 ghost use Rattle.dp_view.specs.Answers as viewed;
 ghost use Rattle.dp_view.specs.Answers.{AnswersAfter};
 ghost use Rattle.dp_view.specs.Named.{named_path};
-ghost use Rattle.dp_view_commands.specs.Answers.{Answers};
+ghost use Rattle.dp_view_commands.specs.Results.{Answers};
 ghost use Rattle.dp_view_commands.specs.Views as spec;
 ghost use Rattle.dp_view.specs.Answers.{Gives};
 

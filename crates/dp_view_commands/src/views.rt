@@ -1,7 +1,7 @@
 //! The commands that look at a program.
 
 ghost use Rattle.std.specs.Prelude.{◌≡◌, Err, IfOk, IfSome};
-ghost use Rattle.dp_view_commands.specs.Answers.{Answers, HasKnownCode, IsSent, refusal_at_once};
+ghost use Rattle.dp_view_commands.specs.Results.{Answers, HasKnownCode, IsSent, refusal_at_once};
 ghost use Rattle.dp_view_commands.specs.Views as spec;
 
 use crate::source::source_response;

@@ -25,8 +25,8 @@ use Rattle.dp_view.specs.Answers.{AnswersAfter, and_then}
 use Rattle.dp_view.specs.Named.{named_path}
 use Rattle.dp_wire.specs.Frames.{command_limit}
 use Rattle.dp_write_commands.specs.declared.commands.Written.{Written}
-use Rattle.dp_write_commands.specs.Answers.{Answers, refusal_at_once}
-use Rattle.dp_write_commands.specs.Asked.{path_asked, tree_of, value_asked, write_asked, write_at}
+use Rattle.dp_write_commands.specs.Results.{Answers, refusal_at_once}
+use Rattle.dp_write_commands.specs.Requests.{requested_path, requested_value, requested_write, tree_of, write_at}
 use Rattle.dp_write_commands.specs.Responses.{code_in, responding, write_response}
 use Rattle.dp_write_commands.specs.inner.Writes.{Finds, IsTree, Makes, error_of, with_write}
 
@@ -56,12 +56,12 @@ found_at_once f (Err code) b P e = absurd cc
 abbrev pub refused : ViewError → Result Written ViewError
 refused why = Err why
 
-pub told_at_once : {A B : Type 0} (f : A → Result B ℕ) (first : Result A ℕ) (why : ViewError)
+pub reported_at_once : {A B : Type 0} (f : A → Result B ℕ) (first : Result A ℕ) (why : ViewError)
     → AnswersAfter {X = B} (λ b. b) (Err why) first (and_then f first)
     → IfSome (code_in first) (λ code. refused why ≡ Err (Code code))
-told_at_once f (Ok a) why h = tt
-told_at_once f (Err code) (Code other) h = let same : code ≡ other = cc in ap (λ k. refused (Code k)) (sym same)
-told_at_once f (Err code) Memory h = absurd cc
+reported_at_once f (Ok a) why h = tt
+reported_at_once f (Err code) (Code other) h = let same : code ≡ other = cc in ap (λ k. refused (Code k)) (sym same)
+reported_at_once f (Err code) Memory h = absurd cc
 
 -- ---- the tree of a text
 
@@ -95,20 +95,22 @@ module _ (s : State) (set : PropertySet) where
   written_at value path = Ok (write_at set.place value path)
 
   abbrev by_value : Option Value → Result Write ℕ
-  by_value value = and_then (λ v. and_then (written_at v) (path_asked s set.place)) (ok_or value 3)
+  by_value value = and_then (λ v. and_then (written_at v) (requested_path s set.place)) (ok_or value 3)
 
-  pub property_is : (value : Value) (path : Path) → value_asked set ≡ Some value → path_asked s set.place ≡ Ok path
-      → write_asked s (request.PropertySet set) ≡ Ok (write_at set.place value path)
-  unfolding write_asked
+  pub property_is : (value : Value) (path : Path) → requested_value set ≡ Some value → requested_path s set.place
+      ≡ Ok path
+      → requested_write s (request.PropertySet set) ≡ Ok (write_at set.place value path)
+  unfolding requested_write
   property_is value path v p = ap by_value v ∙ ap (and_then (written_at value)) p
 
-  property_unplaced : (value : Value) (code : ℕ) → value_asked set ≡ Some value → path_asked s set.place ≡ Err code
-      → write_asked s (request.PropertySet set) ≡ Err code
-  unfolding write_asked
+  property_unplaced : (value : Value) (code : ℕ) → requested_value set ≡ Some value → requested_path s set.place
+      ≡ Err code
+      → requested_write s (request.PropertySet set) ≡ Err code
+  unfolding requested_write
   property_unplaced value code v p = ap by_value v ∙ ap (and_then (written_at value)) p
 
-  property_unvalued : value_asked set ≡ None → write_asked s (request.PropertySet set) ≡ Err 3
-  unfolding write_asked
+  property_unvalued : requested_value set ≡ None → requested_write s (request.PropertySet set) ≡ Err 3
+  unfolding requested_write
   property_unvalued v = ap by_value v
 
   -- the codes that are told whatever memory there is
@@ -118,11 +120,11 @@ module _ (s : State) (set : PropertySet) where
   abbrev once_by : (ℕ → Type 0) → Option Value → Type 0
   once_by P value = IfSome (code_in (and_then (λ v. named) (ok_or value 3))) P
 
-  pub valued_at_once : (value : Value) (P : ℕ → Type 0) → value_asked set ≡ Some value → IfSome (code_in named) P
+  pub valued_at_once : (value : Value) (P : ℕ → Type 0) → requested_value set ≡ Some value → IfSome (code_in named) P
       → IfSome (refusal_at_once s (request.PropertySet set)) P
   valued_at_once value P v h = subst (once_by P) (sym v) h
 
-  pub unvalued_at_once : (P : ℕ → Type 0) → value_asked set ≡ None → P 3
+  pub unvalued_at_once : (P : ℕ → Type 0) → requested_value set ≡ None → P 3
       → IfSome (refusal_at_once s (request.PropertySet set)) P
   unvalued_at_once P v h = subst (once_by P) (sym v) h
 
@@ -131,12 +133,12 @@ module _ (s : State) (text : List ℕ) where
   by_tree tree = ok_or (option_map (λ e. write.Evaluate e) tree) 206
 
   pub evaluation_is : (e : Expression) → tree_of text ≡ Some e
-      → write_asked s (request.Eval text) ≡ Ok (write.Evaluate e)
-  unfolding write_asked
+      → requested_write s (request.Eval text) ≡ Ok (write.Evaluate e)
+  unfolding requested_write
   evaluation_is e h = ap by_tree h
 
-  evaluation_none : tree_of text ≡ None → write_asked s (request.Eval text) ≡ Err 206
-  unfolding write_asked
+  evaluation_none : tree_of text ≡ None → requested_write s (request.Eval text) ≡ Err 206
+  unfolding requested_write
   evaluation_none h = ap by_tree h
 
 -- ---- what is answered
@@ -144,7 +146,7 @@ module _ (s : State) (text : List ℕ) where
 module _ (bundle : Bundle) (features : Features) (before : State) (command id : Text) where
   -- a write that was asked for and tried
   pub tried : (after : State) (asked : Request) (w : Write) (made : Result Response ViewError)
-      → write_asked before asked ≡ Ok w → Makes bundle features before after command id w made
+      → requested_write before asked ≡ Ok w → Makes bundle features before after command id w made
       → Answers bundle features before after command id asked (with_write w made)
   unfolding write_response
   tried after asked w (Ok r) e h =
@@ -154,20 +156,20 @@ module _ (bundle : Bundle) (features : Features) (before : State) (command id : 
   tried after asked w (Err Memory) e h = h
 
   -- none was asked for
-  pub unasked : (asked : Request) (code : ℕ) → write_asked before asked ≡ Err code
+  pub unasked : (asked : Request) (code : ℕ) → requested_write before asked ≡ Err code
       → write_response bundle features before command id asked ≡ Err code
   unfolding write_response
   unasked asked code e = ap (and_then (responding bundle features before command id)) e
 
   pub unplaced : (set : PropertySet) (value : Value) (why : ViewError) {Z : Type 0} (first : Result Z ℕ)
-      → value_asked set ≡ Some value
-      → AnswersAfter {X = Path} (λ path. path) (Err why) first (path_asked before set.place)
+      → requested_value set ≡ Some value
+      → AnswersAfter {X = Path} (λ path. path) (Err why) first (requested_path before set.place)
       → Answers bundle features before before command id (request.PropertySet set) (Err why)
   unplaced set value (Code code) first v p =
       (unasked (request.PropertySet set) code (property_unplaced before set value code v p), refl)
   unplaced set value Memory first v p = refl
 
-  pub unvalued : (set : PropertySet) → value_asked set ≡ None
+  pub unvalued : (set : PropertySet) → requested_value set ≡ None
       → Answers bundle features before before command id (request.PropertySet set) (Err (Code 3))
   unvalued set v = (unasked (request.PropertySet set) 3 (property_unvalued before set v), refl)
 

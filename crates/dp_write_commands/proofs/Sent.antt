@@ -28,8 +28,8 @@ use Rattle.dp_view.specs.Places.{shown_variables, variables_of}
 use Rattle.dp_view.specs.NameReader.{path_at}
 use Rattle.dp_wire.specs.Frames.{packet_limit}
 use Rattle.dp_write_commands.specs.declared.commands.Written.{Written}
-use Rattle.dp_write_commands.specs.Answers.{Answers, HasKnownCode, IsSent}
-use Rattle.dp_write_commands.specs.Asked.{is_reserved, path_asked, tree_of, unreserved, value_asked, write_asked}
+use Rattle.dp_write_commands.specs.Results.{Answers, HasKnownCode, IsSent}
+use Rattle.dp_write_commands.specs.Requests.{is_reserved, requested_path, requested_value, requested_write, tree_of, unreserved}
 use Rattle.dp_write_commands.specs.Responses.{responding, response_to, success, value_response, within_limit, write_response}
 
 -- ---- a value of which something holds, or a code that has a message
@@ -37,69 +37,70 @@ use Rattle.dp_write_commands.specs.Responses.{responding, response_to, success, 
 abbrev IsKnown : ℕ → Type 0
 IsKnown code = (is_some_text (message_of code) ≡ true) × (code < 1000)
 
-abbrev Holds : {A : Type 0} → (A → Type 0) → Result A ℕ → Type 0
-Holds P (Ok a) = P a
-Holds P (Err code) = IsKnown code
+abbrev IsKnownOr : {A : Type 0} → (A → Type 0) → Result A ℕ → Type 0
+IsKnownOr P (Ok a) = P a
+IsKnownOr P (Err code) = IsKnown code
 
 abbrev Any : {A : Type 0} → A → Type 0
 Any a = Unit {0}
 
-then_holds : {A B : Type 0} (Q : B → Type 0) (f : A → Result B ℕ) (r : Result A ℕ) → Holds Any r
-    → ((a : A) → Holds Q (f a)) → Holds Q (and_then f r)
-then_holds Q f (Ok a) p q = q a
-then_holds Q f (Err code) p q = p
+then_known : {A B : Type 0} (Q : B → Type 0) (f : A → Result B ℕ) (r : Result A ℕ) → IsKnownOr Any r
+    → ((a : A) → IsKnownOr Q (f a)) → IsKnownOr Q (and_then f r)
+then_known Q f (Ok a) p q = q a
+then_known Q f (Err code) p q = p
 
-or_holds : {A : Type 0} (o : Option A) (code : ℕ) → IsKnown code → Holds Any (ok_or o code)
-or_holds None code k = k
-or_holds (Some a) code k = tt
+or_known : {A : Type 0} (o : Option A) (code : ℕ) → IsKnown code → IsKnownOr Any (ok_or o code)
+or_known None code k = k
+or_known (Some a) code k = tt
 
-if_holds : {A : Type 0} (P : A → Type 0) (b : Bool) (x y : Result A ℕ) → Holds P x → Holds P y → Holds P (cond b x y)
-if_holds P true x y p q = p
-if_holds P false x y p q = q
+if_known : {A : Type 0} (P : A → Type 0) (b : Bool) (x y : Result A ℕ) → IsKnownOr P x → IsKnownOr P y → IsKnownOr P
+    (cond b x y)
+if_known P true x y p q = p
+if_known P false x y p q = q
 
 -- ---- what is asked for
 
-variables_hold : (s : State) (level id : ℕ) → Holds Any (shown_variables s level id)
-variables_hold s level id =
-    if_holds Any (nat_lt level (length s.frames)) (ok_or (variables_of s level id) 302) (Err 301)
-    (or_holds (variables_of s level id) 302 (refl, omega arith)) (refl, omega arith)
+variables_known : (s : State) (level id : ℕ) → IsKnownOr Any (shown_variables s level id)
+variables_known s level id =
+    if_known Any (nat_lt level (length s.frames)) (ok_or (variables_of s level id) 302) (Err 301)
+    (or_known (variables_of s level id) 302 (refl, omega arith)) (refl, omega arith)
 
-named_holds : (s : State) (level id : ℕ) (name : Text) → Holds Any (named_path s level id name)
-named_holds s level id name =
-    then_holds Any _ (shown_variables s level id) (variables_hold s level id)
-    (λ variables. or_holds (path_at name) 300 (refl, omega arith))
+named_known : (s : State) (level id : ℕ) (name : Text) → IsKnownOr Any (named_path s level id name)
+named_known s level id name =
+    then_known Any _ (shown_variables s level id) (variables_known s level id)
+    (λ variables. or_known (path_at name) 300 (refl, omega arith))
 
-unreserved_holds : (path : Path) → Holds Any (unreserved path)
-unreserved_holds path = if_holds Any (is_reserved path.name) (Err 300) (Ok path) (refl, omega arith) tt
+unreserved_known : (path : Path) → IsKnownOr Any (unreserved path)
+unreserved_known path = if_known Any (is_reserved path.name) (Err 300) (Ok path) (refl, omega arith) tt
 
-path_holds : (s : State) (place : PropertyPlace) → Holds Any (path_asked s place)
-path_holds s place =
-    then_holds Any unreserved (named_path s place.level place.context place.name)
-    (named_holds s place.level place.context place.name) unreserved_holds
+path_known : (s : State) (place : PropertyPlace) → IsKnownOr Any (requested_path s place)
+path_known s place =
+    then_known Any unreserved (named_path s place.level place.context place.name)
+    (named_known s place.level place.context place.name) unreserved_known
 
-asked_holds : (s : State) (asked : Request) → Holds Any (write_asked s asked)
-unfolding write_asked
-asked_holds s (request.PropertySet set) =
-    then_holds Any _ (ok_or (value_asked set) 3) (or_holds (value_asked set) 3 (refl, omega arith))
-    (λ value. then_holds Any _ (path_asked s set.place) (path_holds s set.place) (λ path. tt))
-asked_holds s (request.Eval text) = or_holds (option_map _ (tree_of text)) 206 (refl, omega arith)
-asked_holds s request.Status = (refl, omega arith)
-asked_holds s (request.FeatureGet name) = (refl, omega arith)
-asked_holds s (request.FeatureSet name value) = (refl, omega arith)
-asked_holds s (request.Continue mode) = (refl, omega arith)
-asked_holds s (request.Finish finish) = (refl, omega arith)
-asked_holds s (request.BreakpointSet set) = (refl, omega arith)
-asked_holds s (request.Breakpoint action id) = (refl, omega arith)
-asked_holds s (request.BreakpointUpdate update) = (refl, omega arith)
-asked_holds s request.BreakpointList = (refl, omega arith)
-asked_holds s request.StackDepth = (refl, omega arith)
-asked_holds s (request.StackGet level) = (refl, omega arith)
-asked_holds s request.ContextNames = (refl, omega arith)
-asked_holds s (request.ContextGet level id) = (refl, omega arith)
-asked_holds s (request.PropertyGet place page most) = (refl, omega arith)
-asked_holds s (request.PropertyValue place most) = (refl, omega arith)
-asked_holds s (request.Source range) = (refl, omega arith)
-asked_holds s (request.Redirect stream mode) = (refl, omega arith)
+requested_known : (s : State) (asked : Request) → IsKnownOr Any (requested_write s asked)
+unfolding requested_write
+requested_known s (request.PropertySet set) =
+    then_known Any _ (ok_or (requested_value set) 3) (or_known (requested_value set) 3 (refl, omega arith))
+    (λ value. then_known Any _ (requested_path s set.place) (path_known s set.place) (λ path. tt))
+requested_known s (request.Eval text) = or_known (option_map _ (tree_of text)) 206 (refl, omega arith)
+requested_known s request.Status = (refl, omega arith)
+requested_known s (request.FeatureGet name) = (refl, omega arith)
+requested_known s (request.FeatureSet name value) = (refl, omega arith)
+requested_known s (request.Continue mode) = (refl, omega arith)
+requested_known s (request.Finish finish) = (refl, omega arith)
+requested_known s (request.BreakpointSet set) = (refl, omega arith)
+requested_known s (request.Breakpoint action id) = (refl, omega arith)
+requested_known s (request.BreakpointUpdate update) = (refl, omega arith)
+requested_known s request.BreakpointList = (refl, omega arith)
+requested_known s request.StackDepth = (refl, omega arith)
+requested_known s (request.StackGet level) = (refl, omega arith)
+requested_known s request.ContextNames = (refl, omega arith)
+requested_known s (request.ContextGet level id) = (refl, omega arith)
+requested_known s (request.PropertyGet place page most) = (refl, omega arith)
+requested_known s (request.PropertyValue place most) = (refl, omega arith)
+requested_known s (request.Source range) = (refl, omega arith)
+requested_known s (request.Redirect stream mode) = (refl, omega arith)
 
 -- ---- responses
 
@@ -111,14 +112,14 @@ module _ (command id : Text) (p : length command ≤ 64) (q : length id ≤ 64) 
     no_error = λ code e. cc;
   }
 
-  value_holds : (features : Features) (value : Value)
-      → Holds IsSent (within_limit (value_response features command id value))
-  value_holds features value = by (nat_le (length (text (packet.Response r))) packet_limit) refl where
+  value_known : (features : Features) (value : Value)
+      → IsKnownOr IsSent (within_limit (value_response features command id value))
+  value_known features value = by (nat_le (length (text (packet.Response r))) packet_limit) refl where
     r : Response
     r = value_response features command id value
 
     by : (b : Bool) → nat_le (length (text (packet.Response r))) packet_limit ≡ b
-        → Holds IsSent (cond b (Ok r) (Err 206))
+        → IsKnownOr IsSent (cond b (Ok r) (Err 206))
     by true t =
         record {
           known = refl;
@@ -128,28 +129,28 @@ module _ (command id : Text) (p : length command ≤ 64) (q : length id ≤ 64) 
         }
     by false t = (refl, omega arith)
 
-  answer_holds : (features : Features) (a : WriteAnswer) → Holds IsSent (response_to features command id a)
-  answer_holds features answer.Set = bare_sent
-  answer_holds features (answer.Value value) = value_holds features value
-  answer_holds features answer.Fatal = (refl, omega arith)
-  answer_holds features answer.NoFrame = (refl, omega arith)
-  answer_holds features answer.NoPlace = (refl, omega arith)
+  response_to_known : (features : Features) (a : WriteAnswer) → IsKnownOr IsSent (response_to features command id a)
+  response_to_known features answer.Set = bare_sent
+  response_to_known features (answer.Value value) = value_known features value
+  response_to_known features answer.Fatal = (refl, omega arith)
+  response_to_known features answer.NoFrame = (refl, omega arith)
+  response_to_known features answer.NoPlace = (refl, omega arith)
 
-  response_holds : (bundle : Bundle) (features : Features) (s : State) (asked : Request)
-      → Holds IsSent (write_response bundle features s command id asked)
+  response_known : (bundle : Bundle) (features : Features) (s : State) (asked : Request)
+      → IsKnownOr IsSent (write_response bundle features s command id asked)
   unfolding write_response
-  response_holds bundle features s asked =
-      then_holds IsSent (responding bundle features s command id) (write_asked s asked) (asked_holds s asked)
-      (λ w. answer_holds features (answer_in (evaluation_setting bundle) w s))
+  response_known bundle features s asked =
+      then_known IsSent (responding bundle features s command id) (requested_write s asked) (requested_known s asked)
+      (λ w. response_to_known features (answer_in (evaluation_setting bundle) w s))
 
 module _ (bundle : Bundle) (features : Features) (s : State) (command id : Text) (asked : Request)
     (p : length command ≤ 64) (q : length id ≤ 64) where
   pub sent : (r : Response) → write_response bundle features s command id asked ≡ Ok r → IsSent r
-  sent r e = subst (Holds IsSent) e (response_holds command id p q bundle features s asked)
+  sent r e = subst (IsKnownOr IsSent) e (response_known command id p q bundle features s asked)
 
   pub code : (k : ℕ) → write_response bundle features s command id asked ≡ Err k
       → (is_some_text (message_of k) ≡ true) × (k < 1000)
-  code k e = subst (Holds IsSent) e (response_holds command id p q bundle features s asked)
+  code k e = subst (IsKnownOr IsSent) e (response_known command id p q bundle features s asked)
 
   -- what a call answers
   pub answer_sent : (after : State) (result : Result Written ViewError)

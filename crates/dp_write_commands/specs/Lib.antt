@@ -1,4 +1,4 @@
-pub mod Asked
+pub mod Requests
 pub mod Responses
-pub mod Answers
+pub mod Results
 pub mod inner

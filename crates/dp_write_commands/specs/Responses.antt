@@ -22,7 +22,7 @@ use Rattle.dp_view.specs.Answers.{and_then}
 pub use Rattle.dp_view.specs.Answers.{code_in}
 use Rattle.dp_view.specs.Properties.{shown}
 use Rattle.dp_wire.specs.Frames.{packet_limit}
-use Rattle.dp_write_commands.specs.Asked.{write_asked}
+use Rattle.dp_write_commands.specs.Requests.{requested_write}
 
 -- a command that succeeds
 abbrev pub success : Text → Text → Body → Response
@@ -71,7 +71,7 @@ responding bundle features s command id w =
 unfoldable pub write_response : Bundle → Features → State → Text → Text → Request
     → Result Response ℕ
 write_response bundle features s command id asked =
-    and_then (responding bundle features s command id) (write_asked s asked)
+    and_then (responding bundle features s command id) (requested_write s asked)
 
 -- the code of a refusal
 unfoldable pub write_refusal : Bundle → Features → State → Text → Text → Request → Option ℕ

@@ -1,17 +1,17 @@
 //! Commands that write.
 
 ghost use Rattle.std.specs.Prelude.{◌≡◌, Ok, Err, Some, IfOk, IfSome};
-ghost use Rattle.dp_write_commands.specs.Asked.{path_asked as asked_path, tree_of as spec_tree};
-ghost use Rattle.dp_write_commands.specs.Asked.{value_asked as asked_value};
+ghost use Rattle.dp_write_commands.specs.Requests.{requested_path as path_of_request, tree_of as spec_tree};
+ghost use Rattle.dp_write_commands.specs.Requests.{requested_value as value_of_request};
 ghost use Rattle.dp_command.specs.declared.command.Request.TheVariants as request;
 ghost use Rattle.dp_meaning.specs.declared.writes.Write.TheVariants as write;
 ghost use Rattle.dp_view.specs.Named.{named_path};
-ghost use Rattle.dp_write_commands.specs.Answers.{Answers, HasKnownCode, IsSent, refusal_at_once};
+ghost use Rattle.dp_write_commands.specs.Results.{Answers, HasKnownCode, IsSent, refusal_at_once};
 ghost use Rattle.dp_write_commands.specs.Responses.{code_in};
 ghost use Rattle.dp_write_commands.specs.inner.Writes.{Makes, kept_by, value_of_given, with_response, with_write};
 
-use crate::asked::{Given, given_in, path_asked, tree_of, value_of};
 use crate::places::put;
+use crate::requests::{Given, given_in, requested_path, tree_of, value_of};
 use crate::responses::{evaluation_response, success};
 use dp_command::{Addressee, PropertySet, Request};
 use dp_features::Features;
@@ -101,7 +101,7 @@ fn make_evaluation(
 }
 
 /// A response with the write that it tells.
-fn told(made: Result<Response, ViewError>, write: Write) -> Result<Written, ViewError>
+fn with_write(made: Result<Response, ViewError>, write: Write) -> Result<Written, ViewError>
     ensures { result ≡ with_write write made }
 {
     match made {
@@ -121,8 +121,8 @@ fn put_property(
     path: Path,
     value: Value,
 ) -> Result<Written, ViewError>
-    requires value { asked_value set.now ≡ Some value }
-    requires path { asked_path state.old set.now.place ≡ Ok path }
+    requires value { value_of_request set.now ≡ Some value }
+    requires path { path_of_request state.old set.now.place ≡ Ok path }
     ensures { Answers bundle.now features.now state.old state.new to.now.command to.now.id
         (request.PropertySet set.now) result }
 {
@@ -137,7 +137,7 @@ fn put_property(
         path,
         value,
     };
-    told(made, write)
+    with_write(made, write)
 }
 
 /// property_set of what is given at a path.
@@ -151,8 +151,8 @@ fn set_property(
     path: Path,
     given: Given,
 ) -> Result<Written, ViewError>
-    requires given { asked_value set.now ≡ Some (value_of_given set.now.value given) }
-    requires path { asked_path state.old set.now.place ≡ Ok path }
+    requires given { value_of_request set.now ≡ Some (value_of_given set.now.value given) }
+    requires path { path_of_request state.old set.now.place ≡ Ok path }
     ensures { Answers bundle.now features.now state.old state.new to.now.command to.now.id
         (request.PropertySet set.now) result }
 {
@@ -172,14 +172,14 @@ fn place_property(
     set: &PropertySet,
     given: Given,
 ) -> Result<Written, ViewError>
-    requires { asked_value set.now ≡ Some (value_of_given set.now.value given) }
+    requires { value_of_request set.now ≡ Some (value_of_given set.now.value given) }
     ensures answer { Answers bundle.now features.now state.old state.new to.now.command to.now.id
         (request.PropertySet set.now) result }
     ensures at_once { IfSome
         (code_in (named_path state.old set.now.place.level set.now.place.context set.now.place.name))
         (λ code. result ≡ Err (ViewError.Code code)) }
 {
-    match path_asked(alloc, state, &set.place) {
+    match requested_path(alloc, state, &set.place) {
         Ok(path) => set_property(alloc, bundle, features, state, to, set, path, given),
         Err(why) => Err(why),
     }
@@ -220,7 +220,7 @@ fn evaluate(
         (request.Eval text.now) result }
 {
     let made = make_evaluation(alloc, bundle, features, state, to, &e);
-    told(made, Write::Evaluate(e))
+    with_write(made, Write::Evaluate(e))
 }
 
 /// eval.
@@ -242,7 +242,7 @@ fn write_evaluation(
 }
 
 /// The same without what is known of responses and codes.
-#[tactic(auto, unfolding(crate::specs::Asked::write_asked, crate::specs::Responses::write_response))]
+#[tactic(auto, unfolding(crate::specs::Requests::requested_write, crate::specs::Responses::write_response))]
 fn make_write(
     alloc: Global,
     bundle: &Bundle,

@@ -1,9 +1,9 @@
 //! What property_set and eval do to a program that stands at a moment, and what they are answered.
 #![tactic(auto)]
 
-mod asked;
 mod commands;
 mod places;
+mod requests;
 mod responses;
 
 pub use commands::{Written, write_response};

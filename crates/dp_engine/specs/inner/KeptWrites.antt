@@ -11,7 +11,7 @@ use Rattle.dp_state.specs.declared.state.State.{State}
 use Rattle.dp_tree.specs.declared.bundle.Bundle.{Bundle}
 use Rattle.dp_view.specs.declared.errors.ViewError.{ViewError}
 use Rattle.dp_view.specs.declared.errors.ViewError.TheVariants.{Code, Memory}
-use Rattle.dp_write_commands.specs.Asked.{write_asked}
+use Rattle.dp_write_commands.specs.Requests.{requested_write}
 use Rattle.dp_write_commands.specs.Responses.{write_response}
 
 -- a write at a moment, behind others
@@ -23,7 +23,7 @@ pub record IsMade (bundle : Bundle) (features : Features) (before after : State)
     (writes kept : List NumberedWrite) (moment : ℕ) (command id : Text) (asked : Request)
     (response : Response) : Type 0 where
   pub write : Write
-  pub asks : write_asked before asked ≡ Ok write
+  pub asks : requested_write before asked ≡ Ok write
   pub told : write_response bundle features before command id asked ≡ Ok response
   pub state : after ≡ one_write (evaluation_setting bundle) write before
   pub list : kept ≡ with_one moment write writes

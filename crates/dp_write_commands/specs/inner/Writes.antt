@@ -21,10 +21,10 @@ use Rattle.dp_value.specs.declared.value.Value.{Value}
 use Rattle.dp_value.specs.declared.value.Value.TheVariants as variant
 use Rattle.dp_view.specs.declared.errors.ViewError.{ViewError}
 use Rattle.dp_view.specs.declared.errors.ViewError.TheVariants.{Code, Memory}
-use Rattle.dp_write_commands.specs.declared.asked.Given.{Given}
-use Rattle.dp_write_commands.specs.declared.asked.Given.TheVariants as given
+use Rattle.dp_write_commands.specs.declared.requests.Given.{Given}
+use Rattle.dp_write_commands.specs.declared.requests.Given.TheVariants as given
 use Rattle.dp_write_commands.specs.declared.commands.Written.{Written}
-use Rattle.dp_write_commands.specs.Asked.{tree_of}
+use Rattle.dp_write_commands.specs.Requests.{tree_of}
 use Rattle.dp_write_commands.specs.Responses.{responding, success}
 
 -- the value that bytes give

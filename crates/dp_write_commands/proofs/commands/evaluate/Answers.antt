@@ -1,7 +1,7 @@
 use Rattle.std.proofs.Common.{subst, sym}
 use Rattle.dp_command.specs.declared.command.Request.TheVariants.{Eval}
 use Rattle.dp_meaning.specs.declared.writes.Write.TheVariants.{Evaluate}
-use Rattle.dp_write_commands.specs.Answers.{Answers}
+use Rattle.dp_write_commands.specs.Results.{Answers}
 use Rattle.dp_write_commands.proofs.RequestedWrites.{evaluation_is, tried}
 use Rattle.dp_write_commands.proofs.commands.evaluate.Goals as goal
 

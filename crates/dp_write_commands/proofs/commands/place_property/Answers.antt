@@ -2,9 +2,9 @@ use Rattle.std.proofs.Common.{◌≡◌}
 use Rattle.std.specs.Prelude.{Err}
 use Rattle.dp_view.specs.declared.errors.ViewError.TheVariants.{Code}
 use Rattle.dp_view.specs.Named.{named_path}
-use Rattle.dp_write_commands.specs.Asked.{unreserved}
+use Rattle.dp_write_commands.specs.Requests.{unreserved}
 use Rattle.dp_write_commands.specs.inner.Writes.{value_of_given}
-use Rattle.dp_write_commands.proofs.RequestedWrites.{found_at_once, told_at_once, unplaced}
+use Rattle.dp_write_commands.proofs.RequestedWrites.{found_at_once, reported_at_once, unplaced}
 use Rattle.dp_write_commands.proofs.commands.place_property.Goals as goal
 
 pub returns-in-Ok-clause-at_once : goal.returns-in-Ok-clause-at_once
@@ -24,5 +24,5 @@ returns-in-Err-clause-answer c =
 pub returns-in-Err-clause-at_once : goal.returns-in-Err-clause-at_once
 returns-in-Err-clause-at_once c =
     let set = c.args.set.now in
-    told_at_once unreserved (named_path c.args.state.now set.place.level set.place.context set.place.name) c.in-Err.why
-    c.in-Err.ensures
+    reported_at_once unreserved (named_path c.args.state.now set.place.level set.place.context set.place.name)
+    c.in-Err.why c.in-Err.ensures

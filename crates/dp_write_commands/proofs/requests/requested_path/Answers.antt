@@ -3,9 +3,9 @@ use Rattle.std.specs.Prelude.{Ok, Err}
 use Rattle.dp_state.specs.declared.moments.Path.{Path}
 use Rattle.dp_view.specs.Answers.{AnswersAfter}
 use Rattle.dp_view.specs.Named.{named_path}
-use Rattle.dp_write_commands.specs.Asked.{unreserved}
+use Rattle.dp_write_commands.specs.Requests.{unreserved}
 use Rattle.dp_write_commands.proofs.RequestedWrites.{found_after, missing_after}
-use Rattle.dp_write_commands.proofs.asked.path_asked.Goals as goal
+use Rattle.dp_write_commands.proofs.requests.requested_path.Goals as goal
 
 pub returns-in-Ok : goal.returns-in-Ok
 returns-in-Ok c =

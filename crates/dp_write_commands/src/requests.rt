@@ -3,7 +3,7 @@
 ghost use Rattle.std.specs.Prelude.{◌≡◌, Ok, ok_or, option_map, IfOk, IfSome};
 ghost use Rattle.dp_view.specs.Answers.{AnswersAfter};
 ghost use Rattle.dp_view.specs.Named.{named_path as path_of_name};
-ghost use Rattle.dp_write_commands.specs.Asked as spec;
+ghost use Rattle.dp_write_commands.specs.Requests as spec;
 ghost use Rattle.dp_write_commands.specs.inner.Writes.{Finds, IsTree, error_of, value_of_given};
 
 use dp_command::{PropertyPlace, PropertySet};
@@ -94,7 +94,7 @@ fn has_length(given: Option<u32>, bytes: &[u8]) -> bool
 
 /// What a property is to have, if it is a value.
 pub(crate) fn given_in(set: &PropertySet) -> Option<Given>
-    ensures { option_map (value_of_given set.now.value) result ≡ spec.value_asked set.now }
+    ensures { option_map (value_of_given set.now.value) result ≡ spec.requested_value set.now }
 {
     if has_length(set.length, set.value.as_slice()) {
         given_by(&set.kind, set.value.as_slice())
@@ -131,13 +131,13 @@ fn unreserved(path: Path) -> Result<Path, ViewError>
 }
 
 /// The path that is to be written.
-pub(crate) fn path_asked(
+pub(crate) fn requested_path(
     alloc: Global,
     state: &State,
     place: &PropertyPlace,
 ) -> Result<Path, ViewError>
     ensures { AnswersAfter (λ path. path) result
-        (path_of_name state.now place.now.level place.now.context place.now.name) (spec.path_asked
+        (path_of_name state.now place.now.level place.now.context place.now.name) (spec.requested_path
         state.now place.now) }
 {
     let name = place.name.as_slice();

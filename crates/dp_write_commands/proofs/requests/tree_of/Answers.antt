@@ -1,7 +1,7 @@
 use Rattle.std.proofs.Common.{Err, arith, subst, sym}
 use Rattle.dp_write_commands.specs.inner.Writes.{IsTree}
 use Rattle.dp_write_commands.proofs.RequestedWrites.{too_long, tree_found, why_none}
-use Rattle.dp_write_commands.proofs.asked.tree_of.Goals as goal
+use Rattle.dp_write_commands.proofs.requests.tree_of.Goals as goal
 
 pub returns-in-Ok : goal.returns-in-Ok
 returns-in-Ok c = tree_found c.args.text.now (omega arith) c.in-Ok.e c.in-Ok.ensures.told

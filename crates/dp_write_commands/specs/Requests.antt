@@ -52,8 +52,9 @@ abbrev pub has_length : Option ℕ → List ℕ → Bool
 has_length given bytes = option_map_or (λ n. n == length bytes) given true
 
 -- the value that a property is to have
-abbrev pub value_asked : PropertySet → Option Value
-value_asked set = if has_length set.length set.value then value_given set.kind set.value else None
+abbrev pub requested_value : PropertySet → Option Value
+requested_value set =
+    if has_length set.length set.value then value_given set.kind set.value else None
 
 -- ---- places
 
@@ -66,8 +67,8 @@ unreserved path = if is_reserved path.name then Err 300 else Ok path
 
 -- the path that is to be written: 301 where there is no such level, 302 where there is no such
 -- context, 300 where the name is none or is reserved
-abbrev pub path_asked : State → PropertyPlace → Result Path ℕ
-path_asked s place = and_then unreserved (named_path s place.level place.context place.name)
+abbrev pub requested_path : State → PropertyPlace → Result Path ℕ
+requested_path s place = and_then unreserved (named_path s place.level place.context place.name)
 
 abbrev pub write_at : PropertyPlace → Value → Path → Write
 write_at place value path = write.Place place.level place.context path value
@@ -78,8 +79,8 @@ write_at place value path = write.Place place.level place.context path value
 abbrev pub property_write : State → PropertySet → Result Write ℕ
 property_write s set =
     and_then
-    (λ value. and_then (λ path. Ok (write_at set.place value path)) (path_asked s set.place))
-    (ok_or (value_asked set) 3)
+    (λ value. and_then (λ path. Ok (write_at set.place value path)) (requested_path s set.place))
+    (ok_or (requested_value set) 3)
 
 -- the tree of a text that is an expression; no command has one that is longer
 abbrev pub tree_of : List ℕ → Option Expression
@@ -91,7 +92,7 @@ evaluation_write text = ok_or (option_map (λ e. write.Evaluate e) (tree_of text
 
 -- the write that a command asks for in a state, or the code of its refusal; another command asks
 -- for none and is not known here
-unfoldable pub write_asked : State → Request → Result Write ℕ
-write_asked s (request.PropertySet set) = property_write s set
-write_asked s (request.Eval text) = evaluation_write text
-write_asked s other = Err 4
+unfoldable pub requested_write : State → Request → Result Write ℕ
+requested_write s (request.PropertySet set) = property_write s set
+requested_write s (request.Eval text) = evaluation_write text
+requested_write s other = Err 4

@@ -15,13 +15,13 @@ pub use Rattle.dp_view.specs.Answers.{HasKnownCode}
 use Rattle.dp_view.specs.Named.{named_path}
 pub use Rattle.dp_view_limits.specs.Sent.{IsSent}
 use Rattle.dp_write_commands.specs.declared.commands.Written.{Written}
-use Rattle.dp_write_commands.specs.Asked.{value_asked, write_asked}
+use Rattle.dp_write_commands.specs.Requests.{requested_value, requested_write}
 use Rattle.dp_write_commands.specs.Responses.{code_in, write_response}
 
 -- the write that was asked for was made in the state, and its response is reported
 pub record IsWritten (bundle : Bundle) (features : Features) (before after : State)
     (command id : Text) (asked : Request) (made : Written) : Type 0 where
-  pub write : write_asked before asked ≡ Ok made.write
+  pub write : requested_write before asked ≡ Ok made.write
   pub response : write_response bundle features before command id asked ≡ Ok made.response
   pub state : after ≡ one_write (evaluation_setting bundle) made.write before
 
@@ -40,5 +40,5 @@ abbrev pub refusal_at_once : State → Request → Option ℕ
 refusal_at_once s (request.PropertySet set) =
     code_in
     (and_then (λ value. named_path s set.place.level set.place.context set.place.name)
-    (ok_or (value_asked set) 3))
+    (ok_or (requested_value set) 3))
 refusal_at_once s other = None
