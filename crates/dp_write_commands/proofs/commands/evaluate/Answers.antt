@@ -12,7 +12,7 @@ returns c =
     let command = c.args.to.now.command in
     let id = c.args.to.now.id in
     subst (Answers c.args.bundle.now c.args.features.now before c.make_evaluation-made.new.state command id (Eval text))
-    (sym c.told.ensures)
+    (sym c.with_write.ensures)
     (tried c.args.bundle.now c.args.features.now before command id c.make_evaluation-made.new.state (Eval text)
     (Evaluate c.args.e) c.make_evaluation-made.result
     (evaluation_is before text c.args.e c.requires) c.make_evaluation-made.ensures)

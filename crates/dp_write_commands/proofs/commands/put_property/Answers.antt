@@ -12,7 +12,7 @@ returns c =
     let command = c.args.to.now.command in
     let id = c.args.to.now.id in
     subst (Answers c.args.bundle.now c.args.features.now before c.make_place-made.new.state command id
-    (PropertySet set)) (sym c.told.ensures)
+    (PropertySet set)) (sym c.with_write.ensures)
     (tried c.args.bundle.now c.args.features.now before command id c.make_place-made.new.state (PropertySet set)
     (write_at set.place c.args.value c.args.path) c.make_place-made.result
     (property_is before set c.args.value c.args.path c.requires.value c.requires.path) c.make_place-made.ensures)
