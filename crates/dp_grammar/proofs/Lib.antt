@@ -4,6 +4,7 @@ pub mod Answers
 pub mod Loops
 pub mod Turns
 pub mod Verdicts
+pub mod Lines
 pub mod OneSymbol
 pub mod Runs
 pub mod Sequences
