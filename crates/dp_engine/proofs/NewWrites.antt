@@ -23,7 +23,7 @@ use Rattle.dp_step.proofs.WritesMade.{all-made, number-is}
 use Rattle.dp_engine.specs.declared.states.Phase.TheVariants as phase
 use Rattle.dp_engine.specs.declared.states.Position.{Position}
 use Rattle.dp_engine.specs.declared.states.Position.TheVariants.{Starting, Break, Stopping}
-use Rattle.dp_engine.specs.inner.KeptWrites.{IsMade, with_one}
+use Rattle.dp_engine.specs.inner.KeptWrites.{IsKeptWrite, with_one}
 use Rattle.dp_engine.specs.inner.Position.{IsAt, IsDeep, phase_of}
 
 -- ---- lists
@@ -79,10 +79,10 @@ unfolding rest_of
 rest_left t m s = refl
 
 -- the machine stands at its moment, in the state after the write
-stands_more : (bundle : Bundle) (bound : ℕ) (ws : List NumberedWrite) (n : ℕ) (w : Write) (m : Machine) → 1 ≤ n
+machine_more : (bundle : Bundle) (bound : ℕ) (ws : List NumberedWrite) (n : ℕ) (w : Write) (m : Machine) → 1 ≤ n
     → StandsFor bundle bound ws n m
     → StandsFor bundle bound (with_one n w ws) n (left_with (one_write (evaluation_setting bundle) w m.state) m)
-stands_more bundle bound ws n w m some stands =
+machine_more bundle bound ws n w m some stands =
     let number = number-is bundle bound ws n m stands in
     let one : List NumberedWrite = (record { moment = n; write = w }) ∷ [] in
     let new : Machine = left_with (one_write (evaluation_setting bundle) w m.state) m in
@@ -97,20 +97,20 @@ stands_more bundle bound ws n w m some stands =
 
 module _ (bundle : Bundle) (bound : ℕ) (features : Features) (machine : Machine) (after : State)
     (ws kept : List NumberedWrite) (moment : ℕ) (command id : Text) (r : Request) (response : Response)
-    (made : IsMade bundle features machine.state after ws kept moment command id r response) where
+    (made : IsKeptWrite bundle features machine.state after ws kept moment command id r response) where
   -- in a break
-  pub stands_kept : (failed : Bool) (position : Position) → phase_of position ≡ phase.Break
+  pub machine_kept : (failed : Bool) (position : Position) → phase_of position ≡ phase.Break
       → IsAt failed position bundle bound ws moment machine
       → IsAt failed position bundle bound kept moment (left_with after machine)
-  stands_kept failed Starting e h = absurd cc
-  stands_kept failed Break e h = (
+  machine_kept failed Starting e h = absurd cc
+  machine_kept failed Break e h = (
     h.0,
     λ f. subst (λ (t : State). StandsFor bundle bound kept moment (left_with t machine)) (sym made.state)
         (subst (λ (l : List NumberedWrite). StandsFor bundle bound l moment
         (left_with (one_write (evaluation_setting bundle) made.write machine.state) machine)) (sym made.list)
-        (stands_more bundle bound ws moment made.write machine h.0 (h.1 f))),
+        (machine_more bundle bound ws moment made.write machine h.0 (h.1 f))),
   )
-  stands_kept failed (Stopping end) e h = absurd cc
+  machine_kept failed (Stopping end) e h = absurd cc
 
   pub deep_kept : (depth : ℕ) → IsDeep bundle bound ws moment depth → IsDeep bundle bound kept moment depth
   deep_kept depth h =

@@ -34,7 +34,7 @@ use Rattle.dp_engine.specs.declared.states.Phase.TheVariants.{Starting, Break, S
 use Rattle.dp_serving.specs.declared.responder.Answer.{Answer}
 use Rattle.dp_serving.specs.Folds.{reply_of}
 use Rattle.dp_engine.specs.declared.session.SessionEnd.{SessionEnd}
-use Rattle.dp_engine.specs.Answers.{Turn, answer, asked, command_in, continued, done_on, id_in, in_packet, refused, response_in, sent, session_done, shown, to_ide, to_program, turn, turn_of, written}
+use Rattle.dp_engine.specs.Answers.{Turn, answer, command_in, continued, done_on, id_in, in_packet, refused, response_in, sent, session_done, shown, to_ide, to_program, turn, turn_by_command, turn_of, written}
 use Rattle.dp_engine.specs.Refused.{IsAnsweredBy, error_alone}
 use Rattle.dp_engine.specs.Refusals.{of_command, own_tests, row_tests, tests, tests_for, tests_on, refusal, refusal_of_line}
 use Rattle.dp_engine.specs.Responses.{fault_in, response, response_text, value_body}
@@ -187,8 +187,8 @@ allowed state line e =
 
 taken : (state : State) (line : Line) (name : Option CommandName) → of_command (allows state.phase) name ≡ true
     → first_code (option_map_or (row_tests state line) name []) ≡ None
-    → fault_of (asked line.name (id_of line) (option_map (λ n. record { id = id_of line; request = request_of n line })
-    name) state) ≡ None
+    → fault_of (turn_by_command line.name (id_of line)
+    (option_map (λ n. record { id = id_of line; request = request_of n line }) name) state) ≡ None
 taken state line None a e = absurd cc
 taken state line (Some name) a e =
     done line.name (id_of line) name line state (side_of (request_of name line)) refl

@@ -56,16 +56,16 @@ use Rattle.dp_engine.specs.declared.states.Phase.TheVariants as phase
 use Rattle.dp_engine.specs.declared.states.Position.{Position}
 use Rattle.dp_engine.specs.declared.states.Position.TheVariants.{Starting, Break, Stopping}
 use Rattle.dp_engine.specs.declared.replies.Turn.{Turn as Made}
-use Rattle.dp_engine.specs.Answers.{Turn, asked, breakpoints_done, done_on, end_by_stop, gone_on, in_packet, kept_if, moved, performed, refused, response_in, shown, turn_of, with_write, written}
+use Rattle.dp_engine.specs.Answers.{Turn, breakpoints_done, done_on, end_by_stop, gone_on, in_packet, kept_if, moved, performed, refused, response_in, shown, turn_by_command, turn_of, with_write, written}
 use Rattle.dp_engine.specs.Refusals.{of_command, own_tests, refusal_of_line, row_tests, tests, tests_on}
 use Rattle.dp_engine.specs.Responses.{fault_response, response as response_of, response_text}
 use Rattle.dp_engine.specs.Session.{State, here, moments_by, moments_so_far, output_by, output_so_far, program_by, program_of, steps_between, steps_left, unwritten, whole_output}
 use Rattle.dp_engine.specs.Sides.{side_of}
 use Rattle.dp_engine.specs.States.{allows}
-use Rattle.dp_engine.specs.inner.KeptWrites.{IsMade}
+use Rattle.dp_engine.specs.inner.KeptWrites.{IsKeptWrite}
 use Rattle.dp_engine.specs.inner.Sizes.{Fits}
 use Rattle.dp_engine.specs.inner.Position.{IsAt, IsDeep, end_of, known, phase_of}
-use Rattle.dp_engine.specs.inner.Turns.{Asks, AsksIn, IsTurn, Tells, answered, answered_by}
+use Rattle.dp_engine.specs.inner.Turns.{IsTurn, ReadsCommand, ReadsCommandIn, Responds, answered, answered_by}
 use Rattle.dp_engine.proofs.RefusalLaws.{first_for, writes_at_break}
 
 -- ---- what a line asks for
@@ -110,12 +110,12 @@ unadmitted state line refusal h =
     (drop 3 (tests state line)) refusal h
 
 -- what is read of its row, after which only a refusal of its own is left
-pub read_asks : (state : State) (line : Line) (name : CommandName) (result : Result Command CommandError)
+pub reads_command : (state : State) (line : Line) (name : CommandName) (result : Result Command CommandError)
     → admission_refusal line ≡ None → name_of line.name ≡ Some name
     → allows state.phase name ≡ true → (IsFalse (fits_row name line) → result ≡ Err (Code 3))
     → (IsTrue (fits_row name line) → MatchResult result (λ command. command ≡ command_as line name) (λ e. e ≡ Memory))
-    → Asks state line result
-read_asks state line name result h n a unfit fit = by (fits_row name line) refl where
+    → ReadsCommand state line result
+reads_command state line name result h n a unfit fit = by (fits_row name line) refl where
   own : Text → List Test
   own id = own_tests state line.name id (request_of name line)
 
@@ -125,7 +125,7 @@ read_asks state line name result h n a unfit fit = by (fits_row name line) refl 
 
   made : (r : Result Command CommandError) → refusal_of_line state (Some line) ≡ first_code (own (id_of line))
       → MatchResult r (λ command. command ≡ command_as line name) (λ e. e ≡ Memory)
-      → Asks state line r
+      → ReadsCommand state line r
   made (Ok command) e m = (
     e ∙ ap (λ (c : Command). first_code (own_tests state line.name (id_of line) c.request)) (sym m),
     ap (option_map (command_as line)) n ∙ ap (λ (c : Command). Some c) (sym m),
@@ -134,9 +134,9 @@ read_asks state line name result h n a unfit fit = by (fits_row name line) refl 
   made (Err (Code code)) e m = absurd cc
   made (Err Memory) e m = tt
 
-  by : (fits : Bool) → fits_row name line ≡ fits → Asks state line result
+  by : (fits : Bool) → fits_row name line ≡ fits → ReadsCommand state line result
   by true e = made result (left true e) (fit e)
-  by false e = subst (Asks state line) (sym (unfit e)) (left false e)
+  by false e = subst (ReadsCommand state line) (sym (unfit e)) (left false e)
 
 -- ---- what a line leads to
 
@@ -147,7 +147,7 @@ id_is line command e = cases (name_of line.name) e where
   cases (Some name) f = let same : id_of line ≡ command.id = cc in sym same
 
 -- a command that writes is asked for in a break
-pub writes_in_break : (state : State) (line : Line) (command : Command) → Asks state line (Ok command)
+pub writes_in_break : (state : State) (line : Line) (command : Command) → ReadsCommand state line (Ok command)
     → side_of command.request ≡ Writes → state.phase ≡ phase.Break
 writes_in_break state line command asks side = by (name_of line.name) asks.1 asks.2 where
   by : (name : Option CommandName) → option_map (command_as line) name ≡ Some command
@@ -163,7 +163,7 @@ same_turn state a b made e h = subst (λ (t : Turn). IfOk made (IsTurn t state))
 
 pub turn_accepted : {E : Type 0} (state next : State) (line : Line) (command : Command) (name id : Text)
     (made : Result Made E) → name ≡ line.name → id ≡ id_of line
-    → Asks state line (Ok command)
+    → ReadsCommand state line (Ok command)
     → IfOk made (IsTurn (answered name id command.request state) next)
     → IfOk made (IsTurn (turn_of (Some line) (refusal_of_line state (Some line)) state) next)
 turn_accepted state next line command name id made n i e h =
@@ -176,18 +176,18 @@ turn_accepted state next line command name id made n i e h =
       by (Some code) = refl
       by None =
           ap (λ (x : Text). performed line.name x command.request state) (sym (id_is line command e.1))
-          ∙ ap (λ (c : Option Command). asked line.name (id_of line) c state) (sym e.1)
+          ∙ ap (λ (c : Option Command). turn_by_command line.name (id_of line) c state) (sym e.1)
 
 -- a turn that is told so, where the session knows then what is asked for
 pub turns : {E : Type 0} (asked : Turn) (next : State) (made : Result Made E)
-    → IfOk made (Tells asked.response asked.ended) → next ≡ asked.next → IfOk made (IsTurn asked next)
+    → IfOk made (Responds asked.response asked.ended) → next ≡ asked.next → IfOk made (IsTurn asked next)
 turns asked next (Ok made) t n = record { tells = t; next = n }
 turns asked next (Err e) t n = tt
 
 pub turn_refused : {E : Type 0} (state : State) (line : Line) (code : ℕ) (name id : Text) (made : Result Made E)
     → name ≡ line.name → id ≡ id_of line
     → refusal_of_line state (Some line) ≡ Some code
-    → IfOk made (Tells (fault_response name id code) None)
+    → IfOk made (Responds (fault_response name id code) None)
     → IfOk made (IsTurn (turn_of (Some line) (refusal_of_line state (Some line)) state) state)
 turn_refused state line code name id made n i e h =
     same_turn state _ _ made ((λ k. refused (n k) (i k) code state)
@@ -198,7 +198,7 @@ turn_refused state line code name id made n i e h =
 
 pub own_refused : {E : Type 0} (state next : State) (name id : Text) (r : Request) (code : ℕ) (made : Result Made E)
     → first_code (own_tests state name id r) ≡ Some code
-    → next ≡ state → IfOk made (Tells (fault_response name id code) None)
+    → next ≡ state → IfOk made (Responds (fault_response name id code) None)
     → IfOk made (IsTurn (answered name id r state) next)
 own_refused state next name id r code made e n h =
     same_turn next _ _ made (ap (λ (c : Option ℕ). answered_by c name id r state) (sym e))
@@ -219,12 +219,12 @@ view_first state name id r e =
     ∙ first_for (view_refusal state.bundle (here state) state.features (program_of state) name id r)
 
 -- a response that is the one asked for, after which the session goes on
-all_told : {E : Type 0} (asked : Turn) (next : State) (response : Response) (made : Result Made E)
-    → IfOk made (Tells response None) → response ≡ asked.response → next ≡ asked.next → None ≡ asked.ended
+responds_all : {E : Type 0} (asked : Turn) (next : State) (response : Response) (made : Result Made E)
+    → IfOk made (Responds response None) → response ≡ asked.response → next ≡ asked.next → None ≡ asked.ended
     → IfOk made (IsTurn asked next)
-all_told asked next response made t r n e =
-    turns asked next made (subst (λ (x : Option SessionEnd). IfOk made (Tells asked.response x)) e
-    (subst (λ (x : Response). IfOk made (Tells x None)) r t)) n
+responds_all asked next response made t r n e =
+    turns asked next made (subst (λ (x : Option SessionEnd). IfOk made (Responds asked.response x)) e
+    (subst (λ (x : Response). IfOk made (Responds x None)) r t)) n
 
 -- a program whose files have names has a file
 pub has_files : (bundle : Bundle) → AreFileNames (map (λ f. f.name) bundle.files) → 0 < length bundle.files
@@ -244,32 +244,32 @@ in_packet_is name id r short =
     (sym (le-leb (length (text (packet.Response r))) packet_limit short))
 
 -- a request of breakpoints that is not refused
-pub breakpoints_told : {E : Type 0} (state next : State) (name id : Text) (r : Request) (response : Response)
+pub breakpoints_respond : {E : Type 0} (state next : State) (name id : Text) (r : Request) (response : Response)
     (made : Result Made E) → side_of r ≡ Breakpoints
     → breakpoint_refusal state.bundle (here state) state.breaks r ≡ None
     → response ≡ breakpoint_response state.bundle name id state.breaks r
     → length (text (packet.Response response)) ≤ packet_limit
     → next ≡ record state { breaks = breakpoint_table state.bundle (here state) r state.breaks }
-    → IfOk made (Tells response None) → IfOk made (IsTurn (answered name id r state) next)
-breakpoints_told state next name id r response made side e is short n t =
+    → IfOk made (Responds response None) → IfOk made (IsTurn (answered name id r state) next)
+breakpoints_respond state next name id r response made side e is short n t =
     same_turn next _ _ made
     (sym (ap (λ (c : Option ℕ). answered_by c name id r state) (breakpoint_first state name id r side ∙ e)
     ∙ ap (λ (s : Side). done_on s name id r state) side))
-    (all_told (breakpoints_done name id r state) next response made t
+    (responds_all (breakpoints_done name id r state) next response made t
     (in_packet_is name id response short ∙ ap (in_packet name id) is) n refl)
 
 -- done where the program stands
-pub breakpoints_are_told : {E : Type 0} (state : State) (program : Program_state) (file : ℕ) (left : Table)
+pub breakpoints_turn : {E : Type 0} (state : State) (program : Program_state) (file : ℕ) (left : Table)
     (name id : Text) (r : Request) (response : Response) (made : Result Made E)
     → program ≡ program_of state → file ≡ file_of program → side_of r ≡ Breakpoints
     → breakpoint_refusal state.bundle file state.breaks r ≡ None
     → response ≡ breakpoint_response state.bundle name id state.breaks r
     → length (text (packet.Response response)) ≤ packet_limit → left ≡ breakpoint_table state.bundle file r state.breaks
-    → IfOk made (Tells response None)
+    → IfOk made (Responds response None)
     → IfOk made (IsTurn (answered name id r state) (record state { breaks = left }))
-breakpoints_are_told state program file left name id r response made is f side e told short n t =
+breakpoints_turn state program file left name id r response made is f side e told short n t =
     let there : here state ≡ file = sym (f ∙ ap file_of is) in
-    breakpoints_told state (record state { breaks = left }) name id r response made side
+    breakpoints_respond state (record state { breaks = left }) name id r response made side
     (ap (λ (k : ℕ). breakpoint_refusal state.bundle k state.breaks r) there ∙ e) told short
     (ap (λ (l : Table). record state { breaks = l }) (n
     ∙ ap (λ (k : ℕ). breakpoint_table state.bundle k r state.breaks) (sym there))) t
@@ -284,16 +284,17 @@ view_is state program file name id r is f =
     ∙ ap (λ (n : ℕ). view_response state.bundle n state.features program name id r) (sym f)
 
 -- what is shown of the program
-pub view_told : {E : Type 0} (state : State) (name id : Text) (r : Request) (response : Response) (made : Result Made E)
+pub view_responds : {E : Type 0} (state : State) (name id : Text) (r : Request) (response : Response)
+    (made : Result Made E)
     → side_of r ≡ Program
     → view_response state.bundle (here state) state.features (program_of state) name id r ≡ Ok response
-    → IfOk made (Tells response None) → IfOk made (IsTurn (answered name id r state) state)
+    → IfOk made (Responds response None) → IfOk made (IsTurn (answered name id r state) state)
 unfolding view_refusal
-view_told state name id r response made side e t =
+view_responds state name id r response made side e t =
     same_turn state _ _ made
     (sym (ap (λ (c : Option ℕ). answered_by c name id r state) (view_first state name id r side ∙ ap code_in e)
     ∙ ap (λ (s : Side). done_on s name id r state) side))
-    (all_told (shown name id r state) state response made t (ap (response_in name id) (sym e)) refl refl)
+    (responds_all (shown name id r state) state response made t (ap (response_in name id) (sym e)) refl refl)
 
 pub view_refused : (state : State) (name id : Text) (r : Request) (code : ℕ) → side_of r ≡ Program
     → view_response state.bundle (here state) state.features (program_of state) name id r ≡ Err code
@@ -314,17 +315,17 @@ pub write_refused : (state : State) (name id : Text) (r : Request) (code : ℕ) 
 unfolding write_refusal
 write_refused state name id r code side e = write_first state name id r side ∙ ap code_written e
 
-pub write_told : {E : Type 0} (state next : State) (name id : Text) (r : Request) (w : Write) (response : Response)
+pub write_responds : {E : Type 0} (state next : State) (name id : Text) (r : Request) (w : Write) (response : Response)
     (made : Result Made E) → side_of r ≡ Writes
     → write_response state.bundle state.features (program_of state) name id r ≡ Ok response
     → requested_write (program_of state) r ≡ Ok w → next ≡ with_write w state
-    → IfOk made (Tells response None) → IfOk made (IsTurn (answered name id r state) next)
+    → IfOk made (Responds response None) → IfOk made (IsTurn (answered name id r state) next)
 unfolding write_refusal
-write_told state next name id r w response made side e asked is t =
+write_responds state next name id r w response made side e asked is t =
     same_turn next _ _ made
     (sym (ap (λ (c : Option ℕ). answered_by c name id r state) (write_first state name id r side ∙ ap code_written e)
     ∙ ap (λ (s : Side). done_on s name id r state) side))
-    (all_told (written name id r state) next response made t (ap (response_in name id) (sym e))
+    (responds_all (written name id r state) next response made t (ap (response_in name id) (sym e))
     (is ∙ (λ i. kept_if (sym e i) (sym asked i) state)) refl)
 
 -- what the program has written so far is what has been written in its state
@@ -383,9 +384,9 @@ module _ (bundle : Bundle) (bound : ℕ) (writes : List NumberedWrite) (moment :
     by (Stopping end) h = subst (IsOf bundle) (sym h.1) (end-can bundle bound writes some).0
 
   -- before the end it stands at the moment
-  pub stands_there : (failed : Bool) → failed ≡ false → phase_of position ≢ phase.Stopping → Kept failed
+  pub machine_there : (failed : Bool) → failed ≡ false → phase_of position ≢ phase.Stopping → Kept failed
       → StandsFor bundle bound writes moment machine
-  stands_there failed whole before h = by position before h where
+  machine_there failed whole before h = by position before h where
     by : (s : Position) → phase_of s ≢ phase.Stopping → IsAt failed s bundle bound writes moment machine
         → StandsFor bundle bound writes moment machine
     by Starting n h = h whole
@@ -463,13 +464,13 @@ module _ (bundle : Bundle) (bound : ℕ) (writes : List NumberedWrite) (moment :
   abbrev with_kept : List NumberedWrite → State
   with_kept kept = known bundle bound kept moment position features stdout breaks
 
-  pub write_is_told : {E : Type 0} (after : Program_state) (kept : List NumberedWrite) (command id : Text) (r : Request)
+  pub write_turn : {E : Type 0} (after : Program_state) (kept : List NumberedWrite) (command id : Text) (r : Request)
       (response : Response) (made : Result Made E)
       → machine.state ≡ program_of state → side_of r ≡ Writes
-      → IsMade bundle features machine.state after writes kept moment command id r response
-      → IfOk made (Tells response None) → IfOk made (IsTurn (answered command id r state) (with_kept kept))
-  write_is_told after kept command id r response made same side is t =
-      write_told state (with_kept kept) command id r is.write response made side
+      → IsKeptWrite bundle features machine.state after writes kept moment command id r response
+      → IfOk made (Responds response None) → IfOk made (IsTurn (answered command id r state) (with_kept kept))
+  write_turn after kept command id r response made same side is t =
+      write_responds state (with_kept kept) command id r is.write response made side
       (ap (λ (p : Program_state). write_response bundle features p command id r) (sym same) ∙ is.told)
       (ap (λ (p : Program_state). requested_write p r) (sym same) ∙ is.asks)
       (ap with_kept is.list) t

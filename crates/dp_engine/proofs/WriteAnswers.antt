@@ -23,37 +23,37 @@ use Rattle.dp_write_commands.proofs.Sent.{code as short_code}
 use Rattle.dp_engine.specs.inner.Sizes.{IsCode}
 
 -- a response that tells no error, or a code that has a message
-abbrev IsTold : Result Response ℕ → Type 0
-IsTold (Ok r) = (code : ℕ) → r.body ≢ body.Fault code
-IsTold (Err code) = IsCode code
+abbrev IsNoError : Result Response ℕ → Type 0
+IsNoError (Ok r) = (code : ℕ) → r.body ≢ body.Fault code
+IsNoError (Err code) = IsCode code
 
-limit_told : (r : Response) → ((code : ℕ) → r.body ≢ body.Fault code) → IsTold (within_limit r)
-limit_told r h = by (nat_le (length (text (packet.Response r))) packet_limit) where
-  by : (b : Bool) → IsTold (cond b (Ok r) (Err 206))
+limit_no_error : (r : Response) → ((code : ℕ) → r.body ≢ body.Fault code) → IsNoError (within_limit r)
+limit_no_error r h = by (nat_le (length (text (packet.Response r))) packet_limit) where
+  by : (b : Bool) → IsNoError (cond b (Ok r) (Err 206))
   by true = h
   by false = (refl, omega arith)
 
 module _ (bundle : Bundle) (features : Features) (s : State) (command id : Text) (asked : Request) where
-  answer_told : (a : WriteAnswer) → IsTold (response_to features command id a)
-  answer_told answer.Set = λ code e. cc
-  answer_told (answer.Value value) = limit_told (value_response features command id value) (λ code e. cc)
-  answer_told answer.Fatal = (refl, omega arith)
-  answer_told answer.NoFrame = (refl, omega arith)
-  answer_told answer.NoPlace = (refl, omega arith)
+  answer_no_error : (a : WriteAnswer) → IsNoError (response_to features command id a)
+  answer_no_error answer.Set = λ code e. cc
+  answer_no_error (answer.Value value) = limit_no_error (value_response features command id value) (λ code e. cc)
+  answer_no_error answer.Fatal = (refl, omega arith)
+  answer_no_error answer.NoFrame = (refl, omega arith)
+  answer_no_error answer.NoPlace = (refl, omega arith)
 
-  response_told : IsTold (write_response bundle features s command id asked)
+  response_no_error : IsNoError (write_response bundle features s command id asked)
   unfolding write_response
-  response_told = by (requested_write s asked) refl where
-    by : (w : Result Write ℕ) → requested_write s asked ≡ w → IsTold
+  response_no_error = by (requested_write s asked) refl where
+    by : (w : Result Write ℕ) → requested_write s asked ≡ w → IsNoError
         (and_then (responding bundle features s command id) w)
-    by (Ok w) is = answer_told (answer_in (evaluation_setting bundle) w s)
+    by (Ok w) is = answer_no_error (answer_in (evaluation_setting bundle) w s)
     by (Err k) is =
         short_code bundle features s [] [] asked (omega arith) (omega arith) k
         (ap (and_then (responding bundle features s [] [])) is)
 
   pub no_error : (r : Response) → write_response bundle features s command id asked ≡ Ok r → (code : ℕ)
       → r.body ≢ body.Fault code
-  no_error r e = subst IsTold e response_told
+  no_error r e = subst IsNoError e response_no_error
 
   pub known_code : (k : ℕ) → write_response bundle features s command id asked ≡ Err k → IsCode k
-  known_code k e = subst IsTold e response_told
+  known_code k e = subst IsNoError e response_no_error

@@ -126,8 +126,8 @@ feature_known command id name features =
     (flag (option_map_or (λ feature. true) (feature_named name) (is_some (name_of name))))
     (option_map (value_of features) (feature_named name))
 
-abbrev pub feature_told : Text → Text → Text → State → Response
-feature_told command id name state = feature_known command id name state.features
+abbrev pub feature_answer : Text → Text → Text → State → Response
+feature_answer command id name state = feature_known command id name state.features
 
 -- the features with one set, where it can have the value
 abbrev pub set_by : Option (Feature × ℕ) → Features → Features
@@ -193,7 +193,7 @@ abbrev pub written : Text → Text → Request → State → Turn
 written command id r state =
     let told = write_response state.bundle state.features (program_of state) command id r in
     goes_on (response_in command id told)
-        (kept_if told (requested_write (program_of state) r) state)
+    (kept_if told (requested_write (program_of state) r) state)
 
 -- ---- commands
 
@@ -205,7 +205,7 @@ refused command id code state = goes_on (fault_response command id code) state
 abbrev pub session_done : Text → Text → Request → State → Turn
 session_done command id request.Status state = goes_on (state_response command id state) state
 session_done command id (request.FeatureGet name) state =
-    goes_on (feature_told command id name state) state
+    goes_on (feature_answer command id name state) state
 session_done command id (request.FeatureSet name value) state =
     feature_put command id name value state
 session_done command id (request.Continue mode) state = continued command id mode state.phase state
@@ -233,14 +233,14 @@ command_in line = option_map_or (λ l. l.name) line []
 abbrev pub id_in : Option Line → Text
 id_in line = option_map_or id_of line []
 
-abbrev pub asked : Text → Text → Option Command → State → Turn
-asked command id (Some c) state = performed command c.id c.request state
-asked command id None state = refused command id 4 state
+abbrev pub turn_by_command : Text → Text → Option Command → State → Turn
+turn_by_command command id (Some c) state = performed command c.id c.request state
+turn_by_command command id None state = refused command id 4 state
 
 abbrev pub turn_of : Option Line → Option ℕ → State → Turn
 turn_of line (Some code) state = refused (command_in line) (id_in line) code state
 turn_of line None state =
-    asked (command_in line) (id_in line) (option_and_then command_of line) state
+    turn_by_command (command_in line) (id_in line) (option_and_then command_of line) state
 
 -- what these bytes lead to
 unfoldable pub turn : State → List ℕ → Turn

@@ -2,7 +2,7 @@
 ghost use Rattle.std.specs.Prelude.{◌≡◌, ◌∷◌, [], is_none};
 ghost use Rattle.dp_command.specs.Tests.{first_code};
 ghost use Rattle.dp_features.specs.Features.{is_other_encoding, setting_named};
-ghost use Rattle.dp_engine.specs.inner.Turns.{AsksIn};
+ghost use Rattle.dp_engine.specs.inner.Turns.{ReadsCommandIn};
 
 use crate::states::Phase;
 use dp_command::{Command, CommandError, CommandName, Line};
@@ -25,9 +25,13 @@ pub(crate) fn feature_refusal(name: &[u8], value: &[u8]) -> Option<u16>
 
 /// What a line asks for in a state, or the code of the first refusal that is none of the command's own. What is tested
 /// before its row takes no memory.
-#[tactic(auto, using(crate::proofs::TurnLaws::read_asks, crate::proofs::TurnLaws::unadmitted))]
-pub(crate) fn ask(alloc: Global, phase: Phase, line: &Line) -> Result<Command, CommandError>
-    ensures { AsksIn phase line.now result }
+#[tactic(auto, using(crate::proofs::TurnLaws::reads_command, crate::proofs::TurnLaws::unadmitted))]
+pub(crate) fn read_command(
+    alloc: Global,
+    phase: Phase,
+    line: &Line,
+) -> Result<Command, CommandError>
+    ensures { ReadsCommandIn phase line.now result }
 {
     let name = match CommandName::admit(line) {
         Ok(name) => name,

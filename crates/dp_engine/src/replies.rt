@@ -8,7 +8,7 @@ ghost use Rattle.dp_engine.specs.Responses.{fault_response, status_response};
 ghost use Rattle.dp_engine.specs.States.{phase_name, reason_name};
 ghost use Rattle.dp_engine.specs.inner.Sizes.{Fits, IsCode};
 ghost use Rattle.dp_engine.specs.inner.Position.{phase_of, reason_at};
-ghost use Rattle.dp_engine.specs.inner.Turns.{Tells};
+ghost use Rattle.dp_engine.specs.inner.Turns.{Responds};
 
 use crate::responses;
 use crate::session::SessionEnd;
@@ -28,9 +28,9 @@ pub(crate) struct Turn {
 }
 
 /// A response, after which the session has ended so, or goes on.
-fn told(alloc: Global, response: Response, ended: Option<SessionEnd>) -> Result<Turn, Memory>
+fn turn_with(alloc: Global, response: Response, ended: Option<SessionEnd>) -> Result<Turn, Memory>
     requires { Fits response }
-    ensures { IfOk result (Tells response ended) }
+    ensures { IfOk result (Responds response ended) }
 {
     let text = responses::text(alloc, response)?;
     Ok(Turn { text, ended })
@@ -39,15 +39,15 @@ fn told(alloc: Global, response: Response, ended: Option<SessionEnd>) -> Result<
 /// A response, after which the session goes on.
 pub(crate) fn tell(alloc: Global, response: Response) -> Result<Turn, Memory>
     requires { Fits response }
-    ensures { IfOk result (Tells response None) }
+    ensures { IfOk result (Responds response None) }
 {
-    told(alloc, response, None)
+    turn_with(alloc, response, None)
 }
 
 /// An error with this code.
 pub(crate) fn refuse(alloc: Global, to: &Addressee, code: u16) -> Result<Turn, Memory>
     requires { IsCode code }
-    ensures { IfOk result (Tells (fault_response to.now.command to.now.id code) None) }
+    ensures { IfOk result (Responds (fault_response to.now.command to.now.id code) None) }
 {
     let response = responses::fault(alloc, to, code)?;
     tell(alloc, response)
@@ -55,7 +55,7 @@ pub(crate) fn refuse(alloc: Global, to: &Addressee, code: u16) -> Result<Turn, M
 
 /// The state and the reason of a session that stands so.
 pub(crate) fn tell_status(alloc: Global, to: &Addressee, position: Position) -> Result<Turn, Memory>
-    ensures { IfOk result (Tells (status_response to.now.command to.now.id
+    ensures { IfOk result (Responds (status_response to.now.command to.now.id
         (phase_name (phase_of position)) (reason_name (reason_at position))) None) }
 {
     let status = position.phase().name();
@@ -72,7 +72,7 @@ pub(crate) fn tell_feature(
     feature: &[u8],
 ) -> Result<Turn, Memory>
     requires { length feature.now ≤ 1048576 }
-    ensures { IfOk result (Tells (spec.feature_known to.now.command to.now.id feature.now features.now) None) }
+    ensures { IfOk result (Responds (spec.feature_known to.now.command to.now.id feature.now features.now) None) }
 {
     match Feature::of(feature) {
         Some(found) => tell_value(alloc, to, features, feature, found),
@@ -90,7 +90,7 @@ fn tell_value(
 ) -> Result<Turn, Memory>
     requires feature { length feature.now ≤ 1048576 }
     requires found { feature_named feature.now ≡ Some found }
-    ensures { IfOk result (Tells (spec.feature_known to.now.command to.now.id feature.now features.now) None) }
+    ensures { IfOk result (Responds (spec.feature_known to.now.command to.now.id feature.now features.now) None) }
 {
     let value = features.value(alloc, found)?;
     let response = responses::feature(alloc, to, feature, b"1", Some(value))?;
@@ -106,7 +106,7 @@ fn tell_command(
 ) -> Result<Turn, Memory>
     requires feature { length feature.now ≤ 1048576 }
     requires absent { feature_named feature.now ≡ None }
-    ensures { IfOk result (Tells (spec.feature_known to.now.command to.now.id feature.now features.now) None) }
+    ensures { IfOk result (Responds (spec.feature_known to.now.command to.now.id feature.now features.now) None) }
 {
     let supported = supported(feature);
     let response = responses::feature(alloc, to, feature, supported, None)?;
@@ -123,17 +123,17 @@ fn supported(name: &[u8]) -> &'static [u8]
 
 /// The session has stopped, and ends so.
 pub(crate) fn stop(alloc: Global, to: &Addressee, end: SessionEnd) -> Result<Turn, Memory>
-    ensures { IfOk result (Tells (spec.stopped_response to.now.command to.now.id) (Some end)) }
+    ensures { IfOk result (Responds (spec.stopped_response to.now.command to.now.id) (Some end)) }
 {
     let response = responses::status(alloc, to, b"stopped", b"ok")?;
-    told(alloc, response, Some(end))
+    turn_with(alloc, response, Some(end))
 }
 
 /// The session ends, and the program runs on by itself.
 pub(crate) fn detach(alloc: Global, to: &Addressee) -> Result<Turn, Memory>
-    ensures { IfOk result (Tells
+    ensures { IfOk result (Responds
         (status_response to.now.command to.now.id (codes "stopping") (codes "ok")) (Some SessionEnd.Detached)) }
 {
     let response = responses::status(alloc, to, b"stopping", b"ok")?;
-    told(alloc, response, Some(SessionEnd::Detached))
+    turn_with(alloc, response, Some(SessionEnd::Detached))
 }

@@ -77,7 +77,7 @@ pub(crate) fn status(
 }
 
 /// What tells a value, where there is one.
-fn told(value: Option<Bytes>) -> Body
+fn value_body(value: Option<Bytes>) -> Body
     ensures { result ≡ spec.value_body value }
 {
     match value {
@@ -102,7 +102,7 @@ pub(crate) fn feature(
     ensures fits { IfOk result Fits }
 {
     let attributes = pairs(alloc, (b"feature_name", feature), (b"supported", supported))?;
-    response(alloc, to, attributes, told(value))
+    response(alloc, to, attributes, value_body(value))
 }
 
 /// A feature that was set.

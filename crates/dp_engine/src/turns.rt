@@ -5,7 +5,7 @@ ghost use Rattle.dp_engine.specs.Session.{moments_so_far, steps_between};
 ghost use Rattle.dp_engine.specs.Sides.{side_of};
 ghost use Rattle.dp_engine.specs.inner.Sizes.{IsCode, IsShort, IsShortLine, IsShortRequest};
 
-use crate::refusals::{ask, feature_refusal};
+use crate::refusals::{feature_refusal, read_command};
 use crate::replies::{Turn, detach, refuse, stop, tell, tell_feature, tell_status};
 use crate::responses;
 use crate::session::{Session, SessionEnd};
@@ -26,7 +26,7 @@ use std::sync::ledger::Ledger;
 impl<'a> Session<'a> {
     ghost use Rattle.dp_engine.specs.Answers as spec;
     ghost use Rattle.dp_engine.specs.Responses.{fault_response};
-    ghost use Rattle.dp_engine.specs.inner.Turns.{answered, IsTurn, Tells};
+    ghost use Rattle.dp_engine.specs.inner.Turns.{answered, IsTurn, Responds};
 
     /// What a line leads to, or bytes that spell no line.
     pub(crate) fn turn<L: Ledger>(
@@ -58,7 +58,7 @@ impl<'a> Session<'a> {
         ensures steps { IfOk result (λ turn. steps.new ≡ steps.old + steps_between self.old self.new) }
     {
         let to = Addressee::of(alloc, line)?;
-        match ask(alloc, self.position.phase(), line) {
+        match read_command(alloc, self.position.phase(), line) {
             Ok(command) => self.perform(alloc, &to, command.request, steps),
             Err(CommandError::Code(code)) => refuse(alloc, &to, code),
             Err(CommandError::Memory) => Err(Memory),
@@ -191,7 +191,7 @@ impl<'a> Session<'a> {
     /// An error changes nothing.
     fn refuse(&self, alloc: Global, to: &Addressee, code: u16) -> Result<Turn, Memory>
         requires { IsCode code }
-        ensures { IfOk result (Tells (fault_response to.now.command to.now.id code) None) }
+        ensures { IfOk result (Responds (fault_response to.now.command to.now.id code) None) }
     {
         refuse(alloc, to, code)
     }

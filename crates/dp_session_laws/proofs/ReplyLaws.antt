@@ -26,7 +26,7 @@ use Rattle.dp_engine.specs.declared.sides.Side.{Side}
 use Rattle.dp_engine.specs.declared.sides.Side.TheVariants.{Session, Breakpoints, Program, Writes}
 use Rattle.dp_engine.specs.declared.states.Phase.{Phase}
 use Rattle.dp_engine.specs.declared.states.Phase.TheVariants.{Starting, Break, Stopping}
-use Rattle.dp_engine.specs.Answers.{Turn, asked, breakpoints_done, continued, done_on, gone_on, kept_if, moved, response_in, session_done, shown, turn, turn_of, with_write, written}
+use Rattle.dp_engine.specs.Answers.{Turn, breakpoints_done, continued, done_on, gone_on, kept_if, moved, response_in, session_done, shown, turn, turn_by_command, turn_of, with_write, written}
 use Rattle.dp_engine.specs.Refusals.{own_tests, refusal, refusal_of_line, row_tests, tests}
 use Rattle.dp_engine.specs.Session.{State, breaks_of, here, program_of, stop_of}
 use Rattle.dp_session_laws.specs.Shown.{IsAccepted, IsShown, IsTaken, WritesNothing}
@@ -58,7 +58,7 @@ module _ (state : State) (line : Line) (command : Command) (asks : command_of li
   done_turn bytes spells passes =
       ap (λ (code : Option ℕ). turn_of (line_of bytes) code state) passes
       ∙ ap (λ (l : Option Line). turn_of l None state) spells
-      ∙ ap (λ (c : Option Command). asked line.name (id_of line) c state) asks
+      ∙ ap (λ (c : Option Command). turn_by_command line.name (id_of line) c state) asks
 
 -- what is shown of a response that is made
 made_is : (command id : Text) (made : Result Response ℕ) → code_in made ≡ None → made ≡ Ok (response_in command id made)
@@ -153,7 +153,7 @@ done_keeps Writes command id r state h = absurd (h refl)
 module _ (state : State) (bytes : List ℕ) (h : WritesNothing state bytes) where
   asked_keeps : (line : Line) (command : Option Command) → line_of bytes ≡ Some line → command_of line ≡ command
       → refusal state bytes ≡ None
-      → (asked line.name (id_of line) command state).next.writes ≡ state.writes
+      → (turn_by_command line.name (id_of line) command state).next.writes ≡ state.writes
   asked_keeps line None spells asks passes = refl
   asked_keeps line (Some c) spells asks passes =
       done_keeps (side_of c.request) line.name c.id c.request state

@@ -39,7 +39,7 @@ use Rattle.dp_engine.specs.declared.session.SessionEnd.{SessionEnd}
 use Rattle.dp_engine.specs.declared.session.SessionEnd.TheVariants.{Finished, Killed, Detached}
 use Rattle.dp_engine.specs.declared.states.Phase.{Phase}
 use Rattle.dp_engine.specs.declared.states.Phase.TheVariants.{Starting, Break, Stopping}
-use Rattle.dp_engine.specs.Answers.{answer, asked, at_end, at_stop, continued, done_on, gone_on, kept_if, moved, session_done, to_program, turn, turn_of, with_write}
+use Rattle.dp_engine.specs.Answers.{answer, at_end, at_stop, continued, done_on, gone_on, kept_if, moved, session_done, to_program, turn, turn_by_command, turn_of, with_write}
 use Rattle.dp_engine.specs.Refusals.{of_command, refusal_of_line}
 use Rattle.dp_engine.specs.Served.{answers, ending, ending_after, own, rest_after, writes}
 use Rattle.dp_session_laws.specs.AllOutput.{Begins, IsRunWith, NeverRedirects, UnlessEnded, all_output, writing}
@@ -97,7 +97,7 @@ done_moves Writes command id r state h =
       by (Err code) w = stays
 
 asked_moves : (line : Line) (name : Option CommandName) (state : State) → of_command (allows state.phase) name ≡ true
-    → Moves state (asked line.name (id_of line) (option_map (command_as line) name) state).next
+    → Moves state (turn_by_command line.name (id_of line) (option_map (command_as line) name) state).next
 asked_moves line None state a = stays
 asked_moves line (Some name) state a =
     done_moves (side_of (request_of name line)) line.name (id_of line) (request_of name line) state

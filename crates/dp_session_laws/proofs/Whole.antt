@@ -51,7 +51,7 @@ use Rattle.dp_engine.specs.declared.states.Reason.{Reason}
 use Rattle.dp_engine.specs.declared.states.Reason.TheVariants as reason
 use Rattle.dp_engine.specs.declared.sides.Side.{Side}
 use Rattle.dp_engine.specs.declared.sides.Side.TheVariants.{Session, Breakpoints, Program, Writes}
-use Rattle.dp_engine.specs.Answers.{Turn, answer, asked, command_in, continued, done_on, feature_told, gone_on, id_in, in_packet, kept_if, moved, response_in, session_done, set_by, state_response, turn, turn_of}
+use Rattle.dp_engine.specs.Answers.{Turn, answer, command_in, continued, done_on, feature_answer, gone_on, id_in, in_packet, kept_if, moved, response_in, session_done, set_by, state_response, turn, turn_by_command, turn_of}
 use Rattle.dp_engine.specs.Refusals.{own_tests, refusal_of_line, row_tests, tests_on}
 use Rattle.dp_engine.specs.Sides.{side_of}
 use Rattle.dp_engine.specs.Responses.{init_text, main_name, response, response_text}
@@ -294,7 +294,7 @@ module _ (command id : Text) (p : length command ≤ 64) (q : length id ≤ 64) 
   continued_good mode Break = record { fits = tells (gone_on mode state); next = gone_usual mode }
   continued_good mode Stopping = record { fits = status_fits command id p q _ _ (omega arith) (omega arith); next = h }
 
-  told_good : (name : Text) → length name ≤ 1048576 → Fits (feature_told command id name state)
+  told_good : (name : Text) → length name ≤ 1048576 → Fits (feature_answer command id name state)
   told_good name few =
       feature_fits_if command id p q name _ _ few (flag_short
       (option_map_or (λ feature. true) (feature_named name) (is_some (name_of name))))
@@ -378,7 +378,7 @@ module _ (state : State) (h : IsUsual state) where
   asked_good : (line : Line) → IsShort line → (name : Option CommandName)
       → first_code (option_map_or (row_tests state line) name []) ≡ None
       → ((n : CommandName) → name ≡ Some n → IsShortRequest (request_of n line))
-      → IsGood (asked line.name (id_of line) (option_map (command_as line) name) state)
+      → IsGood (turn_by_command line.name (id_of line) (option_map (command_as line) name) state)
   asked_good line few None e short =
       record {
         fits = fault_fits line.name (id_of line) few.name (line_id_short (Some line)) 4

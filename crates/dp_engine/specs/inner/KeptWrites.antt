@@ -19,7 +19,7 @@ abbrev pub with_one : ℕ → Write → List NumberedWrite → List NumberedWrit
 with_one moment w writes = writes ++ (record { moment = moment; write = w }) ∷ []
 
 -- the write was made and is kept, and its response is reported
-pub record IsMade (bundle : Bundle) (features : Features) (before after : State)
+pub record IsKeptWrite (bundle : Bundle) (features : Features) (before after : State)
     (writes kept : List NumberedWrite) (moment : ℕ) (command id : Text) (asked : Request)
     (response : Response) : Type 0 where
   pub write : Write
@@ -32,7 +32,7 @@ pub record IsMade (bundle : Bundle) (features : Features) (before after : State)
 abbrev pub Accepts : Bundle → Features → State → State → List NumberedWrite → List NumberedWrite → ℕ
     → Text → Text → Request → Result Response ViewError → Type 0
 Accepts bundle features before after writes kept moment command id asked (Ok response) =
-    IsMade bundle features before after writes kept moment command id asked response
+    IsKeptWrite bundle features before after writes kept moment command id asked response
 Accepts bundle features before after writes kept moment command id asked (Err (Code code)) =
     (write_response bundle features before command id asked ≡ Err code)
     × (after ≡ before)

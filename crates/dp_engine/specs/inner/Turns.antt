@@ -24,14 +24,14 @@ use Rattle.dp_engine.specs.Session.{State}
 use Rattle.dp_engine.specs.States.{allows}
 
 -- a turn that tells this response, and ends the session so
-pub record Tells (response : Response) (ended : Option SessionEnd) (made : Made) : Type 0 where
+pub record Responds (response : Response) (ended : Option SessionEnd) (made : Made) : Type 0 where
   pub text : made.text ≡ response_text response
   pub ends : made.ended ≡ ended
   pub is_text : IsPacketText made.text
 
 -- a turn that is the one asked for, after which the session knows this
 pub record IsTurn (asked : Turn) (state : State) (made : Made) : Type 0 where
-  pub tells : Tells asked.response asked.ended made
+  pub tells : Responds asked.response asked.ended made
   pub next : state ≡ asked.next
 
 -- what is sent of a turn in which this was written
@@ -51,15 +51,16 @@ answered command id r state =
     answered_by (first_code (own_tests state command id r)) command id r state
 
 -- what a line asks for that has at most a refusal of its own, or why it is refused
-abbrev pub Asks : State → Line → Result Command CommandError → Type 0
-Asks state line (Ok command) =
+abbrev pub ReadsCommand : State → Line → Result Command CommandError → Type 0
+ReadsCommand state line (Ok command) =
     (refusal_of_line state (Some line)
     ≡ first_code (own_tests state line.name (id_of line) command.request))
     × (command_of line ≡ Some command)
     × (of_command (allows state.phase) (name_of line.name) ≡ true)
-Asks state line (Err (Code code)) = refusal_of_line state (Some line) ≡ Some code
-Asks state line (Err Memory) = Unit {0}
+ReadsCommand state line (Err (Code code)) = refusal_of_line state (Some line) ≡ Some code
+ReadsCommand state line (Err Memory) = Unit {0}
 
 -- the same in every session that is in this state
-abbrev pub AsksIn : Phase → Line → Result Command CommandError → Type 0
-AsksIn phase line asked = (state : State) → state.phase ≡ phase → Asks state line asked
+abbrev pub ReadsCommandIn : Phase → Line → Result Command CommandError → Type 0
+ReadsCommandIn phase line asked = (state : State) → state.phase ≡ phase
+    → ReadsCommand state line asked

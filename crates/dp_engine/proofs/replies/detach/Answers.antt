@@ -2,9 +2,10 @@ use Rattle.std.proofs.Common.{Some, subst}
 use Rattle.std.specs.Prelude.{IfOk}
 use Rattle.dp_packet.specs.declared.packet.Response.{Response}
 use Rattle.dp_engine.specs.declared.session.SessionEnd.TheVariants.{Detached}
-use Rattle.dp_engine.specs.inner.Turns.{Tells}
+use Rattle.dp_engine.specs.inner.Turns.{Responds}
 use Rattle.dp_engine.proofs.replies.detach.Goals as goal
 
 pub returns : goal.returns
 returns c =
-    subst (λ (r : Response). IfOk c.told.result (Tells r (Some Detached))) c.in_ok-response.ensures.value c.told.ensures
+    subst (λ (r : Response). IfOk c.turn_with.result (Responds r
+    (Some Detached))) c.in_ok-response.ensures.value c.turn_with.ensures

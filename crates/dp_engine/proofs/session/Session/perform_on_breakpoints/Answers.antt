@@ -3,7 +3,7 @@ use Rattle.dp_breakpoint_commands.specs.Commands.{breakpoint_refusal}
 use Rattle.dp_breakpoint_commands.proofs.Codes.{refusal_known}
 use Rattle.dp_engine.specs.Session.{program_of}
 use Rattle.dp_engine.specs.inner.Position.{known}
-use Rattle.dp_engine.proofs.TurnLaws.{breakpoints_are_told, fits_known}
+use Rattle.dp_engine.proofs.TurnLaws.{breakpoints_turn, fits_known}
 use Rattle.dp_engine.proofs.session.Session.perform_on_breakpoints.Goals as goal
 
 pub tell-requires : goal.tell-requires
@@ -21,7 +21,7 @@ refuse-requires c =
 pub returns-in-Ok-answer_breakpoints-clause-turn : goal.returns-in-Ok-answer_breakpoints-clause-turn
 returns-in-Ok-answer_breakpoints-clause-turn c =
     let s = c.self.inside in
-    rw (← c.self.view_is) (breakpoints_are_told (known s.bundle.now s.bound s.writes.items s.moment s.position
+    rw (← c.self.view_is) (breakpoints_turn (known s.bundle.now s.bound s.writes.items s.moment s.position
     s.features s.stdout s.breaks) c.in-Ok.program.now c.file-file.result c.answer_breakpoints.new.breaks
     c.args.to.now.command c.args.to.now.id c.args.request c.in-Ok-answer_breakpoints.response c.tell.result
     (c.in-Ok.ensures.state ∙ ap program_of (sym c.self.view_is)) c.file-file.ensures c.requires

@@ -1,14 +1,14 @@
 use Rattle.std.proofs.Common.{◌≢◌, ap, sym, ◌∙◌, arith}
 use Rattle.dp_engine.specs.declared.states.Phase.TheVariants.{Stopping}
 use Rattle.dp_engine.specs.inner.Position.{phase_of}
-use Rattle.dp_engine.proofs.TurnLaws.{comes_later, counts_out, counts_to, goes_out, goes_to, nothing_kept, stands_there}
+use Rattle.dp_engine.proofs.TurnLaws.{comes_later, counts_out, counts_to, goes_out, goes_to, machine_there, nothing_kept}
 use Rattle.dp_engine.proofs.session.Session.run_on.Goals as goal
 
 pub invariant_of-self-in-Moment : goal.invariant_of-self-in-Moment
 invariant_of-self-in-Moment g c =
     let s = c.self.inside in
     let before : phase_of s.position ≢ Stopping = λ e. c.requires (sym (ap (λ k. k.phase) c.self.view_is) ∙ e) in
-    let stands = stands_there s.bundle.now s.bound s.writes.items s.moment s.position s.features s.stdout s.breaks
+    let stands = machine_there s.bundle.now s.bound s.writes.items s.moment s.position s.features s.stdout s.breaks
     s.machine s.failed c.if-self.false before c.self.invariant.0 in
     let reaches = rw c.in-Moment.is at (c.in-Ok.ensures.reached s.bound s.writes.items s.moment stands) in
     let later = comes_later s.bundle.now s.bound s.writes.items s.moment s.position s.features s.stdout s.breaks
@@ -19,7 +19,7 @@ pub returns-in-Moment-clause-goes : goal.returns-in-Moment-clause-goes
 returns-in-Moment-clause-goes g c =
     let s = c.self.inside in
     let before : phase_of s.position ≢ Stopping = λ e. c.requires (sym (ap (λ k. k.phase) c.self.view_is) ∙ e) in
-    let stands = stands_there s.bundle.now s.bound s.writes.items s.moment s.position s.features s.stdout s.breaks
+    let stands = machine_there s.bundle.now s.bound s.writes.items s.moment s.position s.features s.stdout s.breaks
     s.machine s.failed c.if-self.false before c.self.invariant.0 in
     let reaches = rw c.in-Moment.is at (c.in-Ok.ensures.reached s.bound s.writes.items s.moment stands) in
     rw (← c.self.view_is) (goes_to s.bundle.now s.bound s.writes.items s.moment s.position s.features s.stdout s.breaks
@@ -30,7 +30,7 @@ pub returns-in-Moment-clause-steps : goal.returns-in-Moment-clause-steps
 returns-in-Moment-clause-steps g c =
     let s = c.self.inside in
     let before : phase_of s.position ≢ Stopping = λ e. c.requires (sym (ap (λ k. k.phase) c.self.view_is) ∙ e) in
-    let stands = stands_there s.bundle.now s.bound s.writes.items s.moment s.position s.features s.stdout s.breaks
+    let stands = machine_there s.bundle.now s.bound s.writes.items s.moment s.position s.features s.stdout s.breaks
     s.machine s.failed c.if-self.false before c.self.invariant.0 in
     let reaches = rw c.in-Moment.is at (c.in-Ok.ensures.reached s.bound s.writes.items s.moment stands) in
     let later = comes_later s.bundle.now s.bound s.writes.items s.moment s.position s.features s.stdout s.breaks
@@ -44,7 +44,7 @@ pub invariant_of-self-in-End : goal.invariant_of-self-in-End
 invariant_of-self-in-End g c =
     let s = c.self.inside in
     let before : phase_of s.position ≢ Stopping = λ e. c.requires (sym (ap (λ k. k.phase) c.self.view_is) ∙ e) in
-    let stands = stands_there s.bundle.now s.bound s.writes.items s.moment s.position s.features s.stdout s.breaks
+    let stands = machine_there s.bundle.now s.bound s.writes.items s.moment s.position s.features s.stdout s.breaks
     s.machine s.failed c.if-self.false before c.self.invariant.0 in
     let reaches = rw c.in-End.is at (c.in-Ok.ensures.reached s.bound s.writes.items s.moment stands) in
     ((reaches.1, reaches.2), c.self.invariant.1, c.self.invariant.2)
@@ -53,7 +53,7 @@ pub returns-in-End-clause-goes : goal.returns-in-End-clause-goes
 returns-in-End-clause-goes g c =
     let s = c.self.inside in
     let before : phase_of s.position ≢ Stopping = λ e. c.requires (sym (ap (λ k. k.phase) c.self.view_is) ∙ e) in
-    let stands = stands_there s.bundle.now s.bound s.writes.items s.moment s.position s.features s.stdout s.breaks
+    let stands = machine_there s.bundle.now s.bound s.writes.items s.moment s.position s.features s.stdout s.breaks
     s.machine s.failed c.if-self.false before c.self.invariant.0 in
     let reaches = rw c.in-End.is at (c.in-Ok.ensures.reached s.bound s.writes.items s.moment stands) in
     rw (← c.self.view_is) (goes_out s.bundle.now s.bound s.writes.items s.moment s.position s.features s.stdout s.breaks
@@ -64,7 +64,7 @@ pub returns-in-End-clause-steps : goal.returns-in-End-clause-steps
 returns-in-End-clause-steps g c =
     let s = c.self.inside in
     let before : phase_of s.position ≢ Stopping = λ e. c.requires (sym (ap (λ k. k.phase) c.self.view_is) ∙ e) in
-    let stands = stands_there s.bundle.now s.bound s.writes.items s.moment s.position s.features s.stdout s.breaks
+    let stands = machine_there s.bundle.now s.bound s.writes.items s.moment s.position s.features s.stdout s.breaks
     s.machine s.failed c.if-self.false before c.self.invariant.0 in
     rw (← c.self.view_is) (counts_out s.bundle.now s.bound s.writes.items s.moment s.position s.features s.stdout
     s.breaks s.machine c.args.steps.now c.go_on_from.new.steps c.in-End.outcome

@@ -1,14 +1,14 @@
 use Rattle.std.proofs.Common.{◌≢◌, ap, drop, length, sym, ◌∙◌}
 use Rattle.dp_engine.specs.declared.states.Phase.TheVariants.{Stopping}
 use Rattle.dp_engine.specs.inner.Position.{known, phase_of}
-use Rattle.dp_engine.proofs.TurnLaws.{counts_left, nothing_kept, program_is, rest_is, stands_there}
+use Rattle.dp_engine.proofs.TurnLaws.{counts_left, machine_there, nothing_kept, program_is, rest_is}
 use Rattle.dp_engine.proofs.session.Session.run_rest.Goals as goal
 
 pub returns-in_ok-rest-in-Ok-clause-rest : goal.returns-in_ok-rest-in-Ok-clause-rest
 returns-in_ok-rest-in-Ok-clause-rest g c =
     let s = c.self.inside in
     let before : phase_of s.position ≢ Stopping = λ e. c.requires (sym (ap (λ k. k.phase) c.self.view_is) ∙ e) in
-    let stands = stands_there s.bundle.now s.bound s.writes.items s.moment s.position s.features s.stdout s.breaks
+    let stands = machine_there s.bundle.now s.bound s.writes.items s.moment s.position s.features s.stdout s.breaks
     s.machine s.failed c.if-self.false before c.self.invariant.0 in
     let is = program_is s.bundle.now s.bound s.writes.items s.moment s.position s.features s.stdout s.breaks s.machine
     s.failed c.if-self.false c.self.invariant.0 in
@@ -23,7 +23,7 @@ pub returns-in_ok-rest-in-Ok-clause-outcome : goal.returns-in_ok-rest-in-Ok-clau
 returns-in_ok-rest-in-Ok-clause-outcome g c =
     let s = c.self.inside in
     let before : phase_of s.position ≢ Stopping = λ e. c.requires (sym (ap (λ k. k.phase) c.self.view_is) ∙ e) in
-    let stands = stands_there s.bundle.now s.bound s.writes.items s.moment s.position s.features s.stdout s.breaks
+    let stands = machine_there s.bundle.now s.bound s.writes.items s.moment s.position s.features s.stdout s.breaks
     s.machine s.failed c.if-self.false before c.self.invariant.0 in
     rw (← c.self.view_is) (c.in-Ok.ensures.end s.bundle.now s.bound s.writes.items s.moment stands).0
 
@@ -31,7 +31,7 @@ pub returns-in_ok-rest-in-Ok-clause-steps : goal.returns-in_ok-rest-in-Ok-clause
 returns-in_ok-rest-in-Ok-clause-steps g c =
     let s = c.self.inside in
     let before : phase_of s.position ≢ Stopping = λ e. c.requires (sym (ap (λ k. k.phase) c.self.view_is) ∙ e) in
-    let stands = stands_there s.bundle.now s.bound s.writes.items s.moment s.position s.features s.stdout s.breaks
+    let stands = machine_there s.bundle.now s.bound s.writes.items s.moment s.position s.features s.stdout s.breaks
     s.machine s.failed c.if-self.false before c.self.invariant.0 in
     rw (← c.self.view_is) (counts_left s.bundle.now s.bound s.writes.items s.moment s.position s.features s.stdout
     s.breaks s.machine c.args.steps.now c.run_out.new.steps before stands
@@ -41,7 +41,7 @@ pub invariant_of-self-in-Ok : goal.invariant_of-self-in-Ok
 invariant_of-self-in-Ok g c =
     let s = c.self.inside in
     let before : phase_of s.position ≢ Stopping = λ e. c.requires (sym (ap (λ k. k.phase) c.self.view_is) ∙ e) in
-    let stands = stands_there s.bundle.now s.bound s.writes.items s.moment s.position s.features s.stdout s.breaks
+    let stands = machine_there s.bundle.now s.bound s.writes.items s.moment s.position s.features s.stdout s.breaks
     s.machine s.failed c.if-self.false before c.self.invariant.0 in
     (c.in-Ok.ensures.end s.bundle.now s.bound s.writes.items s.moment stands, c.self.invariant.1, c.self.invariant.2)
 

@@ -2,7 +2,7 @@ use Rattle.std.proofs.Common.{rules, ◌≡◌, Err, ap, refl, sym, ◌∙◌}
 use Rattle.dp_view_commands.specs.Views.{view_response}
 use Rattle.dp_engine.specs.Session.{program_of}
 use Rattle.dp_engine.specs.inner.Position.{known}
-use Rattle.dp_engine.proofs.TurnLaws.{fits_known, own_refused, view_is, view_refused, view_told}
+use Rattle.dp_engine.proofs.TurnLaws.{fits_known, own_refused, view_is, view_refused, view_responds}
 use Rattle.dp_engine.proofs.session.Session.show.Goals as goal
 
 pub tell-requires : goal.tell-requires
@@ -16,7 +16,7 @@ returns-in-Ok c =
     let id = c.args.to.now.id in
     let is = view_is state c.in_ok-program.program.now c.file.result command id c.args.request.now
     (c.in_ok-program.ensures.state ∙ ap program_of (sym c.self.view_is)) c.file.ensures in
-    rw (← c.self.view_is) (view_told state command id c.args.request.now c.in-Ok.response c.tell.result c.requires
+    rw (← c.self.view_is) (view_responds state command id c.args.request.now c.in-Ok.response c.tell.result c.requires
     (is ∙ c.in-Ok.ensures.answer) c.tell.ensures)
 
 pub returns-in-Err-Code : goal.returns-in-Err-Code

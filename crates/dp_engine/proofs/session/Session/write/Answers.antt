@@ -1,10 +1,10 @@
 use Rattle.std.proofs.Common.{rules, ◌≡◌, Err, ap, subst, ◌∙◌}
 use Rattle.dp_state.specs.declared.state.State.{State}
 use Rattle.dp_write_commands.specs.Responses.{write_response}
-use Rattle.dp_engine.specs.inner.KeptWrites.{IsMade}
+use Rattle.dp_engine.specs.inner.KeptWrites.{IsKeptWrite}
 use Rattle.dp_engine.specs.inner.Position.{known}
-use Rattle.dp_engine.proofs.NewWrites.{deep_kept, stands_kept}
-use Rattle.dp_engine.proofs.TurnLaws.{fits_known, own_refused, program_is, write_is_refused, write_is_told, write_stays}
+use Rattle.dp_engine.proofs.NewWrites.{deep_kept, machine_kept}
+use Rattle.dp_engine.proofs.TurnLaws.{fits_known, own_refused, program_is, write_is_refused, write_stays, write_turn}
 use Rattle.dp_engine.proofs.session.Session.write.Goals as goal
 
 pub tell-requires : goal.tell-requires
@@ -18,10 +18,10 @@ invariant_of-self c =
     let kept = c.accept-made.new.writes.items in
     let command = c.args.to.now.command in
     let id = c.args.to.now.id in
-    let made = subst (λ (p : State). IsMade s.bundle.now s.features p c.accept-made.new.program s.writes.items
+    let made = subst (λ (p : State). IsKeptWrite s.bundle.now s.features p c.accept-made.new.program s.writes.items
     c.accept-made.new.writes.items s.moment c.args.to.now.command c.args.to.now.id
     c.args.request.now c.in-Ok.response) c.state_mut.ensures.state c.in-Ok.ensures.answer in (
-      stands_kept s.bundle.now s.bound s.features s.machine after s.writes.items kept s.moment command id
+      machine_kept s.bundle.now s.bound s.features s.machine after s.writes.items kept s.moment command id
           c.args.request.now c.in-Ok.response made s.failed s.position at c.self.invariant.0,
       deep_kept s.bundle.now s.bound s.features s.machine after s.writes.items kept s.moment command id
           c.args.request.now c.in-Ok.response made s.depth c.self.invariant.1,
@@ -33,10 +33,10 @@ returns-in-Ok-clause-turn c =
     let s = c.self.inside in
     let same = program_is s.bundle.now s.bound s.writes.items s.moment s.position s.features s.stdout s.breaks s.machine
     s.failed c.if-self.false c.self.invariant.0 in
-    rw (← c.self.view_is) (write_is_told s.bundle.now s.bound s.writes.items s.moment s.position s.features s.stdout
+    rw (← c.self.view_is) (write_turn s.bundle.now s.bound s.writes.items s.moment s.position s.features s.stdout
     s.breaks s.machine c.accept-made.new.program c.accept-made.new.writes.items
     c.args.to.now.command c.args.to.now.id c.args.request.now c.in-Ok.response c.tell.result same c.requires.side
-    (subst (λ (p : State). IsMade s.bundle.now s.features p c.accept-made.new.program s.writes.items
+    (subst (λ (p : State). IsKeptWrite s.bundle.now s.features p c.accept-made.new.program s.writes.items
     c.accept-made.new.writes.items s.moment c.args.to.now.command c.args.to.now.id
     c.args.request.now c.in-Ok.response) c.state_mut.ensures.state c.in-Ok.ensures.answer) c.tell.ensures)
 
