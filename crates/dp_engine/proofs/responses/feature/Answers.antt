@@ -13,7 +13,7 @@ returns-clause-fits c =
     made_fits command id c.in_ok-attributes.attributes ((codes "feature_name", c.args.feature.now)
     ∷ (codes "supported", c.args.supported.now) ∷ []) (value_body c.args.value)
     c.response.result (subst (λ (what : Body). IfOk c.response.result
-    (λ (r : Response). r ≡ response command id c.in_ok-attributes.attributes what)) c.told.ensures
+    (λ (r : Response). r ≡ response command id c.in_ok-attributes.attributes what)) c.value_body.ensures
     c.response.ensures)
     c.in_ok-attributes.ensures
     (feature_fits_if command id c.args.to.now.command_bound c.args.to.now.id_bound c.args.feature.now
