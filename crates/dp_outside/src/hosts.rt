@@ -4,22 +4,25 @@ ghost use Rattle.dp_outside.specs.Hosts.{IsGraphic, IsHost};
 
 use std::marker::Model;
 
+/// The most bytes of the name of a machine.
+const HOST_LIMIT: usize = 64;
+
 /// The name or address of a machine: 1 to 64 bytes from 0x21 to 0x7e. Contracts see the list of these bytes.
 #[derive(Debug, Drop)]
 pub struct Host {
-    bytes: [u8; 64],
+    bytes: [u8; HOST_LIMIT],
     length: u8,
 }
 
 impl Model for Host {
     ghost use Rattle.std.specs.Prelude.{List, ℕ, take, ◌≤◌};
-    ghost use Rattle.dp_outside.specs.Hosts.{IsHost};
+    ghost use Rattle.dp_outside.specs.Hosts.{IsHost, host_limit};
 
     ghost Value = { List ℕ };
 
     ghost view = { λ h. take h.length h.bytes };
 
-    ghost invariant = { λ h. (h.length ≤ 64) × IsHost (take h.length h.bytes) };
+    ghost invariant = { λ h. (h.length ≤ host_limit) × IsHost (take h.length h.bytes) };
 }
 
 /// Whether each byte is printable ASCII and no blank.
@@ -36,7 +39,7 @@ fn is_host(bytes: &[u8]) -> bool
     if bytes.is_empty() {
         return false;
     }
-    if bytes.len() > 64 {
+    if bytes.len() > HOST_LIMIT {
         return false;
     }
     are_graphic(bytes)
@@ -52,7 +55,7 @@ impl Host {
         if !is_host(bytes) {
             return None;
         }
-        let mut held = [0; 64];
+        let mut held = [0; HOST_LIMIT];
         held[..bytes.len()].copy_from_slice(bytes);
         Some(Host {
             bytes: held,
