@@ -17,7 +17,9 @@ use std::ops::Range;
 pub const COMMAND_LIMIT: usize = 1_048_576;
 
 /// One byte more than a command may have.
-const TOO_LONG: WireError = WireError::TooLong { length: 1_048_577 };
+const TOO_LONG: WireError = WireError::TooLong {
+    length: COMMAND_LIMIT as u64 + 1,
+};
 
 /// Splits a stream into commands, each ended by a NUL. Contracts see the bytes that are held, and how many were dropped
 /// before them.
@@ -106,7 +108,7 @@ impl Commands {
             BeginsCommand self.now.held (take range.end self.now.held) (drop (range.end + 1) self.now.held))) }
         ensures partial { (result ≡ Ok None) ↔ IsPartialCommand self.now.held }
         ensures refused { IsErr result ↔ BeginsNoCommand self.now.held }
-        ensures length { IfErr result (λ e. e ≡ WireError.TooLong 1048577) }
+        ensures length { IfErr result (λ e. e ≡ WireError.TooLong (command_limit + 1)) }
 
         // What stands there stays, whatever comes after it.
         ensures first { IfOk result (λ found. IfSome found (λ range. (more : List ℕ)

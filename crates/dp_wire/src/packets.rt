@@ -3,7 +3,8 @@
 ghost use Rattle.std.specs.Prelude.{◌≡◌, ◌↔◌, ◌+◌, ◌-◌, ◌<◌, ◌≤◌, [], ◌∷◌, ◌++◌, List, ℕ, min, length, drop};
 ghost use Rattle.std.specs.Prelude.{slice_range, IsErr, IfOk, IfErr, IfSome, OnOk, OnErr};
 ghost use Rattle.std.specs.Fmt.{decimal};
-ghost use Rattle.dp_wire.specs.Frames.{BeginsPacket, IsPartialPacket, BeginsNoPacket, packet_frame, packets_in};
+ghost use Rattle.dp_wire.specs.Frames.{BeginsPacket, IsPartialPacket, BeginsNoPacket, packet_frame, packet_limit};
+ghost use Rattle.dp_wire.specs.Frames.{packets_in};
 ghost use Rattle.dp_wire.specs.Received.{IsCause, place_of, last_place};
 
 use crate::WireError;
@@ -110,7 +111,7 @@ impl Packets {
         ensures never { IsErr result → (more : List ℕ) → packets_in (self.now.held ++ more) ≡ [] }
 
         // Where more has to come, no more than eight digits, a NUL and a longest text are held.
-        ensures held { result ≡ Ok None → length self.now.held ≤ 16777225 }
+        ensures held { result ≡ Ok None → length self.now.held ≤ packet_limit + 9 }
     {
         let held = self.bytes();
         match read_length(held) {

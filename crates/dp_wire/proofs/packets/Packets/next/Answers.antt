@@ -1,5 +1,5 @@
 use Rattle.std.proofs.Common.{◌≡◌, ◌≢◌, ℕ, ◌+◌, ◌<◌, ◌≤◌, List, length, get_or, drop, slice_range, refl, sym, ap, ◌∙◌, subst, arith}
-use Rattle.dp_wire.specs.Frames.{BeginsPacket, BeginsNoPacket, IsPartialPacket}
+use Rattle.dp_wire.specs.Frames.{BeginsPacket, BeginsNoPacket, IsPartialPacket, packet_limit}
 use Rattle.dp_wire.specs.Received.{LacksNul}
 use Rattle.dp_wire.specs.inner.Lengths.{IsLength}
 use Rattle.dp_wire.specs.declared.length.Length.{Length}
@@ -25,7 +25,7 @@ module _ (bytes now : List ℕ) (nul number : ℕ) (same : bytes ≡ now) (said 
   short : length bytes ≤ nul + 1 + number → IsPartialPacket now
   short fits = known_short now nul number known.0 known.1 known.2 known.3 (omega (arith, ap length same, fits))
 
-  most : length bytes ≤ nul + 1 + number → length now ≤ 16777225
+  most : length bytes ≤ nul + 1 + number → length now ≤ packet_limit + 9
   most fits = omega (arith, ap length same, fits, known.1, nul_small now nul number known.0 known.1 known.2 known.3)
 
   begins : nul + 1 + number < length bytes → get_or bytes (nul + 1 + number) 0 ≡ 0
