@@ -14,7 +14,7 @@ use Rattle.dp_ide.specs.declared.instruction.Act.{Act}
 use Rattle.dp_ide.specs.declared.instruction.Act.TheVariants.{Send, Attr, Code, Prop, Out, Print}
 use Rattle.dp_ide.specs.declared.instruction.Instruction.{Instruction}
 use Rattle.dp_ide.specs.Scripts.{Asks, Behind, Command, Name, Number, Says, is_idle}
-use Rattle.dp_ide.specs.inner.Readers.{IsNamed, IsRun, Reads, is_attr, is_code, is_out, is_prop, is_send}
+use Rattle.dp_ide.specs.inner.Readers.{IsNamed, IsRun, Reads}
 use Rattle.dp_ide.proofs.LineLaws.{Lacks, lacks_head, lacks_tail}
 
 -- What is read by one rule is read by another, where the two fit at these bytes.
@@ -45,161 +45,101 @@ apart a b xs ys ne e = let same : a ≡ b = cc in eqb-false a b ne same
 
 -- ---- each instruction by its word
 
-only_send : (act : Act) (rest : List ℕ) → Asks act (codes "send " ++ rest) → is_send act rest
-only_send (Send line id) rest is = unmarked (codes "send ") rest (Command line id) is
-only_send (Attr name text) rest is = let b = begun (codes "attr ") _ _ is in absurd (apart 115 97 _ _ refl b.1)
-only_send (Code n) rest is = let b = begun (codes "code ") _ _ is in absurd (apart 115 99 _ _ refl b.1)
-only_send (Prop name text) rest is = let b = begun (codes "prop ") _ _ is in absurd (apart 115 112 _ _ refl b.1)
-only_send (Out text) rest is = let b = begun (codes "out") _ _ is in absurd (apart 115 111 _ _ refl b.1)
-only_send Print rest is = absurd (apart 115 112 _ _ refl is)
+-- the command that a `send` sends, by its id
+abbrev pub Sent : List ℕ → List ℕ → Type 0
+Sent id line = Command line id line
 
-only_attr : (act : Act) (rest : List ℕ) → Asks act (codes "attr " ++ rest) → is_attr act rest
-only_attr (Send line id) rest is = let b = begun (codes "send ") _ _ is in absurd (apart 97 115 _ _ refl b.1)
-only_attr (Attr name text) rest is = unmarked (codes "attr ") rest (Name name >> Behind text) is
-only_attr (Code n) rest is = let b = begun (codes "code ") _ _ is in absurd (apart 97 99 _ _ refl b.1)
-only_attr (Prop name text) rest is = let b = begun (codes "prop ") _ _ is in absurd (apart 97 112 _ _ refl b.1)
-only_attr (Out text) rest is = let b = begun (codes "out") _ _ is in absurd (apart 97 111 _ _ refl b.1)
-only_attr Print rest is = absurd (apart 97 112 _ _ refl is)
+pub reads_send : (rest : List ℕ) (found : Option (List ℕ)) → Reads Sent rest found
+    → Reads Asks (codes "send " ++ rest) (option_map (λ id. Send rest id) found)
+reads_send rest =
+    reads_as Sent Asks (λ id. Send rest id) rest (codes "send " ++ rest)
+    (λ id h. marked (codes "send ") rest (Command rest id) h) from where
+      from : (act : Act) → Asks act (codes "send " ++ rest) → (id : List ℕ) × (act ≡ Send rest id) × Sent id rest
+      from (Send line id) is =
+          let c = unmarked (codes "send ") rest (Command line id) is in
+          (id, (λ i. Send (sym c.same i) id), subst (λ (l : List ℕ). Command l id rest) (sym c.same) c)
+      from (Attr name text) is = let b = begun (codes "attr ") _ _ is in absurd (apart 115 97 _ _ refl b.1)
+      from (Code n) is = let b = begun (codes "code ") _ _ is in absurd (apart 115 99 _ _ refl b.1)
+      from (Prop name text) is = let b = begun (codes "prop ") _ _ is in absurd (apart 115 112 _ _ refl b.1)
+      from (Out text) is = let b = begun (codes "out") _ _ is in absurd (apart 115 111 _ _ refl b.1)
+      from Print is = absurd (apart 115 112 _ _ refl is)
 
-only_code : (act : Act) (rest : List ℕ) → Asks act (codes "code " ++ rest) → is_code act rest
-only_code (Send line id) rest is = let b = begun (codes "send ") _ _ is in absurd (apart 99 115 _ _ refl b.1)
-only_code (Attr name text) rest is = let b = begun (codes "attr ") _ _ is in absurd (apart 99 97 _ _ refl b.1)
-only_code (Code n) rest is = unmarked (codes "code ") rest (Number n) is
-only_code (Prop name text) rest is = let b = begun (codes "prop ") _ _ is in absurd (apart 99 112 _ _ refl b.1)
-only_code (Out text) rest is = let b = begun (codes "out") _ _ is in absurd (apart 99 111 _ _ refl b.1)
-only_code Print rest is = absurd (apart 99 112 _ _ refl is)
+pub reads_attr : (rest : List ℕ) (found : Option (List ℕ × List ℕ)) → Reads IsNamed rest found
+    → Reads Asks (codes "attr " ++ rest) (option_map (λ n. Attr n.0 n.1) found)
+reads_attr rest =
+    reads_as IsNamed Asks (λ n. Attr n.0 n.1) rest (codes "attr " ++ rest)
+    (λ n h. marked (codes "attr ") rest (Name n.0 >> Behind n.1) h) from where
+      from : (act : Act) → Asks act (codes "attr " ++ rest) → (n : List ℕ × List ℕ) × (act ≡ Attr n.0 n.1) × IsNamed n rest
+      from (Send line id) is = let b = begun (codes "send ") _ _ is in absurd (apart 97 115 _ _ refl b.1)
+      from (Attr name text) is = ((name, text), refl, unmarked (codes "attr ") rest (Name name >> Behind text) is)
+      from (Code n) is = let b = begun (codes "code ") _ _ is in absurd (apart 97 99 _ _ refl b.1)
+      from (Prop name text) is = let b = begun (codes "prop ") _ _ is in absurd (apart 97 112 _ _ refl b.1)
+      from (Out text) is = let b = begun (codes "out") _ _ is in absurd (apart 97 111 _ _ refl b.1)
+      from Print is = absurd (apart 97 112 _ _ refl is)
 
-only_prop : (act : Act) (rest : List ℕ) → Asks act (codes "prop " ++ rest) → is_prop act rest
-only_prop (Send line id) rest is = let b = begun (codes "send ") _ _ is in absurd (apart 112 115 _ _ refl b.1)
-only_prop (Attr name text) rest is = let b = begun (codes "attr ") _ _ is in absurd (apart 112 97 _ _ refl b.1)
-only_prop (Code n) rest is = let b = begun (codes "code ") _ _ is in absurd (apart 112 99 _ _ refl b.1)
-only_prop (Prop name text) rest is = unmarked (codes "prop ") rest (Name name >> Behind text) is
-only_prop (Out text) rest is = let b = begun (codes "out") _ _ is in absurd (apart 112 111 _ _ refl b.1)
-only_prop Print rest is = absurd (apart 111 105 _ _ refl (ap (drop 2) is))
+pub reads_code : (rest : List ℕ) (found : Option ℕ) → Reads Number rest found
+    → Reads Asks (codes "code " ++ rest) (option_map Code found)
+reads_code rest =
+    reads_as Number Asks Code rest (codes "code " ++ rest)
+    (λ n h. marked (codes "code ") rest (Number n) h) from where
+      from : (act : Act) → Asks act (codes "code " ++ rest) → (n : ℕ) × (act ≡ Code n) × Number n rest
+      from (Send line id) is = let b = begun (codes "send ") _ _ is in absurd (apart 99 115 _ _ refl b.1)
+      from (Attr name text) is = let b = begun (codes "attr ") _ _ is in absurd (apart 99 97 _ _ refl b.1)
+      from (Code n) is = (n, refl, unmarked (codes "code ") rest (Number n) is)
+      from (Prop name text) is = let b = begun (codes "prop ") _ _ is in absurd (apart 99 112 _ _ refl b.1)
+      from (Out text) is = let b = begun (codes "out") _ _ is in absurd (apart 99 111 _ _ refl b.1)
+      from Print is = absurd (apart 99 112 _ _ refl is)
+
+pub reads_prop : (rest : List ℕ) (found : Option (List ℕ × List ℕ)) → Reads IsNamed rest found
+    → Reads Asks (codes "prop " ++ rest) (option_map (λ n. Prop n.0 n.1) found)
+reads_prop rest =
+    reads_as IsNamed Asks (λ n. Prop n.0 n.1) rest (codes "prop " ++ rest)
+    (λ n h. marked (codes "prop ") rest (Name n.0 >> Behind n.1) h) from where
+      from : (act : Act) → Asks act (codes "prop " ++ rest) → (n : List ℕ × List ℕ) × (act ≡ Prop n.0 n.1) × IsNamed n rest
+      from (Send line id) is = let b = begun (codes "send ") _ _ is in absurd (apart 112 115 _ _ refl b.1)
+      from (Attr name text) is = let b = begun (codes "attr ") _ _ is in absurd (apart 112 97 _ _ refl b.1)
+      from (Code n) is = let b = begun (codes "code ") _ _ is in absurd (apart 112 99 _ _ refl b.1)
+      from (Prop name text) is = ((name, text), refl, unmarked (codes "prop ") rest (Name name >> Behind text) is)
+      from (Out text) is = let b = begun (codes "out") _ _ is in absurd (apart 112 111 _ _ refl b.1)
+      from Print is = absurd (apart 111 105 _ _ refl (ap (drop 2) is))
+
+pub reads_out : (rest : List ℕ) (found : Option (List ℕ)) → Reads Behind rest found
+    → Reads Asks (codes "out" ++ rest) (option_map Out found)
+reads_out rest =
+    reads_as Behind Asks Out rest (codes "out" ++ rest)
+    (λ text h. marked (codes "out") rest (Behind text) h) from where
+      from : (act : Act) → Asks act (codes "out" ++ rest) → (text : List ℕ) × (act ≡ Out text) × Behind text rest
+      from (Send line id) is = let b = begun (codes "send ") _ _ is in absurd (apart 111 115 _ _ refl b.1)
+      from (Attr name text) is = let b = begun (codes "attr ") _ _ is in absurd (apart 111 97 _ _ refl b.1)
+      from (Code n) is = let b = begun (codes "code ") _ _ is in absurd (apart 111 99 _ _ refl b.1)
+      from (Prop name text) is = let b = begun (codes "prop ") _ _ is in absurd (apart 111 112 _ _ refl b.1)
+      from (Out text) is = (text, refl, unmarked (codes "out") rest (Behind text) is)
+      from Print is = absurd (apart 111 112 _ _ refl is)
+
+pub reads_print : (line : List ℕ) → line ≡ codes "print" → Reads Asks line (Some Print)
+reads_print line same = (same, alone) where
+  alone : (other : Act) → Asks other line → other ≡ Print
+  alone Print is = refl
+  alone (Send l id) is = let b = begun (codes "send ") _ _ is in absurd (apart 112 115 _ _ refl (sym same ∙ b.1))
+  alone (Attr name text) is = let b = begun (codes "attr ") _ _ is in absurd (apart 112 97 _ _ refl (sym same ∙ b.1))
+  alone (Code n) is = let b = begun (codes "code ") _ _ is in absurd (apart 112 99 _ _ refl (sym same ∙ b.1))
+  alone (Prop name text) is =
+      let b = begun (codes "prop ") _ _ is in absurd (apart 105 111 _ _ refl (ap (drop 2) (sym same ∙ b.1)))
+  alone (Out text) is = let b = begun (codes "out") _ _ is in absurd (apart 112 111 _ _ refl (sym same ∙ b.1))
 
 abbrev Lacked : List ℕ → List ℕ → Type 0
 Lacked mark bytes = (rest : List ℕ) → bytes ≢ mark ++ rest
 
-only_other : (act : Act) (line : List ℕ) → Lacked (codes "send ") line → Lacked (codes "attr ") line
-    → Lacked (codes "code ") line → Lacked (codes "prop ") line → Asks act line → is_out act line
-only_other (Send l id) line s a c p is = let b = begun (codes "send ") _ _ is in absurd (s b.0 b.1)
-only_other (Attr name text) line s a c p is = let b = begun (codes "attr ") _ _ is in absurd (a b.0 b.1)
-only_other (Code n) line s a c p is = let b = begun (codes "code ") _ _ is in absurd (c b.0 b.1)
-only_other (Prop name text) line s a c p is = let b = begun (codes "prop ") _ _ is in absurd (p b.0 b.1)
-only_other (Out text) line s a c p is = is
-only_other Print line s a c p is = is
-
-send_asks : (act : Act) (rest : List ℕ) → is_send act rest → Asks act (codes "send " ++ rest)
-send_asks (Send line id) rest is = marked (codes "send ") rest (Command line id) is
-send_asks (Attr name text) rest is = absurd is
-send_asks (Code n) rest is = absurd is
-send_asks (Prop name text) rest is = absurd is
-send_asks (Out text) rest is = absurd is
-send_asks Print rest is = absurd is
-
-attr_asks : (act : Act) (rest : List ℕ) → is_attr act rest → Asks act (codes "attr " ++ rest)
-attr_asks (Send line id) rest is = absurd is
-attr_asks (Attr name text) rest is = marked (codes "attr ") rest (Name name >> Behind text) is
-attr_asks (Code n) rest is = absurd is
-attr_asks (Prop name text) rest is = absurd is
-attr_asks (Out text) rest is = absurd is
-attr_asks Print rest is = absurd is
-
-code_asks : (act : Act) (rest : List ℕ) → is_code act rest → Asks act (codes "code " ++ rest)
-code_asks (Send line id) rest is = absurd is
-code_asks (Attr name text) rest is = absurd is
-code_asks (Code n) rest is = marked (codes "code ") rest (Number n) is
-code_asks (Prop name text) rest is = absurd is
-code_asks (Out text) rest is = absurd is
-code_asks Print rest is = absurd is
-
-prop_asks : (act : Act) (rest : List ℕ) → is_prop act rest → Asks act (codes "prop " ++ rest)
-prop_asks (Send line id) rest is = absurd is
-prop_asks (Attr name text) rest is = absurd is
-prop_asks (Code n) rest is = absurd is
-prop_asks (Prop name text) rest is = marked (codes "prop ") rest (Name name >> Behind text) is
-prop_asks (Out text) rest is = absurd is
-prop_asks Print rest is = absurd is
-
-out_asks : (act : Act) (line : List ℕ) → is_out act line → Asks act line
-out_asks (Send l id) line is = absurd is
-out_asks (Attr name text) line is = absurd is
-out_asks (Code n) line is = absurd is
-out_asks (Prop name text) line is = absurd is
-out_asks (Out text) line is = is
-out_asks Print line is = is
-
--- the two rules answer alike
-same_reads : (rule wider : Act → List ℕ → Type 0) (xs ys : List ℕ) → ((act : Act) → rule act xs → wider act ys)
-    → ((act : Act) → wider act ys → rule act xs)
-    → (found : Option Act) → Reads rule xs found → Reads wider ys found
-same_reads rule wider xs ys into from None none = λ act is. none act (from act is)
-same_reads rule wider xs ys into from (Some act) is = (into act is.0, λ other also. is.1 other (from other also))
-
-pub reads_send : (line rest : List ℕ) (found : Option Act) → line ≡ codes "send " ++ rest → Reads is_send rest found
-    → Reads Asks line found
-reads_send line rest found same is =
-    subst (λ (l : List ℕ). Reads Asks l found) (sym same) (same_reads is_send Asks rest (codes "send " ++ rest)
-    (λ act. send_asks act rest) (λ act. only_send act rest) found is)
-
-pub reads_attr : (line rest : List ℕ) (found : Option Act) → line ≡ codes "attr " ++ rest → Reads is_attr rest found
-    → Reads Asks line found
-reads_attr line rest found same is =
-    subst (λ (l : List ℕ). Reads Asks l found) (sym same) (same_reads is_attr Asks rest (codes "attr " ++ rest)
-    (λ act. attr_asks act rest) (λ act. only_attr act rest) found is)
-
-pub reads_code : (line rest : List ℕ) (found : Option Act) → line ≡ codes "code " ++ rest → Reads is_code rest found
-    → Reads Asks line found
-reads_code line rest found same is =
-    subst (λ (l : List ℕ). Reads Asks l found) (sym same) (same_reads is_code Asks rest (codes "code " ++ rest)
-    (λ act. code_asks act rest) (λ act. only_code act rest) found is)
-
-pub reads_prop : (line rest : List ℕ) (found : Option Act) → line ≡ codes "prop " ++ rest → Reads is_prop rest found
-    → Reads Asks line found
-reads_prop line rest found same is =
-    subst (λ (l : List ℕ). Reads Asks l found) (sym same) (same_reads is_prop Asks rest (codes "prop " ++ rest)
-    (λ act. prop_asks act rest) (λ act. only_prop act rest) found is)
-
-pub reads_other : (line : List ℕ) (found : Option Act) → Lacked (codes "send ") line → Lacked (codes "attr ") line
-    → Lacked (codes "code ") line → Lacked (codes "prop ") line
-    → Reads is_out line found → Reads Asks line found
-reads_other line found s a c p is =
-    same_reads is_out Asks line line (λ act. out_asks act line) (λ act. only_other act line s a c p) found is
-
--- ---- an `out` or a `print`
-
-pub reads_print : (line : List ℕ) → line ≡ codes "print" → Reads is_out line (Some Print)
-reads_print line same = (same, alone) where
-  alone : (other : Act) → is_out other line → other ≡ Print
-  alone (Send l id) is = absurd is
-  alone (Attr name text) is = absurd is
-  alone (Code n) is = absurd is
-  alone (Prop name text) is = absurd is
-  alone (Out text) is = let b = begun (codes "out") _ _ is in absurd (apart 112 111 _ _ refl (sym same ∙ b.1))
-  alone Print is = refl
-
-pub reads_out : (line rest : List ℕ) (found : Option (List ℕ)) → line ≡ codes "out" ++ rest → Reads Behind rest found
-    → Reads is_out line (option_map Out found)
-reads_out line rest found same is =
-    subst (λ (l : List ℕ). Reads is_out l (option_map Out found)) (sym same)
-    (reads_as Behind is_out Out rest (codes "out" ++ rest) (λ text h. marked (codes "out") rest (Behind text) h) from
-    found is) where
-      from : (act : Act) → is_out act (codes "out" ++ rest) → (text : List ℕ) × (act ≡ Out text) × Behind text rest
-      from (Send l id) h = absurd h
-      from (Attr name text) h = absurd h
-      from (Code n) h = absurd h
-      from (Prop name text) h = absurd h
-      from (Out text) h = (text, refl, unmarked (codes "out") rest (Behind text) h)
-      from Print h = absurd (apart 111 112 _ _ refl h)
-
-pub reads_neither : (line : List ℕ) → line ≢ codes "print" → Lacked (codes "out") line → Reads is_out line None
-reads_neither line print out = no where
-  no : (act : Act) → is_out act line → ⊥
-  no (Send l id) is = absurd is
-  no (Attr name text) is = absurd is
-  no (Code n) is = absurd is
-  no (Prop name text) is = absurd is
-  no (Out text) is = let b = begun (codes "out") _ _ is in out b.0 b.1
+pub reads_nothing : (line : List ℕ) → Lacked (codes "send ") line → Lacked (codes "attr ") line
+    → Lacked (codes "code ") line → Lacked (codes "prop ") line → line ≢ codes "print" → Lacked (codes "out") line
+    → Reads Asks line None
+reads_nothing line s a c p print o = no where
+  no : (act : Act) → Asks act line → ⊥
+  no (Send l id) is = let b = begun (codes "send ") _ _ is in s b.0 b.1
+  no (Attr name text) is = let b = begun (codes "attr ") _ _ is in a b.0 b.1
+  no (Code n) is = let b = begun (codes "code ") _ _ is in c b.0 b.1
+  no (Prop name text) is = let b = begun (codes "prop ") _ _ is in p b.0 b.1
+  no (Out text) is = let b = begun (codes "out") _ _ is in o b.0 b.1
   no Print is = print is
 
 -- ---- a name and a text
@@ -267,48 +207,14 @@ module _ (bytes : List ℕ) (n : ℕ) (run : IsRun 32 bytes n) where
       let same = meet named is in
       absurd (omega (arith, none, length-take n bytes, ap length same.0, ap length is.first.same, is.first.some_byte))
 
-pub named_attr : (bytes : List ℕ) (found : Option (List ℕ × List ℕ)) → Reads IsNamed bytes found
-    → Reads is_attr bytes (option_map (λ n. Attr n.0 n.1) found)
-named_attr bytes found is = reads_as IsNamed is_attr (λ n. Attr n.0 n.1) bytes bytes (λ n h. h) back found is where
-  back : (act : Act) → is_attr act bytes → (n : List ℕ × List ℕ) × (act ≡ Attr n.0 n.1) × IsNamed n bytes
-  back (Send l id) h = absurd h
-  back (Attr name text) h = ((name, text), refl, h)
-  back (Code n) h = absurd h
-  back (Prop name text) h = absurd h
-  back (Out text) h = absurd h
-  back Print h = absurd h
-
-pub named_prop : (bytes : List ℕ) (found : Option (List ℕ × List ℕ)) → Reads IsNamed bytes found
-    → Reads is_prop bytes (option_map (λ n. Prop n.0 n.1) found)
-named_prop bytes found is = reads_as IsNamed is_prop (λ n. Prop n.0 n.1) bytes bytes (λ n h. h) back found is where
-  back : (act : Act) → is_prop act bytes → (n : List ℕ × List ℕ) × (act ≡ Prop n.0 n.1) × IsNamed n bytes
-  back (Send l id) h = absurd h
-  back (Attr name text) h = absurd h
-  back (Code n) h = absurd h
-  back (Prop name text) h = ((name, text), refl, h)
-  back (Out text) h = absurd h
-  back Print h = absurd h
-
 -- ---- a number
 
-pub reads_number : (bytes : List ℕ) (found : Option ℕ) → found ≡ decimal_in most_16 bytes
-    → Reads is_code bytes (option_map Code found)
-reads_number bytes None same = no where
-  no : (act : Act) → is_code act bytes → ⊥
-  no (Send l id) is = absurd is
-  no (Attr name text) is = absurd is
-  no (Code n) is = let both : None ≡ Some n = same ∙ is in cc
-  no (Prop name text) is = absurd is
-  no (Out text) is = absurd is
-  no Print is = absurd is
-reads_number bytes (Some n) same = (sym same, alone) where
-  alone : (act : Act) → is_code act bytes → act ≡ Code n
-  alone (Send l id) is = absurd is
-  alone (Attr name text) is = absurd is
-  alone (Code m) is = let both : Some n ≡ Some m = same ∙ is in let one : m ≡ n = cc in ap Code one
-  alone (Prop name text) is = absurd is
-  alone (Out text) is = absurd is
-  alone Print is = absurd is
+pub reads_number : (rest : List ℕ) (found : Option ℕ) → found ≡ decimal_in most_16 rest
+    → Reads Asks (codes "code " ++ rest) (option_map Code found)
+reads_number rest found same = reads_code rest found (by found same) where
+  by : (found : Option ℕ) → found ≡ decimal_in most_16 rest → Reads Number rest found
+  by None same = λ n is. let both : None ≡ Some n = same ∙ is in cc
+  by (Some n) same = (sym same, λ m is. let both : Some n ≡ Some m = same ∙ is in cc)
 
 -- ---- a command
 
@@ -325,45 +231,25 @@ run_all line n run none = stop run.stops where
       (sym (take-append-drop n line) ∙ ap (λ l. take n line ++ l) is) none))
 
 module _ (line : List ℕ) where
-  no_send : ((l id : List ℕ) → Command l id line → ⊥) → Reads is_send line None
-  no_send none = no where
-    no : (act : Act) → is_send act line → ⊥
-    no (Send l id) is = none l id is
-    no (Attr name text) is = absurd is
-    no (Code n) is = absurd is
-    no (Prop name text) is = absurd is
-    no (Out text) is = absurd is
-    no Print is = absurd is
+  pub no_command : (IsCommand line → ⊥) → Reads Sent line None
+  no_command none = λ id is. none is.is_command
 
-  pub no_command : (IsCommand line → ⊥) → Reads is_send line None
-  no_command none = no_send (λ l id is. none (subst IsCommand (sym is.same) is.is_command))
-
-  pub no_line : ((parts : Line) → spelt line parts → ⊥) → Reads is_send line None
-  no_line none = no_send (λ l id is. none is.parts (subst (λ (b : List ℕ). spelt b is.parts) (sym is.same) is.is_spelt))
+  pub no_line : ((parts : Line) → spelt line parts → ⊥) → Reads Sent line None
+  no_line none = λ id is. none is.parts is.is_spelt
 
   module _ (parts : Line) (only : (other : Line) → spelt line other → other ≡ parts) where
-    asked : (l id : List ℕ) → Command l id line → given letter.i parts.options ≡ Some id
-    asked l id is =
-        ap (λ (p : Line). given letter.i p.options) (sym (only is.parts
-        (subst (λ (b : List ℕ). spelt b is.parts) (sym is.same) is.is_spelt))) ∙ is.asks
+    asked : (id : List ℕ) → Sent id line → given letter.i parts.options ≡ Some id
+    asked id is = ap (λ (p : Line). given letter.i p.options) (sym (only is.parts is.is_spelt)) ∙ is.asks
 
-    pub no_id : given letter.i parts.options ≡ None → Reads is_send line None
-    no_id none = no_send (λ l id is. let both : None ≡ Some id = sym none ∙ asked l id is in cc)
+    pub no_id : given letter.i parts.options ≡ None → Reads Sent line None
+    no_id none = λ id is. let both : None ≡ Some id = sym none ∙ asked id is in cc
 
     pub reads_command : (id : List ℕ) → IsCommand line → spelt line parts → given letter.i parts.options ≡ Some id
-        → Reads is_send line (Some (Send line id))
-    reads_command id is spells asks =
-        (record { same = refl; is_command = is; parts = parts; is_spelt = spells; asks = asks }, alone) where
-          alone : (act : Act) → is_send act line → act ≡ Send line id
-          alone (Send l other) h =
-              let both : Some id ≡ Some other = sym asks ∙ asked l other h in
-              let one : other ≡ id = cc in
-              λ i. Send (sym h.same i) (one i)
-          alone (Attr name text) h = absurd h
-          alone (Code n) h = absurd h
-          alone (Prop name text) h = absurd h
-          alone (Out text) h = absurd h
-          alone Print h = absurd h
+        → Reads Sent line (Some id)
+    reads_command id is spells asks = (
+      record { same = refl; is_command = is; parts = parts; is_spelt = spells; asks = asks },
+      λ other h. let both : Some id ≡ Some other = sym asks ∙ asked other h in cc,
+    )
 
 -- ---- answers
 

@@ -1,8 +1,8 @@
 //! The instruction of a line.
-ghost use Rattle.std.specs.Prelude.{◌≡◌, ◌≢◌, ◌↔◌, ◌++◌, ℕ, List, IfOk, IsTrue, MatchOption, option_map};
+ghost use Rattle.std.specs.Prelude.{◌≡◌, ◌≢◌, ◌↔◌, ◌++◌, ℕ, List, IfOk, IsTrue, MatchOption, codes, option_map};
 ghost use Rattle.dp_wire.specs.Frames.{IsCommand};
 ghost use Rattle.dp_ide.specs.Scripts.{Asks};
-ghost use Rattle.dp_ide.specs.inner.Readers.{IsNamed, Reads, is_attr, is_code, is_out, is_prop, is_send};
+ghost use Rattle.dp_ide.specs.inner.Readers.{IsNamed, Reads};
 
 use crate::instruction::Act;
 use crate::lines::{behind, run_before};
@@ -27,7 +27,7 @@ fn is_command(line: &[u8]) -> bool
 
 /// The command of a `send`: a line with an `-i`.
 fn send_in(alloc: Global, line: &[u8]) -> Result<Option<Act>, Memory>
-    ensures { IfOk result (Reads is_send line.now) }
+    ensures { IfOk result (Reads Asks (codes "send " ++ line.now)) }
 {
     if !is_command(line) {
         return Ok(None);
@@ -64,7 +64,7 @@ fn named_in(alloc: Global, bytes: &[u8]) -> Result<Option<Named>, Memory>
 }
 
 fn attr_in(alloc: Global, bytes: &[u8]) -> Result<Option<Act>, Memory>
-    ensures { IfOk result (Reads is_attr bytes.now) }
+    ensures { IfOk result (Reads Asks (codes "attr " ++ bytes.now)) }
 {
     match named_in(alloc, bytes)? {
         None => Ok(None),
@@ -73,7 +73,7 @@ fn attr_in(alloc: Global, bytes: &[u8]) -> Result<Option<Act>, Memory>
 }
 
 fn prop_in(alloc: Global, bytes: &[u8]) -> Result<Option<Act>, Memory>
-    ensures { IfOk result (Reads is_prop bytes.now) }
+    ensures { IfOk result (Reads Asks (codes "prop " ++ bytes.now)) }
 {
     match named_in(alloc, bytes)? {
         None => Ok(None),
@@ -82,7 +82,7 @@ fn prop_in(alloc: Global, bytes: &[u8]) -> Result<Option<Act>, Memory>
 }
 
 fn code_in(bytes: &[u8]) -> Option<Act>
-    ensures { Reads is_code bytes.now result }
+    ensures { Reads Asks (codes "code " ++ bytes.now) result }
 {
     match number_in(bytes) {
         None => None,
@@ -90,17 +90,10 @@ fn code_in(bytes: &[u8]) -> Option<Act>
     }
 }
 
-/// What an `out` or a `print` asks for.
-fn out_in(alloc: Global, line: &[u8]) -> Result<Option<Act>, Memory>
-    ensures { IfOk result (Reads is_out line.now) }
+fn out_in(alloc: Global, bytes: &[u8]) -> Result<Option<Act>, Memory>
+    ensures { IfOk result (Reads Asks (codes "out" ++ bytes.now)) }
 {
-    if line == b"print".as_slice() {
-        return Ok(Some(Act::Print));
-    }
-    let Some(rest) = behind(line, b"out") else {
-        return Ok(None);
-    };
-    match text_behind(alloc, rest)? {
+    match text_behind(alloc, bytes)? {
         None => Ok(None),
         Some(text) => Ok(Some(Act::Out(text))),
     }
@@ -122,5 +115,11 @@ pub(crate) fn act_in(alloc: Global, line: &[u8]) -> Result<Option<Act>, Memory>
     if let Some(rest) = behind(line, b"prop ") {
         return prop_in(alloc, rest);
     }
-    out_in(alloc, line)
+    if line == b"print".as_slice() {
+        return Ok(Some(Act::Print));
+    }
+    match behind(line, b"out") {
+        Some(rest) => out_in(alloc, rest),
+        None => Ok(None),
+    }
 }

@@ -43,31 +43,10 @@ pub record IsRun (mark : ℕ) (bytes : List ℕ) (count : ℕ) : Type 0 where
   pub stops : (drop count bytes ≡ [])
       ⊎ ((rest : List ℕ) × (drop count bytes ≡ mark ∷ rest))
 
--- ---- each instruction behind its word
+-- ---- a name and a text
 
 abbrev pub IsNamed : List ℕ × List ℕ → Rule
 IsNamed named = Name named.0 >> Behind named.1
-
-abbrev pub is_send : Act → Rule
-is_send (Send line id) = Command line id
-is_send other = λ bytes. ⊥
-
-abbrev pub is_attr : Act → Rule
-is_attr (Attr name text) = IsNamed (name, text)
-is_attr other = λ bytes. ⊥
-
-abbrev pub is_prop : Act → Rule
-is_prop (Prop name text) = IsNamed (name, text)
-is_prop other = λ bytes. ⊥
-
-abbrev pub is_code : Act → Rule
-is_code (Code n) = Number n
-is_code other = λ bytes. ⊥
-
-abbrev pub is_out : Act → Rule
-is_out (Out text) = Mark (codes "out") >> Behind text
-is_out Print = Mark (codes "print")
-is_out other = λ bytes. ⊥
 
 -- ---- whole lines
 

@@ -1,13 +1,13 @@
 use Rattle.std.proofs.Common.{Some, None}
-use Rattle.dp_ide.proofs.ActLaws.{named_attr}
+use Rattle.dp_ide.proofs.ActLaws.{reads_attr}
 use Rattle.dp_ide.proofs.acts.attr_in.Goals as goal
 
 pub returns-in-None : goal.returns-in-None
 returns-in-None c =
     let read = rw c.in-None.is at c.in_ok-named_in.ensures in
-    named_attr c.args.bytes.now None read
+    reads_attr c.args.bytes.now None read
 
 pub returns-in-Some : goal.returns-in-Some
 returns-in-Some c =
     let read = rw c.in-Some.is at c.in_ok-named_in.ensures in
-    named_attr c.args.bytes.now (Some (c.in-Some.field-0.name, c.in-Some.field-0.text)) read
+    reads_attr c.args.bytes.now (Some (c.in-Some.field-0.name, c.in-Some.field-0.text)) read
