@@ -95,7 +95,7 @@ module _ (status : ℕ) (words : List (List ℕ)) (task : Task) (old new : Seen)
   pub list_refused_told : (events : List ℕ) (ask : Invocation) (line : ℕ) (made : Result Bundle BundleError)
       → IsReplay words events ask → IsNoList old.shelf.files events line
       → FilesMake old.shelf.files ask.names made → (status ≡ 204) ⊎ (status ≡ 209)
-          ⊎ Rose old.shelf.faults new.shelf.faults
+      ⊎ Rose old.shelf.faults new.shelf.faults
   list_refused_told events ask line made is bad holds =
       by told (list_end old.shelf.files old.shelf.faults new.shelf.faults
       (changed old.out new.out) events ask line made bad holds refused.failure refused.name.now
