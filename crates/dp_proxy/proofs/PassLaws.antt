@@ -14,7 +14,7 @@ use Rattle.dp_proxy.specs.declared.events.Effect.{Effect}
 use Rattle.dp_proxy.specs.declared.events.Effect.TheVariants.{Nothing, ToEngine, ToIde}
 use Rattle.dp_proxy.specs.declared.passes.Passing.{Passing}
 use Rattle.dp_proxy.specs.declared.passes.Passing.TheVariants as passing
-use Rattle.dp_proxy.specs.Links.{brought, stream, handed, is_broken, told, passed, ends}
+use Rattle.dp_proxy.specs.Links.{brought, stream, handed, is_broken, effect_of, passed, ends}
 use Rattle.dp_proxy.specs.Places.{BreaksAt}
 use Rattle.dp_proxy.specs.inner.Lanes.{FollowBoth, IsBrokenAt, BrokenPlace}
 use Rattle.dp_proxy.specs.inner.Acts.{Passes}
@@ -64,31 +64,33 @@ broken_up acts (Some offset) good bad = record {
 
 -- ---- what an act is told
 
-told_some : (out : List ℕ → Effect) (bytes : List ℕ) (broken : Bool) → 0 < length bytes
-    → told out bytes broken ≡ Some (out bytes)
-told_some out [] broken some = absurd (omega arith)
-told_some out (b ∷ bytes) broken some = refl
+effect_some : (out : List ℕ → Effect) (bytes : List ℕ) (broken : Bool) → 0 < length bytes
+    → effect_of out bytes broken ≡ Some (out bytes)
+effect_some out [] broken some = absurd (omega arith)
+effect_some out (b ∷ bytes) broken some = refl
 
 module _ (acts : List Act) (act : Act) (kind : LaneKind) (to : List ℕ → Effect) (out : List ℕ)
-    (is : passed acts act ≡ told to (handed kind acts act) (is_broken (acts ++ act ∷ [])))
+    (is : passed acts act ≡ effect_of to (handed kind acts act) (is_broken (acts ++ act ∷ [])))
     (end : ends acts act ≡ is_none (passed acts act))
     (put : handed kind acts act ≡ out) where
-  told_frames : 0 < length out → Passes acts act (passing.Told (to out))
-  told_frames some =
-      let now : passed acts act ≡ Some (to out) = is ∙ ap (λ h. told to h (is_broken (acts ++ act ∷ []))) put
-      ∙ told_some to out (is_broken (acts ++ act ∷ [])) some in
+  effect_frames : 0 < length out → Passes acts act (passing.Told (to out))
+  effect_frames some =
+      let now : passed acts act ≡ Some (to out) = is ∙ ap (λ h. effect_of to h (is_broken (acts ++ act ∷ []))) put
+      ∙ effect_some to out (is_broken (acts ++ act ∷ [])) some in
       (now, end ∙ ap is_none now)
 
   nothing : out ≡ [] → (broken : Bool) → is_broken (acts ++ act ∷ []) ≡ broken
       → passed acts act ≡ (if broken then None else Some Nothing)
-  nothing none broken e = is ∙ ap (λ h. told to h (is_broken (acts ++ act ∷ []))) (put ∙ none) ∙ ap (told to []) e
+  nothing none broken e = is ∙ ap (λ h. effect_of to h (is_broken (acts ++ act ∷ []))) (put ∙ none) ∙ ap
+      (effect_of to []) e
 
-  told_nothing : out ≡ [] → is_broken (acts ++ act ∷ []) ≡ false → Passes acts act (passing.Told Nothing)
-  told_nothing none whole =
+  effect_nothing : out ≡ [] → is_broken (acts ++ act ∷ []) ≡ false → Passes acts act (passing.Told Nothing)
+  effect_nothing none whole =
       let now : passed acts act ≡ Some Nothing = nothing none false whole in (now, end ∙ ap is_none now)
 
-  told_broken : out ≡ [] → (offset : ℕ) → IsBrokenAt (acts ++ act ∷ []) offset → Passes acts act (passing.Broken offset)
-  told_broken none offset at =
+  effect_broken : out ≡ [] → (offset : ℕ) → IsBrokenAt (acts ++ act ∷ []) offset → Passes acts act
+      (passing.Broken offset)
+  effect_broken none offset at =
       let now : passed acts act ≡ None = nothing none true at.broken in (now, end ∙ ap is_none now, at.place)
 
 -- ---- bytes that the IDE gives
@@ -107,15 +109,15 @@ module _ (acts : List Act) (bytes : List ℕ) (up down after : Lane) (out : List
       (stream_push Down acts (Given bytes)) ∙ sym carries.put
 
   pub given_frames : 0 < length out → Passes acts (Given bytes) (passing.Told (ToEngine out))
-  given_frames some = told_frames acts (Given bytes) Down ToEngine out refl refl given_put some
+  given_frames some = effect_frames acts (Given bytes) Down ToEngine out refl refl given_put some
 
   pub given_nothing : out ≡ [] → is_broken (acts ++ Given bytes ∷ []) ≡ false
       → Passes acts (Given bytes) (passing.Told Nothing)
-  given_nothing none whole = told_nothing acts (Given bytes) Down ToEngine out refl refl given_put none whole
+  given_nothing none whole = effect_nothing acts (Given bytes) Down ToEngine out refl refl given_put none whole
 
   pub given_broken : out ≡ [] → (offset : ℕ) → IsBrokenAt (acts ++ Given bytes ∷ []) offset
       → Passes acts (Given bytes) (passing.Broken offset)
-  given_broken none offset at = told_broken acts (Given bytes) Down ToEngine out refl refl given_put none offset at
+  given_broken none offset at = effect_broken acts (Given bytes) Down ToEngine out refl refl given_put none offset at
 
 -- ---- bytes that were read of the engine
 
@@ -133,23 +135,23 @@ module _ (acts : List Act) (bytes : List ℕ) (up down after : Lane) (out : List
       (stream_push Up acts (Moved bytes)) ∙ sym carries.put
 
   pub moved_frames : 0 < length out → Passes acts (Moved bytes) (passing.Told (ToIde out))
-  moved_frames some = told_frames acts (Moved bytes) Up ToIde out refl refl moved_put some
+  moved_frames some = effect_frames acts (Moved bytes) Up ToIde out refl refl moved_put some
 
   pub moved_nothing : out ≡ [] → is_broken (acts ++ Moved bytes ∷ []) ≡ false
       → Passes acts (Moved bytes) (passing.Told Nothing)
-  moved_nothing none whole = told_nothing acts (Moved bytes) Up ToIde out refl refl moved_put none whole
+  moved_nothing none whole = effect_nothing acts (Moved bytes) Up ToIde out refl refl moved_put none whole
 
   pub moved_broken : out ≡ [] → (offset : ℕ) → IsBrokenAt (acts ++ Moved bytes ∷ []) offset
       → Passes acts (Moved bytes) (passing.Broken offset)
-  moved_broken none offset at = told_broken acts (Moved bytes) Up ToIde out refl refl moved_put none offset at
+  moved_broken none offset at = effect_broken acts (Moved bytes) Up ToIde out refl refl moved_put none offset at
 
 -- ---- the closing
 
 pub closed_whole : (acts : List Act) → is_broken acts ≡ false → Passes acts Closed passing.Closed
-closed_whole acts whole = (ap (told ToIde []) whole, refl)
+closed_whole acts whole = (ap (effect_of ToIde []) whole, refl)
 
 pub closed_broken : (acts : List Act) (offset : ℕ) → IsBrokenAt acts offset → Passes acts Closed (passing.Broken offset)
-closed_broken acts offset at = (ap (told ToIde []) at.broken, refl, moved at.place) where
+closed_broken acts offset at = (ap (effect_of ToIde []) at.broken, refl, moved at.place) where
   down : stream Down acts ≡ stream Down (acts ++ Closed ∷ [])
   down = stream_same Down acts Closed refl
 

@@ -16,7 +16,7 @@ use Rattle.dp_proxy.specs.declared.kept.Kept.{Kept}
 use Rattle.dp_proxy.specs.declared.kept.Kept.TheVariants as keep
 use Rattle.dp_proxy.specs.declared.kept.Step.{Step}
 use Rattle.dp_proxy.specs.Pasts.{Link, New, Past, Lead, lead, came, start, past_of}
-use Rattle.dp_proxy.specs.Invariant.{Keeps, kept_at, IsKept, Stands, StandsAfter, session_in, IsSound, AreSound}
+use Rattle.dp_proxy.specs.Invariant.{Keeps, kept_at, IsKept, Represents, RepresentsAfter, session_in, IsSound, AreSound}
 use Rattle.dp_proxy.specs.Steps.{Answers, AnswersAt, counted}
 use Rattle.dp_proxy.specs.inner.Acts.{Leads, Moves, LeavesOthers, IsOwn}
 
@@ -30,7 +30,7 @@ module _ (old new : Keeps) (e : Event) (step : Step) (others : (o : ℕ) → (e.
     (here : kept_at new.links e.link ≡ step.kept) where
   -- ---- standing for the events
 
-  module _ (events : List Event) (stands : Stands old events)
+  module _ (events : List Event) (stands : Represents old events)
       (leads : Leads old.journal ((past_of events).link e.link) e.act new.journal step) where
     past : Past
     past = past_of events
@@ -44,7 +44,8 @@ module _ (old new : Keeps) (e : Event) (step : Step) (others : (o : ℕ) → (e.
     led = lead (past_of events).journal ((past_of events).link e.link) e.act
 
     moved : new.journal ≡ (lead old.journal ((past_of events).link e.link) e.act).journal
-        → IsKept step.kept (lead old.journal ((past_of events).link e.link) e.act).link → Stands new (events ++ e ∷ [])
+        → IsKept step.kept (lead old.journal ((past_of events).link e.link) e.act).link → Represents new
+        (events ++ e ∷ [])
     moved j k = record {
       journal = j ∙ ap (λ (i : List Entry). (lead i ((past_of events).link e.link) e.act).journal) stands.journal
           ∙ ap (λ (p : Past). p.journal) (sym (past_push events e));
@@ -70,7 +71,7 @@ module _ (old new : Keeps) (e : Event) (step : Step) (others : (o : ℕ) → (e.
           rw isnt (subst (λ (x : Option Kept). IsKept x ((past_of events).link o)) (sym (others o (other_way o isnt)))
           (stands.links o))
 
-    stayed : new.journal ≡ old.journal → step.kept ≡ None → kept_at old.links e.link ≡ None → Stands new events
+    stayed : new.journal ≡ old.journal → step.kept ≡ None → kept_at old.links e.link ≡ None → Represents new events
     stayed j none before = record {
       journal = j ∙ stands.journal;
       links =
@@ -83,11 +84,11 @@ module _ (old new : Keeps) (e : Event) (step : Step) (others : (o : ℕ) → (e.
           subst (λ (n : ℕ). kept_at new.links n ≡ kept_at old.links n) same (here ∙ none ∙ sym before)
       at o false isnt = others o isnt
 
-    pub stands_after : (step.kept ≡ None → kept_at old.links e.link ≡ None) → StandsAfter new events e step.told
-    stands_after made = by step.told leads.moves where
+    pub represents_after : (step.kept ≡ None → kept_at old.links e.link ≡ None) → RepresentsAfter new events e step.told
+    represents_after made = by step.told leads.moves where
       by : (told : Result Effect ProxyError)
           → Moves old.journal ((past_of events).link e.link) e.act new.journal step.kept told
-          → StandsAfter new events e told
+          → RepresentsAfter new events e told
       by (Ok effect) m = moved m.0 m.1
       by (Err BadInit) m = stayed m.0 m.1 (made m.1)
       by (Err (BadFrame offset)) m = moved m.0 m.1

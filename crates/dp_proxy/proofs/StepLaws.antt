@@ -6,9 +6,9 @@ use Rattle.dp_proxy.specs.declared.kept.Kept.{Kept}
 use Rattle.dp_proxy.specs.declared.kept.Kept.TheVariants as keep
 use Rattle.dp_proxy.specs.declared.kept.Step.{Step}
 use Rattle.dp_proxy.specs.Pasts.{Link, past_of}
-use Rattle.dp_proxy.specs.Invariant.{Keeps, kept_at, IsKept, Stands, StandsAfter, IsSound, AreSound}
+use Rattle.dp_proxy.specs.Invariant.{Keeps, kept_at, IsKept, Represents, RepresentsAfter, IsSound, AreSound}
 use Rattle.dp_proxy.specs.inner.Acts.{Leads, LeavesOthers, IsOwn}
-use Rattle.dp_proxy.proofs.ProxyLaws.{stands_after, sound_after, mid_others, mid_here, put_others, put_here, over_if, over_sound, over_own}
+use Rattle.dp_proxy.proofs.ProxyLaws.{represents_after, sound_after, mid_others, mid_here, put_others, put_here, over_if, over_sound, over_own}
 
 module _ (registry next : List Entry) (links mid : List (ℕ × Kept)) (number : ℕ) (taken : Option Kept)
     (was : taken ≡ kept_at links number)
@@ -54,16 +54,16 @@ module _ (registry next : List Entry) (links mid : List (ℕ × Kept)) (number :
         (subst (λ (t : Option Kept). IsOwn registry t kept) was own) leaves_it
 
 -- what a step leaves stands for the events with it
-pub stands_put : (registry next : List Entry) (links mid after : List (ℕ × Kept)) (e : Event) (taken : Option Kept)
+pub represents_put : (registry next : List Entry) (links mid after : List (ℕ × Kept)) (e : Event) (taken : Option Kept)
     (step : Step) → taken ≡ kept_at links e.link
     → ((o : ℕ) → kept_at mid o ≡ (if e.link == o then (if is_some taken then Some keep.Over else None)
     else kept_at links o))
     → ((o : ℕ) → kept_at after o ≡ (if (e.link == o) && is_some step.kept then step.kept else kept_at mid o))
     → (step.kept ≡ None → taken ≡ None)
     → ((link : Link) → IsKept taken link → Leads registry link e.act next step) → (events : List Event)
-    → Stands (record { journal = registry; links = links }) events
-    → StandsAfter (record { journal = next; links = after }) events e step.told
-stands_put registry next links mid after e taken step was left put made leads events stands =
+    → Represents (record { journal = registry; links = links }) events
+    → RepresentsAfter (record { journal = next; links = after }) events e step.told
+represents_put registry next links mid after e taken step was left put made leads events stands =
     let left_it : (o : ℕ)
     → kept_at mid o ≡ (if e.link == o then (if is_some (kept_at links e.link) then Some keep.Over else None)
     else kept_at links o) =
@@ -71,7 +71,7 @@ stands_put registry next links mid after e taken step was left put made leads ev
     else kept_at links o) was in
     let made_it : step.kept ≡ None → kept_at links e.link ≡ None = λ n. sym was ∙ made n in
     let link = (past_of events).link e.link in
-    stands_after (record { journal = registry; links = links }) (record { journal = next; links = after }) e step
+    represents_after (record { journal = registry; links = links }) (record { journal = next; links = after }) e step
     (put_others links mid after e.link step.kept left_it put)
     (put_here links mid after e.link step.kept left_it put made_it) events stands
     (leads link (subst (λ (t : Option Kept). IsKept t link) (sym was) (stands.links e.link))) made_it

@@ -34,7 +34,7 @@ use Rattle.dp_proxy.specs.declared.kept.Kept.TheVariants as keep
 use Rattle.dp_proxy.specs.declared.kept.Step.{Step}
 use Rattle.dp_proxy.specs.Calls.{call_of}
 use Rattle.dp_proxy.specs.Links.{passed, ends}
-use Rattle.dp_proxy.specs.Pasts.{Link, New, Asking, Settled, Joined, Ended, Refused, Lead, lead, quiet, question, listening, answered, opened, admitted, admission}
+use Rattle.dp_proxy.specs.Pasts.{Link, New, Asking, Settled, Joined, Ended, Refused, Lead, lead, without_effect, question, listening, answered, opened, admitted, admission}
 use Rattle.dp_proxy.specs.Replies.{entry_of, verdict_on, reply_frame, registered, registered_by}
 use Rattle.dp_proxy.specs.Invariant.{IsOver, IsKept, session_in}
 use Rattle.dp_proxy.specs.Steps.{ComesWithKey}
@@ -43,7 +43,8 @@ use Rattle.dp_proxy.specs.inner.Acts.{Hears, Passes, Leads, Moves, LeavesOthers,
 
 -- ---- rows
 
-pub ide_comes : (journal : List Entry) (host : List ℕ) → lead journal New (Ide host) ≡ quiet journal (Asking host [])
+pub ide_comes : (journal : List Entry) (host : List ℕ) → lead journal New (Ide host) ≡ without_effect journal
+    (Asking host [])
 unfolding lead
 ide_comes journal host = refl
 
@@ -53,24 +54,24 @@ pub engine_comes : (journal : List Entry) (key : List ℕ) (verdict : Result Pas
 unfolding lead
 engine_comes journal key verdict e = ap (opened journal key) (sym e)
 
-pub given_before : (journal : List Entry) (bytes : List ℕ) → lead journal New (Given bytes) ≡ quiet journal New
+pub given_before : (journal : List Entry) (bytes : List ℕ) → lead journal New (Given bytes) ≡ without_effect journal New
 unfolding lead
 given_before journal bytes = refl
 
-pub moved_before : (journal : List Entry) (bytes : List ℕ) → lead journal New (Moved bytes) ≡ quiet journal New
+pub moved_before : (journal : List Entry) (bytes : List ℕ) → lead journal New (Moved bytes) ≡ without_effect journal New
 unfolding lead
 moved_before journal bytes = refl
 
-pub closed_before : (journal : List Entry) → lead journal New Closed ≡ quiet journal New
+pub closed_before : (journal : List Entry) → lead journal New Closed ≡ without_effect journal New
 unfolding lead
 closed_before journal = refl
 
-pub asked_more : (journal : List Entry) (host heard : List ℕ) (act : Act) (link : Link) → question heard act ≡ None
+pub heard_more : (journal : List Entry) (host heard : List ℕ) (act : Act) (link : Link) → question heard act ≡ None
     → listening host heard act ≡ link
-    → lead journal (Asking host heard) act ≡ quiet journal link
+    → lead journal (Asking host heard) act ≡ without_effect journal link
 unfolding lead
-asked_more journal host heard act link none e =
-    ap (λ q. answered journal host q (listening host heard act)) none ∙ ap (quiet journal) e
+heard_more journal host heard act link none e =
+    ap (λ q. answered journal host q (listening host heard act)) none ∙ ap (without_effect journal) e
 
 abbrev pub settled : List Entry → List ℕ → List ℕ → Lead
 settled journal host command = record {
@@ -79,11 +80,11 @@ settled journal host command = record {
   effect = Some (Reply (reply_frame journal host command));
 }
 
-pub asked_all : (journal : List Entry) (host heard : List ℕ) (act : Act) (command : List ℕ)
+pub heard_all : (journal : List Entry) (host heard : List ℕ) (act : Act) (command : List ℕ)
     → question heard act ≡ Some command
     → lead journal (Asking host heard) act ≡ settled journal host command
 unfolding lead
-asked_all journal host heard act command e = ap (λ q. answered journal host q (listening host heard act)) e
+heard_all journal host heard act command e = ap (λ q. answered journal host q (listening host heard act)) e
 
 module _ (journal : List Entry) (key : List ℕ) (pass : Pass) (acts : List Act) (act : Act) where
   abbrev pub on : Lead
@@ -107,7 +108,7 @@ module _ (journal : List Entry) (key : List ℕ) (pass : Pass) (acts : List Act)
   joined_over e = ap (λ t. if t then over else on) e
 
 pub over_still : (journal : List Entry) (link : Link) (act : Act) → IsOver link
-    → lead journal link act ≡ quiet journal link
+    → lead journal link act ≡ without_effect journal link
 unfolding lead
 over_still journal New act h = absurd h
 over_still journal (Asking host heard) act h = absurd h
@@ -175,18 +176,19 @@ over_comes (Refused key why) act h = tt
 
 module _ (journal next : List Entry) (link : Link) (act : Act) where
   -- an effect
-  told_leads : (t : Lead) (kept : Option Kept) (effect : Effect) → lead journal link act ≡ t → ComesWithKey link act
+  effect_leads : (t : Lead) (kept : Option Kept) (effect : Effect) → lead journal link act ≡ t → ComesWithKey link act
       → t.effect ≡ Some effect
       → next ≡ t.journal → IsKept kept t.link → Leads journal link act next (record { kept = kept; told = Ok effect })
-  told_leads t kept effect e comes told noted is = record {
+  effect_leads t kept effect e comes told noted is = record {
     answers = (comes, ap (λ (u : Lead). u.effect) e ∙ told);
     moves = (noted ∙ sym (ap (λ (u : Lead). u.journal) e), subst (λ (u : Lead). IsKept kept u.link) (sym e) is);
   }
 
-  pub quiet_leads : (after : Link) (kept : Option Kept) → lead journal link act ≡ quiet journal after
+  pub without_effect_leads : (after : Link) (kept : Option Kept) → lead journal link act ≡ without_effect journal after
       → ComesWithKey link act → next ≡ journal → IsKept kept after
       → Leads journal link act next (record { kept = kept; told = Ok Nothing })
-  quiet_leads after kept e comes same is = told_leads (quiet journal after) kept Nothing e comes refl same is
+  without_effect_leads after kept e comes same is = effect_leads
+      (without_effect journal after) kept Nothing e comes refl same is
 
 -- an engine
 
@@ -198,7 +200,7 @@ module _ (journal next : List Entry) (key : List ℕ) (is_key : IsKey key) where
     same_err : (a b : Refusal) → ◌≡◌ {A = Result Pass Refusal} (Err a) (Err b) → a ≡ b
     same_err a b e = cc
   refused_leads why known (inr verdict) put =
-      told_leads journal next New (Engine key) (opened journal key (Err why)) (Some keep.Over) (Turned why)
+      effect_leads journal next New (Engine key) (opened journal key (Err why)) (Some keep.Over) (Turned why)
       (engine_comes journal key (Err why) verdict) is_key refl put tt
 
   pub admitted_leads : (pass : Pass) (up down : Lane) → Follows Up up [] → Follows Down down []
@@ -213,7 +215,7 @@ module _ (journal next : List Entry) (key : List ℕ) (is_key : IsKey key) where
     not_ok : (a : Pass) (b : Refusal) → ◌≡◌ {A = Result Pass Refusal} (Ok a) (Err b) → ⊥
     not_ok a b e = cc
   admitted_leads pass up down p q (inr verdict) put =
-      told_leads journal next New (Engine key) (opened journal key (Ok pass)) (Some (keep.Joined pass up down))
+      effect_leads journal next New (Engine key) (opened journal key (Ok pass)) (Some (keep.Joined pass up down))
       (Admitted pass.session pass.host pass.port)
       (engine_comes journal key (Ok pass) verdict) is_key refl put
       (record { key = key; acts = []; is = refl; packets = p; commands = q })
@@ -230,21 +232,22 @@ module _ (journal next : List Entry) (host heard : List ℕ) (act : Act) where
       → next ≡ journal
       → Leads journal (Asking host heard) act next (record { kept = kept; told = Ok Nothing })
   more_leads now kept h is same =
-      quiet_leads journal next (Asking host heard) act (Asking host now) kept
-      (asked_more journal host heard act (Asking host now) h.0 (h.2 host)) tt same is
+      without_effect_leads journal next (Asking host heard) act (Asking host now) kept
+      (heard_more journal host heard act (Asking host now) h.0 (h.2 host)) tt same is
 
   pub silent_leads : (now : List ℕ) → Hears heard act Silence now → next ≡ journal
       → Leads journal (Asking host heard) act next (record { kept = Some keep.Over; told = Ok Nothing })
   silent_leads now h same =
-      quiet_leads journal next (Asking host heard) act (Settled host []) (Some keep.Over)
-      (asked_more journal host heard act (Settled host []) h.0 (h.1 host)) tt same tt
+      without_effect_leads journal next (Asking host heard) act (Settled host []) (Some keep.Over)
+      (heard_more journal host heard act (Settled host []) h.0 (h.1 host)) tt same tt
 
-  pub asked_leads : (command frame : List ℕ) → Hears heard act Asked command → frame ≡ reply_frame journal host command
+  pub question_leads : (command frame : List ℕ) → Hears heard act Asked command → frame
+      ≡ reply_frame journal host command
       → next ≡ registered journal host command
       → Leads journal (Asking host heard) act next (record { kept = Some keep.Over; told = Ok (Reply frame) })
-  asked_leads command frame h is put =
-      told_leads journal next (Asking host heard) act (settled journal host command) (Some keep.Over) (Reply frame)
-      (asked_all journal host heard act command h) tt
+  question_leads command frame h is put =
+      effect_leads journal next (Asking host heard) act (settled journal host command) (Some keep.Over) (Reply frame)
+      (heard_all journal host heard act command h) tt
       (ap (λ (f : List ℕ). Some (Reply f)) (sym is)) put tt
 
 -- a session
@@ -255,7 +258,7 @@ module _ (journal next : List Entry) (key : List ℕ) (pass : Pass) (acts : List
       → Leads journal (Joined key pass acts) act next (record
       { kept = Some (keep.Joined pass up down); told = Ok effect })
   on_leads up down effect p f same =
-      told_leads journal next (Joined key pass acts) act (on journal key pass acts act)
+      effect_leads journal next (Joined key pass acts) act (on journal key pass acts act)
       (Some (keep.Joined pass up down)) effect
       (joined_on journal key pass acts act p.1) tt p.0 same
       (record { key = key; acts = acts ++ act ∷ []; is = refl; packets = f.packets; commands = f.commands })
@@ -263,7 +266,7 @@ module _ (journal next : List Entry) (key : List ℕ) (pass : Pass) (acts : List
   pub closed_leads : Passes acts act passing.Closed → next ≡ journal ++ entry.Dismiss pass.session ∷ []
       → Leads journal (Joined key pass acts) act next (record { kept = Some keep.Over; told = Ok Nothing })
   closed_leads p put =
-      told_leads journal next (Joined key pass acts) act (over journal key pass acts act) (Some keep.Over) Nothing
+      effect_leads journal next (Joined key pass acts) act (over journal key pass acts act) (Some keep.Over) Nothing
       (joined_over journal key pass acts act p.1) tt p.0 put tt
 
   pub broken_leads : (offset : ℕ) → Passes acts act (Broken offset) → next ≡ journal ++ entry.Dismiss pass.session ∷ []

@@ -1,5 +1,5 @@
 -- How what a proxy keeps stands for the events that came. A reader of a step's contract takes
--- `Stands` for a name that `new` gives and `step` carries on; what it says is for the proofs.
+-- `Represents` for a name that `new` gives and `step` carries on; what it says is for the proofs.
 use Rattle.std.specs.Prelude.{◌≡◌, ℕ, true, List, Option, Some, None, Result, Ok, Err, nat_eq}
 use Rattle.std.specs.Prelude.{Contains}
 use Rattle.std.specs.Map.{lookup}
@@ -50,14 +50,14 @@ IsKept (Some (kept.Asking host heard)) link =
 IsKept (Some (kept.Joined pass up down)) link = IsCarried link pass up down
 IsKept (Some kept.Over) link = IsOver link
 
-pub record Stands (keeps : Keeps) (events : List Event) : Type 0 where
+pub record Represents (keeps : Keeps) (events : List Event) : Type 0 where
   pub journal : keeps.journal ≡ (past_of events).journal
   pub links : (number : ℕ) → IsKept (kept_at keeps.links number) ((past_of events).link number)
 
 -- it goes on standing, unless memory ran out: a proxy has then failed for good
-abbrev pub StandsAfter : Keeps → List Event → Event → Result Effect ProxyError → Type 0
-StandsAfter keeps events event (Err Memory) = Unit {0}
-StandsAfter keeps events event answer = Stands keeps (counted events event answer)
+abbrev pub RepresentsAfter : Keeps → List Event → Event → Result Effect ProxyError → Type 0
+RepresentsAfter keeps events event (Err Memory) = Unit {0}
+RepresentsAfter keeps events event answer = Represents keeps (counted events event answer)
 
 -- ---- sound without a look at the events
 

@@ -32,17 +32,17 @@ abbrev pub is_broken : List Act → Bool
 is_broken acts = is_bad Down (stream Down acts) || is_bad Up (stream Up acts)
 
 -- what is handed out; where that is nothing and the link is broken, no effect but an end
-abbrev pub told : (List ℕ → Effect) → List ℕ → Bool → Option Effect
-told out [] broken = if broken then None else Some Nothing
-told out (byte ∷ bytes) broken = Some (out (byte ∷ bytes))
+abbrev pub effect_of : (List ℕ → Effect) → List ℕ → Bool → Option Effect
+effect_of out [] broken = if broken then None else Some Nothing
+effect_of out (byte ∷ bytes) broken = Some (out (byte ∷ bytes))
 
 -- what an act leads to, after these
 abbrev pub passed : List Act → Act → Option Effect
 passed acts (Given bytes) =
-    told ToEngine (handed Down acts (Given bytes)) (is_broken (acts ++ Given bytes ∷ []))
+    effect_of ToEngine (handed Down acts (Given bytes)) (is_broken (acts ++ Given bytes ∷ []))
 passed acts (Moved bytes) =
-    told ToIde (handed Up acts (Moved bytes)) (is_broken (acts ++ Moved bytes ∷ []))
-passed acts Closed = told ToIde [] (is_broken acts)
+    effect_of ToIde (handed Up acts (Moved bytes)) (is_broken (acts ++ Moved bytes ∷ []))
+passed acts Closed = effect_of ToIde [] (is_broken acts)
 passed acts (Ide host) = Some Nothing
 passed acts (Engine key) = Some Nothing
 

@@ -34,8 +34,8 @@ pub record Lead : Type 0 where
   pub journal : List Entry
   pub effect : Option Effect
 
-abbrev pub quiet : List Entry → Link → Lead
-quiet journal link = record { link = link; journal = journal; effect = Some Nothing }
+abbrev pub without_effect : List Entry → Link → Lead
+without_effect journal link = record { link = link; journal = journal; effect = Some Nothing }
 
 -- ---- an IDE that asks
 
@@ -53,7 +53,7 @@ listening host heard Closed = Settled host []
 listening host heard act = Asking host heard
 
 abbrev pub answered : List Entry → List ℕ → Option (List ℕ) → Link → Lead
-answered journal host None link = quiet journal link
+answered journal host None link = without_effect journal link
 answered journal host (Some command) link = record {
   link = Settled host (reply_frame journal host command);
   journal = registered journal host command;
@@ -94,15 +94,15 @@ carried journal key pass acts act =
 
 -- what an act on a link leads to, where so much is known of it
 unfoldable pub lead : List Entry → Link → Act → Lead
-lead journal New (Ide host) = quiet journal (Asking host [])
+lead journal New (Ide host) = without_effect journal (Asking host [])
 lead journal New (Engine key) = opened journal key (admit_verdict journal key)
-lead journal New act = quiet journal New
+lead journal New act = without_effect journal New
 lead journal (Asking host heard) act =
     answered journal host (question heard act) (listening host heard act)
-lead journal (Settled host reply) act = quiet journal (Settled host reply)
+lead journal (Settled host reply) act = without_effect journal (Settled host reply)
 lead journal (Joined key pass acts) act = carried journal key pass acts act
-lead journal (Ended key pass acts) act = quiet journal (Ended key pass acts)
-lead journal (Refused key why) act = quiet journal (Refused key why)
+lead journal (Ended key pass acts) act = without_effect journal (Ended key pass acts)
+lead journal (Refused key why) act = without_effect journal (Refused key why)
 
 pub record Past : Type 0 where
   pub journal : List Entry

@@ -2,7 +2,7 @@
 ghost use Rattle.std.specs.Prelude.{[], List};
 ghost use Rattle.dp_proxy.specs.declared.events.Event.{Event as Came};
 ghost use Rattle.dp_proxy.specs.Pasts.{past_of};
-ghost use Rattle.dp_proxy.specs.Invariant.{Stands, StandsAfter};
+ghost use Rattle.dp_proxy.specs.Invariant.{Represents, RepresentsAfter};
 ghost use Rattle.dp_proxy.specs.Steps.{Answers, HasHost};
 
 use crate::errors::ProxyError;
@@ -35,7 +35,7 @@ impl Model for Proxy {
 impl Proxy {
     /// A proxy before any event. Takes no memory.
     pub fn new(alloc: Global) -> Proxy
-        ensures { Stands result [] }
+        ensures { Represents result [] }
     {
         Proxy {
             alloc,
@@ -51,10 +51,10 @@ impl Proxy {
     /// memory the proxy has failed for good.
     pub fn step(&mut self, event: &Event) -> Result<Effect, ProxyError>
         requires host { HasHost event.now.act }
-        ensures answers { (events : List Came) → Stands self.old events
+        ensures answers { (events : List Came) → Represents self.old events
             → Answers (past_of events) event.now.link event.now.act result }
-        ensures stands { (events : List Came) → Stands self.old events
-            → StandsAfter self.new events event.now result }
+        ensures stands { (events : List Came) → Represents self.old events
+            → RepresentsAfter self.new events event.now result }
     {
         let kept = self.links.take(event.link);
         let step = turn(self.alloc, &mut self.registry, kept, &event.act)?;

@@ -49,7 +49,7 @@ fn answer(
 }
 
 /// An act on the link of an IDE that asks.
-fn ask(
+fn listen(
     alloc: Global,
     registry: &mut Registry,
     host: Bytes,
@@ -248,7 +248,7 @@ pub(crate) fn turn(
 {
     match kept {
         None => come(alloc, registry, act),
-        Some(Kept::Asking { host, heard }) => ask(alloc, registry, host, heard, act),
+        Some(Kept::Asking { host, heard }) => listen(alloc, registry, host, heard, act),
         Some(Kept::Joined { pass, up, down }) => go_on(alloc, registry, pass, up, down, act),
         Some(Kept::Over) => Ok(Step {
             kept: Some(Kept::Over),

@@ -19,7 +19,7 @@ use Rattle.dp_proxy.specs.declared.events.Act.TheVariants.{Moved}
 use Rattle.dp_proxy.specs.Links.{brought, stream, completed, handed}
 use Rattle.dp_proxy.proofs.PassLaws.{stream_push}
 use Rattle.dp_world.specs.declared.engine.Engine.{Engine}
-use Rattle.dp_world.specs.inner.EngineStates.{Serves, EngineStands, IsReadFor}
+use Rattle.dp_world.specs.inner.EngineStates.{Serves, IsEngineAfter, IsReadFor}
 use Rattle.dp_world.specs.inner.KeptLinks.{IsReadWith}
 use Rattle.dp_world.specs.inner.Changes.{EngineTakes}
 use Rattle.dp_world.proofs.EngineLaws.{grows}
@@ -143,7 +143,7 @@ front_stays : (n : ℕ) (sent rest : List ℕ) → n ≤ length sent → take n 
 front_stays n sent rest small = take-append-le n sent rest small
 
 module _ (bundle : Bundle) (bound : ℕ) (key : List ℕ) (acts : List Act) (engine : Engine)
-    (stands : EngineStands bundle bound key acts engine) where
+    (stands : IsEngineAfter bundle bound key acts engine) where
   -- ---- what is read
 
   module _ (count : ℕ) (piece : List ℕ) (is : piece ≡ take count (drop engine.read engine.sent.items)) where
@@ -161,7 +161,7 @@ module _ (bundle : Bundle) (bound : ℕ) (key : List ℕ) (acts : List Act) (eng
               engine.sent.items,
         )
 
-    pub read_stands : EngineStands bundle bound key acts read_on
+    pub read_stands : IsEngineAfter bundle bound key acts read_on
     read_stands = record {
       serves = record {
         sent = stands.serves.sent;
@@ -229,7 +229,7 @@ module _ (bundle : Bundle) (bound : ℕ) (key : List ℕ) (acts : List Act) (eng
         → Serves bundle bound key (commands_in (stream Down (acts ++ act ∷ []))) after
         → after.sent.items ≡ engine.sent.items ++ rest → after.read ≡ engine.read
         → after.received ≡ engine.received + length (handed Up acts act)
-        → EngineStands bundle bound key (acts ++ act ∷ []) after × IsReadFor (acts ++ act ∷ []) after
+        → IsEngineAfter bundle bound key (acts ++ act ∷ []) after × IsReadFor (acts ++ act ∷ []) after
     acted after rest serves more read received =
         let all = ready.all in
         let small = stands.read in
@@ -248,7 +248,7 @@ module _ (bundle : Bundle) (bound : ℕ) (key : List ℕ) (acts : List Act) (eng
         )
 
     pub stays : handed Down acts act ≡ [] → handed Up acts act ≡ []
-        → EngineStands bundle bound key (acts ++ act ∷ []) engine × IsReadFor (acts ++ act ∷ []) engine
+        → IsEngineAfter bundle bound key (acts ++ act ∷ []) engine × IsReadFor (acts ++ act ∷ []) engine
     stays down up =
         acted engine [] (subst (λ l. Serves bundle bound key l engine)
         (sym (same_texts Down acts act down)) stands.serves) (sym (append-nil engine.sent.items)) refl
@@ -268,7 +268,7 @@ module _ (bundle : Bundle) (bound : ℕ) (key : List ℕ) (acts : List Act) (eng
         )
 
     pub receives : brought Down act ≡ []
-        → EngineStands bundle bound key (acts ++ act
+        → IsEngineAfter bundle bound key (acts ++ act
         ∷ []) (record engine { received = engine.received + length (handed Up acts act) })
         × IsReadFor (acts ++ act ∷ []) (record engine { received = engine.received + length (handed Up acts act) })
     receives none =
@@ -280,7 +280,7 @@ module _ (bundle : Bundle) (bound : ℕ) (key : List ℕ) (acts : List Act) (eng
         (sym (append-nil engine.sent.items)) refl refl
 
     pub takes : (after : Engine) → brought Up act ≡ [] → EngineTakes engine (handed Down acts act) after
-        → EngineStands bundle bound key (acts ++ act ∷ []) after × IsReadFor (acts ++ act ∷ []) after
+        → IsEngineAfter bundle bound key (acts ++ act ∷ []) after × IsReadFor (acts ++ act ∷ []) after
     takes after none t =
         let serves : Serves bundle bound key (commands_in (stream Down (acts ++ act ∷ []))) after =
         subst (λ l. Serves bundle bound key l after) (down_lines acts act)
@@ -294,6 +294,6 @@ module _ (bundle : Bundle) (bound : ℕ) (key : List ℕ) (acts : List Act) (eng
 
 pub begun : (bundle : Bundle) (bound : ℕ) (key : List ℕ) (engine : Engine) → Serves bundle bound key [] engine
     → engine.read ≡ 0 → engine.received ≡ 0
-    → EngineStands bundle bound key [] engine × IsReadFor [] engine
+    → IsEngineAfter bundle bound key [] engine × IsReadFor [] engine
 begun bundle bound key engine serves read received =
     (record { serves = serves; up = refl; received = received; within = omega arith; read = omega arith }, read)

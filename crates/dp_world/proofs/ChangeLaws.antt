@@ -10,41 +10,41 @@ use Rattle.dp_proxy.specs.declared.events.Act.{Act}
 use Rattle.dp_proxy.specs.declared.events.Act.TheVariants.{Ide, Engine as Comes, Given, Moved, Closed}
 use Rattle.dp_proxy.specs.declared.events.Effect.{Effect}
 use Rattle.dp_proxy.specs.declared.events.Effect.TheVariants.{Nothing, Reply, Admitted, Turned, ToEngine, ToIde}
-use Rattle.dp_proxy.specs.Links.{brought, handed, is_broken, told, passed, ends}
-use Rattle.dp_proxy.specs.Pasts.{Link, New, Asking, Settled, Joined, Ended, Refused, Lead, lead, quiet, question, listening, opened}
+use Rattle.dp_proxy.specs.Links.{brought, handed, is_broken, effect_of, passed, ends}
+use Rattle.dp_proxy.specs.Pasts.{Link, New, Asking, Settled, Joined, Ended, Refused, Lead, lead, without_effect, question, listening, opened}
 use Rattle.dp_proxy.specs.Replies.{reply_frame}
 use Rattle.dp_proxy.specs.Invariant.{IsOver}
-use Rattle.dp_proxy.proofs.TurnLaws.{ide_comes, engine_comes, given_before, moved_before, closed_before, asked_more, asked_all, joined_on, joined_over, over_still}
+use Rattle.dp_proxy.proofs.TurnLaws.{ide_comes, engine_comes, given_before, moved_before, closed_before, heard_more, heard_all, joined_on, joined_over, over_still}
 use Rattle.dp_registry.specs.Verdicts.{admit_verdict}
 use Rattle.dp_world.specs.declared.engine.Engine.{Engine}
 use Rattle.dp_world.specs.declared.shown.Shown.{Shown}
 use Rattle.dp_world.specs.declared.shown.Shown.TheVariants.{Registration, Refused as Turned_away, Session}
-use Rattle.dp_world.specs.inner.KeptLinks.{Asks, IsTo, Has, HasFor, IsReadWith, IsShown, IsShownAt, IsReady, IsReadyAt, Passes, LeadsAs}
+use Rattle.dp_world.specs.inner.KeptLinks.{IsRegistration, IsTo, Has, HasFor, IsReadWith, IsShown, IsShownAt, IsReady, IsReadyAt, Passes, LeadsAs}
 use Rattle.dp_lists.specs.declared.event.Act.TheVariants.{Move}
 use Rattle.dp_world.specs.Engines.{next_sent}
-use Rattle.dp_world.specs.inner.EngineStates.{EngineStands}
+use Rattle.dp_world.specs.inner.EngineStates.{IsEngineAfter}
 use Rattle.dp_world.specs.inner.Changes.{IsTaken, IsTakenAt, After, AfterAt, Reads, ReadsAt}
 use Rattle.dp_world.proofs.ActLaws as act_law
 
 -- what is told is nothing, or what is handed out
-told_is : (out : List ℕ → Effect) (bytes : List ℕ) (broken : Bool) (e : Effect) → told out bytes broken ≡ Some e
+told_is : (out : List ℕ → Effect) (bytes : List ℕ) (broken : Bool) (e : Effect) → effect_of out bytes broken ≡ Some e
     → ((bytes ≡ []) × (e ≡ Nothing)) ⊎ (e ≡ out bytes)
 told_is out [] true e is = absurd cc
 told_is out [] false e is = inl (refl, sym (same_Some Nothing e is))
 told_is out (byte ∷ bytes) broken e is = inr (sym (same_Some (out (byte ∷ bytes)) e is))
 
-listening_asks : (name heard host reply : List ℕ) (act : Act) → host ≡ name → reply ≡ []
-    → Asks (listening name heard act) host reply
-listening_asks name heard host reply (Given bytes) p q = (p, q)
-listening_asks name heard host reply Closed p q = (p, q)
-listening_asks name heard host reply (Ide other) p q = (p, q)
-listening_asks name heard host reply (Comes key) p q = (p, q)
-listening_asks name heard host reply (Moved bytes) p q = (p, q)
+listening_registers : (name heard host reply : List ℕ) (act : Act) → host ≡ name → reply ≡ []
+    → IsRegistration (listening name heard act) host reply
+listening_registers name heard host reply (Given bytes) p q = (p, q)
+listening_registers name heard host reply Closed p q = (p, q)
+listening_registers name heard host reply (Ide other) p q = (p, q)
+listening_registers name heard host reply (Comes key) p q = (p, q)
+listening_registers name heard host reply (Moved bytes) p q = (p, q)
 
 -- where the session ends, nothing is handed out
 ends_told : (acts : List Act) (act : Act) (e : Effect) → ends acts act ≡ true → passed acts act ≡ Some e → e ≡ Nothing
 ends_told acts Closed e t is = closed (is_broken acts) is where
-  closed : (b : Bool) → told ToIde [] b ≡ Some e → e ≡ Nothing
+  closed : (b : Bool) → effect_of ToIde [] b ≡ Some e → e ≡ Nothing
   closed true h = absurd cc
   closed false h = sym (same_Some Nothing e h)
 ends_told acts (Given bytes) e t is = absurd (false≢true (ap is_none (sym is) ∙ t))
@@ -65,7 +65,7 @@ module _ (bundle : Bundle) (bound : ℕ) (journal : List Entry) (act : Act) wher
   led link = lead journal link act
 
   -- nothing comes of it
-  module _ (kept : Shown) (link next : Link) (turned : led link ≡ quiet journal next) (e : Effect)
+  module _ (kept : Shown) (link next : Link) (turned : led link ≡ without_effect journal next) (e : Effect)
       (is : (led link).effect ≡ Some e) where
     no_effect : e ≡ Nothing
     no_effect = sym (same_Some Nothing e (sym (ap (λ (t : Lead). t.effect) turned) ∙ is))
@@ -85,10 +85,10 @@ module _ (bundle : Bundle) (bound : ℕ) (journal : List Entry) (act : Act) wher
         → IsShown bundle bound (led (Asking name heard)).link now
     asked_shown None none =
         still (Registration host reply) (Asking name heard) (listening name heard act)
-        (asked_more journal name heard act (listening name heard act) none refl) e is now
-        (listening_asks name heard host reply act p q) after
+        (heard_more journal name heard act (listening name heard act) none refl) e is now
+        (listening_registers name heard host reply act p q) after
     asked_shown (Some command) some =
-        let turned = asked_all journal name heard act command some in
+        let turned = heard_all journal name heard act command some in
         let frame : List ℕ = reply_frame journal name command in
         let same : e ≡ Reply frame = sym (same_Some (Reply frame) e (sym (ap (λ (t : Lead). t.effect) turned) ∙ is)) in
         let put : now ≡ Registration host frame = subst (λ (x : Effect). After (Registration host reply) x now) same
@@ -100,7 +100,7 @@ module _ (bundle : Bundle) (bound : ℕ) (journal : List Entry) (act : Act) wher
 
   module _ (key : List ℕ) (pass : Pass) (acts : List Act) (name host : List ℕ) (port : ℕ) (engine : Engine)
       (to : IsTo key pass name host port)
-      (stands : EngineStands bundle bound key acts engine) (ready : IsReadWith acts act engine) where
+      (stands : IsEngineAfter bundle bound key acts engine) (ready : IsReadWith acts act engine) where
     abbrev kept : Shown
     kept = Session name host port engine
 
@@ -116,7 +116,7 @@ module _ (bundle : Bundle) (bound : ℕ) (journal : List Entry) (act : Act) wher
 
   module _ (key : List ℕ) (pass : Pass) (acts : List Act) (name host : List ℕ) (port : ℕ) (engine : Engine)
       (to : IsTo key pass name host port)
-      (stands : EngineStands bundle bound key acts engine) where
+      (stands : IsEngineAfter bundle bound key acts engine) where
     passed_on : (a : Act) → IsReadWith acts a engine → ends acts a ≡ false → (e : Effect) (now : Shown)
         → passed acts a ≡ Some e → After (Session name host port engine) e now
         → IsShown bundle bound (Joined key pass (acts ++ a ∷ [])) now
@@ -190,8 +190,8 @@ module _ (bundle : Bundle) (bound : ℕ) (journal : List Entry) (act : Act) wher
 
   -- ---- whatever is kept
 
-  over_quiet : (link : Link) → IsOver link → led link ≡ quiet journal link
-  over_quiet link over = over_still journal link act over
+  over_without_effect : (link : Link) → IsOver link → led link ≡ without_effect journal link
+  over_without_effect link over = over_still journal link act over
 
   shown_passed : (kept : Shown) (link : Link) → IsReady bundle bound link act kept → (e : Effect) (now : Shown)
       → (led link).effect ≡ Some e → After kept e now
@@ -200,13 +200,13 @@ module _ (bundle : Bundle) (bound : ℕ) (journal : List Entry) (act : Act) wher
       asked_shown name heard host reply r.0 r.1 e is now after (question heard act) refl
   shown_passed (Registration host reply) (Settled name answer) r e now is after =
       still (Registration host reply) (Settled name answer) (Settled name answer)
-      (over_quiet (Settled name answer) tt) e is now r after
+      (over_without_effect (Settled name answer) tt) e is now r after
   shown_passed (Registration host reply) New r e now is after = absurd r
   shown_passed (Registration host reply) (Joined key pass acts) r e now is after = absurd r
   shown_passed (Registration host reply) (Ended key pass acts) r e now is after = absurd r
   shown_passed (Registration host reply) (Refused key why) r e now is after = absurd r
   shown_passed (Turned_away key why) link r e now is after =
-      still (Turned_away key why) link link (over_quiet link (subst IsOver (sym r) tt)) e is now r after
+      still (Turned_away key why) link link (over_without_effect link (subst IsOver (sym r) tt)) e is now r after
   shown_passed (Session name host port engine) (Joined key pass acts) r e now is after = by (ends acts act) refl where
     by : (t : Bool) → ends acts act ≡ t → IsShown bundle bound (led (Joined key pass acts)).link now
     by true t = over_shown key pass acts name host port engine r.0 r.1 r.2 t e now is after
@@ -217,7 +217,7 @@ module _ (bundle : Bundle) (bound : ℕ) (journal : List Entry) (act : Act) wher
         (sym (ap (λ (x : Lead). x.effect) turned) ∙ is) after)
   shown_passed (Session name host port engine) (Ended key pass acts) r e now is after =
       still (Session name host port engine) (Ended key pass acts) (Ended key pass acts)
-      (over_quiet (Ended key pass acts) tt) e is now r after
+      (over_without_effect (Ended key pass acts) tt) e is now r after
   shown_passed (Session name host port engine) New r e now is after = absurd r
   shown_passed (Session name host port engine) (Asking other heard) r e now is after = absurd r
   shown_passed (Session name host port engine) (Settled other answer) r e now is after = absurd r
@@ -228,7 +228,7 @@ module _ (bundle : Bundle) (bound : ℕ) (journal : List Entry) (act : Act) wher
   shown_takes (Registration host reply) link r e is = idle_taken host reply e
   shown_takes (Turned_away key why) link r e is =
       subst (IsTaken (Turned_away key why)) (sym (no_effect (Turned_away key why) link link
-      (over_quiet link (subst IsOver (sym r) tt)) e is)) tt
+      (over_without_effect link (subst IsOver (sym r) tt)) e is)) tt
   shown_takes (Session name host port engine) (Joined key pass acts) r e is = by (ends acts act) refl where
     by : (t : Bool) → ends acts act ≡ t → IsTaken (Session name host port engine) e
     by true t =
@@ -240,14 +240,14 @@ module _ (bundle : Bundle) (bound : ℕ) (journal : List Entry) (act : Act) wher
         may_take key pass acts name host port engine r.0 r.1 act r.2 t e (sym (ap (λ (x : Lead). x.effect) turned) ∙ is)
   shown_takes (Session name host port engine) (Ended key pass acts) r e is =
       subst (IsTaken (Session name host port engine)) (sym (no_effect (Session name host port engine)
-      (Ended key pass acts) (Ended key pass acts) (over_quiet (Ended key pass acts) tt) e is)) tt
+      (Ended key pass acts) (Ended key pass acts) (over_without_effect (Ended key pass acts) tt) e is)) tt
   shown_takes (Session name host port engine) New r e is = absurd r
   shown_takes (Session name host port engine) (Asking other heard) r e is = absurd r
   shown_takes (Session name host port engine) (Settled other answer) r e is = absurd r
   shown_takes (Session name host port engine) (Refused key why) r e is = absurd r
 
   -- a quiet link is not broken
-  not_broken : {P : Type 0} (link next : Link) → led link ≡ quiet journal next → (led link).effect ≡ None → P
+  not_broken : {P : Type 0} (link next : Link) → led link ≡ without_effect journal next → (led link).effect ≡ None → P
   not_broken link next turned none =
       let clash : Some Nothing ≡ None = sym (ap (λ (t : Lead). t.effect) turned) ∙ none in absurd cc
 
@@ -258,17 +258,18 @@ module _ (bundle : Bundle) (bound : ℕ) (journal : List Entry) (act : Act) wher
         → IsShown bundle bound (led (Asking name heard)).link (Registration host reply)
     by None q =
         not_broken (Asking name heard) (listening name heard act)
-        (asked_more journal name heard act (listening name heard act) q refl) none
+        (heard_more journal name heard act (listening name heard act) q refl) none
     by (Some command) q =
         let clash : Some (Reply (reply_frame journal name command)) ≡ None = sym
-        (ap (λ (t : Lead). t.effect) (asked_all journal name heard act command q)) ∙ none in absurd cc
+        (ap (λ (t : Lead). t.effect) (heard_all journal name heard act command q)) ∙ none in absurd cc
   shown_broken (Registration host reply) (Settled name answer) r none =
-      not_broken (Settled name answer) (Settled name answer) (over_quiet (Settled name answer) tt) none
+      not_broken (Settled name answer) (Settled name answer) (over_without_effect (Settled name answer) tt) none
   shown_broken (Registration host reply) New r none = absurd r
   shown_broken (Registration host reply) (Joined key pass acts) r none = absurd r
   shown_broken (Registration host reply) (Ended key pass acts) r none = absurd r
   shown_broken (Registration host reply) (Refused key why) r none = absurd r
-  shown_broken (Turned_away key why) link r none = not_broken link link (over_quiet link (subst IsOver (sym r) tt)) none
+  shown_broken (Turned_away key why) link r none = not_broken link link
+      (over_without_effect link (subst IsOver (sym r) tt)) none
   shown_broken (Session name host port engine) (Joined key pass acts) r none = by (ends acts act) refl where
     ends_so : (a : Act) → passed acts a ≡ None → ends acts a ≡ true
     ends_so Closed h = refl
@@ -287,7 +288,7 @@ module _ (bundle : Bundle) (bound : ℕ) (journal : List Entry) (act : Act) wher
         ∙ none in
         absurd (false≢true (sym t ∙ ends_so act silent))
   shown_broken (Session name host port engine) (Ended key pass acts) r none =
-      not_broken (Ended key pass acts) (Ended key pass acts) (over_quiet (Ended key pass acts) tt) none
+      not_broken (Ended key pass acts) (Ended key pass acts) (over_without_effect (Ended key pass acts) tt) none
   shown_broken (Session name host port engine) New r none = absurd r
   shown_broken (Session name host port engine) (Asking other heard) r none = absurd r
   shown_broken (Session name host port engine) (Settled other answer) r none = absurd r
@@ -295,9 +296,9 @@ module _ (bundle : Bundle) (bound : ℕ) (journal : List Entry) (act : Act) wher
 
   -- ---- what is kept, or nothing
 
-  unmade : Passes act → led New ≡ quiet journal New
+  unmade : Passes act → led New ≡ without_effect journal New
   unmade passes = by act passes where
-    by : (a : Act) → Passes a → lead journal New a ≡ quiet journal New
+    by : (a : Act) → Passes a → lead journal New a ≡ without_effect journal New
     by (Given bytes) p = given_before journal bytes
     by (Moved bytes) p = moved_before journal bytes
     by Closed p = closed_before journal
@@ -390,7 +391,7 @@ module _ (bundle : Bundle) (bound : ℕ) (count : ℕ) (piece : List ℕ) where
   session_ready (Settled other answer) name host port engine h is = absurd h
   session_ready (Refused key why) name host port engine h is = absurd h
 
-  idle_shown : (link : Link) (host reply : List ℕ) → Asks link host reply → piece ≡ [] → AsAsked link
+  idle_shown : (link : Link) (host reply : List ℕ) → IsRegistration link host reply → piece ≡ [] → AsAsked link
   idle_shown (Asking other heard) host reply h none = none_as (Asking other heard) none
   idle_shown (Settled other answer) host reply h none = none_as (Settled other answer) none
   idle_shown New host reply h none = absurd h

@@ -23,7 +23,7 @@ use Rattle.dp_proxy.specs.Links.{stream}
 use Rattle.dp_world.specs.declared.engine.Ended.{Ended}
 use Rattle.dp_world.specs.declared.engine.Engine.{Engine}
 use Rattle.dp_world.specs.Transcript.{received}
-use Rattle.dp_world.specs.inner.EngineStates.{IsFirst, Serves, GoesOn, going_on, EngineStands, Shows}
+use Rattle.dp_world.specs.inner.EngineStates.{IsFirst, Serves, GoesOn, going_on, IsEngineAfter, Shows}
 
 -- ---- whole commands
 
@@ -215,7 +215,7 @@ grows bundle bound key bytes more =
 -- ---- the end of a session
 
 module _ (bundle : Bundle) (bound : ℕ) (key : List ℕ) (acts : List Act) (engine : Engine)
-    (stands : EngineStands bundle bound key acts engine) where
+    (stands : IsEngineAfter bundle bound key acts engine) where
   pub received_is : take engine.received engine.sent.items ≡ received bundle bound key (stream Down acts)
       (length (stream Up acts))
   received_is =

@@ -22,7 +22,7 @@ use Rattle.dp_registry.specs.declared.entry.Entry.{Entry}
 use Rattle.dp_registry.specs.declared.pass.Pass.{Pass}
 use Rattle.dp_world.proofs.EngineLaws.{Begins}
 use Rattle.dp_world.specs.Engines.{act_of, followed, past_of, acts_on, by_itself, alone_on}
-use Rattle.dp_world.specs.Headline.{IsSession, Receives, Holds}
+use Rattle.dp_world.specs.Headline.{EachReceives, IsSession, Receives}
 use Rattle.dp_world.specs.Transcript.{session_of, shown, shown_at, shown_of, transcript}
 
 -- ---- lengths
@@ -319,5 +319,5 @@ module _ (bundle : Bundle) (bound : ℕ) (grows : (key bytes more : List ℕ)
       stands = lines;
     }
 
-  pub holds : (events : List Event) → Holds bundle bound events
+  pub holds : (events : List Event) → EachReceives bundle bound events
   holds events = λ fit link key pass its. receives events fit link key pass its

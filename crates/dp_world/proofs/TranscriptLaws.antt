@@ -29,7 +29,7 @@ use Rattle.dp_world.specs.declared.shown.Shown.{Shown}
 use Rattle.dp_world.specs.Replays.{Replays}
 use Rattle.dp_world.specs.Transcript.{line, session, session_of, shown, shown_of, status, transcript}
 use Rattle.dp_world.specs.inner.KeptLinks.{IsTo, Has, IsShown, IsShownAt, AreShown, kept_at, made}
-use Rattle.dp_world.specs.inner.EngineStates.{EngineStands}
+use Rattle.dp_world.specs.inner.EngineStates.{IsEngineAfter}
 use Rattle.dp_world.specs.inner.LinkLines.{Writes, lines_at, lines_of, AllShown}
 use Rattle.dp_world.proofs.EngineLaws.{ended_shows}
 
@@ -45,7 +45,7 @@ module _ (bundle : Bundle) (bound link : ℕ) (key host : List ℕ) (port : ℕ)
     (own : end.own.items ≡ engine.own.items ++ rest_after engine.ended engine.session)
     (outcome : end.outcome ≡ ending_after engine.ended engine.session) where
   session_is : (to : List ℕ) (pass : Pass) (acts : List ProxyAct) → IsTo to pass key host port
-      → EngineStands bundle bound to acts engine
+      → IsEngineAfter bundle bound to acts engine
       → session link key (codes " to " ++ host ++ codes ":" ++ decimal port) ++ told_of end
       ≡ session_of bundle bound link to pass (stream Down acts) (length (stream Up acts))
   session_is to pass acts is stands =

@@ -21,13 +21,13 @@ use Rattle.dp_proxy.specs.declared.events.Effect.{Effect}
 use Rattle.dp_proxy.specs.declared.events.Event.{Event as ProxyEvent}
 use Rattle.dp_proxy.specs.Pasts.{Link, New, Joined, Ended, Asking, Settled, Refused, Past, Lead, lead, came, start}
 use Rattle.dp_proxy.specs.Pasts as core
-use Rattle.dp_proxy.specs.Invariant.{Keeps, Stands, StandsAfter}
+use Rattle.dp_proxy.specs.Invariant.{Keeps, Represents, RepresentsAfter}
 use Rattle.dp_proxy.specs.Steps.{Answers}
 use Rattle.dp_world.specs.declared.shown.Shown.{Shown}
 use Rattle.dp_world.specs.declared.shown.Shown.TheVariants.{Registration, Refused as Turned_away, Session}
 use Rattle.dp_world.specs.Engines.{act_of, followed, past_of}
-use Rattle.dp_world.specs.inner.KeptLinks.{IsShown, IsShownAt, IsReadyAt, Passes, LeadsAs, KeepsOthers, kept_at, made, AreShown, WorldStands}
-use Rattle.dp_world.specs.inner.Changes.{IsReadable, IsReadableAt, IsFormedFor, IsTakenAt, AfterAt, IsPut, IsMadeIn}
+use Rattle.dp_world.specs.inner.KeptLinks.{IsShown, IsShownAt, IsReadyAt, Passes, LeadsAs, KeepsOthers, kept_at, made, AreShown, IsWorldAfter}
+use Rattle.dp_world.specs.inner.Changes.{IsReadable, IsReadableAt, IsFormedFor, IsTakenAt, AfterAt, IsAppended, IsMadeIn}
 use Rattle.dp_world.proofs.ChangeLaws.{kept_passed, kept_takes, kept_broken, some_effect, none_ready}
 
 -- ---- keys
@@ -75,7 +75,7 @@ put_behind (e ∷ links) number kept none = by (put_behind links number kept) (n
 pub put_is : (links after : List (ℕ × Shown)) (number : ℕ) (kept : Shown) → kept_at links number ≡ None
     → after ≡ insert_entry nat_eq links number kept
     → ((other : ℕ) → kept_at after other ≡ cond (nat_eq number other) (Some kept) (kept_at links other))
-    → IsPut links after number (Some kept)
+    → IsAppended links after number (Some kept)
 put_is links after number kept none entries updates = record {
   keys = ap keys_of entries ∙ put_behind links number kept none;
   here = let self : nat_eq number number ≡ true = eq-eqb number number refl in updates number ∙ rw self refl;
@@ -84,7 +84,7 @@ put_is links after number kept none entries updates = record {
 
 pub made_more : (bundle : Bundle) (bound : ℕ) (links after : List (ℕ × Shown)) (number : ℕ) (kept : Option Shown)
     (link : Link)
-    → (is_some kept ≡ true) × IsShownAt bundle bound link kept → IsPut links after number kept
+    → (is_some kept ≡ true) × IsShownAt bundle bound link kept → IsAppended links after number kept
     → IsMadeIn bundle bound links after number link
 made_more bundle bound links after number kept link shown put = record {
   keys = put.keys ∙ ap (λ (t : Bool). keys_of links ++ (if t then number ∷ [] else [])) shown.0;
@@ -112,7 +112,7 @@ other_way : (a b : ℕ) → (a == b) ≡ false → (b == a) ≡ false
 other_way a b isnt = grind (arith, nat_tests)
 
 module _ (bundle : Bundle) (bound : ℕ) (events : List Event) (e : Event) (keeps : Keeps) (links : List (ℕ × Shown))
-    (w : WorldStands bundle bound events keeps links) where
+    (w : IsWorldAfter bundle bound events keeps links) where
   abbrev past : Past
   past = past_of bundle bound events
 
@@ -216,9 +216,9 @@ module _ (bundle : Bundle) (bound : ℕ) (events : List Event) (e : Event) (keep
       taken effect is = kept_takes bundle bound past.journal act (kept_at mid e.link) link effect ready.0 is
 
       pub passed_stands : (after : List (ℕ × Shown)) (effect : Effect) → led.effect ≡ Some effect
-          → Stands now (w.came ++ comes ∷ []) → Passes act
+          → Represents now (w.came ++ comes ∷ []) → Passes act
           → KeepsOthers mid after e.link → AfterAt (kept_at mid e.link) effect (kept_at after e.link)
-          → WorldStands bundle bound (events ++ e ∷ []) now after
+          → IsWorldAfter bundle bound (events ++ e ∷ []) now after
       passed_stands after effect is stands passes keeps_others put = record {
         came = w.came ++ comes ∷ [];
         stands = stands;
@@ -229,8 +229,8 @@ module _ (bundle : Bundle) (bound : ℕ) (events : List Event) (e : Event) (keep
             (kept_at after e.link) link effect passes ready.0 is put) keeps_others.others;
       }
 
-      broken_on : led.effect ≡ None → Stands now (w.came ++ comes ∷ [])
-          → WorldStands bundle bound (events ++ e ∷ []) now mid
+      broken_on : led.effect ≡ None → Represents now (w.came ++ comes ∷ [])
+          → IsWorldAfter bundle bound (events ++ e ∷ []) now mid
       broken_on none stands = record {
         came = w.came ++ comes ∷ [];
         stands = stands;
@@ -242,9 +242,10 @@ module _ (bundle : Bundle) (bound : ℕ) (events : List Event) (e : Event) (keep
       }
 
     -- a link is made
-    pub made_stands : (after : List (ℕ × Shown)) → makes e.act ≡ true → link ≡ New → Stands now (w.came ++ comes ∷ [])
+    pub made_stands : (after : List (ℕ × Shown)) → makes e.act ≡ true → link ≡ New → Represents now
+        (w.came ++ comes ∷ [])
         → IsMadeIn bundle bound mid after e.link (lead past.journal New (act_of bundle bound New e.act)).link
-        → WorldStands bundle bound (events ++ e ∷ []) now after
+        → IsWorldAfter bundle bound (events ++ e ∷ []) now after
     made_stands after is new stands put = record {
       came = w.came ++ comes ∷ [];
       stands = stands;
@@ -263,21 +264,21 @@ module _ (bundle : Bundle) (bound : ℕ) (events : List Event) (e : Event) (keep
       led_new = ready.1 past.journal ∙ ap (λ (l : Link). lead past.journal l (act_of bundle bound l e.act)) new
 
     -- the link is broken: it was made before
-    pub broken_stands : (makes e.act ≡ true → link ≡ New) → led.effect ≡ None → Stands now (w.came ++ comes ∷ [])
-        → WorldStands bundle bound (events ++ e ∷ []) now mid
+    pub broken_stands : (makes e.act ≡ true → link ≡ New) → led.effect ≡ None → Represents now (w.came ++ comes ∷ [])
+        → IsWorldAfter bundle bound (events ++ e ∷ []) now mid
     broken_stands new none stands = by (makes e.act) refl where
-      by : (t : Bool) → makes e.act ≡ t → WorldStands bundle bound (events ++ e ∷ []) now mid
+      by : (t : Bool) → makes e.act ≡ t → IsWorldAfter bundle bound (events ++ e ∷ []) now mid
       by true is =
           absurd (some_effect bundle bound past.journal act (subst
           (λ (l : Link). (lead past.journal l act).effect ≡ None) (new is) none))
       by false isnt = broken_on isnt none stands
 
     pub broken_told : (why : ProxyError) (offset : ℕ) → why ≡ BadFrame offset
-        → Answers (core.past_of w.came) e.link act (Err why) → StandsAfter now w.came comes (Err why)
-        → (makes e.act ≡ true → link ≡ New) → WorldStands bundle bound (events ++ e ∷ []) now mid
+        → Answers (core.past_of w.came) e.link act (Err why) → RepresentsAfter now w.came comes (Err why)
+        → (makes e.act ≡ true → link ≡ New) → IsWorldAfter bundle bound (events ++ e ∷ []) now mid
     broken_told why offset is answers stands new =
         let told = subst (λ (x : ProxyError). Answers past e.link act (Err x)) is (told_at (Err why) answers) in
-        broken_stands new told.1 (subst (λ (x : ProxyError). StandsAfter now w.came comes (Err x)) is stands)
+        broken_stands new told.1 (subst (λ (x : ProxyError). RepresentsAfter now w.came comes (Err x)) is stands)
 
     -- each engine comes with a key
     pub keyless_not : {P : Type 0} → Answers (core.past_of w.came) e.link act (Err BadInit) → IsFormedFor act → P
@@ -296,8 +297,8 @@ module _ (bundle : Bundle) (bound : ℕ) (events : List Event) (e : Event) (keep
 
 -- ---- before any event
 
-pub world_begun : (bundle : Bundle) (bound : ℕ) (keeps : Keeps) (links : List (ℕ × Shown)) → Stands keeps []
-    → links ≡ [] → WorldStands bundle bound [] keeps links
+pub world_begun : (bundle : Bundle) (bound : ℕ) (keeps : Keeps) (links : List (ℕ × Shown)) → Represents keeps []
+    → links ≡ [] → IsWorldAfter bundle bound [] keeps links
 world_begun bundle bound keeps links stands none = record {
   came = [];
   stands = stands;

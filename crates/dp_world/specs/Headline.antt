@@ -4,8 +4,8 @@
 -- whole packets that its engine, served alone with that IDE's commands, would send for the session
 -- its key gave it, and nothing of another's.
 --
--- `headline` of dp_world proves `Holds` below for every program, bound and list of events, and
--- `replay` writes the `transcript` of the list. The words:
+-- `headline` of dp_world proves `EachReceives` below for every program, bound and list of events,
+-- and `replay` writes the `transcript` of the list. The words:
 --
 -- - *Every list*: any list of events in which a link is made once and before its use (Lists). Its
 --   pieces may cut commands and packets anywhere.
@@ -60,8 +60,8 @@ pub record Receives (bundle : Bundle) (bound : ℕ) (events : List Event) (link 
       ++ session_of bundle bound link key pass given read
       ++ shown_of bundle bound (past_of bundle bound events) its.after
 
-abbrev pub Holds : Bundle → ℕ → List Event → Type 0
-Holds bundle bound events =
+abbrev pub EachReceives : Bundle → ℕ → List Event → Type 0
+EachReceives bundle bound events =
     AllFit [] events → (link : ℕ) (key : List ℕ) (pass : Pass)
     → (its : IsSession bundle bound events link key pass)
     → Receives bundle bound events link key pass its

@@ -10,7 +10,8 @@ ghost use Rattle.std.specs.declared.result.Result.{Result as Verdict};
 ghost use Rattle.dp_lists.specs.Lists.{IsFormed, makes as is_made_by};
 ghost use Rattle.dp_proxy.specs.Pasts.{Link, New, lead, admitted, admission};
 ghost use Rattle.dp_world.specs.Engines.{act_of};
-ghost use Rattle.dp_world.specs.inner.Changes.{IsReadableAt, ReadsAt, IsFormedFor, IsTakenAt, AfterAt, IsPut, IsMadeIn};
+ghost use Rattle.dp_world.specs.inner.Changes.{IsReadableAt, ReadsAt, IsFormedFor, IsTakenAt, AfterAt, IsAppended};
+ghost use Rattle.dp_world.specs.inner.Changes.{IsMadeIn};
 ghost use Rattle.dp_world.specs.inner.KeptLinks.{IsShownAt, IsReadyAt, Passes, LeadsAs, KeepsOthers, kept_at};
 
 use crate::engine::Engine;
@@ -146,7 +147,7 @@ fn put<'a>(
     kept: Option<Shown<'a>>,
 ) -> Result<(), Memory>
     ensures { kept_at links.old.entries link ≡ None
-        → OnOk result (IsPut links.old.entries links.new.entries link kept.entry) }
+        → OnOk result (IsAppended links.old.entries links.new.entries link kept.entry) }
 {
     if let Some(shown) = kept {
         drop(links.insert(link, shown)?);

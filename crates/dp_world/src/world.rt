@@ -5,7 +5,7 @@ ghost use Rattle.dp_tree.specs.declared.bundle.Bundle.{Bundle as Program};
 ghost use Rattle.dp_lists.specs.declared.event.Event.{Event as OneEvent};
 ghost use Rattle.dp_lists.specs.Lists.{AllFit, Fits};
 ghost use Rattle.dp_world.specs.Engines.{past_of};
-ghost use Rattle.dp_world.specs.inner.KeptLinks.{AreShown, MayTake, WorldStands, made};
+ghost use Rattle.dp_world.specs.inner.KeptLinks.{AreShown, IsWorldAfter, MayTake, made};
 ghost use Rattle.std.specs.Map.{keys_of};
 
 use crate::links::{brought, make, makes, pass};
@@ -29,7 +29,7 @@ pub(crate) struct World<'a> {
 impl<'a> World<'a> {
     /// Before any event. Takes no memory.
     fn new(alloc: Global) -> World<'a>
-        ensures { (bundle : Program) (bound : ℕ) → WorldStands bundle bound [] result.proxy result.links.entries }
+        ensures { (bundle : Program) (bound : ℕ) → IsWorldAfter bundle bound [] result.proxy result.links.entries }
     {
         World {
             proxy: Proxy::new(alloc),
@@ -49,10 +49,10 @@ impl<'a> World<'a> {
         requires names { AreFileNames (map (λ f. f.name) bundle.now.files) }
         requires may { MayTake bundle.now bound self.old.proxy self.old.links.entries event.now }
         ensures { (events : List OneEvent)
-            → WorldStands bundle.now bound events self.old.proxy self.old.links.entries
+            → IsWorldAfter bundle.now bound events self.old.proxy self.old.links.entries
             → Fits events event.now
             → OnOk result
-            (WorldStands bundle.now bound (events ++ event.now ∷ []) self.new.proxy self.new.links.entries) }
+            (IsWorldAfter bundle.now bound (events ++ event.now ∷ []) self.new.proxy self.new.links.entries) }
     {
         let act = brought(alloc, &mut self.links, event)?;
         let came = ProxyEvent {

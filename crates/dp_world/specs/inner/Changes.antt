@@ -99,7 +99,8 @@ AfterAt (Some kept) effect after = (now : Shown) × (after ≡ Some now) × Afte
 -- ---- a link that is made
 
 -- what is kept of it is put behind the others, where something is
-pub record IsPut (links after : List (ℕ × Shown)) (number : ℕ) (kept : Option Shown) : Type 0 where
+pub record IsAppended (links after : List (ℕ × Shown)) (number : ℕ)
+    (kept : Option Shown) : Type 0 where
   pub keys : keys_of after ≡ keys_of links ++ (if is_some kept then number ∷ [] else [])
   pub here : kept_at after number ≡ kept
   pub others : (other : ℕ) → (number == other) ≡ false → kept_at after other ≡ kept_at links other

@@ -50,7 +50,7 @@ pub record GoesOn (lines : List (List ℕ)) (old new : Engine) : Type 0 where
 
 -- The engine of a session in which this has happened: it was given the whole commands that came,
 -- what was read is a front of what it has sent, and of that the whole packets were received.
-pub record EngineStands (bundle : Bundle) (bound : ℕ) (key : List ℕ) (acts : List Act)
+pub record IsEngineAfter (bundle : Bundle) (bound : ℕ) (key : List ℕ) (acts : List Act)
     (engine : Engine) : Type 0 where
   pub serves : Serves bundle bound key (commands_in (stream Down acts)) engine
   pub up : stream Up acts ≡ take (length (stream Up acts)) engine.sent.items

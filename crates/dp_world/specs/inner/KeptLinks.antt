@@ -12,7 +12,7 @@ use Rattle.dp_proxy.specs.declared.events.Event.{Event as ProxyEvent}
 use Rattle.dp_proxy.specs.Links.{stream}
 use Rattle.dp_proxy.specs.Pasts.{Link, New, Asking, Settled, Joined, Ended, Refused, Past, lead}
 use Rattle.dp_proxy.specs.Pasts as core
-use Rattle.dp_proxy.specs.Invariant.{Keeps, Stands}
+use Rattle.dp_proxy.specs.Invariant.{Keeps, Represents}
 use Rattle.dp_lists.specs.declared.event.Act.{Act}
 use Rattle.dp_lists.specs.declared.event.Event.{Event}
 use Rattle.dp_lists.specs.Lists.{Fits, makes}
@@ -20,15 +20,15 @@ use Rattle.dp_world.specs.declared.engine.Engine.{Engine}
 use Rattle.dp_world.specs.declared.shown.Shown.{Shown}
 use Rattle.dp_world.specs.declared.shown.Shown.TheVariants as shown
 use Rattle.dp_world.specs.Engines.{act_of, past_of}
-use Rattle.dp_world.specs.inner.EngineStates.{EngineStands, IsReadFor}
+use Rattle.dp_world.specs.inner.EngineStates.{IsEngineAfter, IsReadFor}
 
 -- ---- one link
 
 -- an IDE of this host was sent this reply
-abbrev pub Asks : Link → List ℕ → List ℕ → Type 0
-Asks (Asking host heard) name reply = (name ≡ host) × (reply ≡ [])
-Asks (Settled host answer) name reply = (name ≡ host) × (reply ≡ answer)
-Asks link name reply = ⊥
+abbrev pub IsRegistration : Link → List ℕ → List ℕ → Type 0
+IsRegistration (Asking host heard) name reply = (name ≡ host) × (reply ≡ [])
+IsRegistration (Settled host answer) name reply = (name ≡ host) × (reply ≡ answer)
+IsRegistration link name reply = ⊥
 
 abbrev pub IsTo : List ℕ → Pass → List ℕ → List ℕ → ℕ → Type 0
 IsTo key pass name host port = (name ≡ key) × (host ≡ pass.host) × (port ≡ pass.port)
@@ -36,14 +36,14 @@ IsTo key pass name host port = (name ≡ key) × (host ≡ pass.host) × (port �
 -- this engine has the session of the link
 abbrev pub Has : Bundle → ℕ → Link → List ℕ → List ℕ → ℕ → Engine → Type 0
 Has bundle bound (Joined key pass acts) name host port engine =
-    IsTo key pass name host port × EngineStands bundle bound key acts engine
+    IsTo key pass name host port × IsEngineAfter bundle bound key acts engine
     × IsReadFor acts engine
 Has bundle bound (Ended key pass acts) name host port engine =
-    IsTo key pass name host port × EngineStands bundle bound key acts engine
+    IsTo key pass name host port × IsEngineAfter bundle bound key acts engine
 Has bundle bound link name host port engine = ⊥
 
 abbrev pub IsShown : Bundle → ℕ → Link → Shown → Type 0
-IsShown bundle bound link (shown.Registration host reply) = Asks link host reply
+IsShown bundle bound link (shown.Registration host reply) = IsRegistration link host reply
 IsShown bundle bound link (shown.Refused key why) = link ≡ Refused key why
 IsShown bundle bound link (shown.Session key host port engine) =
     Has bundle bound link key host port engine
@@ -62,14 +62,14 @@ pub record IsReadWith (acts : List ProxyAct) (act : ProxyAct) (engine : Engine) 
 
 abbrev pub HasFor : Bundle → ℕ → Link → ProxyAct → List ℕ → List ℕ → ℕ → Engine → Type 0
 HasFor bundle bound (Joined key pass acts) act name host port engine =
-    IsTo key pass name host port × EngineStands bundle bound key acts engine
+    IsTo key pass name host port × IsEngineAfter bundle bound key acts engine
     × IsReadWith acts act engine
 HasFor bundle bound (Ended key pass acts) act name host port engine =
-    IsTo key pass name host port × EngineStands bundle bound key acts engine
+    IsTo key pass name host port × IsEngineAfter bundle bound key acts engine
 HasFor bundle bound link act name host port engine = ⊥
 
 abbrev pub IsReady : Bundle → ℕ → Link → ProxyAct → Shown → Type 0
-IsReady bundle bound link act (shown.Registration host reply) = Asks link host reply
+IsReady bundle bound link act (shown.Registration host reply) = IsRegistration link host reply
 IsReady bundle bound link act (shown.Refused key why) = link ≡ Refused key why
 IsReady bundle bound link act (shown.Session key host port engine) =
     HasFor bundle bound link act key host port engine
@@ -109,10 +109,10 @@ AreShown bundle bound past links =
     (number : ℕ) → IsShownAt bundle bound (past.link number) (kept_at links number)
 
 -- a proxy and its links, after these events
-pub record WorldStands (bundle : Bundle) (bound : ℕ) (events : List Event) (keeps : Keeps)
+pub record IsWorldAfter (bundle : Bundle) (bound : ℕ) (events : List Event) (keeps : Keeps)
     (links : List (ℕ × Shown)) : Type 0 where
   pub came : List ProxyEvent
-  pub stands : Stands keeps came
+  pub stands : Represents keeps came
   pub past : core.past_of came ≡ past_of bundle bound events
   pub keys : keys_of links ≡ made events
   pub each : AreShown bundle bound (past_of bundle bound events) links
@@ -121,5 +121,5 @@ pub record WorldStands (bundle : Bundle) (bound : ℕ) (events : List Event) (ke
 pub record MayTake (bundle : Bundle) (bound : ℕ) (keeps : Keeps) (links : List (ℕ × Shown))
     (event : Event) : Type 0 where
   pub events : List Event
-  pub stands : WorldStands bundle bound events keeps links
+  pub stands : IsWorldAfter bundle bound events keeps links
   pub fits : Fits events event

@@ -5,15 +5,15 @@ use Rattle.dp_registry.specs.Verdicts.{admit_verdict}
 use Rattle.dp_proxy.specs.Pasts.{New, Lead, lead, admission}
 use Rattle.dp_proxy.proofs.TurnLaws.{ide_comes, engine_comes}
 use Rattle.dp_world.specs.Engines.{act_of}
-use Rattle.dp_world.specs.inner.KeptLinks.{Asks, IsShownAt}
+use Rattle.dp_world.specs.inner.KeptLinks.{IsRegistration, IsShownAt}
 use Rattle.dp_world.proofs.links.opened.Goals as goal
 
 pub returns-in_ok-host-in-Ide : goal.returns-in_ok-host-in-Ide
 returns-in_ok-host-in-Ide c = λ journal is told. (
   refl,
-  subst (λ (a : Act). Asks (lead journal New (act_of c.args.bundle.now c.args.bound New a)).link
+  subst (λ (a : Act). IsRegistration (lead journal New (act_of c.args.bundle.now c.args.bound New a)).link
       c.in_ok-host-in-Ide.host c.of-reply.result) (sym c.in-Ide.is)
-      (subst (λ (t : Lead). Asks t.link c.in_ok-host-in-Ide.host c.of-reply.result)
+      (subst (λ (t : Lead). IsRegistration t.link c.in_ok-host-in-Ide.host c.of-reply.result)
       (sym (ide_comes journal c.in-Ide.host))
       (c.in_ok-host-in-Ide.ensures, c.of-reply.ensures ∙ c.new.ensures.items)),
 )

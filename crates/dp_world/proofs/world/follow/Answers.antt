@@ -2,7 +2,7 @@ use Rattle.std.proofs.Common.{◌<◌, List, [], take, length, sym, subst, arith
 use Rattle.std.proofs.lemmas.List.{take_all}
 use Rattle.dp_lists.specs.declared.event.Event.{Event}
 use Rattle.dp_world.specs.Engines.{past_of}
-use Rattle.dp_world.specs.inner.KeptLinks.{IsShownAt, WorldStands, kept_at}
+use Rattle.dp_world.specs.inner.KeptLinks.{IsShownAt, IsWorldAfter, kept_at}
 use Rattle.dp_world.proofs.WorldLaws.{fit_item, take_item}
 use Rattle.dp_world.proofs.world.follow.Goals as goal
 
@@ -19,7 +19,7 @@ pub events-preserved : goal.events-preserved
 events-preserved g c =
     let i = c.events.event-index in
     let less : i < length c.args.events.now = omega arith in
-    subst (λ (es : List Event). WorldStands c.args.bundle.now c.args.bound es c.take.new.self.proxy
+    subst (λ (es : List Event). IsWorldAfter c.args.bundle.now c.args.bound es c.take.new.self.proxy
     c.take.new.self.links.entries)
     (sym (take_item c.args.events.now i c.event-item.result less c.event-item.is))
     (c.in-Ok.ensures (take i c.args.events.now) c.events.invariant

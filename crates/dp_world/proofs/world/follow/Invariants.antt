@@ -1,7 +1,7 @@
 use Rattle.std.proofs.Common.{take}
-use Rattle.dp_world.specs.inner.KeptLinks.{WorldStands}
+use Rattle.dp_world.specs.inner.KeptLinks.{IsWorldAfter}
 use Rattle.dp_world.proofs.world.follow.Given as goal
 
 abbrev pub invariant-events : goal.invariant-events
 invariant-events g l =
-    WorldStands l.fn.bundle l.fn.bound (take l.event-index l.events) l.world.proxy l.world.links.entries
+    IsWorldAfter l.fn.bundle l.fn.bound (take l.event-index l.events) l.world.proxy l.world.links.entries

@@ -1,7 +1,7 @@
 use Rattle.std.proofs.Common.{◌≡◌, ℕ, List, sym, subst}
 use Rattle.dp_proxy.specs.declared.kept.Kept.{Kept}
-use Rattle.dp_proxy.specs.Invariant.{Keeps, Stands, AreSound}
-use Rattle.dp_proxy.proofs.StepLaws.{sound_taken, sound_put, stands_put}
+use Rattle.dp_proxy.specs.Invariant.{Keeps, Represents, AreSound}
+use Rattle.dp_proxy.proofs.StepLaws.{sound_taken, sound_put, represents_put}
 use Rattle.dp_proxy.proofs.proxy.Proxy.step.Goals as goal
 
 pub invariant_of-self : goal.invariant_of-self
@@ -28,8 +28,8 @@ invariant_of-self-2 c =
 
 pub returns-clause-stands : goal.returns-clause-stands
 returns-clause-stands c = λ events stands.
-    stands_put c.self.inside.registry c.turn.new.registry c.self.inside.links c.take-kept.new.self c.put.new.self
+    represents_put c.self.inside.registry c.turn.new.registry c.self.inside.links c.take-kept.new.self c.put.new.self
     c.args.event.now c.take-kept.result
     c.in_ok-step.step c.take-kept.ensures.kept c.take-kept.ensures.left c.in_ok-put.ensures.ok c.in_ok-step.ensures.made
     c.in_ok-step.ensures.leads events
-    (subst (λ (k : Keeps). Stands k events) (sym c.self.view_is) stands)
+    (subst (λ (k : Keeps). Represents k events) (sym c.self.view_is) stands)

@@ -3,8 +3,8 @@ use Rattle.dp_proxy.specs.declared.input.Hearing.{Hearing}
 use Rattle.dp_proxy.specs.declared.kept.Kept.TheVariants as keep
 use Rattle.dp_proxy.specs.Replies.{reply_frame, registered}
 use Rattle.dp_proxy.specs.inner.Acts.{Hears}
-use Rattle.dp_proxy.proofs.TurnLaws.{more_leads, silent_leads, asked_leads}
-use Rattle.dp_proxy.proofs.turns.ask.Goals as goal
+use Rattle.dp_proxy.proofs.TurnLaws.{more_leads, question_leads, silent_leads}
+use Rattle.dp_proxy.proofs.turns.listen.Goals as goal
 
 pub returns-in-More-clause-leads : goal.returns-in-More-clause-leads
 returns-in-More-clause-leads c = λ clean.
@@ -27,7 +27,7 @@ returns-in_ok-frame-in-Asked-clause-leads c = λ clean.
     (c.in_ok-hearing.ensures clean) in
     let host : c.as_slice-name.result.now ≡ c.args.host = c.as_slice-name.ensures in
     let command : c.as_slice-command.result.now ≡ c.hear.new.heard.items = c.as_slice-command.ensures.value in
-    asked_leads c.args.registry.now c.answer.new.registry c.args.host c.args.heard.items c.args.act.now
+    question_leads c.args.registry.now c.answer.new.registry c.args.host c.args.heard.items c.args.act.now
     c.hear.new.heard.items c.in_ok-frame-in-Asked.frame h
     (c.in_ok-frame-in-Asked.ensures.reply ∙ (λ i. reply_frame c.args.registry.now (host i) (command i)))
     (c.in_ok-frame-in-Asked.ensures.journal ∙ (λ i. registered c.args.registry.now (host i) (command i)))
