@@ -3,20 +3,17 @@ use Rattle.std.proofs.Common.{◌≡◌, ℕ, ◌+◌, ◌<◌, ◌≤◌, ◌==
 use Rattle.std.proofs.Common.{Option, Some, None, is_some, unwrap_or, option_and_then, nat_eq, flat_map, take, get_or, refl, sym, ap, subst, ◌∙◌, inl, inr}
 use Rattle.std.proofs.Common.{append_assoc, append-nil, arith}
 use Rattle.std.proofs.lemmas.Bool.{eqb-true, or_right, false≢true}
-use Rattle.std.proofs.lemmas.Iterator.{YieldsList}
-use Rattle.std.proofs.lemmas.Iterator.Consumers.{YieldsList-turn, YieldsList-end}
-use Rattle.std.proofs.lemmas.List.{take_all, take_more}
 use Rattle.std.proofs.lemmas.List.Folds.{list_any-append}
 use Rattle.std.proofs.lemmas.Option.{same_Some}
-use Rattle.std.specs.Iterator.{Yields}
 use Rattle.std.specs.Map.{lookup}
 use Rattle.std.specs.Option.{option_to_list}
 use Rattle.dp_lists.specs.declared.event.Act.{Act}
 use Rattle.dp_lists.specs.declared.event.Act.TheVariants.{Ide, Engine, Give, Move, Close}
 use Rattle.dp_lists.specs.declared.event.Event.{Event}
-use Rattle.dp_lists.specs.Lists.{is_idle, Spells, Fits, AllFit, MayFollow, Adds, Come, IsList, IsFirstBad, lines_of, was, makes, is_engine}
+use Rattle.dp_lists.specs.Lists.{Spells, Fits, AllFit, MayFollow, Adds, AddsAt, IsList, IsFirstBad, was, makes, is_engine}
 use Rattle.dp_lists.specs.inner.Spelling.{word_of, part_of, link_in, event_in, spelled}
-use Rattle.dp_grammar.proofs.Verdicts.{one_unexpected, unexpected_spelled}
+use Rattle.dp_grammar.specs.Lines.{is_idle, lines_of}
+use Rattle.dp_grammar.proofs.Lines.{IsRead, no_bad, one_said, read_on}
 use Rattle.dp_lists.specs.inner.Progress.{IsTable, Marks, IsReading, Takes}
 use Rattle.dp_lists.specs.declared.readers.Reading.{Reading}
 use Rattle.dp_lists.proofs.SpellingLaws.{spelled_again, spelled_is}
@@ -56,50 +53,17 @@ pub adds_is : (before : List Event) (line : List ℕ) (added : List Event) → A
 adds_is before line added (inl idle) = rw (idle_none line idle.0) idle.1
 adds_is before line added (inr one) = rw (fit_spelled before line one.0 one.1 one.2) one.3
 
--- ---- what lines come to
-
-pub come_is : (before : List Event) (lines : List (List ℕ)) (events : List Event) → Come before lines events
-    → events ≡ before ++ flat_map adds lines
-come_is before [] events h = h ∙ sym (append-nil before)
-come_is before (line ∷ lines) events h =
-    come_is (before ++ h.0) lines events h.2 ∙ append_assoc before h.0 (flat_map adds lines)
-    ∙ ap (λ a. before ++ (a ++ flat_map adds lines)) (adds_is before line h.0 h.1)
-
-pub come_push : (before : List Event) (lines : List (List ℕ)) (mid : List Event) (line : List ℕ) (added : List Event)
-    → Come before lines mid → Adds mid line added
-    → Come before (lines ++ line ∷ []) (mid ++ added)
-come_push before [] mid line added h a = (added, subst (λ b. Adds b line added) h a, ap (λ b. b ++ added) h)
-come_push before (first ∷ lines) mid line added h a = (h.0, h.1, come_push (before ++ h.0) lines mid line added h.2 a)
-
-record IsSplit (before : List Event) (front : List (List ℕ)) (line : List ℕ) : Type 0 where
-  mid : List Event
-  come : Come before front mid
-  added : List Event
-  adds : Adds mid line added
-
-come_split : (before : List Event) (front : List (List ℕ)) (line : List ℕ) (back : List (List ℕ)) (events : List Event)
-    → Come before (front ++ line ∷ back) events → IsSplit before front line
-come_split before [] line back events h = record { mid = before; come = refl; added = h.0; adds = h.1 }
-come_split before (first ∷ front) line back events h =
-    let rest = come_split (before ++ h.0) front line back events h.2 in
-    record { mid = rest.mid; come = (h.0, h.1, rest.come); added = rest.added; adds = rest.adds }
+-- ---- the list that bytes are
 
 pub one_list : (bytes : List ℕ) (a b : List Event) → IsList bytes a → IsList bytes b → a ≡ b
-one_list bytes a b p q = come_is [] (lines_of bytes) a p ∙ sym (come_is [] (lines_of bytes) b q)
-
--- ---- the first bad line
-
--- the lists, as a rule of lines
-abbrev Listed : Unit {0} → List (List ℕ) → List Event → Type 0
-Listed u = Come []
+one_list bytes a b p q = one_said AddsAt one [] 1 (lines_of bytes) a b p q where
+  one : (before : List Event) (number : ℕ) (line : List ℕ) (added other : List Event) → Adds before line added
+      → Adds before line other → added ≡ other
+  one before number line added other h g = adds_is before line added h ∙ sym (adds_is before line other g)
 
 pub bad_excludes : (bytes : List ℕ) (number : ℕ) (events : List Event) → IsFirstBad bytes number → IsList bytes events
     → ⊥
-bad_excludes bytes number events bad = unexpected_spelled Listed tt tt bad.0 (lines_of bytes) events bad.2
-
-pub one_bad : (bytes : List ℕ) (m n : ℕ) → IsFirstBad bytes m → IsFirstBad bytes n → m ≡ n
-one_bad bytes m n a b =
-    let same = one_unexpected Listed tt a.0 b.0 (lines_of bytes) a.2 b.2 in a.1 ∙ ap (λ p. p + 1) same ∙ sym b.1
+bad_excludes = no_bad AddsAt
 
 -- ---- fitting
 
@@ -212,56 +176,12 @@ noted old new e is fits marks put = record {
 
 -- ---- line after line
 
--- so many lines were read, and they come to these events
-abbrev pub IsRead : List ℕ → ℕ → List Event → Type 0
-IsRead bytes number events = Come [] (take number (lines_of bytes)) events
-
-module _ (bytes : List ℕ) (number : ℕ) (before : List Event) (line : List ℕ) (read : IsRead bytes number before)
+module _ (bytes : List ℕ) (number : ℕ) (before : List Event) (line : List ℕ) (read : IsRead AddsAt bytes number before)
     (here : (number < length (lines_of bytes)) × (line ≡ get_or (lines_of bytes) number line)) where
-  abbrev so_far : List (List ℕ)
-  so_far = take number (lines_of bytes)
-
-  one_more : take (number + 1) (lines_of bytes) ≡ so_far ++ line ∷ []
-  one_more = take_more (lines_of bytes) number line here.0 ∙ ap (λ l. so_far ++ l ∷ []) (sym here.1)
-
-  pub read_on : (after : List Event) → Takes before line true after → IsRead bytes (number + 1) after
-  read_on after takes =
-      subst (λ l. Come [] l after) (sym one_more)
-      (subst (Come [] (so_far ++ line ∷ [])) (sym takes.2) (come_push [] so_far before line takes.0 read takes.1))
-
-  pub read_bad : (after : List Event) → Takes before line false after → IsFirstBad bytes (number + 1)
-  read_bad after takes = (
-    number,
-    refl,
-    record {
-      within = let less = here.0 in omega arith;
-      before = ([], before, subst (λ l. Come [] l before) (sym (append-nil so_far)) read);
-      dead = λ u. record {
-        here = λ within v.
-            let all = ap (λ l. l ++ v.0) one_more ∙ append_assoc so_far (line ∷ []) v.0 in
-            let s = come_split [] so_far line v.0 v.1 (subst (λ l. Come [] l v.1) all v.2) in
-            let same : s.mid ≡ before = come_is [] so_far s.mid s.come ∙ sym (come_is [] so_far before read) in
-            takes s.added (subst (λ m. Adds m line s.added) same s.adds);
-        end = λ at. let less = here.0 in absurd (omega arith);
-      };
-    },
-  )
-
-pub read_all : (bytes : List ℕ) (number : ℕ) (events : List Event) → IsRead bytes number events
-    → length (lines_of bytes) ≤ number → IsList bytes events
-read_all bytes number events read all = subst (λ l. Come [] l events) (take_all number (lines_of bytes) all) read
-
--- where the item of this turn is in the list of a loop
-pub turn_of : {S A B : Type 0} {steps : S → Option A → S → Type 0} {v : A → B} {s : S} {all : List B} (xs : List A)
-    (t u : S) → Yields steps s xs t → (r : Option A) (x : A) → r ≡ Some x → steps t r u → YieldsList steps v s all
-    → (length xs < length all) × (v x ≡ get_or all (length xs) (v x))
-turn_of xs t u y r x is step list = YieldsList-turn list xs t y r u x is step
-
--- at its end it has yielded so many
-pub end_of : {S A B : Type 0} {steps : S → Option A → S → Type 0} {v : A → B} {s : S} {all : List B} (xs : List A)
-    (t u : S) → Yields steps s xs t → (r : Option A) → r ≡ None → steps t r u → YieldsList steps v s all
-    → length xs ≡ length all
-end_of xs t u y r is step list = (YieldsList-end list xs t y r u is step).1
+  pub read_line : (after : List Event) → Takes before line true after → IsRead AddsAt bytes (number + 1) after
+  read_line after takes =
+      subst (IsRead AddsAt bytes (number + 1)) (sym takes.2) (read_on AddsAt bytes number before line read here takes.0
+      takes.1 (λ other is. adds_is before line other is ∙ sym (adds_is before line takes.0 takes.1)))
 
 -- ---- one line
 

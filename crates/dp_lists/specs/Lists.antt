@@ -2,8 +2,9 @@
 use Rattle.std.specs.Prelude.{◌≡◌, ◌⊎◌, ℕ, ◌+◌, ◌/◌, ◌%◌, ◌<◌, ◌≤◌, ◌==◌, ◌^◌, nat_lt, Bool, true, false}
 use Rattle.std.specs.Prelude.{◌&&◌, if◌then◌else◌, List, [], ◌∷◌, ◌++◌, flat_map, codes}
 use Rattle.std.specs.Fmt.{decimal}
-use Rattle.std.specs.List.{list_any, slice_split, AllByRecursion}
-use Rattle.dp_grammar.specs.Refused.{IsUnexpected}
+use Rattle.std.specs.List.{list_any, AllByRecursion}
+use Rattle.dp_grammar.specs.Lines as lines
+use Rattle.dp_grammar.specs.Lines.{LineRule, Say, is_idle, lines_of}
 use Rattle.dp_registry.specs.Names.{IsHost, IsKey}
 use Rattle.dp_lists.specs.declared.event.Act.{Act}
 use Rattle.dp_lists.specs.declared.event.Act.TheVariants.{Ide, Engine, Give, Move, Close}
@@ -91,33 +92,20 @@ AllFit before (e ∷ es) = Fits before e × AllFit (before ++ e ∷ []) es
 
 -- ---- lists
 
--- the lines, cut at the line feeds; what stands behind the last is a line too
-abbrev pub lines_of : List ℕ → List (List ℕ)
-lines_of bytes = slice_split (λ b. b == 10) bytes
-
--- empty lines, and those that begin with `#`, do nothing
-abbrev pub is_idle : List ℕ → Bool
-is_idle [] = true
-is_idle (b ∷ line) = b == 35
-
 -- what a line adds to the events before it
 abbrev pub Adds : List Event → List ℕ → List Event → Type 0
 Adds before line added =
     ((is_idle line ≡ true) × (added ≡ []))
     ⊎ ((e : Event) × Spells line e.link e.act × Fits before e × (added ≡ e ∷ []))
 
--- the lines, behind these events, come to those
-abbrev pub Come : List Event → List (List ℕ) → List Event → Type 0
-Come before [] events = events ≡ before
-Come before (line ∷ lines) events =
-    (added : List Event) × Adds before line added × Come (before ++ added) lines events
+-- the same of a line of any number
+abbrev pub AddsAt : LineRule Event
+AddsAt before number line added = Adds before line added
 
 -- the bytes are this list of events
 abbrev pub IsList : List ℕ → List Event → Type 0
-IsList bytes events = Come [] (lines_of bytes) events
+IsList bytes events = Say AddsAt (lines_of bytes) events
 
 -- the line of this number, counted from 1, is the first with which no list begins
 abbrev pub IsFirstBad : List ℕ → ℕ → Type 0
-IsFirstBad bytes number =
-    (place : ℕ) × (number ≡ place + 1)
-    × IsUnexpected (λ (u : Unit {0}). Come []) tt (lines_of bytes) place
+IsFirstBad bytes number = lines.IsFirstBad AddsAt bytes number

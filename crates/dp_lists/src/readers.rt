@@ -1,6 +1,7 @@
 //! How far a list is read.
 ghost use Rattle.std.specs.Prelude.{◌≡◌, ◌∷◌, [], ◌++◌, true, false, Ok, IfOk, OnOk};
-ghost use Rattle.dp_lists.specs.Lists.{Fits, is_idle, MayFollow};
+ghost use Rattle.dp_grammar.specs.Lines.{is_idle};
+ghost use Rattle.dp_lists.specs.Lists.{Fits, MayFollow};
 ghost use Rattle.dp_lists.specs.inner.Progress.{IsReading, IsTable, Marks, Takes};
 
 use crate::event::{Act, Event};

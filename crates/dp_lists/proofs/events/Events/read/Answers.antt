@@ -1,6 +1,8 @@
 use Rattle.std.proofs.Common.{inl, ap, ◌∙◌}
 use Rattle.dp_lists.specs.declared.errors.ListError.TheVariants.{BadLine}
-use Rattle.dp_lists.proofs.ListLaws.{one_list, one_bad, bad_excludes}
+use Rattle.dp_lists.specs.Lists.{AddsAt}
+use Rattle.dp_lists.proofs.ListLaws.{one_list, bad_excludes}
+use Rattle.dp_grammar.proofs.Lines.{one_bad}
 use Rattle.dp_lists.proofs.events.Events.read.Goals as goal
 
 pub returns-in-Ok-clause-only : goal.returns-in-Ok-clause-only
@@ -21,4 +23,4 @@ returns-in-Err-clause-only c =
 pub returns-in-Err-clause-bad_only : goal.returns-in-Err-clause-bad_only
 returns-in-Err-clause-bad_only c =
     let bad = rw c.in-Err.is at c.in_ok-reading.ensures in
-    λ line other. inl (ap BadLine (one_bad c.args.bytes.now c.in-Err.line line bad other))
+    λ line other. inl (ap BadLine (one_bad AddsAt c.args.bytes.now c.in-Err.line line bad other))
