@@ -13,7 +13,8 @@ use Rattle.dp_wire.proofs.FrameLaws.{no_nul-at}
 use Rattle.dp_ide.specs.declared.instruction.Act.{Act}
 use Rattle.dp_ide.specs.declared.instruction.Act.TheVariants.{Send, Attr, Code, Prop, Out, Print}
 use Rattle.dp_ide.specs.declared.instruction.Instruction.{Instruction}
-use Rattle.dp_ide.specs.Scripts.{Asks, Behind, Command, Name, Number, Says, is_idle}
+use Rattle.dp_grammar.specs.Lines.{is_idle}
+use Rattle.dp_ide.specs.Scripts.{ActLine, Behind, Command, Name, Number, Says}
 use Rattle.dp_ide.specs.inner.Readers.{IsNamed, IsRun, Reads}
 use Rattle.dp_ide.proofs.LineLaws.{Lacks, lacks_head, lacks_tail}
 
@@ -50,11 +51,11 @@ abbrev pub Sent : List ℕ → List ℕ → Type 0
 Sent id line = Command line id line
 
 pub reads_send : (rest : List ℕ) (found : Option (List ℕ)) → Reads Sent rest found
-    → Reads Asks (codes "send " ++ rest) (option_map (λ id. Send rest id) found)
+    → Reads ActLine (codes "send " ++ rest) (option_map (λ id. Send rest id) found)
 reads_send rest =
-    reads_as Sent Asks (λ id. Send rest id) rest (codes "send " ++ rest)
+    reads_as Sent ActLine (λ id. Send rest id) rest (codes "send " ++ rest)
     (λ id h. marked (codes "send ") rest (Command rest id) h) from where
-      from : (act : Act) → Asks act (codes "send " ++ rest) → (id : List ℕ) × (act ≡ Send rest id) × Sent id rest
+      from : (act : Act) → ActLine act (codes "send " ++ rest) → (id : List ℕ) × (act ≡ Send rest id) × Sent id rest
       from (Send line id) is =
           let c = unmarked (codes "send ") rest (Command line id) is in
           (id, (λ i. Send (sym c.same i) id), subst (λ (l : List ℕ). Command l id rest) (sym c.same) c)
@@ -65,11 +66,12 @@ reads_send rest =
       from Print is = absurd (apart 115 112 _ _ refl is)
 
 pub reads_attr : (rest : List ℕ) (found : Option (List ℕ × List ℕ)) → Reads IsNamed rest found
-    → Reads Asks (codes "attr " ++ rest) (option_map (λ n. Attr n.0 n.1) found)
+    → Reads ActLine (codes "attr " ++ rest) (option_map (λ n. Attr n.0 n.1) found)
 reads_attr rest =
-    reads_as IsNamed Asks (λ n. Attr n.0 n.1) rest (codes "attr " ++ rest)
+    reads_as IsNamed ActLine (λ n. Attr n.0 n.1) rest (codes "attr " ++ rest)
     (λ n h. marked (codes "attr ") rest (Name n.0 >> Behind n.1) h) from where
-      from : (act : Act) → Asks act (codes "attr " ++ rest) → (n : List ℕ × List ℕ) × (act ≡ Attr n.0 n.1) × IsNamed n rest
+      from : (act : Act) → ActLine act (codes "attr " ++ rest)
+          → (n : List ℕ × List ℕ) × (act ≡ Attr n.0 n.1) × IsNamed n rest
       from (Send line id) is = let b = begun (codes "send ") _ _ is in absurd (apart 97 115 _ _ refl b.1)
       from (Attr name text) is = ((name, text), refl, unmarked (codes "attr ") rest (Name name >> Behind text) is)
       from (Code n) is = let b = begun (codes "code ") _ _ is in absurd (apart 97 99 _ _ refl b.1)
@@ -78,11 +80,11 @@ reads_attr rest =
       from Print is = absurd (apart 97 112 _ _ refl is)
 
 pub reads_code : (rest : List ℕ) (found : Option ℕ) → Reads Number rest found
-    → Reads Asks (codes "code " ++ rest) (option_map Code found)
+    → Reads ActLine (codes "code " ++ rest) (option_map Code found)
 reads_code rest =
-    reads_as Number Asks Code rest (codes "code " ++ rest)
+    reads_as Number ActLine Code rest (codes "code " ++ rest)
     (λ n h. marked (codes "code ") rest (Number n) h) from where
-      from : (act : Act) → Asks act (codes "code " ++ rest) → (n : ℕ) × (act ≡ Code n) × Number n rest
+      from : (act : Act) → ActLine act (codes "code " ++ rest) → (n : ℕ) × (act ≡ Code n) × Number n rest
       from (Send line id) is = let b = begun (codes "send ") _ _ is in absurd (apart 99 115 _ _ refl b.1)
       from (Attr name text) is = let b = begun (codes "attr ") _ _ is in absurd (apart 99 97 _ _ refl b.1)
       from (Code n) is = (n, refl, unmarked (codes "code ") rest (Number n) is)
@@ -91,11 +93,12 @@ reads_code rest =
       from Print is = absurd (apart 99 112 _ _ refl is)
 
 pub reads_prop : (rest : List ℕ) (found : Option (List ℕ × List ℕ)) → Reads IsNamed rest found
-    → Reads Asks (codes "prop " ++ rest) (option_map (λ n. Prop n.0 n.1) found)
+    → Reads ActLine (codes "prop " ++ rest) (option_map (λ n. Prop n.0 n.1) found)
 reads_prop rest =
-    reads_as IsNamed Asks (λ n. Prop n.0 n.1) rest (codes "prop " ++ rest)
+    reads_as IsNamed ActLine (λ n. Prop n.0 n.1) rest (codes "prop " ++ rest)
     (λ n h. marked (codes "prop ") rest (Name n.0 >> Behind n.1) h) from where
-      from : (act : Act) → Asks act (codes "prop " ++ rest) → (n : List ℕ × List ℕ) × (act ≡ Prop n.0 n.1) × IsNamed n rest
+      from : (act : Act) → ActLine act (codes "prop " ++ rest)
+          → (n : List ℕ × List ℕ) × (act ≡ Prop n.0 n.1) × IsNamed n rest
       from (Send line id) is = let b = begun (codes "send ") _ _ is in absurd (apart 112 115 _ _ refl b.1)
       from (Attr name text) is = let b = begun (codes "attr ") _ _ is in absurd (apart 112 97 _ _ refl b.1)
       from (Code n) is = let b = begun (codes "code ") _ _ is in absurd (apart 112 99 _ _ refl b.1)
@@ -104,11 +107,11 @@ reads_prop rest =
       from Print is = absurd (apart 111 105 _ _ refl (ap (drop 2) is))
 
 pub reads_out : (rest : List ℕ) (found : Option (List ℕ)) → Reads Behind rest found
-    → Reads Asks (codes "out" ++ rest) (option_map Out found)
+    → Reads ActLine (codes "out" ++ rest) (option_map Out found)
 reads_out rest =
-    reads_as Behind Asks Out rest (codes "out" ++ rest)
+    reads_as Behind ActLine Out rest (codes "out" ++ rest)
     (λ text h. marked (codes "out") rest (Behind text) h) from where
-      from : (act : Act) → Asks act (codes "out" ++ rest) → (text : List ℕ) × (act ≡ Out text) × Behind text rest
+      from : (act : Act) → ActLine act (codes "out" ++ rest) → (text : List ℕ) × (act ≡ Out text) × Behind text rest
       from (Send line id) is = let b = begun (codes "send ") _ _ is in absurd (apart 111 115 _ _ refl b.1)
       from (Attr name text) is = let b = begun (codes "attr ") _ _ is in absurd (apart 111 97 _ _ refl b.1)
       from (Code n) is = let b = begun (codes "code ") _ _ is in absurd (apart 111 99 _ _ refl b.1)
@@ -116,9 +119,9 @@ reads_out rest =
       from (Out text) is = (text, refl, unmarked (codes "out") rest (Behind text) is)
       from Print is = absurd (apart 111 112 _ _ refl is)
 
-pub reads_print : (line : List ℕ) → line ≡ codes "print" → Reads Asks line (Some Print)
+pub reads_print : (line : List ℕ) → line ≡ codes "print" → Reads ActLine line (Some Print)
 reads_print line same = (same, alone) where
-  alone : (other : Act) → Asks other line → other ≡ Print
+  alone : (other : Act) → ActLine other line → other ≡ Print
   alone Print is = refl
   alone (Send l id) is = let b = begun (codes "send ") _ _ is in absurd (apart 112 115 _ _ refl (sym same ∙ b.1))
   alone (Attr name text) is = let b = begun (codes "attr ") _ _ is in absurd (apart 112 97 _ _ refl (sym same ∙ b.1))
@@ -132,9 +135,9 @@ Lacked mark bytes = (rest : List ℕ) → bytes ≢ mark ++ rest
 
 pub reads_nothing : (line : List ℕ) → Lacked (codes "send ") line → Lacked (codes "attr ") line
     → Lacked (codes "code ") line → Lacked (codes "prop ") line → line ≢ codes "print" → Lacked (codes "out") line
-    → Reads Asks line None
+    → Reads ActLine line None
 reads_nothing line s a c p print o = no where
-  no : (act : Act) → Asks act line → ⊥
+  no : (act : Act) → ActLine act line → ⊥
   no (Send l id) is = let b = begun (codes "send ") _ _ is in s b.0 b.1
   no (Attr name text) is = let b = begun (codes "attr ") _ _ is in a b.0 b.1
   no (Code n) is = let b = begun (codes "code ") _ _ is in c b.0 b.1
@@ -210,7 +213,7 @@ module _ (bytes : List ℕ) (n : ℕ) (run : IsRun 32 bytes n) where
 -- ---- a number
 
 pub reads_number : (rest : List ℕ) (found : Option ℕ) → found ≡ decimal_in most_16 rest
-    → Reads Asks (codes "code " ++ rest) (option_map Code found)
+    → Reads ActLine (codes "code " ++ rest) (option_map Code found)
 reads_number rest found same = reads_code rest found (by found same) where
   by : (found : Option ℕ) → found ≡ decimal_in most_16 rest → Reads Number rest found
   by None same = λ n is. let both : None ≡ Some n = same ∙ is in cc
@@ -238,40 +241,35 @@ module _ (line : List ℕ) where
   no_line none = λ id is. none is.parts is.is_spelt
 
   module _ (parts : Line) (only : (other : Line) → spelt line other → other ≡ parts) where
-    asked : (id : List ℕ) → Sent id line → given letter.i parts.options ≡ Some id
-    asked id is = ap (λ (p : Line). given letter.i p.options) (sym (only is.parts is.is_spelt)) ∙ is.asks
+    its_id : (id : List ℕ) → Sent id line → given letter.i parts.options ≡ Some id
+    its_id id is = ap (λ (p : Line). given letter.i p.options) (sym (only is.parts is.is_spelt)) ∙ is.asks
 
     pub no_id : given letter.i parts.options ≡ None → Reads Sent line None
-    no_id none = λ id is. let both : None ≡ Some id = sym none ∙ asked id is in cc
+    no_id none = λ id is. let both : None ≡ Some id = sym none ∙ its_id id is in cc
 
     pub reads_command : (id : List ℕ) → IsCommand line → spelt line parts → given letter.i parts.options ≡ Some id
         → Reads Sent line (Some id)
     reads_command id is spells asks = (
       record { same = refl; is_command = is; parts = parts; is_spelt = spells; asks = asks },
-      λ other h. let both : Some id ≡ Some other = sym asks ∙ asked other h in cc,
+      λ other h. let both : Some id ≡ Some other = sym asks ∙ its_id other h in cc,
     )
 
 -- ---- answers
-
--- what holds where it is Ok, by another fact
-pub ok_as : {A E : Type 0} (P Q : A → Type 0) (r : Result A E) → ((a : A) → P a → Q a) → IfOk r P → IfOk r Q
-ok_as P Q (Ok a) f h = f a h
-ok_as P Q (Err e) f h = tt
 
 -- a line that does nothing asks for nothing
 begins_idle : (b : ℕ) (bs line : List ℕ) → eqb b 35 ≡ false → line ≡ b ∷ bs → is_idle line ≡ true → ⊥
 begins_idle b bs line other same idle = false≢true (sym other ∙ subst (λ (l : List ℕ). is_idle l ≡ true) same idle)
 
-asks_idle : (act : Act) (line : List ℕ) → Asks act line → is_idle line ≡ true → ⊥
-asks_idle (Send l id) line is = let b = begun (codes "send ") _ _ is in begins_idle 115 _ line refl b.1
-asks_idle (Attr name text) line is = let b = begun (codes "attr ") _ _ is in begins_idle 97 _ line refl b.1
-asks_idle (Code n) line is = let b = begun (codes "code ") _ _ is in begins_idle 99 _ line refl b.1
-asks_idle (Prop name text) line is = let b = begun (codes "prop ") _ _ is in begins_idle 112 _ line refl b.1
-asks_idle (Out text) line is = let b = begun (codes "out") _ _ is in begins_idle 111 _ line refl b.1
-asks_idle Print line is = begins_idle 112 _ line refl is
+act_not_idle : (act : Act) (line : List ℕ) → ActLine act line → is_idle line ≡ true → ⊥
+act_not_idle (Send l id) line is = let b = begun (codes "send ") _ _ is in begins_idle 115 _ line refl b.1
+act_not_idle (Attr name text) line is = let b = begun (codes "attr ") _ _ is in begins_idle 97 _ line refl b.1
+act_not_idle (Code n) line is = let b = begun (codes "code ") _ _ is in begins_idle 99 _ line refl b.1
+act_not_idle (Prop name text) line is = let b = begun (codes "prop ") _ _ is in begins_idle 112 _ line refl b.1
+act_not_idle (Out text) line is = let b = begun (codes "out") _ _ is in begins_idle 111 _ line refl b.1
+act_not_idle Print line is = begins_idle 112 _ line refl is
 
 pub idle_alone : (number : ℕ) (line : List ℕ) → is_idle line ≡ true → (other : List Instruction)
     → Says number line other → other ≡ []
 idle_alone number line idle [] says = refl
-idle_alone number line idle (one ∷ []) says = absurd (asks_idle one.act line says.1 idle)
+idle_alone number line idle (one ∷ []) says = absurd (act_not_idle one.act line says.1 idle)
 idle_alone number line idle (one ∷ more ∷ others) says = absurd says

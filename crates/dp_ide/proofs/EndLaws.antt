@@ -26,7 +26,7 @@ use Rattle.dp_ide.specs.declared.instruction.Act.{Act}
 use Rattle.dp_ide.specs.declared.instruction.Act.TheVariants.{Send, Attr, Code, Prop, Out, Print}
 use Rattle.dp_ide.specs.declared.instruction.Instruction.{Instruction}
 use Rattle.dp_ide.specs.Messages.{IsMessage, AreMessages, is_init, answers, output_in}
-use Rattle.dp_ide.specs.Instructions.{Heard, Expectation, Answered, Does, Goes, Holds, afterwards, expected, wants}
+use Rattle.dp_ide.specs.Instructions.{Heard, Expectation, Answered, Does, Goes, IsMet, afterwards, expected, wants}
 use Rattle.dp_ide.specs.Plays.{Progress, Awaited, Waiting, AwaitsInit, Awaits, IsUnfit, IsBadAt, Lacks, StopsAt, EndsPlaying, EndsWaiting, Ends, init, response, is_verdict}
 use Rattle.dp_ide.proofs.PlaceLaws.{one_place}
 
@@ -213,7 +213,7 @@ came_behind (one ∷ done) more before all rest after between left came front =
 abbrev first_heard : Message → Heard
 first_heard message = record { last = message; output = []; printed = [] }
 
-record Stands (script : List Instruction) (all : List (List ℕ)) (done left : List Instruction) (heard : Heard)
+record Position (script : List Instruction) (all : List (List ℕ)) (done left : List Instruction) (heard : Heard)
     (others : List (List ℕ)) : Type 0 where
   pub split : script ≡ done ++ left
   pub text : List ℕ
@@ -224,12 +224,12 @@ record Stands (script : List Instruction) (all : List (List ℕ)) (done left : L
   pub opens : is_init init.packet ≡ true
   pub came : Came done (first_heard init) later others heard
 
-stands_at : (script : List Instruction) (read : List ℕ) (p : Progress script read)
-    → Stands script (packets_in read) p.done p.left p.heard p.others
-stands_at script read p = by p.texts p.came (subst (AreMessages p.texts) p.played.whole p.are) where
+position_of : (script : List Instruction) (read : List ℕ) (p : Progress script read)
+    → Position script (packets_in read) p.done p.left p.heard p.others
+position_of script read p = by p.texts p.came (subst (AreMessages p.texts) p.played.whole p.are) where
   by : (texts : List (List ℕ)) → packets_in read ≡ texts ++ p.others
       → AreMessages texts (p.played.init ∷ p.played.later)
-      → Stands script (packets_in read) p.done p.left p.heard p.others
+      → Position script (packets_in read) p.done p.left p.heard p.others
   by [] came are = absurd are
   by (text ∷ texts) came are = record {
     split = p.split;
@@ -268,7 +268,8 @@ same_front (a ∷ front) one other same = let tail : front ++ one ≡ front ++ o
 -- who stands behind has played on from there
 plays_on : (script : List Instruction) (all : List (List ℕ)) (done left : List Instruction) (heard : Heard)
     (others : List (List ℕ)) (more rest : List Instruction) (last : Heard)
-    (end : List (List ℕ)) → Stands script all done left heard others → Stands script all (done ++ more) rest last end
+    (end : List (List ℕ)) → Position script all done left heard others
+    → Position script all (done ++ more) rest last end
     → Came more heard others end last × (left ≡ more ++ rest)
 plays_on script all done left heard others more rest last end here there =
     let text : here.text ≡ there.text = let both : here.text ∷ here.later ≡ there.text
@@ -420,10 +421,10 @@ unmet : (act : Act) (heard after : Heard) (messages : List Message) (wanted : Li
     → expected act heard ≡ Some (record { wanted = wanted; found = found })
     → found ≢ Some wanted → Does act heard messages after → ⊥
 unmet (Send line id) heard after messages wanted found is differs does = cc
-unmet (Attr name text) heard after messages wanted found is differs does = differs (subst Holds is does.0)
-unmet (Code n) heard after messages wanted found is differs does = differs (subst Holds is does.0)
-unmet (Prop name text) heard after messages wanted found is differs does = differs (subst Holds is does.0)
-unmet (Out text) heard after messages wanted found is differs does = differs (subst Holds is does.0)
+unmet (Attr name text) heard after messages wanted found is differs does = differs (subst IsMet is does.0)
+unmet (Code n) heard after messages wanted found is differs does = differs (subst IsMet is does.0)
+unmet (Prop name text) heard after messages wanted found is differs does = differs (subst IsMet is does.0)
+unmet (Out text) heard after messages wanted found is differs does = differs (subst IsMet is does.0)
 unmet Print heard after messages wanted found is differs does = cc
 
 -- where none of the messages answers, and no message follows, the answer was not there
@@ -550,20 +551,20 @@ alike heard left texts others rest source source_2 one other (inr (inr a)) (inr 
 
 -- ---- where it ended
 
-record Starting (end : Result (Unit {0}) IdeError) (read : List ℕ) (source : Change) : Type 0 where
+record EndsAtInit (end : Result (Unit {0}) IdeError) (read : List ℕ) (source : Change) : Type 0 where
   pub waiting : Waiting
   pub awaited : waiting.awaited ≡ init
   pub awaits : AwaitsInit read waiting
   pub lacks : Lacks end waiting (rest_of_packets read) source
 
-record Standing (end : Result (Unit {0}) IdeError) (script : List Instruction) (read : List ℕ)
+record EndsBehindInit (end : Result (Unit {0}) IdeError) (script : List Instruction) (read : List ℕ)
     (source : Change) : Type 0 where
   pub progress : Progress script read
   pub cause : Cause end progress.heard progress.left progress.texts progress.others (rest_of_packets read) source
 
 stopped : (end : Result (Unit {0}) IdeError) (script : List Instruction) (read : List ℕ) (source sink out : Change)
     → is_verdict end ≡ true → EndsPlaying end script read sink out
-    → Standing end script read source
+    → EndsBehindInit end script read source
 stopped end script read source sink out verdict e =
     record { progress = e.progress; cause = by end refl verdict e.stops } where
       by : (x : Result (Unit {0}) IdeError) → end ≡ x → is_verdict x ≡ true → StopsAt x e.progress sink out
@@ -591,10 +592,10 @@ stopped end script read source sink out verdict e =
 
 waited : (end : Result (Unit {0}) IdeError) (script : List Instruction) (read : List ℕ) (source sink out : Change)
     → is_verdict end ≡ true → EndsWaiting end script read source sink out
-    → Starting end read source ⊎ Standing end script read source
+    → EndsAtInit end read source ⊎ EndsBehindInit end script read source
 waited end script read source sink out verdict e = by e.waiting.awaited refl e.awaits where
   by : (t : Awaited) → e.waiting.awaited ≡ t → Awaits t script read e.waiting
-      → Starting end read source ⊎ Standing end script read source
+      → EndsAtInit end read source ⊎ EndsBehindInit end script read source
   by init is a = inl (record { waiting = e.waiting; awaited = is; awaits = a; lacks = e.lacks })
   by (response id) is a = inr (record {
     progress = a.progress;
@@ -621,15 +622,15 @@ waited end script read source sink out verdict e = by e.waiting.awaited refl e.a
 place_of : (end : Result (Unit {0}) IdeError) (script : List Instruction) (read : List ℕ) (source sink out : Change)
     → is_verdict end ≡ true
     → EndsPlaying end script read sink out ⊎ EndsWaiting end script read source sink out
-    → Starting end read source ⊎ Standing end script read source
+    → EndsAtInit end read source ⊎ EndsBehindInit end script read source
 place_of end script read source sink out verdict (inl e) = inr (stopped end script read source sink out verdict e)
 place_of end script read source sink out verdict (inr e) = waited end script read source sink out verdict e
 
 never_started : (end other : Result (Unit {0}) IdeError) (script : List Instruction) (read : List ℕ)
-    (source source_2 : Change) → is_verdict end ≡ true → Starting end read source
-    → Standing other script read source_2 → ⊥
+    (source source_2 : Change) → is_verdict end ≡ true → EndsAtInit end read source
+    → EndsBehindInit other script read source_2 → ⊥
 never_started end other script read source source_2 verdict s t =
-    let there = stands_at script read t.progress in
+    let there = position_of script read t.progress in
     let at_first : IsStuck (IsUnfit init) s.waiting.others =
     subst (λ (a : Awaited). IsStuck (IsUnfit a) s.waiting.others) s.awaited
     (stuck s.waiting end (rest_of_packets read) source verdict s.lacks) in
@@ -639,15 +640,15 @@ never_started end other script read source source_2 verdict s t =
 
 -- the first stands where the other does, or before
 ordered : (one other : Result (Unit {0}) IdeError) (script : List Instruction) (read : List ℕ)
-    (source source_2 : Change) (s : Standing one script read source)
-    (t : Standing other script read source_2) → Follows s.progress.done t.progress.done → one ≡ other
+    (source source_2 : Change) (s : EndsBehindInit one script read source)
+    (t : EndsBehindInit other script read source_2) → Follows s.progress.done t.progress.done → one ≡ other
 ordered one other script read source source_2 s t f = by f.more f.is where
   by : (more : List Instruction) → t.progress.done ≡ s.progress.done ++ more → one ≡ other
   by [] is =
       let on = plays_on script (packets_in read) s.progress.done s.progress.left s.progress.heard s.progress.others
-      [] t.progress.left t.progress.heard t.progress.others (stands_at script read s.progress)
-      (subst (λ (d : List Instruction). Stands script (packets_in read) d t.progress.left t.progress.heard
-      t.progress.others) is (stands_at script read t.progress)) in
+      [] t.progress.left t.progress.heard t.progress.others (position_of script read s.progress)
+      (subst (λ (d : List Instruction). Position script (packets_in read) d t.progress.left t.progress.heard
+      t.progress.others) is (position_of script read t.progress)) in
       let none : on.0.texts ≡ [] = no_texts on.0.texts (subst (AreMessages on.0.texts) on.0.goes.0 on.0.are) in
       let others : s.progress.others ≡ t.progress.others = on.0.split ∙ ap
       (λ (l : List (List ℕ)). l ++ t.progress.others) none in
@@ -668,9 +669,9 @@ ordered one other script read source source_2 s t f = by f.more f.is where
       (rest_of_packets read) source source_2 one other s.cause cause
   by (first ∷ more) is =
       let on = plays_on script (packets_in read) s.progress.done s.progress.left s.progress.heard s.progress.others
-      (first ∷ more) t.progress.left t.progress.heard t.progress.others (stands_at script read s.progress)
-      (subst (λ (d : List Instruction). Stands script (packets_in read) d t.progress.left t.progress.heard
-      t.progress.others) is (stands_at script read t.progress)) in
+      (first ∷ more) t.progress.left t.progress.heard t.progress.others (position_of script read s.progress)
+      (subst (λ (d : List Instruction). Position script (packets_in read) d t.progress.left t.progress.heard
+      t.progress.others) is (position_of script read t.progress)) in
       absurd (no_further one s.progress.heard s.progress.left s.progress.texts s.progress.others
       (rest_of_packets read) source s.cause first more t.progress.left t.progress.others t.progress.heard on.0 on.1)
 
@@ -693,8 +694,8 @@ one_end_of script one other source sink out other_sink other_out told v w e f =
       same : e.read ≡ f.read
       same = one_read source.told_before source.told e.read f.read told e.consumed f.consumed
 
-      by : Starting one e.read source ⊎ Standing one script e.read source
-          → Starting other e.read source ⊎ Standing other script e.read source → one ≡ other
+      by : EndsAtInit one e.read source ⊎ EndsBehindInit one script e.read source
+          → EndsAtInit other e.read source ⊎ EndsBehindInit other script e.read source → one ≡ other
       by (inl s) (inl t) =
           one_lack init [] (packets_in e.read) (rest_of_packets e.read) source source s.waiting t.waiting one other
           s.awaited t.awaited s.awaits.none_passed t.awaits.none_passed

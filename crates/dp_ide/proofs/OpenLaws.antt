@@ -16,7 +16,8 @@ use Rattle.dp_ide.specs.declared.instruction.Act.{Act}
 use Rattle.dp_ide.specs.declared.instruction.Act.TheVariants.{Send}
 use Rattle.dp_ide.specs.declared.instruction.Instruction.{Instruction}
 use Rattle.dp_ide.specs.Messages.{is_init}
-use Rattle.dp_ide.specs.Scripts.{AreSaid, Asks, Says}
+use Rattle.dp_grammar.specs.Lines.{AreSaid}
+use Rattle.dp_ide.specs.Scripts.{ActLine, Says, SaysAt}
 use Rattle.dp_ide.specs.inner.Progress.{TakesNext, LacksNext, NextFails, OpenFails, Stood, IsPlayable}
 use Rattle.dp_ide.proofs.EndLaws.{one_message_of}
 
@@ -89,19 +90,20 @@ unread why old source none first f = record {
 
 -- ---- the commands of a script
 
-asked : (one : Instruction) (line : List ℕ) → Asks one.act line → IsPlayable one
-asked one line asks =
-    λ command id is. let spelt : Asks (Send command id) line = subst
-    (λ (a : Act). Asks a line) is asks in spelt.second.is_command
+line_playable : (one : Instruction) (line : List ℕ) → ActLine one.act line → IsPlayable one
+line_playable one line asks =
+    λ command id is. let spelt : ActLine (Send command id) line = subst
+    (λ (a : Act). ActLine a line) is asks in spelt.second.is_command
 
 said_playable : (number : ℕ) (line : List ℕ) (before said : List Instruction) → Says number line said
     → All IsPlayable before → All IsPlayable (before ++ said)
 said_playable number line before [] says all = subst (All IsPlayable) (sym (append-nil before)) all
-said_playable number line before (one ∷ []) says all = All-push IsPlayable before one all (asked one line says.1)
+said_playable number line before (one ∷ []) says all =
+    All-push IsPlayable before one all (line_playable one line says.1)
 said_playable number line before (one ∷ other ∷ rest) says all = absurd says
 
 pub playable : (before : List Instruction) (number : ℕ) (lines : List (List ℕ)) (instructions : List Instruction)
-    → All IsPlayable before → AreSaid before number lines instructions → All IsPlayable instructions
+    → All IsPlayable before → AreSaid SaysAt before number lines instructions → All IsPlayable instructions
 playable before number [] instructions all are = subst (All IsPlayable) (sym are) all
 playable before number (line ∷ lines) instructions all are =
     playable (before ++ are.0) (suc number) lines instructions (said_playable number line before are.0 are.1 all) are.2

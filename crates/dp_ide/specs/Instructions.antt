@@ -35,10 +35,10 @@ expected (Out text) heard = wants text (Some heard.output)
 expected (Send line id) heard = None
 expected Print heard = None
 
--- an expectation, if there is one, holds
-abbrev pub Holds : Option Expectation → Type 0
-Holds None = ⊤
-Holds (Some expectation) = expectation.found ≡ Some expectation.wanted
+-- an expectation, if there is one, is met
+abbrev pub IsMet : Option Expectation → Type 0
+IsMet None = ⊤
+IsMet (Some expectation) = expectation.found ≡ Some expectation.wanted
 
 -- ---- what is played
 
@@ -67,7 +67,7 @@ afterwards other heard = heard
 abbrev pub Does : Act → Heard → List Message → Heard → Type 0
 Does (Send line id) before messages after = Answered id before messages after
 Does act before messages after =
-    Holds (expected act before) × (messages ≡ []) × (after ≡ afterwards act before)
+    IsMet (expected act before) × (messages ≡ []) × (after ≡ afterwards act before)
 
 -- the instructions are played one after another
 abbrev pub Goes : List Instruction → Heard → List Message → Heard → Type 0

@@ -1,11 +1,12 @@
 -- Scripts of the IDE: one instruction a line. Empty lines and lines that begin with `#` do nothing.
-use Rattle.std.specs.Prelude.{◌≡◌, ◌≢◌, ◌⊎◌, ℕ, suc, ◌+◌, ◌*◌, ◌≤◌, Bool, true, not, ◌==◌, List, [], ◌∷◌, ◌++◌, length, Option, Some, codes}
-use Rattle.std.specs.List.{list_all, slice_split}
+use Rattle.std.specs.Prelude.{◌≡◌, ◌≢◌, ◌⊎◌, ℕ, ◌+◌, ◌*◌, ◌≤◌, Bool, true, not, ◌==◌, List, [], ◌∷◌, ◌++◌, length, Option, Some, codes}
+use Rattle.std.specs.List.{list_all}
 use Rattle.dp_command.specs.declared.line.Line.{Line}
 use Rattle.dp_command.specs.Grammar.{Rule, ◌>>◌, Mark, Repeated, spelt}
 use Rattle.dp_command.specs.Letters as letter
 use Rattle.dp_command.specs.Options.{given}
-use Rattle.dp_grammar.specs.Refused.{IsUnexpected}
+use Rattle.dp_grammar.specs.Lines as lines
+use Rattle.dp_grammar.specs.Lines.{LineRule, Say, is_idle, lines_of}
 use Rattle.dp_markup.specs.Classes.{hexadecimal_behind}
 use Rattle.dp_reply.specs.Contents.{◌>>=◌, most_16}
 use Rattle.dp_value.specs.Decimals.{decimal_in}
@@ -13,13 +14,6 @@ use Rattle.dp_wire.specs.Frames.{IsCommand}
 use Rattle.dp_ide.specs.declared.instruction.Act.{Act}
 use Rattle.dp_ide.specs.declared.instruction.Act.TheVariants.{Send, Attr, Code, Prop, Out, Print}
 use Rattle.dp_ide.specs.declared.instruction.Instruction.{Instruction}
-
--- ---- lines
-
--- The lines, cut at the line feeds. What stands behind the last is a line too; where it is empty,
--- it does nothing.
-abbrev pub lines_of : List ℕ → List (List ℕ)
-lines_of bytes = slice_split (λ byte. byte == 10) bytes
 
 -- ---- names and texts
 
@@ -78,46 +72,33 @@ pub record Command (line id bytes : List ℕ) : Type 0 where
 
 -- ---- instructions
 
--- the line asks for this
-abbrev pub Asks : Act → Rule
-Asks (Send line id) = Mark (codes "send ") >> Command line id
-Asks (Attr name text) = Mark (codes "attr ") >> Name name >> Behind text
-Asks (Code n) = Mark (codes "code ") >> Number n
-Asks (Prop name text) = Mark (codes "prop ") >> Name name >> Behind text
-Asks (Out text) = Mark (codes "out") >> Behind text
-Asks Print = Mark (codes "print")
-
-abbrev pub is_idle : List ℕ → Bool
-is_idle [] = true
-is_idle (byte ∷ line) = byte == 35
+-- the line of this act
+abbrev pub ActLine : Act → Rule
+ActLine (Send line id) = Mark (codes "send ") >> Command line id
+ActLine (Attr name text) = Mark (codes "attr ") >> Name name >> Behind text
+ActLine (Code n) = Mark (codes "code ") >> Number n
+ActLine (Prop name text) = Mark (codes "prop ") >> Name name >> Behind text
+ActLine (Out text) = Mark (codes "out") >> Behind text
+ActLine Print = Mark (codes "print")
 
 -- the line of this number says nothing, or one instruction
 abbrev pub Says : ℕ → List ℕ → List Instruction → Type 0
 Says number line [] = is_idle line ≡ true
-Says number line (one ∷ []) = (one.line ≡ number) × Asks one.act line
+Says number line (one ∷ []) = (one.line ≡ number) × ActLine one.act line
 Says number line (one ∷ other ∷ more) = ⊥
 
--- The lines, of which the first has this number, say the rest of these instructions behind the
--- first ones, one line after another.
-abbrev pub AreSaid : List Instruction → ℕ → List (List ℕ) → List Instruction → Type 0
-AreSaid before number [] instructions = instructions ≡ before
-AreSaid before number (line ∷ lines) instructions =
-    (said : List Instruction) × Says number line said
-    × AreSaid (before ++ said) (suc number) lines instructions
+-- the same behind whatever was said before
+abbrev pub SaysAt : LineRule Instruction
+SaysAt before number line said = Says number line said
 
--- lines are a script of these instructions; they are counted from 1
-abbrev pub AreScript : List (List ℕ) → List Instruction → Type 0
-AreScript lines instructions = AreSaid [] 1 lines instructions
-
+-- the bytes are a script of these instructions
 abbrev pub IsScript : List ℕ → List Instruction → Type 0
-IsScript bytes instructions = AreScript (lines_of bytes) instructions
+IsScript bytes instructions = Say SaysAt (lines_of bytes) instructions
 
 -- some bytes are a script of these instructions
 abbrev pub IsOfSomeScript : List Instruction → Type 0
 IsOfSomeScript instructions = (bytes : List ℕ) × IsScript bytes instructions
 
--- the line of this number is the first with which no script begins
+-- the line of this number, counted from 1, is the first with which no script begins
 abbrev pub IsFirstBad : List ℕ → ℕ → Type 0
-IsFirstBad bytes number =
-    (place : ℕ) × (number ≡ place + 1)
-    × IsUnexpected (λ (u : Unit {0}). AreScript) tt (lines_of bytes) place
+IsFirstBad bytes number = lines.IsFirstBad SaysAt bytes number

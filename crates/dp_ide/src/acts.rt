@@ -1,7 +1,7 @@
 //! The instruction of a line.
 ghost use Rattle.std.specs.Prelude.{◌≡◌, ◌≢◌, ◌↔◌, ◌++◌, ℕ, List, IfOk, IsTrue, MatchOption, codes, option_map};
 ghost use Rattle.dp_wire.specs.Frames.{IsCommand};
-ghost use Rattle.dp_ide.specs.Scripts.{Asks};
+ghost use Rattle.dp_ide.specs.Scripts.{ActLine};
 ghost use Rattle.dp_ide.specs.inner.Readers.{IsNamed, Reads};
 
 use crate::instruction::Act;
@@ -27,7 +27,7 @@ fn is_command(line: &[u8]) -> bool
 
 /// The command of a `send`: a line with an `-i`.
 fn send_in(alloc: Global, line: &[u8]) -> Result<Option<Act>, Memory>
-    ensures { IfOk result (Reads Asks (codes "send " ++ line.now)) }
+    ensures { IfOk result (Reads ActLine (codes "send " ++ line.now)) }
 {
     if !is_command(line) {
         return Ok(None);
@@ -64,7 +64,7 @@ fn named_in(alloc: Global, bytes: &[u8]) -> Result<Option<Named>, Memory>
 }
 
 fn attr_in(alloc: Global, bytes: &[u8]) -> Result<Option<Act>, Memory>
-    ensures { IfOk result (Reads Asks (codes "attr " ++ bytes.now)) }
+    ensures { IfOk result (Reads ActLine (codes "attr " ++ bytes.now)) }
 {
     match named_in(alloc, bytes)? {
         None => Ok(None),
@@ -73,7 +73,7 @@ fn attr_in(alloc: Global, bytes: &[u8]) -> Result<Option<Act>, Memory>
 }
 
 fn prop_in(alloc: Global, bytes: &[u8]) -> Result<Option<Act>, Memory>
-    ensures { IfOk result (Reads Asks (codes "prop " ++ bytes.now)) }
+    ensures { IfOk result (Reads ActLine (codes "prop " ++ bytes.now)) }
 {
     match named_in(alloc, bytes)? {
         None => Ok(None),
@@ -82,7 +82,7 @@ fn prop_in(alloc: Global, bytes: &[u8]) -> Result<Option<Act>, Memory>
 }
 
 fn code_in(bytes: &[u8]) -> Option<Act>
-    ensures { Reads Asks (codes "code " ++ bytes.now) result }
+    ensures { Reads ActLine (codes "code " ++ bytes.now) result }
 {
     match number_in(bytes) {
         None => None,
@@ -91,7 +91,7 @@ fn code_in(bytes: &[u8]) -> Option<Act>
 }
 
 fn out_in(alloc: Global, bytes: &[u8]) -> Result<Option<Act>, Memory>
-    ensures { IfOk result (Reads Asks (codes "out" ++ bytes.now)) }
+    ensures { IfOk result (Reads ActLine (codes "out" ++ bytes.now)) }
 {
     match text_behind(alloc, bytes)? {
         None => Ok(None),
@@ -101,7 +101,7 @@ fn out_in(alloc: Global, bytes: &[u8]) -> Result<Option<Act>, Memory>
 
 /// The instruction that a line spells.
 pub(crate) fn act_in(alloc: Global, line: &[u8]) -> Result<Option<Act>, Memory>
-    ensures { IfOk result (Reads Asks line.now) }
+    ensures { IfOk result (Reads ActLine line.now) }
 {
     if let Some(command) = behind(line, b"send ") {
         return send_in(alloc, command);

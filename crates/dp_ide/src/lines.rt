@@ -1,6 +1,6 @@
 //! The lines of a script.
 ghost use Rattle.std.specs.Prelude.{◌≡◌, ◌≢◌, ◌++◌, ℕ, List, MatchOption};
-ghost use Rattle.dp_ide.specs.Scripts as spec;
+ghost use Rattle.dp_grammar.specs.Lines as spec;
 ghost use Rattle.dp_ide.specs.inner.Readers.{IsRun};
 
 /// What stands behind the word that begins the bytes.

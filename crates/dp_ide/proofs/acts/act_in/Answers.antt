@@ -1,26 +1,26 @@
 use Rattle.std.proofs.Common.{rules, ◌≡◌, ◌≢◌, ◌++◌, true, List, ℕ, IfOk, codes, sym, subst, ◌∙◌}
 use Rattle.std.proofs.lemmas.Bool.Decides.{Decides-eqb}
 use Rattle.std.proofs.lemmas.Slice.Eq.{slice_eq-Decides}
-use Rattle.dp_ide.specs.Scripts.{Asks}
+use Rattle.dp_ide.specs.Scripts.{ActLine}
 use Rattle.dp_ide.specs.inner.Readers.{Reads}
 use Rattle.dp_ide.proofs.ActLaws.{reads_nothing, reads_print}
 use Rattle.dp_ide.proofs.acts.act_in.Goals as goal
 
 pub returns-in-Some : goal.returns-in-Some
 returns-in-Some c =
-    subst (λ (l : List ℕ). IfOk c.send_in.result (Reads Asks l)) (sym c.in-Some.ensures) c.send_in.ensures
+    subst (λ (l : List ℕ). IfOk c.send_in.result (Reads ActLine l)) (sym c.in-Some.ensures) c.send_in.ensures
 
 pub returns-in-Some-behind : goal.returns-in-Some-behind
 returns-in-Some-behind c =
-    subst (λ (l : List ℕ). IfOk c.attr_in.result (Reads Asks l)) (sym c.in-Some-behind.ensures) c.attr_in.ensures
+    subst (λ (l : List ℕ). IfOk c.attr_in.result (Reads ActLine l)) (sym c.in-Some-behind.ensures) c.attr_in.ensures
 
 pub returns-in-Some-behind-2 : goal.returns-in-Some-behind-2
 returns-in-Some-behind-2 c =
-    subst (λ (l : List ℕ). Reads Asks l c.code_in.result) (sym c.in-Some-behind-2.ensures) c.code_in.ensures
+    subst (λ (l : List ℕ). Reads ActLine l c.code_in.result) (sym c.in-Some-behind-2.ensures) c.code_in.ensures
 
 pub returns-in-Some-behind-3 : goal.returns-in-Some-behind-3
 returns-in-Some-behind-3 c =
-    subst (λ (l : List ℕ). IfOk c.prop_in.result (Reads Asks l)) (sym c.in-Some-behind-3.ensures) c.prop_in.ensures
+    subst (λ (l : List ℕ). IfOk c.prop_in.result (Reads ActLine l)) (sym c.in-Some-behind-3.ensures) c.prop_in.ensures
 
 pub returns-then-eq : goal.returns-then-eq
 returns-then-eq c =

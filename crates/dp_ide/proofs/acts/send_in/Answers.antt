@@ -3,7 +3,7 @@ use Rattle.dp_command.specs.Letters as letter
 use Rattle.dp_command.specs.Options.{given}
 use Rattle.dp_wire.specs.Frames.{IsCommand}
 use Rattle.dp_ide.specs.declared.instruction.Act.TheVariants.{Send}
-use Rattle.dp_ide.specs.Scripts.{Asks}
+use Rattle.dp_ide.specs.Scripts.{ActLine}
 use Rattle.dp_ide.specs.inner.Readers.{Reads}
 use Rattle.dp_ide.proofs.ActLaws.{no_command, no_id, no_line, reads_command, reads_send}
 use Rattle.dp_ide.proofs.acts.send_in.Goals as goal
@@ -27,7 +27,7 @@ returns c =
     let is : IsCommand line = search rules in
     let read = reads_send line (Some c.in-Some.id.now) (reads_command line c.in-Ok.parts
     (λ other is. sym (c.in-Ok.ensures.only other is)) c.in-Some.id.now is c.in-Ok.ensures.found id) in
-    subst (λ (l : List ℕ). Reads Asks (codes "send " ++ line) (Some (Send l c.in_ok-from_slice-in-Some-2.field-0)))
+    subst (λ (l : List ℕ). Reads ActLine (codes "send " ++ line) (Some (Send l c.in_ok-from_slice-in-Some-2.field-0)))
     (sym c.in_ok-from_slice-in-Some.ensures)
-    (subst (λ (i : List ℕ). Reads Asks (codes "send " ++ line) (Some (Send line i)))
+    (subst (λ (i : List ℕ). Reads ActLine (codes "send " ++ line) (Some (Send line i)))
     (sym c.in_ok-from_slice-in-Some-2.ensures) read)

@@ -4,7 +4,7 @@ use Rattle.std.proofs.lemmas.List.Elements.{All-nil}
 use Rattle.dp_outside.specs.Changes.{change}
 use Rattle.dp_ide.specs.declared.instruction.Instruction.{Instruction}
 use Rattle.dp_ide.specs.Plays.{Ends}
-use Rattle.dp_ide.specs.Scripts.{lines_of}
+use Rattle.dp_grammar.specs.Lines.{lines_of}
 use Rattle.dp_ide.specs.inner.Progress.{IsPlayable}
 use Rattle.dp_ide.proofs.OpenLaws.{playable}
 use Rattle.dp_ide.proofs.PlayLaws.{ends_unopened}

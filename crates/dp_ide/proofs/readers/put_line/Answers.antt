@@ -1,5 +1,5 @@
 use Rattle.std.proofs.Common.{rules, ◌≡◌, true, [], sym, append-nil}
-use Rattle.dp_ide.specs.Scripts.{is_idle}
+use Rattle.dp_grammar.specs.Lines.{is_idle}
 use Rattle.dp_ide.proofs.ActLaws.{idle_alone}
 use Rattle.dp_ide.proofs.readers.put_line.Goals as goal
 

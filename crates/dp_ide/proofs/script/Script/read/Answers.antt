@@ -1,6 +1,8 @@
 use Rattle.std.proofs.Common.{inl, ap}
 use Rattle.dp_ide.specs.declared.errors.IdeError.TheVariants.{BadScript}
-use Rattle.dp_ide.proofs.LineLaws.{no_bad, one_bad}
+use Rattle.dp_ide.specs.Scripts.{SaysAt}
+use Rattle.dp_ide.proofs.LineLaws.{no_bad}
+use Rattle.dp_grammar.proofs.Lines.{one_bad}
 use Rattle.dp_ide.proofs.script.Script.read.Goals as goal
 
 pub returns-in-Ok-clause-bad_only : goal.returns-in-Ok-clause-bad_only
@@ -16,4 +18,4 @@ returns-in-Err-clause-only c =
 pub returns-in-Err-clause-bad_only : goal.returns-in-Err-clause-bad_only
 returns-in-Err-clause-bad_only c =
     let bad = rw c.in-Err.is at c.in_ok-said.ensures in
-    λ line first. inl (ap BadScript (one_bad c.args.bytes.now c.in-Err.line line bad first))
+    λ line first. inl (ap BadScript (one_bad SaysAt c.args.bytes.now c.in-Err.line line bad first))
