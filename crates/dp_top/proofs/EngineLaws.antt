@@ -13,7 +13,7 @@ use Rattle.dp_top.specs.declared.failures.Refused.{Refused}
 use Rattle.dp_words.specs.CommandLine.{Address, Invocation}
 use Rattle.dp_top.specs.Engine.{Engages, EngineFails, IsApart, IsIdle}
 use Rattle.dp_top.specs.Links.{IsDialled, IsUndialled, dial_of}
-use Rattle.dp_top.specs.Runs.{IsProgramTold}
+use Rattle.dp_top.specs.Runs.{IsProgramReported}
 use Rattle.dp_top.specs.Seen.{Net, Seen, changed}
 use Rattle.dp_top.specs.inner.Dialled.{EngagedSo, UnengagedSo}
 use Rattle.dp_top.specs.inner.Sessions.{ServedSo, UnservedSo}
@@ -156,7 +156,7 @@ module _ (address : Address) (key : List ℕ) (ask : Invocation) (old new : Seen
 
   pub none_engaged : (refused : Refused) (why : ProgramError)
       → ProgramCaused why old.shelf.files old.shelf.faults new.shelf.faults ask.names
-      → IsProgramTold refused.failure refused.name.now ask why → IsIdle old new
+      → IsProgramReported refused.failure refused.name.now ask why → IsIdle old new
       → EngineFails refused.failure refused.name.now address key ask old new
   none_engaged refused why caused told idle =
       inr (inl (record { cause = why; caused = caused; told = told; idle = idle }))

@@ -18,22 +18,22 @@ use Rattle.dp_top.specs.declared.failures.Failure.TheVariants as failure
 use Rattle.dp_top.specs.declared.failures.Refused.{Refused}
 use Rattle.dp_top.specs.Engine.{IsApart, IsIdle}
 use Rattle.dp_top.specs.Failures.{status_of}
-use Rattle.dp_top.specs.Ide.{IdeFails, IsBadAt, IsHeldScript, IsNoScript, IsPlayed, Plays, Unread, failure_of}
+use Rattle.dp_top.specs.Ide.{IdeFails, IsBadAt, IsNoScript, IsPlayed, IsScriptFile, Plays, Unread, failure_of}
 use Rattle.dp_top.specs.Lines.{lines_limit}
-use Rattle.dp_top.specs.Links.{IsAccepted, IsGated, IsUncalled, Tells}
+use Rattle.dp_top.specs.Links.{IsAccepted, IsGated, IsUncalled, ReportsLinks}
 use Rattle.dp_top.specs.Seen.{Net, NoneRose, Seen, changed}
 use Rattle.dp_top.specs.Tasks.{Caused, Does}
-use Rattle.dp_top.specs.inner.Gated.{Called, DoorSeen, GatedSo, IsBadScript, IsToldBy, MetSo, NoCall, PlayedSo, UnreadSo}
+use Rattle.dp_top.specs.inner.Gated.{Called, DoorSeen, GatedSo, IsBadScript, IsReportedBy, MetSo, NoCall, PlayedSo, UnreadSo}
 use Rattle.dp_top.proofs.TaskLaws.{one_task, returned_rose}
 use Rattle.dp_words.specs.CommandLine.{IsInvocation, IsIde, Task, ide}
 
 -- ---- a gate
 
-tells_none : (told : Option (List Link)) → BeginsEmpty told → Tells told []
+tells_none : (told : Option (List Link)) → BeginsEmpty told → ReportsLinks told []
 tells_none None empty = tt
 tells_none (Some told) empty = empty
 
-tells_grown : (told : Option (List Link)) (links : List Link) → BeginsEmpty told → Tells (grown told links) links
+tells_grown : (told : Option (List Link)) (links : List Link) → BeginsEmpty told → ReportsLinks (grown told links) links
 tells_grown None links empty = tt
 tells_grown (Some told) links empty = ap (λ (l : List Link). l ++ links) empty
 
@@ -41,8 +41,8 @@ pub no_call : (old new : DoorSeen) (out : Change) → BeginsEmpty old.accepted �
     → new.accepted ≡ grown old.accepted [] → new.retired ≡ old.retired
     → Rose old.faults new.faults → IsUntouched out → NoCall new out
 no_call old new out gave took none given back rose stays = record {
-  gave = subst (λ (t : Option (List Link)). Tells t []) (sym given) (tells_grown old.accepted [] gave);
-  took = subst (λ (t : Option (List Link)). Tells t []) (sym back) (tells_none old.retired took);
+  gave = subst (λ (t : Option (List Link)). ReportsLinks t []) (sym given) (tells_grown old.accepted [] gave);
+  took = subst (λ (t : Option (List Link)). ReportsLinks t []) (sym back) (tells_none old.retired took);
   failed = omega (arith, rose, none);
   out_stays = stays;
 }
@@ -73,10 +73,10 @@ called end instructions given back first read last sent old over new out none no
             λ i. record { told_before = given.taken; told = back.taken; faults_before = nothing i; faults = sent };
       };
       gave =
-          subst (λ (t : Option (List Link)). Tells t (given ∷ [])) (sym (same ∙ given_is))
+          subst (λ (t : Option (List Link)). ReportsLinks t (given ∷ [])) (sym (same ∙ given_is))
           (tells_grown old.accepted (given ∷ []) gave);
       took =
-          subst (λ (t : Option (List Link)). Tells t (back ∷ []))
+          subst (λ (t : Option (List Link)). ReportsLinks t (back ∷ []))
           (sym (came ∙ ap (λ (t : Option (List Link)). grown t (back ∷ [])) kept))
           (tells_grown old.retired (back ∷ []) took);
       counted =
@@ -91,7 +91,7 @@ module _ (port at : ℕ) (door : DoorSeen) (old over new : Net) (at_port : at �
     (shut_2 : new.shut ≡ grown over.shut (record { port = at; accepted = door.accepted; retired = door.retired } ∷ []))
     (faults : new.faults ≡ over.faults)
     (counts : CountsReturned (door.faults + door.returned) over.returned new.returned) where
-  was_gated : (given back : List Link) → Tells door.accepted given → Tells door.retired back
+  was_gated : (given back : List Link) → ReportsLinks door.accepted given → ReportsLinks door.retired back
       → IsGated port given back (door.faults + door.returned) old new
   was_gated given back gave took = record {
     door = record { port = at; accepted = door.accepted; retired = door.retired };
@@ -135,7 +135,7 @@ module _ (port at : ℕ) (door : DoorSeen) (old over new : Net) (at_port : at �
 -- ---- the end of the command
 
 module _ (port : ℕ) (script : List ℕ) (old new : Seen) (apart : IsApart old new) where
-  module _ (instructions : List Instruction) (held : IsHeldScript old.shelf.files script instructions) where
+  module _ (instructions : List Instruction) (held : IsScriptFile old.shelf.files script instructions) where
     was_played : (end : Result (Unit {0}) IdeError)
         → PlayedSo end port instructions (changed old.out new.out) old.net new.net → IsPlayed end port script old new
     was_played end h =
@@ -152,7 +152,7 @@ module _ (port : ℕ) (script : List ℕ) (old new : Seen) (apart : IsApart old 
 
     told_so : (played : Option (Result (Unit {0}) IdeError))
         → GatedSo played port instructions (changed old.out new.out) old.net new.net → (why : Failure) (name : List ℕ)
-        → IsToldBy played why → name ≡ [] → IdeFails why name port script old new
+        → IsReportedBy played why → name ≡ [] → IdeFails why name port script old new
     told_so None h why name is none =
         inr (inr (inl (
           is,
@@ -173,7 +173,7 @@ module _ (port : ℕ) (script : List ℕ) (old new : Seen) (apart : IsApart old 
     pub played_told : (played : Option (Result (Unit {0}) IdeError)) (result : Result ℕ Refused)
         → GatedSo played port instructions (changed old.out new.out) old.net new.net
         → IfOk result (λ status. (status ≡ 0) × (played ≡ Some (Ok tt)))
-        → IfErr result (λ why. IsToldBy played why.failure × (why.name.now ≡ []))
+        → IfErr result (λ why. IsReportedBy played why.failure × (why.name.now ≡ []))
         → MatchResult result (λ status. Plays status port script old new)
         (λ why. IdeFails why.failure why.name.now port script old new)
     played_told played (Ok status) h well ill = (
@@ -221,7 +221,7 @@ same_content (Some files) name limit one other told p q =
     p.2 ∙ ap (λ (l : List ℕ). take (limit + 1) l) same ∙ sym q.2
 
 held_or_bad : (files : Files) (name : List ℕ) (line : ℕ) (instructions : List Instruction) → IsSome files
-    → IsHeldScript files name instructions → IsNoScript files name line → ⊥
+    → IsScriptFile files name instructions → IsNoScript files name line → ⊥
 held_or_bad files name line instructions told held none = by none.bad where
   same : none.content ≡ held.content
   same = same_content files name lines_limit none.content held.content told none.fetched held.fetched
@@ -276,7 +276,7 @@ module _ (port line : ℕ) (script : List ℕ) (old new : Seen) (told : IsSome o
   abbrev IsRefusal : Failure → Type 0
   IsRefusal why = (status_of why ≡ 204) ⊎ (status_of why ≡ 209) ⊎ Rose old.shelf.faults new.shelf.faults
 
-  never_held : (instructions : List Instruction) → IsHeldScript old.shelf.files script instructions → ⊥
+  never_held : (instructions : List Instruction) → IsScriptFile old.shelf.files script instructions → ⊥
   never_held instructions held = held_or_bad old.shelf.files script line instructions told held bad
 
   unread : (why : Failure) (name : List ℕ) → Unread why name script old.shelf.files old.shelf.faults new.shelf.faults
@@ -333,7 +333,7 @@ script_refused_done status words task old new asks does port line script is told
 -- ---- what is told where it is one
 
 module _ (port : ℕ) (script : List ℕ) (instructions : List Instruction) (old new : Seen) (told : IsSome old.shelf.files)
-    (held : IsHeldScript old.shelf.files script instructions) where
+    (held : IsScriptFile old.shelf.files script instructions) where
   not_204 : (end : IdeError) (given : List Instruction) (source sink out : Change)
       → Ends given (Err end) source sink out → status_of (failure_of end) ≡ 204 → ⊥
   not_204 (ends.BadScript line) given source sink out e is = never_bad given line source sink out e
@@ -434,7 +434,7 @@ pub script_held_told : (status : ℕ) (words : List (List ℕ)) (task : Task) (o
     → Caused refused.failure refused.name.now task old new
     → ((status ≡ status_of refused.failure) × A) ⊎ ((status ≡ 209) × B)
     → (port : ℕ) (script : List ℕ) (instructions : List Instruction) → IsIde words port script → IsSome old.shelf.files
-    → IsHeldScript old.shelf.files script instructions → status ≡ 204 → ⊥
+    → IsScriptFile old.shelf.files script instructions → status ≡ 204 → ⊥
 script_held_told status words task old new refused A B asks caused is_told port script instructions is told held e =
     by is_told where
       fails : IdeFails refused.failure refused.name.now port script old new
@@ -452,7 +452,7 @@ pub complete_ide_told : (status : ℕ) (words : List (List ℕ)) (task : Task) (
     → Caused refused.failure refused.name.now task old new
     → ((status ≡ status_of refused.failure) × A) ⊎ ((status ≡ 209) × B)
     → (port : ℕ) (script : List ℕ) (instructions : List Instruction) → IsIde words port script → IsSome old.shelf.files
-    → IsHeldScript old.shelf.files script instructions → NoneRose old new
+    → IsScriptFile old.shelf.files script instructions → NoneRose old new
     → (status ≡ 0) ⊎ (status ≡ 205) ⊎ (status ≡ 206) ⊎ (status ≡ 207) ⊎ (status ≡ 209)
 complete_ide_told status words task old new refused A B asks caused is_told port script instructions is told held none =
     by is_told (ide_end port script instructions old new told held none refused.failure refused.name.now

@@ -1,7 +1,7 @@
-pub mod RunTold
+pub mod RunReports
 pub mod TalkLaws
 pub mod TaskLaws
 pub mod EngineLaws
 pub mod IdeLaws
 pub mod ReplayLaws
-pub mod ReplayTold
+pub mod ReplayReports

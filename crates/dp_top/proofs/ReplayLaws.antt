@@ -13,7 +13,7 @@ use Rattle.dp_lists.specs.Lists.{IsFirstBad}
 use Rattle.dp_lists.proofs.ListLaws.{bad_excludes}
 use Rattle.dp_run.specs.declared.errors.ProgramError.{ProgramError}
 use Rattle.dp_run.specs.declared.errors.ProgramError.TheVariants as none
-use Rattle.dp_run.specs.Programs.{AreFetched, Files, IsComplete as IsRunHeld, IsUnmade, IsUnread, NamesMake, ProgramCaused, RequestedNames}
+use Rattle.dp_run.specs.Programs.{AreFetched, Files, IsComplete as IsRunComplete, IsUnmade, IsUnread, NamesMake, ProgramCaused, RequestedNames}
 use Rattle.dp_run.proofs.RunLaws.{program_caused, program_made}
 use Rattle.dp_world.specs.declared.errors.ReplayError.TheVariants as ends
 use Rattle.dp_world.specs.Replays.{Replays}
@@ -21,10 +21,10 @@ use Rattle.dp_top.specs.declared.failures.Failure.{Failure}
 use Rattle.dp_top.specs.declared.failures.Failure.TheVariants as failure
 use Rattle.dp_top.specs.declared.failures.Refused.{Refused}
 use Rattle.dp_top.specs.Failures.{status_of}
-use Rattle.dp_top.specs.inner.Held.{IsHeld}
-use Rattle.dp_top.specs.Replay.{IsBadAt, IsHeldList, IsReplayed, ReadBefore, ReplayFails, Unlisted}
+use Rattle.dp_top.specs.inner.Completeness.{IsComplete}
+use Rattle.dp_top.specs.Replay.{IsBadAt, IsListFile, IsReplayed, ReadBefore, ReplayFails, Unlisted}
 use Rattle.dp_top.specs.Lines.{lines_limit}
-use Rattle.dp_top.specs.Runs.{AreFetched as OnlyFetched, IsProgramTold}
+use Rattle.dp_top.specs.Runs.{AreFetched as OnlyFetched, IsProgramReported}
 use Rattle.dp_top.specs.inner.EventLists.{EndsFetched, EndsOver, EndsReplay, IsBadList, IsWholeList, UnlistedSo}
 use Rattle.dp_top.proofs.IdeLaws.{same_content}
 use Rattle.dp_words.specs.CommandLine.{Invocation}
@@ -59,13 +59,13 @@ unlisted_fails why name events ask files before after out (inl memory) idle = in
 unlisted_fails why name events ask files before after out (inr unlisted) idle = inr (inl (unlisted, idle))
 
 pub held_list : (files : Files) (name content : List ℕ) (events : List Event) → Fetches files name lines_limit content
-    → IsWholeList content events → IsHeldList files name events
+    → IsWholeList content events → IsListFile files name events
 held_list files name content events fetched whole =
     record { content = content; fetched = fetched; fits = whole.fits; is_list = whole.is_list }
 
 -- a list is not bad, and not lacking
 pub held_or_bad : (files : Files) (name content : List ℕ) (events : List Event) (line : ℕ) → IsSome files
-    → IsHeldList files name events → Fetches files name lines_limit content
+    → IsListFile files name events → Fetches files name lines_limit content
     → IsBadAt content line → ⊥
 held_or_bad files name content events line told held fetched bad = by bad where
   same : content ≡ held.content
@@ -82,26 +82,26 @@ held_or_lacking None name content told p lacks = absurd cc
 held_or_lacking (Some files) name content told p lacks = let both : Some p.0 ≡ None = sym p.1 ∙ lacks in cc
 
 -- out of memory is no bad source, and told where there is one
-memory_held : (asked : Result Bundle BundleError) (refused : Refused) (before after : ℕ)
-    → refused.failure ≡ failure.Memory → IsHeld {A = ℕ} asked (Err refused) before after
-memory_held (Ok program) refused before after is = (
+memory_complete : (asked : Result Bundle BundleError) (refused : Refused) (before after : ℕ)
+    → refused.failure ≡ failure.Memory → IsComplete {A = ℕ} asked (Err refused) before after
+memory_complete (Ok program) refused before after is = (
   (λ e. omega (arith, ap status_of is, e)),
   (λ e. let clash : failure.Memory ≡ failure.NoFile = sym is ∙ e in absurd
       cc),
 )
-memory_held (Err e) refused before after is = inl (inr is)
+memory_complete (Err e) refused before after is = inl (inr is)
 
-module _ (files : Files) (before after : ℕ) (events : List ℕ) (list : List Event) (held : IsHeldList files events list)
+module _ (files : Files) (before after : ℕ) (events : List ℕ) (list : List Event) (held : IsListFile files events list)
     (told : IsSome files) (asked : Result Bundle BundleError)
     (refused : Refused) where
   -- bytes that are no list
   pub bad_held : (content : List ℕ) → Fetches files events lines_limit content
-      → IsBadList refused.failure refused.name.now content → IsHeld {A = ℕ} asked (Err refused) before after
+      → IsBadList refused.failure refused.name.now content → IsComplete {A = ℕ} asked (Err refused) before after
   bad_held content fetched bad = by refused.failure refl bad where
     by : (why : Failure) → refused.failure ≡ why → IsBadList why refused.name.now content
-        → IsHeld {A = ℕ} asked (Err refused) before after
+        → IsComplete {A = ℕ} asked (Err refused) before after
     by (failure.Script line) is b = absurd (held_or_bad files events content list line told held fetched b.1)
-    by failure.Memory is b = memory_held asked refused before after is
+    by failure.Memory is b = memory_complete asked refused before after is
     by failure.TooLong is b = absurd b
     by (failure.Source reason number) is b = absurd b
     by failure.ShelfFailed is b = absurd b
@@ -117,11 +117,11 @@ module _ (files : Files) (before after : ℕ) (events : List ℕ) (list : List E
 
   -- a list that was not fetched
   pub unlisted_held : UnlistedSo refused.failure refused.name.now events files before after
-      → IsHeld {A = ℕ} asked (Err refused) before after
-  unlisted_held (inl memory) = memory_held asked refused before after memory
+      → IsComplete {A = ℕ} asked (Err refused) before after
+  unlisted_held (inl memory) = memory_complete asked refused before after memory
   unlisted_held (inr unlisted) = by refused.failure refl unlisted where
     failed : (a : Result Bundle BundleError) → refused.failure ≡ failure.ShelfFailed → Rose before after
-        → IsHeld {A = ℕ} a (Err refused) before after
+        → IsComplete {A = ℕ} a (Err refused) before after
     failed (Ok program) is rose = (
       (λ e. omega (arith, ap status_of is, e)),
       (λ e. let clash : failure.ShelfFailed ≡ failure.NoFile = sym is ∙ e
@@ -130,7 +130,7 @@ module _ (files : Files) (before after : ℕ) (events : List ℕ) (list : List E
     failed (Err e) is rose = inr rose
 
     by : (why : Failure) → refused.failure ≡ why → Unlisted why refused.name.now events files before after
-        → IsHeld {A = ℕ} asked (Err refused) before after
+        → IsComplete {A = ℕ} asked (Err refused) before after
     by failure.ShelfFailed is u = failed asked is u.1
     by failure.NoFile is u = absurd (held_or_lacking files events held.content told held.fetched u.1)
     by (failure.Script line) is u =
@@ -148,13 +148,14 @@ module _ (files : Files) (before after : ℕ) (events : List ℕ) (list : List E
     by failure.Stopped is u = absurd u
 
 -- a list that was replayed over a program
-pub over_held : (asked : Result Bundle BundleError) (program : Bundle) (result : Result ℕ Refused) (list : List Event)
+pub over_complete : (asked : Result Bundle BundleError) (program : Bundle) (result : Result ℕ Refused)
+    (list : List Event)
     (bound before after : ℕ) (out : Change)
-    → IsRunHeld {A = Bundle} asked (Ok program) before after → EndsOver result list program bound out
-    → IsHeld asked result before after
-over_held (Err e) program result list bound before after out h over = absurd h
-over_held (Ok made) program (Ok status) list bound before after out h over = tt
-over_held (Ok made) program (Err why) list bound before after out h over = by over.1 where
+    → IsRunComplete {A = Bundle} asked (Ok program) before after → EndsOver result list program bound out
+    → IsComplete asked result before after
+over_complete (Err e) program result list bound before after out h over = absurd h
+over_complete (Ok made) program (Ok status) list bound before after out h over = tt
+over_complete (Ok made) program (Err why) list bound before after out h over = by over.1 where
   good : (w : Failure) → why.failure ≡ w → (status_of w ≡ 201 → ⊥) → (w ≡ failure.NoFile → ⊥)
       → (status_of why.failure ≡ 201 → ⊥) × (why.failure ≡ failure.NoFile → ⊥)
   good w is p q = ((λ e. p (sym (ap status_of is) ∙ e)), (λ e. q (sym is ∙ e)))
@@ -168,7 +169,7 @@ over_held (Ok made) program (Err why) list bound before after out h over = by ov
 -- ---- what was fetched
 
 module _ (files : Files) (before after : ℕ) (events : List ℕ) (ask : Invocation) (out : Change) where
-  module _ (list : List Event) (held : IsHeldList files events list) where
+  module _ (list : List Event) (held : IsListFile files events list) where
     read_before : (why : ProgramError) → ReadBefore why files events
     read_before (none.TooLong file) = (list, held)
     read_before (none.Source file why) = (list, held)
@@ -179,7 +180,7 @@ module _ (files : Files) (before after : ℕ) (events : List ℕ) (ask : Invocat
     module _ (fetched : List Given) (are : AreFetched files ask.names fetched) where
       -- the files make no program
       pub unmade_fails : (cause : ProgramError) (why : Failure) (name : List ℕ) → IsUnmade fetched cause
-          → IsProgramTold why name ask cause → IsUntouched out
+          → IsProgramReported why name ask cause → IsUntouched out
           → ReplayFails why name events ask files before after out
       unmade_fails cause why name made told idle =
           inr (inr (inl (
@@ -245,7 +246,7 @@ module _ (files : Files) (before after : ℕ) (events : List ℕ) (ask : Invocat
   -- the files were not fetched
   pub unfetched_fails : (cause : ProgramError) (why : Failure) (name : List ℕ) (first : ℕ) → before ≤ first
       → ProgramCaused cause files first after ask.names → IsUnread cause
-      → IsProgramTold why name ask cause → IsUntouched out → ReplayFails why name events ask files before after out
+      → IsProgramReported why name ask cause → IsUntouched out → ReplayFails why name events ask files before after out
   unfetched_fails cause why name first earlier caused unread told idle =
       inr (inr (inl (
         record {

@@ -17,7 +17,7 @@ use Rattle.dp_engine.specs.Session.{State, outcome_of}
 use Rattle.dp_meaning.proofs.Exits.{exit_small}
 use Rattle.dp_run.specs.declared.errors.RunError.{RunError}
 use Rattle.dp_run.specs.declared.errors.ProgramError.{ProgramError}
-use Rattle.dp_run.specs.Programs.{IsComplete as IsRunHeld, NamesMake, ProgramCaused}
+use Rattle.dp_run.specs.Programs.{IsComplete as IsRunComplete, NamesMake, ProgramCaused}
 use Rattle.dp_run.specs.Runs.{judged as judged_end}
 use Rattle.dp_state.specs.declared.moments.Outcome.{Outcome}
 use Rattle.dp_state.specs.declared.moments.Outcome.TheVariants as way
@@ -25,29 +25,29 @@ use Rattle.dp_top.specs.declared.failures.Failure.{Failure}
 use Rattle.dp_top.specs.declared.failures.Failure.TheVariants as failure
 use Rattle.dp_top.specs.declared.failures.Refused.{Refused}
 use Rattle.dp_words.specs.CommandLine.{AreFileWords, Invocation}
-use Rattle.dp_top.specs.Runs.{IsProgramTold, IsRunTold}
-use Rattle.dp_top.specs.inner.Held.{IsGood, IsHeld}
+use Rattle.dp_top.specs.Runs.{IsProgramReported, IsRunReported}
+use Rattle.dp_top.specs.inner.Completeness.{IsComplete, IsGood}
 use Rattle.dp_top.specs.Seen.{Seen, changed}
-use Rattle.dp_top.specs.Talk.{AreIdle, Talks, TalkFails, Told, end_told, ended, judged_by, unnamed}
-use Rattle.dp_top.specs.inner.Sessions.{ServedSo, UnservedSo, told_in}
+use Rattle.dp_top.specs.Talk.{AreIdle, Talks, TalkFails, EndReport, end_report, ended, judged_by, unnamed}
+use Rattle.dp_top.specs.inner.Sessions.{ServedSo, UnservedSo, reported_in}
 use Rattle.dp_words.proofs.NameLaws.{names_of}
 
 -- ---- what is told
 
 pub unnamed_told : (refused : Refused) (why : Failure) → refused.failure ≡ why → refused.name.now ≡ []
-    → told_in (Err refused) ≡ unnamed why
+    → reported_in (Err refused) ≡ unnamed why
 unnamed_told refused why failed name = λ i. Err (failed i, name i)
 
 pub end_status : (ask : Invocation) (status : ℕ) (outcome : Outcome) → Ok status ≡ judged_end outcome
-    → told_in (Ok status) ≡ ended ask (Some outcome)
-end_status ask status outcome e = ap (end_told ask) e
+    → reported_in (Ok status) ≡ ended ask (Some outcome)
+end_status ask status outcome e = ap (end_report ask) e
 
 pub end_failure : (ask : Invocation) (refused : Refused) (why : RunError) (outcome : Outcome)
-    → IsRunTold refused.failure refused.name.now ask why → Err why ≡ judged_end outcome
-    → told_in (Err refused) ≡ ended ask (Some outcome)
-end_failure ask refused why outcome told e = (λ i. Err (told.0 i, told.1 i)) ∙ ap (end_told ask) e
+    → IsRunReported refused.failure refused.name.now ask why → Err why ≡ judged_end outcome
+    → reported_in (Err refused) ≡ ended ask (Some outcome)
+end_failure ask refused why outcome told e = (λ i. Err (told.0 i, told.1 i)) ∙ ap (end_report ask) e
 
-pub by_its_end : (unsent : Failure) (ask : Invocation) (served : Served) (end : ServeEnd) (told : Told)
+pub by_its_end : (unsent : Failure) (ask : Invocation) (served : Served) (end : ServeEnd) (told : EndReport)
     → served.end ≡ end
     → told ≡ judged_by unsent ask served.outcome end
     → told ≡ judged_by unsent ask served.outcome served.end
@@ -55,11 +55,11 @@ by_its_end unsent ask served end told is e = e ∙ ap (judged_by unsent ask serv
 
 -- ---- no end of a session is a bad source
 
-abbrev IsGoodTold : Told → Type 0
-IsGoodTold (Ok status) = Unit {0}
-IsGoodTold (Err why) = IsGood why.0
+abbrev IsGoodReport : EndReport → Type 0
+IsGoodReport (Ok status) = Unit {0}
+IsGoodReport (Err why) = IsGood why.0
 
-good_end : (ask : Invocation) (outcome : Option Outcome) → IsGoodTold (ended ask outcome)
+good_end : (ask : Invocation) (outcome : Option Outcome) → IsGoodReport (ended ask outcome)
 good_end ask None = ((λ e. omega (arith, e)), (λ e. cc))
 good_end ask (Some way.Done) = tt
 good_end ask (Some (way.Exit status)) = tt
@@ -67,7 +67,7 @@ good_end ask (Some (way.Fatal kind file line)) = ((λ e. omega (arith, e)), (λ 
 good_end ask (Some way.Bound) = ((λ e. omega (arith, e)), (λ e. cc))
 
 good_judged : (unsent : Failure) → IsGood unsent → (ask : Invocation) (outcome : Option Outcome) (end : ServeEnd)
-    → IsGoodTold (judged_by unsent ask outcome end)
+    → IsGoodReport (judged_by unsent ask outcome end)
 good_judged unsent good ask outcome Stopped = good_end ask outcome
 good_judged unsent good ask outcome Detached = good_end ask outcome
 good_judged unsent good ask outcome LinkEnd = good_end ask outcome
@@ -79,10 +79,10 @@ good_judged unsent good ask outcome ByteLimit = ((λ e. omega (arith, e)), (λ e
 good_judged unsent good ask outcome Memory = ((λ e. omega (arith, e)), (λ e. cc))
 
 pub good_served : (unsent : Failure) → IsGood unsent → (ask : Invocation) (served : Served) (result : Result ℕ Refused)
-    → told_in result ≡ judged_by unsent ask served.outcome served.end → IfErr result (λ why. IsGood why.failure)
+    → reported_in result ≡ judged_by unsent ask served.outcome served.end → IfErr result (λ why. IsGood why.failure)
 good_served unsent good ask served (Ok status) told = tt
 good_served unsent good ask served (Err why) told =
-    subst IsGoodTold (sym told) (good_judged unsent good ask served.outcome served.end)
+    subst IsGoodReport (sym told) (good_judged unsent good ask served.outcome served.end)
 
 pub good_memory : (refused : Refused) → refused.failure ≡ failure.Memory → IsGood refused.failure
 good_memory refused memory = subst IsGood (sym memory) ((λ e. omega (arith, e)), (λ e. cc))
@@ -118,13 +118,13 @@ module _ (unsent : Failure) (ask : Invocation) (served : Served) (program : Bund
   small status ByteLimit s e = absurd (cc)
   small status Memory s e = absurd (cc)
 
-  pub small_served : (result : Result ℕ Refused) → told_in result ≡ judged_by unsent ask served.outcome served.end
+  pub small_served : (result : Result ℕ Refused) → reported_in result ≡ judged_by unsent ask served.outcome served.end
       → Serves served program ask.bound key input out err → IfOk result (λ status. status ≤ 199)
   small_served (Ok status) told s = small status served.end s (sym told)
   small_served (Err why) told s = tt
 
   -- what was served is what is told
-  pub served_told : (result : Result ℕ Refused) → told_in result ≡ judged_by unsent ask served.outcome served.end
+  pub served_told : (result : Result ℕ Refused) → reported_in result ≡ judged_by unsent ask served.outcome served.end
       → Serves served program ask.bound key input out err
       → MatchResult result (λ status. ServedSo unsent status program key ask input out err)
       (λ why. UnservedSo unsent why.failure why.name.now program key ask input out err)
@@ -155,16 +155,17 @@ module _ (key : List ℕ) (ask : Invocation) (old new : Seen) where
 
   pub none_served : (refused : Refused) (why : ProgramError)
       → ProgramCaused why old.shelf.files old.shelf.faults new.shelf.faults ask.names
-      → IsProgramTold refused.failure refused.name.now ask why → AreIdle old new
+      → IsProgramReported refused.failure refused.name.now ask why → AreIdle old new
       → TalkFails refused.failure refused.name.now key ask old new
   none_served refused why caused told idle =
       inr (inl (record { cause = why; caused = caused; told = told; idle = idle }))
 
-pub held_served : (asked : Result Bundle BundleError) (program : Bundle) (result : Result ℕ Refused) (before after : ℕ)
-    → IsRunHeld {A = Bundle} asked (Ok program) before after
-    → ((made : Bundle) (b a : ℕ) → IsHeld (Ok made) result b a) → IsHeld asked result before after
-held_served (Ok made) program result before after held good = good made before after
-held_served (Err e) program result before after held good = absurd held
+pub complete_served : (asked : Result Bundle BundleError) (program : Bundle) (result : Result ℕ Refused)
+    (before after : ℕ)
+    → IsRunComplete {A = Bundle} asked (Ok program) before after
+    → ((made : Bundle) (b a : ℕ) → IsComplete (Ok made) result b a) → IsComplete asked result before after
+complete_served (Ok made) program result before after held good = good made before after
+complete_served (Err e) program result before after held good = absurd held
 
 -- the files of a program that was made of the files of these words have their names, which are names of files
 pub are_named : (words : List (String Global)) (program : Bundle)

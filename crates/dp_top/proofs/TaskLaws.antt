@@ -17,7 +17,7 @@ use Rattle.dp_run.specs.declared.errors.ProgramError.{ProgramError}
 use Rattle.dp_run.specs.declared.errors.ProgramError.TheVariants as none
 use Rattle.dp_run.specs.declared.errors.RunError.{RunError}
 use Rattle.dp_run.specs.declared.errors.RunError.TheVariants as end
-use Rattle.dp_run.specs.Programs.{Files, FilesMake, ProgramCaused, RequestedNames as FetchedTold}
+use Rattle.dp_run.specs.Programs.{Files, FilesMake, ProgramCaused, RequestedNames}
 use Rattle.dp_run.specs.Runs.{RunCaused}
 use Rattle.dp_state.specs.declared.moments.Outcome.{Outcome}
 use Rattle.dp_state.specs.declared.moments.Outcome.TheVariants as way
@@ -31,11 +31,11 @@ use Rattle.dp_top.specs.Ide.{IdeFails}
 use Rattle.dp_top.specs.Replay.{ReplayFails}
 use Rattle.dp_world.specs.declared.errors.ReplayError.TheVariants as replayed
 use Rattle.dp_top.specs.Runs.{RunFails, failure_of as failure_told, program_failure}
-use Rattle.dp_top.specs.inner.Held.{AreHeld, IsBadSource, IsGood}
+use Rattle.dp_top.specs.inner.Completeness.{AreComplete, IsBadSource, IsGood}
 use Rattle.dp_top.specs.Seen.{NoneRose, Seen, Stream, changed}
-use Rattle.dp_top.specs.Talk.{EndsSo, TalkFails, Told, ended, judged_by}
+use Rattle.dp_top.specs.Talk.{EndReport, EndsSo, TalkFails, ended, judged_by}
 use Rattle.dp_top.specs.Tasks.{failure_of, ShowCaused, Does, Caused, Fails, IsFetchedFor, before_line}
-use Rattle.dp_top.proofs.RunTold.{bad_source, nothing_fetched}
+use Rattle.dp_top.proofs.RunReports.{bad_source, nothing_fetched}
 use Rattle.dp_run.proofs.GrownNames.{grown_by_none}
 
 -- the name of a task
@@ -338,7 +338,7 @@ module _ (failed : Failure) (name key : List ℕ) (ask : Invocation) (old new : 
       → failed ≡ program_failure why → IsTalkEnd failed
   unserved why caused told = inr (inr (inr (no_program failed _ _ _ ask.names good none.shelf why caused told)))
 
-  abbrev failure_in : Told → Failure
+  abbrev failure_in : EndReport → Failure
   failure_in (Ok status) = failure.Memory
   failure_in (Err why) = why.0
 
@@ -399,7 +399,7 @@ module _ (failed : Failure) (name key : List ℕ) (ask : Invocation) (old new : 
 -- what the files of the program that is asked for make decides whether it fails by a bad source
 abbrev IsNoBadTask : Task → Refused → Seen → Seen → Type 0
 IsNoBadTask task refused old new =
-    (ask : Invocation) → invocation_in task ≡ Some ask → AreHeld {A = ℕ} ask (Err refused) old new
+    (ask : Invocation) → invocation_in task ≡ Some ask → AreComplete {A = ℕ} ask (Err refused) old new
 
 -- the same of the call's answer
 pub complete_talk_told : (status : ℕ) (words : List (List ℕ)) (task : Task) (old new : Seen) (refused : Refused)
@@ -650,12 +650,12 @@ shows_well status words task old new asks does is =
     (subst (λ (t : Task). Does status t old new) (one_task words task show asks is) does).0
 
 -- what was fetched for the task that is asked for
-pub asks_fetched : (words : List (List ℕ)) (task other : Task) (before after : FetchedTold) → IsInvocation words task
+pub asks_fetched : (words : List (List ℕ)) (task other : Task) (before after : RequestedNames) → IsInvocation words task
     → IsFetchedFor task before after → IsInvocation words other → IsFetchedFor other before after
 asks_fetched words task other before after asks is asked =
     subst (λ (t : Task). IsFetchedFor t before after) (one_task words task other asks asked) is
 
-pub none_fetched : (task : Task) (told : FetchedTold) → IsFetchedFor task told told
+pub none_fetched : (task : Task) (told : RequestedNames) → IsFetchedFor task told told
 none_fetched (run ask) told = nothing_fetched (Some ask) told
 none_fetched (talk key ask) told = nothing_fetched (Some ask) told
 none_fetched (engine address key ask) told = nothing_fetched (Some ask) told

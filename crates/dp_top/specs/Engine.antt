@@ -10,12 +10,12 @@ use Rattle.dp_top.specs.declared.failures.Failure.{Failure}
 use Rattle.dp_top.specs.declared.failures.Failure.TheVariants as failure
 use Rattle.dp_words.specs.CommandLine.{Address, Invocation}
 use Rattle.dp_top.specs.Links.{IsDialled, IsUndialled}
-use Rattle.dp_top.specs.Runs.{IsProgramTold}
+use Rattle.dp_top.specs.Runs.{IsProgramReported}
 use Rattle.dp_top.specs.Seen.{Seen, changed}
-use Rattle.dp_top.specs.Talk.{Told, judged_by}
+use Rattle.dp_top.specs.Talk.{EndReport, judged_by}
 
 -- a fault of the link is one of the network
-abbrev pub judged : Invocation → Served → Told
+abbrev pub judged : Invocation → Served → EndReport
 judged ask served = judged_by failure.Network ask served.outcome served.end
 
 -- it does not use these
@@ -54,7 +54,7 @@ pub record IsUnserved (why : Failure) (name : List ℕ) (ask : Invocation)
     (old new : Seen) : Type 0 where
   pub cause : ProgramError
   pub caused : ProgramCaused cause old.shelf.files old.shelf.faults new.shelf.faults ask.names
-  pub told : IsProgramTold why name ask cause
+  pub told : IsProgramReported why name ask cause
   pub idle : IsIdle old new
 
 -- the dial failed: the program did not run

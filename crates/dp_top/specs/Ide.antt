@@ -19,7 +19,7 @@ use Rattle.dp_top.specs.Seen.{Seen, changed}
 -- ---- the script
 
 -- the file is a script of these instructions
-pub record IsHeldScript (files : Files) (name : List ℕ) (instructions : List Instruction) : Type 0
+pub record IsScriptFile (files : Files) (name : List ℕ) (instructions : List Instruction) : Type 0
   where
     pub content : List ℕ
     pub fetched : Fetches files name lines_limit content
@@ -43,7 +43,7 @@ pub record IsNoScript (files : Files) (name : List ℕ) (line : ℕ) : Type 0 wh
 pub record IsPlayed (end : Result (Unit {0}) IdeError) (port : ℕ) (script : List ℕ)
     (old new : Seen) : Type 0 where
   pub instructions : List Instruction
-  pub held : IsHeldScript old.shelf.files script instructions
+  pub held : IsScriptFile old.shelf.files script instructions
   pub source : Change
   pub sink : Change
   pub accepted : IsAccepted port source sink old.net new.net
@@ -77,7 +77,7 @@ Unread other name script files before after = ⊥
 -- there is a script, and no link came
 pub record IsUnmet (port : ℕ) (script : List ℕ) (old new : Seen) : Type 0 where
   pub instructions : List Instruction
-  pub held : IsHeldScript old.shelf.files script instructions
+  pub held : IsScriptFile old.shelf.files script instructions
   pub uncalled : IsUncalled port old.net new.net
   pub out : IsUntouched (changed old.out new.out)
   pub apart : IsApart old new

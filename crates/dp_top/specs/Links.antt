@@ -42,17 +42,17 @@ pub record IsUndialled (address : Address) (old new : Net) : Type 0 where
 -- ---- links that others make
 
 -- where the list is reported, it is this one
-abbrev pub Tells : Option (List Link) → List Link → Type 0
-Tells None links = ⊤
-Tells (Some told) links = told ≡ links
+abbrev pub ReportsLinks : Option (List Link) → List Link → Type 0
+ReportsLinks None links = ⊤
+ReportsLinks (Some told) links = told ≡ links
 
 -- One gate, at this port, gave these links and took these back. When it was shut it had failed, or
 -- links that had failed had come back to it, so often.
 pub record IsGated (port : ℕ) (given back : List Link) (failed : ℕ) (old new : Net) : Type 0 where
   pub door : Door
   pub at : door.port ≡ port
-  pub gave : Tells door.accepted given
-  pub took : Tells door.retired back
+  pub gave : ReportsLinks door.accepted given
+  pub took : ReportsLinks door.retired back
   pub shut : new.shut ≡ grown old.shut (door ∷ [])
   pub dials : new.dials ≡ old.dials
   pub retired : new.retired ≡ old.retired

@@ -16,12 +16,12 @@ use Rattle.dp_top.specs.declared.failures.Failure.{Failure}
 use Rattle.dp_top.specs.declared.failures.Failure.TheVariants as failure
 use Rattle.dp_words.specs.CommandLine.{Invocation}
 use Rattle.dp_top.specs.Lines.{lines_limit}
-use Rattle.dp_top.specs.Runs.{IsProgramTold}
+use Rattle.dp_top.specs.Runs.{IsProgramReported}
 
 -- ---- the list of events
 
 -- the file is a list of these events
-pub record IsHeldList (files : Files) (name : List ℕ) (events : List Event) : Type 0 where
+pub record IsListFile (files : Files) (name : List ℕ) (events : List Event) : Type 0 where
   pub content : List ℕ
   pub fetched : Fetches files name lines_limit content
   pub fits : length content ≤ lines_limit
@@ -45,7 +45,7 @@ pub record IsNoList (files : Files) (name : List ℕ) (line : ℕ) : Type 0 wher
 pub record IsReplayed (end : Result (Unit {0}) ReplayError) (name : List ℕ) (ask : Invocation)
     (files : Files) (out : Change) : Type 0 where
   pub events : List Event
-  pub held : IsHeldList files name events
+  pub held : IsListFile files name events
   pub program : Bundle
   pub made : NamesMake files ask.names (Ok program)
   pub replays : Replays end program ask.bound events out
@@ -67,18 +67,18 @@ Unlisted other name events files before after = ⊥
 
 -- the list is read before a file of the program is refused
 abbrev pub ReadBefore : ProgramError → Files → List ℕ → Type 0
-ReadBefore (none.TooLong file) files name = (events : List Event) × IsHeldList files name events
+ReadBefore (none.TooLong file) files name = (events : List Event) × IsListFile files name events
 ReadBefore (none.Source file why) files name =
-    (events : List Event) × IsHeldList files name events
+    (events : List Event) × IsListFile files name events
 ReadBefore why files name = Unit {0}
 
 -- there is no program
-pub record IsUnmade (why : Failure) (name events : List ℕ) (ask : Invocation) (files : Files)
+pub record IsUnreplayed (why : Failure) (name events : List ℕ) (ask : Invocation) (files : Files)
     (before after : ℕ) : Type 0 where
   pub cause : ProgramError
   pub caused : ProgramCaused cause files before after ask.names
   pub read : ReadBefore cause files events
-  pub told : IsProgramTold why name ask cause
+  pub told : IsProgramReported why name ask cause
 
 -- the output failed
 pub record IsCutShort (why : Failure) (name events : List ℕ) (ask : Invocation) (files : Files)
@@ -98,5 +98,5 @@ abbrev pub ReplayFails : Failure → List ℕ → List ℕ → Invocation → Fi
 ReplayFails why name events ask files before after out =
     ((why ≡ failure.Memory) × IsStarved events ask files out)
     ⊎ (Unlisted why name events files before after × IsUntouched out)
-    ⊎ (IsUnmade why name events ask files before after × IsUntouched out)
+    ⊎ (IsUnreplayed why name events ask files before after × IsUntouched out)
     ⊎ IsCutShort why name events ask files out

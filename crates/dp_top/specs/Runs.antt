@@ -35,8 +35,8 @@ program_name names (none.TooLong file) = name_at names file
 program_name names (none.Source file why) = name_at names file
 program_name names none.Memory = []
 
-abbrev pub IsProgramTold : Failure → List ℕ → Invocation → ProgramError → Type 0
-IsProgramTold failure name ask why =
+abbrev pub IsProgramReported : Failure → List ℕ → Invocation → ProgramError → Type 0
+IsProgramReported failure name ask why =
     (failure ≡ program_failure why) × (name ≡ program_name ask.names why)
 
 -- Of these names files are fetched, each once, in their order: all, or the first of them.
@@ -60,25 +60,25 @@ failure_of bound run.OutFault = Output
 failure_of bound run.Memory = Memory
 
 -- the name of the file that it is of, where it is of one, else nothing
-abbrev pub name_told : List (List ℕ) → RunError → List ℕ
-name_told names (run.Program why) = program_name names why
-name_told names (run.Fatal kind file line) = name_at names file
-name_told names run.Bound = []
-name_told names run.OutFault = []
-name_told names run.Memory = []
+abbrev pub reported_name : List (List ℕ) → RunError → List ℕ
+reported_name names (run.Program why) = program_name names why
+reported_name names (run.Fatal kind file line) = name_at names file
+reported_name names run.Bound = []
+reported_name names run.OutFault = []
+reported_name names run.Memory = []
 
-abbrev pub IsRunTold : Failure → List ℕ → Invocation → RunError → Type 0
-IsRunTold failure name ask why =
-    (failure ≡ failure_of ask.bound why) × (name ≡ name_told ask.names why)
+abbrev pub IsRunReported : Failure → List ℕ → Invocation → RunError → Type 0
+IsRunReported failure name ask why =
+    (failure ≡ failure_of ask.bound why) × (name ≡ reported_name ask.names why)
 
 -- it is reported so, or memory ran out for its line
-abbrev pub IsToldOrStarved : Failure → List ℕ → Invocation → RunError → Type 0
-IsToldOrStarved failure name ask why =
-    IsRunTold failure name ask why ⊎ ((failure ≡ Memory) × (name ≡ []))
+abbrev pub IsReportedOrStarved : Failure → List ℕ → Invocation → RunError → Type 0
+IsReportedOrStarved failure name ask why =
+    IsRunReported failure name ask why ⊎ ((failure ≡ Memory) × (name ≡ []))
 
 -- why the run failed, as it is reported
 pub record RunFails (failure : Failure) (name : List ℕ) (files : Files) (before after : ℕ)
     (ask : Invocation) (out : Change) : Type 0 where
   pub why : RunError
   pub caused : RunCaused why files before after ask.names ask.bound out
-  pub told : IsToldOrStarved failure name ask why
+  pub told : IsReportedOrStarved failure name ask why

@@ -15,30 +15,30 @@ use Rattle.dp_state.specs.declared.moments.Outcome.{Outcome}
 use Rattle.dp_top.specs.declared.failures.Failure.{Failure}
 use Rattle.dp_top.specs.declared.failures.Failure.TheVariants as failure
 use Rattle.dp_words.specs.CommandLine.{Invocation}
-use Rattle.dp_top.specs.Runs.{IsProgramTold, failure_of, name_told}
+use Rattle.dp_top.specs.Runs.{IsProgramReported, failure_of, reported_name}
 use Rattle.dp_top.specs.Seen.{Seen, changed}
 
 -- ---- what is reported of an end
 
 -- a status, or a failure with the name of the file that it is of, where it is of one, else nothing
-abbrev pub Told : Type 0
-Told = Result ℕ (Failure × List ℕ)
+abbrev pub EndReport : Type 0
+EndReport = Result ℕ (Failure × List ℕ)
 
-abbrev pub unnamed : Failure → Told
+abbrev pub unnamed : Failure → EndReport
 unnamed why = Err (why, [])
 
 -- the end of a run
-abbrev pub end_told : Invocation → Result ℕ RunError → Told
-end_told ask (Ok status) = Ok status
-end_told ask (Err why) = Err (failure_of ask.bound why, name_told ask.names why)
+abbrev pub end_report : Invocation → Result ℕ RunError → EndReport
+end_report ask (Ok status) = Ok status
+end_report ask (Err why) = Err (failure_of ask.bound why, reported_name ask.names why)
 
 -- how a program ended; one that did not was stopped
-abbrev pub ended : Invocation → Option Outcome → Told
+abbrev pub ended : Invocation → Option Outcome → EndReport
 ended ask None = unnamed failure.Stopped
-ended ask (Some outcome) = end_told ask (judged_end outcome)
+ended ask (Some outcome) = end_report ask (judged_end outcome)
 
 -- how serving a session ended, where a fault of the link's sink is this failure
-abbrev pub judged_by : Failure → Invocation → Option Outcome → ServeEnd → Told
+abbrev pub judged_by : Failure → Invocation → Option Outcome → ServeEnd → EndReport
 judged_by unsent ask outcome Stopped = ended ask outcome
 judged_by unsent ask outcome Detached = ended ask outcome
 judged_by unsent ask outcome LinkEnd = ended ask outcome
@@ -50,7 +50,7 @@ judged_by unsent ask outcome ByteLimit = unnamed (failure.Packet byte_limit)
 judged_by unsent ask outcome Memory = unnamed failure.Memory
 
 -- over the program's own input and output a fault of the link is one of the output
-abbrev pub judged : Invocation → Served → Told
+abbrev pub judged : Invocation → Served → EndReport
 judged ask served = judged_by failure.Output ask served.outcome served.end
 
 -- ---- what it does
@@ -84,7 +84,7 @@ pub record IsUnserved (why : Failure) (name : List ℕ) (ask : Invocation)
     (old new : Seen) : Type 0 where
   pub cause : ProgramError
   pub caused : ProgramCaused cause old.shelf.files old.shelf.faults new.shelf.faults ask.names
-  pub told : IsProgramTold why name ask cause
+  pub told : IsProgramReported why name ask cause
   pub idle : AreIdle old new
 
 -- The session was served, and its end is this failure. What `out` and `err` have taken then is said

@@ -1,7 +1,7 @@
 -- What only proofs use. No clause of the top call cites these.
 pub mod Dialled
 pub mod Gated
-pub mod Held
+pub mod Completeness
 pub mod Kept
 pub mod Sessions
 pub mod EventLists

@@ -4,7 +4,7 @@ ghost use Rattle.dp_outside.specs.Changes.{change};
 ghost use Rattle.dp_show.specs.Shows.{Shows};
 ghost use Rattle.dp_words.specs.CommandLine.{Invocation, Task, IsInvocation, invocation_in};
 ghost use Rattle.dp_words.specs.Commands.{task_of};
-ghost use Rattle.dp_top.specs.inner.Held.{AreHeld, AreHeldWith};
+ghost use Rattle.dp_top.specs.inner.Completeness.{AreComplete, AreCompleteWith};
 ghost use Rattle.dp_top.specs.inner.Kept.{Continues, GoesOn};
 ghost use Rattle.dp_top.specs.Seen.{seen};
 ghost use Rattle.dp_top.specs.Tasks.{failure_of, Does, Caused, IsFetchedFor, ShowCaused};
@@ -72,10 +72,10 @@ pub(crate) fn carry_out<'a, R: Wait + Sync, H: Shelf, S: Source, K: Sink, E: Sin
     ensures status { IfOk result (λ status. status ≤ 199) }
     // Files that make a program are no bad source, and those that make none are one, unless the shelf failed.
     ensures held { (ask : Invocation) → invocation_in (task_of command.entry) ≡ Some ask
-        → AreHeld ask result objects.old.seen objects.new.seen }
+        → AreComplete ask result objects.old.seen objects.new.seen }
     // Likewise of a list of events, where it is one.
     ensures replay_held { (events : List ℕ) (ask : Invocation) → task_of command.entry ≡ Task.replay events ask
-        → AreHeldWith events ask result objects.old.seen objects.new.seen }
+        → AreCompleteWith events ask result objects.old.seen objects.new.seen }
     ensures show_shelf { task_of command.entry ≡ Task.show
         → objects.new.seen.shelf.faults ≡ objects.old.seen.shelf.faults }
     ensures fetched { IsFetchedFor (task_of command.entry) objects.old.seen.shelf.fetched
@@ -115,13 +115,13 @@ pub(crate) fn carry_out_on<'a, R: Wait + Sync, H: Shelf, S: Source, K: Sink, E: 
     ensures status { IfOk result (λ status. status ≤ 199) }
     // Files that make a program are no bad source, and those that make none are one, unless the shelf failed.
     ensures held { (ask : Invocation) → invocation_in (task_of command.entry) ≡ Some ask
-        → AreHeld ask result (seen H.Shelf S.Source K.Sink E.Sink N.Dialer N.shut_doors shelf.old input.old out.old
+        → AreComplete ask result (seen H.Shelf S.Source K.Sink E.Sink N.Dialer N.shut_doors shelf.old input.old out.old
         err.old net.old)
         (seen H.Shelf S.Source K.Sink E.Sink N.Dialer N.shut_doors shelf.new input.new out.new err.new net.new) }
     // Likewise of a list of events, where it is one.
     ensures replay_held { (events : List ℕ) (ask : Invocation) → task_of command.entry ≡ Task.replay events ask
-        → AreHeldWith events ask result (seen H.Shelf S.Source K.Sink E.Sink N.Dialer N.shut_doors shelf.old input.old
-        out.old err.old net.old)
+        → AreCompleteWith events ask result (seen H.Shelf S.Source K.Sink E.Sink N.Dialer N.shut_doors shelf.old
+        input.old out.old err.old net.old)
         (seen H.Shelf S.Source K.Sink E.Sink N.Dialer N.shut_doors shelf.new input.new out.new err.new net.new) }
     ensures show_shelf { task_of command.entry ≡ Task.show → H.faults shelf.new ≡ H.faults shelf.old }
     ensures fetched { IsFetchedFor (task_of command.entry) (H.fetched shelf.old) (H.fetched shelf.new) }

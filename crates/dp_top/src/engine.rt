@@ -8,12 +8,12 @@ ghost use Rattle.dp_top.specs.Engine.{Engages, EngineFails};
 ghost use Rattle.dp_top.specs.Runs.{IsFetched};
 ghost use Rattle.dp_top.specs.Seen.{net_seen};
 ghost use Rattle.dp_top.specs.inner.Dialled.{EngagedSo, UnengagedSo};
-ghost use Rattle.dp_top.specs.inner.Held.{AreHeld, IsHeld};
+ghost use Rattle.dp_top.specs.inner.Completeness.{AreComplete, IsComplete};
 ghost use Rattle.dp_top.specs.inner.Kept.{GoesOn};
 
 use crate::failures::{Failure, Refused};
 use crate::objects::Objects;
-use crate::run::told_of_files;
+use crate::run::refusal_of_program;
 use crate::sessions::serve_program;
 use dp_outside::{Host, Net, Shelf, Sink, Source};
 use dp_run::fetch_program;
@@ -45,7 +45,7 @@ fn serve_linked<'a, N: Net, K: Sink>(
         (change K.taken K.faults out.old out.new) (net_seen N.Dialer N.shut_doors net.old)
         (net_seen N.Dialer N.shut_doors net.new)) }
     ensures status { IfOk result (λ status. status ≤ 199) }
-    ensures held { (made : Made) (before after : ℕ) → IsHeld (Ok made) result before after }
+    ensures held { (made : Made) (before after : ℕ) → IsComplete (Ok made) result before after }
     ensures out_later { K.faults out.old ≤ K.faults out.new }
     ensures net_later { N.faults net.old ≤ N.faults net.new }
     ensures returned_later { N.returned net.old ≤ N.returned net.new }
@@ -92,7 +92,7 @@ fn serve_over<'a, N: Net, K: Sink>(
         (change K.taken K.faults out.old out.new) (net_seen N.Dialer N.shut_doors net.old)
         (net_seen N.Dialer N.shut_doors net.new)) }
     ensures status { IfOk result (λ status. status ≤ 199) }
-    ensures held { (made : Made) (before after : ℕ) → IsHeld (Ok made) result before after }
+    ensures held { (made : Made) (before after : ℕ) → IsComplete (Ok made) result before after }
     ensures out_later { K.faults out.old ≤ K.faults out.new }
     ensures net_later { N.faults net.old ≤ N.faults net.new }
     ensures returned_later { N.returned net.old ≤ N.returned net.new }
@@ -120,13 +120,13 @@ pub(crate) fn engine<'a, H: Shelf, S: Source, K: Sink, E: Sink, N: Net>(
         (invocation_seen request.entry.talk.program) objects.old.seen objects.new.seen) }
     ensures status { IfOk result (λ status. status ≤ 199) }
     // Files that make a program are no bad source, and those that make none are one, unless the shelf failed.
-    ensures held { AreHeld (invocation_seen request.entry.talk.program) result objects.old.seen objects.new.seen }
+    ensures held { AreComplete (invocation_seen request.entry.talk.program) result objects.old.seen objects.new.seen }
     ensures fetched { IsFetched (Some (invocation_seen request.entry.talk.program)) objects.old.seen.shelf.fetched
         objects.new.seen.shelf.fetched }
     ensures goes_on { GoesOn objects.old objects.new }
 {
     match fetch_program(alloc, request.talk.program.files, objects.shelf) {
         Ok(bundle) => serve_over(alloc, request, &bundle, objects.net, objects.out),
-        Err(why) => Err(told_of_files(request.talk.program, why)),
+        Err(why) => Err(refusal_of_program(request.talk.program, why)),
     }
 }

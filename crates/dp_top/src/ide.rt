@@ -2,9 +2,9 @@
 ghost use Rattle.std.specs.Prelude.{◌≡◌, ◌≤◌, [], ◌∷◌, Ok, Some, IfOk, IfErr, MatchResult};
 ghost use Rattle.dp_outside.specs.Changes.{change};
 ghost use Rattle.dp_outside.specs.Reports.{BeginsEmpty, grown};
-ghost use Rattle.dp_top.specs.Ide.{IdeFails, IsHeldScript, Plays, failure_of};
+ghost use Rattle.dp_top.specs.Ide.{IdeFails, IsScriptFile, Plays, failure_of};
 ghost use Rattle.dp_top.specs.Seen.{net_seen};
-ghost use Rattle.dp_top.specs.inner.Gated.{GatedSo, IsBadScript, IsToldBy, IsWholeScript, MetSo, UnreadSo};
+ghost use Rattle.dp_top.specs.inner.Gated.{GatedSo, IsBadScript, IsReportedBy, IsWholeScript, MetSo, UnreadSo};
 ghost use Rattle.dp_top.specs.inner.Kept.{GoesOn};
 
 use crate::failures::{Failure, Refused};
@@ -60,7 +60,7 @@ fn fetch_script<'a, H: Shelf>(
     script: &'a str,
     shelf: &mut H,
 ) -> Result<Script, Refused<'a>>
-    ensures held { IfOk result (IsHeldScript (H.files shelf.old) script.now) }
+    ensures held { IfOk result (IsScriptFile (H.files shelf.old) script.now) }
     ensures unread { IfErr result (λ why. UnreadSo why.failure why.name.now script.now (H.files shelf.old)
         (H.faults shelf.old) (H.faults shelf.new)) }
     ensures fetched { H.fetched shelf.new ≡ grown (H.fetched shelf.old) (script.now ∷ []) }
@@ -132,7 +132,7 @@ fn play_at<R: Wait + Sync, N: Net, O: Sink>(
 /// What is reported of how a script was played.
 fn judge<'a>(played: Option<Result<(), IdeError>>) -> Result<u8, Refused<'a>>
     ensures well { IfOk result (λ status. (status ≡ 0) × (played ≡ Some (Ok tt))) }
-    ensures ill { IfErr result (λ why. IsToldBy played why.failure × (why.name.now ≡ [])) }
+    ensures ill { IfErr result (λ why. IsReportedBy played why.failure × (why.name.now ≡ [])) }
 {
     match played {
         None => Err(Refused::unnamed(Failure::Network)),

@@ -12,15 +12,15 @@ ghost use Rattle.dp_tree.specs.FileNames.{AreFileNames};
 ghost use Rattle.dp_words.specs.CommandLine.{AreFileWords};
 ghost use Rattle.dp_words.specs.Commands.{invocation_seen};
 ghost use Rattle.dp_top.specs.Lines.{lines_limit};
-ghost use Rattle.dp_top.specs.Replay.{IsHeldList};
+ghost use Rattle.dp_top.specs.Replay.{IsListFile};
 ghost use Rattle.dp_top.specs.Runs.{AreFetched};
-ghost use Rattle.dp_top.specs.inner.Held.{IsHeld};
-ghost use Rattle.dp_top.specs.inner.EventLists.{EndsFetched, EndsOver, EndsReplay, HeldFetched, IsBadList};
+ghost use Rattle.dp_top.specs.inner.Completeness.{IsComplete};
+ghost use Rattle.dp_top.specs.inner.EventLists.{CompleteFetched, EndsFetched, EndsOver, EndsReplay, IsBadList};
 ghost use Rattle.dp_top.specs.inner.EventLists.{IsWholeList, UnlistedSo};
 
 use crate::failures::{Failure, Refused};
 use crate::lines::{LINES_LIMIT, unfetched};
-use crate::run::told_of_files;
+use crate::run::refusal_of_program;
 use dp_engine::Steps;
 use dp_lists::{Events, ListError};
 use dp_outside::{Bytes1, Shelf, Sink};
@@ -105,7 +105,7 @@ fn replay_fetched<'a, K: Sink>(
     ensures ends { EndsFetched result request.entry.events.now content.now fetched
         (invocation_seen request.entry.program)
         (change K.taken K.faults out.old out.new) }
-    ensures held { HeldFetched result request.entry.events.now content.now fetched
+    ensures held { CompleteFetched result request.entry.events.now content.now fetched
         (invocation_seen request.entry.program) }
     ensures out_later { K.faults out.old ≤ K.faults out.new }
 {
@@ -120,7 +120,7 @@ fn replay_fetched<'a, K: Sink>(
             let bound = request.program.bound;
             replay_over::<K, Brand>(alloc, &events, &bundle, bound, out, blank)
         }
-        Err(why) => Err(told_of_files(request.program, why)),
+        Err(why) => Err(refusal_of_program(request.program, why)),
     }
 }
 
@@ -141,8 +141,8 @@ pub(crate) fn replay<'a, H: Shelf, K: Sink>(
     // Files that make a program are no bad source, and those that make none are one, unless the shelf failed.
     ensures held { (asked : Result Made Unmade)
         → FilesMake (H.files shelf.old) (invocation_seen request.entry.program).names asked
-        → (list : List Event) → IsHeldList (H.files shelf.old) request.entry.events.now list
-        → IsHeld asked result (H.faults shelf.old) (H.faults shelf.new) }
+        → (list : List Event) → IsListFile (H.files shelf.old) request.entry.events.now list
+        → IsComplete asked result (H.faults shelf.old) (H.faults shelf.new) }
     ensures fetched { AreFetched (request.entry.events.now ∷ (invocation_seen request.entry.program).names)
         (H.fetched shelf.old) (H.fetched shelf.new) }
     ensures files { H.files shelf.new ≡ H.files shelf.old }
@@ -155,6 +155,6 @@ pub(crate) fn replay<'a, H: Shelf, K: Sink>(
     };
     match fetch_files(alloc, request.program.files, shelf) {
         Ok(fetched) => replay_fetched(alloc, request, content.as_slice(), fetched, out),
-        Err(why) => Err(told_of_files(request.program, why)),
+        Err(why) => Err(refusal_of_program(request.program, why)),
     }
 }

@@ -7,9 +7,10 @@ ghost use Rattle.dp_run.specs.Programs.{FilesMake};
 ghost use Rattle.dp_run.specs.Runs.{Runs};
 ghost use Rattle.dp_words.specs.CommandLine.{AreFileWords};
 ghost use Rattle.dp_words.specs.Commands.{invocation_seen};
-ghost use Rattle.dp_top.specs.Runs.{IsFetched, IsProgramTold, IsRunTold, failure_of, name_at as name_in, name_told};
+ghost use Rattle.dp_top.specs.Runs.{IsFetched, IsProgramReported, IsRunReported, failure_of, name_at as name_in};
+ghost use Rattle.dp_top.specs.Runs.{reported_name};
 ghost use Rattle.dp_top.specs.Runs.{program_failure, program_name, RunFails};
-ghost use Rattle.dp_top.specs.inner.Held.{IsHeld};
+ghost use Rattle.dp_top.specs.inner.Completeness.{IsComplete};
 
 use crate::failures::{Failure, Refused, refusal};
 use dp_outside::{Shelf, Sink};
@@ -54,8 +55,8 @@ fn program_name<'a>(names: &'a [String], why: &ProgramError) -> &'a [u8]
 }
 
 /// What is reported of files that make no program.
-pub(crate) fn told_of_files<'a>(program: Program<'a>, why: ProgramError) -> Refused<'a>
-    ensures { IsProgramTold result.failure result.name.now (invocation_seen program.entry) why }
+pub(crate) fn refusal_of_program<'a>(program: Program<'a>, why: ProgramError) -> Refused<'a>
+    ensures { IsProgramReported result.failure result.name.now (invocation_seen program.entry) why }
 {
     Refused {
         failure: program_failure(&why),
@@ -84,8 +85,8 @@ fn failure_of(bound: u64, why: &RunError) -> Failure
 }
 
 /// The name of the file that the end of a run is of, where it is of one, else nothing.
-fn name_told<'a>(names: &'a [String], why: &RunError) -> &'a [u8]
-    ensures { result.now ≡ name_told (map string_bytes names.now) why.now }
+fn reported_name<'a>(names: &'a [String], why: &RunError) -> &'a [u8]
+    ensures { result.now ≡ reported_name (map string_bytes names.now) why.now }
 {
     match why {
         RunError::Program(why) => program_name(names, why),
@@ -101,12 +102,12 @@ fn name_told<'a>(names: &'a [String], why: &RunError) -> &'a [u8]
 }
 
 /// What is reported of the end of a run.
-pub(crate) fn told<'a>(program: Program<'a>, why: &RunError) -> Refused<'a>
-    ensures { IsRunTold result.failure result.name.now (invocation_seen program.entry) why.now }
+pub(crate) fn refusal_of_run<'a>(program: Program<'a>, why: &RunError) -> Refused<'a>
+    ensures { IsRunReported result.failure result.name.now (invocation_seen program.entry) why.now }
 {
     Refused {
         failure: failure_of(program.bound, why),
-        name: name_told(program.files, why),
+        name: reported_name(program.files, why),
     }
 }
 
@@ -126,7 +127,7 @@ pub(crate) fn run<'a, H: Shelf, K: Sink>(
     ensures status { IfOk result (λ status. status ≤ 199) }
     ensures held { (asked : Result Bundle Unmade)
         → FilesMake (H.files shelf.old) (invocation_seen program.entry).names asked
-        → IsHeld asked result (H.faults shelf.old) (H.faults shelf.new) }
+        → IsComplete asked result (H.faults shelf.old) (H.faults shelf.new) }
     ensures fetched { IsFetched (Some (invocation_seen program.entry)) (H.fetched shelf.old) (H.fetched shelf.new) }
     ensures shelf_later { H.faults shelf.old ≤ H.faults shelf.new }
     ensures files { H.files shelf.new ≡ H.files shelf.old }
@@ -134,6 +135,6 @@ pub(crate) fn run<'a, H: Shelf, K: Sink>(
 {
     match dp_run::run(alloc, program.files, program.bound, shelf, out) {
         Ok(status) => Ok(status),
-        Err(why) => Err(told(program, &why)),
+        Err(why) => Err(refusal_of_run(program, &why)),
     }
 }

@@ -4,9 +4,9 @@ ghost use Rattle.dp_outside.specs.Changes.{change};
 ghost use Rattle.dp_tree.specs.declared.bundle.Bundle.{Bundle as Made};
 ghost use Rattle.dp_words.specs.CommandLine.{IsSession};
 ghost use Rattle.dp_words.specs.Commands.{invocation_seen};
-ghost use Rattle.dp_top.specs.inner.Held.{IsGood, IsHeld};
+ghost use Rattle.dp_top.specs.inner.Completeness.{IsComplete, IsGood};
 ghost use Rattle.dp_top.specs.Talk.{ended, judged_by};
-ghost use Rattle.dp_top.specs.inner.Sessions.{ServedSo, UnservedSo, told_in};
+ghost use Rattle.dp_top.specs.inner.Sessions.{ServedSo, UnservedSo, reported_in};
 
 use crate::failures::{Failure, Refused};
 use crate::run::told;
@@ -21,20 +21,20 @@ use std::sync::ledger::{Blank, Ledger};
 
 /// What the end of a program says of the command; a program that has none was stopped.
 fn judge_end<'a>(program: Program<'a>, outcome: Option<Outcome>) -> Result<u8, Refused<'a>>
-    ensures { told_in result ≡ ended (invocation_seen program.entry) outcome }
+    ensures { reported_in result ≡ ended (invocation_seen program.entry) outcome }
 {
     match outcome {
         None => Err(Refused::unnamed(Failure::Stopped)),
         Some(outcome) => match dp_run::judge(outcome) {
             Ok(status) => Ok(status),
-            Err(why) => Err(told(program, &why)),
+            Err(why) => Err(refusal_of_run(program, &why)),
         },
     }
 }
 
 /// What the end of a session says of the command; a fault of the link's sink is this failure.
 fn judge<'a>(program: Program<'a>, unsent: Failure, served: Served) -> Result<u8, Refused<'a>>
-    ensures { told_in result ≡ judged_by unsent (invocation_seen program.entry) served.outcome served.end }
+    ensures { reported_in result ≡ judged_by unsent (invocation_seen program.entry) served.outcome served.end }
 {
     if let ServeEnd::WriteFault = served.end {
         return Err(Refused::unnamed(unsent));
@@ -82,7 +82,7 @@ pub(crate) fn serve_program<'a, S: Source, K: Sink, E: Sink, L: Ledger>(
         (change S.left S.faults input.old input.new) (change K.taken K.faults out.old out.new)
         (change E.taken E.faults err.old err.new)) }
     ensures status { IfOk result (λ status. status ≤ 199) }
-    ensures held { (made : Made) (before after : ℕ) → IsHeld (Ok made) result before after }
+    ensures held { (made : Made) (before after : ℕ) → IsComplete (Ok made) result before after }
     ensures input_later { S.faults input.old ≤ S.faults input.new }
     ensures out_later { K.faults out.old ≤ K.faults out.new }
     ensures err_later { E.faults err.old ≤ E.faults err.new }

@@ -3,13 +3,13 @@ ghost use Rattle.std.specs.Prelude.{◌≡◌, ◌≤◌, Some, IfOk, MatchResul
 ghost use Rattle.dp_words.specs.CommandLine.{IsSession};
 ghost use Rattle.dp_words.specs.Commands.{invocation_seen};
 ghost use Rattle.dp_top.specs.Runs.{IsFetched};
-ghost use Rattle.dp_top.specs.inner.Held.{AreHeld};
+ghost use Rattle.dp_top.specs.inner.Completeness.{AreComplete};
 ghost use Rattle.dp_top.specs.inner.Kept.{GoesOn};
 ghost use Rattle.dp_top.specs.Talk.{Talks, TalkFails};
 
 use crate::failures::{Failure, Refused};
 use crate::objects::Objects;
-use crate::run::told_of_files;
+use crate::run::refusal_of_program;
 use crate::sessions::serve_program;
 use dp_outside::{Net, Shelf, Sink, Source};
 use dp_run::fetch_program;
@@ -32,7 +32,7 @@ pub(crate) fn talk<'a, H: Shelf, S: Source, K: Sink, E: Sink, N: Net>(
         objects.old.seen objects.new.seen) }
     ensures status { IfOk result (λ status. status ≤ 199) }
     // Files that make a program are no bad source, and those that make none are one, unless the shelf failed.
-    ensures held { AreHeld (invocation_seen request.entry.program) result objects.old.seen objects.new.seen }
+    ensures held { AreComplete (invocation_seen request.entry.program) result objects.old.seen objects.new.seen }
     ensures fetched { IsFetched (Some (invocation_seen request.entry.program)) objects.old.seen.shelf.fetched
         objects.new.seen.shelf.fetched }
     ensures offline { objects.new.seen.net ≡ objects.old.seen.net }
@@ -53,6 +53,6 @@ pub(crate) fn talk<'a, H: Shelf, S: Source, K: Sink, E: Sink, N: Net>(
                 blank,
             )
         }
-        Err(why) => Err(told_of_files(request.program, why)),
+        Err(why) => Err(refusal_of_program(request.program, why)),
     }
 }

@@ -13,8 +13,8 @@ ghost use Rattle.dp_top.specs.Failures.{Says};
 ghost use Rattle.dp_run.specs.Programs.{FilesMake};
 ghost use Rattle.dp_ide.specs.declared.instruction.Instruction.{Instruction};
 ghost use Rattle.dp_lists.specs.declared.event.Event.{Event};
-ghost use Rattle.dp_top.specs.Ide.{IsHeldScript, IsNoScript};
-ghost use Rattle.dp_top.specs.Replay.{IsHeldList, IsNoList};
+ghost use Rattle.dp_top.specs.Ide.{IsNoScript, IsScriptFile};
+ghost use Rattle.dp_top.specs.Replay.{IsListFile, IsNoList};
 ghost use Rattle.dp_top.specs.Seen.{NoneRose, net_seen, seen};
 ghost use Rattle.dp_top.specs.Tasks.{IsDone, Fails, IsFetchedFor, IsUnread};
 
@@ -133,12 +133,12 @@ pub fn top<R: Wait + Sync, H: Shelf, S: Source, K: Sink, E: Sink, N: Net, P: Spa
         → (result ≡ 204) ⊎ (result ≡ 209) ⊎ Rose (H.faults shelf.old) (H.faults shelf.new) }
     ensures script_held { (port : ℕ) (script : List ℕ) (instructions : List Instruction)
         → IsIde (map string_bytes words.now) port script
-        → IsSome (H.files shelf.old) → IsHeldScript (H.files shelf.old) script instructions → result ≡ 204 → ⊥ }
+        → IsSome (H.files shelf.old) → IsScriptFile (H.files shelf.old) script instructions → result ≡ 204 → ⊥ }
     // Where it is one, and no count rose, the script is played to its end, or what differs, the link's end or what is
     // no packet is reported.
     ensures complete_ide { (port : ℕ) (script : List ℕ) (instructions : List Instruction)
         → IsIde (map string_bytes words.now) port script
-        → IsSome (H.files shelf.old) → IsHeldScript (H.files shelf.old) script instructions
+        → IsSome (H.files shelf.old) → IsScriptFile (H.files shelf.old) script instructions
         → NoneRose (seen H.Shelf S.Source K.Sink E.Sink N.Dialer N.shut_doors shelf.old input.old out.old err.old
         net.old)
         (seen H.Shelf S.Source K.Sink E.Sink N.Dialer N.shut_doors shelf.new input.new out.new err.new net.new)
@@ -152,15 +152,15 @@ pub fn top<R: Wait + Sync, H: Shelf, S: Source, K: Sink, E: Sink, N: Net, P: Spa
         → (result ≡ 204) ⊎ (result ≡ 209) ⊎ Rose (H.faults shelf.old) (H.faults shelf.new) }
     ensures list_held { (events : List ℕ) (ask : Invocation) (list : List Event)
         → IsReplay (map string_bytes words.now) events ask
-        → IsSome (H.files shelf.old) → IsHeldList (H.files shelf.old) events list → result ≡ 204 → ⊥ }
+        → IsSome (H.files shelf.old) → IsListFile (H.files shelf.old) events list → result ≡ 204 → ⊥ }
     // Where it is one, files that make no program are reported, unless the shelf fails first.
     ensures replay_refused { (events : List ℕ) (ask : Invocation) (list : List Event) (why : BundleError)
-        → IsReplay (map string_bytes words.now) events ask → IsHeldList (H.files shelf.old) events list
+        → IsReplay (map string_bytes words.now) events ask → IsListFile (H.files shelf.old) events list
         → FilesMake (H.files shelf.old) ask.names (Err why)
         → (result ≡ 201) ⊎ (result ≡ 209) ⊎ Rose (H.faults shelf.old) (H.faults shelf.new) }
     // Where they make one, and no count rose, the whole transcript is put.
     ensures complete_replay { (events : List ℕ) (ask : Invocation) (list : List Event) (program : Bundle)
-        → IsReplay (map string_bytes words.now) events ask → IsHeldList (H.files shelf.old) events list
+        → IsReplay (map string_bytes words.now) events ask → IsListFile (H.files shelf.old) events list
         → FilesMake (H.files shelf.old) ask.names (Ok program)
         → NoneRose (seen H.Shelf S.Source K.Sink E.Sink N.Dialer N.shut_doors shelf.old input.old out.old err.old
         net.old)

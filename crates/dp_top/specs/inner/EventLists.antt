@@ -13,9 +13,9 @@ use Rattle.dp_world.specs.Replays.{Replays}
 use Rattle.dp_top.specs.declared.failures.Failure.{Failure}
 use Rattle.dp_top.specs.declared.failures.Failure.TheVariants as failure
 use Rattle.dp_top.specs.declared.failures.Refused.{Refused}
-use Rattle.dp_top.specs.Replay.{DoesReplay, IsBadAt, IsHeldList, ReplayFails, Unlisted}
+use Rattle.dp_top.specs.Replay.{DoesReplay, IsBadAt, IsListFile, ReplayFails, Unlisted}
 use Rattle.dp_top.specs.Lines.{lines_limit}
-use Rattle.dp_top.specs.inner.Held.{IsHeld}
+use Rattle.dp_top.specs.inner.Completeness.{IsComplete}
 use Rattle.dp_words.specs.CommandLine.{Invocation}
 
 -- the bytes are a list of events, and not too many
@@ -50,12 +50,12 @@ EndsReplay result events ask files before after out =
 
 -- what was fetched of a shelf that holds the list is no bad source, if the files make a program,
 -- and one if they make none
-abbrev pub HeldFetched : Result ℕ Refused → List ℕ → List ℕ → List Given → Invocation → Type 0
-HeldFetched result events content fetched ask =
+abbrev pub CompleteFetched : Result ℕ Refused → List ℕ → List ℕ → List Given → Invocation → Type 0
+CompleteFetched result events content fetched ask =
     (files : Files) (before after : ℕ) → Fetches files events lines_limit content
     → AreFetched files ask.names fetched → (asked : Result Bundle BundleError)
-    → FilesMake files ask.names asked → (list : List Event) → IsHeldList files events list
-    → IsHeld asked result before after
+    → FilesMake files ask.names asked → (list : List Event) → IsListFile files events list
+    → IsComplete asked result before after
 
 -- likewise of what was fetched of any shelf that holds it
 abbrev pub EndsFetched : Result ℕ Refused → List ℕ → List ℕ → List Given → Invocation → Change

@@ -11,7 +11,7 @@ use Rattle.dp_run.specs.Programs.{Files}
 use Rattle.dp_ide.specs.Scripts.{IsScript}
 use Rattle.dp_top.specs.Ide.{IsBadAt, Unread, failure_of}
 use Rattle.dp_top.specs.Lines.{lines_limit}
-use Rattle.dp_top.specs.Links.{IsAccepted, IsUncalled, IsUsed, Tells}
+use Rattle.dp_top.specs.Links.{IsAccepted, IsUncalled, IsUsed, ReportsLinks}
 use Rattle.dp_top.specs.Seen.{Net}
 
 -- ---- the script
@@ -42,8 +42,8 @@ pub record DoorSeen : Type 0 where
 
 -- a new gate gave no link
 pub record NoCall (door : DoorSeen) (out : Change) : Type 0 where
-  pub gave : Tells door.accepted []
-  pub took : Tells door.retired []
+  pub gave : ReportsLinks door.accepted []
+  pub took : ReportsLinks door.retired []
   pub failed : 0 < door.faults
   pub out_stays : IsUntouched out
 
@@ -55,8 +55,8 @@ pub record Called (end : Result (Unit {0}) IdeError) (instructions : List Instru
   pub source : Change
   pub sink : Change
   pub used : IsUsed given back source sink
-  pub gave : Tells door.accepted (given ∷ [])
-  pub took : Tells door.retired (back ∷ [])
+  pub gave : ReportsLinks door.accepted (given ∷ [])
+  pub took : ReportsLinks door.retired (back ∷ [])
   pub counted : 0 < source.faults + sink.faults → 0 < door.faults + door.returned
   pub ends : Ends instructions end source sink out
 
@@ -79,7 +79,7 @@ GatedSo None port instructions out old new = IsUncalled port old new × IsUntouc
 GatedSo (Some end) port instructions out old new = PlayedSo end port instructions out old new
 
 -- the failure that is reported
-abbrev pub IsToldBy : Option (Result (Unit {0}) IdeError) → Failure → Type 0
-IsToldBy None why = why ≡ failure.Network
-IsToldBy (Some (Ok u)) why = ⊥
-IsToldBy (Some (Err end)) why = why ≡ failure_of end
+abbrev pub IsReportedBy : Option (Result (Unit {0}) IdeError) → Failure → Type 0
+IsReportedBy None why = why ≡ failure.Network
+IsReportedBy (Some (Ok u)) why = ⊥
+IsReportedBy (Some (Err end)) why = why ≡ failure_of end

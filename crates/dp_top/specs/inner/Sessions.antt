@@ -8,12 +8,12 @@ use Rattle.dp_top.specs.declared.failures.Failure.{Failure}
 use Rattle.dp_top.specs.declared.failures.Failure.TheVariants as failure
 use Rattle.dp_top.specs.declared.failures.Refused.{Refused}
 use Rattle.dp_words.specs.CommandLine.{Invocation}
-use Rattle.dp_top.specs.Talk.{IsIdle, Told, judged_by}
+use Rattle.dp_top.specs.Talk.{EndReport, IsIdle, judged_by}
 
 -- what the code tells
-abbrev pub told_in : Result ℕ Refused → Told
-told_in (Ok status) = Ok status
-told_in (Err why) = Err (why.failure, why.name.now)
+abbrev pub reported_in : Result ℕ Refused → EndReport
+reported_in (Ok status) = Ok status
+reported_in (Err why) = Err (why.failure, why.name.now)
 
 -- a session over this program went well, with this status; a fault of the link's sink is the first
 -- failure

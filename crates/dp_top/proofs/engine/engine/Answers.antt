@@ -2,8 +2,8 @@ use Rattle.std.proofs.Common.{Ok, Err, refl}
 use Rattle.dp_tree.specs.declared.bundle.Bundle.{Bundle}
 use Rattle.dp_words.specs.Commands.{address_seen, invocation_seen}
 use Rattle.dp_words.proofs.NameLaws.{names_of}
-use Rattle.dp_top.proofs.RunTold.{fetched, held_failure}
-use Rattle.dp_top.proofs.TalkLaws.{held_served}
+use Rattle.dp_top.proofs.RunReports.{complete_failure, fetched}
+use Rattle.dp_top.proofs.TalkLaws.{complete_served}
 use Rattle.dp_top.proofs.EngineLaws.{none_engaged, program_engaged}
 use Rattle.dp_top.proofs.engine.engine.Goals as goal
 
@@ -19,7 +19,7 @@ returns-in-Ok-clause-ends g c = rw (← c.objects.view_is)
 pub returns-in-Ok-clause-held : goal.returns-in-Ok-clause-held
 returns-in-Ok-clause-held g c = rw (← c.objects.view_is) (record {
   by_files = λ asked held.
-      held_served asked c.in-Ok.bundle c.serve_over.result _ _
+      complete_served asked c.in-Ok.bundle c.serve_over.result _ _
       (c.in-Ok.ensures.held asked held) c.serve_over.ensures.held;
 })
 
@@ -27,13 +27,13 @@ pub returns-in-Err-clause-ends : goal.returns-in-Err-clause-ends
 returns-in-Err-clause-ends g c = rw (← c.objects.view_is)
     (none_engaged (address_seen c.args.request.address) c.args.request.talk.key.now
     (invocation_seen c.args.request.talk.program) _ _ (record { input = (refl, refl); err = (refl, refl) })
-    c.told_of_files.result c.in-Err.why c.in-Err.ensures.cause c.told_of_files.ensures
+    c.refusal_of_program.result c.in-Err.why c.in-Err.ensures.cause c.refusal_of_program.ensures
     (record { net = refl; out = (refl, refl); apart = record { input = (refl, refl); err = (refl, refl) } }))
 
 pub returns-in-Err-clause-held : goal.returns-in-Err-clause-held
 returns-in-Err-clause-held g c = rw (← c.objects.view_is) (record {
   by_files = λ asked held.
-      held_failure Bundle asked c.in-Err.why c.told_of_files.result _ _ c.told_of_files.ensures.0
+      complete_failure Bundle asked c.in-Err.why c.refusal_of_program.result _ _ c.refusal_of_program.ensures.0
       (c.in-Err.ensures.held asked held);
 })
 

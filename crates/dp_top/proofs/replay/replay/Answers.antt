@@ -9,7 +9,7 @@ use Rattle.dp_words.specs.Commands.{invocation_seen}
 use Rattle.dp_words.proofs.NameLaws.{names_of}
 use Rattle.dp_top.proofs.ReplayLaws.{first_and, since, status_small, unfetched_fails, unlisted_fails, unlisted_held}
 use Rattle.dp_top.specs.Lines.{lines_limit}
-use Rattle.dp_top.proofs.RunTold.{fetched, held_failure}
+use Rattle.dp_top.proofs.RunReports.{complete_failure, fetched}
 use Rattle.dp_top.proofs.replay.replay.Goals as goal
 
 pub replay_fetched-requires : goal.replay_fetched-requires
@@ -68,12 +68,12 @@ returns-clause-ends g c =
     let after = g.H.Shelf.faults c.fetch_files.new.shelf in
     unfetched_fails files (g.H.Shelf.faults c.args.shelf.now) after c.args.request.events.now
     (invocation_seen c.args.request.program)
-    (change g.K.Sink.taken g.K.Sink.faults c.args.out.now c.args.out.now) why c.told_of_files.result.failure
-    c.told_of_files.result.name.now
+    (change g.K.Sink.taken g.K.Sink.faults c.args.out.now c.args.out.now) why c.refusal_of_program.result.failure
+    c.refusal_of_program.result.name.now
     first c.in-Ok.ensures.later
     (subst (λ (f : Files). ProgramCaused why f first after names) c.in-Ok.ensures.files
     c.in-Err-fetch_files.ensures.err)
-    c.in-Err-fetch_files.ensures.unread c.told_of_files.ensures (refl, refl)
+    c.in-Err-fetch_files.ensures.unread c.refusal_of_program.ensures (refl, refl)
 
 pub returns-clause-fetched : goal.returns-clause-fetched
 returns-clause-fetched g c =
@@ -109,7 +109,7 @@ returns-clause-held g c = λ asked holds list held.
     let first = g.H.Shelf.faults c.fetch_list.new.shelf in
     let after = g.H.Shelf.faults c.fetch_files.new.shelf in
     let out = change g.K.Sink.taken g.K.Sink.faults c.args.out.now c.args.out.now in
-    held_failure Bundle asked why c.told_of_files.result before after c.told_of_files.ensures.0
+    complete_failure Bundle asked why c.refusal_of_program.result before after c.refusal_of_program.ensures.0
     (complete_unfetched Bundle files names before after asked why
     (since files before after c.args.request.events.now (invocation_seen c.args.request.program) out first
     c.in-Ok.ensures.later why

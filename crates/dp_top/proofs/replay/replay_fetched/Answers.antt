@@ -1,10 +1,10 @@
 use Rattle.std.proofs.Common.{Ok, Err, refl}
 use Rattle.dp_run.proofs.RunLaws.{complete_fetched}
 use Rattle.dp_tree.specs.declared.bundle.Bundle.{Bundle}
-use Rattle.dp_top.proofs.RunTold.{held_failure}
+use Rattle.dp_top.proofs.RunReports.{complete_failure}
 use Rattle.dp_outside.specs.Changes.{change}
 use Rattle.dp_words.specs.Commands.{invocation_seen}
-use Rattle.dp_top.proofs.ReplayLaws.{bad_held, bad_list, held_list, over_ends, over_held, unlisted_fails, unmade_fails}
+use Rattle.dp_top.proofs.ReplayLaws.{bad_held, bad_list, held_list, over_complete, over_ends, unlisted_fails, unmade_fails}
 use Rattle.dp_top.proofs.replay.replay_fetched.Goals as goal
 
 pub returns-in-Err-clause-ends : goal.returns-in-Err-clause-ends
@@ -30,8 +30,8 @@ returns-clause-ends g c = λ files before after fetched are.
     let out = change g.K.Sink.taken g.K.Sink.faults c.args.out.now c.args.out.now in
     unmade_fails files before after name (invocation_seen c.args.request.program) out c.in-Ok.events
     (held_list files name c.args.content.now c.in-Ok.events fetched c.in-Ok.ensures.list) c.args.fetched are
-    c.in-Err-make_program.why c.told_of_files.result.failure c.told_of_files.result.name.now
-    c.in-Err-make_program.ensures.err c.told_of_files.ensures (refl, refl)
+    c.in-Err-make_program.why c.refusal_of_program.result.failure c.refusal_of_program.result.name.now
+    c.in-Err-make_program.ensures.err c.refusal_of_program.ensures (refl, refl)
 
 pub returns-in-Err-clause-held : goal.returns-in-Err-clause-held
 returns-in-Err-clause-held g c = λ files before after fetched are asked holds list held.
@@ -40,8 +40,8 @@ returns-in-Err-clause-held g c = λ files before after fetched are asked holds l
 
 pub returns-in-Ok-make_program-clause-held : goal.returns-in-Ok-make_program-clause-held
 returns-in-Ok-make_program-clause-held g c = λ files before after fetched are asked holds list held.
-    over_held asked c.in-Ok-make_program.bundle c.replay_over.result c.in-Ok.events c.args.request.program.bound before
-    after
+    over_complete asked c.in-Ok-make_program.bundle c.replay_over.result c.in-Ok.events c.args.request.program.bound
+    before after
     (change g.K.Sink.taken g.K.Sink.faults c.args.out.now c.replay_over.new.out)
     (complete_fetched files (invocation_seen c.args.request.program).names c.args.fetched before after asked
     (Ok c.in-Ok-make_program.bundle) are
@@ -49,7 +49,8 @@ returns-in-Ok-make_program-clause-held g c = λ files before after fetched are a
 
 pub returns-clause-held : goal.returns-clause-held
 returns-clause-held g c = λ files before after fetched are asked holds list held.
-    held_failure Bundle asked c.in-Err-make_program.why c.told_of_files.result before after c.told_of_files.ensures.0
+    complete_failure Bundle asked c.in-Err-make_program.why c.refusal_of_program.result before after
+    c.refusal_of_program.ensures.0
     (complete_fetched {A = Bundle} files (invocation_seen c.args.request.program).names c.args.fetched before after
     asked (Err c.in-Err-make_program.why) are
     c.in-Err-make_program.ensures.only holds)

@@ -3,7 +3,7 @@ use Rattle.std.specs.Prelude.{⊤}
 use Rattle.dp_run.specs.Runs.{of_program}
 use Rattle.dp_words.specs.Commands.{invocation_seen}
 use Rattle.dp_words.proofs.NameLaws.{names_of}
-use Rattle.dp_top.proofs.RunTold.{fetched, held_run, held_status}
+use Rattle.dp_top.proofs.RunReports.{complete_run, complete_status, fetched}
 use Rattle.dp_top.proofs.run.run.Goals as goal
 
 pub run-requires : goal.run-requires
@@ -11,18 +11,18 @@ run-requires g c = names_of c.args.program.files.now c.requires
 
 pub returns-in-Ok-clause-held : goal.returns-in-Ok-clause-held
 returns-in-Ok-clause-held g c asked held =
-    held_status asked c.in-Ok.status (g.H.Shelf.faults c.args.shelf.now) (g.H.Shelf.faults c.run.new.shelf)
+    complete_status asked c.in-Ok.status (g.H.Shelf.faults c.args.shelf.now) (g.H.Shelf.faults c.run.new.shelf)
     (c.in-Ok.ensures.held asked held)
 
 pub returns-in-Err-clause-held : goal.returns-in-Err-clause-held
 returns-in-Err-clause-held g c asked held =
-    held_run c.args.program.bound asked c.in-Err.why c.told.result (g.H.Shelf.faults c.args.shelf.now)
-    (g.H.Shelf.faults c.run.new.shelf) c.told.ensures.0
+    complete_run c.args.program.bound asked c.in-Err.why c.refusal_of_run.result (g.H.Shelf.faults c.args.shelf.now)
+    (g.H.Shelf.faults c.run.new.shelf) c.refusal_of_run.ensures.0
     (c.in-Err.ensures.held asked held)
 
 pub returns-in-Err-clause-ends : goal.returns-in-Err-clause-ends
 returns-in-Err-clause-ends g c =
-    record { why = c.in-Err.why; caused = c.in-Err.ensures.ends; told = inl c.told.ensures }
+    record { why = c.in-Err.why; caused = c.in-Err.ensures.ends; told = inl c.refusal_of_run.ensures }
 
 pub returns-in-Ok-clause-fetched : goal.returns-in-Ok-clause-fetched
 returns-in-Ok-clause-fetched g c =

@@ -1,8 +1,8 @@
 use Rattle.std.proofs.Common.{rules, Ok, Err, ap, map, string_bytes, inl, arith}
 use Rattle.dp_top.proofs.TaskLaws.{asks_fetched, fails_told, told_above, complete_show_fails, shows_well, asks_show, asks_program, refused_told, complete_run_told, complete_talk_told, complete_engine_told, none_fetched, offline_done, offline_caused}
 use Rattle.dp_top.proofs.IdeLaws.{complete_ide_told, plays_well, script_held_told, script_refused_done, script_refused_told}
-use Rattle.dp_top.proofs.ReplayTold.{asks_replay, complete_replay_told, list_held_told, list_refused_done}
-use Rattle.dp_top.proofs.ReplayTold.{list_refused_told, replays_well}
+use Rattle.dp_top.proofs.ReplayReports.{asks_replay, complete_replay_told, list_held_told, list_refused_done}
+use Rattle.dp_top.proofs.ReplayReports.{list_refused_told, replays_well}
 use Rattle.dp_words.specs.CommandLine.{run, talk, engine, ide, replay, show, IsInvocation}
 use Rattle.dp_words.specs.Commands.{task_of}
 use Rattle.dp_top.proofs.top_call.top.Goals as goal

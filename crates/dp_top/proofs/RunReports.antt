@@ -14,12 +14,12 @@ use Rattle.dp_run.specs.declared.errors.ProgramError.{ProgramError}
 use Rattle.dp_run.specs.declared.errors.ProgramError.TheVariants as none
 use Rattle.dp_run.specs.declared.errors.RunError.{RunError}
 use Rattle.dp_run.specs.declared.errors.RunError.TheVariants as run
-use Rattle.dp_run.specs.Programs.{IsComplete as IsRunHeld, RequestedNames, RequestsFiles, is_bad_file, refusal}
+use Rattle.dp_run.specs.Programs.{IsComplete as IsRunComplete, RequestedNames, RequestsFiles, is_bad_file, refusal}
 use Rattle.dp_run.specs.Runs.{of_program}
 use Rattle.dp_top.specs.declared.failures.Refused.{Refused}
 use Rattle.dp_words.specs.CommandLine.{Invocation}
 use Rattle.dp_top.specs.Runs.{IsFetched, failure_of, program_failure}
-use Rattle.dp_top.specs.inner.Held.{IsBadSource, IsGood, IsHeld}
+use Rattle.dp_top.specs.inner.Completeness.{IsBadSource, IsComplete, IsGood}
 use Rattle.dp_top.specs.Sources.{failure_of as failure_of_source}
 
 good : (why : ProgramError) → is_bad_file why ≡ false → IsGood (program_failure why)
@@ -45,40 +45,42 @@ bad (unmade.Source file why) = bad_source why
 bad (unmade.TooLong file) = inl refl
 bad unmade.Memory = inr refl
 
-pub held_failure : (A : Type 0) (asked : Result Bundle BundleError) (why : ProgramError) (refused : Refused)
+pub complete_failure : (A : Type 0) (asked : Result Bundle BundleError) (why : ProgramError) (refused : Refused)
     (before after : ℕ) → refused.failure ≡ program_failure why
-    → IsRunHeld {A = A} asked (Err why) before after → IsHeld {A = ℕ} asked (Err refused) before after
-held_failure A (Ok program) why refused before after told h = subst IsGood (sym told) (good why h)
-held_failure A (Err e) why refused before after told (inl same) =
+    → IsRunComplete {A = A} asked (Err why) before after → IsComplete {A = ℕ} asked (Err refused) before after
+complete_failure A (Ok program) why refused before after told h = subst IsGood (sym told) (good why h)
+complete_failure A (Err e) why refused before after told (inl same) =
     inl (subst IsBadSource (sym (told ∙ ap program_failure same)) (bad e))
-held_failure A (Err e) why refused before after told (inr (inl memory)) = inl (inr (told ∙ ap program_failure memory))
-held_failure A (Err e) why refused before after told (inr (inr rose)) = inr rose
+complete_failure A (Err e) why refused before after told (inr (inl memory)) = inl
+    (inr (told ∙ ap program_failure memory))
+complete_failure A (Err e) why refused before after told (inr (inr rose)) = inr rose
 
 -- a run that was made of a program is no bad source
-held_good : (asked : Result Bundle BundleError) (refused : Refused) (before after : ℕ) → IsGood refused.failure
-    → IsRunHeld {A = ⊤} asked (Ok tt) before after → IsHeld {A = ℕ} asked (Err refused) before after
-held_good (Ok program) refused before after is h = is
-held_good (Err e) refused before after is h = absurd h
+complete_good : (asked : Result Bundle BundleError) (refused : Refused) (before after : ℕ) → IsGood refused.failure
+    → IsRunComplete {A = ⊤} asked (Ok tt) before after → IsComplete {A = ℕ} asked (Err refused) before after
+complete_good (Ok program) refused before after is h = is
+complete_good (Err e) refused before after is h = absurd h
 
-pub held_status : (asked : Result Bundle BundleError) (status before after : ℕ)
-    → IsRunHeld {A = ⊤} asked (Ok tt) before after → IsHeld {A = ℕ} asked (Ok status) before after
-held_status (Ok program) status before after h = tt
-held_status (Err e) status before after h = h
+pub complete_status : (asked : Result Bundle BundleError) (status before after : ℕ)
+    → IsRunComplete {A = ⊤} asked (Ok tt) before after → IsComplete {A = ℕ} asked (Ok status) before after
+complete_status (Ok program) status before after h = tt
+complete_status (Err e) status before after h = h
 
-pub held_run : (bound : ℕ) (asked : Result Bundle BundleError) (why : RunError) (refused : Refused) (before after : ℕ)
+pub complete_run : (bound : ℕ) (asked : Result Bundle BundleError) (why : RunError) (refused : Refused)
+    (before after : ℕ)
     → refused.failure ≡ failure_of bound why
-    → IsRunHeld {A = ⊤} asked (of_program {A = ℕ} (Err why)) before after
-    → IsHeld {A = ℕ} asked (Err refused) before after
-held_run bound asked (run.Program why) refused before after told h =
-    held_failure ⊤ asked why refused before after told h
-held_run bound asked (run.Fatal kind file line) refused before after told h =
-    held_good asked refused before after (subst IsGood (sym told) ((λ e. omega (arith, e)), (λ e. cc))) h
-held_run bound asked run.Bound refused before after told h =
-    held_good asked refused before after (subst IsGood (sym told) ((λ e. omega (arith, e)), (λ e. cc))) h
-held_run bound asked run.OutFault refused before after told h =
-    held_good asked refused before after (subst IsGood (sym told) ((λ e. omega (arith, e)), (λ e. cc))) h
-held_run bound asked run.Memory refused before after told h =
-    held_good asked refused before after (subst IsGood (sym told) ((λ e. omega (arith, e)), (λ e. cc))) h
+    → IsRunComplete {A = ⊤} asked (of_program {A = ℕ} (Err why)) before after
+    → IsComplete {A = ℕ} asked (Err refused) before after
+complete_run bound asked (run.Program why) refused before after told h =
+    complete_failure ⊤ asked why refused before after told h
+complete_run bound asked (run.Fatal kind file line) refused before after told h =
+    complete_good asked refused before after (subst IsGood (sym told) ((λ e. omega (arith, e)), (λ e. cc))) h
+complete_run bound asked run.Bound refused before after told h =
+    complete_good asked refused before after (subst IsGood (sym told) ((λ e. omega (arith, e)), (λ e. cc))) h
+complete_run bound asked run.OutFault refused before after told h =
+    complete_good asked refused before after (subst IsGood (sym told) ((λ e. omega (arith, e)), (λ e. cc))) h
+complete_run bound asked run.Memory refused before after told h =
+    complete_good asked refused before after (subst IsGood (sym told) ((λ e. omega (arith, e)), (λ e. cc))) h
 
 -- ---- what was fetched
 

@@ -8,19 +8,19 @@ use Rattle.dp_tree.specs.declared.bundle.Bundle.{Bundle}
 use Rattle.dp_lists.specs.declared.event.Event.{Event}
 use Rattle.dp_run.specs.declared.errors.ProgramError.{ProgramError}
 use Rattle.dp_run.specs.declared.errors.ProgramError.TheVariants as none
-use Rattle.dp_run.specs.Programs.{Files, FilesMake, IsComplete as IsRunHeld, ProgramCaused, refusal}
+use Rattle.dp_run.specs.Programs.{Files, FilesMake, IsComplete as IsRunComplete, ProgramCaused, refusal}
 use Rattle.dp_run.proofs.RunLaws.{complete_unfetched}
 use Rattle.dp_top.specs.declared.failures.Failure.{Failure}
 use Rattle.dp_top.specs.declared.failures.Failure.TheVariants as failure
 use Rattle.dp_top.specs.declared.failures.Refused.{Refused}
 use Rattle.dp_top.specs.Failures.{status_of}
-use Rattle.dp_top.specs.Replay.{IsHeldList, IsNoList, IsReplayed, IsUnmade, ReadBefore, ReplayFails, Unlisted}
+use Rattle.dp_top.specs.Replay.{IsListFile, IsNoList, IsReplayed, IsUnreplayed, ReadBefore, ReplayFails, Unlisted}
 use Rattle.dp_top.specs.Runs.{program_failure}
 use Rattle.dp_top.specs.Seen.{NoneRose, Seen, changed}
 use Rattle.dp_top.specs.Tasks.{Caused, Does}
-use Rattle.dp_top.specs.inner.Held.{AreHeldWith, IsGood}
+use Rattle.dp_top.specs.inner.Completeness.{AreCompleteWith, IsGood}
 use Rattle.dp_top.proofs.ReplayLaws.{held_or_bad, held_or_lacking}
-use Rattle.dp_top.proofs.RunTold.{bad_source}
+use Rattle.dp_top.proofs.RunReports.{bad_source}
 use Rattle.dp_top.proofs.TaskLaws.{no_program, one_task}
 use Rattle.dp_words.specs.CommandLine.{Invocation, IsInvocation, IsReplay, Task, replay}
 
@@ -29,7 +29,7 @@ abbrev IsListEnd : Failure → ℕ → ℕ → Type 0
 IsListEnd why before after = (status_of why ≡ 204) ⊎ (status_of why ≡ 209) ⊎ Rose before after
 
 never_missing : (made : Result Bundle BundleError) (file before after : ℕ)
-    → IsRunHeld {A = Bundle} made (Err (none.Missing file)) before after → Rose before after
+    → IsRunComplete {A = Bundle} made (Err (none.Missing file)) before after → Rose before after
 never_missing (Ok program) file before after h = absurd cc
 never_missing (Err (unmade.Source f why)) file before after (inl same) = absurd cc
 never_missing (Err (unmade.TooLong f)) file before after (inl same) = absurd cc
@@ -42,7 +42,7 @@ never_missing (Err e) file before after (inr (inr rose)) = rose
 module _ (files : Files) (before after : ℕ) (out : Change) (events : List ℕ) (ask : Invocation) (line : ℕ)
     (made : Result Bundle BundleError) (bad : IsNoList files events line)
     (holds : FilesMake files ask.names made) where
-  never_held : (list : List Event) → IsHeldList files events list → ⊥
+  never_held : (list : List Event) → IsListFile files events list → ⊥
   never_held list held = held_or_bad files events bad.content list line holds.tells held bad.fetched bad.bad
 
   unlisted : (why : Failure) (name : List ℕ) → Unlisted why name events files before after → IsListEnd why before after
@@ -61,7 +61,7 @@ module _ (files : Files) (before after : ℕ) (out : Change) (events : List ℕ)
   unlisted failure.Network name h = absurd h
   unlisted failure.Stopped name h = absurd h
 
-  no_files : (why : Failure) (name : List ℕ) (u : IsUnmade why name events ask files before after)
+  no_files : (why : Failure) (name : List ℕ) (u : IsUnreplayed why name events ask files before after)
       → IsListEnd why before after
   no_files why name u = by u.cause u.caused u.read u.told.0 where
     by : (cause : ProgramError) → ProgramCaused cause files before after ask.names → ReadBefore cause files events
@@ -112,7 +112,7 @@ module _ (status : ℕ) (words : List (List ℕ)) (task : Task) (old new : Seen)
 -- ---- a file that is a list
 
 module _ (files : Files) (before after : ℕ) (out : Change) (events : List ℕ) (ask : Invocation) (list : List Event)
-    (told : IsSome files) (held : IsHeldList files events list) where
+    (told : IsSome files) (held : IsListFile files events list) where
   unlisted_not : (why : Failure) (name : List ℕ) → Unlisted why name events files before after
       → (why ≡ failure.ShelfFailed) × Rose before after
   unlisted_not failure.ShelfFailed name h = (refl, h.1)
@@ -162,7 +162,7 @@ module _ (status : ℕ) (words : List (List ℕ)) (task : Task) (old new : Seen)
     (caused : Caused refused.failure refused.name.now task old new)
     (told : ((status ≡ status_of refused.failure) × A) ⊎ ((status ≡ 209) × B)) where
   pub list_held_told : (events : List ℕ) (ask : Invocation) (list : List Event) → IsReplay words events ask
-      → IsSome old.shelf.files → IsHeldList old.shelf.files events list
+      → IsSome old.shelf.files → IsListFile old.shelf.files events list
       → status ≡ 204 → ⊥
   list_held_told events ask list is some held e = by told where
     by : ((status ≡ status_of refused.failure) × A) ⊎ ((status ≡ 209) × B) → ⊥
@@ -173,7 +173,7 @@ module _ (status : ℕ) (words : List (List ℕ)) (task : Task) (old new : Seen)
         (fails status words task old new refused A B asks caused told events ask is) (sym t.0 ∙ e)
 
   pub complete_replay_told : (events : List ℕ) (ask : Invocation) (list : List Event) → IsReplay words events ask
-      → IsSome old.shelf.files → IsHeldList old.shelf.files events list
+      → IsSome old.shelf.files → IsListFile old.shelf.files events list
       → IsGood refused.failure → NoneRose old new → (status ≡ 0) ⊎ (status ≡ 209)
   complete_replay_told events ask list is some held good none = by told where
     by : ((status ≡ status_of refused.failure) × A) ⊎ ((status ≡ 209) × B) → (status ≡ 0) ⊎ (status ≡ 209)
@@ -208,12 +208,13 @@ pub asks_replay : (words : List (List ℕ)) (task : Task) (events : List ℕ) (a
 asks_replay words task events ask asks is = one_task words task (replay events ask) asks is
 
 -- likewise what is held of it
-pub held_with : {A : Type 0} (events other : List ℕ) (ask asked : Invocation) (task : Task) (result : Result A Refused)
+pub complete_with : {A : Type 0} (events other : List ℕ) (ask asked : Invocation) (task : Task)
+    (result : Result A Refused)
     (old new : Seen) → task ≡ replay other asked → task ≡ replay events ask
-    → AreHeldWith other asked result old new → AreHeldWith events ask result old new
-held_with {A} events other ask asked task result old new p q h =
+    → AreCompleteWith other asked result old new → AreCompleteWith events ask result old new
+complete_with {A} events other ask asked task result old new p q h =
     let both : replay other asked ≡ replay events ask = sym p ∙ q in
     let same_events : other ≡ events = cc in
     let same_ask : asked ≡ ask = cc in
-    subst (λ (e : List ℕ). AreHeldWith {A = A} e ask result old new) same_events
-    (subst (λ (a : Invocation). AreHeldWith {A = A} other a result old new) same_ask h)
+    subst (λ (e : List ℕ). AreCompleteWith {A = A} e ask result old new) same_events
+    (subst (λ (a : Invocation). AreCompleteWith {A = A} other a result old new) same_ask h)

@@ -10,7 +10,7 @@ use Rattle.dp_run.specs.Programs.{FilesMake}
 use Rattle.dp_words.specs.CommandLine.{Invocation}
 use Rattle.dp_lists.specs.declared.event.Event.{Event}
 use Rattle.dp_top.specs.Failures.{status_of}
-use Rattle.dp_top.specs.Replay.{IsHeldList}
+use Rattle.dp_top.specs.Replay.{IsListFile}
 use Rattle.dp_top.specs.Seen.{Seen}
 
 -- it is reported as a bad source, or memory ran out
@@ -23,21 +23,22 @@ IsGood failure = (status_of failure ≢ 201) × (failure ≢ NoFile)
 
 -- files that make a program are no bad source, and those that make none are one, unless the shelf
 -- failed
-abbrev pub IsHeld : {A : Type 0} → Result Bundle BundleError → Result A Refused → ℕ → ℕ → Type 0
-IsHeld (Ok program) result before after =
+abbrev pub IsComplete : {A : Type 0} → Result Bundle BundleError → Result A Refused → ℕ → ℕ → Type 0
+IsComplete (Ok program) result before after =
     IfErr result (λ why. (status_of why.failure ≢ 201) × (why.failure ≢ NoFile))
-IsHeld (Err e) result before after =
+IsComplete (Err e) result before after =
     MatchResult result (λ _. ⊥) (λ why. IsBadSource why.failure ⊎ Rose before after)
 
 -- likewise where the shelf tells the files of the program, and a list of events
-pub record AreHeldWith {A : Type 0} (events : List ℕ) (ask : Invocation) (result : Result A Refused)
+pub record AreCompleteWith {A : Type 0} (events : List ℕ) (ask : Invocation)
+    (result : Result A Refused)
     (old new : Seen) : Type 0 where
   pub by_files : (asked : Result Bundle BundleError) → FilesMake old.shelf.files ask.names asked
-      → (list : List Event) → IsHeldList old.shelf.files events list
-      → IsHeld asked result old.shelf.faults new.shelf.faults
+      → (list : List Event) → IsListFile old.shelf.files events list
+      → IsComplete asked result old.shelf.faults new.shelf.faults
 
 -- likewise where the shelf tells the files of the program
-pub record AreHeld {A : Type 0} (ask : Invocation) (result : Result A Refused)
+pub record AreComplete {A : Type 0} (ask : Invocation) (result : Result A Refused)
     (old new : Seen) : Type 0 where
   pub by_files : (asked : Result Bundle BundleError) → FilesMake old.shelf.files ask.names asked
-      → IsHeld asked result old.shelf.faults new.shelf.faults
+      → IsComplete asked result old.shelf.faults new.shelf.faults
