@@ -39,6 +39,14 @@ feature_named name = find (λ feature. bytes_eq (name_of feature) name) every_fe
 
 -- ---- values
 
+-- the most bytes of a value that is reported
+abbrev pub value_limit : ℕ
+value_limit = 64
+
+-- the most bytes of a text that are shown, where none is set
+abbrev pub default_data : ℕ
+default_data = 1024
+
 -- the values of the features that are set to numbers
 pub record Features : Type 0 where
   pub multiple_sessions : ℕ
@@ -53,7 +61,7 @@ abbrev pub defaults : Features
 defaults = record {
   multiple_sessions = 0;
   max_children = 32;
-  max_data = 1024;
+  max_data = default_data;
   max_depth = 1;
   show_hidden = 0;
   notify_ok = 0;
@@ -80,11 +88,15 @@ value_of features SupportsPostmortem = codes "0"
 
 -- ---- what may be set
 
+-- the most entries of a page, and the most bytes of a text, that can be asked for
+abbrev pub shown_limit : ℕ
+shown_limit = 1048576
+
 -- the lowest and the greatest number that a feature can be set to
 abbrev pub range_of : Feature → Option (ℕ × ℕ)
 range_of MultipleSessions = Some (0, 1)
-range_of MaxChildren = Some (1, 1048576)
-range_of MaxData = Some (0, 1048576)
+range_of MaxChildren = Some (1, shown_limit)
+range_of MaxData = Some (0, shown_limit)
 range_of MaxDepth = Some (0, 32)
 range_of ShowHidden = Some (0, 1)
 range_of NotifyOk = Some (0, 1)

@@ -4,6 +4,9 @@ ghost use Rattle.std.specs.List.{find};
 ghost use Rattle.std.specs.Str.{bytes_eq};
 ghost use Rattle.dp_features.specs.Features as spec;
 
+/// The most entries of a page, and the most bytes of a text, that can be asked for.
+const SHOWN_LIMIT: u64 = 1_048_576;
+
 /// A feature of the engine: DBGp 1.0, "feature_get".
 #[derive(Clone, Copy, Debug, PartialEq, Eq)]
 pub enum Feature {
@@ -91,12 +94,12 @@ impl Feature {
     /// The lowest and the greatest number that it can be set to.
     pub(crate) fn range(self) -> Option<(u64, u64)>
         ensures value { result ≡ spec.range_of self }
-        ensures bound { IfSome result (λ range. range.1 ≤ 1048576) }
+        ensures bound { IfSome result (λ range. range.1 ≤ spec.shown_limit) }
     {
         match self {
             Feature::MultipleSessions | Feature::ShowHidden | Feature::NotifyOk => Some((0, 1)),
-            Feature::MaxChildren => Some((1, 1_048_576)),
-            Feature::MaxData => Some((0, 1_048_576)),
+            Feature::MaxChildren => Some((1, SHOWN_LIMIT)),
+            Feature::MaxData => Some((0, SHOWN_LIMIT)),
             Feature::MaxDepth => Some((0, 32)),
             _ => None,
         }

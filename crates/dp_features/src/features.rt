@@ -8,6 +8,9 @@ use dp_value::{Bytes, Memory};
 use std::alloc::Global;
 use std::marker::Model;
 
+/// The most bytes of a text that are shown, where none is set.
+const DEFAULT_DATA: u32 = 1024;
+
 /// The features that are set to numbers, each within its range. `multiple_sessions`, `show_hidden`
 /// and `notify_ok` are kept and change nothing else.
 #[derive(Clone, Copy, Debug)]
@@ -63,7 +66,7 @@ impl Model for Features {
 #[tactic(auto, using(crate::proofs::Short::decimal_short))]
 fn text_of(alloc: Global, number: u32) -> Result<Bytes, Memory>
     ensures value { IfOk result (λ text. text ≡ decimal number) }
-    ensures short { IfOk result (λ text. length text ≤ 64) }
+    ensures short { IfOk result (λ text. length text ≤ spec.value_limit) }
 {
     let digits = number.to_string(alloc)?;
     Bytes::from_slice(alloc, digits.as_bytes())
@@ -77,7 +80,7 @@ impl Features {
         Features {
             multiple_sessions: 0,
             max_children: 32,
-            max_data: 1024,
+            max_data: DEFAULT_DATA,
             max_depth: 1,
             show_hidden: 0,
             notify_ok: 0,
@@ -87,7 +90,7 @@ impl Features {
     /// The value of a feature, as it is reported.
     pub fn value(&self, alloc: Global, feature: Feature) -> Result<Bytes, Memory>
         ensures value { IfOk result (λ text. text ≡ spec.value_of self.now feature) }
-        ensures short { IfOk result (λ text. length text ≤ 64) }
+        ensures short { IfOk result (λ text. length text ≤ spec.value_limit) }
     {
         match feature {
             Feature::LanguageSupportsThreads => Bytes::from_slice(alloc, b"0"),
@@ -113,7 +116,7 @@ impl Features {
     pub fn max_children(&self) -> u32
         ensures value { result ≡ self.now.max_children }
         ensures some { 1 ≤ result }
-        ensures bound { result ≤ 1048576 }
+        ensures bound { result ≤ spec.shown_limit }
     {
         self.max_children
     }
@@ -121,7 +124,7 @@ impl Features {
     /// The most bytes of a text that are shown. Takes no memory.
     pub fn max_data(&self) -> u32
         ensures value { result ≡ self.now.max_data }
-        ensures bound { result ≤ 1048576 }
+        ensures bound { result ≤ spec.shown_limit }
     {
         self.max_data
     }

@@ -45,7 +45,7 @@ fn number_in(value: &[u8], range: (u64, u64)) -> Option<u64>
 #[tactic(auto, using(crate::proofs::Ranges::in_range))]
 fn number_of(feature: Feature, value: &[u8]) -> Option<u64>
     ensures value { result ≡ spec.number_of feature value.now }
-    ensures bound { IfSome result (λ n. n ≤ 1048576) }
+    ensures bound { IfSome result (λ n. n ≤ spec.shown_limit) }
     ensures range { IfSome result (spec.IsInRange feature) }
 {
     if feature == Feature::Encoding {
