@@ -21,9 +21,13 @@ Spaces bytes = Each is_space bytes
 abbrev pub SomeSpaces : Rule
 SomeSpaces bytes = Each is_space bytes × (1 ≤ length bytes)
 
+-- the most bytes of the name of a command
+abbrev pub command_name_limit : ℕ
+command_name_limit = 64
+
 -- 1 to 64 of a-z, 0-9, "_"
 abbrev pub IsName : List ℕ → Type 0
-IsName name = Each is_name_byte name × (1 ≤ length name) × (length name ≤ 64)
+IsName name = Each is_name_byte name × (1 ≤ length name) × (length name ≤ command_name_limit)
 
 abbrev pub Name : List ℕ → Rule
 Name name bytes = IsName name × (bytes ≡ name)

@@ -26,9 +26,13 @@ use Rattle.dp_command.specs.Tests.{Test}
 abbrev pub is_visible : ℕ → Bool
 is_visible b = nat_le 33 b && nat_le b 126
 
+-- the most bytes of a transaction id
+abbrev pub id_limit : ℕ
+id_limit = 64
+
 -- 1 to 64 such bytes
 abbrev pub is_id : List ℕ → Bool
-is_id value = nat_le 1 (length value) && nat_le (length value) 64 && list_all is_visible value
+is_id value = nat_le 1 (length value) && nat_le (length value) id_limit && list_all is_visible value
 
 abbrev pub id_in : Option (List ℕ) → List ℕ
 id_in None = []

@@ -1,6 +1,8 @@
 //! Whom a reply answers.
 
 ghost use Rattle.std.specs.Prelude.{◌≡◌, ◌≤◌, [], length, IfOk};
+ghost use Rattle.dp_command.specs.Grammar.{command_name_limit};
+ghost use Rattle.dp_command.specs.Refusals.{id_limit};
 
 use crate::line::Line;
 use crate::refusals::id_of;
@@ -12,8 +14,8 @@ use std::alloc::Global;
 pub struct Addressee {
     pub command: Bytes,
     pub id: Bytes,
-    ghost command_bound: { length command ≤ 64 },
-    ghost id_bound: { length id ≤ 64 },
+    ghost command_bound: { length command ≤ command_name_limit },
+    ghost id_bound: { length id ≤ id_limit },
 }
 
 impl Addressee {
@@ -32,7 +34,7 @@ impl Addressee {
 
     /// Who sent a line: its command's name, and its transaction id where it has one.
     pub fn of(alloc: Global, line: &Line) -> Result<Addressee, Memory>
-        requires { length line.now.name ≤ 64 }
+        requires { length line.now.name ≤ command_name_limit }
         ensures command { IfOk result (λ to. to.command ≡ line.now.name) }
         ensures id { IfOk result (λ to. to.id ≡ spec.id_of line.now) }
     {

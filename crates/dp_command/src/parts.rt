@@ -8,8 +8,8 @@ ghost use Rattle.dp_command.specs.Lines.{Gives};
 use crate::errors::LineError;
 use crate::sort::{Sort, is_letter, run};
 
-/// The longest name of a command.
-const LONGEST: usize = 64;
+/// The most bytes of the name of a command.
+const NAME_LIMIT: usize = 64;
 
 /// What stands behind one space or more.
 #[tactic(auto, unfolding(crate::specs::inner::Parts::spaces_at))]
@@ -27,7 +27,7 @@ pub(crate) fn name(bytes: &[u8]) -> Result<(&[u8], &[u8]), LineError>
     ensures { Gives (λ found. (found.0.now, found.1.now)) result (name_at bytes.now) }
 {
     let (name, rest) = run(Sort::Name, bytes);
-    if name.is_empty() || name.len() > LONGEST {
+    if name.is_empty() || name.len() > NAME_LIMIT {
         return Err(LineError::Parse);
     }
     Ok((name, rest))

@@ -14,8 +14,8 @@ use crate::options::{has_duplicate, is_given, mode_of, option_value};
 use crate::slots::{Kind, Presence, Slot, payload_of, slots_of};
 use dp_value::Bytes;
 
-/// The longest transaction id.
-const LONGEST: usize = 64;
+/// The most bytes of a transaction id.
+const ID_LIMIT: usize = 64;
 
 /// The transaction id that a reply to this line repeats: the value of its first `-i` where that is
 /// 1 to 64 bytes from 0x21 to 0x7e, and else empty. Takes no memory.
@@ -31,7 +31,7 @@ pub fn id_of(line: &Line) -> &[u8]
 fn is_id(value: &[u8]) -> bool
     ensures { result ≡ spec.is_id value.now }
 {
-    1 <= value.len() && value.len() <= LONGEST && all_visible(value)
+    1 <= value.len() && value.len() <= ID_LIMIT && all_visible(value)
 }
 
 fn all_visible(value: &[u8]) -> bool

@@ -4,6 +4,7 @@ use Rattle.std.specs.Prelude.{ℕ, ◌&&◌, ◌==◌, nat_le, Bool, if◌then�
 use Rattle.std.specs.List.{prefix_len}
 use Rattle.dp_command.specs.declared.sort.Sort.{Sort}
 use Rattle.dp_command.specs.declared.sort.Sort.TheVariants.{Space, Name, Bare, Text}
+use Rattle.dp_command.specs.Grammar.{command_name_limit}
 use Rattle.dp_command.specs.Sorts.{is_space, is_name_byte, is_letter, is_bare, is_text, begins}
 pub use Rattle.dp_grammar.specs.Prefixes.{◌>>=◌, run_at, onward}
 unfoldable pub use Rattle.dp_grammar.specs.Prefixes.{items_at}
@@ -19,7 +20,7 @@ spaces_at bytes = if begins is_space bytes then Some (run_at is_space bytes).1 e
 
 unfoldable pub name_at : List ℕ → Option (List ℕ × List ℕ)
 name_at bytes =
-    if nat_le 1 (prefix_len is_name_byte bytes) && nat_le (prefix_len is_name_byte bytes) 64
+    if nat_le 1 (prefix_len is_name_byte bytes) && nat_le (prefix_len is_name_byte bytes) command_name_limit
     then Some (run_at is_name_byte bytes) else None
 
 -- a byte between quotes, where none is at the closing quote and at the end
