@@ -9,6 +9,9 @@ use dp_outside::{Failed, ShelfError};
 use std::alloc::Global;
 use std::io::{ErrorKind, Read, Write};
 
+/// The most bytes of one read.
+const PIECE: usize = 4096;
+
 /// One read, made again where a signal interrupts it.
 pub(crate) fn read_some<R: Read>(reader: &mut R, buf: &mut [u8]) -> Result<usize, Failed>
     ensures bound { IfOk result (λ count. count ≤ length buf.new) }
@@ -81,9 +84,9 @@ pub(crate) fn read_front<R: Read>(
     ensures refused { IfErr result (λ e. e ≡ ShelfError.Missing → ⊥) }
 {
     let mut bytes = Vec::new(alloc);
-    let mut buf = [0; 4096];
+    let mut buf = [0; PIECE];
     'pieces: while bytes.len() <= limit {
-        let room = (limit - bytes.len()).min(4095) + 1;
+        let room = (limit - bytes.len()).min(PIECE - 1) + 1;
         let Ok(count) = read_some(reader, &mut buf[..room]) else {
             return Err(ShelfError::Failed);
         };
