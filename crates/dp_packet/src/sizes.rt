@@ -4,7 +4,7 @@ ghost use Rattle.dp_markup.specs.Escapes.{escaped, escaped_all};
 ghost use Rattle.dp_markup.specs.Texts.{attribute_text};
 ghost use Rattle.dp_packet.specs.Breakpoints.{given_number};
 ghost use Rattle.dp_packet.specs.Parts.{flag, given};
-ghost use Rattle.dp_packet.specs.Sizes.{counted};
+ghost use Rattle.dp_packet.specs.Sizes.{counted, short_size_limit, short_value_limit};
 ghost use Rattle.dp_packet.specs.inner.Sizes as spec;
 
 use crate::parts::flag;
@@ -48,9 +48,9 @@ pub fn attribute_size(name: &[u8], value: &[u8]) -> u64
 /// The same of a short name and a short value: a size that is counted in full. Takes no memory.
 pub fn short_size(name: &[u8], value: &[u8]) -> u64
     requires name { length name.now ≤ 20 }
-    requires value { length value.now ≤ 64 }
+    requires value { length value.now ≤ short_value_limit }
     ensures size { result ≡ length (attribute_text (name.now, value.now)) }
-    ensures small { result ≤ 500 }
+    ensures small { result ≤ short_size_limit }
 {
     attribute_size(name, value)
 }
