@@ -3,7 +3,7 @@ use Rattle.std.specs.Prelude.{◌≡◌, ℕ, ◌+◌, ◌<◌, ◌≤◌, min, 
 use Rattle.std.specs.Prelude.{flat_map, slice_range, Option, Some, None}
 use Rattle.dp_wire.specs.declared.errors.WireError.{WireError}
 use Rattle.dp_wire.specs.declared.errors.WireError.TheVariants.{TooLong}
-use Rattle.dp_wire.specs.Frames.{Begins, IsPartial, BeginsNoFrame, IsCommand, IsPacketText}
+use Rattle.dp_wire.specs.Frames.{Begins, IsPartial, BeginsNoFrame, IsCommand, IsPacketText, command_limit}
 use Rattle.dp_wire.specs.Places.{IsRefusedAt}
 use Rattle.dp_wire.specs.Received.{Received, IsCause, last_place}
 use Rattle.dp_lanes.specs.declared.lane.Lane.{Lane}
@@ -48,7 +48,7 @@ received_in (lane.Down received) = received
 -- why no frame begins what is held; a command that is too long is the one reason of its lane
 abbrev pub Causes : LaneKind → Received → WireError → Type 0
 Causes Up received why = IsCause received why
-Causes Down received why = why ≡ TooLong 1048577
+Causes Down received why = why ≡ TooLong (command_limit + 1)
 
 -- ---- where no frame begins
 
@@ -77,6 +77,10 @@ IsBadPlace kind bytes None = is_bad kind bytes ≡ false
 IsBadPlace kind bytes (Some offset) = IsBadIn kind bytes offset
 
 -- ---- a lane and its stream
+
+-- the most bytes that a lane is fed at once
+abbrev pub lane_piece_limit : ℕ
+lane_piece_limit = 65536
 
 -- the lane goes this way, and holds what is left of these bytes
 pub record Follows (kind : LaneKind) (lane : Lane) (bytes : List ℕ) : Type 0 where

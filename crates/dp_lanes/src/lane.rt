@@ -1,9 +1,11 @@
 //! A lane of a session, which passes whole frames alone.
 ghost use Rattle.std.specs.Prelude.{◌≡◌, ◌↔◌, ◌+◌, ◌≤◌, [], ◌∷◌, ◌++◌, List, ℕ, Ok, None, min, length, IsErr, IfOk};
 ghost use Rattle.std.specs.Prelude.{IfErr, IfSome, OnOk, OnErr};
+ghost use Rattle.dp_wire.specs.Frames.{packet_limit};
 ghost use Rattle.dp_wire.specs.Received.{last_place};
 ghost use Rattle.dp_lanes.specs.Lanes.{frame, texts_in};
-ghost use Rattle.dp_lanes.specs.Places.{BeginsWith, IsPart, BeginsNone, Causes, IsFront, kind_of, received_in};
+ghost use Rattle.dp_lanes.specs.Places.{BeginsWith, IsPart, BeginsNone, Causes, IsFront, kind_of};
+ghost use Rattle.dp_lanes.specs.Places.{lane_piece_limit, received_in};
 
 use dp_value::Memory;
 use dp_wire::{Commands, Packets, WireError};
@@ -78,7 +80,7 @@ impl Lane {
     /// Appends a piece of the stream, where more of a frame has to come. Where memory runs out all stays as before.
     pub fn feed(&mut self, piece: &[u8]) -> Result<(), Memory>
         requires part { IsPart (kind_of self.old) (received_in self.old).held }
-        requires piece { length piece.now ≤ 65536 }
+        requires piece { length piece.now ≤ lane_piece_limit }
         ensures kind { kind_of self.new ≡ kind_of self.old }
         ensures ok { OnOk result ((received_in self.new).held ≡ (received_in self.old).held ++ piece.now) }
         ensures dropped { (received_in self.new).dropped ≡ (received_in self.old).dropped }
@@ -96,7 +98,7 @@ impl Lane {
         ensures refused { IsErr result ↔ BeginsNone (kind_of self.now) (received_in self.now).held }
         ensures cause { IfErr result (Causes (kind_of self.now) (received_in self.now)) }
         ensures none { result ≡ Ok None → texts_in (kind_of self.now) (received_in self.now).held ≡ [] }
-        ensures held { result ≡ Ok None → length (received_in self.now).held ≤ 16777225 }
+        ensures held { result ≡ Ok None → length (received_in self.now).held ≤ packet_limit + 9 }
     {
         match self {
             Lane::Up(packets) => packets.next(),
