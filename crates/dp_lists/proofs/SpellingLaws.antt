@@ -13,9 +13,9 @@ use Rattle.dp_value.specs.Decimals.{decimal_in}
 use Rattle.dp_lists.specs.declared.event.Act.{Act}
 use Rattle.dp_lists.specs.declared.event.Act.TheVariants.{Ide, Engine, Give, Move, Close}
 use Rattle.dp_lists.specs.declared.event.Event.{Event}
-use Rattle.dp_lists.specs.Lists.{named, named_with, hex, Spells, IsFormed}
+use Rattle.dp_lists.specs.Lists.{named, named_with, hex, Spells, IsFormed, link_limit}
 use Rattle.dp_lists.specs.inner.Spelling.{has_no_blank, word_of, part_of, is_name, name_in, bytes_in, act_alone, act_with, act_in, link_in}
-use Rattle.dp_lists.specs.inner.Spelling.{event_by, event_in, spelled}
+use Rattle.dp_lists.specs.inner.Spelling.{event_by, event_in, greatest_count, spelled}
 use Rattle.dp_lists.proofs.HexLaws.{hex_again, hex_is}
 use Rattle.dp_lists.proofs.WordLaws.{word_before, part_behind, word_alone, no_part, with_part, without_part}
 use Rattle.dp_lists.proofs.WordLaws.{number_again, number_is, number_blank, link_again, link_is}
@@ -59,7 +59,7 @@ alone_named : (word : List ℕ) (link : ℕ) → named word link ≡ word ++ 32 
 alone_named word link = simp append_assoc
 
 module _ (word : List ℕ) (link : ℕ) (blank : has_no_blank word ≡ true) (some : 1 ≤ link)
-    (within : link ≤ 4294967294) where
+    (within : link ≤ link_limit) where
   free : has_no_blank (decimal link) ≡ true
   free = number_blank link (omega arith)
 
@@ -88,7 +88,7 @@ module _ (word : List ℕ) (link : ℕ) (blank : has_no_blank word ≡ true) (so
         link_again link some within,
       ) refl
 
-pub spelled_again : (line : List ℕ) (link : ℕ) (act : Act) → Spells line link act → 1 ≤ link → link ≤ 4294967294
+pub spelled_again : (line : List ℕ) (link : ℕ) (act : Act) → Spells line link act → 1 ≤ link → link ≤ link_limit
     → IsFormed act
     → spelled line ≡ Some (record { link = link; act = act })
 spelled_again line link (Ide host) s some within formed =
@@ -97,7 +97,7 @@ spelled_again line link (Engine key) s some within formed =
     rw (s, again_with (codes "engine") link refl some within key) (rw (name_again 128 key formed) refl)
 spelled_again line link (Move count) s some within formed =
     rw (s, again_with (codes "move") link refl some within (decimal count))
-    (rw (number_again 4294967295 count (omega arith) (omega arith)) refl)
+    (rw (number_again greatest_count count (omega arith) (omega arith)) refl)
 spelled_again line link Close s some within formed = rw (s, again_alone (codes "close") link refl some within) refl
 spelled_again line link (Give bytes) (inl g) some within formed =
     rw (g.spelled, again_with (codes "give") link refl some within (hex bytes)) (rw (hex_again bytes g.are_bytes) refl)
@@ -138,13 +138,13 @@ module _ (line word : List ℕ) (link : ℕ) where
         })
 
   move_spelled : (part : List ℕ) (a : Act) → line ≡ named_with (codes "move") link part
-      → option_map Move (decimal_in 4294967295 part) ≡ Some a → IsSpelled line link a
-  move_spelled part a s e = by (decimal_in 4294967295 part) refl e where
-    by : (o : Option ℕ) → decimal_in 4294967295 part ≡ o → option_map Move (decimal_in 4294967295 part) ≡ Some a
+      → option_map Move (decimal_in greatest_count part) ≡ Some a → IsSpelled line link a
+  move_spelled part a s e = by (decimal_in greatest_count part) refl e where
+    by : (o : Option ℕ) → decimal_in greatest_count part ≡ o → option_map Move (decimal_in greatest_count part) ≡ Some a
         → IsSpelled line link a
     by None p e = let no : None ≡ Some a = rw p at e in absurd cc
     by (Some count) p e =
-        let is = number_is 4294967295 count part (omega arith) p in
+        let is = number_is greatest_count count part (omega arith) p in
         let fits = is.within in
         let same : Move count ≡ a = same_Some (Move count) a (rw p at e) in
         rw (← same) (record { spells = s ∙ ap (named_with (codes "move") link) is.spelled; formed = omega arith })
@@ -212,7 +212,7 @@ module _ (line word : List ℕ) (link : ℕ) where
 pub record IsLine (line : List ℕ) (e : Event) : Type 0 where
   pub is : IsSpelled line e.link e.act
   pub some : 1 ≤ e.link
-  pub known : e.link ≤ 4294967294
+  pub known : e.link ≤ link_limit
 
 event_spelled : (line rest : List ℕ) (e : Event) → line ≡ word_of line ++ 32 ∷ rest
     → event_in (word_of line) rest ≡ Some e → IsLine line e

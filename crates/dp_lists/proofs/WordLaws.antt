@@ -15,6 +15,7 @@ use Rattle.std.specs.Str.Parse.{digits_value}
 use Rattle.dp_value.specs.Decimals.{is_decimal, decimal_in}
 use Rattle.dp_value.specs.IntText.{is_positive}
 use Rattle.dp_grammar.proofs.Runs.{not_zero}
+use Rattle.dp_lists.specs.Lists.{link_limit}
 use Rattle.dp_lists.specs.inner.Spelling.{split_word, word_of, part_of, has_no_blank, FirstBlank, link_in}
 
 -- ---- blanks
@@ -160,26 +161,26 @@ number_blank n small = no_blanks (decimal n) (digits_decimal own n small)
 
 -- ---- links
 
-pub link_again : (n : ℕ) → 1 ≤ n → n ≤ 4294967294 → link_in (decimal n) ≡ Some n
-link_again n some within = rw (number_again 4294967294 n within (omega arith), not_zero n some) refl
+pub link_again : (n : ℕ) → 1 ≤ n → n ≤ link_limit → link_in (decimal n) ≡ Some n
+link_again n some within = rw (number_again link_limit n within (omega arith), not_zero n some) refl
 
 pub record IsLink (text : List ℕ) (n : ℕ) : Type 0 where
   pub spelled : text ≡ decimal n
   pub some : 1 ≤ n
-  pub within : n ≤ 4294967294
+  pub within : n ≤ link_limit
 
 unless_zero : (m n : ℕ) (t : Bool) → (m == 0) ≡ t → cond t None (Some m) ≡ Some n → (1 ≤ m) × (m ≡ n)
 unless_zero m n true e f = absurd cc
 unless_zero m n false e f = (grind (arith, nat_tests), same_Some m n f)
 
 pub link_is : (text : List ℕ) (n : ℕ) → link_in text ≡ Some n → IsLink text n
-link_is text n e = by (decimal_in 4294967294 text) refl e where
-  by : (o : Option ℕ) → decimal_in 4294967294 text ≡ o → link_in text ≡ Some n → IsLink text n
+link_is text n e = by (decimal_in link_limit text) refl e where
+  by : (o : Option ℕ) → decimal_in link_limit text ≡ o → link_in text ≡ Some n → IsLink text n
   by None p e = let no : None ≡ Some n = rw p at e in absurd cc
   by (Some m) p e =
       let found : cond (m == 0) None (Some m) ≡ Some n = rw p at e in
       let other = unless_zero m n (m == 0) refl found in
-      let is = number_is 4294967294 m text (omega arith) p in
+      let is = number_is link_limit m text (omega arith) p in
       let some = other.0 in
       let same = other.1 in
       let fits = is.within in

@@ -79,9 +79,13 @@ MayFollow before link (Give bytes) = was makes link before ≡ true
 MayFollow before link (Move count) = was is_engine link before ≡ true
 MayFollow before link Close = was makes link before ≡ true
 
+-- the greatest number of a link
+abbrev pub link_limit : ℕ
+link_limit = 4294967294
+
 pub record Fits (before : List Event) (event : Event) : Type 0 where
   pub some : 1 ≤ event.link
-  pub known : event.link ≤ 4294967294
+  pub known : event.link ≤ link_limit
   pub formed : IsFormed event.act
   pub follows : MayFollow before event.link event.act
 

@@ -10,6 +10,9 @@ use crate::hex::bytes_in;
 use dp_value::{Bytes, Memory, decimal};
 use std::alloc::Global;
 
+/// The greatest number of a link.
+const LINK_LIMIT: u64 = 4_294_967_294;
+
 /// The place of the first blank.
 fn first_blank(bytes: &[u8]) -> Option<usize>
     ensures first { spec.FirstBlank bytes.now result }
@@ -51,7 +54,7 @@ fn is_name(bytes: &[u8], most: usize) -> bool
 fn link_in(text: &[u8]) -> Option<u32>
     ensures { result ≡ spec.link_in text.now }
 {
-    let link = decimal(text, 4_294_967_294)?;
+    let link = decimal(text, LINK_LIMIT)?;
     if link == 0 { None } else { Some(link as u32) }
 }
 
@@ -105,9 +108,9 @@ fn say(alloc: Global, part: &[u8]) -> Result<Act, Memory>
 }
 
 fn read_of(part: &[u8]) -> Option<Act>
-    ensures { result ≡ option_map Act.Move (decimal_in 4294967295 part.now) }
+    ensures { result ≡ option_map Act.Move (decimal_in spec.greatest_count part.now) }
 {
-    match decimal(part, 4_294_967_295) {
+    match decimal(part, u64::from(u32::MAX)) {
         Some(count) => Some(Act::Move(count as u32)),
         None => None,
     }

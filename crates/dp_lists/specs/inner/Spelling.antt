@@ -1,5 +1,5 @@
 -- How a line is read: the event that it spells, if it spells one.
-use Rattle.std.specs.Prelude.{◌≡◌, ℕ, ◌+◌, ◌-◌, ◌*◌, ◌==◌, nat_le, Bool, true, not, ◌&&◌, if◌then◌else◌}
+use Rattle.std.specs.Prelude.{◌≡◌, ℕ, ◌+◌, ◌-◌, ◌*◌, ◌^◌, ◌==◌, nat_le, Bool, true, not, ◌&&◌, if◌then◌else◌}
 use Rattle.std.specs.Prelude.{List, [], ◌∷◌, ◌++◌, length, take, drop, Option, Some, None, codes}
 use Rattle.std.specs.Prelude.{option_map, option_and_then}
 use Rattle.std.specs.List.{list_all}
@@ -8,6 +8,7 @@ use Rattle.dp_value.specs.Decimals.{decimal_in}
 use Rattle.dp_lists.specs.declared.event.Act.{Act}
 use Rattle.dp_lists.specs.declared.event.Act.TheVariants.{Ide, Engine, Give, Move, Close}
 use Rattle.dp_lists.specs.declared.event.Event.{Event}
+use Rattle.dp_lists.specs.Lists.{link_limit}
 
 -- ---- bytes in hexadecimal
 
@@ -67,6 +68,10 @@ name_in most act part = if is_name most part then Some (act part) else None
 
 -- ---- acts
 
+-- the greatest count of bytes that are moved, of 32 bits
+abbrev pub greatest_count : ℕ
+greatest_count = 2 ^ 32 - 1
+
 abbrev pub act_alone : List ℕ → Option Act
 act_alone word =
     if bytes_eq word (codes "close") then Some Close
@@ -78,7 +83,7 @@ act_with word part =
     else if bytes_eq word (codes "engine") then name_in 128 Engine part
     else if bytes_eq word (codes "give") then option_map Give (bytes_in part)
     else if bytes_eq word (codes "say") then Some (Give (part ++ 0 ∷ []))
-    else if bytes_eq word (codes "move") then option_map Move (decimal_in 4294967295 part)
+    else if bytes_eq word (codes "move") then option_map Move (decimal_in greatest_count part)
     else None
 
 abbrev pub act_in : List ℕ → Option (List ℕ) → Option Act
@@ -89,7 +94,7 @@ act_in word (Some part) = act_with word part
 
 abbrev pub link_in : List ℕ → Option ℕ
 link_in text =
-    option_and_then (λ n. if n == 0 then None else Some n) (decimal_in 4294967294 text)
+    option_and_then (λ n. if n == 0 then None else Some n) (decimal_in link_limit text)
 
 abbrev pub event_by : ℕ → Option Act → Option Event
 event_by link act = option_map (λ a. record { link = link; act = a }) act
