@@ -14,12 +14,12 @@ use Rattle.dp_registry.specs.Names.{IsKey}
 use Rattle.dp_value.specs.Decimals.{is_decimal, decimal_in}
 use Rattle.dp_proxy.specs.declared.calls.Call.{Call}
 use Rattle.dp_proxy.specs.declared.calls.Call.TheVariants.{Register, Stop}
-use Rattle.dp_proxy.specs.Calls.{k, is_key, key_in, not_zero, port_in, multiple_in, register_in, stop_in, registers, stops, call_by, call_on, call_of, is_stopping}
+use Rattle.dp_proxy.specs.Calls.{greatest_port, k, is_key, key_in, not_zero, port_in, multiple_in, register_in, stop_in, registers, stops, call_by, call_on, call_of, is_stopping}
 use Rattle.dp_proxy.specs.Replies.{IsKeyed}
 use Rattle.dp_proxy.proofs.KeyLaws.{key_is}
 
 abbrev pub IsSmall : Call → Type 0
-IsSmall (Register port key multiple) = IsKey key × (port ≤ 65535)
+IsSmall (Register port key multiple) = IsKey key × (port ≤ greatest_port)
 IsSmall (Stop key) = IsKey key × Unit {0}
 
 key_small : (options : Options) (key : List ℕ) → key_in options ≡ Some key → IsKey key
@@ -41,11 +41,11 @@ same_not_zero : (m n : ℕ) → not_zero m ≡ Some n → m ≡ n
 same_not_zero zero n e = absurd cc
 same_not_zero (suc m) n e = same_Some (suc m) n e
 
-port_small : (options : Options) (port : ℕ) → port_in options ≡ Some port → port ≤ 65535
+port_small : (options : Options) (port : ℕ) → port_in options ≡ Some port → port ≤ greatest_port
 port_small options port e =
-    option_and_then_some not_zero (option_and_then (decimal_in 65535) (given p options)) port e (λ n q f.
-    option_and_then_some (decimal_in 65535) (given p options) n q (λ text r g.
-    let within = number_small 65535 n text g in
+    option_and_then_some not_zero (option_and_then (decimal_in greatest_port) (given p options)) port e (λ n q f.
+    option_and_then_some (decimal_in greatest_port) (given p options) n q (λ text r g.
+    let within = number_small greatest_port n text g in
     let same = same_not_zero n port f in
     omega arith))
 
@@ -57,7 +57,7 @@ register_small options call e = option_and_then_some
     (key_in options) call f (λ key r g.
     by port key (key_small options key r) (port_small options port q) (multiple_in options) g))
   where
-    by : (port : ℕ) (key : List ℕ) → IsKey key → port ≤ 65535 → (o : Option Bool)
+    by : (port : ℕ) (key : List ℕ) → IsKey key → port ≤ greatest_port → (o : Option Bool)
         → option_map (λ multiple. Register port key multiple) o ≡ Some call → IsSmall call
     by port key is small None g = absurd cc
     by port key is small (Some multiple) g = subst IsSmall (same_Some (Register port key multiple) call g) (is, small)

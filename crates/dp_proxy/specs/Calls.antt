@@ -1,6 +1,6 @@
 -- What an IDE may ask of a proxy, in the grammar of command lines: DBGp 1.0, "Debugger Engine
 -- Proxies". `proxyinit -p PORT -k KEY [-m 0|1] [-i ID]` and `proxystop -k KEY [-i ID]`.
-use Rattle.std.specs.Prelude.{ℕ, zero, suc, nat_le, ◌==◌, Bool, true, false, not, ◌&&◌, if◌then◌else◌}
+use Rattle.std.specs.Prelude.{ℕ, zero, suc, ◌-◌, ◌^◌, nat_le, ◌==◌, Bool, true, false, not, ◌&&◌, if◌then◌else◌}
 use Rattle.std.specs.Prelude.{List, [], ◌∷◌, length, Option, Some, None, is_none, codes}
 use Rattle.std.specs.Prelude.{option_map, option_and_then}
 use Rattle.std.specs.List.{list_all, list_any}
@@ -33,10 +33,14 @@ abbrev pub not_zero : ℕ → Option ℕ
 not_zero zero = None
 not_zero (suc n) = Some (suc n)
 
--- a decimal from 1 to 65,535
+-- the greatest port, of 16 bits
+abbrev pub greatest_port : ℕ
+greatest_port = 2 ^ 16 - 1
+
+-- a decimal from 1 to the greatest port
 abbrev pub port_in : Options → Option ℕ
 port_in options =
-    option_and_then not_zero (option_and_then (decimal_in 65535) (given p options))
+    option_and_then not_zero (option_and_then (decimal_in greatest_port) (given p options))
 
 abbrev pub flag_of : List ℕ → Option Bool
 flag_of value =

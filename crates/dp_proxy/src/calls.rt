@@ -67,7 +67,7 @@ fn key_in(options: &[(u8, Bytes)]) -> Option<&[u8]>
 fn port_in(options: &[(u8, Bytes)]) -> Option<u16>
     ensures { result ≡ spec.port_in options.now }
 {
-    let port = decimal(option_value(options, b'p')?, 65535)?;
+    let port = decimal(option_value(options, b'p')?, u64::from(u16::MAX))?;
     if port == 0 { None } else { Some(port as u16) }
 }
 
