@@ -11,10 +11,14 @@ use Rattle.dp_wire.specs.Frames.{has_no_nul}
 abbrev pub between : ℕ → ℕ → ℕ → Bool
 between low high byte = nat_le low byte && nat_le byte high
 
+-- the most bytes of the key of an IDE
+abbrev pub key_limit : ℕ
+key_limit = 128
+
 -- the key of an IDE: 1 to 128 bytes, each from 0x21 to 0x7e
 pub record IsKey (key : List ℕ) : Type 0 where
   pub some : 1 ≤ length key
-  pub short : length key ≤ 128
+  pub short : length key ≤ key_limit
   pub graphic : list_all (between 33 126) key ≡ true
 
 -- the name of a file: 1 to 255 bytes without NUL

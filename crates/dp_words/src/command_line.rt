@@ -78,6 +78,9 @@ pub enum Command<'a> {
     Show,
 }
 
+/// The most bytes of the key of an IDE.
+const KEY_LIMIT: usize = 128;
+
 /// Whether the bytes are the key of an IDE.
 fn is_key(key: &[u8]) -> bool
     ensures { IsTrue result ↔ IsKey key.now }
@@ -85,7 +88,7 @@ fn is_key(key: &[u8]) -> bool
     if key.is_empty() {
         return false;
     }
-    if key.len() > 128 {
+    if key.len() > KEY_LIMIT {
         return false;
     }
     are_graphic(key)
