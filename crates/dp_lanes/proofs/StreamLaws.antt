@@ -24,7 +24,7 @@ use Rattle.dp_lanes.proofs.RestLaws.{part_of_command, none_of_command, part_of_p
 
 -- ---- one split
 
-splits : (kind : LaneKind) (bytes : List ℕ)
+pub splits : (kind : LaneKind) (bytes : List ℕ)
     → Splits (IsText kind) (frame kind) bytes (texts_in kind bytes) (rest_in kind bytes)
 splits Up bytes = packets_split bytes
 splits Down bytes = commands_split bytes
@@ -66,21 +66,22 @@ module _ (kind : LaneKind) (a b : List ℕ) (texts : List (List ℕ)) (rest : Li
         no_more = more.no_more;
       }
 
-  same : (texts_in kind (a ++ b) ≡ texts_in kind a ++ texts) × (rest_in kind (a ++ b) ≡ rest)
-  same =
+  -- the texts of all, and what is behind them
+  pub split_on : (texts_in kind (a ++ b) ≡ texts_in kind a ++ texts) × (rest_in kind (a ++ b) ≡ rest)
+  split_on =
       one_split kind (a ++ b) (texts_in kind (a ++ b)) (texts_in kind a ++ texts) (rest_in kind (a ++ b)) rest
       (splits kind (a ++ b)) both
 
   handed_is : handed_of kind a b ≡ flat_map (frame kind) texts
   handed_is =
-      ap (λ t. flat_map (frame kind) (drop (length (texts_in kind a)) t)) same.0
+      ap (λ t. flat_map (frame kind) (drop (length (texts_in kind a)) t)) split_on.0
       ∙ ap (flat_map (frame kind)) (drop-append_seam (texts_in kind a) texts)
 
   start_is : start_of_rest kind (a ++ b) ≡ min (start_of_rest kind a + length (flat_map (frame kind) texts)) last_place
   start_is =
       let whole : length (flat_map (frame kind) (texts_in kind (a ++ b))) ≡ length
       (flat_map (frame kind) (texts_in kind a)) + length (flat_map (frame kind) texts) =
-      ap (λ t. length (flat_map (frame kind) t)) same.0
+      ap (λ t. length (flat_map (frame kind) t)) split_on.0
       ∙ ap length (flat_map-append (frame kind) (texts_in kind a) texts)
       ∙ length-append (flat_map (frame kind) (texts_in kind a)) (flat_map (frame kind) texts) in
       sum_min (length (flat_map (frame kind) (texts_in kind (a ++ b))))
@@ -135,7 +136,7 @@ module _ (kind : LaneKind) (old mid new : Received) (before so after text rest :
       sum_min : (d e f x y z m : ℕ) → z ≡ x + y → e ≡ min (d + x) m → f ≡ min (e + y) m → f ≡ min (d + z) m
       sum_min d e f x y z m p q r = omega arith
 
-frame_some : (kind : LaneKind) (text : List ℕ) → 1 ≤ length (frame kind text)
+pub frame_some : (kind : LaneKind) (text : List ℕ) → 1 ≤ length (frame kind text)
 frame_some Up text = omega (arith, frame_length text)
 frame_some Down text = omega (arith, length-append text (0 ∷ []))
 
@@ -181,7 +182,7 @@ module _ (kind : LaneKind) (old fed new : Lane) (stream bytes out : List ℕ) (f
       way = all.way ∙ kind_is;
       rest =
           λ i. record {
-            held = sym (same kind stream bytes hands.texts (received_in new).held cut).1 i;
+            held = sym (split_on kind stream bytes hands.texts (received_in new).held cut).1 i;
             dropped = place
                 i;
           };
