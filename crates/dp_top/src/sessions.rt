@@ -9,7 +9,7 @@ ghost use Rattle.dp_top.specs.Talk.{ended, judged_by};
 ghost use Rattle.dp_top.specs.inner.Sessions.{ServedSo, UnservedSo, reported_in};
 
 use crate::failures::{Failure, Refused};
-use crate::run::told;
+use crate::run::refusal_of_run;
 use dp_engine::{ServeEnd, Served, Session, Steps, serve};
 use dp_outside::{Sink, Source};
 use dp_serving::BYTE_LIMIT;
