@@ -9,11 +9,11 @@ use Rattle.dp_tree.specs.declared.bundle.Bundle.{Bundle}
 use Rattle.dp_engine.specs.Served.{alone}
 use Rattle.dp_wire.specs.Frames.{Splits, IsCommand, command_frame, commands_in, rest_of, packet_frame, packets_in, rest_of_packets}
 use Rattle.dp_wire.proofs.SplitLaws.{commands_split, one_split_lem}
-use Rattle.dp_wire.proofs.PacketLaws.{packets_split, one_packet_split, frame_length}
+use Rattle.dp_wire.proofs.PacketLaws.{packets_split}
 use Rattle.dp_lanes.specs.declared.lane.LaneKind.{LaneKind}
 use Rattle.dp_lanes.specs.declared.lane.LaneKind.TheVariants.{Up, Down}
 use Rattle.dp_lanes.specs.Lanes.{frame, texts_in, rest_in}
-use Rattle.dp_lanes.specs.Places.{IsText}
+use Rattle.dp_lanes.proofs.StreamLaws.{frame_some, split_on, splits}
 use Rattle.dp_proxy.specs.declared.events.Act.{Act}
 use Rattle.dp_proxy.specs.declared.events.Act.TheVariants.{Moved}
 use Rattle.dp_proxy.specs.Links.{brought, stream, completed, handed}
@@ -26,29 +26,9 @@ use Rattle.dp_world.proofs.EngineLaws.{grows}
 
 -- ---- a stream that goes on
 
-splits : (kind : LaneKind) (bytes : List ℕ)
-    → Splits (IsText kind) (frame kind) bytes (texts_in kind bytes) (rest_in kind bytes)
-splits Up bytes = packets_split bytes
-splits Down bytes = commands_split bytes
-
-one_split : (kind : LaneKind) (bytes : List ℕ) (texts others : List (List ℕ)) (rest remains : List ℕ)
-    → Splits (IsText kind) (frame kind) bytes texts rest → Splits (IsText kind) (frame kind) bytes others remains
-    → texts ≡ others
-one_split Up bytes texts others rest remains p q = (one_packet_split bytes texts others rest remains p q).0
-one_split Down bytes texts others rest remains p q = (one_split_lem bytes texts others rest remains p q).0
-
-all_both : {X : Type 0} (P : X → Type 0) (a b : List X) → AllByRecursion P a → AllByRecursion P b
-    → AllByRecursion P (a ++ b)
-all_both P [] b p q = q
-all_both P (x ∷ a) b p q = (p.0, all_both P a b p.1 q)
-
 all_behind : {X : Type 0} (P : X → Type 0) (a b : List X) → AllByRecursion P (a ++ b) → AllByRecursion P b
 all_behind P [] b p = p
 all_behind P (x ∷ a) b p = all_behind P a b p.1
-
-frame_some : (kind : LaneKind) (text : List ℕ) → 1 ≤ length (frame kind text)
-frame_some Up text = omega (arith, frame_length text)
-frame_some Down text = omega (arith, length-append text (0 ∷ []))
 
 no_frames : (kind : LaneKind) (texts : List (List ℕ)) → flat_map (frame kind) texts ≡ [] → texts ≡ []
 no_frames kind [] e = refl
@@ -65,23 +45,10 @@ no_frames kind (text ∷ texts) e =
 more_texts : (kind : LaneKind) (a b : List ℕ)
     → texts_in kind (a ++ b) ≡ texts_in kind a ++ drop (length (texts_in kind a)) (texts_in kind (a ++ b))
 more_texts kind a b =
-    let first = splits kind a in
-    let rest = splits kind (rest_in kind a ++ b) in
-    let texts = texts_in kind (rest_in kind a ++ b) in
-    let left = rest_in kind (rest_in kind a ++ b) in
-    let fa = flat_map (frame kind) (texts_in kind a) in
-    let both : Splits (IsText kind) (frame kind) (a ++ b) (texts_in kind a ++ texts) left = record {
-      whole = ap (λ l. l ++ b) first.whole ∙ append_assoc fa (rest_in kind a) b ∙ ap (λ l. fa ++ l) rest.whole
-          ∙ sym (append_assoc fa (flat_map (frame kind) texts) left)
-          ∙ ap (λ l. l ++ left) (sym (flat_map-append (frame kind) (texts_in kind a) texts));
-      each = all_both (IsText kind) (texts_in kind a) texts first.each rest.each;
-      no_more = rest.no_more;
-    } in
-    let same : texts_in kind (a ++ b) ≡ texts_in kind a ++ texts =
-    one_split kind (a ++ b) (texts_in kind (a ++ b)) (texts_in kind a ++ texts) (rest_in kind (a ++ b)) left
-    (splits kind (a ++ b)) both in
-    same ∙ ap (λ l. texts_in kind a
-    ++ l) (sym (ap (drop (length (texts_in kind a))) same ∙ drop-append_seam (texts_in kind a) texts))
+    let first = texts_in kind a in
+    let more = rest_in kind a ++ b in
+    let same = (split_on kind a b (texts_in kind more) (rest_in kind more) (splits kind more)).0 in
+    same ∙ ap (λ l. first ++ l) (sym (ap (drop (length first)) same ∙ drop-append_seam first (texts_in kind more)))
 
 module _ (kind : LaneKind) (acts : List Act) (act : Act) where
   abbrev before : List (List ℕ)
