@@ -1,5 +1,5 @@
 -- Scripts of the IDE: one instruction a line. Empty lines and lines that begin with `#` do nothing.
-use Rattle.std.specs.Prelude.{◌≡◌, ◌≢◌, ◌⊎◌, ℕ, ◌+◌, ◌*◌, ◌≤◌, Bool, true, not, ◌==◌, List, [], ◌∷◌, ◌++◌, length, Option, Some, codes}
+use Rattle.std.specs.Prelude.{◌≡◌, ◌≢◌, ◌⊎◌, ℕ, ◌+◌, ◌*◌, ◌≤◌, Bool, true, not, ◌==◌, List, [], ◌∷◌, length, Option, Some, codes}
 use Rattle.std.specs.List.{list_all}
 use Rattle.dp_command.specs.declared.line.Line.{Line}
 use Rattle.dp_command.specs.Grammar.{Rule, ◌>>◌, Mark, Repeated, spelt}

@@ -1,11 +1,9 @@
 -- What a function that reads a part of a script answers.
-use Rattle.std.specs.Prelude.{◌≡◌, ◌⊎◌, ℕ, ◌≤◌, Bool, true, false, not, ◌==◌, if◌then◌else◌, List, [], ◌∷◌, ◌++◌, length, take, drop, Option, None, Some, codes}
+use Rattle.std.specs.Prelude.{◌≡◌, ◌⊎◌, ℕ, ◌≤◌, Bool, true, false, not, ◌==◌, if◌then◌else◌, List, [], ◌∷◌, ◌++◌, length, take, drop, Option, None, Some}
 use Rattle.std.specs.List.{list_all}
-use Rattle.dp_command.specs.Grammar.{Rule, ◌>>◌, Mark}
-use Rattle.dp_ide.specs.declared.instruction.Act.{Act}
-use Rattle.dp_ide.specs.declared.instruction.Act.TheVariants.{Send, Attr, Code, Prop, Out, Print}
+use Rattle.dp_command.specs.Grammar.{Rule, ◌>>◌}
 use Rattle.dp_ide.specs.declared.instruction.Instruction.{Instruction}
-use Rattle.dp_ide.specs.Scripts.{Behind, Command, Name, Number, Says, Text, byte_of}
+use Rattle.dp_ide.specs.Scripts.{Behind, Name, Says, Text, byte_of}
 use Rattle.dp_reply.specs.Contents.{◌>>=◌}
 
 -- the one that the bytes spell by the rule, or that they spell none

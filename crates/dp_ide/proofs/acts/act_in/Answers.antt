@@ -1,4 +1,4 @@
-use Rattle.std.proofs.Common.{rules, ◌≡◌, ◌≢◌, ◌++◌, true, List, ℕ, IfOk, codes, sym, subst, ◌∙◌}
+use Rattle.std.proofs.Common.{rules, ◌≡◌, ◌≢◌, true, List, ℕ, IfOk, codes, sym, subst, ◌∙◌}
 use Rattle.std.proofs.lemmas.Bool.Decides.{Decides-eqb}
 use Rattle.std.proofs.lemmas.Slice.Eq.{slice_eq-Decides}
 use Rattle.dp_ide.specs.Scripts.{ActLine}

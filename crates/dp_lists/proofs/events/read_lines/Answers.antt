@@ -1,4 +1,4 @@
-use Rattle.std.proofs.Common.{◌≡◌, ◌+◌, Bool, true, false, Ok, ap, subst, rules, tests, arith}
+use Rattle.std.proofs.Common.{◌≡◌, Bool, true, false, Ok, ap, subst, rules, tests, arith}
 use Rattle.std.proofs.lemmas.List.{length_push}
 use Rattle.dp_grammar.proofs.Lines.{line_of_turn, lines_end, lines_yielded, read_all, read_bad}
 use Rattle.dp_lists.specs.Lists.{AddsAt}
