@@ -2,14 +2,13 @@
 
 ghost use Rattle.std.specs.Prelude.{◌≡◌, ◌-◌};
 
-use crate::callers::deep_names;
-use crate::deep_names::DeepNames;
 use crate::deep_turns::is_run_whole;
 use crate::machine::{Arrival, Machine, Progress};
 use crate::small::put_hand;
 use crate::steps::Steps;
 use crate::work::{DoTurns, EachTurns, Hand, Head, Turns};
 use dp_actions::{Halt, Signal};
+use dp_depth::DeepNames;
 use dp_meaning::Whole;
 use dp_shared::Shared;
 use dp_state::Outcome;
@@ -20,7 +19,8 @@ use std::sync::ledger::Ledger;
 use std::{mem, slice};
 
 impl<'p> Machine<'p> {
-    ghost use Rattle.std.specs.Prelude.{◌≡◌, ◌+◌, ℕ, List, length, IfOk};
+    ghost use Rattle.std.specs.Prelude.{◌≡◌, ◌+◌, ℕ, List, length, true, IfOk};
+    ghost use Rattle.dp_depth.specs.Depth.{is_named};
     ghost use Rattle.dp_tree.specs.declared.bundle.Bundle.{Bundle as SomeBundle};
     ghost use Rattle.dp_meaning.specs.declared.writes.NumberedWrite.{NumberedWrite};
     ghost use Rattle.dp_meaning.specs.Trace.{outcome, program_trace};
@@ -31,6 +31,7 @@ impl<'p> Machine<'p> {
     ghost use Rattle.dp_state.specs.declared.state.State.{State as AnyState};
     ghost use Rattle.dp_step.specs.inner.Leaps.{HasRun, Leaps, RunsOut, part_with, whole_of};
     ghost use Rattle.dp_step.specs.inner.Moves.{rest_with};
+    ghost use Rattle.dp_step.specs.inner.Shallow.{runs_whole};
 
     /// Goes on to the end of the program, and answers its outcome; each moment that is left takes one step. Nothing
     /// stops it, so a statement, or the turns that are left of a loop, go as fast as the evaluator, where the functions
@@ -46,7 +47,7 @@ impl<'p> Machine<'p> {
             → IfOk result (λ end. steps.new + n ≡ steps.old + length (program_trace bundle bound writes).moments) }
     {
         let before = self.state.moments;
-        let deep = deep_names(self.alloc, self.bundle)?;
+        let deep = DeepNames::of(self.alloc, self.bundle)?;
         let outcome = self.finish(&deep)?;
         steps.tick_all(risen(before, self.state.moments));
         Ok(outcome)
@@ -73,9 +74,18 @@ impl<'p> Machine<'p> {
     fn leap(&mut self, deep: &DeepNames<'p>) -> Result<Option<Outcome>, Memory>
         ensures { IfOk result (λ end. Leaps self.old (rest_of self.old self.old.state) end self.new) }
     {
-        if !is_run_whole(deep, &self.hand) {
-            return self.onward();
+        if is_run_whole(deep, &self.hand) {
+            self.run_hand(deep)
+        } else {
+            self.onward()
         }
+    }
+
+    /// What is in hand, which comes to no deep call.
+    fn run_hand(&mut self, _deep: &DeepNames<'p>) -> Result<Option<Outcome>, Memory>
+        requires { runs_whole (is_named _deep.now) self.old.hand ≡ true }
+        ensures { IfOk result (λ end. Leaps self.old (rest_of self.old self.old.state) end self.new) }
+    {
         match mem::replace(&mut self.hand, Hand::Failed) {
             Hand::Run(statement) => {
                 let done = self.whole().statement(statement.as_ref(), &mut self.state);

@@ -2,11 +2,8 @@
 #![tactic(auto)]
 
 mod after;
-mod callers;
 mod calls;
-mod deep_names;
 mod deep_turns;
-mod deep_walks;
 mod finish;
 mod hands;
 mod loops;

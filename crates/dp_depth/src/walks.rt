@@ -1,17 +1,28 @@
-//! Parts of a program that may come to a call of a function that calls deep, or include a file: found by a walk that
-//! ends at the first such call.
+//! Parts of a program that come to a call of a deep name, or include a file: found by a walk that ends at the first
+//! such call.
 
-use crate::deep_names::DeepNames;
+ghost use Rattle.std.specs.Prelude.{◌≡◌, false};
+ghost use Rattle.std.specs.Option.{option_map_or};
+ghost use Rattle.std.specs.List.{list_any};
+ghost use Rattle.dp_depth.specs.Depth as depth;
+ghost use Rattle.dp_depth.specs.Depth.{is_named};
+ghost use Rattle.dp_depth.specs.inner.Parts as parts;
+
+use crate::names::DeepNames;
 use dp_tree::{Arm, Boxed, Expression, Item, Link, Place, Statement, StatementKind};
 
 /// Whether a statement may come to a deep call.
 #[cycle(statements)]
-pub(crate) fn statement_is_deep<'p>(deep: &DeepNames<'p>, statement: &'p Statement) -> bool {
+pub fn statement_is_deep<'p>(deep: &DeepNames<'p>, statement: &'p Statement) -> bool
+    ensures { result ≡ depth.statement_is_deep (is_named deep.now) statement.now }
+{
     kind_is_deep(deep, &statement.kind)
 }
 
 #[cycle(statements)]
-fn kind_is_deep<'p>(deep: &DeepNames<'p>, kind: &'p StatementKind) -> bool {
+fn kind_is_deep<'p>(deep: &DeepNames<'p>, kind: &'p StatementKind) -> bool
+    ensures { result ≡ parts.kind_is_deep (is_named deep.now) kind.now }
+{
     match kind {
         StatementKind::Expression(e) => is_deep(deep, e),
         StatementKind::Echo(operands) => any_deep(deep, operands.as_slice()),
@@ -53,7 +64,9 @@ fn kind_is_deep<'p>(deep: &DeepNames<'p>, kind: &'p StatementKind) -> bool {
 
 /// Whether one of these statements may come to a deep call.
 #[cycle(statements)]
-pub(crate) fn body_is_deep<'p>(deep: &DeepNames<'p>, all: &'p [Statement]) -> bool {
+pub(crate) fn body_is_deep<'p>(deep: &DeepNames<'p>, all: &'p [Statement]) -> bool
+    ensures { result ≡ depth.body_is_deep (is_named deep.now) all.now }
+{
     for statement in all {
         if statement_is_deep(deep, statement) {
             return true;
@@ -63,7 +76,9 @@ pub(crate) fn body_is_deep<'p>(deep: &DeepNames<'p>, all: &'p [Statement]) -> bo
 }
 
 #[cycle(statements)]
-fn arms_are_deep<'p>(deep: &DeepNames<'p>, all: &'p [Arm]) -> bool {
+fn arms_are_deep<'p>(deep: &DeepNames<'p>, all: &'p [Arm]) -> bool
+    ensures { result ≡ list_any (parts.arm_is_deep (is_named deep.now)) all.now }
+{
     for arm in all {
         if is_deep(deep, &arm.test) || statement_is_deep(deep, &arm.body) {
             return true;
@@ -73,14 +88,18 @@ fn arms_are_deep<'p>(deep: &DeepNames<'p>, all: &'p [Arm]) -> bool {
 }
 
 #[cycle(statements)]
-fn otherwise_is_deep<'p>(deep: &DeepNames<'p>, otherwise: &'p Option<Boxed<Statement>>) -> bool {
+fn otherwise_is_deep<'p>(deep: &DeepNames<'p>, otherwise: &'p Option<Boxed<Statement>>) -> bool
+    ensures { result ≡ option_map_or (depth.statement_is_deep (is_named deep.now)) otherwise.now false }
+{
     match otherwise {
         Some(statement) => statement_is_deep(deep, statement.as_ref()),
         None => false,
     }
 }
 
-fn is_deep_if_any<'p>(deep: &DeepNames<'p>, e: &'p Option<Expression>) -> bool {
+fn is_deep_if_any<'p>(deep: &DeepNames<'p>, e: &'p Option<Expression>) -> bool
+    ensures { result ≡ option_map_or (depth.is_deep (is_named deep.now)) e.now false }
+{
     match e {
         Some(e) => is_deep(deep, e),
         None => false,
@@ -89,7 +108,9 @@ fn is_deep_if_any<'p>(deep: &DeepNames<'p>, e: &'p Option<Expression>) -> bool {
 
 /// Whether an expression may come to a deep call.
 #[cycle(expressions)]
-pub(crate) fn is_deep<'p>(deep: &DeepNames<'p>, e: &'p Expression) -> bool {
+pub fn is_deep<'p>(deep: &DeepNames<'p>, e: &'p Expression) -> bool
+    ensures { result ≡ depth.is_deep (is_named deep.now) e.now }
+{
     match e {
         Expression::Null
         | Expression::Bool(_)
@@ -103,7 +124,7 @@ pub(crate) fn is_deep<'p>(deep: &DeepNames<'p>, e: &'p Expression) -> bool {
         Expression::Index(base, indices) => is_deep(deep, base.as_ref())
             || any_deep(deep, indices.as_slice()),
         Expression::Unary(_, of) => is_deep(deep, of.as_ref()),
-        Expression::Step(_, _, place) => any_deep(deep, place.indices.as_slice()),
+        Expression::Step(_, _, place) => place_is_deep(deep, place),
         Expression::Chain(first, links) => is_deep(deep, first.as_ref())
             || links_are_deep(deep, links.as_slice()),
         Expression::Coalesce(left, right) => is_deep(deep, left.as_ref())
@@ -116,14 +137,16 @@ pub(crate) fn is_deep<'p>(deep: &DeepNames<'p>, e: &'p Expression) -> bool {
         Expression::Assign(place, from)
         | Expression::Compound(_, place, from)
         | Expression::CoalesceAssign(place, from)
-        | Expression::Push(place, from) => any_deep(deep, place.indices.as_slice())
+        | Expression::Push(place, from) => place_is_deep(deep, place)
             || is_deep(deep, from.as_ref()),
     }
 }
 
 /// Whether one of these expressions may come to a deep call.
 #[cycle(expressions)]
-pub(crate) fn any_deep<'p>(deep: &DeepNames<'p>, all: &'p [Expression]) -> bool {
+pub fn any_deep<'p>(deep: &DeepNames<'p>, all: &'p [Expression]) -> bool
+    ensures { result ≡ depth.any_deep (is_named deep.now) all.now }
+{
     for e in all {
         if is_deep(deep, e) {
             return true;
@@ -133,7 +156,9 @@ pub(crate) fn any_deep<'p>(deep: &DeepNames<'p>, all: &'p [Expression]) -> bool 
 }
 
 #[cycle(expressions)]
-fn middle_is_deep<'p>(deep: &DeepNames<'p>, middle: &'p Option<Boxed<Expression>>) -> bool {
+fn middle_is_deep<'p>(deep: &DeepNames<'p>, middle: &'p Option<Boxed<Expression>>) -> bool
+    ensures { result ≡ option_map_or (depth.is_deep (is_named deep.now)) middle.now false }
+{
     match middle {
         Some(e) => is_deep(deep, e.as_ref()),
         None => false,
@@ -141,7 +166,9 @@ fn middle_is_deep<'p>(deep: &DeepNames<'p>, middle: &'p Option<Boxed<Expression>
 }
 
 #[cycle(expressions)]
-fn items_are_deep<'p>(deep: &DeepNames<'p>, all: &'p [Item]) -> bool {
+fn items_are_deep<'p>(deep: &DeepNames<'p>, all: &'p [Item]) -> bool
+    ensures { result ≡ list_any (parts.item_is_deep (is_named deep.now)) all.now }
+{
     for item in all {
         if item_is_deep(deep, item) {
             return true;
@@ -151,7 +178,9 @@ fn items_are_deep<'p>(deep: &DeepNames<'p>, all: &'p [Item]) -> bool {
 }
 
 #[cycle(expressions)]
-fn item_is_deep<'p>(deep: &DeepNames<'p>, item: &'p Item) -> bool {
+fn item_is_deep<'p>(deep: &DeepNames<'p>, item: &'p Item) -> bool
+    ensures { result ≡ parts.item_is_deep (is_named deep.now) item.now }
+{
     match &item.key {
         Some(key) => is_deep(deep, key) || is_deep(deep, &item.value),
         None => is_deep(deep, &item.value),
@@ -159,9 +188,11 @@ fn item_is_deep<'p>(deep: &DeepNames<'p>, item: &'p Item) -> bool {
 }
 
 #[cycle(expressions)]
-fn places_are_deep<'p>(deep: &DeepNames<'p>, all: &'p [Place]) -> bool {
+fn places_are_deep<'p>(deep: &DeepNames<'p>, all: &'p [Place]) -> bool
+    ensures { result ≡ list_any (depth.place_is_deep (is_named deep.now)) all.now }
+{
     for place in all {
-        if any_deep(deep, place.indices.as_slice()) {
+        if place_is_deep(deep, place) {
             return true;
         }
     }
@@ -169,7 +200,16 @@ fn places_are_deep<'p>(deep: &DeepNames<'p>, all: &'p [Place]) -> bool {
 }
 
 #[cycle(expressions)]
-fn links_are_deep<'p>(deep: &DeepNames<'p>, all: &'p [Link]) -> bool {
+fn place_is_deep<'p>(deep: &DeepNames<'p>, place: &'p Place) -> bool
+    ensures { result ≡ depth.place_is_deep (is_named deep.now) place.now }
+{
+    any_deep(deep, place.indices.as_slice())
+}
+
+#[cycle(expressions)]
+fn links_are_deep<'p>(deep: &DeepNames<'p>, all: &'p [Link]) -> bool
+    ensures { result ≡ list_any (parts.link_is_deep (is_named deep.now)) all.now }
+{
     for link in all {
         if is_deep(deep, &link.operand) {
             return true;

@@ -2,7 +2,7 @@ use Rattle.std.proofs.Common.{refl, sym, ◌∙◌}
 use Rattle.std.proofs.lemmas.Result.{IfOk-weaker}
 use Rattle.dp_meaning.specs.Statements.{statement_run}
 use Rattle.dp_step.proofs.LeapLaws.{leaps_hand}
-use Rattle.dp_step.proofs.machine.Machine.leap.Goals as goal
+use Rattle.dp_step.proofs.machine.Machine.run_hand.Goals as goal
 
 pub returns-in-Run : goal.returns-in-Run
 returns-in-Run c =

@@ -1,7 +1,7 @@
 use Rattle.std.proofs.Common.{◌≡◌, flat_map, fold, take}
 use Rattle.std.specs.Hash as fed
 use Rattle.std.specs.Str.{str_to_ascii_lowercase}
-use Rattle.dp_step.proofs.deep_names.feed_lowered.Given as goal
+use Rattle.dp_depth.proofs.names.feed_lowered.Given as goal
 
 -- the length and the bytes before this one are fed
 abbrev pub invariant-loop-byte : goal.invariant-loop-byte

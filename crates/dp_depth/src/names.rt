@@ -1,8 +1,9 @@
 //! The names of functions that may call deep, in any case of letters, each kept without a copy.
 
-ghost use Rattle.std.specs.Prelude.{◌≡◌, fold};
+ghost use Rattle.std.specs.Prelude.{◌≡◌, ◌||◌, [], ℕ, fold, List, Decides, OnOk};
 ghost use Rattle.std.specs.Hash as fed;
 ghost use Rattle.std.specs.Str.{str_eq_ignore_ascii_case, str_to_ascii_lowercase};
+ghost use Rattle.dp_depth.specs.Depth.{is_named};
 
 use dp_tree::Function;
 use dp_value::{Bytes, Memory};
@@ -81,37 +82,57 @@ fn feed_lowered<H: Hasher>(name: &[u8], state: &mut H)
     }
 }
 
-/// Names of functions that may call deep.
+/// Names of functions. Contracts see the list of the names.
 #[derive(Drop)]
-pub(crate) struct DeepNames<'p> {
+pub struct DeepNames<'p> {
     names: IndexSet<CallName<'p>>,
+}
+
+impl<'p> Model for DeepNames<'p> {
+    ghost use Rattle.std.specs.Prelude.{List, ℕ};
+
+    ghost Value = { List (List ℕ) };
+
+    ghost view = { λ d. d.names.keys };
 }
 
 impl<'p> DeepNames<'p> {
     /// No name yet.
-    pub(crate) fn new(alloc: Global) -> DeepNames<'p> {
+    pub(crate) fn new(alloc: Global) -> DeepNames<'p>
+        ensures { result ≡ [] }
+    {
         DeepNames {
             names: IndexSet::new(alloc),
         }
     }
 
-    /// Whether the name that a call has is one of them.
-    pub(crate) fn has(&self, name: &'p Bytes) -> bool {
+    /// Whether the name that a call has is one of them, in any case of letters. Takes no memory.
+    #[tactic(auto, unfolding(crate::specs::Depth::is_named))]
+    pub fn has(&self, name: &'p Bytes) -> bool
+        ensures { result ≡ is_named self.now name.now }
+    {
         self.names.contains(&CallName {
             bytes: name.as_slice(),
         })
     }
 
     /// Puts the name of a function with them.
-    pub(crate) fn add(&mut self, function: &'p Function) -> Result<(), Memory> {
+    #[tactic(auto, unfolding(crate::specs::Depth::is_named))]
+    pub(crate) fn add(&mut self, function: &'p Function) -> Result<(), Memory>
+        ensures { OnOk result ((name : List ℕ) → is_named self.new name
+            ≡ (str_eq_ignore_ascii_case function.now.name name || is_named self.old name)) }
+    {
         self.names.insert(CallName {
             bytes: function.name.as_slice(),
         })?;
         Ok(())
     }
 
-    /// How many names there are.
-    pub(crate) fn len(&self) -> usize {
-        self.names.len()
+    /// Whether these are the names of the other.
+    #[tactic(auto, unfolding(crate::specs::Depth::is_named))]
+    pub(crate) fn is_same(&self, other: &DeepNames<'p>) -> bool
+        ensures { Decides result ((name : List ℕ) → is_named self.now name ≡ is_named other.now name) }
+    {
+        self.names == other.names
     }
 }

@@ -1,0 +1,3 @@
+-- What the functions inside the crate do: what their own clauses say. No clause of a public call
+-- speaks of it.
+pub mod Parts
