@@ -14,7 +14,8 @@ use Rattle.dp_tree.specs.declared.tree.Statement.{Statement}
 use Rattle.dp_tree.specs.declared.tree.StatementKind.TheFolds.{fold-roll-StatementKind}
 use Rattle.dp_tree.specs.declared.tree.StatementKind.TheOpen.{StatementKind-F}
 use Rattle.dp_tree.specs.declared.tree.StatementKind.TheVariants as kind
-use Rattle.dp_depth.specs.Depth.{any_part, place_layer, item_layer, link_layer, expression_layer, kind_layer, arm_layer, statement_layer, is_deep, any_deep, place_is_deep, statement_is_deep, body_is_deep, is_named}
+use Rattle.dp_tree.specs.Purity.{link_layer}
+use Rattle.dp_depth.specs.Depth.{any_part, place_layer, item_layer, expression_layer, kind_layer, arm_layer, statement_layer, is_deep, any_deep, place_is_deep, statement_is_deep, body_is_deep, is_named}
 use Rattle.dp_depth.specs.inner.Parts.{item_is_deep, link_is_deep, kind_is_deep, arm_is_deep}
 
 parts : {A : Type 0} (f : A → Bool) (all : List A) → any_part (map f all) ≡ list_any f all

@@ -5,12 +5,13 @@ use Rattle.std.specs.Option.{option_map_or}
 use Rattle.std.specs.List.{list_any}
 use Rattle.std.specs.Str.{str_eq_ignore_ascii_case}
 use Rattle.dp_tree.specs.declared.bundle.Bundle.{Bundle}
-use Rattle.dp_tree.specs.declared.tree.Expression.TheOpen.{Place-F, Item-F, Link-F, Expression-F}
+use Rattle.dp_tree.specs.declared.tree.Expression.TheOpen.{Place-F, Item-F, Expression-F}
 use Rattle.dp_tree.specs.declared.tree.Expression.{Expression, fold-Expression}
 use Rattle.dp_tree.specs.declared.tree.Function.{Function}
 use Rattle.dp_tree.specs.declared.tree.Place.{Place, fold-Place}
 use Rattle.dp_tree.specs.declared.tree.Statement.{Statement, fold-Statement}
 use Rattle.dp_tree.specs.declared.tree.StatementKind.TheOpen.{Statement-F, StatementKind-F, Arm-F}
+use Rattle.dp_tree.specs.Purity.{link_layer}
 
 -- ---- each layer of an expression, where it is known of the parts whether they come to one
 
@@ -22,9 +23,6 @@ place_layer place = any_part place.indices
 
 abbrev pub item_layer : Item-F Bool Bool Bool Bool → Bool
 item_layer item = option_map_or (λ key. key) item.key false || item.value
-
-abbrev pub link_layer : Link-F Bool Bool Bool Bool → Bool
-link_layer link = link.operand
 
 module _ (deep : List ℕ → Bool) where
   abbrev pub expression_layer : Expression-F Bool Bool Bool Bool → Bool

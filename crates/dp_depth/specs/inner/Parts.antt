@@ -5,7 +5,8 @@ use Rattle.dp_tree.specs.declared.tree.Function.{Function}
 use Rattle.dp_tree.specs.declared.tree.Item.{Item, fold-Item}
 use Rattle.dp_tree.specs.declared.tree.Link.{Link, fold-Link}
 use Rattle.dp_tree.specs.declared.tree.StatementKind.{StatementKind, fold-StatementKind}
-use Rattle.dp_depth.specs.Depth.{expression_layer, item_layer, link_layer, place_layer}
+use Rattle.dp_tree.specs.Purity.{link_layer}
+use Rattle.dp_depth.specs.Depth.{expression_layer, item_layer, place_layer}
 use Rattle.dp_depth.specs.Depth.{kind_layer, arm_layer, statement_layer, body_is_deep, is_named}
 
 module _ (deep : List ℕ → Bool) where

@@ -1,6 +1,6 @@
 -- What is run whole: a statement, or the turns that are left of a loop, that comes to no deep call.
 -- `deep` tells of a name whether a call of it is deep.
-use Rattle.std.specs.Prelude.{ℕ, Bool, false, not, ◌&&◌, ◌||◌, List, slice_get}
+use Rattle.std.specs.Prelude.{ℕ, Bool, false, not, ◌||◌, List, slice_get}
 use Rattle.std.specs.Option.{option_map_or}
 use Rattle.dp_depth.specs.Depth.{any_deep, is_deep, statement_is_deep}
 use Rattle.dp_step.specs.declared.work.Hand.{Hand}

@@ -1,4 +1,4 @@
-use Rattle.std.proofs.Common.{◌||◌, Bool, List, sym, ap, ◌∙◌}
+use Rattle.std.proofs.Common.{◌||◌, Bool, sym, ap, ◌∙◌}
 use Rattle.std.specs.List.{list_any}
 use Rattle.dp_depth.specs.Depth.{any_deep, is_deep, is_named, place_is_deep}
 use Rattle.dp_depth.specs.inner.Parts.{item_is_deep, link_is_deep}

@@ -9,11 +9,13 @@ invariant-any_deep-loop-e l = any_deep (is_named l.deep) l.all ≡ any_deep (is_
 
 abbrev pub invariant-items_are_deep-loop-item : goal.invariant-items_are_deep-loop-item
 invariant-items_are_deep-loop-item l =
-    list_any (item_is_deep (is_named l.deep)) l.all ≡ list_any (item_is_deep (is_named l.deep)) (drop l.item-index l.all)
+    list_any (item_is_deep (is_named l.deep)) l.all ≡ list_any (item_is_deep (is_named l.deep))
+    (drop l.item-index l.all)
 
 abbrev pub invariant-links_are_deep-loop-link : goal.invariant-links_are_deep-loop-link
 invariant-links_are_deep-loop-link l =
-    list_any (link_is_deep (is_named l.deep)) l.all ≡ list_any (link_is_deep (is_named l.deep)) (drop l.link-index l.all)
+    list_any (link_is_deep (is_named l.deep)) l.all ≡ list_any (link_is_deep (is_named l.deep))
+    (drop l.link-index l.all)
 
 abbrev pub invariant-places_are_deep-loop-place : goal.invariant-places_are_deep-loop-place
 invariant-places_are_deep-loop-place l =

@@ -1,4 +1,4 @@
-use Rattle.std.proofs.Common.{◌||◌, Bool, false, List, sym, ap, ◌∙◌}
+use Rattle.std.proofs.Common.{◌||◌, Bool, false, sym, ap, ◌∙◌}
 use Rattle.std.specs.List.{list_any}
 use Rattle.std.specs.Option.{option_map_or}
 use Rattle.dp_depth.specs.Depth.{body_is_deep, is_named, statement_is_deep}
