@@ -3,7 +3,7 @@
 ghost use Rattle.std.specs.Prelude.{◌≡◌, ◌≤◌, ◌<◌, ◌++◌, ◌∷◌, [], length, map, string_bytes, IfOk, IfErr, OnOk};
 ghost use Rattle.dp_outside.specs.Files.{Fetches};
 ghost use Rattle.dp_outside.specs.Reports.{grown};
-ghost use Rattle.dp_tree.specs.FileNames.{file_limit};
+ghost use Rattle.dp_tree.specs.FileNames.{file_count_limit, file_limit};
 ghost use Rattle.dp_run.specs.Programs.{AreFetched, IsUnread, ProgramCaused, RequestsFiles};
 ghost use Rattle.dp_run.specs.inner.Steps.{FetchCaused, IsNext};
 
@@ -64,7 +64,7 @@ fn fetch_next<H: Shelf>(
     shelf: &mut H,
     fetched: &mut Vec<(Bytes, Bytes)>,
 ) -> Result<(), ProgramError>
-    requires { length fetched.old.items < 64 }
+    requires { length fetched.old.items < file_count_limit }
     ensures ok { OnOk result (IsNext (H.files shelf.old) name.now fetched.old.items fetched.new.items) }
     ensures err { IfErr result (λ why. FetchCaused why (length fetched.old.items) name.now (H.files shelf.old)
         (H.faults shelf.old) (H.faults shelf.new)) }
@@ -84,7 +84,7 @@ pub fn fetch_files<H: Shelf>(
     names: &[String],
     shelf: &mut H,
 ) -> Result<Items<(Bytes, Bytes)>, ProgramError>
-    requires { length names.now ≤ 64 }
+    requires { length names.now ≤ file_count_limit }
     ensures ok { IfOk result (λ fetched. AreFetched (H.files shelf.old) (map string_bytes names.now) fetched) }
     ensures err { IfErr result (λ why. ProgramCaused why (H.files shelf.old) (H.faults shelf.old) (H.faults shelf.new)
         (map string_bytes names.now)) }
