@@ -21,7 +21,7 @@ spaces_at bytes = if begins is_space bytes then Some (run_at is_space bytes).1 e
 unfoldable pub name_at : List ℕ → Option (List ℕ × List ℕ)
 name_at bytes =
     if nat_le 1 (prefix_len is_name_byte bytes)
-        && nat_le (prefix_len is_name_byte bytes) command_name_limit
+    && nat_le (prefix_len is_name_byte bytes) command_name_limit
     then Some (run_at is_name_byte bytes) else None
 
 -- a byte between quotes, where none is at the closing quote and at the end
