@@ -3,6 +3,7 @@ ghost use Rattle.std.specs.Prelude.{◌≡◌, ◌≤◌, codes, length, is_some
 ghost use Rattle.dp_command.specs.Names.{name_of};
 ghost use Rattle.dp_features.specs.Features.{feature_named};
 ghost use Rattle.dp_packet.specs.Parts.{flag};
+ghost use Rattle.dp_wire.specs.Frames.{command_limit};
 ghost use Rattle.dp_engine.specs.Answers as spec;
 ghost use Rattle.dp_engine.specs.Responses.{fault_response, status_response};
 ghost use Rattle.dp_engine.specs.States.{phase_name, reason_name};
@@ -71,7 +72,7 @@ pub(crate) fn tell_feature(
     features: &Features,
     feature: &[u8],
 ) -> Result<Turn, Memory>
-    requires { length feature.now ≤ 1048576 }
+    requires { length feature.now ≤ command_limit }
     ensures { IfOk result (Responds (spec.feature_known to.now.command to.now.id feature.now features.now) None) }
 {
     match Feature::of(feature) {
@@ -88,7 +89,7 @@ fn tell_value(
     feature: &[u8],
     found: Feature,
 ) -> Result<Turn, Memory>
-    requires feature { length feature.now ≤ 1048576 }
+    requires feature { length feature.now ≤ command_limit }
     requires found { feature_named feature.now ≡ Some found }
     ensures { IfOk result (Responds (spec.feature_known to.now.command to.now.id feature.now features.now) None) }
 {
@@ -104,7 +105,7 @@ fn tell_command(
     features: &Features,
     feature: &[u8],
 ) -> Result<Turn, Memory>
-    requires feature { length feature.now ≤ 1048576 }
+    requires feature { length feature.now ≤ command_limit }
     requires absent { feature_named feature.now ≡ None }
     ensures { IfOk result (Responds (spec.feature_known to.now.command to.now.id feature.now features.now) None) }
 {

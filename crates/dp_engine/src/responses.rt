@@ -1,6 +1,7 @@
 //! The packets that a session sends.
 ghost use Rattle.std.specs.Prelude.{◌≡◌, ◌≤◌, ◌∷◌, [], codes, length, IfOk, IfSome};
-ghost use Rattle.dp_wire.specs.Frames.{IsPacketText};
+ghost use Rattle.dp_features.specs.Features.{value_limit};
+ghost use Rattle.dp_wire.specs.Frames.{IsPacketText, command_limit};
 ghost use Rattle.dp_packet.specs.Parts.{flag as flag_text};
 ghost use Rattle.dp_engine.specs.Responses as spec;
 ghost use Rattle.dp_engine.specs.inner.Sizes.{Fits, IsCode};
@@ -94,9 +95,9 @@ pub(crate) fn feature(
     supported: &[u8],
     value: Option<Bytes>,
 ) -> Result<Response, Memory>
-    requires feature { length feature.now ≤ 1048576 }
+    requires feature { length feature.now ≤ command_limit }
     requires supported { length supported.now ≤ 16 }
-    requires value { IfSome value (λ text. length text ≤ 64) }
+    requires value { IfSome value (λ text. length text ≤ value_limit) }
     ensures value { IfOk result (λ r. r
         ≡ spec.feature_response to.now.command to.now.id feature.now supported.now value) }
     ensures fits { IfOk result Fits }
@@ -107,7 +108,7 @@ pub(crate) fn feature(
 
 /// A feature that was set.
 pub(crate) fn feature_set(alloc: Global, to: &Addressee, feature: &[u8]) -> Result<Response, Memory>
-    requires feature { length feature.now ≤ 1048576 }
+    requires feature { length feature.now ≤ command_limit }
     ensures value { IfOk result (λ r. r ≡ spec.set_response to.now.command to.now.id feature.now) }
     ensures fits { IfOk result Fits }
 {

@@ -2,11 +2,11 @@
 ghost use Rattle.std.specs.Prelude.{◌≡◌, ◌≢◌, ◌+◌, ◌≤◌, ◌∷◌, ◌++◌, [], drop, length, map, IfOk, OnOk};
 ghost use Rattle.std.specs.List.{AllByRecursion};
 ghost use Rattle.dp_wire.specs.Frames.{IsCommand, IsPacketText};
-ghost use Rattle.dp_engine.specs.Responses.{init_text, main_name};
+ghost use Rattle.dp_engine.specs.Responses.{idekey_limit, init_text, main_name};
 ghost use Rattle.dp_engine.specs.inner.Sizes.{IsShortLine};
 ghost use Rattle.dp_engine.specs.inner.Turns.{IsSent};
 ghost use Rattle.dp_command.specs.Lines.{line_of};
-ghost use Rattle.dp_tree.specs.FileNames.{AreFileNames};
+ghost use Rattle.dp_tree.specs.FileNames.{AreFileNames, file_name_limit};
 
 use crate::replies::Turn;
 use crate::states::{Phase, Position};
@@ -141,7 +141,7 @@ impl<'a> Session<'a> {
         key: &[u8],
         bound: u64,
     ) -> Result<(Session<'a>, Bytes), Memory>
-        requires key { length key.now ≤ 128 }
+        requires key { length key.now ≤ idekey_limit }
         requires names { AreFileNames (map (λ f. f.name) bundle.now.files) }
         ensures opening { IfOk result (λ begun. begun.0 ≡ opening bundle.now bound) }
         ensures text { IfOk result (λ begun. begun.1 ≡ init_text bundle.now key.now) }
@@ -293,8 +293,8 @@ impl<'a> Session<'a> {
 
 /// The text of the packet that opens a session.
 fn first_packet(alloc: Global, bundle: &Bundle, key: &[u8]) -> Result<Bytes, Memory>
-    requires key { length key.now ≤ 128 }
-    requires name { length (main_name bundle.now) ≤ 255 }
+    requires key { length key.now ≤ idekey_limit }
+    requires name { length (main_name bundle.now) ≤ file_name_limit }
     ensures text { IfOk result (λ text. text ≡ init_text bundle.now key.now) }
     ensures is_text { IfOk result IsPacketText }
 {

@@ -1,5 +1,6 @@
 //! What commands lead to.
 ghost use Rattle.std.specs.Prelude.{◌≡◌, ◌≢◌, ◌+◌, ◌≤◌, length, IfOk, None, Some};
+ghost use Rattle.dp_wire.specs.Frames.{command_limit};
 ghost use Rattle.dp_engine.specs.Refusals.{refusal_of_line};
 ghost use Rattle.dp_engine.specs.Session.{moments_so_far, steps_between};
 ghost use Rattle.dp_engine.specs.Sides.{side_of};
@@ -204,7 +205,7 @@ impl<'a> Session<'a> {
         feature: &[u8],
         value: &[u8],
     ) -> Result<Turn, Memory>
-        requires feature { length feature.now ≤ 1048576 }
+        requires feature { length feature.now ≤ command_limit }
         ensures turn { IfOk result (IsTurn (answered to.now.command to.now.id
             (Request.FeatureSet feature.now value.now) self.old) self.new) }
         ensures stays { moments_so_far self.new ≡ moments_so_far self.old }

@@ -5,7 +5,7 @@ use Rattle.std.specs.Option.{option_map, IfSome}
 use Rattle.std.proofs.lemmas.List.{drop-append-le, take-append-drop}
 use Rattle.memchr.specs.Find.{OccursAt, FindsNeedle}
 use Rattle.memchr.proofs.lemmas.MatchLemmas.{OccursAt-from_part, OccursAt-split}
-use Rattle.dp_markup.specs.Grammar.{Text, stands, IsFree, UpTo}
+use Rattle.dp_markup.specs.Grammar.{Text, is_front_of, IsFree, UpTo}
 use Rattle.dp_markup.specs.inner.Readers.{mark_place, cut, up_to}
 use Rattle.dp_markup.proofs.Answers.{Anything, IsRead, IsRefused, Answers}
 use Rattle.dp_markup.proofs.Basics.{IsReader}
@@ -17,33 +17,33 @@ and_true false v is = absurd (cc)
 true_and : (u v : Bool) → u ≡ true → v ≡ true → (u && v) ≡ true
 true_and u v one other = ap (λ x. x && v) one ∙ other
 
-pub stands_here : (m r : Text) → stands m (m ++ r) ≡ true
+pub stands_here : (m r : Text) → is_front_of m (m ++ r) ≡ true
 stands_here [] r = refl
-stands_here (c ∷ m) r = true_and (nat_eq c c) (stands m (m ++ r)) (eq-eqb c c refl) (stands_here m r)
+stands_here (c ∷ m) r = true_and (nat_eq c c) (is_front_of m (m ++ r)) (eq-eqb c c refl) (stands_here m r)
 
 -- what stands at the front is the front
-pub stands_is : (m ts : Text) → stands m ts ≡ true → (r : Text) × (ts ≡ m ++ r)
+pub stands_is : (m ts : Text) → is_front_of m ts ≡ true → (r : Text) × (ts ≡ m ++ r)
 stands_is [] ts is = (ts, refl)
 stands_is (c ∷ m) [] is = absurd (cc)
 stands_is (c ∷ m) (b ∷ ts) is =
-    let p = and_true (nat_eq c b) (stands m ts) is in
+    let p = and_true (nat_eq c b) (is_front_of m ts) is in
     let w = stands_is m ts p.1 in
     (w.0, (λ i. sym (eqb-true c b p.0) i ∷ w.1 i))
 
 -- bytes that are as long as the mark decide
-pub stands_more : (m u r : Text) → length m ≤ length u → stands m (u ++ r) ≡ stands m u
+pub stands_more : (m u r : Text) → length m ≤ length u → is_front_of m (u ++ r) ≡ is_front_of m u
 stands_more [] u r long = refl
 stands_more (c ∷ m) [] r long = absurd (omega arith)
 stands_more (c ∷ m) (b ∷ u) r long = ap (λ v. nat_eq c b && v) (stands_more m u r (omega arith))
 
 -- where the mark stands in bytes that are shorter, they are the front of it
-stands_short : (m ts more r : Text) → stands m ts ≡ false → ts ++ more ≡ m ++ r → (tail : Text) × (m ≡ ts ++ tail)
+stands_short : (m ts more r : Text) → is_front_of m ts ≡ false → ts ++ more ≡ m ++ r → (tail : Text) × (m ≡ ts ++ tail)
 stands_short m [] more r fails e = (m, refl)
 stands_short [] (b ∷ ts) more r fails e = absurd (cc)
 stands_short (c ∷ m) (b ∷ ts) more r fails e =
     let same : c ≡ b = cc in
     let tails : ts ++ more ≡ m ++ r = cc in
-    let none : stands m ts ≡ false = ap (λ v. v && stands m ts) (sym (eq-eqb c b same)) ∙ fails in
+    let none : is_front_of m ts ≡ false = ap (λ v. v && is_front_of m ts) (sym (eq-eqb c b same)) ∙ fails in
     let w = stands_short m ts more r none tails in
     (w.0, (λ i. same i ∷ w.1 i))
 
@@ -58,9 +58,9 @@ cancel (x ∷ xs) r s e = let t : xs ++ r ≡ xs ++ s = cc in cancel xs r s t
 not_at_first : (m : Text) (b : ℕ) (bytes r s : Text) → IsFree m (b ∷ bytes) → (b ∷ bytes) ++ (m ++ r) ≡ m ++ s → ⊥
 not_at_first m b bytes r s free e =
     let whole : ((b ∷ bytes) ++ m) ++ r ≡ m ++ s = append_assoc (b ∷ bytes) m r ∙ e in
-    let here : stands m ((b ∷ bytes) ++ m) ≡ true = sym (stands_more m ((b ∷ bytes) ++ m) r (cons_long m b bytes))
-    ∙ ap (stands m) whole ∙ stands_here m s in
-    let none : stands m ((b ∷ bytes) ++ m) ≡ false = free.0 in
+    let here : is_front_of m ((b ∷ bytes) ++ m) ≡ true = sym (stands_more m ((b ∷ bytes) ++ m) r (cons_long m b bytes))
+    ∙ ap (is_front_of m) whole ∙ stands_here m s in
+    let none : is_front_of m ((b ∷ bytes) ++ m) ≡ false = free.0 in
     cc
 
 -- the first place is one place
@@ -95,18 +95,18 @@ Searched : Text → Text → Option ℕ → Type 0
 Searched m ts None = IsMissing m ts
 Searched m ts (Some at) = IsFound m ts at
 
-found_here : (m ts : Text) → stands m ts ≡ true → IsFound m ts 0
+found_here : (m ts : Text) → is_front_of m ts ≡ true → IsFound m ts 0
 found_here m ts is =
     let w = stands_is m ts is in record { bytes = []; rest = w.0; split = w.1; free = tt; is_at = refl }
 
-missing_at_end : (m : Text) → stands m [] ≡ false → IsMissing m []
+missing_at_end : (m : Text) → is_front_of m [] ≡ false → IsMissing m []
 missing_at_end m fails = record { none = none; more = m; bytes = []; split = refl; free = tt }
   where
     none : (bytes r : Text) → [] ≡ bytes ++ (m ++ r) → ⊥
-    none [] r e = let t : stands m [] ≡ true = ap (stands m) e ∙ stands_here m r in cc
+    none [] r e = let t : is_front_of m [] ≡ true = ap (is_front_of m) e ∙ stands_here m r in cc
     none (b ∷ bytes) r e = cc
 
-module _ (m : Text) (b : ℕ) (ts : Text) (fails : stands m (b ∷ ts) ≡ false) where
+module _ (m : Text) (b : ℕ) (ts : Text) (fails : is_front_of m (b ∷ ts) ≡ false) where
   found_on : (at : ℕ) → IsFound m ts at → IsFound m (b ∷ ts) (suc at)
   found_on at f = record {
     bytes = b ∷ f.bytes;
@@ -114,20 +114,20 @@ module _ (m : Text) (b : ℕ) (ts : Text) (fails : stands m (b ∷ ts) ≡ false
     split = ap (λ l. b ∷ l) f.split;
     free = (
       sym (stands_more m ((b ∷ f.bytes) ++ m) f.rest (cons_long m b f.bytes))
-          ∙ ap (stands m) (append_assoc (b ∷ f.bytes) m f.rest ∙ sym (ap (λ l. b ∷ l) f.split)) ∙ fails,
+          ∙ ap (is_front_of m) (append_assoc (b ∷ f.bytes) m f.rest ∙ sym (ap (λ l. b ∷ l) f.split)) ∙ fails,
       f.free,
     );
     is_at = ap suc f.is_at;
   }
 
   missing_on : IsMissing m ts → IsMissing m (b ∷ ts)
-  missing_on f = go (stands m ((b ∷ f.bytes) ++ m)) refl
+  missing_on f = go (is_front_of m ((b ∷ f.bytes) ++ m)) refl
     where
       none : (bytes r : Text) → b ∷ ts ≡ bytes ++ (m ++ r) → ⊥
-      none [] r e = let t : stands m (b ∷ ts) ≡ true = ap (stands m) e ∙ stands_here m r in cc
+      none [] r e = let t : is_front_of m (b ∷ ts) ≡ true = ap (is_front_of m) e ∙ stands_here m r in cc
       none (c ∷ bytes) r e = f.none bytes r (cc)
 
-      go : (v : Bool) → stands m ((b ∷ f.bytes) ++ m) ≡ v → IsMissing m (b ∷ ts)
+      go : (v : Bool) → is_front_of m ((b ∷ f.bytes) ++ m) ≡ v → IsMissing m (b ∷ ts)
       go false is =
           record {
             none = none;
@@ -149,14 +149,14 @@ module _ (m : Text) (b : ℕ) (ts : Text) (fails : stands m (b ∷ ts) ≡ false
 
 searched : (m ts : Text) → Searched m ts (mark_place m ts)
 unfolding Searched
-searched m [] = go (stands m []) refl
+searched m [] = go (is_front_of m []) refl
   where
-    go : (v : Bool) → stands m [] ≡ v → Searched m [] (cond v (Some 0) None)
+    go : (v : Bool) → is_front_of m [] ≡ v → Searched m [] (cond v (Some 0) None)
     go true is = found_here m [] is
     go false is = missing_at_end m is
-searched m (b ∷ ts) = go (searched m ts) (stands m (b ∷ ts)) refl
+searched m (b ∷ ts) = go (searched m ts) (is_front_of m (b ∷ ts)) refl
   where
-    go : Searched m ts (mark_place m ts) → (v : Bool) → stands m (b ∷ ts) ≡ v
+    go : Searched m ts (mark_place m ts) → (v : Bool) → is_front_of m (b ∷ ts) ≡ v
         → Searched m (b ∷ ts) (cond v (Some 0) (option_map suc (mark_place m ts)))
     go on true is = found_here m (b ∷ ts) is
     go on false is = searched_on m b ts is (mark_place m ts) on
@@ -220,7 +220,7 @@ some_up_to m = record { split = refl; first = tt }
 
 -- ---- the first place, as a search of the needle tells it
 
-free_behind : (m xs : Text) (b : ℕ) (ys : Text) → IsFree m (xs ++ (b ∷ ys)) → stands m ((b ∷ ys) ++ m) ≡ false
+free_behind : (m xs : Text) (b : ℕ) (ys : Text) → IsFree m (xs ++ (b ∷ ys)) → is_front_of m ((b ∷ ys) ++ m) ≡ false
 free_behind m [] b ys f = f.0
 free_behind m (x ∷ xs) b ys f = free_behind m xs b ys f.1
 
@@ -248,14 +248,14 @@ not_earlier m ts at k f o less = go (drop k f.bytes) refl
     go (b ∷ ys) is =
         let whole : f.bytes ≡ take k f.bytes ++ (b ∷ ys) = sym (take-append-drop k f.bytes)
         ∙ ap (λ l. take k f.bytes ++ l) is in
-        let none : stands m ((b ∷ ys) ++ m) ≡ false = free_behind m (take k f.bytes) b ys
+        let none : is_front_of m ((b ∷ ys) ++ m) ≡ false = free_behind m (take k f.bytes) b ys
         (subst (IsFree m) whole f.free) in
-        let here : stands m (drop k ts) ≡ true = ap (stands m) (OccursAt-split ts m k o)
+        let here : is_front_of m (drop k ts) ≡ true = ap (is_front_of m) (OccursAt-split ts m k o)
         ∙ stands_here m (drop (k + length m) ts) in
         let same : drop k ts ≡ ((b ∷ ys) ++ m) ++ f.rest = there ∙ ap (λ l. l ++ (m ++ f.rest)) is
         ∙ sym (append_assoc (b ∷ ys) m f.rest) in
-        let more : stands m ((b ∷ ys) ++ m) ≡ true = sym (stands_more m ((b ∷ ys) ++ m) f.rest (cons_long m b ys))
-        ∙ ap (stands m) (sym same) ∙ here in
+        let more : is_front_of m ((b ∷ ys) ++ m) ≡ true = sym (stands_more m ((b ∷ ys) ++ m) f.rest (cons_long m b ys))
+        ∙ ap (is_front_of m) (sym same) ∙ here in
         cc
 
 pub place_is : (m ts : Text) (o : Option ℕ) → FindsNeedle ts m 0 o → o ≡ mark_place m ts

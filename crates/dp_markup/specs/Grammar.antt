@@ -102,15 +102,15 @@ Start = do
 -- ---- what stands between the tags
 
 -- the mark stands at the front
-abbrev pub stands : Text → Text → Bool
-stands [] text = true
-stands (m ∷ mark) [] = false
-stands (m ∷ mark) (b ∷ text) = m == b && stands mark text
+abbrev pub is_front_of : Text → Text → Bool
+is_front_of [] text = true
+is_front_of (m ∷ mark) [] = false
+is_front_of (m ∷ mark) (b ∷ text) = m == b && is_front_of mark text
 
 -- where the mark stands behind the bytes, it begins at none of them
 abbrev pub IsFree : Text → Text → Type 0
 IsFree mark [] = Unit {0}
-IsFree mark (b ∷ bytes) = (stands mark ((b ∷ bytes) ++ mark) ≡ false) × IsFree mark bytes
+IsFree mark (b ∷ bytes) = (is_front_of mark ((b ∷ bytes) ++ mark) ≡ false) × IsFree mark bytes
 
 -- bytes up to the first place where the mark stands, and the mark
 pub record UpTo (mark : Text) (text bytes : Text) : Type 0 where

@@ -10,7 +10,7 @@ use Rattle.dp_actions.specs.declared.halt.Halt.{Halt}
 use Rattle.dp_actions.specs.declared.signal.Signal.{Signal}
 use Rattle.dp_meaning.specs.declared.stop.Stop.{Stop}
 use Rattle.dp_actions.specs.declared.halt.Halt.TheVariants.{Memory, Finished, Stopped}
-use Rattle.dp_meaning.specs.inner.Drive.{Rules, Reached, Gives, Ends, Stops, drive, nowhere, Meets, IsHeld, ComesTo, IsStopAt, halt_after, stopped}
+use Rattle.dp_meaning.specs.inner.Drive.{Rules, Reached, Gives, Ends, Stops, drive, nowhere, Meets, IsEvaluated, ComesTo, IsStopAt, halt_after, stopped}
 use Rattle.dp_actions.specs.Expressions.{evaluation}
 use Rattle.dp_actions.specs.Run.{Run, Done, Over, At}
 use Rattle.dp_actions.specs.Setting.{Setting}
@@ -51,7 +51,7 @@ alone-drive {A} rules (At kind line s go) h e =
 -- ---- evaluations
 -- what a run came to, where its answer is held
 pub comes-to : (r : Reached Value) (x : Result Value Halt) (answer : Option Value) (t : State) → Meets x t r
-    → IsHeld x answer → ComesTo r answer t
+    → IsEvaluated x answer → ComesTo r answer t
 comes-to r (Ok v) answer t m h = rw m (h, refl)
 comes-to r (Err Memory) answer t m h = absurd h
 comes-to r (Err (Finished o)) answer t m h = rw m (h, refl)

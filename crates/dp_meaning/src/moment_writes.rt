@@ -3,7 +3,7 @@
 ghost use Rattle.std.specs.Prelude.{◌≡◌, false, if◌then◌else◌, option_map, Err, IfOk, OnOk, OnErr};
 ghost use Rattle.dp_actions.specs.declared.halt.Halt.TheVariants as halt;
 ghost use Rattle.dp_state.specs.Places.{assigned, given_keys as all_given};
-ghost use Rattle.dp_meaning.specs.inner.Drive.{ComesTo, IsHeld, drive, quiet};
+ghost use Rattle.dp_meaning.specs.inner.Drive.{ComesTo, IsEvaluated, drive, only_bounded};
 ghost use Rattle.dp_actions.specs.Expressions.{evaluation as expression_value};
 ghost use Rattle.dp_meaning.specs.Writes.{evaluated, evaluation_limit, evaluation_setting, left_by, one_write};
 ghost use Rattle.dp_meaning.specs.Writes.{or_unchanged, place_or_fault, with_place, written_by};
@@ -175,7 +175,7 @@ fn quietly(
     e: &Expression,
     state: &mut State,
 ) -> Result<Option<Value>, Memory>
-    ensures { IfOk result (λ answer. ComesTo (drive (quiet evaluation_limit)
+    ensures { IfOk result (λ answer. ComesTo (drive (only_bounded evaluation_limit)
         (expression_value e.now (evaluation_setting bundle.now) state.old)) answer state.new) }
 {
     let quiet = Quiet {
@@ -193,7 +193,7 @@ fn quietly(
 
 /// A value, where there is one.
 fn held(answer: Result<Shared, Halt>) -> Result<Option<Value>, Memory>
-    ensures { IfOk result (IsHeld answer) }
+    ensures { IfOk result (IsEvaluated answer) }
 {
     match answer {
         Ok(value) => Ok(Some(value.into_value()?)),

@@ -11,9 +11,9 @@ pub(crate) struct Quiet {
 }
 
 impl Outside for Quiet {
-    ghost use Rattle.dp_meaning.specs.inner.Drive.{quiet};
+    ghost use Rattle.dp_meaning.specs.inner.Drive.{only_bounded};
 
-    ghost rules = { λ q. quiet q.bound };
+    ghost rules = { λ q. only_bounded q.bound };
 
     fn at_moment(&self, kind: MomentKind, line: u32, state: &mut State) -> Result<(), Halt> {
         let _kind = kind;

@@ -144,8 +144,8 @@ abbrev pub is_array : Data → Bool
 is_array (array es largest) = true
 is_array _ = false
 
-abbrev pub told : (Data → Bool) → Data → Result Data CallError
-told test a = Ok (boolean (test a))
+abbrev pub tested : (Data → Bool) → Data → Result Data CallError
+tested test a = Ok (boolean (test a))
 
 -- ---- the table
 abbrev pub builtin_of : Builtin → List Data → Result Data CallError
@@ -159,8 +159,8 @@ builtin_of Chr args = on_one byte_of (single args)
 builtin_of SubStr args = on_three part (triple args)
 builtin_of StrRepeat args = on_two repetition (double args)
 builtin_of Implode args = on_two joining (double args)
-builtin_of IsInt args = on_one (told is_int) (single args)
-builtin_of IsString args = on_one (told is_string) (single args)
-builtin_of IsBool args = on_one (told is_bool) (single args)
-builtin_of IsNull args = on_one (told is_null) (single args)
-builtin_of IsArray args = on_one (told is_array) (single args)
+builtin_of IsInt args = on_one (tested is_int) (single args)
+builtin_of IsString args = on_one (tested is_string) (single args)
+builtin_of IsBool args = on_one (tested is_bool) (single args)
+builtin_of IsNull args = on_one (tested is_null) (single args)
+builtin_of IsArray args = on_one (tested is_array) (single args)

@@ -13,8 +13,8 @@ content_of name (file ∷ files) =
     if pointwise nat_eq file.0 name then Some file.1 else content_of name files
 
 -- what a list of files tells: their names and contents
-abbrev pub told : List (String Global × Vec ℕ Global) → List (List ℕ × List ℕ)
-told files = map (λ file. (string_bytes file.0, file.1.items)) files
+abbrev pub contents_of : List (String Global × Vec ℕ Global) → List (List ℕ × List ℕ)
+contents_of files = map (λ file. (string_bytes file.0, file.1.items)) files
 
 -- the first limit + 1 bytes of the file, or the whole file where it is shorter
 abbrev pub Fetches : Option (List (List ℕ × List ℕ)) → List ℕ → ℕ → List ℕ → Type 0

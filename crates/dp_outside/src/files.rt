@@ -1,14 +1,14 @@
 //! Files in memory, looked up by name.
 ghost use Rattle.std.specs.Prelude.{◌≡◌, ◌+◌, ◌≤◌, length, MatchOption, IfOk, IsErrOf, Some};
-ghost use Rattle.dp_outside.specs.Files.{Fetches, Lacks, content_of, told};
+ghost use Rattle.dp_outside.specs.Files.{Fetches, Lacks, content_of, contents_of};
 
 use crate::{Bytes1, ShelfError};
 use std::alloc::Global;
 
 /// The content of the first file of this name.
 fn find<'a>(files: &'a [(String, Vec<u8>)], name: &str) -> Option<&'a [u8]>
-    ensures { MatchOption result (content_of name.now (told files.now) ≡ None)
-        (λ content. content_of name.now (told files.now) ≡ Some content.now) }
+    ensures { MatchOption result (content_of name.now (contents_of files.now) ≡ None)
+        (λ content. content_of name.now (contents_of files.now) ≡ Some content.now) }
 {
     let mut rest = files;
     'files: while let [file, after @ ..] = rest {
@@ -29,8 +29,8 @@ pub(crate) fn fetch_from(
     limit: usize,
 ) -> Result<Bytes1, ShelfError>
     ensures length { IfOk result (λ bytes. length bytes ≤ limit + 1) }
-    ensures bytes { IfOk result (Fetches (Some (told files.now)) name.now limit) }
-    ensures missing { IsErrOf result ShelfError.Missing → Lacks (Some (told files.now)) name.now }
+    ensures bytes { IfOk result (Fetches (Some (contents_of files.now)) name.now limit) }
+    ensures missing { IsErrOf result ShelfError.Missing → Lacks (Some (contents_of files.now)) name.now }
     ensures failed { IsErrOf result ShelfError.Failed → ⊥ }
 {
     let content = match find(files, name) {

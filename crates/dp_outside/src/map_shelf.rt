@@ -3,7 +3,7 @@ ghost use Rattle.std.specs.Prelude.{◌≡◌, ◌+◌, ◌≤◌, [], ◌∷◌
 ghost use Rattle.std.specs.Prelude.{◌↔◌};
 ghost use Rattle.dp_outside.specs.Causes.{Rose};
 ghost use Rattle.dp_outside.specs.Fakes.{after_call, first_plan, is_due};
-ghost use Rattle.dp_outside.specs.Files.{Fetches, Lacks, has_failed, told};
+ghost use Rattle.dp_outside.specs.Files.{Fetches, Lacks, has_failed, contents_of};
 
 use crate::files::fetch_from;
 use crate::names::Names;
@@ -25,12 +25,12 @@ pub struct MapShelf {
 
 impl Model for MapShelf {
     ghost use Rattle.dp_outside.specs.Fakes.{ShelfState};
-    ghost use Rattle.dp_outside.specs.Files.{told};
+    ghost use Rattle.dp_outside.specs.Files.{contents_of};
 
     ghost Value = { ShelfState };
 
     ghost view = { λ s. record {
-      files = told s.files.items;
+      files = contents_of s.files.items;
       fetched = s.fetched.names;
       plan = s.plan;
     } };
@@ -40,7 +40,7 @@ impl MapShelf {
     /// A shelf of these files. Of two of one name the first counts. Those calls of `fetch` fail whose numbers,
     /// counted from 1, stand in `fails`.
     pub fn new(files: Vec<(String, Vec<u8>)>, fails: Vec<u64>) -> Result<Self, Memory>
-        ensures files { IfOk result (λ shelf. shelf.files ≡ told files.items) }
+        ensures files { IfOk result (λ shelf. shelf.files ≡ contents_of files.items) }
         ensures fetched { IfOk result (λ shelf. shelf.fetched ≡ []) }
         ensures plan { IfOk result (λ shelf. shelf.plan ≡ first_plan fails.items) }
     {

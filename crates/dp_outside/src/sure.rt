@@ -3,7 +3,7 @@ ghost use Rattle.std.specs.Prelude.{◌≡◌, ◌+◌, ◌≤◌, [], ◌∷◌
 ghost use Rattle.std.specs.Io.KnownBytes.{ReadConsumes};
 ghost use Rattle.dp_outside.specs.Causes.{HasCause};
 ghost use Rattle.dp_outside.specs.Fakes.{after_piece, piece_length, whole_tape};
-ghost use Rattle.dp_outside.specs.Files.{Fetches, Lacks, told};
+ghost use Rattle.dp_outside.specs.Files.{Fetches, Lacks, contents_of};
 ghost use Rattle.dp_outside.specs.Streams.{TakeGives};
 
 use crate::files::fetch_from;
@@ -108,17 +108,17 @@ pub struct SureMapShelf {
 
 impl Model for SureMapShelf {
     ghost use Rattle.dp_outside.specs.Fakes.{SureShelfState};
-    ghost use Rattle.dp_outside.specs.Files.{told};
+    ghost use Rattle.dp_outside.specs.Files.{contents_of};
 
     ghost Value = { SureShelfState };
 
-    ghost view = { λ s. record { files = told s.files.items; fetched = s.fetched.names } };
+    ghost view = { λ s. record { files = contents_of s.files.items; fetched = s.fetched.names } };
 }
 
 impl SureMapShelf {
     /// A shelf of these files. Of two of one name the first counts.
     pub fn new(files: Vec<(String, Vec<u8>)>) -> Result<Self, Memory>
-        ensures files { IfOk result (λ shelf. shelf.files ≡ told files.items) }
+        ensures files { IfOk result (λ shelf. shelf.files ≡ contents_of files.items) }
         ensures fetched { IfOk result (λ shelf. shelf.fetched ≡ []) }
     {
         Ok(SureMapShelf {

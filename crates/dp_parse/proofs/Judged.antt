@@ -6,7 +6,7 @@ use Rattle.dp_parse.specs.declared.errors.ParseError.TheVariants as error
 use Rattle.dp_grammar.specs.declared.refusal.Refusal.{Refusal}
 use Rattle.dp_grammar.specs.declared.refusal.Refusal.TheVariants as refusal
 use Rattle.dp_rules.specs.inner.Input.{Reader}
-use Rattle.dp_parse.specs.Programs.{AreWrong, told}
+use Rattle.dp_parse.specs.Programs.{AreWrong, reported}
 use Rattle.dp_rules.proofs.Answers.{Rules}
 use Rattle.dp_grammar.proofs.Answers.{Stop}
 use Rattle.dp_grammar.proofs.Verdicts.{ReadsAll}
@@ -55,7 +55,7 @@ module _ {L A : Type 0} {Above : L → L → Type 0} {rule : Rules L A} {stop : 
 
   -- ---- where the tokens are refused
 
-  cause_of : (e : Refusal) → (e ≢ refusal.Memory → p ts ≡ Err e) → AreWrong rule limits ts (told (length ts) e)
+  cause_of : (e : Refusal) → (e ≢ refusal.Memory → p ts ≡ Err e) → AreWrong rule limits ts (reported (length ts) e)
   cause_of (refusal.Unexpected left) is = (unexpected reader ts left (is (λ h. cc))).1
   cause_of (refusal.TooDeep left) is = (too_deep reader ts left (is (λ h. cc))).1
   cause_of refusal.Memory is = tt
@@ -69,7 +69,7 @@ module _ {L A : Type 0} {Above : L → L → Type 0} {rule : Rules L A} {stop : 
   memory_or_not (error.DoubleFunction name) = inr (λ h. cc)
 
   module _ (e : Refusal) (is : e ≢ refusal.Memory → p ts ≡ Err e) (reason : ParseError)
-      (tells : reason ≡ told (length ts) e) where
+      (tells : reason ≡ reported (length ts) e) where
     pub refused_cause : AreWrong rule limits ts reason
     refused_cause = subst (λ x. AreWrong rule limits ts x) (sym tells) (cause_of e is)
 

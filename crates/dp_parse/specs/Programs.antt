@@ -59,10 +59,10 @@ AreWrong rule depth ts error.Memory = ⊤
 AreWrong rule depth ts why = ⊥
 
 -- the reason, by the number of the token, where so many tokens were left of so many
-abbrev pub told : ℕ → Refusal → ParseError
-told count (refusal.Unexpected left) = error.Unexpected (count - left)
-told count (refusal.TooDeep left) = error.TooDeep (count - left)
-told count refusal.Memory = error.Memory
+abbrev pub reported : ℕ → Refusal → ParseError
+reported count (refusal.Unexpected left) = error.Unexpected (count - left)
+reported count (refusal.TooDeep left) = error.TooDeep (count - left)
+reported count refusal.Memory = error.Memory
 
 -- why bytes are no program
 abbrev pub IsNoFile : List ℕ → ParseError → Type 0

@@ -4,7 +4,7 @@ ghost use Rattle.std.specs.Prelude.{◌≡◌, ◌≢◌, ◌⊎◌, IfOk, IfErr
 ghost use Rattle.dp_parse.specs.declared.ended.Parts.{Parts};
 ghost use Rattle.dp_parse.specs.declared.errors.ParseError.{ParseError};
 ghost use Rattle.dp_tree.specs.declared.tree.Expression.{Expression};
-ghost use Rattle.dp_parse.specs.Programs.{AreWrong, told};
+ghost use Rattle.dp_parse.specs.Programs.{AreWrong, reported};
 ghost use Rattle.dp_parse.specs.Limits.{limits};
 ghost use Rattle.dp_parse.specs.Statements.{Spells, SpellsExpression};
 
@@ -18,7 +18,7 @@ use std::alloc::Global;
 
 /// The refusal of so many tokens, by the number of the token that is named.
 fn refused(count: usize, refusal: Refusal) -> ParseError
-    ensures { result ≡ told count refusal }
+    ensures { result ≡ reported count refusal }
 {
     match refusal {
         Refusal::Unexpected(left) => ParseError::Unexpected {

@@ -3,7 +3,7 @@ use Rattle.std.proofs.Common.{◌≡◌, inl, inr, zero, suc, Bool, true, false,
 use Rattle.std.proofs.lemmas.Bool.{and_parts}
 use Rattle.dp_markup.specs.Rules.{◌>>◌}
 use Rattle.dp_markup.specs.Classes.{is_white}
-use Rattle.dp_markup.specs.Grammar.{White, UpTo, IsFree, stands, Misc, Declaration, Prolog}
+use Rattle.dp_markup.specs.Grammar.{White, UpTo, IsFree, is_front_of, Misc, Declaration, Prolog}
 use Rattle.dp_markup.proofs.Loops.{give}
 use Rattle.dp_markup.proofs.Basics.{one_byte, mark_of, before}
 use Rattle.dp_packet.specs.Parts.{Text}
@@ -11,7 +11,7 @@ use Rattle.dp_packet.specs.Text.{declaration}
 
 abbrev is_free : Text → Text → Bool
 is_free mark [] = true
-is_free mark (b ∷ bytes) = not (stands mark ((b ∷ bytes) ++ mark)) && is_free mark bytes
+is_free mark (b ∷ bytes) = not (is_front_of mark ((b ∷ bytes) ++ mark)) && is_free mark bytes
 
 not_true : (b : Bool) → not b ≡ true → b ≡ false
 not_true true is = absurd cc
@@ -20,8 +20,8 @@ not_true false is = refl
 free : (mark bytes : Text) → is_free mark bytes ≡ true → IsFree mark bytes
 free mark [] is = tt
 free mark (b ∷ bytes) is =
-    let parts = and_parts (not (stands mark ((b ∷ bytes) ++ mark))) (is_free mark bytes) is in
-    (not_true (stands mark ((b ∷ bytes) ++ mark)) parts.0, free mark bytes parts.1)
+    let parts = and_parts (not (is_front_of mark ((b ∷ bytes) ++ mark))) (is_free mark bytes) is in
+    (not_true (is_front_of mark ((b ∷ bytes) ++ mark)) parts.0, free mark bytes parts.1)
 
 abbrev said : Text
 said = codes "version=\"1.0\" encoding=\"iso-8859-1\""

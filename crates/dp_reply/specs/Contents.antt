@@ -8,7 +8,7 @@ use Rattle.dp_markup.specs.declared.tree.Element.{Element}
 use Rattle.dp_markup.specs.declared.tree.Node.{Node}
 use Rattle.dp_markup.specs.declared.tree.Node.TheOpen.{Node-F}
 use Rattle.dp_markup.specs.declared.tree.Node.TheViews.{out-Node}
-use Rattle.dp_markup.specs.Grammar.{same_text, stands, value_of}
+use Rattle.dp_markup.specs.Grammar.{same_text, is_front_of, value_of}
 use Rattle.dp_packet.specs.Parts.{Text}
 
 -- ---- what may be missing
@@ -75,7 +75,7 @@ is_named name e = same_text e.name name
 
 -- what declares a namespace: `xmlns`, or what begins with `xmlns:`
 abbrev pub is_namespace : Text → Bool
-is_namespace name = same_text name (codes "xmlns") || stands (codes "xmlns:") name
+is_namespace name = same_text name (codes "xmlns") || is_front_of (codes "xmlns:") name
 
 -- ---- what stands between the tags
 

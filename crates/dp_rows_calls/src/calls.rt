@@ -43,7 +43,7 @@ fn call_of(name: &[u8]) -> Option<Call> {
 }
 
 /// What comes of a call, in words.
-fn told(alloc: Global, call: Call, row: &Row<'_>, input: &[u8]) -> Result<String, Memory> {
+fn answered(alloc: Global, call: Call, row: &Row<'_>, input: &[u8]) -> Result<String, Memory> {
     match call {
         Call::Read => told_markup(alloc, input),
         Call::Head => told_head(alloc, row, input),
@@ -65,6 +65,6 @@ pub(crate) fn differences_of(alloc: Global, row: &Row<'_>) -> Result<Differences
         return Differences::of_mistake(alloc, "no call has this name", first.name);
     };
     let input = first.bytes(alloc)?;
-    let found = told(alloc, call, row, input.as_slice())?;
+    let found = answered(alloc, call, row, input.as_slice())?;
     Differences::of_given(alloc, row, found.as_str())
 }

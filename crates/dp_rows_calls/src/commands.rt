@@ -23,7 +23,7 @@ pub(crate) fn told_line(alloc: Global, input: &[u8]) -> Result<String, Memory> {
 }
 
 /// What a command asks for, and its id.
-fn asked(alloc: Global, command: &Command) -> Result<String, Memory> {
+fn requested(alloc: Global, command: &Command) -> Result<String, Memory> {
     let mut text = String::new(alloc);
     put_request(&mut text, &command.request)?;
     text.push_str(", id ")?;
@@ -52,7 +52,7 @@ fn refused(alloc: Global, line: &Line, code: u16) -> Result<String, Memory> {
 /// The request of the command that a line is, or its first refusal.
 fn request_of(alloc: Global, line: &Line) -> Result<String, Memory> {
     match Command::of(alloc, line) {
-        Ok(command) => asked(alloc, &command),
+        Ok(command) => requested(alloc, &command),
         Err(CommandError::Code(code)) => refused(alloc, line, code),
         Err(CommandError::Memory) => Err(Memory),
     }

@@ -41,7 +41,7 @@ fn call_of(name: &[u8]) -> Option<Call> {
 const LONGEST: usize = 1 << 24;
 
 /// What comes of a call, in words.
-fn told(alloc: Global, call: Call, input: &[u8]) -> Result<String, Memory> {
+fn answered(alloc: Global, call: Call, input: &[u8]) -> Result<String, Memory> {
     if input.len() > LONGEST {
         return String::from_str(alloc, "the input is too long for a row");
     }
@@ -64,6 +64,6 @@ pub(crate) fn differences_of(alloc: Global, row: &Row<'_>) -> Result<Differences
         return Differences::of_mistake(alloc, "no call has this name", first.name);
     };
     let input = first.bytes(alloc)?;
-    let found = told(alloc, call, input.as_slice())?;
+    let found = answered(alloc, call, input.as_slice())?;
     Differences::of_given(alloc, row, found.as_str())
 }

@@ -40,7 +40,7 @@ fn call_of(name: &[u8]) -> Option<Call> {
 }
 
 /// What comes of a call, in words.
-fn told(alloc: Global, call: Call, input: &[u8]) -> Result<String, Memory> {
+fn answered(alloc: Global, call: Call, input: &[u8]) -> Result<String, Memory> {
     match call {
         Call::Events => told_events(alloc, input),
         Call::Asked => told_call(alloc, input),
@@ -60,6 +60,6 @@ pub(crate) fn differences_of(alloc: Global, row: &Row<'_>) -> Result<Differences
         return Differences::of_mistake(alloc, "no call has this name", first.name);
     };
     let input = first.bytes(alloc)?;
-    let found = told(alloc, call, input.as_slice())?;
+    let found = answered(alloc, call, input.as_slice())?;
     Differences::of_given(alloc, row, found.as_str())
 }

@@ -21,7 +21,11 @@ fn here(session: &Session) -> u32 {
 }
 
 /// The attributes of a breakpoint that was set.
-fn told(alloc: Global, enabled: bool, id: u32) -> Result<Items<(Bytes, Bytes)>, Memory> {
+fn response_attributes(
+    alloc: Global,
+    enabled: bool,
+    id: u32,
+) -> Result<Items<(Bytes, Bytes)>, Memory> {
     let state = if enabled {
         b"enabled".as_slice()
     } else {
@@ -57,7 +61,7 @@ pub(crate) fn set(session: &mut Session, asked: BreakpointSet) -> Result<Answer,
     };
     let enabled = request.enabled;
     match session.breaks.add(&session.bundle, request) {
-        Ok(id) => Ok(Answer::Given(told(alloc, enabled, id)?, Body::Nothing)),
+        Ok(id) => Ok(Answer::Given(response_attributes(alloc, enabled, id)?, Body::Nothing)),
         Err(error) => refused(error),
     }
 }

@@ -24,7 +24,7 @@ use Rattle.dp_state.specs.declared.vars.Slot.TheVariants.{Held, Bound}
 use Rattle.dp_state.specs.Functions.{any_declared, called, called_frame, included, included_frame}
 use Rattle.dp_state.specs.Places.{assigned, then_state, unset, with_global, with_null, with_own, with_value, with_vars, without_variable}
 use Rattle.dp_state.specs.inner.Parts.{home}
-use Rattle.dp_state.specs.States.{counted, entered, first_frame, frame_limit, left, on_line, opening, output_limit, own_variables, owner_at, printed, read_at, variables_at, with_line, IsHeld, IsOf}
+use Rattle.dp_state.specs.States.{counted, entered, first_frame, frame_limit, left, on_line, opening, output_limit, own_variables, owner_at, printed, read_at, variables_at, with_line, HasValue, IsOf}
 use Rattle.dp_state.specs.Variables.{Variables, slot_of, with_slot, without}
 use Rattle.dp_state.proofs.Homes.{above, is_above}
 use Rattle.dp_state.proofs.VariableSteps.{value-home}
@@ -36,7 +36,7 @@ IsBase (f ∷ fs) = (f.kind ≡ frame_kind.Main) × (f.shares ≡ false)
 
 -- a variable that is no mark
 abbrev IsGlobal : List ℕ × Slot → Type 0
-IsGlobal variable = IsHeld variable.1
+IsGlobal variable = HasValue variable.1
 
 -- ---- variables
 abbrev Globals : Variables → Type 0

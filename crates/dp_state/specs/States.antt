@@ -26,9 +26,9 @@ output_limit = 16777216
 
 -- ---- a state of a bundle
 
-abbrev pub IsHeld : Slot → Type 0
-IsHeld (Held value) = ⊤
-IsHeld Bound = ⊥
+abbrev pub HasValue : Slot → Type 0
+HasValue (Held value) = ⊤
+HasValue Bound = ⊥
 
 -- Its lowest frame is the main one and does not share, no global variable is bound, and each frame
 -- and each declared function has its place in the bundle.
@@ -38,7 +38,7 @@ pub record IsOf (bundle : Bundle) (s : State) : Type 0 where
   pub frames : s.frames ≡ main ∷ above
   pub lowest : main.kind ≡ frame_kind.Main
   pub apart : main.shares ≡ false
-  pub globals : All (λ variable. IsHeld variable.1) s.globals
+  pub globals : All (λ variable. HasValue variable.1) s.globals
   pub files : All (λ frame. frame.file < length bundle.files) s.frames
   pub declared : All (λ f. f.function < function_count bundle f.file) s.declared
 

@@ -1,8 +1,9 @@
 //! Responses, and what fits into them.
 
 ghost use Rattle.std.specs.Prelude.{◌≡◌, ◌+◌, ◌≤◌, ◌∷◌, ◌++◌, [], if◌then◌else◌, codes, decimal, length, Err, Ok, IfOk};
-ghost use Rattle.std.specs.Prelude.{OnOk};
+ghost use Rattle.std.specs.Prelude.{◌*◌, OnOk};
 ghost use Rattle.dp_markup.specs.Texts.{attribute_text};
+ghost use Rattle.dp_packet.specs.Sizes.{short_size_limit};
 ghost use Rattle.dp_view.specs.Answers.{AnswersSurely};
 ghost use Rattle.dp_view_commands.specs.Views as spec;
 ghost use Rattle.dp_view_commands.specs.inner.Responses.{around};
@@ -122,7 +123,7 @@ pub(crate) fn limited(response: Response) -> Result<Response, ViewError>
 #[tactic(auto, using(crate::proofs::Sizes::bare_is))]
 fn bare_size(to: &Addressee) -> u64
     ensures size { result ≡ around to.now.command to.now.id [] }
-    ensures small { result ≤ 2000 }
+    ensures small { result ≤ 98 + 2 * short_size_limit }
 {
     98 + short_size(b"command", to.command.as_slice())
         + short_size(b"transaction_id", to.id.as_slice())
@@ -131,7 +132,7 @@ fn bare_size(to: &Addressee) -> u64
 /// The size of the attribute that names a context.
 fn context_size(id: u32) -> u64
     ensures size { result ≡ length (attribute_text (codes "context", decimal id)) }
-    ensures small { result ≤ 500 }
+    ensures small { result ≤ short_size_limit }
 {
     let mut buffer = Buffer::new();
     short_size(b"context", buffer.format(id).as_bytes())

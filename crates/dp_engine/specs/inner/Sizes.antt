@@ -1,6 +1,7 @@
 -- Lines, requests and responses that are short enough for a packet.
 use Rattle.std.specs.Prelude.{◌≡◌, ℕ, ◌≤◌, ◌<◌, true, length, Option, Some, None}
 use Rattle.std.specs.List.{AllByRecursion}
+use Rattle.dp_command.specs.Grammar.{command_name_limit}
 use Rattle.dp_command.specs.declared.command.Request.{Request}
 use Rattle.dp_command.specs.declared.command.Request.TheVariants.{FeatureGet, FeatureSet}
 use Rattle.dp_command.specs.declared.line.Line.{Line}
@@ -13,7 +14,7 @@ use Rattle.dp_engine.specs.Responses.{response_text}
 
 -- the name and the values of a line that a command may have
 pub record IsShort (line : Line) : Type 0 where
-  pub name : length line.name ≤ 64
+  pub name : length line.name ≤ command_name_limit
   pub values : AllByRecursion (λ o. length o.1 ≤ command_limit) line.options
 
 abbrev pub IsShortLine : Option Line → Type 0

@@ -15,7 +15,7 @@ use Rattle.dp_markup.specs.declared.states.Radix.TheVariants.{Decimal, Hexadecim
 use Rattle.dp_markup.specs.Rules.{passing}
 use Rattle.dp_markup.specs.inner.Input.{head, next, Reader, ◌>>=◌, ◌>>◌, gives, made, refuse, one, mark, word, tested, closed}
 use Rattle.dp_markup.specs.Classes.{is_white, is_name_start, is_name_byte, is_plain_in_text, is_plain_in_value, is_quote, decimal_behind, hexadecimal_behind}
-use Rattle.dp_markup.specs.Grammar.{Text, Attributes, is_new, white_in_tag, attribute_in_tag, start_tag, no_attribute, stands, no_content, with_bytes, nodes_of, with_child, element}
+use Rattle.dp_markup.specs.Grammar.{Text, Attributes, is_new, white_in_tag, attribute_in_tag, start_tag, no_attribute, is_front_of, no_content, with_bytes, nodes_of, with_child, element}
 
 abbrev pub same : ℕ → ℕ → Bool
 same c b = b == c
@@ -126,8 +126,8 @@ start = name >>= (λ n. closed (tag_step n) no_attribute)
 -- ---- what stands between the tags
 
 abbrev pub mark_place : Text → Text → Option ℕ
-mark_place m [] = if stands m [] then Some 0 else None
-mark_place m (b ∷ bs) = if stands m (b ∷ bs) then Some 0 else option_map suc (mark_place m bs)
+mark_place m [] = if is_front_of m [] then Some 0 else None
+mark_place m (b ∷ bs) = if is_front_of m (b ∷ bs) then Some 0 else option_map suc (mark_place m bs)
 
 unfoldable pub cut : Text → Option ℕ → Reader Text
 cut m None ts = Err (Unexpected 0)

@@ -30,8 +30,8 @@ abbrev pub at_number : ℕ → Moment → State → Bool
 at_number number moment s = nat_eq moment.number number
 
 -- no writes, and no stop
-abbrev pub quiet : ℕ → Rules
-quiet bound =
+abbrev pub only_bounded : ℕ → Rules
+only_bounded bound =
     record { bound = bound; halts = nowhere; writes = writes_of (record { files = [] }) [] }
 
 -- how far a run came: it gave something, the program was over, or it came to the stop
@@ -81,11 +81,11 @@ moment_run kind line s = At kind line s (λ t. Done tt t)
 -- ---- evaluations that nothing stops
 
 -- a value, or none where there is no value. Out of memory says nothing
-abbrev pub IsHeld : Result Value Halt → Option Value → Type 0
-IsHeld (Ok v) answer = answer ≡ Some v
-IsHeld (Err Memory) answer = ⊥
-IsHeld (Err (Finished o)) answer = answer ≡ None
-IsHeld (Err (Stopped moment)) answer = answer ≡ None
+abbrev pub IsEvaluated : Result Value Halt → Option Value → Type 0
+IsEvaluated (Ok v) answer = answer ≡ Some v
+IsEvaluated (Err Memory) answer = ⊥
+IsEvaluated (Err (Finished o)) answer = answer ≡ None
+IsEvaluated (Err (Stopped moment)) answer = answer ≡ None
 
 -- what an evaluation came to, and the state that it left
 abbrev pub ComesTo : Reached Value → Option Value → State → Type 0

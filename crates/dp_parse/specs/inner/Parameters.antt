@@ -17,9 +17,9 @@ abbrev pub chosen : Bool → ℕ → Text → List Token → Outcome Text
 chosen true left name more = Ok (name, more)
 chosen false left name more = Err (Unexpected left)
 
-abbrev pub stands : List Text → Text → Bool
-stands found name = list_any (λ other. bytes_eq other name) found
+abbrev pub is_among : List Text → Text → Bool
+is_among found name = list_any (λ other. bytes_eq other name) found
 
 abbrev pub checked : List Text → Reader Text
 checked found ts =
-    and_then (variable ts) (λ name more. chosen (not (stands found name)) (length ts) name more)
+    and_then (variable ts) (λ name more. chosen (not (is_among found name)) (length ts) name more)
