@@ -18,7 +18,7 @@ use Rattle.dp_actions.specs.Run.{Run, Done, Over, At, ◌>>=◌}
 use Rattle.dp_actions.specs.Setting.{Part}
 use Rattle.dp_meaning.specs.declared.stop.Stop.TheVariants as stop
 use Rattle.dp_meaning.specs.declared.writes.NumberedWrite.{NumberedWrite}
-use Rattle.dp_meaning.specs.inner.Drive.{Ends, Reached, drive, quiet, stopped}
+use Rattle.dp_meaning.specs.inner.Drive.{Ends, Reached, drive, only_bounded, stopped}
 use Rattle.dp_meaning.specs.Programs.{program_run}
 use Rattle.dp_meaning.specs.Statements.{statement_run}
 use Rattle.dp_meaning.specs.Trace.{End, Ended, Gave, Trace, moment_of, outcome, outcome_of, program_trace}
@@ -57,8 +57,8 @@ leaps_as old mid new run same end e bound leaps = record {
 }
   where
     by : (end : Option Outcome) → LeapsBy mid same end new → LeapsBy old same end new
-    by None h = ap (λ (n : ℕ). drive (quiet n) same) (sym bound) ∙ h
-    by (Some o) h = ap (λ (n : ℕ). stopped (drive (quiet n) same)) (sym bound) ∙ h
+    by None h = ap (λ (n : ℕ). drive (only_bounded n) same) (sym bound) ∙ h
+    by (Some o) h = ap (λ (n : ℕ). stopped (drive (only_bounded n) same)) (sym bound) ∙ h
 
 -- what is in hand
 pub leaps_hand : (m mid new : Machine) (h : Hand) (end : Option Outcome) → m.hand ≡ h → mid.bound ≡ m.bound
@@ -96,13 +96,13 @@ module _ (m : Machine) (whole : Part Signal) (s : State) where
       → Leaps m (part_with m whole s) None new
   gives-on g new ran bundle bound depth in-hand items state = record {
     by =
-        drive-and_then (quiet m.bound) (whole (setting_at m) s) (to_signal (follows_of m))
-        ∙ ap (λ (r : Reached Signal). carry (quiet m.bound) r (to_signal (follows_of m)))
+        drive-and_then (only_bounded m.bound) (whole (setting_at m) s) (to_signal (follows_of m))
+        ∙ ap (λ (r : Reached Signal). carry (only_bounded m.bound) r (to_signal (follows_of m)))
         (meets m.bound (writes_of m.bundle.now []) refl (whole (setting_at m) s) (Ok g) m.state ran.by)
-        ∙ ap (drive (quiet m.bound)) (sym (rest-by new m.bundle.now m.bound m.depth (hand.Part (part.Give
+        ∙ ap (drive (only_bounded m.bound)) (sym (rest-by new m.bundle.now m.bound m.depth (hand.Part (part.Give
         (given.Signal g))) m.pending.items
         bundle bound depth in-hand items m.state))
-        ∙ (λ i. drive (quiet (sym bound i)) (rest_of new (sym state i)));
+        ∙ (λ i. drive (only_bounded (sym bound i)) (rest_of new (sym state i)));
     same_bound = bound;
   }
 
@@ -110,8 +110,8 @@ module _ (m : Machine) (whole : Part Signal) (s : State) where
   pub ends-there : (o : Outcome) → HasRun m whole (Err (halt.Finished o)) s → Leaps m (part_with m whole s) (Some o) m
   ends-there o ran = record {
     by =
-        ap stopped (drive-and_then (quiet m.bound) (whole (setting_at m) s) (to_signal (follows_of m))
-        ∙ ap (λ (r : Reached Signal). carry (quiet m.bound) r (to_signal (follows_of m)))
+        ap stopped (drive-and_then (only_bounded m.bound) (whole (setting_at m) s) (to_signal (follows_of m))
+        ∙ ap (λ (r : Reached Signal). carry (only_bounded m.bound) r (to_signal (follows_of m)))
         (meets m.bound (writes_of m.bundle.now []) refl (whole (setting_at m) s) (Err
         (halt.Finished o)) m.state ran.by));
     same_bound = refl;
@@ -120,7 +120,7 @@ module _ (m : Machine) (whole : Part Signal) (s : State) where
 -- ---- a small step
 
 over-stops : (n : ℕ) (run : Run Signal) (o : Outcome) (t : State) → IsOver run o t
-    → stopped (drive (quiet n) run) ≡ stop.Ended o t
+    → stopped (drive (only_bounded n) run) ≡ stop.Ended o t
 over-stops n (Done g s) o t h = λ i. stop.Ended (sym h.0 i) (sym h.1 i)
 over-stops n (Over p s) o t h = λ i. stop.Ended (sym h.0 i) (sym h.1 i)
 over-stops n (At kind line s go) o t h = absurd h
@@ -128,7 +128,7 @@ over-stops n (At kind line s go) o t h = absurd h
 module _ (old mid : Machine) (run : Run Signal) where
   pub small-on : Goes old run None mid → Leaps old run None mid
   small-on goes = record {
-    by = ap (drive (quiet old.bound)) goes.by ∙ ap (λ (n : ℕ). drive (quiet n) (rest_of mid mid.state))
+    by = ap (drive (only_bounded old.bound)) goes.by ∙ ap (λ (n : ℕ). drive (only_bounded n) (rest_of mid mid.state))
         (sym goes.same_bound);
     same_bound = goes.same_bound;
   }
@@ -138,20 +138,20 @@ module _ (old mid : Machine) (run : Run Signal) where
 
   module _ (kind : MomentKind) (line : ℕ) (new : Machine) (goes : Goes old run (Some
       (arrival.Moment kind line)) mid) where
-    at-moment : driven old run ≡ drive (quiet mid.bound) (At kind line mid.state (rest_of mid))
-    at-moment = λ i. drive (quiet (sym goes.same_bound i)) (goes.by i)
+    at-moment : driven old run ≡ drive (only_bounded mid.bound) (At kind line mid.state (rest_of mid))
+    at-moment = λ i. drive (only_bounded (sym goes.same_bound i)) (goes.by i)
 
     -- which comes, and is passed
     pub moment-on : (moment : Moment) → Comes kind line mid (progress.At moment) new → Leaps old run None new
     moment-on moment comes = record {
       by =
           at-moment
-          ∙ ap (λ (b : Bool). if b then drive (quiet mid.bound) (rest_of mid
+          ∙ ap (λ (b : Bool). if b then drive (only_bounded mid.bound) (rest_of mid
           (arrived line mid.state)) else Ends way.Bound mid.state)
           (lt-ltb _ _ comes.by.0)
-          ∙ ap (λ (t : State). drive (quiet mid.bound) (rest_of mid t)) (sym comes.by.2)
-          ∙ ap (drive (quiet mid.bound)) (sym (comes.by.3 new.state))
-          ∙ ap (λ (n : ℕ). drive (quiet n) (rest_of new new.state)) (sym comes.same_bound);
+          ∙ ap (λ (t : State). drive (only_bounded mid.bound) (rest_of mid t)) (sym comes.by.2)
+          ∙ ap (drive (only_bounded mid.bound)) (sym (comes.by.3 new.state))
+          ∙ ap (λ (n : ℕ). drive (only_bounded n) (rest_of new new.state)) (sym comes.same_bound);
       same_bound = comes.same_bound ∙ goes.same_bound;
     }
 
@@ -160,7 +160,7 @@ module _ (old mid : Machine) (run : Run Signal) where
     moment-over o comes = record {
       by =
           ap stopped (at-moment
-          ∙ ap (λ (b : Bool). if b then drive (quiet mid.bound) (rest_of mid
+          ∙ ap (λ (b : Bool). if b then drive (only_bounded mid.bound) (rest_of mid
           (arrived line mid.state)) else Ends way.Bound mid.state)
           (le-ltb _ _ comes.by.0))
           ∙ (λ i. stop.Ended (sym comes.by.1 i) (sym comes.by.2 i));
@@ -185,7 +185,7 @@ module _ (bundle : Bundle) (bound : ℕ) (writes : List NumberedWrite) where
 
   -- past the last of the writes nothing is written
   drive-past : {A : Type 0} (n : ℕ) (r : Run A) → IsSteady n r → NoneAbove n writes
-      → drive (quiet bound) r ≡ come_to (trace bound ws r).end (trace bound ws r).state
+      → drive (only_bounded bound) r ≡ come_to (trace bound ws r).end (trace bound ws r).state
   drive-past n (Done a s) steady none = refl
   drive-past n (Over o s) steady none = refl
   drive-past {A} n (At kind line s go) steady none =
@@ -200,9 +200,9 @@ module _ (bundle : Bundle) (bound : ℕ) (writes : List NumberedWrite) where
       same = ap (λ (k : ℕ). written ws k (arrived line s)) (ap (λ (k : ℕ). k + 1) steady.1 ∙ more)
           ∙ nothing-by ws.setting n writes (arrived line s) none
 
-      cases : (b : Bool) → drive (quiet bound) (go (arrived line s)) ≡ come_to (trace bound ws (go
+      cases : (b : Bool) → drive (only_bounded bound) (go (arrived line s)) ≡ come_to (trace bound ws (go
           (arrived line s))).end (trace bound ws (go (arrived line s))).state
-          → (if b then drive (quiet bound) (go (arrived line s)) else Ends way.Bound s)
+          → (if b then drive (only_bounded bound) (go (arrived line s)) else Ends way.Bound s)
           ≡ (let whole : Trace A = if b
           then with_moment (moment_of kind (arrived line s)) (arrived line s) (trace bound ws (go (written ws
           (s.moments + 1) (arrived line s))))
@@ -246,7 +246,7 @@ module _ (bundle : Bundle) (bound : ℕ) (writes : List NumberedWrite) (n : ℕ)
       let on = onward bundle bound writes n old stands in
       let ended = ended-by _ _ new.state o (ap stopped (sym (drive-past bundle bound writes n
       (rest_of old old.state) on.steady stands.none_above))
-      ∙ ap (λ (k : ℕ). stopped (drive (quiet k) (rest_of old old.state))) (sym stands.same_bound) ∙ out) in
+      ∙ ap (λ (k : ℕ). stopped (drive (only_bounded k) (rest_of old old.state))) (sym stands.same_bound) ∙ out) in
       (ended.0 ∙ sym (ap outcome_of on.end), ended.1 ∙ sym on.state)
 
   pub counts-out : (before after : ℕ) → after ≡ before + (new.state.moments - old.state.moments)

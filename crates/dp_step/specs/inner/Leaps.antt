@@ -8,7 +8,7 @@ use Rattle.dp_actions.specs.Run.{Run, ◌>>=◌}
 use Rattle.dp_actions.specs.Setting.{Part}
 use Rattle.dp_meaning.specs.declared.stop.Stop.TheVariants as stop
 use Rattle.dp_meaning.specs.declared.whole.Whole.{Whole}
-use Rattle.dp_meaning.specs.inner.Drive.{Reached, drive, quiet, stopped}
+use Rattle.dp_meaning.specs.inner.Drive.{Reached, drive, only_bounded, stopped}
 use Rattle.dp_meaning.specs.Whole.{RunsWhole}
 use Rattle.dp_step.specs.declared.machine.Machine.{Machine}
 use Rattle.dp_step.specs.inner.Moves.{follows_of, setting_at}
@@ -17,7 +17,7 @@ use Rattle.dp_step_parts.specs.Rest.{to_signal}
 
 -- where this comes to, with no writes at its moments
 abbrev pub driven : Machine → Run Signal → Reached Signal
-driven m run = drive (quiet m.bound) run
+driven m run = drive (only_bounded m.bound) run
 
 -- it has come to its end
 abbrev pub RunsOut : Machine → Run Signal → Outcome → Machine → Type 0
