@@ -1,7 +1,7 @@
 //! Writes of variables and of their entries, and `unset` and `global`.
 
 ghost use Rattle.std.specs.Prelude.{◌≡◌, ◌⊎◌, ◌≤◌, ◌<◌, ◌-◌, false, [], Ok, Err, Some, length, option_map, slice_get};
-ghost use Rattle.std.specs.Prelude.{IfOk};
+ghost use Rattle.std.specs.Prelude.{IfOk, IsOk};
 ghost use Rattle.std.specs.Prelude.{IfErr, OnOk, OnErr};
 ghost use Rattle.dp_state.specs.States.{own_variables, IsCause, IsFatal, IsSure};
 ghost use Rattle.dp_state.specs.declared.state.Fault.TheVariants as fault;
@@ -79,6 +79,7 @@ impl State {
         ensures ok { OnOk result (unset name.now keys.now self.old ≡ Ok self.new) }
         ensures refused { IfErr result (IsCause (unset name.now keys.now self.old)) }
         ensures sure { IsSure (unset name.now keys.now self.old) result }
+        ensures at_once { keys.now ≡ [] → IsOk result }
         ensures err { OnErr result (self.new ≡ self.old) }
     {
         if keys.is_empty() {

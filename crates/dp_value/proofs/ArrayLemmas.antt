@@ -3,7 +3,6 @@ use Rattle.std.proofs.Common.{◌≡◌, ℕ, ◌+◌, ◌-◌, ◌<◌, List, l
 use Rattle.std.proofs.lemmas.List.{get_or-drop, length-drop, length-map, take_all}
 use Rattle.std.proofs.lemmas.Option.{slice_get_read, slice_get-map, slice_get-get_or}
 use Rattle.std.proofs.lemmas.Slice.Zip.{firsts-zip, length-zip, seconds-zip}
-use Rattle.std.specs.List.{zip}
 use Rattle.dp_value.specs.declared.key.Key.{Key}
 use Rattle.dp_value.specs.declared.value.Value.{Value}
 use Rattle.dp_value.specs.declared.value.Columns.TheInside.{Inside}
@@ -22,7 +21,7 @@ left_length g ks vs same = omega (arith, length-drop g ks, length-drop g vs, sam
 
 pub same_left : (a : Inside) → IsArray a → length (map data_of (values_left a)) ≡ length (keys_left a)
 same_left a is =
-    length-map (values_left a) data_of ∙ left_length a.gone a.keys.keys a.values.items is.same_length
+    length-map (values_left a) data_of ∙ left_length a.gone a.keys a.values.items is.same_length
 
 pub kept_length : (a : Inside) → IsArray a → vec_len a.values - a.gone ≡ length (table_of a).pairs
 kept_length a is =
@@ -30,7 +29,7 @@ kept_length a is =
       arith,
       length-zip (keys_left a) (map data_of (values_left a)),
       same_left a is,
-      length-drop a.gone a.keys.keys,
+      length-drop a.gone a.keys,
       is.same_length,
       a.values.ok.0,
     )
@@ -51,17 +50,17 @@ values_seen a is t seen =
     ∙ ap (λ (u : Table). values_of u.pairs) seen
 
 -- columns of what is left alone
-pub copied : (a : Inside) → IsArray a → (b : Inside) → b.gone ≡ 0 → b.keys.keys ≡ keys_left a
+pub copied : (a : Inside) → IsArray a → (b : Inside) → b.gone ≡ 0 → b.keys ≡ keys_left a
     → b.values.items ≡ values_left a → b.largest ≡ a.largest → b.weight ≡ a.weight → IsArray b
 copied a is b gone keys values largest weight =
     let pairs : (table_of a).pairs ≡ (table_of b).pairs =
-    sym (ap (λ (n : ℕ). pairs_in (drop n b.keys.keys) (drop n b.values.items)) gone
+    sym (ap (λ (n : ℕ). pairs_in (drop n b.keys) (drop n b.values.items)) gone
     ∙ ap (λ (ks : List Key). pairs_in ks b.values.items) keys
     ∙ ap (pairs_in (keys_left a)) values) in
     let same : table_of a ≡ table_of b = λ i. record { pairs = pairs i; largest = sym largest i } in
     record {
       same_length =
-          ap length values ∙ left_length a.gone a.keys.keys a.values.items is.same_length ∙ sym (ap length keys);
+          ap length values ∙ left_length a.gone a.keys a.values.items is.same_length ∙ sym (ap length keys);
       nulls = subst (λ (n : ℕ). AreNull n b.values.items) (sym gone) tt;
       table = subst (λ (t : Table). IsTable t) same is.table;
       weight = weight ∙ is.weight ∙ ap pairs_weight pairs;

@@ -2,6 +2,7 @@ pub mod KeyLemmas
 pub mod PairLemmas
 pub mod ArrayLemmas
 pub mod RowLemmas
+pub mod RisingLemmas
 pub mod TableLemmas
 pub mod BehindLemmas
 pub mod IntTextLemmas

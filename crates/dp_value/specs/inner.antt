@@ -3,6 +3,8 @@ pub mod Codes
 pub mod Sizes
 pub mod Behind
 pub mod Rows
+pub mod Rising
+pub mod Kept
 pub mod Inside
 pub mod Falls
 pub mod Writes

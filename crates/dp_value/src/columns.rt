@@ -9,10 +9,10 @@ ghost use Rattle.dp_value.specs.Table.{table_exchange, swapped, weight_limit, Is
 ghost use Rattle.dp_value.specs.Value.{data_of, pairs_in};
 ghost use Rattle.dp_value.specs.inner.Writes.{IsTooMuch};
 
+use crate::key_column::KeyColumn;
 use crate::rows::{forget, place, store, take_out};
 use crate::value::Columns;
 use crate::{Key, Value, ValueError, WEIGHT_LIMIT, weight};
-use indexmap::IndexSet;
 use std::alloc::Global;
 use std::mem;
 
@@ -22,7 +22,7 @@ impl Columns {
         ensures { result ≡ empty }
     {
         Columns {
-            keys: IndexSet::new(alloc),
+            keys: KeyColumn::new(alloc),
             values: Vec::new(alloc),
             gone: 0,
             largest: None,

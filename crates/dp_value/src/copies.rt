@@ -1,13 +1,9 @@
 //! Copies of values.
 
 ghost use Rattle.std.specs.Prelude.{◌≡◌, IfOk};
-ghost use Rattle.std.specs.List.{IsDistinct};
-ghost use Rattle.dp_value.specs.Key.{key_eq};
 
 use crate::value::Columns;
-use crate::{Key, Memory, PhpArray, Value};
-use indexmap::IndexSet;
-use std::alloc::Global;
+use crate::{Memory, PhpArray, Value};
 
 impl Value {
     /// An equal value.
@@ -50,7 +46,7 @@ impl Columns {
         ensures { IfOk result (λ copy. copy ≡ self.now) }
     {
         let alloc = *self.values.allocator();
-        let keys = copy_keys(alloc, &self.keys.as_slice()[self.gone..])?;
+        let keys = self.keys.copy_from(self.gone)?;
         let left = &self.values.as_slice()[self.gone..];
         let mut values = Vec::with_capacity(alloc, left.len())?;
         for value in left {
@@ -64,16 +60,4 @@ impl Columns {
             weight: self.weight,
         })
     }
-}
-
-/// A set of these keys, in the same order.
-fn copy_keys(alloc: Global, keys: &[Key]) -> Result<IndexSet<Key>, Memory>
-    requires { IsDistinct key_eq keys.now }
-    ensures { IfOk result (λ copy. copy.keys ≡ keys.now) }
-{
-    let mut copy = IndexSet::with_capacity(alloc, keys.len())?;
-    for key in keys {
-        let _ = copy.insert(key.try_clone()?)?;
-    }
-    Ok(copy)
 }

@@ -10,6 +10,7 @@ mod errors;
 mod identity;
 mod items;
 mod key;
+mod key_column;
 mod keys_of;
 mod names;
 mod operators;

@@ -13,53 +13,44 @@ ghost use Rattle.dp_value.specs.Table.{put, weight_limit};
 ghost use Rattle.dp_value.specs.Value.{data_of};
 ghost use Rattle.dp_value.specs.inner.Rows.{AreNull, left_in};
 
+use crate::key_column::KeyColumn;
 use crate::{Key, Memory, Value, weight};
-use indexmap::IndexSet;
 
 /// So many rows are closed up at each removal.
 const FEW: usize = 32;
 
 /// The position of a key among the rows that are left.
-pub(crate) fn place(keys: &IndexSet<Key>, gone: usize, key: &Key) -> Option<usize>
-    ensures place { MatchOption result (IsAbsent (key_eq key.now) (drop gone keys.now.keys))
-        (IsFirst (key_eq key.now) (drop gone keys.now.keys)) }
-    ensures within { IfSome result (λ i. gone + i < length keys.now.keys) }
+pub(crate) fn place(keys: &KeyColumn, gone: usize, key: &Key) -> Option<usize>
+    ensures place { MatchOption result (IsAbsent (key_eq key.now) (drop gone keys.now))
+        (IsFirst (key_eq key.now) (drop gone keys.now)) }
+    ensures within { IfSome result (λ i. gone + i < length keys.now) }
 {
     if keys.len() <= gone {
         return None;
     }
-    let row = row_of(keys, key)?;
+    let row = keys.row_of(key)?;
     if row < gone {
         return None;
     }
     Some(row - gone)
 }
 
-/// The row of a key among all, also those that are removed.
-fn row_of(keys: &IndexSet<Key>, key: &Key) -> Option<usize>
-    ensures place { MatchOption result (IsAbsent (key_eq key.now) keys.now.keys)
-        (IsFirst (key_eq key.now) keys.now.keys) }
-    ensures within { IfSome result (λ i. i < length keys.now.keys) }
-{
-    keys.get_index_of(key)
-}
-
 /// Puts a value under a key: in its place where the key is there, else behind all others.
 pub(crate) fn store(
-    keys: &mut IndexSet<Key>,
+    keys: &mut KeyColumn,
     values: &mut Vec<Value>,
     gone: usize,
     key: Key,
     value: Value,
 ) -> Result<(), Memory>
-    requires same_length { length values.old.items ≡ length keys.old.keys }
+    requires same_length { length values.old.items ≡ length keys.old }
     requires nulls { AreNull gone values.old.items }
-    requires fresh { IsAbsent (key_eq key) (take gone keys.old.keys) }
-    ensures ok { OnOk result (left_in gone keys.new.keys values.new.items ≡ put
-        (left_in gone keys.old.keys values.old.items) key (data_of value)) }
-    ensures err { OnErr result (left_in gone keys.new.keys values.new.items ≡ left_in gone keys.old.keys
+    requires fresh { IsAbsent (key_eq key) (take gone keys.old) }
+    ensures ok { OnOk result (left_in gone keys.new values.new.items ≡ put
+        (left_in gone keys.old values.old.items) key (data_of value)) }
+    ensures err { OnErr result (left_in gone keys.new values.new.items ≡ left_in gone keys.old
         values.old.items) }
-    ensures same_length { length values.new.items ≡ length keys.new.keys }
+    ensures same_length { length values.new.items ≡ length keys.new }
     ensures nulls { AreNull gone values.new.items }
 {
     if let Some(at) = place(keys, gone, &key) {
@@ -67,25 +58,25 @@ pub(crate) fn store(
         return Ok(());
     }
     values.reserve(1)?;
-    keys.insert(key)?;
+    keys.push(key)?;
     values.push_reserved(value);
     Ok(())
 }
 
 /// Clears the rows that are removed already where this key is in one of them.
-pub(crate) fn forget(keys: &mut IndexSet<Key>, values: &mut Vec<Value>, gone: &mut usize, key: &Key)
-    requires same_length { length values.old.items ≡ length keys.old.keys }
+pub(crate) fn forget(keys: &mut KeyColumn, values: &mut Vec<Value>, gone: &mut usize, key: &Key)
+    requires same_length { length values.old.items ≡ length keys.old }
     requires nulls { AreNull gone.old values.old.items }
-    ensures keys { drop gone.new keys.new.keys ≡ drop gone.old keys.old.keys }
+    ensures keys { drop gone.new keys.new ≡ drop gone.old keys.old }
     ensures values { drop gone.new values.new.items ≡ drop gone.old values.old.items }
-    ensures same_length { length values.new.items ≡ length keys.new.keys }
+    ensures same_length { length values.new.items ≡ length keys.new }
     ensures nulls { AreNull gone.new values.new.items }
-    ensures fresh { IsAbsent (key_eq key.now) (take gone.new keys.new.keys) }
+    ensures fresh { IsAbsent (key_eq key.now) (take gone.new keys.new) }
 {
     if *gone == 0 {
         return;
     }
-    let Some(row) = row_of(keys, key) else {
+    let Some(row) = keys.row_of(key) else {
         return;
     };
     if row < *gone {
@@ -95,21 +86,21 @@ pub(crate) fn forget(keys: &mut IndexSet<Key>, values: &mut Vec<Value>, gone: &m
 
 /// Takes a row out of those that are left, and gives what it weighed.
 pub(crate) fn take_out(
-    keys: &mut IndexSet<Key>,
+    keys: &mut KeyColumn,
     values: &mut Vec<Value>,
     gone: &mut usize,
     at: usize,
 ) -> u64
-    requires within { gone.old + at < length keys.old.keys }
-    requires same_length { length values.old.items ≡ length keys.old.keys }
+    requires within { gone.old + at < length keys.old }
+    requires same_length { length values.old.items ≡ length keys.old }
     requires nulls { AreNull gone.old values.old.items }
-    requires light { pairs_weight (left_in gone.old keys.old.keys values.old.items) ≤ weight_limit }
-    ensures keys { drop gone.new keys.new.keys ≡ remove (drop gone.old keys.old.keys) at }
+    requires light { pairs_weight (left_in gone.old keys.old values.old.items) ≤ weight_limit }
+    ensures keys { drop gone.new keys.new ≡ remove (drop gone.old keys.old) at }
     ensures values { drop gone.new values.new.items ≡ remove (drop gone.old values.old.items) at }
-    ensures same_length { length values.new.items ≡ length keys.new.keys }
+    ensures same_length { length values.new.items ≡ length keys.new }
     ensures nulls { AreNull gone.new values.new.items }
-    ensures weight { result + pairs_weight (left_in gone.new keys.new.keys values.new.items) ≡ pairs_weight
-        (left_in gone.old keys.old.keys values.old.items) }
+    ensures weight { result + pairs_weight (left_in gone.new keys.new values.new.items) ≡ pairs_weight
+        (left_in gone.old keys.old values.old.items) }
 {
     let key = &keys.as_slice()[*gone + at];
     let value = &values[*gone + at];
@@ -120,13 +111,13 @@ pub(crate) fn take_out(
 }
 
 /// Takes a row out of those that are left: the first of more than a few by a mark, any other by closing up.
-fn take_row(keys: &mut IndexSet<Key>, values: &mut Vec<Value>, gone: &mut usize, at: usize)
-    requires within { gone.old + at < length keys.old.keys }
-    requires same_length { length values.old.items ≡ length keys.old.keys }
+fn take_row(keys: &mut KeyColumn, values: &mut Vec<Value>, gone: &mut usize, at: usize)
+    requires within { gone.old + at < length keys.old }
+    requires same_length { length values.old.items ≡ length keys.old }
     requires nulls { AreNull gone.old values.old.items }
-    ensures keys { drop gone.new keys.new.keys ≡ remove (drop gone.old keys.old.keys) at }
+    ensures keys { drop gone.new keys.new ≡ remove (drop gone.old keys.old) at }
     ensures values { drop gone.new values.new.items ≡ remove (drop gone.old values.old.items) at }
-    ensures same_length { length values.new.items ≡ length keys.new.keys }
+    ensures same_length { length values.new.items ≡ length keys.new }
     ensures nulls { AreNull gone.new values.new.items }
 {
     if at == 0 && values.len() > FEW {
@@ -134,17 +125,17 @@ fn take_row(keys: &mut IndexSet<Key>, values: &mut Vec<Value>, gone: &mut usize,
         *gone += 1;
         return;
     }
-    let _ = keys.shift_remove_index(*gone + at);
+    keys.remove(*gone + at);
     let _ = values.remove(*gone + at);
 }
 
 /// Clears the rows that are removed already where they are as many as those left.
-fn clear_many(keys: &mut IndexSet<Key>, values: &mut Vec<Value>, gone: &mut usize)
-    requires same_length { length values.old.items ≡ length keys.old.keys }
+fn clear_many(keys: &mut KeyColumn, values: &mut Vec<Value>, gone: &mut usize)
+    requires same_length { length values.old.items ≡ length keys.old }
     requires nulls { AreNull gone.old values.old.items }
-    ensures keys { drop gone.new keys.new.keys ≡ drop gone.old keys.old.keys }
+    ensures keys { drop gone.new keys.new ≡ drop gone.old keys.old }
     ensures values { drop gone.new values.new.items ≡ drop gone.old values.old.items }
-    ensures same_length { length values.new.items ≡ length keys.new.keys }
+    ensures same_length { length values.new.items ≡ length keys.new }
     ensures nulls { AreNull gone.new values.new.items }
 {
     if *gone >= values.len() - *gone {
@@ -153,15 +144,15 @@ fn clear_many(keys: &mut IndexSet<Key>, values: &mut Vec<Value>, gone: &mut usiz
 }
 
 /// Clears the rows that are removed already.
-fn clear(keys: &mut IndexSet<Key>, values: &mut Vec<Value>, gone: &mut usize)
-    requires same_length { length values.old.items ≡ length keys.old.keys }
+fn clear(keys: &mut KeyColumn, values: &mut Vec<Value>, gone: &mut usize)
+    requires same_length { length values.old.items ≡ length keys.old }
     requires nulls { AreNull gone.old values.old.items }
-    ensures keys { keys.new.keys ≡ drop gone.old keys.old.keys }
+    ensures keys { keys.new ≡ drop gone.old keys.old }
     ensures values { values.new.items ≡ drop gone.old values.old.items }
     ensures none { gone.new ≡ 0 }
-    ensures same_length { length values.new.items ≡ length keys.new.keys }
+    ensures same_length { length values.new.items ≡ length keys.new }
 {
-    drop(keys.drain(..*gone));
+    keys.remove_front(*gone);
     drop(values.drain(..*gone));
     *gone = 0;
 }

@@ -7,8 +7,8 @@ ghost use Rattle.dp_value.specs.Table.{empty, keys_of, values_of, value_at, put,
 ghost use Rattle.dp_value.specs.Table.{table_exchange, swapped, weight_limit, largest_int, IsTable};
 
 use crate::columns::first_entry;
+use crate::key_column::KeyColumn;
 use crate::{Bytes, Key, ValueError, weight};
-use indexmap::IndexSet;
 use std::alloc::Global;
 use std::marker::Model;
 
@@ -63,7 +63,7 @@ impl Model for PhpArray {
 #[cycle(value)]
 #[derive(Debug, Drop)]
 pub(crate) struct Columns {
-    pub(crate) keys: IndexSet<Key>,
+    pub(crate) keys: KeyColumn,
     pub(crate) values: Vec<Value>,
     pub(crate) gone: usize,
     pub(crate) largest: Option<i64>,
@@ -90,7 +90,7 @@ impl Model for Columns {
 
     ghost use Rattle.dp_value.specs.inner.Falls.{most_le_depth};
 
-    ghost size_decreases = { λ a h. most_le_depth a.gone a.keys.keys a.values.items h.same_length h.nulls };
+    ghost size_decreases = { λ a h. most_le_depth a.gone a.keys a.values.items h.same_length h.nulls };
 }
 
 impl PhpArray {

@@ -10,7 +10,7 @@ use Rattle.dp_value.specs.Value.{pairs_in}
 use Rattle.dp_value.specs.inner.Rows.{AreNull}
 
 abbrev pub keys_left : Inside → List Key
-keys_left a = drop a.gone a.keys.keys
+keys_left a = drop a.gone a.keys
 
 abbrev pub values_left : Inside → List Value
 values_left a = drop a.gone a.values.items
@@ -19,7 +19,7 @@ abbrev pub table_of : Inside → Table
 table_of a = record { pairs = pairs_in (keys_left a) (values_left a); largest = a.largest }
 
 pub record IsArray (a : Inside) : Type 0 where
-  pub same_length : length a.values.items ≡ length a.keys.keys
+  pub same_length : length a.values.items ≡ length a.keys
   pub nulls : AreNull a.gone a.values.items
   pub table : IsTable (table_of a)
   pub weight : a.weight ≡ pairs_weight (table_of a).pairs

@@ -112,6 +112,6 @@ same_columns-same-requires t c =
       ap deep-Value c.index.ensures,
       at_most deep-Value c.a.inside.values.items (c.a.inside.gone + c.loop-at.at) c.index.result.now left,
     ) in
-    let falls = most_le_depth c.a.inside.gone c.a.inside.keys.keys c.a.inside.values.items
+    let falls = most_le_depth c.a.inside.gone c.a.inside.keys c.a.inside.values.items
     c.a.invariant.same_length c.a.invariant.nulls in
     search (rules, child, falls)

@@ -30,7 +30,7 @@ overflow_add-weight c =
       arith,
       c.weight.ensures,
       c.requires.light,
-      parts c.args.gone.now c.args.keys.now.keys c.args.values.now.items c.args.at c.index-as_slice-gone.result
+      parts c.args.gone.now c.args.keys.now c.args.values.now.items c.args.at c.index-as_slice-gone.result
           c.index-value.result.now c.requires.within c.requires.same_length key c.index-value.ensures,
     )
 
@@ -42,14 +42,14 @@ overflow_add-weight-2 c =
       c.weight.ensures,
       c.weight-2.ensures,
       c.requires.light,
-      parts c.args.gone.now c.args.keys.now.keys c.args.values.now.items c.args.at c.index-as_slice-gone.result
+      parts c.args.gone.now c.args.keys.now c.args.values.now.items c.args.at c.index-as_slice-gone.result
           c.index-value.result.now c.requires.within c.requires.same_length key c.index-value.ensures,
     )
 
 pub returns-clause-weight : goal.returns-clause-weight
 returns-clause-weight c =
     let key = rw c.as_slice.ensures.keys at c.index-as_slice-gone.is in
-    let ks = drop c.args.gone.now c.args.keys.now.keys in
+    let ks = drop c.args.gone.now c.args.keys.now in
     let vs = drop c.args.gone.now c.args.values.now.items in
     let left = ap (λ (xs : List Key). pairs_weight (pairs_in xs
     (drop c.clear_many.new.gone c.clear_many.new.values.items)))
@@ -61,6 +61,6 @@ returns-clause-weight c =
       c.weight.ensures,
       c.weight-2.ensures,
       left,
-      parts c.args.gone.now c.args.keys.now.keys c.args.values.now.items c.args.at c.index-as_slice-gone.result
+      parts c.args.gone.now c.args.keys.now c.args.values.now.items c.args.at c.index-as_slice-gone.result
           c.index-value.result.now c.requires.within c.requires.same_length key c.index-value.ensures,
     )

@@ -92,7 +92,7 @@ invariant_of-self c =
     let weighs = weight-swapped-first c.args.key.now (keys_left c.self.inside)
     (map data_of (values_left c.self.inside)) c.in_ok-at.at
     (data_of c.replace-old.result) d c.in_ok-at.ensures.place row in
-    let pairs = exchanged c.self.inside.gone c.self.inside.keys.keys c.self.inside.values.items c.in_ok-at.at
+    let pairs = exchanged c.self.inside.gone c.self.inside.keys c.self.inside.values.items c.in_ok-at.at
     c.args.key.now c.args.value
     c.replace-old.new.dest
     c.in_ok-at.ensures.place c.self.invariant.same_length c.replace-old.ensures.after in
@@ -102,7 +102,7 @@ invariant_of-self c =
     (arith, seen, allowed) in
     let same : table_exchange (table_of c.self.inside) c.args.key.now d
     ≡ record {
-      pairs = left_in c.self.inside.gone c.self.inside.keys.keys
+      pairs = left_in c.self.inside.gone c.self.inside.keys
           (set c.self.inside.values.items (c.self.inside.gone + c.in_ok-at.at) c.replace-old.new.dest);
       largest = c.self.inside.largest;
     } =
@@ -143,12 +143,12 @@ returns-clause-value c =
 pub returns-clause-exchanged : goal.returns-clause-exchanged
 returns-clause-exchanged c =
     let d = data_of c.args.value in
-    let pairs = exchanged c.self.inside.gone c.self.inside.keys.keys c.self.inside.values.items c.in_ok-at.at
+    let pairs = exchanged c.self.inside.gone c.self.inside.keys c.self.inside.values.items c.in_ok-at.at
     c.args.key.now c.args.value
     c.replace-old.new.dest
     c.in_ok-at.ensures.place c.self.invariant.same_length c.replace-old.ensures.after in
     let same : record {
-      pairs = left_in c.self.inside.gone c.self.inside.keys.keys
+      pairs = left_in c.self.inside.gone c.self.inside.keys
           (set c.self.inside.values.items (c.self.inside.gone + c.in_ok-at.at) c.replace-old.new.dest);
       largest = c.self.inside.largest;
     }

@@ -32,7 +32,7 @@ returns-in_default-clause-removed c =
 -- the rows that are left are the pairs without the key
 closed_up : (c : goal.After-self-1)
     → take_away (pairs_in (keys_left c.self.inside) (values_left c.self.inside)) c.args.key.now ≡ left_in
-    c.take_out-weight.new.gone c.take_out-weight.new.keys.keys c.take_out-weight.new.values.items
+    c.take_out-weight.new.gone c.take_out-weight.new.keys c.take_out-weight.new.values.items
 closed_up c =
     take_away-first c.args.key.now (keys_left c.self.inside) (map data_of (values_left c.self.inside)) c.in-Some.at
     c.in-Some.ensures.place (same_left c.self.inside c.self.invariant)
@@ -46,7 +46,7 @@ closed_up c =
 pub invariant_of-self : goal.invariant_of-self
 invariant_of-self c =
     let same : table_remove (table_of c.self.inside) c.args.key.now ≡ record {
-      pairs = left_in c.take_out-weight.new.gone c.take_out-weight.new.keys.keys c.take_out-weight.new.values.items;
+      pairs = left_in c.take_out-weight.new.gone c.take_out-weight.new.keys c.take_out-weight.new.values.items;
       largest =
           c.self.inside.largest;
     } =
@@ -66,7 +66,7 @@ returns-clause-found c =
     omega (
       arith,
       same_left c.self.inside c.self.invariant,
-      length-drop c.self.inside.gone c.self.inside.keys.keys,
+      length-drop c.self.inside.gone c.self.inside.keys,
       c.in-Some.ensures.within,
     )
     in
@@ -79,7 +79,7 @@ returns-clause-found c =
 pub returns-clause-removed : goal.returns-clause-removed
 returns-clause-removed c =
     let same : record {
-      pairs = left_in c.take_out-weight.new.gone c.take_out-weight.new.keys.keys c.take_out-weight.new.values.items;
+      pairs = left_in c.take_out-weight.new.gone c.take_out-weight.new.keys c.take_out-weight.new.values.items;
       largest =
           c.self.inside.largest;
     } ≡ table_remove (table_of c.self.inside) c.args.key.now =

@@ -9,7 +9,7 @@ use Rattle.dp_value.proofs.TableLemmas.{IsTable-set}
 use Rattle.dp_value.proofs.value.Columns.set.Goals as goal
 
 -- the pairs that are left stay
-kept : (c : goal.After-self-1) → left_in c.forget.new.gone c.forget.new.keys.keys c.forget.new.values.items
+kept : (c : goal.After-self-1) → left_in c.forget.new.gone c.forget.new.keys c.forget.new.values.items
     ≡ (table_of c.self.inside).pairs
 kept c =
     ap (λ (ks : List Key). pairs_in ks (drop c.forget.new.gone c.forget.new.values.items)) c.forget.ensures.keys
@@ -26,7 +26,7 @@ invariant_of-self-2 c =
     (arith, seen, weighs) in
     let stored = c.in_ok-store.ensures.ok ∙ ap (λ (ps : List (Key × Data)). put ps c.args.key d) (kept c) in
     let same : table_set (table_of c.self.inside) c.args.key d ≡ record {
-      pairs = left_in c.forget.new.gone c.store.new.keys.keys c.store.new.values.items;
+      pairs = left_in c.forget.new.gone c.store.new.keys c.store.new.values.items;
       largest = c.raised-largest.result;
     } =
     λ i. record { pairs = sym stored i; largest = sym c.raised-largest.ensures i } in

@@ -1,4 +1,4 @@
-use Rattle.std.proofs.Common.{◌+◌, ◌<◌, length, map, ap, arith, ◌∙◌}
+use Rattle.std.proofs.Common.{◌+◌, ◌<◌, length, map, ap, arith}
 use Rattle.dp_value.specs.Data.{Table, pairs_weight}
 use Rattle.dp_value.specs.Table.{put}
 use Rattle.dp_value.specs.Value.{data_of}
