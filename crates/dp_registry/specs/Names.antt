@@ -1,9 +1,6 @@
 -- Keys of IDEs and names of machines.
 use Rattle.std.specs.Prelude.{ℕ, ◌≤◌, List, length, All}
-
--- printable ASCII and no blank
-abbrev pub IsGraphic : ℕ → Type 0
-IsGraphic byte = (0x21 ≤ byte) × (byte ≤ 0x7e)
+pub use Rattle.dp_outside.specs.Hosts.{IsGraphic}
 
 -- 1 to so many bytes, each printable ASCII and no blank
 pub record IsName (most : ℕ) (bytes : List ℕ) : Type 0 where
