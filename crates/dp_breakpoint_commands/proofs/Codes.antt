@@ -1,5 +1,5 @@
 -- Every code of a refusal has a message.
-use Rattle.std.proofs.Common.{◌≡◌, ℕ, ◌<◌, Bool, true, false, cond, List, [], ◌∷◌, ◌++◌, Option, Some, None, slice_get, refl, subst, arith}
+use Rattle.std.proofs.Common.{◌≡◌, ℕ, Bool, true, false, cond, List, [], ◌∷◌, ◌++◌, Option, Some, None, slice_get, refl, subst}
 use Rattle.std.specs.Prelude.{option_map}
 use Rattle.std.specs.List.{AllByRecursion, find}
 use Rattle.std.specs.Option.{option_map_or, option_or}
@@ -13,24 +13,21 @@ use Rattle.dp_command.specs.declared.command.BreakpointUpdate.{BreakpointUpdate}
 use Rattle.dp_command.specs.declared.command.Request.{Request}
 use Rattle.dp_command.specs.declared.command.Request.TheVariants as request
 use Rattle.dp_command.specs.Tests.{Test, first_code}
-use Rattle.dp_packet.specs.Messages.{is_some_text, message_of}
+use Rattle.dp_packet.specs.Messages.{IsKnownCode}
 use Rattle.dp_tree.specs.declared.bundle.Bundle.{Bundle}
 use Rattle.dp_breakpoint_commands.specs.Commands.{breakpoint_refusal, change_refused}
 use Rattle.dp_breakpoint_commands.specs.Updates.{change_tests}
 use Rattle.dp_breakpoint_commands.specs.Requests as setting
 
-abbrev pub IsKnown : ℕ → Type 0
-IsKnown code = (is_some_text (message_of code) ≡ true) × (code < 1000)
-
 -- a code, if there is one, has a message
 abbrev pub AreKnown : Option ℕ → Type 0
-AreKnown refusal = (code : ℕ) → refusal ≡ Some code → IsKnown code
+AreKnown refusal = (code : ℕ) → refusal ≡ Some code → IsKnownCode code
 
 known_none : AreKnown None
 known_none code e = absurd cc
 
-known_some : (known : ℕ) → IsKnown known → AreKnown (Some known)
-known_some known h code e = let same : known ≡ code = cc in subst IsKnown same h
+known_some : (known : ℕ) → IsKnownCode known → AreKnown (Some known)
+known_some known h code e = let same : known ≡ code = cc in subst IsKnownCode same h
 
 known_cond : (b : Bool) (x y : Option ℕ) → AreKnown x → AreKnown y → AreKnown (cond b x y)
 known_cond true x y p q = p
@@ -45,19 +42,16 @@ known_map : {A : Type 0} (f : A → Option ℕ) (o : Option A) (otherwise : Opti
 known_map f None otherwise p q = q
 known_map f (Some a) otherwise p q = p a
 
-known_if : (b : Bool) (known : ℕ) → IsKnown known → AreKnown (code_if b known)
+known_if : (b : Bool) (known : ℕ) → IsKnownCode known → AreKnown (code_if b known)
 known_if b known h = known_cond b (Some known) None (known_some known h) known_none
 
-known_first : (tests : List Test) → AllByRecursion (λ test. IsKnown test.1) tests → AreKnown (first_code tests)
+known_first : (tests : List Test) → AllByRecursion (λ test. IsKnownCode test.1) tests → AreKnown (first_code tests)
 known_first [] h = known_none
 known_first (test ∷ tests) h = cases test.0 (known_first tests h.1) where
   cases : (b : Bool) → AreKnown (first_code tests)
       → AreKnown (option_map (λ (t : Test). t.1) (cond b (Some test) (find (λ (t : Test). t.0) tests)))
   cases true later = known_some test.1 h.0
   cases false later = later
-
-known : (code : ℕ) → is_some_text (message_of code) ≡ true → code < 1000 → IsKnown code
-known code p q = (p, q)
 
 -- ---- lines, words, and what is held
 
@@ -66,28 +60,28 @@ known_line bundle None line = known_none
 known_line bundle (Some file) None = known_none
 known_line bundle (Some file) (Some line) =
     known_map (λ f. line_refusal f.tree line) (slice_get bundle.files file) (Some 202)
-    (λ f. known_cond _ (Some 202) _ (known_some 202 (known 202 refl (omega arith)))
-    (known_cond _ None (Some 203) known_none (known_some 203 (known 203 refl (omega arith)))))
-    (known_some 202 (known 202 refl (omega arith)))
+    (λ f. known_cond _ (Some 202) _ (known_some 202 refl)
+    (known_cond _ None (Some 203) known_none (known_some 203 refl)))
+    (known_some 202 refl)
 
 known_request : (bundle : Bundle) (t : Table) (r : BreakRequest) → AreKnown (request_refusal bundle t r)
 known_request bundle t r =
-    known_or (place_refusal bundle t r) _ (known_cond _ (Some 200) _ (known_some 200 (known 200 refl (omega arith)))
+    known_or (place_refusal bundle t r) _ (known_cond _ (Some 200) _ (known_some 200 refl)
     (known_line bundle (Some r.file) r.line))
-    (known_if _ 207 (known 207 refl (omega arith)))
+    (known_if _ 207 refl)
 
 known_words : (bundle : Bundle) (set : BreakpointSet) → AreKnown (setting.refusal bundle set)
 unfolding setting.refusal setting.word_tests
 known_words bundle set =
     known_first (setting.word_tests set ++ setting.file_tests bundle set.file) (
-      known 201 refl (omega arith),
+      refl,
       (
-        known 3 refl (omega arith),
+        refl,
         (
-          known 3 refl (omega arith),
+          refl,
           (
-            known 3 refl (omega arith),
-            (known 204 refl (omega arith), (known 200 refl (omega arith), tt)),
+            refl,
+            (refl, (refl, tt)),
           ),
         ),
       ),
@@ -98,23 +92,23 @@ known_change : (bundle : Bundle) (update : BreakpointUpdate) (b : Breakpoint)
 known_change bundle update b =
     known_or (first_code (change_tests b.kind update)) _
     (known_first (change_tests b.kind update) (
-      known 3 refl (omega arith),
-      (known 3 refl (omega arith), (known 204 refl (omega arith), tt)),
+      refl,
+      (refl, (refl, tt)),
     ))
-    (known_cond _ (Some 3) _ (known_some 3 (known 3 refl (omega arith))) (known_line bundle b.file update.line))
+    (known_cond _ (Some 3) _ (known_some 3 refl) (known_line bundle b.file update.line))
 
 missing : AreKnown (Some 205)
-missing = known_some 205 (known 205 refl (omega arith))
+missing = known_some 205 refl
 
 unimplemented : AreKnown (Some 4)
-unimplemented = known_some 4 (known 4 refl (omega arith))
+unimplemented = known_some 4 refl
 
 pub refusal_known : (bundle : Bundle) (here : ℕ) (t : Table) (r : Request)
     → AreKnown (breakpoint_refusal bundle here t r)
 refusal_known bundle here t (request.BreakpointSet set) =
     known_or (setting.refusal bundle set) _ (known_words bundle set)
     (known_request bundle t (setting.request bundle here set))
-refusal_known bundle here t (request.Breakpoint action id) = known_if _ 205 (known 205 refl (omega arith))
+refusal_known bundle here t (request.Breakpoint action id) = known_if _ 205 refl
 refusal_known bundle here t (request.BreakpointUpdate update) =
     known_map (change_refused bundle update) (held_as t.held update.id) (Some 205) (known_change bundle update) missing
 refusal_known bundle here t request.BreakpointList = known_none

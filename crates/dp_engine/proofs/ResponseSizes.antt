@@ -1,5 +1,5 @@
 -- Every response of a session fits a packet, where its line is short enough.
-use Rattle.std.proofs.Common.{◌≡◌, ℕ, ◌*◌, ◌≤◌, ◌<◌, Bool, true, false, cond, List, [], ◌∷◌, codes, length, Option, Some, None, refl, sym, ap, subst, ◌∙◌, arith, eqb}
+use Rattle.std.proofs.Common.{◌≡◌, ℕ, ◌*◌, ◌≤◌, Bool, true, false, cond, List, [], ◌∷◌, codes, length, Option, Some, None, refl, sym, ap, subst, ◌∙◌, arith, eqb}
 use Rattle.std.specs.Prelude.{All, map, option_map, slice_get, unwrap_or, Result, Ok, Err, IfOk, IfSome}
 use Rattle.std.specs.List.{AllByRecursion, find}
 use Rattle.std.specs.Option.{option_map_or}
@@ -19,13 +19,14 @@ use Rattle.dp_command.specs.Letters as letter
 use Rattle.dp_command.specs.Names.{name_of}
 use Rattle.dp_command.specs.Options.{Options, given, text_given}
 use Rattle.dp_command.specs.Refusals.{id_of}
-use Rattle.dp_packet.specs.Messages.{is_some_text, message_of}
+use Rattle.dp_packet.specs.Messages.{IsKnownCode, message_of}
 use Rattle.dp_packet.specs.declared.packet.Body.{Body}
 use Rattle.dp_packet.specs.declared.packet.Response.{Response}
 use Rattle.dp_packet.specs.declared.packet.Packet.{Packet}
 use Rattle.dp_packet.specs.declared.packet.Packet.TheVariants as packet
 use Rattle.dp_packet.specs.Packets.{element_of}
 use Rattle.dp_packet.specs.Parts.{Attributes, Text}
+use Rattle.dp_packet.proofs.CodeLaws.{known-below}
 use Rattle.dp_packet.proofs.LengthLaws.{bare_response_short, fault_short, init_short, packet_short, packet_some, text_short, uri_short, written_short}
 use Rattle.dp_packet.specs.Uris.{file_uri}
 use Rattle.dp_wire.specs.Frames.{IsPacketText, command_limit}
@@ -43,7 +44,7 @@ use Rattle.dp_breakpoint_commands.proofs.Codes.{refusal_known}
 use Rattle.dp_view_commands.proofs.Sent.{code as shows_code}
 use Rattle.dp_write_commands.specs.Responses.{code_in as code_written, write_refusal}
 use Rattle.dp_engine.proofs.WriteAnswers.{known_code}
-use Rattle.dp_engine.specs.inner.Sizes.{Fits, IsCode, IsShort, IsShortRequest}
+use Rattle.dp_engine.specs.inner.Sizes.{Fits, IsShort, IsShortRequest}
 
 -- ---- messages
 
@@ -120,11 +121,12 @@ module _ (command id : Text) (short_name : length command ≤ 64) (short_id : le
       → Fits (feature_response command id feature supported value)
   feature_fits_if feature supported value p q r = feature_fits feature supported value p q (value_short value r)
 
-  pub fault_fits : (code : ℕ) → IsCode code → Fits (fault_response command id code)
+  pub fault_fits : (code : ℕ) → IsKnownCode code → Fits (fault_response command id code)
   unfolding response_text
   fault_fits code known =
-      let digits = length-decimal-le 3 code (omega arith) (omega (arith, known.1)) (omega (arith, known.1)) in
-      record { known = known.0; short = omega (arith, fault_short command id [] code, digits, message_short code) }
+      let below = known-below code known in
+      let digits = length-decimal-le 3 code (omega arith) (omega (arith, below)) (omega (arith, below)) in
+      record { known = known; short = omega (arith, fault_short command id [] code, digits, message_short code) }
 
 -- a response that was made fits where the one that was asked for does
 pub made_fits : {E : Type 0} (command id : Text) (attributes asked : Attributes) (what : Body)
@@ -138,24 +140,21 @@ made_fits command id attributes asked what (Err e) is same fits = tt
 -- ---- codes
 
 abbrev HaveCodes : List Test → Type 0
-HaveCodes all = AllByRecursion (λ (test : Test). IsCode test.1) all
+HaveCodes all = AllByRecursion (λ (test : Test). IsKnownCode test.1) all
 
-first_is_code : (all : List Test) (code : ℕ) → HaveCodes all → first_code all ≡ Some code → IsCode code
+first_is_code : (all : List Test) (code : ℕ) → HaveCodes all → first_code all ≡ Some code → IsKnownCode code
 first_is_code [] code h e = absurd cc
 first_is_code (test ∷ all) code h e = cases test.0 e (first_is_code all code h.1) where
   cases : (b : Bool) → option_map (λ (t : Test). t.1) (cond b (Some test) (find (λ (t : Test). t.0) all)) ≡ Some code
-      → (first_code all ≡ Some code → IsCode code) → IsCode code
-  cases true e later = let same : test.1 ≡ code = cc in subst IsCode same h.0
+      → (first_code all ≡ Some code → IsKnownCode code) → IsKnownCode code
+  cases true e later = let same : test.1 ≡ code = cc in subst IsKnownCode same h.0
   cases false e later = later e
 
-is_code : (code : ℕ) → is_some_text (message_of code) ≡ true → code < 1000 → IsCode code
-is_code code p q = (p, q)
-
 session_codes : (r : Request) → HaveCodes (session_tests r)
-session_codes (FeatureSet name value) = (is_code 900 refl (omega arith), (is_code 3 refl (omega arith), tt))
+session_codes (FeatureSet name value) = (refl, (refl, tt))
 session_codes r = tt
 
-for_codes : (found : Option ℕ) → ((code : ℕ) → found ≡ Some code → IsCode code) → HaveCodes (tests_for found)
+for_codes : (found : Option ℕ) → ((code : ℕ) → found ≡ Some code → IsKnownCode code) → HaveCodes (tests_for found)
 for_codes None h = tt
 for_codes (Some code) h = (h code refl, tt)
 
@@ -164,7 +163,7 @@ refused_view (Ok r) code e = absurd cc
 refused_view (Err k) code e = let same : k ≡ code = cc in ap (λ (c : ℕ). Err c) same
 
 view_codes : (bundle : Bundle) (file : ℕ) (features : Features) (program : ProgramState) (command id : Text)
-    (r : Request) (code : ℕ) → view_refusal bundle file features program command id r ≡ Some code → IsCode code
+    (r : Request) (code : ℕ) → view_refusal bundle file features program command id r ≡ Some code → IsKnownCode code
 unfolding view_refusal
 view_codes bundle file features program command id r code e =
     shows_code bundle file features program command id r code (refused_view _ code e)
@@ -174,7 +173,7 @@ refused_write (Ok r) code e = absurd cc
 refused_write (Err k) code e = let same : k ≡ code = cc in ap (λ (c : ℕ). Err c) same
 
 write_codes : (bundle : Bundle) (features : Features) (program : ProgramState) (command id : Text) (r : Request)
-    (code : ℕ) → write_refusal bundle features program command id r ≡ Some code → IsCode code
+    (code : ℕ) → write_refusal bundle features program command id r ≡ Some code → IsKnownCode code
 unfolding write_refusal
 write_codes bundle features program command id r code e =
     known_code bundle features program command id r code (refused_write _ code e)
@@ -197,20 +196,20 @@ row_codes : (state : State) (line : Line) (name : Option CommandName)
     → HaveCodes (option_map_or (row_tests state line) name [])
 row_codes state line None = tt
 row_codes state line (Some name) =
-    (is_code 3 refl (omega arith), own_codes state line.name (id_of line) (request_of name line))
+    (refl, own_codes state line.name (id_of line) (request_of name line))
 
 pub refusal_is_code : (state : State) (line : Option Line) (code : ℕ) → refusal_of_line state line ≡ Some code
-    → IsCode code
-refusal_is_code state None code e = let same : 1 ≡ code = cc in subst IsCode same (is_code 1 refl (omega arith))
+    → IsKnownCode code
+refusal_is_code state None code e = let same : 1 ≡ code = cc in subst IsKnownCode same refl
 refusal_is_code state (Some line) code e =
     first_is_code (tests state line) code (
-      is_code 2 refl (omega arith),
+      refl,
       (
-        is_code 4 refl (omega arith),
+        refl,
         (
-          is_code 3 refl (omega arith),
+          refl,
           (
-            is_code 5 refl (omega arith),
+            refl,
             row_codes state line (name_of line.name),
           ),
         ),

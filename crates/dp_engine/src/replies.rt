@@ -2,12 +2,13 @@
 ghost use Rattle.std.specs.Prelude.{◌≡◌, ◌≤◌, codes, length, is_some, IfOk, None, Some};
 ghost use Rattle.dp_command.specs.Names.{name_of};
 ghost use Rattle.dp_features.specs.Features.{feature_named};
+ghost use Rattle.dp_packet.specs.Messages.{IsKnownCode};
 ghost use Rattle.dp_packet.specs.Parts.{flag};
 ghost use Rattle.dp_wire.specs.Frames.{command_limit};
 ghost use Rattle.dp_engine.specs.Answers as spec;
 ghost use Rattle.dp_engine.specs.Responses.{fault_response, status_response};
 ghost use Rattle.dp_engine.specs.States.{phase_name, reason_name};
-ghost use Rattle.dp_engine.specs.inner.Sizes.{Fits, IsCode};
+ghost use Rattle.dp_engine.specs.inner.Sizes.{Fits};
 ghost use Rattle.dp_engine.specs.inner.Position.{phase_of, reason_at};
 ghost use Rattle.dp_engine.specs.inner.Turns.{Responds};
 
@@ -47,7 +48,7 @@ pub(crate) fn tell(alloc: Global, response: Response) -> Result<Turn, Memory>
 
 /// An error with this code.
 pub(crate) fn refuse(alloc: Global, to: &Addressee, code: u16) -> Result<Turn, Memory>
-    requires { IsCode code }
+    requires { IsKnownCode code }
     ensures { IfOk result (Responds (fault_response to.now.command to.now.id code) None) }
 {
     let response = responses::fault(alloc, to, code)?;

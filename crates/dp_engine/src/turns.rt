@@ -1,10 +1,11 @@
 //! What commands lead to.
 ghost use Rattle.std.specs.Prelude.{◌≡◌, ◌≢◌, ◌+◌, ◌≤◌, length, IfOk, None, Some};
+ghost use Rattle.dp_packet.specs.Messages.{IsKnownCode};
 ghost use Rattle.dp_wire.specs.Frames.{command_limit};
 ghost use Rattle.dp_engine.specs.Refusals.{refusal_of_line};
 ghost use Rattle.dp_engine.specs.Session.{moments_so_far, steps_between};
 ghost use Rattle.dp_engine.specs.Sides.{side_of};
-ghost use Rattle.dp_engine.specs.inner.Sizes.{IsCode, IsShort, IsShortLine, IsShortRequest};
+ghost use Rattle.dp_engine.specs.inner.Sizes.{IsShort, IsShortLine, IsShortRequest};
 
 use crate::refusals::{feature_refusal, read_command};
 use crate::replies::{Turn, detach, refuse, stop, tell, tell_feature, tell_status};
@@ -191,7 +192,7 @@ impl<'a> Session<'a> {
 
     /// An error changes nothing.
     fn refuse(&self, alloc: Global, to: &Addressee, code: u16) -> Result<Turn, Memory>
-        requires { IsCode code }
+        requires { IsKnownCode code }
         ensures { IfOk result (Responds (fault_response to.now.command to.now.id code) None) }
     {
         refuse(alloc, to, code)

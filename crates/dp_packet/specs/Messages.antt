@@ -1,5 +1,5 @@
 -- The messages of errors (the codes of DBGp 1.0, "Errors"; the words are our own).
-use Rattle.std.specs.Prelude.{ℕ, Bool, true, false, ◌==◌, if◌then◌else◌, [], ◌∷◌, codes}
+use Rattle.std.specs.Prelude.{◌≡◌, ℕ, Bool, true, false, ◌==◌, if◌then◌else◌, [], ◌∷◌, codes}
 use Rattle.dp_packet.specs.Parts.{Text}
 
 -- the message of a code; empty where the code has none
@@ -38,3 +38,7 @@ reason_of id =
 abbrev pub is_some_text : Text → Bool
 is_some_text [] = false
 is_some_text (b ∷ bytes) = true
+
+-- the code has a message
+abbrev pub IsKnownCode : ℕ → Type 0
+IsKnownCode code = is_some_text (message_of code) ≡ true

@@ -315,7 +315,7 @@ module _ (command id : Text) (p : length command ≤ 64) (q : length id ≤ 64) 
   session_good (request.Redirect Stdout mode) few =
       record { fits = success_fits command id p q true; next = record { small = h.small } }
   session_good (request.Redirect Stderr mode) few = record { fits = success_fits command id p q false; next = h }
-  session_good r few = record { fits = fault_fits command id p q 4 (refl, omega arith); next = h }
+  session_good r few = record { fits = fault_fits command id p q 4 refl; next = h }
 
   -- a response to a breakpoint command
   breakpoint_known : (r : Request)
@@ -381,8 +381,7 @@ module _ (state : State) (h : IsUsual state) where
       → IsGood (turn_by_command line.name (id_of line) (option_map (command_as line) name) state)
   asked_good line few None e short =
       record {
-        fits = fault_fits line.name (id_of line) few.name (line_id_short (Some line)) 4
-            (refl, omega arith);
+        fits = fault_fits line.name (id_of line) few.name (line_id_short (Some line)) 4 refl;
         next = h;
       }
   asked_good line few (Some name) e short =

@@ -1,8 +1,8 @@
 -- What a view answers: what a state shows, or the code of the error response. DBGp 1.0, "Error
 -- Codes": 300 is that there is no such property, 301 that there is no such level of the stack, 302
 -- that there is no such context.
-use Rattle.std.specs.Prelude.{◌≡◌, ℕ, ◌<◌, true, Option, Some, None, Result, Ok, Err, IsOk, ⊤}
-use Rattle.dp_packet.specs.Messages.{is_some_text, message_of}
+use Rattle.std.specs.Prelude.{◌≡◌, ℕ, Option, Some, None, Result, Ok, Err, IsOk, ⊤}
+use Rattle.dp_packet.specs.Messages.{IsKnownCode}
 use Rattle.dp_view.specs.declared.errors.ViewError.{ViewError}
 use Rattle.dp_view.specs.declared.errors.ViewError.TheVariants.{Code, Memory}
 
@@ -45,7 +45,7 @@ AnswersAfter view (Err Memory) first asked = IsOk first
 
 -- The code of a refusal has a message.
 abbrev pub HasKnownCode : {X : Type 0} → Result X ViewError → Type 0
-HasKnownCode (Err (Code code)) = (is_some_text (message_of code) ≡ true) × (code < 1000)
+HasKnownCode (Err (Code code)) = IsKnownCode code
 HasKnownCode other = ⊤
 
 -- A call answers this, or memory runs out.

@@ -1,5 +1,5 @@
 -- Of each view: its response is sent as a packet and tells no error, or its code has a message.
-use Rattle.std.proofs.Common.{◌≡◌, ◌≢◌, ℕ, ◌<◌, Bool, true, false, cond, Option, Some, None, nat_lt, length, refl, subst, arith}
+use Rattle.std.proofs.Common.{◌≡◌, ◌≢◌, ℕ, Bool, true, false, cond, Option, Some, None, nat_lt, length, refl, subst}
 use Rattle.std.specs.Prelude.{◌||◌, ok_or, option_map, Result, Ok, Err, IfOk}
 use Rattle.std.proofs.lemmas.Bool.{leb-true}
 use Rattle.dp_command.specs.declared.command.Request.{Request}
@@ -10,7 +10,7 @@ use Rattle.dp_packet.specs.declared.packet.Body.{Body}
 use Rattle.dp_packet.specs.declared.packet.Body.TheVariants as body
 use Rattle.dp_packet.specs.declared.packet.Packet.TheVariants as packet
 use Rattle.dp_packet.specs.declared.packet.Response.{Response}
-use Rattle.dp_packet.specs.Messages.{is_some_text, message_of}
+use Rattle.dp_packet.specs.Messages.{IsKnownCode}
 use Rattle.dp_packet.specs.Packets.{has_words}
 use Rattle.dp_packet.specs.Parts.{Text}
 use Rattle.dp_packet.specs.Text.{text}
@@ -31,12 +31,9 @@ use Rattle.dp_view_commands.specs.Views.{Part, is_short, is_zero, lines_part, pa
 
 -- ---- a value of which something holds, or a code that has a message
 
-abbrev IsKnown : ℕ → Type 0
-IsKnown code = (is_some_text (message_of code) ≡ true) × (code < 1000)
-
 abbrev IsKnownOr : {A : Type 0} → (A → Type 0) → Result A ℕ → Type 0
 IsKnownOr P (Ok a) = P a
-IsKnownOr P (Err code) = IsKnown code
+IsKnownOr P (Err code) = IsKnownCode code
 
 abbrev Any : {A : Type 0} → A → Type 0
 Any a = Unit {0}
@@ -46,7 +43,7 @@ then_known : {A B : Type 0} (Q : B → Type 0) (f : A → Result B ℕ) (r : Res
 then_known Q f (Ok a) p q = q a
 then_known Q f (Err code) p q = p
 
-or_known : {A : Type 0} (o : Option A) (code : ℕ) → IsKnown code → IsKnownOr Any (ok_or o code)
+or_known : {A : Type 0} (o : Option A) (code : ℕ) → IsKnownCode code → IsKnownOr Any (ok_or o code)
 or_known None code k = k
 or_known (Some a) code k = tt
 
@@ -60,21 +57,21 @@ if_known P false x y p q = q
 variables_known : (s : State) (level id : ℕ) → IsKnownOr Any (shown_variables s level id)
 variables_known s level id =
     if_known Any (nat_lt level (length s.frames)) (ok_or (variables_of s level id) 302) (Err 301)
-    (or_known (variables_of s level id) 302 (refl, omega arith)) (refl, omega arith)
+    (or_known (variables_of s level id) 302 refl) refl
 
 value_known : (s : State) (level id : ℕ) (path : Path) → IsKnownOr Any (value_at s level id path)
 value_known s level id path =
     then_known Any _ (shown_variables s level id) (variables_known s level id)
-    (λ variables. or_known (value_among s.globals path variables) 300 (refl, omega arith))
+    (λ variables. or_known (value_among s.globals path variables) 300 refl)
 
 path_known : (s : State) (level id : ℕ) (name : Text) → IsKnownOr Any (named_path s level id name)
 path_known s level id name =
     then_known Any _ (shown_variables s level id) (variables_known s level id)
-    (λ variables. or_known (path_at name) 300 (refl, omega arith))
+    (λ variables. or_known (path_at name) 300 refl)
 
 stack_known : (bundle : Bundle) (s : State) (level : Option ℕ) → IsKnownOr Any (stack_at bundle s level)
 stack_known bundle s None = tt
-stack_known bundle s (Some level) = or_known _ 301 (refl, omega arith)
+stack_known bundle s (Some level) = or_known _ 301 refl
 
 abbrev IsPlain : Body → Type 0
 IsPlain (body.Fault code) = ⊥
@@ -84,7 +81,7 @@ abbrev IsPlainPart : Part → Type 0
 IsPlainPart part = IsPlain part.1
 
 lines_known : (range : SourceRange) (t : Option Text) → IsKnownOr IsPlainPart (lines_part range t)
-lines_known range None = (refl, omega arith)
+lines_known range None = refl
 lines_known range (Some t) = tt
 
 part_known : (bundle : Bundle) (here : ℕ) (features : Features) (s : State) (asked : Request)
@@ -112,20 +109,20 @@ part_known bundle here features s (request.PropertyValue place most) =
     (λ shown. tt)
 part_known bundle here features s (request.Source range) =
     if_known IsPlainPart (is_zero range.first || is_zero range.last) (Err 3)
-    (lines_part range (option_map (λ f. f.text) (source_file bundle here range.file))) (refl, omega arith)
+    (lines_part range (option_map (λ f. f.text) (source_file bundle here range.file))) refl
     (lines_known range (option_map (λ f. f.text) (source_file bundle here range.file)))
-part_known bundle here features s request.Status = (refl, omega arith)
-part_known bundle here features s (request.FeatureGet name) = (refl, omega arith)
-part_known bundle here features s (request.FeatureSet name value) = (refl, omega arith)
-part_known bundle here features s (request.Continue mode) = (refl, omega arith)
-part_known bundle here features s (request.Finish finish) = (refl, omega arith)
-part_known bundle here features s (request.BreakpointSet set) = (refl, omega arith)
-part_known bundle here features s (request.Breakpoint action id) = (refl, omega arith)
-part_known bundle here features s (request.BreakpointUpdate update) = (refl, omega arith)
-part_known bundle here features s request.BreakpointList = (refl, omega arith)
-part_known bundle here features s (request.PropertySet set) = (refl, omega arith)
-part_known bundle here features s (request.Redirect stream mode) = (refl, omega arith)
-part_known bundle here features s (request.Eval expression) = (refl, omega arith)
+part_known bundle here features s request.Status = refl
+part_known bundle here features s (request.FeatureGet name) = refl
+part_known bundle here features s (request.FeatureSet name value) = refl
+part_known bundle here features s (request.Continue mode) = refl
+part_known bundle here features s (request.Finish finish) = refl
+part_known bundle here features s (request.BreakpointSet set) = refl
+part_known bundle here features s (request.Breakpoint action id) = refl
+part_known bundle here features s (request.BreakpointUpdate update) = refl
+part_known bundle here features s request.BreakpointList = refl
+part_known bundle here features s (request.PropertySet set) = refl
+part_known bundle here features s (request.Redirect stream mode) = refl
+part_known bundle here features s (request.Eval expression) = refl
 
 -- ---- responses
 
@@ -151,7 +148,7 @@ limit_known r plain = by (is_short r) refl where
         no_error
             = no_fault r.body plain;
       }
-  by false t = (refl, omega arith)
+  by false t = refl
 
 answered_known : (command id : Text) (part : Result Part ℕ) → IsKnownOr IsPlainPart part
     → IsKnownOr IsSent (and_then (λ p. within_limit (response_with command id p)) part)
@@ -168,8 +165,7 @@ module _ (bundle : Bundle) (here : ℕ) (features : Features) (s : State) (comma
   pub sent : (r : Response) → view_response bundle here features s command id asked ≡ Ok r → IsSent r
   sent r e = subst (IsKnownOr IsSent) e (response_known bundle here features s command id asked)
 
-  pub code : (k : ℕ) → view_response bundle here features s command id asked ≡ Err k
-      → (is_some_text (message_of k) ≡ true) × (k < 1000)
+  pub code : (k : ℕ) → view_response bundle here features s command id asked ≡ Err k → IsKnownCode k
   code k e = subst (IsKnownOr IsSent) e (response_known bundle here features s command id asked)
 
   -- what a call answers

@@ -1,5 +1,5 @@
 -- A response is sent as a packet and tells no error, and the code of a refusal has a message.
-use Rattle.std.proofs.Common.{◌≡◌, ℕ, ◌<◌, ◌≤◌, Bool, true, false, cond, [], ◌∷◌, codes, Option, Some, None, nat_lt, nat_le, length, refl, subst, arith}
+use Rattle.std.proofs.Common.{◌≡◌, ℕ, ◌≤◌, Bool, true, false, cond, [], ◌∷◌, codes, Option, Some, None, nat_lt, nat_le, length, refl, subst, arith}
 use Rattle.std.specs.Prelude.{ok_or, option_map, Result, Ok, Err, IfOk}
 use Rattle.std.proofs.lemmas.Bool.{leb-true}
 use Rattle.dp_command.specs.declared.command.PropertyPlace.{PropertyPlace}
@@ -12,7 +12,7 @@ use Rattle.dp_meaning.specs.Writes.{answer_in, evaluation_setting}
 use Rattle.dp_packet.specs.declared.packet.Body.TheVariants as body
 use Rattle.dp_packet.specs.declared.packet.Packet.TheVariants as packet
 use Rattle.dp_packet.specs.declared.packet.Response.{Response}
-use Rattle.dp_packet.specs.Messages.{is_some_text, message_of}
+use Rattle.dp_packet.specs.Messages.{IsKnownCode}
 use Rattle.dp_packet.specs.Parts.{Text}
 use Rattle.dp_packet.specs.Text.{text}
 use Rattle.dp_packet.proofs.LengthLaws.{bare_response_short}
@@ -34,12 +34,9 @@ use Rattle.dp_write_commands.specs.Responses.{responding, response_to, success, 
 
 -- ---- a value of which something holds, or a code that has a message
 
-abbrev IsKnown : ℕ → Type 0
-IsKnown code = (is_some_text (message_of code) ≡ true) × (code < 1000)
-
 abbrev IsKnownOr : {A : Type 0} → (A → Type 0) → Result A ℕ → Type 0
 IsKnownOr P (Ok a) = P a
-IsKnownOr P (Err code) = IsKnown code
+IsKnownOr P (Err code) = IsKnownCode code
 
 abbrev Any : {A : Type 0} → A → Type 0
 Any a = Unit {0}
@@ -49,7 +46,7 @@ then_known : {A B : Type 0} (Q : B → Type 0) (f : A → Result B ℕ) (r : Res
 then_known Q f (Ok a) p q = q a
 then_known Q f (Err code) p q = p
 
-or_known : {A : Type 0} (o : Option A) (code : ℕ) → IsKnown code → IsKnownOr Any (ok_or o code)
+or_known : {A : Type 0} (o : Option A) (code : ℕ) → IsKnownCode code → IsKnownOr Any (ok_or o code)
 or_known None code k = k
 or_known (Some a) code k = tt
 
@@ -63,15 +60,15 @@ if_known P false x y p q = q
 variables_known : (s : State) (level id : ℕ) → IsKnownOr Any (shown_variables s level id)
 variables_known s level id =
     if_known Any (nat_lt level (length s.frames)) (ok_or (variables_of s level id) 302) (Err 301)
-    (or_known (variables_of s level id) 302 (refl, omega arith)) (refl, omega arith)
+    (or_known (variables_of s level id) 302 refl) refl
 
 named_known : (s : State) (level id : ℕ) (name : Text) → IsKnownOr Any (named_path s level id name)
 named_known s level id name =
     then_known Any _ (shown_variables s level id) (variables_known s level id)
-    (λ variables. or_known (path_at name) 300 (refl, omega arith))
+    (λ variables. or_known (path_at name) 300 refl)
 
 unreserved_known : (path : Path) → IsKnownOr Any (unreserved path)
-unreserved_known path = if_known Any (is_reserved path.name) (Err 300) (Ok path) (refl, omega arith) tt
+unreserved_known path = if_known Any (is_reserved path.name) (Err 300) (Ok path) refl tt
 
 path_known : (s : State) (place : PropertyPlace) → IsKnownOr Any (requested_path s place)
 path_known s place =
@@ -81,26 +78,26 @@ path_known s place =
 requested_known : (s : State) (asked : Request) → IsKnownOr Any (requested_write s asked)
 unfolding requested_write
 requested_known s (request.PropertySet set) =
-    then_known Any _ (ok_or (requested_value set) 3) (or_known (requested_value set) 3 (refl, omega arith))
+    then_known Any _ (ok_or (requested_value set) 3) (or_known (requested_value set) 3 refl)
     (λ value. then_known Any _ (requested_path s set.place) (path_known s set.place) (λ path. tt))
-requested_known s (request.Eval text) = or_known (option_map _ (tree_of text)) 206 (refl, omega arith)
-requested_known s request.Status = (refl, omega arith)
-requested_known s (request.FeatureGet name) = (refl, omega arith)
-requested_known s (request.FeatureSet name value) = (refl, omega arith)
-requested_known s (request.Continue mode) = (refl, omega arith)
-requested_known s (request.Finish finish) = (refl, omega arith)
-requested_known s (request.BreakpointSet set) = (refl, omega arith)
-requested_known s (request.Breakpoint action id) = (refl, omega arith)
-requested_known s (request.BreakpointUpdate update) = (refl, omega arith)
-requested_known s request.BreakpointList = (refl, omega arith)
-requested_known s request.StackDepth = (refl, omega arith)
-requested_known s (request.StackGet level) = (refl, omega arith)
-requested_known s request.ContextNames = (refl, omega arith)
-requested_known s (request.ContextGet level id) = (refl, omega arith)
-requested_known s (request.PropertyGet place page most) = (refl, omega arith)
-requested_known s (request.PropertyValue place most) = (refl, omega arith)
-requested_known s (request.Source range) = (refl, omega arith)
-requested_known s (request.Redirect stream mode) = (refl, omega arith)
+requested_known s (request.Eval text) = or_known (option_map _ (tree_of text)) 206 refl
+requested_known s request.Status = refl
+requested_known s (request.FeatureGet name) = refl
+requested_known s (request.FeatureSet name value) = refl
+requested_known s (request.Continue mode) = refl
+requested_known s (request.Finish finish) = refl
+requested_known s (request.BreakpointSet set) = refl
+requested_known s (request.Breakpoint action id) = refl
+requested_known s (request.BreakpointUpdate update) = refl
+requested_known s request.BreakpointList = refl
+requested_known s request.StackDepth = refl
+requested_known s (request.StackGet level) = refl
+requested_known s request.ContextNames = refl
+requested_known s (request.ContextGet level id) = refl
+requested_known s (request.PropertyGet place page most) = refl
+requested_known s (request.PropertyValue place most) = refl
+requested_known s (request.Source range) = refl
+requested_known s (request.Redirect stream mode) = refl
 
 -- ---- responses
 
@@ -127,14 +124,14 @@ module _ (command id : Text) (p : length command ≤ 64) (q : length id ≤ 64) 
           no_error = λ code e.
               cc;
         }
-    by false t = (refl, omega arith)
+    by false t = refl
 
   response_to_known : (features : Features) (a : WriteAnswer) → IsKnownOr IsSent (response_to features command id a)
   response_to_known features answer.Set = bare_sent
   response_to_known features (answer.Value value) = value_known features value
-  response_to_known features answer.Fatal = (refl, omega arith)
-  response_to_known features answer.NoFrame = (refl, omega arith)
-  response_to_known features answer.NoPlace = (refl, omega arith)
+  response_to_known features answer.Fatal = refl
+  response_to_known features answer.NoFrame = refl
+  response_to_known features answer.NoPlace = refl
 
   response_known : (bundle : Bundle) (features : Features) (s : State) (asked : Request)
       → IsKnownOr IsSent (write_response bundle features s command id asked)
@@ -148,8 +145,7 @@ module _ (bundle : Bundle) (features : Features) (s : State) (command id : Text)
   pub sent : (r : Response) → write_response bundle features s command id asked ≡ Ok r → IsSent r
   sent r e = subst (IsKnownOr IsSent) e (response_known command id p q bundle features s asked)
 
-  pub code : (k : ℕ) → write_response bundle features s command id asked ≡ Err k
-      → (is_some_text (message_of k) ≡ true) × (k < 1000)
+  pub code : (k : ℕ) → write_response bundle features s command id asked ≡ Err k → IsKnownCode k
   code k e = subst (IsKnownOr IsSent) e (response_known command id p q bundle features s asked)
 
   -- what a call answers

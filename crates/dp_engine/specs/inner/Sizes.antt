@@ -1,5 +1,5 @@
 -- Lines, requests and responses that are short enough for a packet.
-use Rattle.std.specs.Prelude.{◌≡◌, ℕ, ◌≤◌, ◌<◌, true, length, Option, Some, None}
+use Rattle.std.specs.Prelude.{◌≤◌, length, Option, Some, None}
 use Rattle.std.specs.List.{AllByRecursion}
 use Rattle.dp_command.specs.Grammar.{command_name_limit}
 use Rattle.dp_command.specs.declared.command.Request.{Request}
@@ -7,7 +7,6 @@ use Rattle.dp_command.specs.declared.command.Request.TheVariants.{FeatureGet, Fe
 use Rattle.dp_command.specs.declared.line.Line.{Line}
 use Rattle.dp_packet.specs.declared.packet.Packet.TheVariants as packet
 use Rattle.dp_packet.specs.declared.packet.Response.{Response}
-use Rattle.dp_packet.specs.Messages.{is_some_text, message_of}
 use Rattle.dp_packet.specs.Packets.{HasMessage}
 use Rattle.dp_wire.specs.Frames.{command_limit, packet_limit}
 use Rattle.dp_engine.specs.Responses.{response_text}
@@ -26,10 +25,6 @@ abbrev pub IsShortRequest : Request → Type 0
 IsShortRequest (FeatureGet name) = length name ≤ command_limit
 IsShortRequest (FeatureSet name value) = length name ≤ command_limit
 IsShortRequest request = Unit {0}
-
--- a code that has a message
-abbrev pub IsCode : ℕ → Type 0
-IsCode code = (is_some_text (message_of code) ≡ true) × (code < 1000)
 
 -- a packet can be made of it
 pub record Fits (r : Response) : Type 0 where
