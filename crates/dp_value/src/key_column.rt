@@ -26,7 +26,7 @@ pub(crate) struct KeyColumn {
 #[derive(Debug, Drop)]
 pub(crate) enum Kept {
     Rising(Vec<Key>),
-    Found(IndexSet<Key>),
+    Indexed(IndexSet<Key>),
 }
 
 impl Model for KeyColumn {
@@ -66,7 +66,7 @@ impl KeyColumn {
     {
         match &self.kept {
             Kept::Rising(keys) => keys.as_slice(),
-            Kept::Found(keys) => keys.as_slice(),
+            Kept::Indexed(keys) => keys.as_slice(),
         }
     }
 
@@ -77,7 +77,7 @@ impl KeyColumn {
     {
         match &self.kept {
             Kept::Rising(keys) => rising_row(keys.as_slice(), key),
-            Kept::Found(keys) => found_row(keys, key),
+            Kept::Indexed(keys) => indexed_row(keys, key),
         }
     }
 
@@ -87,8 +87,8 @@ impl KeyColumn {
         ensures ok { OnOk result (self.new ≡ self.old ++ key ∷ []) }
         ensures err { OnErr result (self.new ≡ self.old) }
     {
-        let found = match &mut self.kept {
-            Kept::Found(keys) => {
+        let indexed = match &mut self.kept {
+            Kept::Indexed(keys) => {
                 keys.insert(key)?;
                 return Ok(());
             }
@@ -100,7 +100,7 @@ impl KeyColumn {
                 set_with(keys, key)?
             }
         };
-        self.kept = Kept::Found(found);
+        self.kept = Kept::Indexed(indexed);
         Ok(())
     }
 
@@ -111,7 +111,7 @@ impl KeyColumn {
     {
         match &mut self.kept {
             Kept::Rising(keys) => drop(keys.remove(row)),
-            Kept::Found(keys) => drop(keys.shift_remove_index(row)),
+            Kept::Indexed(keys) => drop(keys.shift_remove_index(row)),
         }
     }
 
@@ -122,7 +122,7 @@ impl KeyColumn {
     {
         match &mut self.kept {
             Kept::Rising(keys) => drop(keys.drain(..count)),
-            Kept::Found(keys) => drop(keys.drain(..count)),
+            Kept::Indexed(keys) => drop(keys.drain(..count)),
         }
     }
 
@@ -133,7 +133,10 @@ impl KeyColumn {
     {
         let kept = match &self.kept {
             Kept::Rising(keys) => Kept::Rising(copies(*keys.allocator(), &keys.as_slice()[row..])?),
-            Kept::Found(keys) => Kept::Found(set_of(*keys.allocator(), &keys.as_slice()[row..])?),
+            Kept::Indexed(keys) => Kept::Indexed(set_of(
+                *keys.allocator(),
+                &keys.as_slice()[row..],
+            )?),
         };
         Ok(KeyColumn { kept })
     }
@@ -167,7 +170,7 @@ fn rising_row(keys: &[Key], key: &Key) -> Option<usize>
 }
 
 /// The row of a key in a set.
-fn found_row(keys: &IndexSet<Key>, key: &Key) -> Option<usize>
+fn indexed_row(keys: &IndexSet<Key>, key: &Key) -> Option<usize>
     ensures place { MatchOption result (IsAbsent (key_eq key.now) keys.now.keys)
         (IsFirst (key_eq key.now) keys.now.keys) }
     ensures within { IfSome result (λ i. i < length keys.now.keys) }

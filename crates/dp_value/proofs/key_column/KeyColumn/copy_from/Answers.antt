@@ -7,16 +7,16 @@ use Rattle.dp_value.specs.inner.Kept.{Rises}
 use Rattle.dp_value.proofs.ArrayLemmas.{slice_from}
 use Rattle.dp_value.proofs.KeyLemmas.{distinct_keys, distinct-drop}
 use Rattle.dp_value.proofs.RisingLemmas.{rising-drop}
-use Rattle.dp_value.proofs.key_column.KeyColumn.copy_from.Goals.{in-Rising+in_ok-copies-in-Rising, in-Found+in_ok-set_of-in-Found}
+use Rattle.dp_value.proofs.key_column.KeyColumn.copy_from.Goals.{in-Rising+in_ok-copies-in-Rising, in-Indexed+in_ok-set_of-in-Indexed}
 use Rattle.dp_value.proofs.key_column.KeyColumn.copy_from.Goals as goal
 
 pub set_of-requires : goal.set_of-requires
 set_of-requires c =
-    let keys = c.as_slice-in-Found.result.now in
+    let keys = c.as_slice-in-Indexed.result.now in
     subst (λ (ks : List Key). IsDistinct key_eq ks)
-    (sym (slice_from c.args.row keys ∙ ap (drop c.args.row) c.as_slice-in-Found.ensures.keys))
-    (distinct-drop c.args.row c.in-Found.keys.keys
-    (distinct_keys c.in-Found.keys.keys c.as_slice-in-Found.ensures.unique))
+    (sym (slice_from c.args.row keys ∙ ap (drop c.args.row) c.as_slice-in-Indexed.ensures.keys))
+    (distinct-drop c.args.row c.in-Indexed.keys.keys
+    (distinct_keys c.in-Indexed.keys.keys c.as_slice-in-Indexed.ensures.unique))
 
 pub invariant_of-result : goal.invariant_of-result
 invariant_of-result c =
@@ -28,5 +28,5 @@ invariant_of-result c =
           ∙ slice_from c.args.row w.as_slice.result.now
           ∙ ap (drop c.args.row) w.as_slice.ensures.value in
           subst (λ (k : Kept). Rises k) (sym w.kept-is) (rw copied rise)
-      | in-Found+in_ok-set_of-in-Found w ↦ subst (λ (k : Kept). Rises k) (sym w.kept-is) tt
+      | in-Indexed+in_ok-set_of-in-Indexed w ↦ subst (λ (k : Kept). Rises k) (sym w.kept-is) tt
     ]

@@ -8,10 +8,10 @@ use Rattle.dp_value.proofs.KeyLemmas.{inserted}
 use Rattle.dp_value.proofs.RisingLemmas.{rising-distinct}
 use Rattle.dp_value.proofs.key_column.KeyColumn.push.Goals as goal
 
-pub returns-in-Found-clause-ok : goal.returns-in-Found-clause-ok
-returns-in-Found-clause-ok c =
-    c.in_ok-insert-in-Found.ensures.keys
-    ∙ ap (λ (ks : List Key). insert_key ghosts.eq ks c.args.key) (sym (ap kept_keys c.in-Found.is) ∙ c.self.view_is)
+pub returns-in-Indexed-clause-ok : goal.returns-in-Indexed-clause-ok
+returns-in-Indexed-clause-ok c =
+    c.in_ok-insert-in-Indexed.ensures.keys
+    ∙ ap (λ (ks : List Key). insert_key ghosts.eq ks c.args.key) (sym (ap kept_keys c.in-Indexed.is) ∙ c.self.view_is)
     ∙ inserted c.args.self.now c.args.key c.requires
 
 pub set_with-requires-clause-distinct : goal.set_with-requires-clause-distinct

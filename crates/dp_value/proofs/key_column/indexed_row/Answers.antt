@@ -4,7 +4,7 @@ use Rattle.dp_value.specs.contracts.key.KeyPartialEq.TheImpl.{ghosts}
 use Rattle.dp_value.specs.Place.{IsAbsent, IsFirst}
 use Rattle.dp_value.proofs.KeyLemmas.{derived_eq}
 use Rattle.dp_value.proofs.PairLemmas.{placed}
-use Rattle.dp_value.proofs.key_column.found_row.Goals as goal
+use Rattle.dp_value.proofs.key_column.indexed_row.Goals as goal
 
 pub returns-clause-place : goal.returns-clause-place
 returns-clause-place c =
