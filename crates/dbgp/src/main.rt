@@ -14,12 +14,15 @@ use std::sync::Wait;
 use std::thread::{Builder, Threads};
 use std::{env, thread};
 
-/// How large the stack is on which the top call runs. A value of the language is nested at most 1,048,576 deep, since
-/// each level weighs 1; copying it takes the most stack a level, less than 4 KiB.
+/// How large the stack is on which the top call runs.
 const STACK_SIZE: usize = 8 << 30;
 
-/// How many sizes of a stack are tried: each is half of the one before.
-const STACK_SIZES: u32 = 8;
+/// What is enough for a value of any depth: it is nested at most 1,048,576 deep, since each level weighs 1, and a call
+/// takes less than 2 KiB of the stack for a level.
+const DEEP_SIZE: usize = 2 << 30;
+
+/// How many smaller sizes are tried, down to 64 MiB: each is a thirty-second less than the one before.
+const SMALLER_SIZES: u32 = 152;
 
 /// The words of the command line, without the program's name. Where the system does not give them as text there are
 /// none, and none ask for anything.
@@ -74,17 +77,32 @@ fn call<
     )
 }
 
-/// The answer of the top call, in a thread of its own with a large stack: the largest that the system gives, of
-/// `STACK_SIZE` and the halves of it down to 64 MiB. Where it gives none of them, the program is out of memory.
+/// The answer of the top call, in a thread of its own with a large stack. Where the system does not give `STACK_SIZE`,
+/// the top call gets seven eighths of the largest that it gives, and at most `DEEP_SIZE`: what is left for values is then
+/// so little that memory runs out before a value is too deep for the stack. Where it does not give 64 MiB, the program
+/// is out of memory.
 fn main(rt: HostRuntime) -> ExitCode {
     let status = thread::scope(thread::scope_env(), &rt, |scope| {
-        for halvings in 0..STACK_SIZES {
-            let spawned = Builder::new()
-                .stack_size(STACK_SIZE >> halvings)
+        let whole = Builder::new()
+            .stack_size(STACK_SIZE)
+            .spawn_scoped(scope, || call(&rt, rt.stdin(), rt.stdout(), rt.stderr()));
+        if let Ok(thread) = whole {
+            return thread.join(&rt);
+        }
+        let mut size = STACK_SIZE;
+        for _ in 0..SMALLER_SIZES {
+            size -= size / 32;
+            let Ok(tried) = Builder::new().stack_size(size).spawn_scoped(scope, || ()) else {
+                continue;
+            };
+            tried.join(&rt);
+            let part = Builder::new()
+                .stack_size(DEEP_SIZE.min(size - size / 8))
                 .spawn_scoped(scope, || call(&rt, rt.stdin(), rt.stdout(), rt.stderr()));
-            if let Ok(thread) = spawned {
-                return thread.join(&rt);
-            }
+            return match part {
+                Ok(thread) => thread.join(&rt),
+                Err(_) => 209,
+            };
         }
         209
     });
