@@ -78,9 +78,9 @@ fn call<
 }
 
 /// The answer of the top call, in a thread of its own with a large stack. Where the system does not give `STACK_SIZE`,
-/// the top call gets seven eighths of the largest that it gives, and at most `DEEP_SIZE`: what is left for values is then
-/// so little that memory runs out before a value is too deep for the stack. Where it does not give 64 MiB, the program
-/// is out of memory.
+/// the top call gets seven eighths of the largest that it gives, and at most `DEEP_SIZE`: what is left for values is
+/// then so little that memory runs out before a value is too deep for the stack. Where it does not give 64 MiB, the
+/// program is out of memory.
 fn main(rt: HostRuntime) -> ExitCode {
     let status = thread::scope(thread::scope_env(), &rt, |scope| {
         let whole = Builder::new()
