@@ -1,5 +1,5 @@
 -- Keys that rise: where they do, and which keys are not among them.
-use Rattle.std.proofs.Common.{◌≡◌, Some, None, ℕ, zero, suc, ◌-◌, ◌<◌, ℤ, ◌<ℤ◌, false, List, [], ◌∷◌, ◌++◌, length, get_or, take, drop, remove, refl, ap, sym, ◌∙◌, arith}
+use Rattle.std.proofs.Common.{◌≡◌, Some, None, ℕ, zero, suc, ◌-◌, ◌<◌, ℤ, ◌<ℤ◌, false, true, nat_lt, List, [], ◌∷◌, ◌++◌, length, get_or, take, drop, remove, refl, ap, sym, ◌∙◌, arith}
 use Rattle.std.proofs.lemmas.List.Elements.{All-from_recursion}
 use Rattle.std.proofs.lemmas.Map.Keys.{IsDistinct-head, IsDistinct-tail}
 use Rattle.std.specs.Cmp.{int_chain, int_cmp_is, int_ranks}
@@ -160,6 +160,29 @@ pub order-push : (ks : List Key) (k key : Key) → IsRising ks → k ≡ get_or 
 order-push ks (Int m) (Int n) rise at is = rising-push ks m n (Int m) rise refl at (ordered m n Less is)
 order-push ks (Int m) (Text bytes) rise at is = absurd (cc)
 order-push ks (Text bytes) key rise at is = absurd (cc)
+
+rise-last : (p : ℤ) (ks : List Key) (i : ℕ) (k key : Key) → RiseFrom p (ks ++ key ∷ []) → length ks ≡ suc i
+    → k ≡ get_or ks i k → integer_order k key ≡ Some Less
+rise-last p [] i k key rise last at = absurd (omega arith)
+rise-last p (Int x ∷ []) zero k (Int n) rise last at =
+    ap (λ (k : Key). integer_order k (Int n)) at ∙ sym (ap Some (int_cmp_is x n Less rise.1.0))
+rise-last p (Int x ∷ []) zero k (Text bytes) rise last at = absurd rise.1
+rise-last p (Int x ∷ []) (suc i) k key rise last at = absurd (omega arith)
+rise-last p (Int x ∷ y ∷ ks) zero k key rise last at = absurd (omega arith)
+rise-last p (Int x ∷ y ∷ ks) (suc i) k key rise last at = rise-last x (y ∷ ks) i k key rise.1 (omega arith) at
+rise-last p (Text bytes ∷ ks) i k key rise last at = absurd rise
+
+-- the last key of those that rise is smaller than one that stands behind it, where they still rise
+pub order-last : (ks : List Key) (k key : Key) → IsRising (ks ++ key ∷ []) → true ≡ nat_lt 0 (length ks)
+    → k ≡ get_or ks (length ks - 1) k → integer_order k key ≡ Some Less
+order-last [] k key rise some at = absurd (cc)
+order-last (Int x ∷ []) k (Int n) rise some at =
+    ap (λ (k : Key). integer_order k (Int n)) at ∙ sym (ap Some (int_cmp_is x n Less rise.0))
+order-last (Int x ∷ []) k (Text bytes) rise some at = absurd rise
+order-last (Int x ∷ y ∷ ks) k key rise some at =
+    let last : length (Int x ∷ y ∷ ks) - 1 ≡ suc (length ks) = omega arith in
+    rise-last x (y ∷ ks) (length ks) k key rise (omega arith) (rw last at at)
+order-last (Text bytes ∷ ks) k key rise some at = absurd rise
 
 module _ (ks : List Key) (i : ℕ) (rise : IsRising ks) (within : i < length ks) where
   pub order-none : (k key : Key) → k ≡ get_or ks i k → integer_order k key ≡ None → IsAbsent (key_eq key) ks

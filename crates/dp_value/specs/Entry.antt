@@ -63,7 +63,7 @@ light (Ok d) = cond (nat_le (weight_of d) weight_limit) (Ok d) (Err TooHeavy)
 abbrev pub write_result : List (Option Key) → Bool → Data → Data → Result Data WriteError
 write_result keys push new old = light (written keys push new old)
 
--- why a write may be refused: for the cause that it has, or for lack of memory
+-- why a write may be refused: for the cause that it has, or out of memory
 abbrev pub IsCause : Result Data WriteError → WriteError → Type 0
 IsCause asked e = (e ≡ Memory) ⊎ (asked ≡ Err e)
 

@@ -17,7 +17,7 @@ impl Key {
     ghost use Rattle.dp_value.specs.Key.{key_eq, key_weight};
     ghost use Rattle.dp_value.specs.Value.{data_of};
 
-    /// An equal key.
+    /// A copy with bytes of its own. An integer takes no memory.
     pub fn try_clone(&self) -> Result<Key, Memory>
         ensures { IfOk result (λ copy. copy ≡ self.now) }
     {

@@ -3,8 +3,9 @@
 //! Integer keys that rise, as those of a list that only grows at its end, stand in a plain vector: a key's row is found
 //! from its distance to the first key, or by halving. All other keys stand in an `IndexSet`.
 
-ghost use Rattle.std.specs.Prelude.{◌≡◌, ◌<◌, ◌≤◌, ◌++◌, ◌∷◌, [], length, drop, remove, IfOk, IfSome, IsTrue};
-ghost use Rattle.std.specs.Prelude.{MatchOption, OnOk, OnErr};
+ghost use Rattle.std.specs.Prelude.{◌≡◌, ◌<◌, ◌≤◌, ◌↔◌, ◌++◌, ◌∷◌, [], length, drop, remove, IfOk, IfSome, IsTrue};
+ghost use Rattle.std.specs.Prelude.{MatchOption, OnOk, OnErr, Some};
+ghost use Rattle.std.specs.declared.cmp.Ordering.TheVariants.{Less};
 ghost use Rattle.std.specs.List.{IsDistinct};
 ghost use Rattle.dp_value.specs.Key.{key_eq};
 ghost use Rattle.dp_value.specs.Place.{IsAbsent, IsFirst};
@@ -181,12 +182,19 @@ fn indexed_row(keys: &IndexSet<Key>, key: &Key) -> Option<usize>
 /// Whether keys that rise still do with this one behind them.
 fn goes_last(keys: &[Key], key: &Key) -> bool
     requires { IsRising keys.now }
-    ensures { IsTrue result → IsRising (keys.now ++ key.now ∷ []) }
+    ensures { IsTrue result ↔ IsRising (keys.now ++ key.now ∷ []) }
 {
     match keys.last() {
         None => matches!(key, Key::Int(_)),
-        Some(last) => matches!(order(last, key), Some(Ordering::Less)),
+        Some(last) => is_below(last, key),
     }
+}
+
+/// Whether a key is an integer below another one.
+fn is_below(a: &Key, b: &Key) -> bool
+    ensures { IsTrue result ↔ integer_order a.now b.now ≡ Some Less }
+{
+    matches!(order(a, b), Some(Ordering::Less))
 }
 
 /// How a key stands to another in the order of integers, where both are integers.

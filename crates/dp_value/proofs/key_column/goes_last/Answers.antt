@@ -1,8 +1,10 @@
-use Rattle.std.proofs.Common.{Some, ap, sym, ◌∙◌}
-use Rattle.dp_value.proofs.RisingLemmas.{order-push}
+use Rattle.dp_value.proofs.RisingLemmas.{order-push, order-last}
 use Rattle.dp_value.proofs.key_column.goes_last.Goals as goal
 
-pub returns-in-Some-Less : goal.returns-in-Some-Less
-returns-in-Some-Less c =
-    λ _. order-push c.args.keys.now c.in-Some.last.now c.args.key.now c.requires c.in-Some.ensures.item.1
-    (sym c.in-Some-Less.ensures ∙ ap Some c.in-Some-Less.field-0-is)
+pub returns-in-Some : goal.returns-in-Some
+returns-in-Some c =
+    let k = c.in-Some.last.now in
+    let at = c.in-Some.ensures.item in (
+      λ below. order-push c.args.keys.now k c.args.key.now c.requires at.1 (c.is_below.ensures.0 below),
+      λ rise. c.is_below.ensures.1 (order-last c.args.keys.now k c.args.key.now rise at.0 at.1),
+    )
