@@ -19,7 +19,7 @@ use crate::after::{bind, global, receive_after, receive_values};
 use crate::calls::{begin_call, include};
 use crate::loops::{do_turn, each_turn, receive_signal, turn};
 use crate::next::give;
-use crate::statements::{arms, each, echo, run, run_arm, run_at, unset};
+use crate::statements::{arms, begin, begin_arm, begin_at, each, echo, unset};
 use crate::work::{AfterValue, ForSignal, ForValues, Hand, Next, Small, Work};
 use dp_actions::{Halt, Signal, returned};
 use dp_shared::Shared;
@@ -130,9 +130,9 @@ fn first_of_statement<'p>(
         → Goes setting (λ k. hand_rest setting hand.entry k state.old) result state.new }
 {
     match hand {
-        Hand::Run(statement) => Ok(run(alloc, bound, statement.as_ref())),
-        Hand::RunAt(all, at) => Ok(run_at(alloc, bound, all, at)),
-        Hand::RunArm(all, at) => Ok(run_arm(alloc, bound, all, at)),
+        Hand::Run(statement) => Ok(begin(alloc, bound, statement.as_ref())),
+        Hand::RunAt(all, at) => Ok(begin_at(alloc, bound, all, at)),
+        Hand::RunArm(all, at) => Ok(begin_arm(alloc, bound, all, at)),
         Hand::Each(all, at) => Ok(Small {
             moment: None,
             next: each(all, at),

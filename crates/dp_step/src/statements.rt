@@ -1,6 +1,7 @@
 //! The beginning of a statement: what is done first, and what waits for it.
 
 ghost use Rattle.std.specs.Prelude.{◌≡◌, [], None, Some, drop, map};
+ghost use Rattle.dp_state.specs.declared.moments.MomentKind.TheVariants as any_moment;
 ghost use Rattle.dp_state.specs.declared.state.State.{State as AnyState};
 ghost use Rattle.dp_actions.specs.Expressions.{expression_run, place_run};
 ghost use Rattle.dp_actions.specs.Places.{unset_run};
@@ -9,7 +10,10 @@ ghost use Rattle.dp_actions.specs.Setting.{Setting};
 ghost use Rattle.dp_meaning.specs.Statements.{body_run, echoes, end_run, return_run, statement_run};
 ghost use Rattle.dp_step.specs.Rest.{arms_part, branch_decided, first_body_run, first_run, next_rest, next_to};
 ghost use Rattle.dp_step.specs.Rest.{small_rest};
+ghost use Rattle.dp_step.specs.declared.work.Hand.TheVariants as any_hand;
+ghost use Rattle.dp_step.specs.declared.work.Work.TheVariants as any_work;
 ghost use Rattle.dp_step_parts.specs.Rest.{Follows, to_signal};
+ghost use Rattle.dp_step_parts.specs.declared.work.Hand.TheVariants as any_part;
 
 use crate::next::{signal, values_first};
 use crate::work::{
@@ -23,78 +27,62 @@ use dp_tree::{Arm, Boxed, Expression, Place, Statement, StatementKind};
 use dp_value::{Items, Value};
 use std::alloc::Global;
 
-/// A statement.
-pub(crate) fn run<'p>(alloc: Global, bound: u64, statement: &'p Statement) -> Small<'p>
+/// A moment before a statement on this line, and what is done behind it.
+fn placed<'p>(line: u32, next: Next<'p>) -> Small<'p>
+    ensures { result ≡ record { moment = Some (any_moment.Place, line); next = next.entry } }
+{
+    Small {
+        moment: Some((MomentKind::Place, line)),
+        next,
+    }
+}
+
+/// What is done without a moment.
+fn unplaced<'p>(next: Next<'p>) -> Small<'p>
+    ensures { result ≡ record { moment = None; next = next.entry } }
+{
+    Small { moment: None, next }
+}
+
+/// What nothing waits for.
+fn alone<'p>(hand: Hand<'p>) -> Next<'p>
+    ensures { result ≡ record { hand = hand.entry; waits = None } }
+{
+    Next { hand, waits: None }
+}
+
+/// The value of an expression, and what waits for it.
+fn evaluated<'p>(e: &'p Expression, after: AfterValue<'p>) -> Next<'p>
+    ensures { result ≡ record {
+      hand = any_hand.Part (any_part.Evaluate e.entry);
+      waits = Some (any_work.AfterValue after.entry);
+    } }
+{
+    Next {
+        hand: Hand::Part(PartHand::Evaluate(e)),
+        waits: Some(Work::AfterValue(after)),
+    }
+}
+
+/// The beginning of a statement: its moment, if it has one, and what is done first.
+pub(crate) fn begin<'p>(alloc: Global, bound: u64, statement: &'p Statement) -> Small<'p>
     ensures { (setting : Setting) → setting.bound ≡ bound → (k : Follows) (s : AnyState)
         → small_rest setting result k s ≡ and_then (statement_run statement.now setting s) (to_signal k) }
 {
     let line = statement.line;
     match &statement.kind {
-        StatementKind::Expression(e) => Small {
-            moment: Some((MomentKind::Place, line)),
-            next: Next {
-                hand: Hand::Part(PartHand::Evaluate(e)),
-                waits: Some(Work::AfterValue(AfterValue::Discard)),
-            },
-        },
-        StatementKind::Echo(operands) => Small {
-            moment: Some((MomentKind::Place, line)),
-            next: Next {
-                hand: Hand::Echo(operands, 0),
-                waits: None,
-            },
-        },
-        StatementKind::Block(statements) => Small {
-            moment: None,
-            next: Next {
-                hand: Hand::Each(statements, 0),
-                waits: None,
-            },
-        },
-        StatementKind::Empty => Small {
-            moment: None,
-            next: signal(Signal::Next),
-        },
-        StatementKind::If { arms, otherwise } => {
-            Small {
-                moment: None,
-                next: Next {
-                    hand: Hand::Arms(arms, 0, otherwise),
-                    waits: None,
-                },
-            }
-        }
+        StatementKind::Expression(e) => placed(line, evaluated(e, AfterValue::Discard)),
+        StatementKind::Echo(operands) => placed(line, alone(Hand::Echo(operands, 0))),
+        StatementKind::Block(statements) => unplaced(alone(Hand::Each(statements, 0))),
+        StatementKind::Empty => unplaced(signal(Signal::Next)),
+        StatementKind::If { arms, otherwise } => unplaced(alone(Hand::Arms(arms, 0, otherwise))),
         StatementKind::While { test, body } => {
-            let turns = Turns {
-                line,
-                head: Head::While(test),
-                body,
-            };
-            Small {
-                moment: None,
-                next: Next {
-                    hand: Hand::Turn(turns, bound),
-                    waits: None,
-                },
-            }
+            let head = Head::While(test);
+            unplaced(alone(Hand::Turn(Turns { line, head, body }, bound)))
         }
-        StatementKind::DoWhile {
-            body,
-            line: end,
-            test,
-        } => {
-            let turns = DoTurns {
-                line: *end,
-                test,
-                body,
-            };
-            Small {
-                moment: None,
-                next: Next {
-                    hand: Hand::DoTurn(turns, bound),
-                    waits: None,
-                },
-            }
+        StatementKind::DoWhile { body, line, test } => {
+            let line = *line;
+            unplaced(alone(Hand::DoTurn(DoTurns { line, test, body }, bound)))
         }
         StatementKind::For {
             before,
@@ -102,16 +90,9 @@ pub(crate) fn run<'p>(alloc: Global, bound: u64, statement: &'p Statement) -> Sm
             after,
             body,
         } => {
-            let turns = Turns {
-                line,
-                head: Head::For(tests, after),
-                body,
-            };
-            let work = Work::ForValues(ForValues::Turns(turns, bound));
-            Small {
-                moment: Some((MomentKind::Place, line)),
-                next: values_first(alloc, before, work),
-            }
+            let head = Head::For(tests, after);
+            let turns = ForValues::Turns(Turns { line, head, body }, bound);
+            placed(line, values_first(alloc, before, Work::ForValues(turns)))
         }
         StatementKind::Foreach {
             subject,
@@ -123,49 +104,19 @@ pub(crate) fn run<'p>(alloc: Global, bound: u64, statement: &'p Statement) -> Sm
                 binding,
                 body,
             };
-            Small {
-                moment: Some((MomentKind::Place, line)),
-                next: Next {
-                    hand: Hand::Part(PartHand::Evaluate(subject)),
-                    waits: Some(Work::AfterValue(AfterValue::Subject(turns))),
-                },
-            }
+            placed(line, evaluated(subject, AfterValue::Subject(turns)))
         }
-        StatementKind::Break(loops) => Small {
-            moment: Some((MomentKind::Place, line)),
-            next: signal(Signal::Break(*loops)),
-        },
-        StatementKind::Continue(number) => Small {
-            moment: Some((MomentKind::Place, line)),
-            next: signal(Signal::Continue(*number)),
-        },
-        StatementKind::Return(value) => Small {
-            moment: Some((MomentKind::Place, line)),
-            next: return_value(value),
-        },
-        StatementKind::Global(names) => Small {
-            moment: Some((MomentKind::Place, line)),
-            next: Next {
-                hand: Hand::Global(names.as_slice()),
-                waits: None,
-            },
-        },
-        StatementKind::Unset(places) => Small {
-            moment: Some((MomentKind::Place, line)),
-            next: Next {
-                hand: Hand::Unset(places.as_slice()),
-                waits: None,
-            },
-        },
-        StatementKind::Exit(value) => Small {
-            moment: Some((MomentKind::Place, line)),
-            next: exit(value),
-        },
+        StatementKind::Break(loops) => placed(line, signal(Signal::Break(*loops))),
+        StatementKind::Continue(number) => placed(line, signal(Signal::Continue(*number))),
+        StatementKind::Return(value) => placed(line, return_value(value)),
+        StatementKind::Global(names) => placed(line, alone(Hand::Global(names.as_slice()))),
+        StatementKind::Unset(places) => placed(line, alone(Hand::Unset(places.as_slice()))),
+        StatementKind::Exit(value) => placed(line, exit(value)),
     }
 }
 
 /// The statement at a position.
-pub(crate) fn run_at<'p>(
+pub(crate) fn begin_at<'p>(
     alloc: Global,
     bound: u64,
     all: &'p Items<Statement>,
@@ -179,12 +130,12 @@ pub(crate) fn run_at<'p>(
             moment: None,
             next: signal(Signal::Next),
         },
-        Some(statement) => run(alloc, bound, statement),
+        Some(statement) => begin(alloc, bound, statement),
     }
 }
 
 /// The body of the arm at a position.
-pub(crate) fn run_arm<'p>(alloc: Global, bound: u64, all: &'p Items<Arm>, at: usize) -> Small<'p>
+pub(crate) fn begin_arm<'p>(alloc: Global, bound: u64, all: &'p Items<Arm>, at: usize) -> Small<'p>
     ensures { (setting : Setting) → setting.bound ≡ bound → (k : Follows) (s : AnyState)
         → small_rest setting result k s ≡ and_then (first_body_run (drop at all.now) setting s) (to_signal k) }
 {
@@ -193,7 +144,7 @@ pub(crate) fn run_arm<'p>(alloc: Global, bound: u64, all: &'p Items<Arm>, at: us
             moment: None,
             next: signal(Signal::Next),
         },
-        Some(arm) => run(alloc, bound, &arm.body),
+        Some(arm) => begin(alloc, bound, &arm.body),
     }
 }
 

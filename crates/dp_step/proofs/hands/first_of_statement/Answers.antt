@@ -5,17 +5,17 @@ use Rattle.dp_step.proofs.hands.first_of_statement.Goals as goal
 pub returns-in-Run : goal.returns-in-Run
 returns-in-Run c = λ setting bounded.
     rw c.in-Run.is (goes_as setting _ _ _ (λ k. rw c.as_ref.ensures at
-    (c.run.ensures setting bounded k c.args.state.now)))
+    (c.begin.ensures setting bounded k c.args.state.now)))
 
 pub returns-in-RunAt : goal.returns-in-RunAt
 returns-in-RunAt c =
     λ setting bounded. rw c.in-RunAt.is (goes_as setting _ _ _
-    (λ k. c.run_at.ensures setting bounded k c.args.state.now))
+    (λ k. c.begin_at.ensures setting bounded k c.args.state.now))
 
 pub returns-in-RunArm : goal.returns-in-RunArm
 returns-in-RunArm c =
     λ setting bounded. rw c.in-RunArm.is (goes_as setting _ _ _
-    (λ k. c.run_arm.ensures setting bounded k c.args.state.now))
+    (λ k. c.begin_arm.ensures setting bounded k c.args.state.now))
 
 pub returns-in-Each : goal.returns-in-Each
 returns-in-Each c =

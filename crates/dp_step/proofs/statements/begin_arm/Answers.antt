@@ -2,7 +2,7 @@ use Rattle.std.proofs.Common.{refl}
 use Rattle.std.proofs.Math.ListN.{drop_of_length-le}
 use Rattle.dp_actions.specs.Run.{and_then}
 use Rattle.dp_step_parts.proofs.FirstParts.{from-member}
-use Rattle.dp_step.proofs.statements.run_arm.Goals as goal
+use Rattle.dp_step.proofs.statements.begin_arm.Goals as goal
 
 pub returns-in-None : goal.returns-in-None
 unfolding and_then
@@ -13,4 +13,4 @@ returns-in-None c = λ setting same k s.
 pub returns-in-Some : goal.returns-in-Some
 returns-in-Some c = λ setting same k s.
     let read = rw c.as_slice.ensures at c.in-Some.ensures.lookup in
-    rw (from-member _ _ _ read.3.0 read.1) (c.run.ensures setting same k s)
+    rw (from-member _ _ _ read.3.0 read.1) (c.begin.ensures setting same k s)
