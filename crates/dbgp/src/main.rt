@@ -1,7 +1,7 @@
 //! The program `dbgp`: hands its words, files, standard streams and network to the top call, and ends with its answer.
 #![tactic(auto)]
 
-use dp_adapters::{FileShelf, Reading, TcpNet, Writing};
+use dp_adapters::{FileShelf, ReaderSource, TcpNet, WriterSink};
 use dp_outside::NoSpawner;
 use dp_top::top;
 use std::alloc::{AllocError, Global};
@@ -59,9 +59,9 @@ fn call<
         return 209;
     };
     let mut shelf = FileShelf::new(rt);
-    let mut input = Reading::new(stdin);
-    let mut out = Writing::new(stdout);
-    let mut err = Writing::new(stderr);
+    let mut input = ReaderSource::new(stdin);
+    let mut out = WriterSink::new(stdout);
+    let mut err = WriterSink::new(stderr);
     let mut net = TcpNet::new(rt.alloc(), rt);
     let mut spawner: NoSpawner<R> = NoSpawner::new();
     top(

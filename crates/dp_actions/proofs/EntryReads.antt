@@ -11,8 +11,8 @@ use Rattle.dp_value.specs.Value.{data_of, value_of}
 use Rattle.dp_shared.specs.Inside.{stepped}
 use Rattle.dp_operations.proofs.IndexLemmas.{array-read}
 use Rattle.dp_state.proofs.ValueLemmas.{value_of-data_of}
-use Rattle.dp_actions.specs.declared.in_place.Reading.{Reading}
-use Rattle.dp_actions.specs.declared.in_place.Reading.TheVariants.{Plain, Found}
+use Rattle.dp_actions.specs.declared.entry_reads.Reading.{Reading}
+use Rattle.dp_actions.specs.declared.entry_reads.Reading.TheVariants.{Plain, Found}
 use Rattle.dp_actions.specs.InPlace.{entries_by}
 
 module _ (t : Table) (index : Data) (key : Key) (v : Value) (is : key_of_data index ≡ Some key)

@@ -20,18 +20,18 @@ use Rattle.dp_actions.specs.Run.{Run, Done, Over, At, taken, ◌>>=◌}
 use Rattle.dp_actions.specs.Values.{holds}
 
 -- after the body of a loop: on with the loop, or out of it
-abbrev pub turn_over : Signal → (State → Run Signal) → State → Run Signal
-turn_over Next next s = next s
-turn_over (Break loops) next s = if nat_le loops 1 then Done Next s else Done (Break (loops - 1)) s
-turn_over (Continue loop) next s = if nat_le loop 1 then next s else Done (Continue (loop - 1)) s
-turn_over (Return v) next s = Done (Return v) s
+abbrev pub after_body : Signal → (State → Run Signal) → State → Run Signal
+after_body Next next s = next s
+after_body (Break loops) next s = if nat_le loops 1 then Done Next s else Done (Break (loops - 1)) s
+after_body (Continue loop) next s = if nat_le loop 1 then next s else Done (Continue (loop - 1)) s
+after_body (Return v) next s = Done (Return v) s
 
 -- the same as a value
-abbrev pub turn_of : Signal → LoopStep
-turn_of Next = turn.On
-turn_of (Break loops) = if nat_le loops 1 then turn.Out Next else turn.Out (Break (loops - 1))
-turn_of (Continue loop) = if nat_le loop 1 then turn.On else turn.Out (Continue (loop - 1))
-turn_of (Return v) = turn.Out (Return v)
+abbrev pub step_after : Signal → LoopStep
+step_after Next = turn.On
+step_after (Break loops) = if nat_le loops 1 then turn.Out Next else turn.Out (Break (loops - 1))
+step_after (Continue loop) = if nat_le loop 1 then turn.On else turn.Out (Continue (loop - 1))
+step_after (Return v) = turn.Out (Return v)
 
 -- whether the last of the values of a test holds; without a test there is no end
 abbrev pub last_holds : List Value → Bool
@@ -45,14 +45,14 @@ turns zero line test next body s = Over Bound s
 turns (suc n) line test next body s =
     At Place line s (λ t. test t >>= λ values u.
     if last_holds values
-    then (body u >>= λ g v. turn_over g (λ w. next w >>= λ _ x. turns n line test next body x) v)
+    then (body u >>= λ g v. after_body g (λ w. next w >>= λ _ x. turns n line test next body x) v)
     else Done Next u)
 
 -- `do`: at most so many turns, each with a moment between its body and its test
 abbrev pub do_turns : ℕ → ℕ → (State → Run Value) → (State → Run Signal) → State → Run Signal
 do_turns zero line test body s = Over Bound s
 do_turns (suc n) line test body s =
-    body s >>= λ g t. turn_over g
+    body s >>= λ g t. after_body g
     (λ u. At Place line u (λ v. test v >>= λ tested w.
     if holds tested then do_turns n line test body w else Done Next w)) t
 
@@ -82,4 +82,4 @@ abbrev pub each_run : ℕ → Binding → List (Key × Data) → (State → Run 
 each_run line binding [] body s = Done Next s
 each_run line binding (entry ∷ more) body s =
     At Place line s (λ t. bind binding entry t >>= λ _ u. body u
-    >>= λ g v. turn_over g (each_run line binding more body) v)
+    >>= λ g v. after_body g (each_run line binding more body) v)

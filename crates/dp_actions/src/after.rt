@@ -173,7 +173,7 @@ pub fn then_found(
     }
 }
 
-/// `++` and `--`
+/// Applies `++` or `--` to a place whose indices are evaluated, and gives the new or the old value, as `order` says.
 pub fn then_step(
     alloc: Global,
     op: UnaryOp,

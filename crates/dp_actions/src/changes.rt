@@ -47,7 +47,7 @@ fn is_growth(op: BinaryOp, indices: &[Shared]) -> bool
     }
 }
 
-/// `++` and `--`
+/// Applies `++` or `--` to a place and gives the new or the old value, as `order` says.
 pub fn step_place(
     alloc: Global,
     op: UnaryOp,

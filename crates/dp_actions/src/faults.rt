@@ -20,7 +20,7 @@ pub fn fatal(kind: FatalKind, state: &State) -> Halt
     })
 }
 
-/// What a refused step is.
+/// Why the run breaks off at this fault: a fatal one in the file and on the line of the top frame, or out of memory.
 pub fn fault(why: Fault, state: &State) -> Halt
     ensures { result ≡ halt_of why state.now }
 {
@@ -30,7 +30,7 @@ pub fn fault(why: Fault, state: &State) -> Halt
     }
 }
 
-/// What a step is.
+/// The outcome of a step as one of a run.
 pub fn settled(step: Result<(), Fault>, state: &State) -> Result<(), Halt>
     ensures { result ≡ settled_of step state.now }
 {

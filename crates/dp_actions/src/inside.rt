@@ -5,15 +5,15 @@
 ghost use Rattle.std.specs.Prelude.{◌≡◌, ⊤, Ok, IfOk, MatchOption};
 ghost use Rattle.dp_value.specs.Value.{data_of};
 ghost use Rattle.dp_shared.specs.Inside.{stepped};
-ghost use Rattle.dp_actions.specs.declared.in_place.Reading.{Reading as AnyReading};
+ghost use Rattle.dp_actions.specs.declared.entry_reads.Reading.{Reading as AnyReading};
 ghost use Rattle.dp_actions.specs.After.{Then};
 ghost use Rattle.dp_actions.specs.AtOnce.{AtOnce};
 ghost use Rattle.dp_actions.specs.InPlace.{entries_by};
 ghost use Rattle.dp_actions.specs.Values.{value_run};
 
 use crate::answers::value_of;
+use crate::entry_reads::{Reading, look};
 use crate::halt::Halt;
-use crate::in_place::{Reading, look};
 use crate::places::key_at;
 use dp_shared::{Inside, Shared};
 use dp_state::State;
@@ -44,7 +44,7 @@ pub fn then_inside(
     }
 }
 
-/// The same where the index is there.
+/// The entry of a value under an index that is evaluated.
 pub fn inside_at(
     alloc: Global,
     reading: Reading,

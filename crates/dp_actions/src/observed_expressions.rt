@@ -3,8 +3,8 @@
 #![tactic(auto, using(crate::proofs::AtOnceLaws::acting))]
 
 use crate::after::then_unary;
+use crate::entry_reads::Reading;
 use crate::halt::Halt;
-use crate::in_place::Reading;
 use crate::observer::Observer;
 use crate::operands::{text_value, variable_value};
 use dp_shared::Shared;

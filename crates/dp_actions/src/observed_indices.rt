@@ -4,8 +4,8 @@
 
 use crate::after::then_found;
 use crate::answers::is_missing;
+use crate::entry_reads::Reading;
 use crate::halt::Halt;
-use crate::in_place::Reading;
 use crate::inside::then_inside;
 use crate::observer::Observer;
 use dp_shared::{Inside, Shared};

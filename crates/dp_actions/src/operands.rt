@@ -31,7 +31,7 @@ pub fn variable_value(name: &Bytes, state: &State) -> Result<Shared, Halt>
     Ok(variable(name, state)?)
 }
 
-/// A value that is not null.
+/// The value, or `None` if it is null.
 pub fn present(value: Shared) -> Option<Shared>
     ensures { result ≡ present_of value }
 {
@@ -42,7 +42,7 @@ pub fn present(value: Shared) -> Option<Shared>
     Some(value)
 }
 
-/// A value that holds.
+/// The value, or `None` if it does not hold.
 pub fn kept(value: Shared) -> Option<Shared>
     ensures { result ≡ kept_of value }
 {

@@ -14,9 +14,9 @@ ghost use Rattle.dp_actions.specs.Values.{value_run};
 ghost use Rattle.dp_actions.specs.Run.{taken};
 
 use crate::answers::value_of;
+use crate::entry_reads::{Reading, entry_by};
 use crate::faults::settled;
 use crate::halt::Halt;
-use crate::in_place::{Reading, entry_by};
 use crate::operands::variable_value;
 use dp_shared::Shared;
 use dp_state::State;
@@ -166,7 +166,7 @@ pub fn key_at(alloc: Global, index: &Value) -> Result<Option<Key>, Memory>
     }
 }
 
-/// Keys that are there.
+/// Copies of the keys, each as `Some`: `None` would be an index that is no key.
 pub fn given_keys(alloc: Global, keys: &[Key]) -> Result<Vec<Option<Key>>, Memory>
     ensures { IfOk result (λ given. given.items ≡ all_given keys.now) }
 {

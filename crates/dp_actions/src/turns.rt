@@ -1,7 +1,7 @@
 //! The turns of loops.
 
 ghost use Rattle.std.specs.Prelude.{◌≡◌};
-ghost use Rattle.dp_actions.specs.Loops.{turn_of, last_holds as ends_true};
+ghost use Rattle.dp_actions.specs.Loops.{step_after, last_holds as ends_true};
 
 use crate::signal::Signal;
 use dp_shared::Shared;
@@ -16,9 +16,9 @@ pub enum LoopStep {
     Out(Signal),
 }
 
-/// What comes after the body of a loop.
-pub fn turn_over(signal: Signal) -> LoopStep
-    ensures { result ≡ turn_of signal }
+/// What a signal of a loop's body leads to: `break` and `continue` with a number count down.
+pub fn after_body(signal: Signal) -> LoopStep
+    ensures { result ≡ step_after signal }
 {
     match signal {
         Signal::Next => LoopStep::On,
@@ -38,7 +38,7 @@ pub fn turn_over(signal: Signal) -> LoopStep
     }
 }
 
-/// Whether the last of the values of a test holds; without one there is no end.
+/// Whether the last value of a test holds; true if there is none.
 pub fn last_holds(values: &[Shared]) -> bool
     ensures { result ≡ ends_true values.now }
 {

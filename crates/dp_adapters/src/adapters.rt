@@ -13,25 +13,25 @@ use std::io::{ErrorKind, Read, Write};
 
 /// A source over a reader. It tells no bytes, and its count rises at each error of the reader.
 #[derive(Drop)]
-pub struct Reading<R> {
+pub struct ReaderSource<R> {
     pub inner: R,
     pub faults: Faults,
 }
 
-impl<R> Reading<R> {
+impl<R> ReaderSource<R> {
     /// A source over this reader, which has not failed yet.
     pub fn new(inner: R) -> Self
         ensures inner { result.inner ≡ inner }
         ensures faults { result.faults ≡ 0 }
     {
-        Reading {
+        ReaderSource {
             inner,
             faults: Faults::new(),
         }
     }
 }
 
-impl<R: Read> Source for Reading<R> {
+impl<R: Read> Source for ReaderSource<R> {
     ghost left = { λ _. None };
 
     ghost given = { λ _. None };
@@ -62,25 +62,25 @@ impl<R: Read> Source for Reading<R> {
 /// It is for a stream that nobody waits on at its other end, and is no link: its `finish` does nothing, so the stream
 /// ends when its owner drops it. A link's sink ends the link in both directions.
 #[derive(Drop)]
-pub struct Writing<W> {
+pub struct WriterSink<W> {
     pub inner: W,
     pub faults: Faults,
 }
 
-impl<W> Writing<W> {
+impl<W> WriterSink<W> {
     /// A sink over this writer, which has not failed yet.
     pub fn new(inner: W) -> Self
         ensures inner { result.inner ≡ inner }
         ensures faults { result.faults ≡ 0 }
     {
-        Writing {
+        WriterSink {
             inner,
             faults: Faults::new(),
         }
     }
 }
 
-impl<W: Write> Sink for Writing<W> {
+impl<W: Write> Sink for WriterSink<W> {
     ghost taken = { λ _. None };
 
     ghost faults = { λ s. s.faults };

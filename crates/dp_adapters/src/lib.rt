@@ -6,5 +6,5 @@ mod adapters;
 mod tcp;
 mod transfers;
 
-pub use adapters::{FileShelf, Reading, Writing};
+pub use adapters::{FileShelf, ReaderSource, WriterSink};
 pub use tcp::{TcpGate, TcpNet, TcpSink};

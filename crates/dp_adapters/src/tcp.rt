@@ -1,7 +1,7 @@
 //! Links and gates over TCP. They tell nothing, and each count rises at each error.
 ghost use Rattle.std.specs.Prelude.{◌≡◌, IfOk, None};
 
-use crate::Reading;
+use crate::ReaderSource;
 use crate::transfers::write_whole;
 use dp_outside::{Dialer, Failed, Faults, Gate, Host, Net, Sink};
 use std::alloc::Global;
@@ -37,7 +37,7 @@ impl Sink for TcpSink {
 }
 
 /// The source and the sink of a stream, over two handles of it, which sends without delay.
-fn halves(stream: TcpStream) -> Result<(Reading<TcpStream>, TcpSink), Failed>
+fn halves(stream: TcpStream) -> Result<(ReaderSource<TcpStream>, TcpSink), Failed>
     ensures source { IfOk result (λ link. link.0.faults ≡ 0) }
     ensures sink { IfOk result (λ link. link.1.faults ≡ 0) }
 {
@@ -51,7 +51,7 @@ fn halves(stream: TcpStream) -> Result<(Reading<TcpStream>, TcpSink), Failed>
         stream: other,
         faults: Faults::new(),
     };
-    Ok((Reading::new(stream), sink))
+    Ok((ReaderSource::new(stream), sink))
 }
 
 /// A link to the host, where it takes one.
@@ -59,7 +59,7 @@ fn connect<R: Sockets<Listener = TcpListener, Stream = TcpStream>>(
     rt: &R,
     host: &Host,
     port: u16,
-) -> Result<(Reading<TcpStream>, TcpSink), Failed>
+) -> Result<(ReaderSource<TcpStream>, TcpSink), Failed>
     ensures source { IfOk result (λ link. link.0.faults ≡ 0) }
     ensures sink { IfOk result (λ link. link.1.faults ≡ 0) }
 {
@@ -87,7 +87,7 @@ fn host_of(alloc: Global, address: IpAddr) -> Result<Host, Failed> {
 fn next_link(
     alloc: Global,
     listener: &TcpListener,
-) -> Result<(Reading<TcpStream>, TcpSink, Host), Failed>
+) -> Result<(ReaderSource<TcpStream>, TcpSink, Host), Failed>
     ensures source { IfOk result (λ link. link.0.faults ≡ 0) }
     ensures sink { IfOk result (λ link. link.1.faults ≡ 0) }
 {
@@ -119,7 +119,7 @@ pub struct TcpGate {
 }
 
 impl Gate for TcpGate {
-    type In = Reading<TcpStream>;
+    type In = ReaderSource<TcpStream>;
 
     type Out = TcpSink;
 
@@ -133,7 +133,7 @@ impl Gate for TcpGate {
 
     ghost retired = { λ _. None };
 
-    fn accept(&mut self) -> Result<(Reading<TcpStream>, TcpSink, Host), Failed> {
+    fn accept(&mut self) -> Result<(ReaderSource<TcpStream>, TcpSink, Host), Failed> {
         let link = next_link(self.alloc, &self.listener);
         if link.is_err() {
             self.faults.raise();
@@ -141,7 +141,7 @@ impl Gate for TcpGate {
         link
     }
 
-    fn retire(&mut self, source: Reading<TcpStream>, sink: TcpSink) {
+    fn retire(&mut self, source: ReaderSource<TcpStream>, sink: TcpSink) {
         if source.faults.count() != 0 || sink.faults.count() != 0 {
             self.returned.raise();
         }
@@ -187,7 +187,7 @@ impl<'r, R> TcpNet<'r, R> {
 }
 
 impl<'r, R: Sockets<Listener = TcpListener, Stream = TcpStream> + Sync> Dialer for TcpNet<'r, R> {
-    type In = Reading<TcpStream>;
+    type In = ReaderSource<TcpStream>;
 
     type Out = TcpSink;
 
@@ -199,7 +199,11 @@ impl<'r, R: Sockets<Listener = TcpListener, Stream = TcpStream> + Sync> Dialer f
 
     ghost retired = { λ _. None };
 
-    fn dial(&mut self, host: &Host, port: u16) -> Result<(Reading<TcpStream>, TcpSink), Failed> {
+    fn dial(
+        &mut self,
+        host: &Host,
+        port: u16,
+    ) -> Result<(ReaderSource<TcpStream>, TcpSink), Failed> {
         let link = connect(self.rt, host, port);
         if link.is_err() {
             self.faults.raise();
@@ -207,7 +211,7 @@ impl<'r, R: Sockets<Listener = TcpListener, Stream = TcpStream> + Sync> Dialer f
         link
     }
 
-    fn retire(&mut self, source: Reading<TcpStream>, sink: TcpSink) {
+    fn retire(&mut self, source: ReaderSource<TcpStream>, sink: TcpSink) {
         if source.faults.count() != 0 || sink.faults.count() != 0 {
             self.returned.raise();
         }

@@ -10,6 +10,7 @@ use Rattle.dp_parse.specs.declared.errors.ParseError.TheVariants as parse_error
 use Rattle.dp_parse.specs.ExpressionIn.{expression_in}
 use Rattle.dp_tree.specs.declared.tree.Expression.{Expression}
 use Rattle.dp_tree.specs.Purity.{is_pure}
+use Rattle.dp_lexer.specs.Pieces.{longest_name}
 use Rattle.dp_break.specs.declared.breakpoint.BreakRequest.{BreakRequest}
 use Rattle.dp_break.specs.Changes.{IsRequest, new_breakpoint}
 use Rattle.dp_break.specs.Conditions.{condition_of, expression_limit, has_no_tree, if_pure, is_too_long, tree_of}
@@ -17,7 +18,7 @@ use Rattle.dp_break.specs.declared.errors.BreakError.{BreakError}
 use Rattle.dp_break.specs.declared.errors.BreakError.TheVariants as error
 use Rattle.dp_break.specs.Hits.{is_of_function}
 use Rattle.dp_break.specs.Refusals.{cannot_be_held, code_if, place_refusal, plain_refusal, requested_line_refusal}
-use Rattle.dp_break.specs.Tables.{IsSound, Table, breakpoint_limit, last_id, name_limit}
+use Rattle.dp_break.specs.Tables.{IsSound, Table, breakpoint_limit, last_id}
 use Rattle.dp_break.specs.inner.Causes.{IsNoTree, error_of, pure_or_refused}
 
 -- ---- expressions
@@ -106,10 +107,10 @@ module _ (bundle : Bundle) (t : Table) (r : BreakRequest) where
     cases true f = absurd cc
     cases false f = refl
 
-  name_short : (name : Option (List ℕ)) → option_map_or (λ n. nat_lt name_limit (length n)) name false ≡ false
-      → option_map_or (λ n. nat_le (length n) name_limit) name true ≡ true
+  name_short : (name : Option (List ℕ)) → option_map_or (λ n. nat_lt longest_name (length n)) name false ≡ false
+      → option_map_or (λ n. nat_le (length n) longest_name) name true ≡ true
   name_short None e = refl
-  name_short (Some name) e = le-leb (length name) name_limit (ltb-false name_limit (length name) e)
+  name_short (Some name) e = le-leb (length name) longest_name (ltb-false longest_name (length name) e)
 
   has_file : (anyfile of_function : Bool) → (anyfile ≡ true → of_function ≡ true)
       → (of_function || is_some (cond anyfile None (Some r.file))) ≡ true
@@ -122,7 +123,7 @@ module _ (bundle : Bundle) (t : Table) (r : BreakRequest) where
       → IsSound (new_breakpoint t.next tree r)
   sound_request tree request accepted is_tree formed =
       let free = or_parts (nat_le breakpoint_limit (length t.held) || t.next == last_id)
-      (option_map_or (λ n. nat_lt name_limit (length n)) r.function false) (can_be_held accepted) in record {
+      (option_map_or (λ n. nat_lt longest_name (length n)) r.function false) (can_be_held accepted) in record {
         parts = request.parts;
         placed = has_file r.anyfile (is_of_function r.kind) request.anyfile;
         named = name_short r.function free.1;

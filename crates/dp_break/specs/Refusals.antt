@@ -5,6 +5,7 @@ use Rattle.std.specs.Option.{option_map_or, option_or}
 use Rattle.dp_tree.specs.declared.bundle.Bundle.{Bundle}
 use Rattle.dp_tree.specs.CodeLines.{file_lines, has_line}
 use Rattle.dp_tree.specs.declared.tree.File.{File}
+use Rattle.dp_lexer.specs.Pieces.{longest_name}
 use Rattle.dp_break.specs.declared.breakpoint.BreakChange.{BreakChange}
 use Rattle.dp_break.specs.declared.breakpoint.Breakpoint.{Breakpoint}
 use Rattle.dp_break.specs.declared.breakpoint.BreakRequest.{BreakRequest}
@@ -12,7 +13,7 @@ use Rattle.dp_break.specs.declared.errors.BreakError.{BreakError}
 use Rattle.dp_break.specs.declared.errors.BreakError.TheVariants as error
 use Rattle.dp_break.specs.Conditions.{has_no_tree, is_too_long}
 use Rattle.dp_break.specs.Hits.{is_of_function}
-use Rattle.dp_break.specs.Tables.{Table, breakpoint_limit, last_id, name_limit}
+use Rattle.dp_break.specs.Tables.{Table, breakpoint_limit, last_id}
 
 -- ---- lines
 
@@ -35,7 +36,7 @@ requested_line_refusal bundle file line = None
 abbrev pub cannot_be_held : Table → BreakRequest → Bool
 cannot_be_held t r =
     nat_le breakpoint_limit (length t.held) || t.next == last_id
-    || option_map_or (λ name. nat_lt name_limit (length name)) r.function false
+    || option_map_or (λ name. nat_lt longest_name (length name)) r.function false
 
 -- the first of the codes 200, 202 and 203 whose test holds
 abbrev pub place_refusal : Bundle → Table → BreakRequest → Option ℕ

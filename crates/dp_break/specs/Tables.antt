@@ -2,6 +2,7 @@
 use Rattle.std.specs.Prelude.{◌≡◌, ℕ, ◌+◌, ◌≤◌, nat_le, Bool, true, false, not, ◌&&◌, ◌||◌, List, [], ◌∷◌, length, All, Option, is_some, refl}
 use Rattle.std.specs.Coded.{Coded, code_by, coded×, coded_list, coded_ℕ}
 use Rattle.std.specs.Option.{option_map_or}
+use Rattle.dp_lexer.specs.Pieces.{longest_name}
 use Rattle.dp_packet.specs.declared.packet.BreakKind.{BreakKind}
 use Rattle.dp_packet.specs.declared.packet.BreakKind.TheVariants.{Line, Call, Return, Conditional}
 use Rattle.dp_break.specs.contracts.breakpoint.Breakpoint as breakpoint
@@ -33,10 +34,6 @@ breakpoint_limit = 1000
 abbrev pub last_id : ℕ
 last_id = 4294967295
 
--- the most bytes of a function's name
-abbrev pub name_limit : ℕ
-name_limit = 255
-
 -- ---- what is held
 
 -- the parts that a breakpoint of a kind has: its line, its function, its expression
@@ -50,7 +47,7 @@ pub record IsSound (b : Breakpoint) : Type 0 where
   pub parts : has_parts b.kind b.line b.function b.expression ≡ true
   -- only one on a function may be of any file
   pub placed : is_of_function b.kind || is_some b.file ≡ true
-  pub named : option_map_or (λ name. nat_le (length name) name_limit) b.function true ≡ true
+  pub named : option_map_or (λ name. nat_le (length name) longest_name) b.function true ≡ true
   pub tree : b.parsed ≡ tree_of b.expression
   pub formed : has_no_tree b.expression ≡ false
 

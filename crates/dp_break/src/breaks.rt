@@ -17,6 +17,7 @@ use crate::hits::is_of_function;
 use crate::lines::requested_line_refusal;
 use crate::moments::{any_hits, discard, mark, settle};
 use crate::new_breakpoints::new_breakpoint;
+use dp_lexer::NAME_LIMIT;
 use dp_state::{Moment, State};
 use dp_tree::Bundle;
 use dp_value::Memory;
@@ -25,9 +26,6 @@ use std::marker::Model;
 
 /// The most breakpoints.
 const BREAKPOINT_LIMIT: usize = 1000;
-
-/// The most bytes of a function's name.
-const NAME_LIMIT: usize = 255;
 
 /// Breakpoints, in ascending order of their ids. Contracts see them and the id that the next one has.
 #[derive(Debug, Drop)]
@@ -210,7 +208,7 @@ impl Breaks {
         }
     }
 
-    /// Whether a breakpoint hits at a moment in this state, in which expressions are evaluated. Memory is wanted only
+    /// Whether a breakpoint hits at a moment in this state, in which expressions are evaluated. Memory is taken only
     /// where an enabled breakpoint whose place is that of the moment has an expression.
     pub fn is_hit(&self, bundle: &Bundle, moment: &Moment, state: &State) -> Result<bool, Memory>
         ensures hit { IfOk result (λ hit. hit ≡ list_any (hits bundle.now (moment.now, state.now)) self.now.held) }
@@ -220,7 +218,7 @@ impl Breaks {
     }
 
     /// Counts the hits of a moment in this state, takes out the temporary breakpoints that stop, and says whether one
-    /// stops. Memory is wanted only where an enabled breakpoint whose place is that of the moment has an expression;
+    /// stops. Memory is taken only where an enabled breakpoint whose place is that of the moment has an expression;
     /// where it runs out, no breakpoint has changed.
     pub fn pass(&mut self, bundle: &Bundle, moment: &Moment, state: &State) -> Result<bool, Memory>
         ensures held { OnOk result (self.new ≡ record self.old {

@@ -74,7 +74,7 @@ fn is_place_of(breakpoint: &Breakpoint, moment: &Moment) -> bool
     }
 }
 
-/// Whether a breakpoint hits at a moment in a state. Memory is wanted only where that depends on its expression.
+/// Whether a breakpoint hits at a moment in a state. Memory is taken only where that depends on its expression.
 pub(crate) fn is_hit(
     alloc: Global,
     bundle: &Bundle,

@@ -24,7 +24,7 @@ pub fn counting_by_moments()
         ≡ held_after bundle (passed n (stop_above mode bundle held n moments) moments) held }
 {}
 
-/// Where no breakpoint is held, only the mode stops.
+/// If no breakpoint is held, only the mode stops.
 pub fn stops_without_breakpoints()
     ensures { (mode : Moment → Bool) (bundle : Bundle) (n : ℕ) (moments : Moments)
         → stop_above mode bundle [] n moments ≡ position_from (λ at. mode at.0) (n + 1) (drop n moments) }

@@ -14,7 +14,7 @@ use dp_tree::Bundle;
 use dp_value::Memory;
 use std::alloc::Global;
 
-/// Whether one of the breakpoints hits at a moment in a state. Memory is wanted only where one of them asks its
+/// Whether one of the breakpoints hits at a moment in a state. Memory is taken only where one of them asks its
 /// expression.
 pub(crate) fn any_hits(
     alloc: Global,
@@ -35,8 +35,8 @@ pub(crate) fn any_hits(
     Ok(false)
 }
 
-/// Marks the places of the breakpoints that hit at a moment in a state. Memory is wanted only where one of them asks
-/// its expression.
+/// Marks the places of the breakpoints that hit at a moment in a state. Memory is taken only where one of them asks its
+/// expression.
 pub(crate) fn mark(
     alloc: Global,
     bundle: &Bundle,

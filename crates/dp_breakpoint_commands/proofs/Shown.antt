@@ -5,9 +5,10 @@ use Rattle.std.specs.Option.{option_map_or}
 use Rattle.std.proofs.lemmas.Bool.{leb-true, ltb-false}
 use Rattle.std.proofs.lemmas.Fmt.{length-decimal-le}
 use Rattle.std.proofs.lemmas.List.Elements.{All-head, All-tail}
+use Rattle.dp_lexer.specs.Pieces.{longest_name}
 use Rattle.dp_break.specs.declared.breakpoint.Breakpoint.{Breakpoint}
 use Rattle.dp_break.specs.Changes.{held_as, without}
-use Rattle.dp_break.specs.Tables.{IsSound, Table, name_limit}
+use Rattle.dp_break.specs.Tables.{IsSound, Table}
 use Rattle.dp_break.specs.Conditions.{expression_limit}
 use Rattle.dp_break.proofs.Requests.{formed_short}
 use Rattle.dp_markup.specs.declared.tree.Element.{Element}
@@ -86,7 +87,7 @@ pub record IsShort (shown : BreakLine) : Type 0 where
   pub id : shown.id < 2 ^ 32
   pub uri : IfSome shown.uri (λ uri. length uri ≤ 773)
   pub line : IfSome shown.line (λ n. n < 2 ^ 32)
-  pub function : IfSome shown.function (λ name. length name ≤ 255)
+  pub function : IfSome shown.function (λ name. length name ≤ longest_name)
   pub hits : shown.hits < 2 ^ 64
   pub hit_value : shown.hit_value < 2 ^ 32
   pub expression : IfSome shown.expression (λ e. length e ≤ 4096)
@@ -106,7 +107,7 @@ module _ (l : BreakLine) (s : IsShort l) where
             (given_number (codes "lineno") l.line),
         given_short (codes "filename") l.uri 773 s.uri,
         number_short (codes "lineno") l.line s.line,
-        given_short (codes "function") l.function 255 s.function,
+        given_short (codes "function") l.function longest_name s.function,
       )
 
   hits_short : weight (hit_attributes l) ≤ 400
@@ -137,10 +138,10 @@ module _ (l : BreakLine) (s : IsShort l) where
 
 -- ---- breakpoints
 
-name_short : (name : Option Text) → option_map_or (λ n. nat_le (length n) name_limit) name true ≡ true
-    → IfSome name (λ n. length n ≤ 255)
+name_short : (name : Option Text) → option_map_or (λ n. nat_le (length n) longest_name) name true ≡ true
+    → IfSome name (λ n. length n ≤ longest_name)
 name_short None e = tt
-name_short (Some name) e = leb-true (length name) 255 e
+name_short (Some name) e = leb-true (length name) longest_name e
 
 text_within : (expression : Option Text)
     → option_map_or (λ text. nat_lt expression_limit (length text)) expression false ≡ false

@@ -13,8 +13,8 @@ use dp_command::BreakpointUpdate;
 /// The change that a breakpoint_update command asks for, of a breakpoint of this kind. DBGp 1.0, "breakpoint_update".
 ///
 /// It is refused with code 3 for a line of a call or return breakpoint or a hit rule that is none, and else with 204
-/// for a state that is none. The codes 205, 202 and 203 are not tested here. Takes no memory, and never answers want of
-/// it.
+/// for a state that is none. The codes 205, 202 and 203 are not tested here. Takes no memory, and never answers
+/// `Memory`.
 pub fn breakpoint_change(
     kind: BreakKind,
     update: &BreakpointUpdate,

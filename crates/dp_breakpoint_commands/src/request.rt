@@ -87,7 +87,7 @@ fn file_given(
     ensures file { IfOk result (λ file. file ≡ meant (named_file bundle.now) value.now) }
     ensures found { OnOk result (first_code (spec.file_tests bundle.now value.now) ≡ None) }
     ensures refused { IfErr result (IsCause (first_code (spec.file_tests bundle.now value.now))) }
-    // Memory is wanted only to decode a URI.
+    // Memory is taken only to decode a URI.
     ensures memory { option_map_or is_uri value.now false ≡ false → length bundle.now.files ≤ u32.MAX
         → IfErr result (IsCode (first_code (spec.file_tests bundle.now value.now))) }
 {

@@ -21,7 +21,7 @@ pub struct Addressee {
 impl Addressee {
     ghost use Rattle.dp_command.specs.Refusals as spec;
 
-    /// Who sent bytes that spell no line: both are empty. Takes no memory.
+    /// The addressee of a reply to bytes that spell no line: both parts are empty. Takes no memory.
     pub fn nobody(alloc: Global) -> Addressee
         ensures command { result.command ≡ [] }
         ensures id { result.id ≡ [] }
@@ -32,7 +32,7 @@ impl Addressee {
         }
     }
 
-    /// Who sent a line: its command's name, and its transaction id where it has one.
+    /// The addressee of a reply to a line: its command's name, and its transaction id if it has one.
     pub fn of(alloc: Global, line: &Line) -> Result<Addressee, Memory>
         requires { length line.now.name ≤ command_name_limit }
         ensures command { IfOk result (λ to. to.command ≡ line.now.name) }

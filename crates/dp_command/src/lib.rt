@@ -32,4 +32,4 @@ pub use line_writer::write_line;
 pub use names::CommandName;
 pub use numbers::number_of;
 pub use options::{has_duplicate, option_value};
-pub use refusals::{check_line, fits_row, id_of};
+pub use refusals::{fits_row, id_of};

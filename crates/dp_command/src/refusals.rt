@@ -64,22 +64,6 @@ impl CommandName {
     }
 }
 
-/// The name of a command that has no refusal, or the first refusal: a letter that stands twice, an
-/// unknown name, no transaction id, and last the options and the payload. A test of the session's
-/// state has its place before `InvalidOptions`. Takes no memory.
-pub fn check_line(line: &Line) -> Result<CommandName, Refusal>
-    ensures refused { IfErr result (λ refusal. spec.first_refusal line.now ≡ Some refusal) }
-    ensures accepted { IfOk result (λ _. spec.first_refusal line.now ≡ None) }
-    ensures named { IfOk result (λ name. name_of line.now.name ≡ Some name) }
-    ensures id { IfOk result (λ _. IsTrue (spec.is_id (spec.id_of line.now))) }
-{
-    let name = CommandName::admit(line)?;
-    if !fits_row(name, line) {
-        return Err(Refusal::InvalidOptions);
-    }
-    Ok(name)
-}
-
 /// Whether the options and the payload are those of the command's row: nothing is missing, nothing
 /// stands there that is not in the row, and nothing is malformed. Takes no memory.
 #[tactic(auto, unfolding(crate::specs::Refusals::fits_row))]

@@ -1,4 +1,4 @@
-//! Going on.
+//! A machine goes on to the first stop or to the end, and counts hits and steps.
 
 ghost use Rattle.std.specs.Prelude.{◌≡◌, ◌+◌, ◌<◌, ◌∷◌, ◌||◌, ℕ, List, [], length, None, true, false, IfOk, OnOk};
 ghost use Rattle.dp_break.specs.StopRule.{held_after, one_stops};
@@ -41,8 +41,8 @@ fn pass(
 
 /// Where a machine comes to that goes on from the moment at which it stands, where it is this deep, and what is held of
 /// the breakpoints then: the first moment past it at which the command or a breakpoint stops, or the end. The hits are
-/// those of the moments up to there, each of which is passed once and takes one step. Where none is held and the
-/// command is `run`, it goes as fast as a program that nothing stops.
+/// those of the moments up to there, each of which is passed once and takes one step. If none is held and the command
+/// is `run`, it goes as fast as a program that nothing stops.
 ///
 /// Once memory ran out nothing is said of the machine and of the breakpoints.
 pub fn go_on_from<L: Ledger>(

@@ -31,8 +31,8 @@ use Rattle.dp_command.specs.Refusals.{fits_row, id_of}
 use Rattle.dp_command.specs.Tests.{Test, first_code}
 use Rattle.dp_engine.specs.declared.states.Phase.{Phase}
 use Rattle.dp_engine.specs.declared.states.Phase.TheVariants.{Starting, Break, Stopping}
-use Rattle.dp_serving.specs.declared.responder.Answer.{Answer}
-use Rattle.dp_serving.specs.Folds.{reply_of}
+use Rattle.dp_conversation.specs.declared.responder.Answer.{Answer}
+use Rattle.dp_conversation.specs.Folds.{reply_of}
 use Rattle.dp_engine.specs.declared.session.SessionEnd.{SessionEnd}
 use Rattle.dp_engine.specs.Answers.{Turn, answer, command_in, continued, done_on, id_in, in_packet, refused, response_in, sent, session_done, shown, to_ide, to_program, turn, turn_by_command, turn_of, written}
 use Rattle.dp_engine.specs.Refused.{IsAnsweredBy, error_alone}

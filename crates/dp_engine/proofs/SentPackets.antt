@@ -11,8 +11,8 @@ use Rattle.dp_packet.specs.Parts.{Text}
 use Rattle.dp_packet.specs.Text.{text}
 use Rattle.dp_packet.specs.Uris.{file_uri}
 use Rattle.dp_packet.proofs.LengthLaws.{packet_some}
-use Rattle.dp_serving.specs.declared.responder.Answer.{Answer}
-use Rattle.dp_serving.specs.Folds.{reply_of}
+use Rattle.dp_conversation.specs.declared.responder.Answer.{Answer}
+use Rattle.dp_conversation.specs.Folds.{reply_of}
 use Rattle.dp_state.specs.declared.state.State.{State as Program}
 use Rattle.dp_wire.specs.Frames.{IsPacketText}
 use Rattle.dp_engine.specs.declared.session.SessionEnd.{SessionEnd}
@@ -71,10 +71,10 @@ unfolding answer
 given_is before next bytes mode written made sent m w t s =
     let fresh : written ≡ written_between before (turn before bytes).next = w
     ∙ ap (written_between before) t.next in λ i. record {
-      packets = (s.packets ∙ (λ j. to_ide (m j) (fresh j) ++ t.tells.text j ∷ [])) i;
+      packets = (s.packets ∙ (λ j. to_ide (m j) (fresh j) ++ t.responds.text j ∷ [])) i;
       program = (s.program ∙ (λ j. to_program (m j) (fresh j))) i;
       state = t.next i;
-      ended = (s.ended ∙ t.tells.ends) i;
+      ended = (s.ended ∙ t.responds.ends) i;
     }
 
 turn_read : (before next : State) (bytes : List ℕ) (line : Option Line) (made : Made) → line ≡ line_of bytes

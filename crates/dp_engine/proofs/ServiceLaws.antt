@@ -5,13 +5,13 @@ use Rattle.std.proofs.KnownBytes.{Appends-trans}
 use Rattle.dp_tree.specs.declared.bundle.Bundle.{Bundle}
 use Rattle.dp_outside.specs.Changes.{Change, change}
 use Rattle.dp_outside.specs.Streams.{AppendsFront}
-use Rattle.dp_serving.specs.declared.link.Fault.{Fault}
-use Rattle.dp_serving.specs.declared.link.Fault.TheVariants as fault
-use Rattle.dp_serving.specs.declared.link.SessionOver.{SessionOver}
-use Rattle.dp_serving.specs.declared.link.SessionOver.TheVariants as over
-use Rattle.dp_serving.specs.Folds.{Reply}
-use Rattle.dp_serving.specs.Service.{IsServed as IsConversed, IsCut as IsBrokenOff}
-use Rattle.dp_serving.proofs.FrontLaws.{front_after, front_all, front_of_more}
+use Rattle.dp_conversation.specs.declared.link.Fault.{Fault}
+use Rattle.dp_conversation.specs.declared.link.Fault.TheVariants as fault
+use Rattle.dp_conversation.specs.declared.link.SessionOver.{SessionOver}
+use Rattle.dp_conversation.specs.declared.link.SessionOver.TheVariants as over
+use Rattle.dp_conversation.specs.Folds.{Reply}
+use Rattle.dp_conversation.specs.Service.{IsServed as IsConversed, IsCut as IsBrokenOff}
+use Rattle.dp_conversation.proofs.FrontLaws.{front_after, front_all, front_of_more}
 use Rattle.dp_wire.specs.Frames.{commands_in, rest_of}
 use Rattle.dp_engine.specs.declared.service.ServeEnd.{ServeEnd}
 use Rattle.dp_engine.specs.declared.service.ServeEnd.TheVariants.{Stopped, Detached, LinkEnd, ReadFault, WriteFault, OutFault, BadCommandFrame, ByteLimit, Memory}
@@ -187,7 +187,7 @@ module _ {W X Y : Type 0} (left : W → Option (List ℕ)) (breaks : W → ℕ) 
         reply = answers bundle bound c.read
 
         there : Appends (prints y0) (prints y2) reply.program
-        there = subst (λ (t : Option (List ℕ)). Appends (prints y0) t reply.program) (sym k.told) c.printed
+        there = subst (λ (t : Option (List ℕ)). Appends (prints y0) t reply.program) (sym k.kept) c.printed
 
   ran_from : (o : SessionOver SessionEnd) (c : Alone o) (served : Served) (asked : ServeEnd) (ended : Option SessionEnd)
       → ended_by o c ≡ ended → rest_after ended state ≡ unwritten state
@@ -264,7 +264,7 @@ module _ {W X Y : Type 0} (left : W → Option (List ℕ)) (breaks : W → ℕ) 
   killed_cut c served l =
       let reply = answers_to bundle bound c.taken in
       let there : Appends (prints y0) (prints y2) reply.program = subst
-      (λ (t : Option (List ℕ)). Appends (prints y0) t reply.program) (sym l.told) c.by.2 in
+      (λ (t : Option (List ℕ)). Appends (prints y0) t reply.program) (sym l.kept) c.by.2 in
       left_to (fault.Write (Some end.Killed)) c served WriteFault l.is_end (
         c.by.0,
         subst (Appends (prints y0) (prints y2)) (sym (append-nil reply.program)
@@ -335,7 +335,7 @@ module _ {W X Y : Type 0} (left : W → Option (List ℕ)) (breaks : W → ℕ) 
       (sym l.is_end)
       (left_to fault.Out c served OutFault l.is_end (
         omega (arith, c.by.0, after),
-        left_front (answers_to bundle bound c.taken).program _ l.told c.by.1,
+        left_front (answers_to bundle bound c.taken).program _ l.kept c.by.1,
         l.outcome,
       ))
   cut_by fault.Memory c served l later after =
@@ -343,7 +343,7 @@ module _ {W X Y : Type 0} (left : W → Option (List ℕ)) (breaks : W → ℕ) 
       (sym l.is_end)
       (left_to fault.Memory c served Memory l.is_end (
         left_front
-            (answers_to bundle bound c.taken).program _ l.told c.by,
+            (answers_to bundle bound c.taken).program _ l.kept c.by,
         l.outcome,
       ))
 

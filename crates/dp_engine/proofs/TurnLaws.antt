@@ -181,7 +181,7 @@ turn_accepted state next line command name id made n i e h =
 -- a turn that is told so, where the session knows then what is asked for
 pub turns : {E : Type 0} (asked : Turn) (next : State) (made : Result Made E)
     → IfOk made (Responds asked.response asked.ended) → next ≡ asked.next → IfOk made (IsTurn asked next)
-turns asked next (Ok made) t n = record { tells = t; next = n }
+turns asked next (Ok made) t n = record { responds = t; next = n }
 turns asked next (Err e) t n = tt
 
 pub turn_refused : {E : Type 0} (state : State) (line : Line) (code : ℕ) (name id : Text) (made : Result Made E)
@@ -471,7 +471,7 @@ module _ (bundle : Bundle) (bound : ℕ) (writes : List NumberedWrite) (moment :
       → IfOk made (Responds response None) → IfOk made (IsTurn (answered command id r state) (with_kept kept))
   write_turn after kept command id r response made same side is t =
       write_responds state (with_kept kept) command id r is.write response made side
-      (ap (λ (p : Program_state). write_response bundle features p command id r) (sym same) ∙ is.told)
+      (ap (λ (p : Program_state). write_response bundle features p command id r) (sym same) ∙ is.answered)
       (ap (λ (p : Program_state). requested_write p r) (sym same) ∙ is.asks)
       (ap with_kept is.list) t
 

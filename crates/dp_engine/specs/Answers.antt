@@ -23,7 +23,7 @@ use Rattle.dp_meaning.specs.declared.writes.Write.{Write}
 use Rattle.dp_packet.specs.declared.packet.Body.TheVariants as body
 use Rattle.dp_packet.specs.declared.packet.Response.{Response}
 use Rattle.dp_packet.specs.Parts.{Text, flag}
-use Rattle.dp_serving.specs.Folds.{Reply}
+use Rattle.dp_conversation.specs.Folds.{Reply}
 use Rattle.dp_view_commands.specs.Views.{view_response}
 use Rattle.dp_wire.specs.Frames.{packet_limit}
 use Rattle.dp_write_commands.specs.Requests.{requested_write}

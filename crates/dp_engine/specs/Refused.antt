@@ -3,7 +3,7 @@ use Rattle.std.specs.Prelude.{◌≡◌, ℕ, List, [], ◌∷◌, ◌++◌, Opt
 use Rattle.dp_command.specs.Lines.{line_of}
 use Rattle.dp_packet.specs.declared.packet.Response.{Response}
 use Rattle.dp_packet.specs.Parts.{Text}
-use Rattle.dp_serving.specs.Folds.{Reply}
+use Rattle.dp_conversation.specs.Folds.{Reply}
 use Rattle.dp_engine.specs.declared.session.SessionEnd.{SessionEnd}
 use Rattle.dp_engine.specs.Answers.{command_in, id_in}
 use Rattle.dp_engine.specs.Responses.{fault_in, fault_response, response_text}

@@ -19,10 +19,6 @@ use Rattle.dp_packet.specs.Uris.{file_uri}
 abbrev pub main_name : Bundle → Text
 main_name bundle = option_map_or (λ file. file.name) (slice_get bundle.files 0) []
 
--- the most bytes of the key that an IDE is found by
-abbrev pub idekey_limit : ℕ
-idekey_limit = 128
-
 -- the packet that opens a session for this key
 unfoldable pub init_text : Bundle → Text → Text
 init_text bundle key =

@@ -4,7 +4,7 @@ use Rattle.std.specs.Prelude.{ℕ, List, [], ◌++◌, Option, Some, None}
 use Rattle.std.specs.List.{flat_map}
 use Rattle.dp_tree.specs.declared.bundle.Bundle.{Bundle}
 use Rattle.dp_meaning.specs.declared.writes.NumberedWrite.{NumberedWrite}
-use Rattle.dp_serving.specs.Folds.{Reply, replies}
+use Rattle.dp_conversation.specs.Folds.{Reply, replies}
 use Rattle.dp_state.specs.declared.moments.Outcome.{Outcome}
 use Rattle.dp_wire.specs.Frames.{commands_in, packet_frame}
 use Rattle.dp_engine.specs.declared.session.SessionEnd.{SessionEnd}

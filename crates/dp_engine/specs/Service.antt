@@ -5,8 +5,8 @@ use Rattle.dp_tree.specs.declared.bundle.Bundle.{Bundle}
 use Rattle.dp_outside.specs.Causes.{Rose}
 use Rattle.dp_outside.specs.Changes.{Change}
 use Rattle.dp_outside.specs.Streams.{AppendsFront}
-use Rattle.dp_serving.specs.declared.link.SessionOver.TheVariants as over
-use Rattle.dp_serving.specs.Service.{EndsBy as IsOverBy, IsReadUpTo}
+use Rattle.dp_conversation.specs.declared.link.SessionOver.TheVariants as over
+use Rattle.dp_conversation.specs.Service.{EndsBy as IsOverBy, IsReadUpTo}
 use Rattle.dp_state.specs.declared.moments.Outcome.{Outcome}
 use Rattle.dp_wire.specs.Frames.{commands_in, rest_of}
 use Rattle.dp_engine.specs.declared.service.ServeEnd.{ServeEnd}
@@ -22,7 +22,7 @@ use Rattle.dp_engine.specs.Served.{alone, alone_with, answers, ending, ending_wi
 abbrev pub IsOver : Option SessionEnd → Type 0
 IsOver ended = (ended ≡ Some end.Killed) ⊎ ((o : Outcome) × (ended ≡ Some (end.Finished o)))
 
--- why a session that no fault of a put cut short ended here: as dp_serving has it, but
+-- why a session that no fault of a put cut short ended here: as dp_conversation has it, but
 -- that a program that had ended and one that was killed are reported alike
 abbrev pub EndsBy : ServeEnd → Option SessionEnd → List ℕ → List ℕ → Change → Type 0
 EndsBy Stopped ended rest read source = IsOver ended

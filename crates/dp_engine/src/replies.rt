@@ -25,8 +25,8 @@ use std::alloc::Global;
 #[derive(Debug, Drop)]
 pub(crate) struct Turn {
     /// The text of its response.
-    pub text: Bytes,
-    pub ended: Option<SessionEnd>,
+    pub(crate) text: Bytes,
+    pub(crate) ended: Option<SessionEnd>,
 }
 
 /// A response, after which the session has ended so, or goes on.
@@ -115,7 +115,7 @@ fn tell_command(
     tell(alloc, response)
 }
 
-/// How it is reported whether a command has this name.
+/// `1` if a command has this name, else `0`.
 fn supported(name: &[u8]) -> &'static [u8]
     ensures text { result.now ≡ flag (is_some (name_of name.now)) }
     ensures short { length result.now ≤ 16 }

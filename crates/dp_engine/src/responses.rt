@@ -20,7 +20,7 @@ fn pair(alloc: Global, name: &[u8], value: &[u8]) -> Result<(Bytes, Bytes), Memo
     Ok((name, value))
 }
 
-/// Two attributes.
+/// These two attributes, in this order; names and values are copied.
 fn pairs(
     alloc: Global,
     first: (&[u8], &[u8]),
@@ -78,7 +78,7 @@ pub(crate) fn status(
     response(alloc, to, attributes, Body::Nothing)
 }
 
-/// What tells a value, where there is one.
+/// The body of a feature's response: its value as text, or nothing if it has none.
 fn value_body(value: Option<Bytes>) -> Body
     ensures { result ≡ spec.value_body value }
 {
@@ -135,7 +135,7 @@ pub(crate) fn success(alloc: Global, to: &Addressee, success: bool) -> Result<Re
     response(alloc, to, attributes, Body::Nothing)
 }
 
-/// How it is reported whether something is so.
+/// `1` if it holds, else `0`.
 pub(crate) fn flag(holds: bool) -> &'static [u8]
     ensures text { result.now ≡ flag_text holds }
     ensures short { length result.now ≤ 16 }

@@ -9,8 +9,8 @@ ghost use Rattle.dp_engine.specs.Service.{Serves};
 ghost use Rattle.dp_engine.specs.Session.{opening};
 
 use crate::session::{Answer, Session, SessionEnd};
+use dp_conversation::{Fault, Responder, SessionOver, converse, put_unless_empty};
 use dp_outside::{Sink, Source};
-use dp_serving::{Fault, Responder, SessionOver, converse, put_unless_empty};
 use dp_state::Outcome;
 use dp_step::Steps;
 use dp_value::{Bytes, Memory};
@@ -169,7 +169,7 @@ fn close_cut<E: Sink, L: Ledger>(
 
 /// Serves a session over a link: sends its first packet and answers each command that comes, up to an end.
 ///
-/// The program's own output goes to `out`. Where the link ends or fails first, the program runs on to its end, unless a
+/// The program's own output goes to `out`. If the link ends or fails first, the program runs on to its end, unless a
 /// command has killed it. It waits in the calls of the link alone.
 ///
 /// The steps that it takes are counted; no clause says how many these are.

@@ -2,7 +2,8 @@
 ghost use Rattle.std.specs.Prelude.{◌≡◌, ◌≢◌, ◌+◌, ◌≤◌, ◌∷◌, ◌++◌, [], drop, length, map, IfOk, OnOk};
 ghost use Rattle.std.specs.List.{AllByRecursion};
 ghost use Rattle.dp_wire.specs.Frames.{IsCommand, IsPacketText};
-ghost use Rattle.dp_engine.specs.Responses.{idekey_limit, init_text, main_name};
+ghost use Rattle.dp_outside.specs.Names.{key_limit};
+ghost use Rattle.dp_engine.specs.Responses.{init_text, main_name};
 ghost use Rattle.dp_engine.specs.inner.Sizes.{IsShortLine};
 ghost use Rattle.dp_engine.specs.inner.Turns.{IsSent};
 ghost use Rattle.dp_command.specs.Lines.{line_of};
@@ -37,7 +38,7 @@ pub enum SessionEnd {
 }
 
 /// What one command leads to.
-pub type Answer = dp_serving::Answer<SessionEnd>;
+pub type Answer = dp_conversation::Answer<SessionEnd>;
 
 /// A session. Contracts see what it knows.
 #[derive(Drop)]
@@ -128,7 +129,7 @@ impl<'a> Session<'a> {
     ghost use Rattle.dp_engine.specs.Refusals.{refusal};
     ghost use Rattle.dp_engine.specs.Refused.{IsAnsweredBy};
     ghost use Rattle.dp_engine.specs.Session.{opening, outcome_of, program_of, steps_between, steps_left, unwritten};
-    ghost use Rattle.dp_serving.specs.Folds.{reply_of};
+    ghost use Rattle.dp_conversation.specs.Folds.{reply_of};
     ghost use Rattle.dp_state.specs.States.{IsOf};
 
     /// A session over a program that may have so many moments, in the state starting, and the text of its first packet.
@@ -141,7 +142,7 @@ impl<'a> Session<'a> {
         key: &[u8],
         bound: u64,
     ) -> Result<(Session<'a>, Bytes), Memory>
-        requires key { length key.now ≤ idekey_limit }
+        requires key { length key.now ≤ key_limit }
         requires names { AreFileNames (map (λ f. f.name) bundle.now.files) }
         ensures opening { IfOk result (λ begun. begun.0 ≡ opening bundle.now bound) }
         ensures text { IfOk result (λ begun. begun.1 ≡ init_text bundle.now key.now) }
@@ -293,7 +294,7 @@ impl<'a> Session<'a> {
 
 /// The text of the packet that opens a session.
 fn first_packet(alloc: Global, bundle: &Bundle, key: &[u8]) -> Result<Bytes, Memory>
-    requires key { length key.now ≤ idekey_limit }
+    requires key { length key.now ≤ key_limit }
     requires name { length (main_name bundle.now) ≤ file_name_limit }
     ensures text { IfOk result (λ text. text ≡ init_text bundle.now key.now) }
     ensures is_text { IfOk result IsPacketText }

@@ -30,7 +30,7 @@ impl<'a> Session<'a> {
     ghost use Rattle.dp_engine.specs.Responses.{fault_response};
     ghost use Rattle.dp_engine.specs.inner.Turns.{answered, IsTurn, Responds};
 
-    /// What a line leads to, or bytes that spell no line.
+    /// Does what a command line asks for and makes its turn. Bytes that spell no line (`None`) are refused with 1.
     pub(crate) fn turn<L: Ledger>(
         &mut self,
         alloc: Global,
@@ -47,7 +47,7 @@ impl<'a> Session<'a> {
         }
     }
 
-    /// What a line leads to.
+    /// The same of a line that was read: its first refusal, or what its request leads to.
     fn turn_on<L: Ledger>(
         &mut self,
         alloc: Global,
@@ -166,7 +166,7 @@ impl<'a> Session<'a> {
     /// What a command that writes leads to. The write is made at once.
     fn write(&mut self, alloc: Global, to: &Addressee, request: &Request) -> Result<Turn, Memory>
         requires side { side_of request.now ≡ Side.Writes }
-        requires stands { self.old.phase ≡ Phase.Break }
+        requires is_break { self.old.phase ≡ Phase.Break }
         ensures turn { IfOk result (IsTurn (answered to.now.command to.now.id request.now self.old) self.new) }
         ensures stays { moments_so_far self.new ≡ moments_so_far self.old }
     {

@@ -6,23 +6,23 @@ use Rattle.dp_lexer.specs.declared.token.TokenKind.TheVariants as kind
 use Rattle.dp_lexer.specs.Keywords.{is_reserved}
 use Rattle.dp_expressions.specs.declared.operand.Part.TheVariants as part
 use Rattle.dp_expressions.specs.declared.rank.Rank.{Rank}
-use Rattle.dp_rules.specs.declared.terminal.Terminal.{Terminal}
-use Rattle.dp_rules.specs.declared.terminal.Terminal.TheVariants as terminal
+use Rattle.dp_token_rules.specs.declared.terminal.Terminal.{Terminal}
+use Rattle.dp_token_rules.specs.declared.terminal.Terminal.TheVariants as terminal
 use Rattle.dp_tree.specs.declared.tree.Expression.{Expression}
 use Rattle.dp_tree.specs.declared.tree.Expression.TheVariants as tree
 use Rattle.dp_tree.specs.declared.tree.Order.TheVariants.{StepFirst}
-use Rattle.dp_rules.specs.Terminals.{terminal_of, same_terminal, is, is_superglobal}
-use Rattle.dp_rules.specs.Rules.{Rule, Joined, Gives, Made, One, Mark, Closed, Perhaps}
-use Rattle.dp_rules.specs.Lists.{NextItem, SomeItems, AnyItems}
+use Rattle.dp_token_rules.specs.Terminals.{terminal_of, same_terminal, is, is_superglobal}
+use Rattle.dp_token_rules.specs.Rules.{Rule, Joined, Gives, Made, One, Mark, Closed, Perhaps}
+use Rattle.dp_token_rules.specs.Lists.{NextItem, SomeItems, AnyItems}
 use Rattle.dp_expressions.specs.Grammar.{prefix_in, step_in, inclusion_in, constant_in, place, value_of, Ladder, ranks, OperandRule, CoalesceRule, CoalesceRest, ConditionalRest, Primary, PlaceOf, PlaceRule, inner, Links, chained}
 use Rattle.dp_expressions.specs.inner.Readers.{begins_expression, tree_of}
-use Rattle.dp_rules.proofs.Terminals.{placed, mark_passes, mark_alone, implied}
-use Rattle.dp_rules.proofs.Answers.{Rules, JoinedAt, OneAt, MadeAt, StartsIn, give, behind, joined_starts, made_starts, or_starts, starts_in_more}
-use Rattle.dp_rules.proofs.Readers.{marked}
-use Rattle.dp_rules.specs.TokenValues.{Text, unless, variable_in, name_in, number_in, text_in, by_terminal, by_kind}
+use Rattle.dp_token_rules.proofs.Terminals.{placed, mark_passes, mark_alone, implied}
+use Rattle.dp_token_rules.proofs.Answers.{Rules, JoinedAt, OneAt, MadeAt, StartsIn, give, behind, joined_starts, made_starts, or_starts, starts_in_more}
+use Rattle.dp_token_rules.proofs.Readers.{marked}
+use Rattle.dp_token_rules.specs.TokenValues.{Text, unless, variable_in, name_in, number_in, text_in, by_terminal, by_kind}
 use Rattle.dp_expressions.proofs.Least.{zero_token, zero_text, zero_tree, variable_name, variable_text, variable_place, gives_it, no_more, then_nothing, least_ladder, least_operand, least_whole, least_place}
 use Rattle.dp_expressions.proofs.Factored.{StepLast, from_operand}
-use Rattle.dp_rules.proofs.More.{sort_starts, one_of_sort}
+use Rattle.dp_token_rules.proofs.More.{sort_starts, one_of_sort}
 use Rattle.dp_expressions.proofs.ExpressionParts.{Under, ItemAt, PlaceUnder, OperandAt, PlaceAt, OtherAt, CoalesceAt, ConditionalAt, IncludeAt, At, begins_other, begins_inclusion, place_starts, other_starts}
 
 -- ---- what expressions begin with

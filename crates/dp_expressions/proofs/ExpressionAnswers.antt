@@ -8,30 +8,30 @@ use Rattle.dp_expressions.specs.declared.operand.Part.{Part}
 use Rattle.dp_expressions.specs.declared.operand.Part.TheVariants as part
 use Rattle.dp_expressions.specs.declared.rank.Rank.{Rank}
 use Rattle.dp_expressions.specs.declared.rank.Rank.TheVariants as rank
-use Rattle.dp_rules.specs.declared.terminal.Terminal.{Terminal}
-use Rattle.dp_rules.specs.declared.terminal.Terminal.TheVariants as terminal
+use Rattle.dp_token_rules.specs.declared.terminal.Terminal.{Terminal}
+use Rattle.dp_token_rules.specs.declared.terminal.Terminal.TheVariants as terminal
 use Rattle.dp_tree.specs.declared.tree.Expression.{Expression}
 use Rattle.dp_tree.specs.declared.tree.Expression.TheVariants as tree
 use Rattle.dp_tree.specs.declared.tree.Place.{Place}
-use Rattle.dp_rules.specs.Terminals.{is, head}
-use Rattle.dp_rules.specs.inner.Input.{Reader, ◌>>=◌, ◌>>◌, made, mark, enter, sort}
-use Rattle.dp_rules.specs.Rules.{Joined, Made, Mark, One}
+use Rattle.dp_token_rules.specs.Terminals.{is, head}
+use Rattle.dp_token_rules.specs.inner.Input.{Reader, ◌>>=◌, ◌>>◌, made, mark, enter, sort}
+use Rattle.dp_token_rules.specs.Rules.{Joined, Made, Mark, One}
 use Rattle.dp_expressions.specs.Grammar.{inclusion_in, assignment_in, assigned, value_of, ranks, CoalesceRest, Branches, ConditionalRest, inner, IsExpression, IsPlace}
 use Rattle.dp_expressions.specs.inner.Readers.{begins_expression, ladder, ladder_from, alone, coalesce_rest, coalesce, middle, branches, conditional_rest, going_on, included, pushed, assignment, rest_of, opening, whole, reads_part, below, reading, reading_place}
-use Rattle.dp_rules.proofs.Terminals.{placed, mark_passes, mark_fails, not_true, excluded, implied}
-use Rattle.dp_rules.proofs.Answers.{Rules, JoinedAt, EitherAt, GivesAt, OneAt, MarkAt, MadeAt, PerhapsAt, IsRead, Answers, Follows, Can, Apart, StartsIn, give, behind, mark_starts, joined_starts, made_starts, nests_starts, gives_apart, starts_follow, gives_follow, either_follows, joined_answers, made_answers, gives_answers, equal_answers, either_answers, perhaps_answers, within_answers}
-use Rattle.dp_rules.proofs.Readers.{marked, mark_then}
+use Rattle.dp_token_rules.proofs.Terminals.{placed, mark_passes, mark_fails, not_true, excluded, implied}
+use Rattle.dp_token_rules.proofs.Answers.{Rules, JoinedAt, EitherAt, GivesAt, OneAt, MarkAt, MadeAt, PerhapsAt, IsRead, Answers, Follows, Can, Apart, StartsIn, give, behind, mark_starts, joined_starts, made_starts, nests_starts, gives_apart, starts_follow, gives_follow, either_follows, joined_answers, made_answers, gives_answers, equal_answers, either_answers, perhaps_answers, within_answers}
+use Rattle.dp_token_rules.proofs.Readers.{marked, mark_then}
 use Rattle.dp_expressions.proofs.Heights.{looser, stop_at, looser_less}
 use Rattle.dp_expressions.proofs.Least.{zero_text, zero_tree, gives_it, then_nothing, least_whole, least_coalesce, variable_text, variable_place, least_operand, least_expression, least_is_place}
 use Rattle.dp_expressions.proofs.Factored.{PushTail, Going, AssignmentTail, Rest, spells, no_push, to_expression, from_expression}
-use Rattle.dp_rules.proofs.More.{level_self, sort_starts, one_of_sort, one_then, joined_follows, choice_answers, NestedAt, nested_answers}
+use Rattle.dp_token_rules.proofs.More.{level_self, sort_starts, one_of_sort, one_then, joined_follows, choice_answers, NestedAt, nested_answers}
 use Rattle.dp_expressions.proofs.ExpressionParts.{At, Under, stop_of, may_read, Reads, inner_answers, some_whole_under, some_coalesce_under, OperandAt, OpeningAt, CoalesceAt, IncludeAt, begins_inclusion}
 use Rattle.dp_expressions.proofs.Begins.{begins_operand, whole_under_starts, include_starts, begins_one}
 use Rattle.dp_expressions.proofs.LadderAnswers.{operates, in_order, LadderAt, FromAt, from_pass, no_links, ladder_answers, ladder_from_answers}
 use Rattle.dp_expressions.proofs.OperandAnswers.{operand_stop, index_answers, alone_answers}
 use Rattle.dp_expressions.proofs.OperandAnswers as operands
 use Rattle.dp_expressions.proofs.OpeningAnswers.{opening_answers, opening_starts}
-use Rattle.dp_rules.specs.TokenValues.{by_terminal}
+use Rattle.dp_token_rules.specs.TokenValues.{by_terminal}
 
 -- ---- behind operands
 

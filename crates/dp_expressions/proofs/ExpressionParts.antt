@@ -4,24 +4,24 @@ use Rattle.dp_lexer.specs.declared.token.Token.{Token}
 use Rattle.dp_expressions.specs.declared.operand.Operand.{Operand}
 use Rattle.dp_expressions.specs.declared.operand.Part.{Part}
 use Rattle.dp_expressions.specs.declared.operand.Part.TheVariants as part
-use Rattle.dp_rules.specs.declared.terminal.Terminal.{Terminal}
-use Rattle.dp_rules.specs.declared.terminal.Terminal.TheVariants as terminal
+use Rattle.dp_token_rules.specs.declared.terminal.Terminal.{Terminal}
+use Rattle.dp_token_rules.specs.declared.terminal.Terminal.TheVariants as terminal
 use Rattle.dp_tree.specs.declared.tree.Expression.{Expression}
 use Rattle.dp_tree.specs.declared.tree.Expression.TheVariants as tree
 use Rattle.dp_tree.specs.declared.tree.Place.{Place}
 use Rattle.dp_tree.specs.declared.tree.Item.{Item}
 use Rattle.dp_tree.specs.declared.tree.Order.TheVariants.{StepFirst}
-use Rattle.dp_rules.specs.Terminals.{is, head}
-use Rattle.dp_rules.specs.inner.Input.{Reader}
-use Rattle.dp_rules.specs.Rules.{Joined, Made, Mark}
-use Rattle.dp_rules.specs.Lists.{SomeItems, AnyItems}
+use Rattle.dp_token_rules.specs.Terminals.{is, head}
+use Rattle.dp_token_rules.specs.inner.Input.{Reader}
+use Rattle.dp_token_rules.specs.Rules.{Joined, Made, Mark}
+use Rattle.dp_token_rules.specs.Lists.{SomeItems, AnyItems}
 use Rattle.dp_expressions.specs.Grammar.{prefix_in, step_in, inclusion_in, constant_in, place, indexed, PlaceOf, Index, PlaceRule, Group, ItemRule, Literal, ArrayCall, Call, Isset, Primary, Prefixed, SteppedFirst, OperandRule, CoalesceRule, ConditionalRule, IncludeRule, ExpressionRule, inner}
-use Rattle.dp_rules.proofs.Answers.{Rules, Stop, JoinedAt, EitherAt, GivesAt, OneAt, MarkAt, MadeAt, ManyAt, Answers, Can, StartsIn, mark_starts, joined_starts, made_starts, or_starts, under_answers}
+use Rattle.dp_token_rules.proofs.Answers.{Rules, Stop, JoinedAt, EitherAt, GivesAt, OneAt, MarkAt, MadeAt, ManyAt, Answers, Can, StartsIn, mark_starts, joined_starts, made_starts, or_starts, under_answers}
 use Rattle.dp_expressions.proofs.Heights.{stop_at}
 use Rattle.dp_expressions.proofs.Least.{zero_text, zero_tree, least_whole, least_coalesce, least_operand}
 use Rattle.dp_expressions.proofs.Factored.{PrimaryIndexed, OtherRule, OpeningRule}
-use Rattle.dp_rules.proofs.More.{sort_starts, variable_starts, name_starts, number_starts, text_starts}
-use Rattle.dp_rules.specs.TokenValues.{variable_in, name_in, number_in, text_in, by_terminal, by_kind}
+use Rattle.dp_token_rules.proofs.More.{sort_starts, variable_starts, name_starts, number_starts, text_starts}
+use Rattle.dp_token_rules.specs.TokenValues.{variable_in, name_in, number_in, text_in, by_terminal, by_kind}
 
 -- ---- the rules at each level
 

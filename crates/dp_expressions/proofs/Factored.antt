@@ -4,17 +4,17 @@ use Rattle.dp_lexer.specs.declared.token.Token.{Token}
 use Rattle.dp_expressions.specs.declared.operand.Operand.{Operand}
 use Rattle.dp_expressions.specs.declared.operand.Operand.TheVariants as opened
 use Rattle.dp_expressions.specs.declared.rank.Rank.{Rank}
-use Rattle.dp_rules.specs.declared.terminal.Terminal.TheVariants as terminal
+use Rattle.dp_token_rules.specs.declared.terminal.Terminal.TheVariants as terminal
 use Rattle.dp_tree.specs.declared.tree.Expression.{Expression}
 use Rattle.dp_tree.specs.declared.tree.Expression.TheVariants as tree
 use Rattle.dp_tree.specs.declared.tree.Place.{Place}
 use Rattle.dp_tree.specs.declared.tree.Order.TheVariants.{ValueFirst}
-use Rattle.dp_rules.specs.Rules.{Rule, Joined, ◌or◌, Gives, Made, Mark, Nests, Chain, Closed, Many}
+use Rattle.dp_token_rules.specs.Rules.{Rule, Joined, ◌or◌, Gives, Made, Mark, Nests, Chain, Closed, Many}
 use Rattle.dp_expressions.specs.Grammar.{Inner, step_in, assignment_in, place, indexed, value_of, chained, assigned, Links, Ladder, PlaceOf, Index, PlaceRule, Isset, Primary, Prefixed, SteppedFirst, SteppedLast, OperandRule, CoalesceRest, CoalesceRule, ConditionalRest, ConditionalRule, IncludeRule, PushRule, ExpressionRule, IsExpression, ranks}
 use Rattle.dp_expressions.specs.inner.Readers.{tree_of}
-use Rattle.dp_rules.proofs.Answers.{give, given}
-use Rattle.dp_rules.proofs.ListAnswers.{behind_made, made_behind}
-use Rattle.dp_rules.specs.TokenValues.{number_in, Kind, Sort, Variable}
+use Rattle.dp_token_rules.proofs.Answers.{give, given}
+use Rattle.dp_token_rules.proofs.ListAnswers.{behind_made, made_behind}
+use Rattle.dp_token_rules.specs.TokenValues.{number_in, Kind, Sort, Variable}
 
 -- ---- one after the other
 

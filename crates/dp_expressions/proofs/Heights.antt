@@ -3,10 +3,10 @@ use Rattle.std.specs.List.{list_all}
 use Rattle.std.proofs.Common.{◌≡◌, ℕ, ◌≤◌, ◌<◌, Bool, true, not, ◌||◌, is_some, nat_lt, nat_eq, refl, ltb-true, lt-ltb, eqb-true, arith}
 use Rattle.dp_expressions.specs.declared.rank.Rank.{Rank}
 use Rattle.dp_expressions.specs.declared.rank.Rank.TheVariants as rank
-use Rattle.dp_rules.specs.declared.terminal.Terminal.{Terminal}
-use Rattle.dp_rules.specs.declared.terminal.Terminal.TheVariants as terminal
+use Rattle.dp_token_rules.specs.declared.terminal.Terminal.{Terminal}
+use Rattle.dp_token_rules.specs.declared.terminal.Terminal.TheVariants as terminal
 use Rattle.dp_expressions.specs.Grammar.{operator_in}
-use Rattle.dp_rules.proofs.Terminals.{all_terminals, implied}
+use Rattle.dp_token_rules.proofs.Terminals.{all_terminals, implied}
 
 -- How loosely such a token goes on with an expression. The last number is that of tokens that go on with none.
 abbrev pub height : Terminal → ℕ

@@ -3,21 +3,21 @@ use Rattle.std.proofs.Common.{◌≡◌, ℕ, ◌<◌, ◌≤◌, Bool, true, fa
 use Rattle.dp_lexer.specs.declared.token.Token.{Token}
 use Rattle.dp_expressions.specs.declared.rank.Rank.{Rank}
 use Rattle.dp_expressions.specs.declared.rank.Rank.TheVariants as rank
-use Rattle.dp_rules.specs.declared.terminal.Terminal.{Terminal}
+use Rattle.dp_token_rules.specs.declared.terminal.Terminal.{Terminal}
 use Rattle.dp_tree.specs.declared.tree.Expression.{Expression}
 use Rattle.dp_tree.specs.declared.tree.Link.{Link}
-use Rattle.dp_rules.specs.Terminals.{head}
-use Rattle.dp_rules.specs.inner.Input.{Reader, ◌>>=◌, made, gives}
+use Rattle.dp_token_rules.specs.Terminals.{head}
+use Rattle.dp_token_rules.specs.inner.Input.{Reader, ◌>>=◌, made, gives}
 use Rattle.dp_expressions.specs.Grammar.{operator_in, link, chained, may_go_on, LinkOf, NextLink, Links, Ladder, ranks}
 use Rattle.dp_expressions.specs.inner.Readers.{link_of, links_step, links_of, ladder, ladder_from}
-use Rattle.dp_rules.proofs.Terminals.{and_parts, both, excluded}
-use Rattle.dp_rules.proofs.Answers.{Rules, GivesAt, OneAt, MadeAt, StepAt, Answers, Follows, Can, GoesOn, StartsIn, give, joined_starts, made_starts, starts_in_more, gives_apart, gives_follow, made_answers, gives_answers, joined_answers, when_holds}
-use Rattle.dp_rules.proofs.Loops.{step_stop, closed_follows, closed_answers, piece_first}
+use Rattle.dp_token_rules.proofs.Terminals.{and_parts, both, excluded}
+use Rattle.dp_token_rules.proofs.Answers.{Rules, GivesAt, OneAt, MadeAt, StepAt, Answers, Follows, Can, GoesOn, StartsIn, give, joined_starts, made_starts, starts_in_more, gives_apart, gives_follow, made_answers, gives_answers, joined_answers, when_holds}
+use Rattle.dp_token_rules.proofs.Loops.{step_stop, closed_follows, closed_answers, piece_first}
 use Rattle.dp_expressions.proofs.Heights.{height, rank_height, looser, stop_at, looser_less, rank_operators}
 use Rattle.dp_expressions.proofs.Least.{gives_it, then_nothing, least_ladder}
 use Rattle.dp_expressions.proofs.Factored.{From}
-use Rattle.dp_rules.proofs.More.{level_self, sort_starts, one_then, joined_follows, made_follows}
-use Rattle.dp_rules.specs.TokenValues.{by_terminal}
+use Rattle.dp_token_rules.proofs.More.{level_self, sort_starts, one_then, joined_follows, made_follows}
+use Rattle.dp_token_rules.specs.TokenValues.{by_terminal}
 
 abbrev pub operates : Rank → Terminal → Bool
 operates r s = is_some (operator_in r s)

@@ -5,12 +5,12 @@ use Rattle.dp_lexer.specs.declared.token.TokenKind.TheVariants as kind
 use Rattle.dp_expressions.specs.declared.rank.Rank.{Rank}
 use Rattle.dp_tree.specs.declared.tree.Expression.{Expression}
 use Rattle.dp_tree.specs.declared.tree.Expression.TheVariants as tree
-use Rattle.dp_rules.specs.declared.terminal.Terminal.TheVariants as terminal
+use Rattle.dp_token_rules.specs.declared.terminal.Terminal.TheVariants as terminal
 use Rattle.dp_tree.specs.declared.tree.Place.{Place}
-use Rattle.dp_rules.specs.Rules.{Rule, Joined, Gives, Closed}
+use Rattle.dp_token_rules.specs.Rules.{Rule, Joined, Gives, Closed}
 use Rattle.dp_expressions.specs.Grammar.{Inner, Ladder, PlaceOf, place, Index, OperandRule, CoalesceRule, ConditionalRule, ExpressionRule, ranks, inner, IsExpression, IsPlace}
-use Rattle.dp_rules.proofs.Terminals.{placed, mark_alone}
-use Rattle.dp_rules.specs.TokenValues.{Text}
+use Rattle.dp_token_rules.proofs.Terminals.{placed, mark_alone}
+use Rattle.dp_token_rules.specs.TokenValues.{Text}
 
 -- `0`
 abbrev pub zero_token : Token

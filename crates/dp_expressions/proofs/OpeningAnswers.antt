@@ -9,29 +9,29 @@ use Rattle.dp_expressions.specs.declared.operand.Operand.{Operand}
 use Rattle.dp_expressions.specs.declared.operand.Operand.TheVariants as opened
 use Rattle.dp_expressions.specs.declared.operand.Part.{Part}
 use Rattle.dp_expressions.specs.declared.operand.Part.TheVariants as part
-use Rattle.dp_rules.specs.declared.terminal.Terminal.{Terminal}
-use Rattle.dp_rules.specs.declared.terminal.Terminal.TheVariants as terminal
+use Rattle.dp_token_rules.specs.declared.terminal.Terminal.{Terminal}
+use Rattle.dp_token_rules.specs.declared.terminal.Terminal.TheVariants as terminal
 use Rattle.dp_tree.specs.declared.tree.Expression.{Expression}
 use Rattle.dp_tree.specs.declared.tree.Expression.TheVariants as tree
 use Rattle.dp_tree.specs.declared.tree.Place.{Place}
 use Rattle.dp_tree.specs.declared.tree.Order.TheVariants.{ValueFirst}
-use Rattle.dp_rules.specs.Terminals.{is, head}
-use Rattle.dp_rules.specs.inner.Input.{Reader, ◌>>=◌, ◌>>◌, gives, made, mark, closed, variable}
-use Rattle.dp_rules.specs.Rules.{Mark}
+use Rattle.dp_token_rules.specs.Terminals.{is, head}
+use Rattle.dp_token_rules.specs.inner.Input.{Reader, ◌>>=◌, ◌>>◌, gives, made, mark, closed, variable}
+use Rattle.dp_token_rules.specs.Rules.{Mark}
 use Rattle.dp_expressions.specs.Grammar.{step_in, place, inner}
 use Rattle.dp_expressions.specs.inner.Readers.{begins_expression, other, step_last, index_or_push, opening_step, opening_place, opening}
-use Rattle.dp_rules.proofs.Terminals.{placed, mark_of, excluded}
-use Rattle.dp_rules.proofs.Answers.{Rules, Anything, JoinedAt, EitherAt, GivesAt, OneAt, MarkAt, MadeAt, ClosedAt, StepAt, Answers, Apart, StartsIn, give, given, mark_starts, joined_starts, made_starts, nests_starts, or_starts, starts_in_more, starts_apart, gives_apart, either_apart, made_apart, anything_follows, mark_answers, made_answers, equal_answers, either_answers}
-use Rattle.dp_rules.proofs.Loops.{step_stop, closed_answers, closed_now}
-use Rattle.dp_rules.proofs.Readers.{marked, mark_then, then_mark}
+use Rattle.dp_token_rules.proofs.Terminals.{placed, mark_of, excluded}
+use Rattle.dp_token_rules.proofs.Answers.{Rules, Anything, JoinedAt, EitherAt, GivesAt, OneAt, MarkAt, MadeAt, ClosedAt, StepAt, Answers, Apart, StartsIn, give, given, mark_starts, joined_starts, made_starts, nests_starts, or_starts, starts_in_more, starts_apart, gives_apart, either_apart, made_apart, anything_follows, mark_answers, made_answers, equal_answers, either_answers}
+use Rattle.dp_token_rules.proofs.Loops.{step_stop, closed_answers, closed_now}
+use Rattle.dp_token_rules.proofs.Readers.{marked, mark_then, then_mark}
 use Rattle.dp_expressions.proofs.Heights.{looser, stop_at}
 use Rattle.dp_expressions.proofs.Least.{gives_it}
 use Rattle.dp_expressions.proofs.Factored.{StepLast, EmptyIndex, PlaceEnd, OpeningPlace}
-use Rattle.dp_rules.proofs.More.{level_self, sort_starts, variable_starts, one_then, choice_answers, NestedAt, nested_answers}
+use Rattle.dp_token_rules.proofs.More.{level_self, sort_starts, variable_starts, one_then, choice_answers, NestedAt, nested_answers}
 use Rattle.dp_expressions.proofs.ExpressionParts.{Under, Reads, inner_answers, IndexAt, OtherAt, OpeningAt, begins_step, begins_other, index_starts, other_starts}
 use Rattle.dp_expressions.proofs.Begins.{whole_under_starts}
 use Rattle.dp_expressions.proofs.OperandAnswers.{operand_stop, step_last_answers, other_answers}
-use Rattle.dp_rules.specs.TokenValues.{Text, variable_in, by_terminal, by_kind}
+use Rattle.dp_token_rules.specs.TokenValues.{Text, variable_in, by_terminal, by_kind}
 
 abbrev stepped : Place → UnaryOp → Operand
 stepped p by = opened.Other (tree.Step by ValueFirst p)

@@ -8,32 +8,32 @@ use Rattle.dp_expressions.specs.declared.operand.Operand.{Operand}
 use Rattle.dp_expressions.specs.declared.operand.Operand.TheVariants as opened
 use Rattle.dp_expressions.specs.declared.operand.Part.{Part}
 use Rattle.dp_expressions.specs.declared.operand.Part.TheVariants as part
-use Rattle.dp_rules.specs.declared.terminal.Terminal.{Terminal}
-use Rattle.dp_rules.specs.declared.terminal.Terminal.TheVariants as terminal
+use Rattle.dp_token_rules.specs.declared.terminal.Terminal.{Terminal}
+use Rattle.dp_token_rules.specs.declared.terminal.Terminal.TheVariants as terminal
 use Rattle.dp_tree.specs.declared.tree.Expression.{Expression}
 use Rattle.dp_tree.specs.declared.tree.Expression.TheVariants as tree
 use Rattle.dp_tree.specs.declared.tree.Place.{Place}
 use Rattle.dp_tree.specs.declared.tree.Item.{Item}
 use Rattle.dp_tree.specs.declared.tree.Order.TheVariants.{StepFirst, ValueFirst}
-use Rattle.dp_rules.specs.Terminals.{terminal_of, same_terminal, is, head}
-use Rattle.dp_rules.specs.inner.Input.{Reader, ◌>>=◌, ◌>>◌, gives, made, refuse, one, mark, enter, sort, variable}
-use Rattle.dp_rules.specs.Rules.{Rule, Joined, Made, Mark, One, Many, Closed, Perhaps}
-use Rattle.dp_rules.specs.Lists.{NextItem, AnyItems, SomeItems}
-use Rattle.dp_rules.specs.inner.ListReaders.{some_items, any_items, many}
+use Rattle.dp_token_rules.specs.Terminals.{terminal_of, same_terminal, is, head}
+use Rattle.dp_token_rules.specs.inner.Input.{Reader, ◌>>=◌, ◌>>◌, gives, made, refuse, one, mark, enter, sort, variable}
+use Rattle.dp_token_rules.specs.Rules.{Rule, Joined, Made, Mark, One, Many, Closed, Perhaps}
+use Rattle.dp_token_rules.specs.Lists.{NextItem, AnyItems, SomeItems}
+use Rattle.dp_token_rules.specs.inner.ListReaders.{some_items, any_items, many}
 use Rattle.dp_expressions.specs.Grammar.{prefix_in, step_in, constant_in, place, item, indexed, PlaceOf, ItemRest, inner}
 use Rattle.dp_expressions.specs.inner.Readers.{begins_expression, tree_of, index, indices, place_rule, place_below, group, item_rest, item_rule, literal, array_call, call, isset, primary, prefixed, stepped_first, other, step_last, alone}
-use Rattle.dp_rules.proofs.Terminals.{and_parts, not_true, placed, mark_passes, mark_of, excluded, implied}
-use Rattle.dp_rules.proofs.Answers.{Rules, Anything, JoinedAt, EitherAt, GivesAt, OneAt, MarkAt, MadeAt, ManyAt, Answers, Follows, Can, StartsIn, give, behind, mark_starts, joined_starts, made_starts, gives_apart, starts_follow, gives_follow, either_follows, anything_follows, one_answers, made_answers, gives_answers, joined_answers, equal_answers, stricter_answers, either_answers, guarded_answers}
-use Rattle.dp_rules.proofs.Loops.{many_none, many_answers}
-use Rattle.dp_rules.proofs.Readers.{marked, mark_then, made_reads, then_mark}
-use Rattle.dp_rules.proofs.ListAnswers.{AreItems, AnyItemsAt, SomeItemsAt, any_items_answers, some_items_answers, any_items_can, some_items_can}
+use Rattle.dp_token_rules.proofs.Terminals.{and_parts, not_true, placed, mark_passes, mark_of, excluded, implied}
+use Rattle.dp_token_rules.proofs.Answers.{Rules, Anything, JoinedAt, EitherAt, GivesAt, OneAt, MarkAt, MadeAt, ManyAt, Answers, Follows, Can, StartsIn, give, behind, mark_starts, joined_starts, made_starts, gives_apart, starts_follow, gives_follow, either_follows, anything_follows, one_answers, made_answers, gives_answers, joined_answers, equal_answers, stricter_answers, either_answers, guarded_answers}
+use Rattle.dp_token_rules.proofs.Loops.{many_none, many_answers}
+use Rattle.dp_token_rules.proofs.Readers.{marked, mark_then, made_reads, then_mark}
+use Rattle.dp_token_rules.proofs.ListAnswers.{AreItems, AnyItemsAt, SomeItemsAt, any_items_answers, some_items_answers, any_items_can, some_items_can}
 use Rattle.dp_expressions.proofs.Heights.{looser, stop_at, looser_less}
 use Rattle.dp_expressions.proofs.Least.{zero_token, zero_text, zero_tree, variable_name, variable_text, variable_place, gives_it, no_more, then_nothing, least_whole, least_operand, least_place}
 use Rattle.dp_expressions.proofs.Factored.{StepLast, to_operand, from_operand}
-use Rattle.dp_rules.proofs.More.{level_self, sort_starts, one_of_sort, name_token, one_then, choice_answers, NestedAt, nested_answers}
+use Rattle.dp_token_rules.proofs.More.{level_self, sort_starts, one_of_sort, name_token, one_then, choice_answers, NestedAt, nested_answers}
 use Rattle.dp_expressions.proofs.ExpressionParts.{Under, Reads, inner_answers, some_whole_under, some_alone_under, IndexAt, PlaceAt, PlaceUnder, GroupAt, ItemAt, LiteralAt, ArrayCallAt, CallAt, IssetAt, PrimaryAt, PrimaryIndexedAt, PrefixedAt, SteppedFirstAt, NumberAt, TextAt, ConstantAt, OtherAt, OperandAt, begins_constant, begins_prefix, begins_step, begins_behind_array, begins_behind_bracket, begins_behind_group, begins_behind_constant, begins_primary, begins_behind_isset, begins_behind_number, begins_behind_step, begins_other, index_starts, index_under_starts, place_starts, place_under_starts, group_starts, literal_starts, array_call_starts, call_starts, isset_starts, prefixed_starts, stepped_first_starts, number_rule_starts, text_rule_starts, behind_array_starts, behind_bracket_starts, behind_group_starts, behind_constant_starts, primary_indexed_starts, behind_isset_starts, behind_number_starts, behind_step_starts, other_starts}
 use Rattle.dp_expressions.proofs.Begins.{whole_under_starts}
-use Rattle.dp_rules.specs.TokenValues.{Text, variable_in, name_in, number_in, text_in, by_terminal, by_kind}
+use Rattle.dp_token_rules.specs.TokenValues.{Text, variable_in, name_in, number_in, text_in, by_terminal, by_kind}
 
 -- ---- places
 

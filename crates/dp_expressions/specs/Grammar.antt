@@ -8,8 +8,8 @@ use Rattle.dp_expressions.specs.declared.operand.Assignment.{Assignment}
 use Rattle.dp_expressions.specs.declared.operand.Assignment.TheVariants as assignment
 use Rattle.dp_expressions.specs.declared.rank.Rank.{Rank}
 use Rattle.dp_expressions.specs.declared.rank.Rank.TheVariants as rank
-use Rattle.dp_rules.specs.declared.terminal.Terminal.{Terminal}
-use Rattle.dp_rules.specs.declared.terminal.Terminal.TheVariants as terminal
+use Rattle.dp_token_rules.specs.declared.terminal.Terminal.{Terminal}
+use Rattle.dp_token_rules.specs.declared.terminal.Terminal.TheVariants as terminal
 use Rattle.dp_tree.specs.declared.tree.Expression.{Expression}
 use Rattle.dp_tree.specs.declared.tree.Expression.TheVariants as tree
 use Rattle.dp_tree.specs.declared.tree.Place.{Place}
@@ -20,9 +20,9 @@ use Rattle.dp_tree.specs.declared.tree.Operator.TheVariants as operator
 use Rattle.dp_tree.specs.declared.tree.Order.TheVariants.{StepFirst, ValueFirst}
 use Rattle.dp_tree.specs.declared.tree.Inclusion.{Inclusion}
 use Rattle.dp_tree.specs.declared.tree.Inclusion.TheVariants as inclusion
-use Rattle.dp_rules.specs.TokenValues.{Text, name_in, number_in, text_in, Sort, Kind, Variable}
-use Rattle.dp_rules.specs.Rules.{Rule, ◌>>=◌, ◌>>◌, ◌or◌, Gives, Made, Mark, When, Nests, Closed, Many, Perhaps}
-use Rattle.dp_rules.specs.Lists.{SomeItems, AnyItems}
+use Rattle.dp_token_rules.specs.TokenValues.{Text, name_in, number_in, text_in, Sort, Kind, Variable}
+use Rattle.dp_token_rules.specs.Rules.{Rule, ◌>>=◌, ◌>>◌, ◌or◌, Gives, Made, Mark, When, Nests, Closed, Many, Perhaps}
+use Rattle.dp_token_rules.specs.Lists.{SomeItems, AnyItems}
 
 -- ---- what a token is worth, by its sort
 

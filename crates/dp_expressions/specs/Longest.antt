@@ -4,12 +4,12 @@ use Rattle.dp_lexer.specs.declared.token.Token.{Token}
 use Rattle.dp_expressions.specs.declared.operand.Part.{Part}
 use Rattle.dp_expressions.specs.declared.operand.Part.TheVariants as part
 use Rattle.dp_grammar.specs.declared.refusal.Refusal.TheVariants.{Unexpected, TooDeep, Memory}
-use Rattle.dp_rules.specs.declared.terminal.Terminal.TheVariants as terminal
+use Rattle.dp_token_rules.specs.declared.terminal.Terminal.TheVariants as terminal
 use Rattle.dp_tree.specs.declared.tree.Expression.{Expression}
-use Rattle.dp_rules.specs.Terminals.{head}
-use Rattle.dp_rules.specs.Rules.{Rule}
-use Rattle.dp_rules.specs.Refused.{IsViable, IsUnexpected, IsTooDeep}
-use Rattle.dp_rules.specs.inner.Input.{Outcome}
+use Rattle.dp_token_rules.specs.Terminals.{head}
+use Rattle.dp_token_rules.specs.Rules.{Rule}
+use Rattle.dp_token_rules.specs.Refused.{IsViable, IsUnexpected, IsTooDeep}
+use Rattle.dp_token_rules.specs.inner.Input.{Outcome}
 use Rattle.dp_expressions.specs.Grammar.{inner, IsExpression, CoalesceRule, OperandRule, Index}
 
 -- `rule level` is what is spelled with at most so many levels of nesting

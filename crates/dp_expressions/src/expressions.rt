@@ -1,7 +1,7 @@
 //! Expressions.
 
 ghost use Rattle.std.specs.Prelude.{◌≡◌, ◌<◌, ◌-◌};
-ghost use Rattle.dp_rules.specs.inner.Input.{Reads};
+ghost use Rattle.dp_token_rules.specs.inner.Input.{Reads};
 ghost use Rattle.dp_expressions.specs.inner.Readers as spec;
 ghost use Rattle.dp_expressions.specs.inner.Readers.{within};
 
@@ -11,7 +11,7 @@ use crate::ladders::RANKS;
 use crate::nodes::{assigned, included, pushed, value_of};
 use crate::operand::{Operand, Part};
 use crate::token_values::{assignment, assignment_in, begins_expression, inclusion, inclusion_in};
-use dp_rules::{Refusal, Terminal, Tokens};
+use dp_token_rules::{Refusal, Terminal, Tokens};
 use dp_tree::{Boxed, Expression, Place};
 use std::alloc::Global;
 

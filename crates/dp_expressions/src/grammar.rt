@@ -2,12 +2,12 @@
 //! Each rule is a method of it, so that it is proved by itself.
 
 ghost use Rattle.std.specs.Prelude.{◌≡◌, ◌<◌, OnOk};
-ghost use Rattle.dp_rules.specs.inner.Input.{Reads, enter};
+ghost use Rattle.dp_token_rules.specs.inner.Input.{Reads, enter};
 ghost use Rattle.dp_expressions.specs.inner.Readers.{below};
 
 use crate::inside::Inside;
 use crate::operand::Part;
-use dp_rules::{Refusal, Tokens, enter};
+use dp_token_rules::{Refusal, Tokens, enter};
 use dp_tree::Expression;
 use std::alloc::Global;
 use std::marker::Model;

@@ -1,12 +1,12 @@
 //! What reads the parts of an expression one level of nesting down, as a value.
 
 ghost use Rattle.std.specs.Prelude.{ℕ, ◌<◌, ◌-◌};
-ghost use Rattle.dp_rules.specs.inner.Input.{Reads};
+ghost use Rattle.dp_token_rules.specs.inner.Input.{Reads};
 ghost use Rattle.dp_expressions.specs.inner.NestedReader.{ReadsInside};
 ghost use Rattle.dp_expressions.specs.inner.Readers.{below};
 
 use crate::operand::Part;
-use dp_rules::{Refusal, Tokens};
+use dp_token_rules::{Refusal, Tokens};
 use dp_tree::Expression;
 use std::alloc::Global;
 

@@ -1,7 +1,7 @@
 //! Operands and the operators between them.
 
 ghost use Rattle.std.specs.Prelude.{◌≡◌, ◌<◌};
-ghost use Rattle.dp_rules.specs.inner.Input.{Reads};
+ghost use Rattle.dp_token_rules.specs.inner.Input.{Reads};
 ghost use Rattle.dp_expressions.specs.inner.Readers as spec;
 ghost use Rattle.dp_expressions.specs.inner.Readers.{within};
 ghost use Rattle.dp_expressions.specs.Grammar as grammar;
@@ -13,7 +13,7 @@ use crate::nodes::chained;
 use crate::operand::Part;
 use crate::rank::Rank;
 use crate::token_values::{is_single, operator, operator_in};
-use dp_rules::{Refusal, Tokens, none, with};
+use dp_token_rules::{Refusal, Tokens, none, with};
 use dp_tree::{Expression, Link};
 use dp_value::Items;
 use std::alloc::Global;

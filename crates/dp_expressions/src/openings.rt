@@ -1,7 +1,7 @@
 //! What expressions begin with.
 
 ghost use Rattle.std.specs.Prelude.{◌≡◌, ◌<◌, []};
-ghost use Rattle.dp_rules.specs.inner.Input.{Reads, closed};
+ghost use Rattle.dp_token_rules.specs.inner.Input.{Reads, closed};
 ghost use Rattle.dp_expressions.specs.inner.Readers as spec;
 ghost use Rattle.dp_expressions.specs.inner.Readers.{within};
 
@@ -10,7 +10,7 @@ use crate::inside::Inside;
 use crate::kept::both;
 use crate::nodes::named;
 use crate::operand::{Operand, Part};
-use dp_rules::{Refusal, Terminal, Tokens, none, with};
+use dp_token_rules::{Refusal, Terminal, Tokens, none, with};
 use dp_tree::Expression;
 use dp_value::Items;
 use std::alloc::Global;

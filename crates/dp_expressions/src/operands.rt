@@ -1,7 +1,7 @@
 //! Operands.
 
 ghost use Rattle.std.specs.Prelude.{◌≡◌, ◌<◌};
-ghost use Rattle.dp_rules.specs.inner.Input.{Reads};
+ghost use Rattle.dp_token_rules.specs.inner.Input.{Reads};
 ghost use Rattle.dp_expressions.specs.inner.Readers as spec;
 ghost use Rattle.dp_expressions.specs.inner.Readers.{within};
 
@@ -12,7 +12,7 @@ use crate::nodes::{indexed, tree_of, unary};
 use crate::operand::{Operand, Part};
 use crate::pieces::{Below, Entry, PlaceBelow};
 use crate::token_values::{constant, names_constant, prefix, prefix_in, step, step_in};
-use dp_rules::{Refusal, Terminal, Tokens, any_items, some_items};
+use dp_token_rules::{Refusal, Terminal, Tokens, any_items, some_items};
 use dp_tree::{Expression, Item, Order, Place};
 use std::alloc::Global;
 
@@ -108,7 +108,7 @@ impl<R: Inside> Grammar<R> {
         Ok(Expression::Isset(places))
     }
 
-    #[tactic(auto, unfolding(crate::specs::inner::Readers::primary, dp_rules::specs::inner::Input::refuse))]
+    #[tactic(auto, unfolding(crate::specs::inner::Readers::primary, dp_token_rules::specs::inner::Input::refuse))]
     fn primary(&self, tokens: &mut Tokens<'_>) -> Result<Expression, Refusal>
         ensures { Reads (within spec.primary self.now tokens.old) result tokens.new }
     {

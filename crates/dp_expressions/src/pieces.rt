@@ -7,7 +7,7 @@ ghost use Rattle.dp_expressions.specs.inner.Readers.{within};
 use crate::grammar::Grammar;
 use crate::inside::Inside;
 use crate::operand::Part;
-use dp_rules::{Piece, Refusal, Tokens};
+use dp_token_rules::{Piece, Refusal, Tokens};
 use dp_tree::{Expression, Item, Place};
 use std::alloc::Global;
 

@@ -1,7 +1,7 @@
 //! Places and their indices.
 
 ghost use Rattle.std.specs.Prelude.{◌≡◌, ◌<◌};
-ghost use Rattle.dp_rules.specs.inner.Input.{Reads};
+ghost use Rattle.dp_token_rules.specs.inner.Input.{Reads};
 ghost use Rattle.dp_expressions.specs.inner.Readers as spec;
 ghost use Rattle.dp_expressions.specs.inner.Readers.{within};
 
@@ -10,7 +10,7 @@ use crate::inside::Inside;
 use crate::kept::both;
 use crate::operand::Part;
 use crate::pieces::{Below, Index};
-use dp_rules::{Refusal, Terminal, Tokens, many};
+use dp_token_rules::{Refusal, Terminal, Tokens, many};
 use dp_tree::{Expression, Place};
 use dp_value::Items;
 use std::alloc::Global;

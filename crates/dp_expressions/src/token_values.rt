@@ -3,12 +3,12 @@
 ghost use Rattle.std.specs.Prelude.{◌≡◌, is_some};
 ghost use Rattle.dp_expressions.specs.Grammar as grammar;
 ghost use Rattle.dp_expressions.specs.inner.Readers as spec;
-ghost use Rattle.dp_rules.specs.inner.Input as input;
-ghost use Rattle.dp_rules.specs.inner.Input.{Reads};
+ghost use Rattle.dp_token_rules.specs.inner.Input as input;
+ghost use Rattle.dp_token_rules.specs.inner.Input.{Reads};
 
 use crate::operand::Assignment;
 use crate::rank::Rank;
-use dp_rules::{Refusal, Terminal, Tokens};
+use dp_token_rules::{Refusal, Terminal, Tokens};
 use dp_tree::{Expression, Inclusion, Operator};
 use dp_value::{BinaryOp, UnaryOp};
 
@@ -141,7 +141,7 @@ pub(crate) fn begins_expression(terminal: Terminal) -> bool
 }
 
 /// An operator that stands before its operand.
-#[tactic(auto, using(dp_rules::proofs::TakenTokens::sort_taken))]
+#[tactic(auto, using(dp_token_rules::proofs::TakenTokens::sort_taken))]
 pub(crate) fn prefix(tokens: &mut Tokens<'_>) -> Result<UnaryOp, Refusal>
     ensures { Reads (input.sort grammar.prefix_in tokens.old) result tokens.new }
 {
@@ -150,7 +150,7 @@ pub(crate) fn prefix(tokens: &mut Tokens<'_>) -> Result<UnaryOp, Refusal>
 }
 
 /// An operator that steps a place by one.
-#[tactic(auto, using(dp_rules::proofs::TakenTokens::sort_taken))]
+#[tactic(auto, using(dp_token_rules::proofs::TakenTokens::sort_taken))]
 pub(crate) fn step(tokens: &mut Tokens<'_>) -> Result<UnaryOp, Refusal>
     ensures { Reads (input.sort grammar.step_in tokens.old) result tokens.new }
 {
@@ -159,7 +159,7 @@ pub(crate) fn step(tokens: &mut Tokens<'_>) -> Result<UnaryOp, Refusal>
 }
 
 /// The word that includes a file.
-#[tactic(auto, using(dp_rules::proofs::TakenTokens::sort_taken))]
+#[tactic(auto, using(dp_token_rules::proofs::TakenTokens::sort_taken))]
 pub(crate) fn inclusion(tokens: &mut Tokens<'_>) -> Result<Inclusion, Refusal>
     ensures { Reads (input.sort grammar.inclusion_in tokens.old) result tokens.new }
 {
@@ -168,7 +168,7 @@ pub(crate) fn inclusion(tokens: &mut Tokens<'_>) -> Result<Inclusion, Refusal>
 }
 
 /// An operator that assigns.
-#[tactic(auto, using(dp_rules::proofs::TakenTokens::sort_taken))]
+#[tactic(auto, using(dp_token_rules::proofs::TakenTokens::sort_taken))]
 pub(crate) fn assignment(tokens: &mut Tokens<'_>) -> Result<Assignment, Refusal>
     ensures { Reads (input.sort grammar.assignment_in tokens.old) result tokens.new }
 {
@@ -177,7 +177,7 @@ pub(crate) fn assignment(tokens: &mut Tokens<'_>) -> Result<Assignment, Refusal>
 }
 
 /// A keyword that names a constant.
-#[tactic(auto, using(dp_rules::proofs::TakenTokens::sort_taken))]
+#[tactic(auto, using(dp_token_rules::proofs::TakenTokens::sort_taken))]
 pub(crate) fn constant(tokens: &mut Tokens<'_>) -> Result<Expression, Refusal>
     ensures { Reads (input.sort grammar.constant_in tokens.old) result tokens.new }
 {
@@ -186,7 +186,7 @@ pub(crate) fn constant(tokens: &mut Tokens<'_>) -> Result<Expression, Refusal>
 }
 
 /// An operator of this rank.
-#[tactic(auto, using(dp_rules::proofs::TakenTokens::sort_taken))]
+#[tactic(auto, using(dp_token_rules::proofs::TakenTokens::sort_taken))]
 pub(crate) fn operator(tokens: &mut Tokens<'_>, rank: Rank) -> Result<Operator, Refusal>
     ensures { Reads (input.sort (grammar.operator_in rank) tokens.old) result tokens.new }
 {

@@ -43,7 +43,11 @@ feature_named name = find (λ feature. bytes_eq (name_of feature) name) every_fe
 abbrev pub value_limit : ℕ
 value_limit = 64
 
--- the most bytes of a text that are shown, where none is set
+-- the most entries of a page, if none is set
+abbrev pub default_children : ℕ
+default_children = 32
+
+-- the most bytes of a text that are shown, if none is set
 abbrev pub default_data : ℕ
 default_data = 1024
 
@@ -60,7 +64,7 @@ pub record Features : Type 0 where
 abbrev pub defaults : Features
 defaults = record {
   multiple_sessions = 0;
-  max_children = 32;
+  max_children = default_children;
   max_data = default_data;
   max_depth = 1;
   show_hidden = 0;
@@ -92,12 +96,16 @@ value_of features SupportsPostmortem = codes "0"
 abbrev pub shown_limit : ℕ
 shown_limit = 1048576
 
+-- the most levels of arrays in one another that can be asked for
+abbrev pub depth_limit : ℕ
+depth_limit = 32
+
 -- the lowest and the greatest number that a feature can be set to
 abbrev pub range_of : Feature → Option (ℕ × ℕ)
 range_of MultipleSessions = Some (0, 1)
 range_of MaxChildren = Some (1, shown_limit)
 range_of MaxData = Some (0, shown_limit)
-range_of MaxDepth = Some (0, 32)
+range_of MaxDepth = Some (0, depth_limit)
 range_of ShowHidden = Some (0, 1)
 range_of NotifyOk = Some (0, 1)
 range_of feature = None

@@ -7,6 +7,9 @@ ghost use Rattle.dp_features.specs.Features as spec;
 /// The most entries of a page, and the most bytes of a text, that can be asked for.
 const SHOWN_LIMIT: u64 = 1_048_576;
 
+/// The most levels of arrays in one another that can be asked for.
+const DEPTH_LIMIT: u64 = 32;
+
 /// A feature of the engine: DBGp 1.0, "feature_get".
 #[derive(Clone, Copy, Debug, PartialEq, Eq)]
 pub enum Feature {
@@ -100,7 +103,7 @@ impl Feature {
             Feature::MultipleSessions | Feature::ShowHidden | Feature::NotifyOk => Some((0, 1)),
             Feature::MaxChildren => Some((1, SHOWN_LIMIT)),
             Feature::MaxData => Some((0, SHOWN_LIMIT)),
-            Feature::MaxDepth => Some((0, 32)),
+            Feature::MaxDepth => Some((0, DEPTH_LIMIT)),
             _ => None,
         }
     }

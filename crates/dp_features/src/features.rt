@@ -8,7 +8,10 @@ use dp_value::{Bytes, Memory};
 use std::alloc::Global;
 use std::marker::Model;
 
-/// The most bytes of a text that are shown, where none is set.
+/// The most entries of a page, if none is set.
+const DEFAULT_CHILDREN: u32 = 32;
+
+/// The most bytes of a text that are shown, if none is set.
 const DEFAULT_DATA: u32 = 1024;
 
 /// The features that are set to numbers, each within its range. `multiple_sessions`, `show_hidden`
@@ -79,7 +82,7 @@ impl Features {
     {
         Features {
             multiple_sessions: 0,
-            max_children: 32,
+            max_children: DEFAULT_CHILDREN,
             max_data: DEFAULT_DATA,
             max_depth: 1,
             show_hidden: 0,
@@ -132,7 +135,7 @@ impl Features {
     /// How deep arrays are shown in one another. Takes no memory.
     pub fn max_depth(&self) -> u32
         ensures value { result ≡ self.now.max_depth }
-        ensures bound { result ≤ 32 }
+        ensures bound { result ≤ spec.depth_limit }
     {
         self.max_depth
     }

@@ -51,7 +51,7 @@ fn decoded(alloc: Global, path: &[u8]) -> Result<Bytes, Memory>
 #[tactic(auto, unfolding(crate::specs::Files::name_in))]
 pub fn requested_file(alloc: Global, bundle: &Bundle, value: &[u8]) -> Result<Option<u32>, Memory>
     ensures number { IfOk result (λ number. number ≡ spec.requested_file bundle.now value.now) }
-    // Memory is wanted only to decode a URI, and by more files than can be numbered.
+    // Memory is taken only to decode a URI; it also runs out if there are more files than can be numbered.
     ensures memory { OnErr result ((spec.is_uri value.now ≡ true) ⊎ (u32.MAX < length bundle.now.files)) }
 {
     if value.starts_with(URI_FRONT) {

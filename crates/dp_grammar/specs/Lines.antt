@@ -1,6 +1,6 @@
 -- Texts of lines: what the lines say one after another, and the first with which nothing is said.
-use Rattle.std.specs.Prelude.{◌≡◌, ℕ, suc, ◌+◌, Bool, true, ◌==◌, List, [], ◌∷◌, ◌++◌}
-use Rattle.std.specs.List.{slice_split}
+use Rattle.std.specs.Prelude.{◌≡◌, ℕ, suc, ◌+◌, Bool, true, not, ◌==◌, List, [], ◌∷◌, ◌++◌}
+use Rattle.std.specs.List.{list_all, slice_split}
 use Rattle.dp_grammar.specs.Refused.{IsUnexpected}
 use Rattle.dp_grammar.specs.Texts.{Text}
 
@@ -13,6 +13,10 @@ lines_of text = slice_split (λ byte. byte == 10) text
 abbrev pub is_idle : Text → Bool
 is_idle [] = true
 is_idle (byte ∷ line) = byte == 35
+
+-- no byte is a space
+abbrev pub has_no_blank : Text → Bool
+has_no_blank text = list_all (λ byte. not (byte == 32)) text
 
 -- what a line of this number says behind what was said before it
 abbrev pub LineRule : Type 0 → Type 1

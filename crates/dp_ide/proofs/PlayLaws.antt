@@ -95,7 +95,7 @@ performs_none held kept source sink out reads sends prints = record {
   said = [];
   sends = subst (λ (t : Option (List ℕ)). Appends sink.told_before t []) sends (Appends-nil sink.told_before);
   prints = subst (λ (t : Option (List ℕ)). Appends out.told_before t []) prints (Appends-nil out.told_before);
-  stands =
+  performed =
       λ read printed done stood. stood_as read (read ++ []) done (done ++ []) held kept printed (printed ++ [])
       (sym (append-nil read)) (sym (append-nil done)) (sym (append-nil printed)) stood;
 }
@@ -113,7 +113,7 @@ performs_one one old new before after source sink out piece said texts messages 
       said = said;
       sends = subst (Appends sink.told_before sink.told) (sym (append-nil (sent_by one.act))) sends;
       prints = prints;
-      stands = λ read printed done stood. record {
+      performed = λ read printed done stood. record {
         texts = stood.texts ++ texts;
         each = each_append stood.texts texts stood.each takes.each;
         whole = frames_then read old.held piece new.held stood.texts texts stood.whole takes.whole;
@@ -169,14 +169,14 @@ performs_then ones more a b c before between after source sink out source_2 sink
           (subst (λ (t : Option (List ℕ)). Appends t out_2.told_before first.said) (sym o0)
           (subst (λ (t : Option (List ℕ)). Appends out.told_before t first.said) o1 first.prints))
           (subst (λ (t : Option (List ℕ)). Appends out_2.told_before t then.said) o2 then.prints);
-      stands = λ read printed done stood.
+      performed = λ read printed done stood.
           stood_as ((read ++ first.piece) ++ then.piece) (read ++ (first.piece ++ then.piece)) ((done ++ ones) ++ more)
           (done ++ (ones ++ more)) c after
           ((printed ++ first.said) ++ then.said) (printed ++ (first.said ++ then.said))
           (append_assoc read first.piece then.piece) (append_assoc done ones more)
           (append_assoc printed first.said then.said)
-          (then.stands (read ++ first.piece) (printed ++ first.said) (done ++ ones)
-          (first.stands read printed done stood));
+          (then.performed (read ++ first.piece) (printed ++ first.said) (done ++ ones)
+          (first.performed read printed done stood));
     }
 
 -- ---- what it comes to
@@ -202,7 +202,7 @@ pub ends_done : (script : List Instruction) (old new : Received) (before after :
     → Performs script old new before after source sink out
     → EndsFrom script old before (Ok tt) source sink out
 ends_done script old new before after source sink out performs = λ read told faults stood consumed later.
-    let there = performs.stands read [] [] stood in record {
+    let there = performs.performed read [] [] stood in record {
       read = read ++ performs.piece;
       consumed = Consumes-trans told source.told_before source.told read performs.piece consumed performs.consumed;
       how = inl (record {
@@ -311,7 +311,7 @@ module _ (script done more : List Instruction) (one : Instruction) (split : scri
       }
 
   abbrev there : Stood (read ++ performs.piece) done here kept performs.said
-  there = performs.stands read [] [] stood
+  there = performs.performed read [] [] stood
 
   consumed_here : Consumes told source_2.told_before (read ++ performs.piece)
   consumed_here =

@@ -1,12 +1,11 @@
 -- Scripts of the IDE: one instruction a line. Empty lines and lines that begin with `#` do nothing.
-use Rattle.std.specs.Prelude.{◌≡◌, ◌≢◌, ◌⊎◌, ℕ, ◌+◌, ◌*◌, ◌≤◌, Bool, true, not, ◌==◌, List, [], ◌∷◌, length, Option, Some, codes}
-use Rattle.std.specs.List.{list_all}
+use Rattle.std.specs.Prelude.{◌≡◌, ◌≢◌, ◌⊎◌, ℕ, ◌+◌, ◌*◌, ◌≤◌, true, List, [], ◌∷◌, length, Option, Some, codes}
 use Rattle.dp_command.specs.declared.line.Line.{Line}
 use Rattle.dp_command.specs.Grammar.{Rule, ◌>>◌, Mark, Repeated, spelt}
 use Rattle.dp_command.specs.Letters as letter
 use Rattle.dp_command.specs.Options.{given}
 use Rattle.dp_grammar.specs.Lines as lines
-use Rattle.dp_grammar.specs.Lines.{LineRule, Say, is_idle, lines_of}
+use Rattle.dp_grammar.specs.Lines.{LineRule, Say, has_no_blank, is_idle, lines_of}
 use Rattle.dp_markup.specs.Classes.{hexadecimal_behind}
 use Rattle.dp_reply.specs.Contents.{◌>>=◌, most_16}
 use Rattle.dp_value.specs.Decimals.{decimal_in}
@@ -18,13 +17,10 @@ use Rattle.dp_ide.specs.declared.instruction.Instruction.{Instruction}
 -- ---- names and texts
 
 -- NAME: at least one byte and no space
-abbrev pub has_no_space : List ℕ → Bool
-has_no_space bytes = list_all (λ byte. not (byte == 32)) bytes
-
 pub record Name (name bytes : List ℕ) : Type 0 where
   pub same : bytes ≡ name
   pub some_byte : 1 ≤ length name
-  pub whole : has_no_space name ≡ true
+  pub whole : has_no_blank name ≡ true
 
 -- the number that a hexadecimal digit is, of either case
 abbrev pub digit_of : ℕ → Option ℕ

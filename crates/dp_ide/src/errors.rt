@@ -40,9 +40,9 @@ pub enum IdeError {
 
 impl From<AllocError> for IdeError {
     ghost use Rattle.std.specs.Prelude.{◌≡◌};
-    ghost use Rattle.dp_ide.specs.declared.errors.IdeError.TheVariants.{Memory as WantOfMemory};
+    ghost use Rattle.dp_ide.specs.declared.errors.IdeError.TheVariants.{Memory as OutOfMemory};
 
-    ghost from_gives = { λ _ e. e ≡ WantOfMemory };
+    ghost from_gives = { λ _ e. e ≡ OutOfMemory };
 
     fn from(_: AllocError) -> IdeError {
         IdeError::Memory
@@ -51,9 +51,9 @@ impl From<AllocError> for IdeError {
 
 impl<T: Drop> From<AllocFailed<T>> for IdeError {
     ghost use Rattle.std.specs.Prelude.{◌≡◌};
-    ghost use Rattle.dp_ide.specs.declared.errors.IdeError.TheVariants.{Memory as WantOfMemory};
+    ghost use Rattle.dp_ide.specs.declared.errors.IdeError.TheVariants.{Memory as OutOfMemory};
 
-    ghost from_gives = { λ _ e. e ≡ WantOfMemory };
+    ghost from_gives = { λ _ e. e ≡ OutOfMemory };
 
     fn from(_: AllocFailed<T>) -> IdeError {
         IdeError::Memory

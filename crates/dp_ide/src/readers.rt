@@ -1,7 +1,7 @@
 //! Reading a script.
 ghost use Rattle.std.specs.Prelude.{◌≡◌, ◌⊎◌, ℕ, List, IfOk, IfErr, MatchResult};
 ghost use Rattle.dp_ide.specs.Scripts.{IsFirstBad, IsScript};
-ghost use Rattle.dp_ide.specs.declared.instruction.Instruction.{Instruction as Told};
+ghost use Rattle.dp_ide.specs.declared.instruction.Instruction.{Instruction as AnyInstruction};
 ghost use Rattle.dp_ide.specs.inner.Readers.{Takes};
 
 use crate::acts::act_in;
@@ -36,7 +36,8 @@ fn put_line(
 /// What all lines say, or the number of the first line that is none of a script.
 fn read_lines(alloc: Global, bytes: &[u8]) -> Result<Result<Vec<Instruction>, u64>, Memory>
     ensures { IfOk result (λ read. MatchResult read
-        (λ said. IsScript bytes.now said.items × ((other : List Told) → IsScript bytes.now other → other ≡ said.items))
+        (λ said. IsScript bytes.now said.items
+        × ((other : List AnyInstruction) → IsScript bytes.now other → other ≡ said.items))
         (λ line. IsFirstBad bytes.now line)) }
 {
     let mut said = Vec::new(alloc);
@@ -55,7 +56,7 @@ impl Script {
     pub fn read(alloc: Global, bytes: &[u8]) -> Result<Script, IdeError>
         ensures found { IfOk result (λ script. IsScript bytes.now script) }
         // Each script is read, unless memory runs out.
-        ensures only { (instructions : List Told) → IsScript bytes.now instructions
+        ensures only { (instructions : List AnyInstruction) → IsScript bytes.now instructions
             → MatchResult result (λ script. script ≡ instructions) (λ e. e ≡ IdeError.Memory) }
         ensures bad { (line : ℕ) → result ≡ Err (IdeError.BadScript line) → IsFirstBad bytes.now line }
         ensures bad_only { (line : ℕ) → IsFirstBad bytes.now line

@@ -3,7 +3,7 @@ ghost use Rattle.std.specs.Prelude.{◌≡◌, ◌<◌, ◌≤◌, ℕ, List, le
 ghost use Rattle.std.specs.Io.KnownBytes.{Consumes, IsAtEnd};
 ghost use Rattle.dp_outside.specs.Changes.{change};
 ghost use Rattle.dp_ide.specs.Messages.{IsMessage};
-ghost use Rattle.dp_ide.specs.declared.heard.Message.{Message as Told};
+ghost use Rattle.dp_ide.specs.declared.heard.Message.{Message as AnyMessage};
 ghost use Rattle.dp_ide.specs.inner.Progress.{AnswerFails, Hears, HoldsMore, HoldsNext, NextFails, PieceFails};
 ghost use Rattle.dp_ide.specs.inner.Progress.{TakesAnswer, TakesNext};
 
@@ -25,7 +25,7 @@ const PIECE: usize = 65_536;
 /// The message of a packet's text, and `None` where it has none.
 fn message_of(alloc: Global, text: &[u8]) -> Result<Option<Message>, Memory>
     ensures some { IfOk result (λ found. IfSome found (λ message. IsMessage text.now message)) }
-    ensures none { IfOk result (λ found. IfNone found ((message : Told) → IsMessage text.now message → ⊥)) }
+    ensures none { IfOk result (λ found. IfNone found ((message : AnyMessage) → IsMessage text.now message → ⊥)) }
 {
     let root = match read(alloc, text) {
         Ok(root) => root,

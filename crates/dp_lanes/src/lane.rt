@@ -77,7 +77,7 @@ impl Lane {
         }
     }
 
-    /// Appends a piece of the stream, where more of a frame has to come. Where memory runs out all stays as before.
+    /// Appends a piece of the stream, where more of a frame has to come. If memory runs out all stays as before.
     pub fn feed(&mut self, piece: &[u8]) -> Result<(), Memory>
         requires part { IsPart (kind_of self.old) (received_in self.old).held }
         requires piece { length piece.now ≤ lane_piece_limit }

@@ -19,7 +19,7 @@ use Rattle.dp_lexer.proofs.LineComments.{line_tagged}
 use Rattle.dp_lexer.proofs.FoundNumbers.{number_len, number_value, number_most}
 use Rattle.dp_lexer.proofs.FoundTexts.{body_there}
 use Rattle.dp_lexer.proofs.FoundParts.{doubled_refused}
-use Rattle.dp_lexer.proofs.FoundOperators.{Tells, tells, class_of_name}
+use Rattle.dp_lexer.proofs.FoundOperators.{IsOfClass, is_of_class, class_of_name}
 use Rattle.dp_lexer.proofs.FoundPieces.{at_class, name_parts, number_is, number_here, closes_there, double_is}
 
 abbrev pub IsAnswered : List ℕ → Fault → ℕ → Type 0
@@ -76,7 +76,8 @@ stray_operator b [] none = stray_single_operator b [] none (one_byte b) refl
 stray_operator b (c ∷ []) none = stray_double_operator b c [] none (two_bytes b c) refl
 stray_operator b (c ∷ d ∷ t) none = stray_triple_operator b c d t none (three_bytes b c d) refl
 
-stray_by : (b : ℕ) (t : List ℕ) → (c : Class) → Tells c b → b ≢ 39 → b ≢ 34 → ((q : List ℕ) → b ∷ t ≡ 47 ∷ 42 ∷ q → ⊥)
+stray_by : (b : ℕ) (t : List ℕ) → (c : Class) → IsOfClass c b → b ≢ 39 → b ≢ 34
+    → ((q : List ℕ) → b ∷ t ≡ 47 ∷ 42 ∷ q → ⊥)
     → NoPiece b t → piece_by c b t ≡ bad
 stray_by b t class.Name h single double comment none = absurd (none (name (b ∷ [])) (b ∷ []) t (refl, (h, tt)) refl)
 stray_by b t class.Number h single double comment none =
@@ -92,10 +93,12 @@ stray_by b t class.Quote (inl h) single double comment none = absurd (single h)
 stray_by b t class.Quote (inr h) single double comment none = absurd (double h)
 stray_by b t class.Other h single double comment none = stray_operator b t none
 
-stray_answered : (b : ℕ) (t : List ℕ) → b ≢ 39 → b ≢ 34 → ((q : List ℕ) → b ∷ t ≡ 47 ∷ 42 ∷ q → ⊥) → NoPiece b t
+stray_answered : (b : ℕ) (t : List ℕ) → b ≢ 39 → b ≢ 34
+    → ((q : List ℕ) → b ∷ t ≡ 47 ∷ 42 ∷ q → ⊥) → NoPiece b t
     → piece_at (b ∷ t) ≡ bad
 stray_answered b t single double comment none =
-    at_class b t (class_of b) refl ∙ stray_by b t (class_of b) (tells b (class_of b) refl) single double comment none
+    at_class b t (class_of b) refl ∙ stray_by b t (class_of b)
+    (is_of_class b (class_of b) refl) single double comment none
 
 -- ---- the other bad bytes
 

@@ -16,7 +16,7 @@ use Rattle.dp_lexer.proofs.LineComments.{tag_there, line_len-front, line_len-wit
 use Rattle.dp_lexer.proofs.FoundNumbers.{number_len, number_value, number_ended, number_most}
 use Rattle.dp_lexer.proofs.FoundTexts.{body_there, body_found}
 use Rattle.dp_lexer.proofs.FoundParts.{DoubledThere, doubled_there}
-use Rattle.dp_lexer.proofs.FoundOperators.{Tells, OtherByte, tells, operator_first}
+use Rattle.dp_lexer.proofs.FoundOperators.{IsOfClass, OtherByte, is_of_class, operator_first}
 use Rattle.dp_lexer.proofs.FoundPieces.{at_class, name_front, number_here, closes_found}
 
 fault_in : Found → Fault → Fault
@@ -412,7 +412,7 @@ wrong_operator b [] f d h e = wrong_single_operator b [] f d h (one_byte b) refl
 wrong_operator b (c ∷ []) f d h e = wrong_double_operator b c [] f d h (two_bytes b c) refl (none_two b c) e
 wrong_operator b (c ∷ x ∷ t) f d h e = wrong_triple_operator b c x t f d h (three_bytes b c x) refl e
 
-wrong_by : (b : ℕ) (r : List ℕ) (f : Fault) (d : ℕ) → (c : Class) → Tells c b → piece_by c b r ≡ wrong f d
+wrong_by : (b : ℕ) (r : List ℕ) (f : Fault) (d : ℕ) → (c : Class) → IsOfClass c b → piece_by c b r ≡ wrong f d
     → IsFault (b ∷ r) f d
 wrong_by b r f d class.Name h e = wrong_name b r f d h e
 wrong_by b r f d class.Number h e = wrong_number b r f d h e
@@ -425,4 +425,4 @@ wrong_by b r f d class.Other h e = wrong_operator b r f d h e
 
 pub wrong_is : (b : ℕ) (r : List ℕ) (f : Fault) (d : ℕ) → piece_at (b ∷ r) ≡ wrong f d → IsFault (b ∷ r) f d
 wrong_is b r f d e =
-    wrong_by b r f d (class_of b) (tells b (class_of b) refl) (sym (at_class b r (class_of b) refl) ∙ e)
+    wrong_by b r f d (class_of b) (is_of_class b (class_of b) refl) (sym (at_class b r (class_of b) refl) ∙ e)

@@ -36,15 +36,15 @@ pub record OtherByte (b : ℕ) : Type 0 where
   pub single : b ≢ 39
   pub double : b ≢ 34
 
-abbrev pub Tells : Class → ℕ → Type 0
-Tells class.Name b = is_start b ≡ true
-Tells class.Number b = is_digit b ≡ true
-Tells class.Space b = is_space b ≡ true
-Tells class.Hash b = b ≡ 35
-Tells class.Slash b = b ≡ 47
-Tells class.Dollar b = b ≡ 36
-Tells class.Quote b = (b ≡ 39) ⊎ (b ≡ 34)
-Tells class.Other b = OtherByte b
+abbrev pub IsOfClass : Class → ℕ → Type 0
+IsOfClass class.Name b = is_start b ≡ true
+IsOfClass class.Number b = is_digit b ≡ true
+IsOfClass class.Space b = is_space b ≡ true
+IsOfClass class.Hash b = b ≡ 35
+IsOfClass class.Slash b = b ≡ 47
+IsOfClass class.Dollar b = b ≡ 36
+IsOfClass class.Quote b = (b ≡ 39) ⊎ (b ≡ 34)
+IsOfClass class.Other b = OtherByte b
 
 chosen : (k : Bool) (x y c : Class) → cond k x y ≡ c → ((k ≡ true) × (x ≡ c)) ⊎ ((k ≡ false) × (y ≡ c))
 chosen true x y c e = inl (refl, e)
@@ -78,15 +78,16 @@ neither_quote b true l e f t = absurd (cc)
 neither_quote b false true e f t = absurd (cc)
 neither_quote b false false e f t = (false_test b 39 e, false_test b 34 f)
 
-pub tells : (b : ℕ) (c : Class) → class_of b ≡ c → Tells c b
-tells b c e = name_or (chosen (is_start b) class.Name (from_digit b) c e)
+pub is_of_class : (b : ℕ) (c : Class) → class_of b ≡ c → IsOfClass c b
+is_of_class b c e = name_or (chosen (is_start b) class.Name (from_digit b) c e)
   where
     quote_or : is_start b ≡ false → is_digit b ≡ false → is_space b ≡ false → b ≢ 35 → b ≢ 47 → b ≢ 36
         → ((b == 39 || b == 34) ≡ true) × (class.Quote ≡ c) ⊎ (((b == 39 || b == 34) ≡ false) × (class.Other ≡ c))
-        → Tells c b
-    quote_or n1 n2 n3 n4 n5 n6 (inl h) = subst (λ k. Tells k b) h.1 (quote_tells b (b == 39) (b == 34) refl refl h.0)
+        → IsOfClass c b
+    quote_or n1 n2 n3 n4 n5 n6 (inl h) =
+        subst (λ k. IsOfClass k b) h.1 (quote_tells b (b == 39) (b == 34) refl refl h.0)
     quote_or n1 n2 n3 n4 n5 n6 (inr h) = let n = neither_quote b (b == 39) (b == 34) refl refl h.0 in
-        subst (λ k. Tells k b) h.1 (record {
+        subst (λ k. IsOfClass k b) h.1 (record {
           start = n1;
           digit = n2;
           space = n3;
@@ -98,35 +99,35 @@ tells b c e = name_or (chosen (is_start b) class.Name (from_digit b) c e)
         })
 
     dollar_or : is_start b ≡ false → is_digit b ≡ false → is_space b ≡ false → b ≢ 35 → b ≢ 47
-        → ((b == 36) ≡ true) × (class.Dollar ≡ c) ⊎ (((b == 36) ≡ false) × (from_quote b ≡ c)) → Tells c b
-    dollar_or n1 n2 n3 n4 n5 (inl h) = subst (λ k. Tells k b) h.1 (eqb-true b 36 h.0)
+        → ((b == 36) ≡ true) × (class.Dollar ≡ c) ⊎ (((b == 36) ≡ false) × (from_quote b ≡ c)) → IsOfClass c b
+    dollar_or n1 n2 n3 n4 n5 (inl h) = subst (λ k. IsOfClass k b) h.1 (eqb-true b 36 h.0)
     dollar_or n1 n2 n3 n4 n5 (inr h) =
         quote_or n1 n2 n3 n4 n5 (false_test b 36 h.0) (chosen (b == 39 || b == 34) class.Quote class.Other c h.1)
 
     slash_or : is_start b ≡ false → is_digit b ≡ false → is_space b ≡ false → b ≢ 35
-        → ((b == 47) ≡ true) × (class.Slash ≡ c) ⊎ (((b == 47) ≡ false) × (from_dollar b ≡ c)) → Tells c b
-    slash_or n1 n2 n3 n4 (inl h) = subst (λ k. Tells k b) h.1 (eqb-true b 47 h.0)
+        → ((b == 47) ≡ true) × (class.Slash ≡ c) ⊎ (((b == 47) ≡ false) × (from_dollar b ≡ c)) → IsOfClass c b
+    slash_or n1 n2 n3 n4 (inl h) = subst (λ k. IsOfClass k b) h.1 (eqb-true b 47 h.0)
     slash_or n1 n2 n3 n4 (inr h) =
         dollar_or n1 n2 n3 n4 (false_test b 47 h.0) (chosen (b == 36) class.Dollar (from_quote b) c h.1)
 
     hash_or : is_start b ≡ false → is_digit b ≡ false → is_space b ≡ false
-        → ((b == 35) ≡ true) × (class.Hash ≡ c) ⊎ (((b == 35) ≡ false) × (from_slash b ≡ c)) → Tells c b
-    hash_or n1 n2 n3 (inl h) = subst (λ k. Tells k b) h.1 (eqb-true b 35 h.0)
+        → ((b == 35) ≡ true) × (class.Hash ≡ c) ⊎ (((b == 35) ≡ false) × (from_slash b ≡ c)) → IsOfClass c b
+    hash_or n1 n2 n3 (inl h) = subst (λ k. IsOfClass k b) h.1 (eqb-true b 35 h.0)
     hash_or n1 n2 n3 (inr h) =
         slash_or n1 n2 n3 (false_test b 35 h.0) (chosen (b == 47) class.Slash (from_dollar b) c h.1)
 
     space_or : is_start b ≡ false → is_digit b ≡ false
-        → ((is_space b) ≡ true) × (class.Space ≡ c) ⊎ (((is_space b) ≡ false) × (from_hash b ≡ c)) → Tells c b
-    space_or n1 n2 (inl h) = subst (λ k. Tells k b) h.1 h.0
+        → ((is_space b) ≡ true) × (class.Space ≡ c) ⊎ (((is_space b) ≡ false) × (from_hash b ≡ c)) → IsOfClass c b
+    space_or n1 n2 (inl h) = subst (λ k. IsOfClass k b) h.1 h.0
     space_or n1 n2 (inr h) = hash_or n1 n2 h.0 (chosen (b == 35) class.Hash (from_slash b) c h.1)
 
     digit_or : is_start b ≡ false
-        → ((is_digit b) ≡ true) × (class.Number ≡ c) ⊎ (((is_digit b) ≡ false) × (from_space b ≡ c)) → Tells c b
-    digit_or n1 (inl h) = subst (λ k. Tells k b) h.1 h.0
+        → ((is_digit b) ≡ true) × (class.Number ≡ c) ⊎ (((is_digit b) ≡ false) × (from_space b ≡ c)) → IsOfClass c b
+    digit_or n1 (inl h) = subst (λ k. IsOfClass k b) h.1 h.0
     digit_or n1 (inr h) = space_or n1 h.0 (chosen (is_space b) class.Space (from_hash b) c h.1)
 
-    name_or : ((is_start b) ≡ true) × (class.Name ≡ c) ⊎ (((is_start b) ≡ false) × (from_digit b ≡ c)) → Tells c b
-    name_or (inl h) = subst (λ k. Tells k b) h.1 h.0
+    name_or : ((is_start b) ≡ true) × (class.Name ≡ c) ⊎ (((is_start b) ≡ false) × (from_digit b ≡ c)) → IsOfClass c b
+    name_or (inl h) = subst (λ k. IsOfClass k b) h.1 h.0
     name_or (inr h) = digit_or h.0 (chosen (is_digit b) class.Number (from_space b) c h.1)
 
 -- ---- operators begin with bytes of the last class

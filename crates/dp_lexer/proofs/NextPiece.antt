@@ -16,7 +16,7 @@ use Rattle.dp_lexer.proofs.LineComments.{line_len-front, line_len-stops, line_le
 use Rattle.dp_lexer.proofs.FoundNumbers.{number_len, number_value, number_ended, number_there}
 use Rattle.dp_lexer.proofs.FoundTexts.{body_there}
 use Rattle.dp_lexer.proofs.FoundParts.{DoubledThere, doubled_there}
-use Rattle.dp_lexer.proofs.FoundOperators.{Tells, tells}
+use Rattle.dp_lexer.proofs.FoundOperators.{IsOfClass, is_of_class}
 use Rattle.dp_lexer.proofs.FoundPieces.{AtPiece, at_piece, name_whole, closes_there}
 
 pub record PieceThere (z : List ℕ) (p : Piece) (n : ℕ) : Type 0 where
@@ -262,7 +262,7 @@ there_operator b [] x e = there_single_operator b [] x (one_byte b) refl e
 there_operator b (c ∷ []) x e = there_double_operator b c [] x (two_bytes b c) refl e
 there_operator b (c ∷ d ∷ t) x e = there_triple_operator b c d t x (three_bytes b c d) refl e
 
-there_by : (b : ℕ) (r : List ℕ) (x : Piece × ℕ) → (c : Class) → Tells c b → piece_by c b r ≡ Ok x
+there_by : (b : ℕ) (r : List ℕ) (x : Piece × ℕ) → (c : Class) → IsOfClass c b → piece_by c b r ≡ Ok x
     → PieceThere (b ∷ r) x.0 x.1
 there_by b r x class.Name h e = there_name b r x h e
 there_by b r x class.Number h e = there_number b r x h e
@@ -278,7 +278,7 @@ there_by b r x class.Other h e = there_operator b r x e
 pub piece_there : (z : List ℕ) (x : Piece × ℕ) → piece_at z ≡ Ok x → PieceThere z x.0 x.1
 unfolding piece_at
 piece_there [] x e = absurd (cc)
-piece_there (b ∷ r) x e = there_by b r x (class_of b) (tells b (class_of b) refl) e
+piece_there (b ∷ r) x e = there_by b r x (class_of b) (is_of_class b (class_of b) refl) e
 
 -- ---- what is found comes next, and what comes next is found
 

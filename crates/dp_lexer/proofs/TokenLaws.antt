@@ -5,7 +5,7 @@ use Rattle.dp_lexer.specs.declared.token.Token.{Token}
 use Rattle.dp_lexer.specs.Chain.{texts, Come}
 use Rattle.dp_lexer.specs.Pieces.{Piece, IsNext, Pieces}
 use Rattle.dp_lexer.specs.Tokens.{kind_of, feeds, token_at, tokens_of}
-use Rattle.dp_lexer.specs.ExpressionTokens.{before, on_with, tokens_within, expression_tokens, Tells}
+use Rattle.dp_lexer.specs.ExpressionTokens.{before, on_with, tokens_within, expression_tokens, IsExact}
 use Rattle.dp_lexer.specs.inner.Lexer.{Found, found, piece_at}
 use Rattle.dp_lexer.proofs.NextPiece.{piece_there, found_next, next_found}
 
@@ -96,7 +96,7 @@ read_told (suc count) at line ((p, b ∷ u) ∷ ps) come few =
     (drop-append_seam (b ∷ u) (texts ps) i)))
     ∙ ap (before (token_at at line (kind_of p) (length (b ∷ u)))) more
 
-pub tokens_told : Tells expression_tokens
+pub tokens_told : IsExact expression_tokens
 tokens_told bytes ts = (
   λ e. (let h = told_read (length bytes) 0 1 bytes ts e in record
       { pieces = h.pieces; whole = h.whole; each = h.each; tokens = h.tokens }),

@@ -1,5 +1,6 @@
 -- The tokens of an expression as a function of its bytes: what the lexer finds, piece by piece.
--- That it tells exactly the tokens that bytes have is a law (`Tells`, proved by `tokens_are_told`).
+-- That these are exactly the tokens that bytes have is a law (`IsExact`, proved by
+-- `tokens_are_exact`).
 use Rattle.std.specs.Prelude.{◌≡◌, ◌↔◌, ℕ, zero, suc, ◌+◌, List, [], ◌∷◌, ◌++◌, length, take, drop, Option, Some, None, Ok, Err}
 use Rattle.dp_lexer.specs.declared.token.Token.{Token}
 use Rattle.dp_lexer.specs.Tokens.{kind_of, feeds, token_at, AreTokens}
@@ -29,7 +30,7 @@ tokens_within (suc count) at line (b ∷ t) =
 abbrev pub expression_tokens : List ℕ → Option (List Token)
 expression_tokens bytes = tokens_within (length bytes) 0 1 bytes
 
--- the tokens that bytes have, and only those, are reported
-abbrev pub Tells : (List ℕ → Option (List Token)) → Type 0
-Tells told =
-    (bytes : List ℕ) (tokens : List Token) → (told bytes ≡ Some tokens) ↔ AreTokens bytes tokens
+-- gives exactly the tokens that bytes have, and none where they have none
+abbrev pub IsExact : (List ℕ → Option (List Token)) → Type 0
+IsExact read =
+    (bytes : List ℕ) (tokens : List Token) → (read bytes ≡ Some tokens) ↔ AreTokens bytes tokens

@@ -64,6 +64,7 @@ IsPiece (operator k) t = operator_of t ≡ Some k
 abbrev pub widest : ℕ
 widest = 9223372036854775807
 
+-- the most bytes of a name
 abbrev pub longest_name : ℕ
 longest_name = 255
 

@@ -12,7 +12,7 @@ use Rattle.dp_lexer.specs.Bytes.{is_space, is_digit, runs_on, begins}
 use Rattle.dp_lexer.specs.Keywords.{word_of}
 use Rattle.dp_lexer.specs.Quotes.{IsBody, enclosed, IsBadInside}
 use Rattle.dp_lexer.specs.Chain.{texts, Come}
-use Rattle.dp_lexer.specs.Pieces.{Piece, space, line_comment, block_comment, name, variable, number, text, operator, IsName, IsNumber, Closes, IsPiece, IsNext, Pieces, widest}
+use Rattle.dp_lexer.specs.Pieces.{Piece, space, line_comment, block_comment, name, variable, number, text, operator, IsName, IsNumber, Closes, IsPiece, IsNext, Pieces, longest_name, widest}
 
 -- ---- tokens
 
@@ -74,11 +74,11 @@ pub data IsBadByte (rest : List ℕ) (at : ℕ) : Type 0 where
   -- a digit, a letter, an underscore or a point directly behind a number
   behind_number : (n b : ℕ) (t more : List ℕ) → at ≡ length t → rest ≡ t ++ b ∷ more
       → IsLongestNumber n t (b ∷ more) → runs_on b ≡ true → IsBadByte rest at
-  -- the 256th byte of a name
-  long_name : (n more : List ℕ) → at ≡ 255 → rest ≡ n ++ more → IsName n → length n ≡ 256
-      → IsBadByte rest at
-  long_variable : (n more : List ℕ) → at ≡ 256 → rest ≡ 36 ∷ (n ++ more) → IsName n
-      → length n ≡ 256 → IsBadByte rest at
+  -- the first byte of a name past the longest
+  long_name : (n more : List ℕ) → at ≡ longest_name → rest ≡ n ++ more → IsName n
+      → length n ≡ longest_name + 1 → IsBadByte rest at
+  long_variable : (n more : List ℕ) → at ≡ longest_name + 1 → rest ≡ 36 ∷ (n ++ more)
+      → IsName n → length n ≡ longest_name + 1 → IsBadByte rest at
   -- the first ?> in a comment in one line, at its question mark
   comment_tag : (t more : List ℕ) → at ≡ length t → rest ≡ t ++ 63 ∷ 62 ∷ more
       → IsPiece line_comment t → IsBadByte rest at

@@ -1,4 +1,4 @@
-//! Comments.
+//! Comments: where they end, and the `?>` that none in one line may hold.
 
 ghost use Rattle.std.specs.Prelude.{◌≡◌, ◌≤◌, length, IfSome};
 ghost use Rattle.dp_lexer.specs.Bytes as sorts;

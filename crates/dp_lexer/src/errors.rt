@@ -5,8 +5,7 @@ ghost use Rattle.std.specs.Prelude.{◌≡◌};
 use std::alloc::{AllocError, AllocFailed};
 use thiserror::Error;
 
-/// Why bytes have no tokens, and the offset of the byte at which they have not: the least one at which something is
-/// wrong.
+/// Why bytes have no tokens, with the least offset at which something is wrong.
 #[derive(Clone, Copy, Debug, Error, PartialEq, Eq)]
 pub enum LexError {
     /// A byte that no token may have here.

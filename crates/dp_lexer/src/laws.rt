@@ -1,7 +1,7 @@
-//! What holds of all bytes.
-ghost use Rattle.dp_lexer.specs.ExpressionTokens.{expression_tokens, Tells};
+//! That the tokens of an expression are a function of its bytes.
+ghost use Rattle.dp_lexer.specs.ExpressionTokens.{expression_tokens, IsExact};
 
 /// The tokens of an expression are a function of its bytes.
-pub fn tokens_are_told()
-    ensures { Tells expression_tokens }
+pub fn tokens_are_exact()
+    ensures { IsExact expression_tokens }
 {}

@@ -20,8 +20,9 @@ mod token;
 
 pub use errors::LexError;
 pub use fault::Fault;
-pub use laws::tokens_are_told;
+pub use laws::tokens_are_exact;
 pub use lexer::{lex, lex_expression, line_feeds};
+pub use names::NAME_LIMIT;
 pub use reserved::is_reserved;
 pub use spelling::Spelling;
 pub use token::{Token, TokenKind};

@@ -12,7 +12,7 @@ use crate::token::TokenKind;
 use std::alloc::Global;
 
 /// The most bytes that a name may have.
-const LONGEST: usize = 255;
+pub const NAME_LIMIT: usize = 255;
 
 fn name_len(z: &[u8]) -> usize
     ensures value { result ≡ spec.name_len z.now }
@@ -30,8 +30,8 @@ pub(crate) fn name(alloc: Global, z: &[u8]) -> Result<(Option<TokenKind>, usize)
     ensures { Finds (spec.name_at z.now) result }
 {
     let len = name_len(z);
-    if len > LONGEST {
-        return Err(Wrong::Fault(Fault::BadByte, LONGEST));
+    if len > NAME_LIMIT {
+        return Err(Wrong::Fault(Fault::BadByte, NAME_LIMIT));
     }
     Ok((Some(word_of(alloc, &z[..len])?), len))
 }
@@ -43,8 +43,8 @@ pub(crate) fn variable(alloc: Global, rest: &[u8]) -> Result<(Option<TokenKind>,
     match rest {
         [b, ..] if is_start(*b) => {
             let len = name_len(rest);
-            if len > LONGEST {
-                return Err(Wrong::Fault(Fault::BadByte, LONGEST + 1));
+            if len > NAME_LIMIT {
+                return Err(Wrong::Fault(Fault::BadByte, NAME_LIMIT + 1));
             }
             let name = Spelling::from_slice(alloc, &rest[..len])?;
             Ok((Some(TokenKind::Variable(name)), len + 1))

@@ -8,8 +8,8 @@ abbrev pub LinkState : Type 0
 LinkState = SourceState × SinkState
 
 -- what it tells
-abbrev pub told_link : LinkState → Link
-told_link link =
+abbrev pub link_seen : LinkState → Link
+link_seen link =
     record {
       left = Some link.0.tape.left;
       given = Some link.0.tape.given;
@@ -74,8 +74,8 @@ first_dialer parts = dialer_of (first_part no_dial_part parts) (later_parts part
 abbrev pub CallState : Type 0
 CallState = SourceState × SinkState × List ℕ
 
-abbrev pub told_call : CallState → Link
-told_call call = told_link (call.0, call.1)
+abbrev pub call_seen : CallState → Link
+call_seen call = link_seen (call.0, call.1)
 
 abbrev pub IsFreshCall : CallState → Type 0
 IsFreshCall call = IsFresh (call.0, call.1)
@@ -100,8 +100,8 @@ pub record GateState : Type 0 where
   pub retired : List Link
 
 -- what a gate tells
-abbrev pub told_door : GateState → Door
-told_door gate =
+abbrev pub door_seen : GateState → Door
+door_seen gate =
     record { port = gate.port; accepted = Some gate.accepted; retired = Some gate.retired }
 
 -- nothing has failed, nothing came back that had, and nothing was given or came back

@@ -13,11 +13,11 @@ ghost use Rattle.dp_links.specs.Fakes.{
   first_part,
   later_parts,
   no_dial_part,
-  told_link,
+  link_seen,
 };
 
+use crate::ghost_list::GhostList;
 use crate::links::have_failed;
-use crate::told::Told;
 use dp_outside::{
     ByteSink, ByteSource, Dialer, FailPlan, Failed, Faults, Host, Memory, Sink, Source,
 };
@@ -49,15 +49,15 @@ pub struct ListDialer {
     plan: FailPlan,
     parts: IntoIter<DialPart, Global>,
     returned: Faults,
-    dials: Told<Host, u16, Result<(ByteSource, ByteSink), Failed>>,
-    retired: Told<ByteSource, ByteSink, ()>,
+    dials: GhostList<Host, u16, Result<(ByteSource, ByteSink), Failed>>,
+    retired: GhostList<ByteSource, ByteSink, ()>,
 }
 
 impl Model for ListDialer {
     ghost use Rattle.std.specs.Prelude.{All, map};
     ghost use Rattle.std.specs.Vec.Iter.{into_iter_items};
     ghost use Rattle.dp_outside.specs.Links.{made};
-    ghost use Rattle.dp_links.specs.Fakes.{AreFresh, DialerState, IsFresh, told_link};
+    ghost use Rattle.dp_links.specs.Fakes.{AreFresh, DialerState, IsFresh, link_seen};
 
     ghost Value = { DialerState };
 
@@ -66,8 +66,8 @@ impl Model for ListDialer {
       plan = d.plan;
       parts = into_iter_items d.parts;
       returned = d.returned;
-      dials = map (λ t. record { host = t.0; port = t.1.0; made = made told_link t.1.1 }) d.dials.items;
-      retired = map (λ t. told_link (t.0, t.1.0)) d.retired.items;
+      dials = map (λ t. record { host = t.0; port = t.1.0; made = made link_seen t.1.1 }) d.dials.items;
+      retired = map (λ t. link_seen (t.0, t.1.0)) d.retired.items;
     } };
 
     // Each link that it has to give is fresh: so is each that it gives.
@@ -97,8 +97,8 @@ impl ListDialer {
             plan: FailPlan::new(part.fails),
             parts,
             returned: Faults::new(),
-            dials: Told::new(),
-            retired: Told::new(),
+            dials: GhostList::new(),
+            retired: GhostList::new(),
         }
     }
 
@@ -192,7 +192,7 @@ impl Dialer for ListDialer {
         ensures dials { self.new.dials ≡ self.old.dials ++ (record {
           host = host.now;
           port = port;
-          made = made told_link result;
+          made = made link_seen result;
         } ∷ []) }
         ensures returned { self.new.returned ≡ self.old.returned }
         ensures retired { self.new.retired ≡ self.old.retired }
@@ -214,7 +214,7 @@ impl Dialer for ListDialer {
         ensures returned { CountsReturned (source.plan.faults + sink.plan.faults) self.old.returned self.new.returned }
         ensures later { self.old.returned ≤ self.new.returned }
         ensures dials { self.new.dials ≡ self.old.dials }
-        ensures retired { self.new.retired ≡ self.old.retired ++ (told_link (source, sink) ∷ []) }
+        ensures retired { self.new.retired ≡ self.old.retired ++ (link_seen (source, sink) ∷ []) }
         ensures links { self.new.links ≡ self.old.links }
         ensures plan { self.new.plan ≡ self.old.plan }
         ensures parts { self.new.parts ≡ self.old.parts }

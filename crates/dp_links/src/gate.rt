@@ -14,12 +14,12 @@ ghost use Rattle.dp_links.specs.Fakes.{
   first_part,
   later_parts,
   no_gate_part,
-  told_call,
-  told_link,
+  call_seen,
+  link_seen,
 };
 
+use crate::ghost_list::GhostList;
 use crate::links::have_failed;
-use crate::told::Told;
 use dp_outside::{
     ByteSink, ByteSource, FailPlan, Failed, Faults, Gate, Host, Memory, Sink, Source,
 };
@@ -52,8 +52,8 @@ pub struct ListGate {
     plan: FailPlan,
     parts: IntoIter<GatePart, Global>,
     returned: Faults,
-    accepted: Told<Result<(ByteSource, ByteSink, Host), Failed>, (), ()>,
-    retired: Told<ByteSource, ByteSink, ()>,
+    accepted: GhostList<Result<(ByteSource, ByteSink, Host), Failed>, (), ()>,
+    retired: GhostList<ByteSource, ByteSink, ()>,
 }
 
 impl Model for ListGate {
@@ -61,7 +61,7 @@ impl Model for ListGate {
     ghost use Rattle.std.specs.Option.{option_to_list};
     ghost use Rattle.std.specs.Vec.Iter.{into_iter_items};
     ghost use Rattle.dp_outside.specs.Links.{made};
-    ghost use Rattle.dp_links.specs.Fakes.{AreFreshCalls, GateState, IsFreshCall, told_call, told_link};
+    ghost use Rattle.dp_links.specs.Fakes.{AreFreshCalls, GateState, IsFreshCall, call_seen, link_seen};
 
     ghost Value = { GateState };
 
@@ -71,8 +71,8 @@ impl Model for ListGate {
       plan = d.plan;
       parts = into_iter_items d.parts;
       returned = d.returned;
-      accepted = flat_map (λ t. option_to_list (made told_call t.0)) d.accepted.items;
-      retired = map (λ t. told_link (t.0, t.1.0)) d.retired.items;
+      accepted = flat_map (λ t. option_to_list (made call_seen t.0)) d.accepted.items;
+      retired = map (λ t. link_seen (t.0, t.1.0)) d.retired.items;
     } };
 
     // Each link that it has to give is fresh: so is each that it gives.
@@ -104,8 +104,8 @@ impl ListGate {
             plan: FailPlan::new(part.fails),
             parts,
             returned: Faults::new(),
-            accepted: Told::new(),
-            retired: Told::new(),
+            accepted: GhostList::new(),
+            retired: GhostList::new(),
         }
     }
 
@@ -184,7 +184,7 @@ impl Gate for ListGate {
         ensures sink { IfOk result (λ link. link.1.plan.faults ≡ 0) }
         ensures unread { IfOk result (λ link. link.0.tape.given ≡ []) }
         ensures cause { HasCause self.old.plan.faults self.new.plan.faults result }
-        ensures accepted { self.new.accepted ≡ self.old.accepted ++ option_to_list (made told_call result) }
+        ensures accepted { self.new.accepted ≡ self.old.accepted ++ option_to_list (made call_seen result) }
         ensures port { self.new.port ≡ self.old.port }
         ensures returned { self.new.returned ≡ self.old.returned }
         ensures retired { self.new.retired ≡ self.old.retired }
@@ -207,7 +207,7 @@ impl Gate for ListGate {
         ensures later { self.old.returned ≤ self.new.returned }
         ensures port { self.new.port ≡ self.old.port }
         ensures accepted { self.new.accepted ≡ self.old.accepted }
-        ensures retired { self.new.retired ≡ self.old.retired ++ (told_link (source, sink) ∷ []) }
+        ensures retired { self.new.retired ≡ self.old.retired ++ (link_seen (source, sink) ∷ []) }
         ensures links { self.new.links ≡ self.old.links }
         ensures plan { self.new.plan ≡ self.old.plan }
         ensures parts { self.new.parts ≡ self.old.parts }

@@ -3,9 +3,9 @@
 
 mod dialer;
 mod gate;
+mod ghost_list;
 mod links;
 mod net;
-mod told;
 
 pub use dialer::{DialPart, ListDialer};
 pub use gate::{GatePart, ListGate};

@@ -13,11 +13,11 @@ ghost use Rattle.dp_links.specs.Fakes.{
   later_parts,
   net_of,
   no_net_part,
-  told_door,
-  told_link,
+  door_seen,
+  link_seen,
 };
 
-use crate::told::Told;
+use crate::ghost_list::GhostList;
 use crate::{DialPart, ListDialer, ListGate};
 use dp_outside::{ByteSink, ByteSource, Dialer, Failed, Host, Memory, Net};
 use std::alloc::Global;
@@ -52,13 +52,13 @@ pub struct ListNet {
     dialer: ListDialer,
     gates: IntoIter<ListGate, Global>,
     parts: IntoIter<NetPart, Global>,
-    shut: Told<ListGate, (), ()>,
+    shut: GhostList<ListGate, (), ()>,
 }
 
 impl Model for ListNet {
     ghost use Rattle.std.specs.Prelude.{All, map};
     ghost use Rattle.std.specs.Vec.Iter.{into_iter_items};
-    ghost use Rattle.dp_links.specs.Fakes.{IsFreshGate, IsFreshPart, NetState, told_door};
+    ghost use Rattle.dp_links.specs.Fakes.{IsFreshGate, IsFreshPart, NetState, door_seen};
 
     ghost Value = { NetState };
 
@@ -66,7 +66,7 @@ impl Model for ListNet {
       dialer = n.dialer;
       gates = into_iter_items n.gates;
       parts = into_iter_items n.parts;
-      shut_doors = map (λ t. told_door t.0) n.shut.items;
+      shut_doors = map (λ t. door_seen t.0) n.shut.items;
     } };
 
     // Each gate that it has to give is fresh: so is each that it gives.
@@ -100,7 +100,7 @@ impl ListNet {
             dialer: ListDialer::of(alloc, dialled, none.into_iter()),
             gates: part.gates.into_iter(),
             parts,
-            shut: Told::new(),
+            shut: GhostList::new(),
         }
     }
 
@@ -156,7 +156,7 @@ impl Dialer for ListNet {
         ensures dials { self.new.dialer.dials ≡ self.old.dialer.dials ++ (record {
           host = host.now;
           port = port;
-          made = made told_link result;
+          made = made link_seen result;
         } ∷ []) }
         ensures returned { self.new.dialer.returned ≡ self.old.dialer.returned }
         ensures retired { self.new.dialer.retired ≡ self.old.dialer.retired }
@@ -179,7 +179,7 @@ impl Dialer for ListNet {
             self.old.dialer.returned self.new.dialer.returned }
         ensures later { self.old.dialer.returned ≤ self.new.dialer.returned }
         ensures dials { self.new.dialer.dials ≡ self.old.dialer.dials }
-        ensures retired { self.new.dialer.retired ≡ self.old.dialer.retired ++ (told_link (source, sink) ∷ []) }
+        ensures retired { self.new.dialer.retired ≡ self.old.dialer.retired ++ (link_seen (source, sink) ∷ []) }
         ensures shut { self.new.shut_doors ≡ self.old.shut_doors }
         ensures links { self.new.dialer.links ≡ self.old.dialer.links }
         ensures plan { self.new.dialer.plan ≡ self.old.dialer.plan }
@@ -252,7 +252,7 @@ impl Net for ListNet {
         ensures returned { CountsReturned (door.plan.faults + door.returned)
             self.old.dialer.returned self.new.dialer.returned }
         ensures later { self.old.dialer.returned ≤ self.new.dialer.returned }
-        ensures shut { self.new.shut_doors ≡ self.old.shut_doors ++ (told_door door ∷ []) }
+        ensures shut { self.new.shut_doors ≡ self.old.shut_doors ++ (door_seen door ∷ []) }
         ensures same { self.new.dialer ≡ record self.old.dialer { returned = self.new.dialer.returned } }
         ensures gates { self.new.gates ≡ self.old.gates }
         ensures parts { self.new.parts ≡ self.old.parts }

@@ -1,53 +1,23 @@
 -- The event that a line is read as is the one that it spells.
-use Rattle.std.proofs.Common.{◌≡◌, ◌⊎◌, ℕ, ◌≤◌, Bool, true, false, ◌&&◌, List, [], ◌∷◌, ◌++◌, length}
-use Rattle.std.proofs.Common.{Option, Some, None, nat_le, option_map, codes, decimal, All, refl, sym, ap, subst, ◌∙◌, inl, inr}
+use Rattle.std.proofs.Common.{◌≡◌, ◌⊎◌, ℕ, ◌≤◌, Bool, true, false, List, [], ◌∷◌, ◌++◌}
+use Rattle.std.proofs.Common.{Option, Some, None, option_map, codes, decimal, refl, sym, ap, subst, ◌∙◌, inl, inr}
 use Rattle.std.proofs.Common.{append_assoc, arith}
-use Rattle.std.proofs.lemmas.Bool.{and_parts, and_from, leb-true, le-leb}
-use Rattle.std.proofs.lemmas.List.Elements.{All-cons, All-head, All-tail, All-nil}
 use Rattle.std.proofs.lemmas.Option.{same_Some}
 use Rattle.std.proofs.lemmas.Slice.Eq.{bytes_eq-Decides}
-use Rattle.std.specs.List.{list_all}
 use Rattle.std.specs.Str.{bytes_eq}
-use Rattle.dp_registry.specs.Names.{IsGraphic, IsName}
+use Rattle.dp_outside.specs.Names.{host_limit, is_name, key_limit}
+use Rattle.dp_outside.proofs.NameLaws.{name_again, name_is}
 use Rattle.dp_value.specs.Decimals.{decimal_in}
+use Rattle.dp_grammar.specs.Lines.{has_no_blank}
 use Rattle.dp_lists.specs.declared.event.Act.{Act}
 use Rattle.dp_lists.specs.declared.event.Act.TheVariants.{Ide, Engine, Give, Move, Close}
 use Rattle.dp_lists.specs.declared.event.Event.{Event}
 use Rattle.dp_lists.specs.Lists.{named, named_with, hex, Spells, IsFormed, link_limit}
-use Rattle.dp_lists.specs.inner.Spelling.{has_no_blank, word_of, part_of, is_name, name_in, bytes_in, act_alone, act_with, act_in, link_in}
+use Rattle.dp_lists.specs.inner.Spelling.{word_of, part_of, name_in, bytes_in, act_alone, act_with, act_in, link_in}
 use Rattle.dp_lists.specs.inner.Spelling.{event_by, event_in, greatest_count, spelled}
 use Rattle.dp_lists.proofs.HexLaws.{hex_again, hex_is}
 use Rattle.dp_lists.proofs.WordLaws.{word_before, part_behind, word_alone, no_part, with_part, without_part}
 use Rattle.dp_lists.proofs.WordLaws.{number_again, number_is, number_blank, link_again, link_is}
-
--- ---- names
-
-graphic_is : (bytes : List ℕ) → list_all (λ b. nat_le 0x21 b && nat_le b 0x7e) bytes ≡ true → All IsGraphic bytes
-graphic_is [] h = All-nil IsGraphic
-graphic_is (b ∷ bytes) h =
-    let parts = and_parts (nat_le 0x21 b && nat_le b 0x7e) _ h in
-    let both = and_parts (nat_le 0x21 b) (nat_le b 0x7e) parts.0 in
-    All-cons IsGraphic b bytes (leb-true _ _ both.0, leb-true _ _ both.1) (graphic_is bytes parts.1)
-
-graphic_again : (bytes : List ℕ) → All IsGraphic bytes → list_all (λ b. nat_le 0x21 b && nat_le b 0x7e) bytes ≡ true
-graphic_again [] h = refl
-graphic_again (b ∷ bytes) h =
-    let first = All-head IsGraphic b bytes h in
-    and_from (nat_le 0x21 b
-    && nat_le b 0x7e) _ (and_from (nat_le 0x21 b) (nat_le b 0x7e) (le-leb _ _ first.0) (le-leb _ _ first.1))
-    (graphic_again bytes (All-tail IsGraphic b bytes h))
-
-pub name_is : (most : ℕ) (bytes : List ℕ) → is_name most bytes ≡ true → IsName most bytes
-name_is most bytes h =
-    let parts = and_parts (nat_le 1 (length bytes) && nat_le (length bytes) most) _ h in
-    let both = and_parts (nat_le 1 (length bytes)) (nat_le (length bytes) most) parts.0 in
-    record { some = leb-true _ _ both.0; short = leb-true _ _ both.1; graphic = graphic_is bytes parts.1 }
-
-pub name_again : (most : ℕ) (bytes : List ℕ) → IsName most bytes → is_name most bytes ≡ true
-name_again most bytes n =
-    and_from (nat_le 1 (length bytes) && nat_le (length bytes) most) _
-    (and_from (nat_le 1 (length bytes)) (nat_le (length bytes) most) (le-leb _ _ n.some) (le-leb _ _ n.short))
-    (graphic_again bytes n.graphic)
 
 -- ---- a line that is spelled is read
 
@@ -92,9 +62,9 @@ pub spelled_again : (line : List ℕ) (link : ℕ) (act : Act) → Spells line l
     → IsFormed act
     → spelled line ≡ Some (record { link = link; act = act })
 spelled_again line link (Ide host) s some within formed =
-    rw (s, again_with (codes "ide") link refl some within host) (rw (name_again 64 host formed) refl)
+    rw (s, again_with (codes "ide") link refl some within host) (rw (name_again host_limit host formed) refl)
 spelled_again line link (Engine key) s some within formed =
-    rw (s, again_with (codes "engine") link refl some within key) (rw (name_again 128 key formed) refl)
+    rw (s, again_with (codes "engine") link refl some within key) (rw (name_again key_limit key formed) refl)
 spelled_again line link (Move count) s some within formed =
     rw (s, again_with (codes "move") link refl some within (decimal count))
     (rw (number_again greatest_count count (omega arith) (omega arith)) refl)
@@ -166,11 +136,11 @@ module _ (line word : List ℕ) (link : ℕ) where
           → bytes_eq word (codes "say") ≡ w → bytes_eq word (codes "move") ≡ x → act_with word part ≡ Some a
           → IsSpelled line link a
       by true u v w x p q r y z e =
-          let n = name_spelled 64 Ide part a (rw p at e) in
-          rw (← n.1) (record { spells = named_as (codes "ide") part s p; formed = name_is 64 part n.0 })
+          let n = name_spelled host_limit Ide part a (rw p at e) in
+          rw (← n.1) (record { spells = named_as (codes "ide") part s p; formed = name_is host_limit part n.0 })
       by false true v w x p q r y z e =
-          let n = name_spelled 128 Engine part a (rw (p, q) at e) in
-          rw (← n.1) (record { spells = named_as (codes "engine") part s q; formed = name_is 128 part n.0 })
+          let n = name_spelled key_limit Engine part a (rw (p, q) at e) in
+          rw (← n.1) (record { spells = named_as (codes "engine") part s q; formed = name_is key_limit part n.0 })
       by false false true w x p q r y z e = give_spelled part a (named_as (codes "give") part s r) (rw (p, q, r) at e)
       by false false false true x p q r y z e =
           let same : Give (part ++ 0 ∷ []) ≡ a = same_Some (Give (part ++ 0 ∷ [])) a (rw (p, q, r, y) at e) in

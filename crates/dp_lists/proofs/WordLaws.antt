@@ -15,8 +15,9 @@ use Rattle.std.specs.Str.Parse.{digits_value}
 use Rattle.dp_value.specs.Decimals.{is_decimal, decimal_in}
 use Rattle.dp_value.specs.IntText.{is_positive}
 use Rattle.dp_grammar.proofs.Runs.{not_zero}
+use Rattle.dp_grammar.specs.Lines.{has_no_blank}
 use Rattle.dp_lists.specs.Lists.{link_limit}
-use Rattle.dp_lists.specs.inner.Spelling.{split_word, word_of, part_of, has_no_blank, FirstBlank, link_in}
+use Rattle.dp_lists.specs.inner.Spelling.{split_word, word_of, part_of, FirstBlank, link_in}
 
 -- ---- blanks
 

@@ -5,7 +5,7 @@ use Rattle.std.specs.Fmt.{decimal}
 use Rattle.std.specs.List.{list_any, AllByRecursion}
 use Rattle.dp_grammar.specs.Lines as lines
 use Rattle.dp_grammar.specs.Lines.{LineRule, Say, is_idle, lines_of}
-use Rattle.dp_registry.specs.Names.{IsHost, IsKey}
+use Rattle.dp_outside.specs.Names.{IsHost, IsKey}
 use Rattle.dp_lists.specs.declared.event.Act.{Act}
 use Rattle.dp_lists.specs.declared.event.Act.TheVariants.{Ide, Engine, Give, Move, Close}
 use Rattle.dp_lists.specs.declared.event.Event.{Event}

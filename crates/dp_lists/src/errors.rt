@@ -15,9 +15,9 @@ pub enum ListError {
 
 impl From<AllocError> for ListError {
     ghost use Rattle.std.specs.Prelude.{◌≡◌};
-    ghost use Rattle.dp_lists.specs.declared.errors.ListError.TheVariants.{Memory as WantOfMemory};
+    ghost use Rattle.dp_lists.specs.declared.errors.ListError.TheVariants.{Memory as OutOfMemory};
 
-    ghost from_gives = { λ _ e. e ≡ WantOfMemory };
+    ghost from_gives = { λ _ e. e ≡ OutOfMemory };
 
     fn from(_: AllocError) -> ListError {
         ListError::Memory

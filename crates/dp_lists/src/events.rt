@@ -48,7 +48,7 @@ fn read_lines(alloc: Global, bytes: &[u8]) -> Result<Result<Reading, usize>, Mem
 impl Events {
     ghost use Rattle.std.specs.Prelude.{◌≡◌, ◌⊎◌, [], ℕ, List, Err, IfOk, MatchResult};
     ghost use Rattle.dp_lists.specs.declared.errors.ListError.TheVariants.{BadLine as IsBadLine};
-    ghost use Rattle.dp_lists.specs.declared.errors.ListError.TheVariants.{Memory as WantOfMemory};
+    ghost use Rattle.dp_lists.specs.declared.errors.ListError.TheVariants.{Memory as OutOfMemory};
     ghost use Rattle.dp_lists.specs.declared.event.Event.{Event as OneEvent};
     ghost use Rattle.dp_lists.specs.Lists.{AllFit, IsList, IsFirstBad};
 
@@ -56,10 +56,10 @@ impl Events {
     pub fn read(alloc: Global, bytes: &[u8]) -> Result<Events, ListError>
         ensures list { IfOk result (λ events. IsList bytes.now events) }
         ensures only { (events : List OneEvent) → IsList bytes.now events
-            → MatchResult result (λ read. read ≡ events) (λ e. e ≡ WantOfMemory) }
+            → MatchResult result (λ read. read ≡ events) (λ e. e ≡ OutOfMemory) }
         ensures bad { (line : ℕ) → result ≡ Err (IsBadLine line) → IsFirstBad bytes.now line }
         ensures bad_only { (line : ℕ) → IsFirstBad bytes.now line
-            → MatchResult result (λ read. ⊥) (λ e. (e ≡ IsBadLine line) ⊎ (e ≡ WantOfMemory)) }
+            → MatchResult result (λ read. ⊥) (λ e. (e ≡ IsBadLine line) ⊎ (e ≡ OutOfMemory)) }
     {
         match read_lines(alloc, bytes)? {
             Ok(reading) => Ok(reading.done()),

@@ -47,7 +47,8 @@ fn mark(made: &mut IndexMap<u32, bool>, link: u32, act: &Act) -> Result<(), Memo
 }
 
 impl Reading {
-    pub fn new(alloc: Global) -> Reading
+    /// Nothing read yet. Takes no memory.
+    pub(crate) fn new(alloc: Global) -> Reading
         ensures { IsReading result [] }
     {
         Reading {
@@ -57,7 +58,7 @@ impl Reading {
     }
 
     /// The list of what was read.
-    pub fn done(self) -> Events
+    pub(crate) fn done(self) -> Events
         requires { IsReading self self.events.items }
         ensures { result ≡ self.events.items }
     {
@@ -94,7 +95,7 @@ impl Reading {
     }
 
     /// Takes a line, and answers whether it adds to the events before it.
-    pub fn take(&mut self, alloc: Global, line: &[u8]) -> Result<bool, Memory>
+    pub(crate) fn take(&mut self, alloc: Global, line: &[u8]) -> Result<bool, Memory>
         requires { IsReading self.old self.old.events.items }
         ensures takes { IfOk result (λ taken. Takes self.old.events.items line.now taken self.new.events.items) }
         ensures reads { result ≡ Ok true → IsReading self.new self.new.events.items }

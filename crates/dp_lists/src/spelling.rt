@@ -1,12 +1,13 @@
 //! The event that a line spells.
-ghost use Rattle.std.specs.Prelude.{◌≡◌, [], ◌∷◌, ◌++◌, ◌&&◌, ◌<◌, length, IfOk, IfSome, option_map, nat_le};
-ghost use Rattle.std.specs.List.{list_all};
+ghost use Rattle.std.specs.Prelude.{◌≡◌, [], ◌∷◌, ◌++◌, ◌<◌, length, IfOk, IfSome, option_map};
+ghost use Rattle.dp_outside.specs.Names.{host_limit, key_limit};
 ghost use Rattle.dp_value.specs.Decimals.{decimal_in};
 ghost use Rattle.std.specs.Option.{option_copied};
 ghost use Rattle.dp_lists.specs.inner.Spelling as spec;
 
 use crate::event::{Act, Event};
 use crate::hex::bytes_in;
+use dp_outside::{HOST_LIMIT, KEY_LIMIT, is_name};
 use dp_value::{Bytes, Memory, decimal};
 use std::alloc::Global;
 
@@ -37,20 +38,6 @@ fn first_word(bytes: &[u8]) -> (&[u8], Option<&[u8]>)
     }
 }
 
-/// Whether each byte is printable ASCII and no blank.
-fn are_graphic(bytes: &[u8]) -> bool
-    ensures { result ≡ list_all (λ b. nat_le 0x21 b && nat_le b 0x7e) bytes.now }
-{
-    bytes.iter().all(|b| 0x21 <= *b && *b <= 0x7e)
-}
-
-/// Whether bytes are a name of at most so many bytes.
-fn is_name(bytes: &[u8], most: usize) -> bool
-    ensures { result ≡ spec.is_name most bytes.now }
-{
-    1 <= bytes.len() && bytes.len() <= most && are_graphic(bytes)
-}
-
 fn link_in(text: &[u8]) -> Option<u32>
     ensures { result ≡ spec.link_in text.now }
 {
@@ -71,9 +58,9 @@ fn act_alone(alloc: Global, word: &[u8]) -> Result<Option<Act>, Memory>
 }
 
 fn ide(alloc: Global, part: &[u8]) -> Result<Option<Act>, Memory>
-    ensures { IfOk result (λ act. act ≡ spec.name_in 64 Act.Ide part.now) }
+    ensures { IfOk result (λ act. act ≡ spec.name_in host_limit Act.Ide part.now) }
 {
-    if is_name(part, 64) {
+    if is_name(part, HOST_LIMIT) {
         Ok(Some(Act::Ide(Bytes::from_slice(alloc, part)?)))
     } else {
         Ok(None)
@@ -81,9 +68,9 @@ fn ide(alloc: Global, part: &[u8]) -> Result<Option<Act>, Memory>
 }
 
 fn engine(alloc: Global, part: &[u8]) -> Result<Option<Act>, Memory>
-    ensures { IfOk result (λ act. act ≡ spec.name_in 128 Act.Engine part.now) }
+    ensures { IfOk result (λ act. act ≡ spec.name_in key_limit Act.Engine part.now) }
 {
-    if is_name(part, 128) {
+    if is_name(part, KEY_LIMIT) {
         Ok(Some(Act::Engine(Bytes::from_slice(alloc, part)?)))
     } else {
         Ok(None)

@@ -19,9 +19,9 @@ pub enum MarkupError {
 
 impl From<AllocError> for MarkupError {
     ghost use Rattle.std.specs.Prelude.{◌≡◌};
-    ghost use Rattle.dp_markup.specs.declared.errors.MarkupError.TheVariants.{Memory as WantOfMemory};
+    ghost use Rattle.dp_markup.specs.declared.errors.MarkupError.TheVariants.{Memory as OutOfMemory};
 
-    ghost from_gives = { λ _ e. e ≡ WantOfMemory };
+    ghost from_gives = { λ _ e. e ≡ OutOfMemory };
 
     fn from(_: AllocError) -> MarkupError {
         MarkupError::Memory
@@ -30,9 +30,9 @@ impl From<AllocError> for MarkupError {
 
 impl<T: Drop> From<AllocFailed<T>> for MarkupError {
     ghost use Rattle.std.specs.Prelude.{◌≡◌};
-    ghost use Rattle.dp_markup.specs.declared.errors.MarkupError.TheVariants.{Memory as WantOfMemory};
+    ghost use Rattle.dp_markup.specs.declared.errors.MarkupError.TheVariants.{Memory as OutOfMemory};
 
-    ghost from_gives = { λ _ e. e ≡ WantOfMemory };
+    ghost from_gives = { λ _ e. e ≡ OutOfMemory };
 
     fn from(_: AllocFailed<T>) -> MarkupError {
         MarkupError::Memory

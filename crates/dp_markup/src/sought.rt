@@ -18,9 +18,9 @@ use std::ops::ControlFlow;
 /// where it was among them, and whether white space came last.
 #[derive(Debug, Drop)]
 pub(crate) struct Sought<'a> {
-    pub names: Names<'a>,
-    pub value: Option<Bytes>,
-    pub apart: bool,
+    pub(crate) names: Names<'a>,
+    pub(crate) value: Option<Bytes>,
+    pub(crate) apart: bool,
 }
 
 #[tactic(auto, unfolding(crate::specs::inner::Search::pass_step))]

@@ -8,8 +8,8 @@ use dp_value::{Bytes, Items};
 /// How far a start tag has been read: its attributes so far, and whether white space came last.
 #[derive(Debug, Drop)]
 pub(crate) struct Tag {
-    pub found: Found,
-    pub apart: bool,
+    pub(crate) found: Found,
+    pub(crate) apart: bool,
 }
 
 /// A start tag: `is_empty` where it is the whole element, as `<a/>`.
@@ -24,8 +24,8 @@ pub struct StartTag {
 /// that is not ended yet.
 #[derive(Debug, Drop)]
 pub(crate) struct Content {
-    pub nodes: Growing<Node>,
-    pub run: Growing<u8>,
+    pub(crate) nodes: Growing<Node>,
+    pub(crate) run: Growing<u8>,
 }
 
 /// How the number of a reference is written.

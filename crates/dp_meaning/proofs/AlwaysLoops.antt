@@ -10,19 +10,19 @@ use Rattle.dp_state.specs.declared.state.State.{State}
 use Rattle.dp_tree.specs.declared.tree.Binding.{Binding}
 use Rattle.dp_actions.specs.declared.signal.Signal.{Signal}
 use Rattle.dp_actions.specs.declared.signal.Signal.TheVariants.{Next, Break, Continue, Return}
-use Rattle.dp_actions.specs.Loops.{turn_over, last_holds, turns, do_turns, bind_name, bind_key, bind, each_run}
+use Rattle.dp_actions.specs.Loops.{after_body, last_holds, turns, do_turns, bind_name, bind_key, bind, each_run}
 use Rattle.dp_actions.specs.Run.{Run, Done}
 use Rattle.dp_actions.specs.Values.{holds}
 use Rattle.dp_meaning.proofs.Always.{IsKept, Keeps, Keeps-and_then, Always-if, Always-taken}
 
 module _ {D : Type 0} (P : D → ℕ → State → Type 0) where
-  pub Keeps-turn_over : (next : State → Run Signal) → Keeps P next → (g : Signal) → Keeps P (turn_over g next)
-  Keeps-turn_over next keep Next d n s p = keep d n s p
-  Keeps-turn_over next keep (Break loops) d n s p =
+  pub Keeps-after_body : (next : State → Run Signal) → Keeps P next → (g : Signal) → Keeps P (after_body g next)
+  Keeps-after_body next keep Next d n s p = keep d n s p
+  Keeps-after_body next keep (Break loops) d n s p =
       Always-if P (nat_le loops 1) d n (Done Next s) (Done (Break (loops - 1)) s) p p
-  Keeps-turn_over next keep (Continue loop) d n s p =
+  Keeps-after_body next keep (Continue loop) d n s p =
       Always-if P (nat_le loop 1) d n (next s) (Done (Continue (loop - 1)) s) (keep d n s p) p
-  Keeps-turn_over next keep (Return v) d n s p = p
+  Keeps-after_body next keep (Return v) d n s p = p
 
   pub Keeps-turns : (k line : ℕ) (test next : State → Run (List Value)) (body : State → Run Signal)
       → Keeps P test → Keeps P next → Keeps P body → Keeps P (turns k line test next body)
@@ -33,7 +33,7 @@ module _ {D : Type 0} (P : D → ℕ → State → Type 0) where
     λ t p.
         Keeps-and_then P d (n + 1) _ _ (tests d (n + 1) t p) (λ values d n u p.
         Always-if P (last_holds values) d n _ (Done Next u)
-        (Keeps-and_then P d n _ _ (bodies d n u p) (Keeps-turn_over _ (λ d n w p.
+        (Keeps-and_then P d n _ _ (bodies d n u p) (Keeps-after_body _ (λ d n w p.
         Keeps-and_then P d n _ _ (nexts d n w p) (λ _. Keeps-turns k line test next body tests nexts bodies))))
         p),
   )
@@ -42,7 +42,7 @@ module _ {D : Type 0} (P : D → ℕ → State → Type 0) where
       → Keeps P (do_turns k line test body)
   Keeps-do_turns zero line test body tests bodies d n s p = (d, p, tt)
   Keeps-do_turns (suc k) line test body tests bodies d n s p =
-      Keeps-and_then P d n _ _ (bodies d n s p) (Keeps-turn_over _ (λ d n u p. (
+      Keeps-and_then P d n _ _ (bodies d n s p) (Keeps-after_body _ (λ d n u p. (
         d,
         p,
         λ v p.
@@ -72,5 +72,5 @@ module _ {D : Type 0} (P : D → ℕ → State → Type 0) where
       p,
       λ t p.
           Keeps-and_then P d (n + 1) _ _ (Keeps-bind binding entry d (n + 1) t p) (λ _ d n u p.
-          Keeps-and_then P d n _ _ (bodies d n u p) (Keeps-turn_over _ (Keeps-each line binding more body bodies))),
+          Keeps-and_then P d n _ _ (bodies d n u p) (Keeps-after_body _ (Keeps-each line binding more body bodies))),
     )

@@ -9,7 +9,6 @@ pub mod AlwaysPrograms
 pub mod Steady
 pub mod WrittenMoments
 pub mod StopLaws
-pub mod FirstStops
 pub mod Alone
 pub mod AnswerLaws
 pub mod Layers

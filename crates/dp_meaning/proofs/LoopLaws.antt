@@ -12,7 +12,7 @@ use Rattle.dp_actions.specs.declared.turns.LoopStep.TheVariants as turn
 use Rattle.dp_actions.specs.declared.signal.Signal.{Signal}
 use Rattle.dp_actions.specs.declared.signal.Signal.TheVariants.{Next, Break, Continue, Return}
 use Rattle.dp_meaning.specs.inner.Drive.{Rules, Evaluates, moment_run}
-use Rattle.dp_actions.specs.Loops.{turn_of, turn_over, last_holds, turns, do_turns, bind, each_run}
+use Rattle.dp_actions.specs.Loops.{step_after, after_body, last_holds, turns, do_turns, bind, each_run}
 use Rattle.dp_actions.specs.Run.{Run, Done, At, and_then}
 use Rattle.dp_actions.specs.Values.{holds}
 use Rattle.dp_meaning.proofs.Drives.{gives, breaks_off, goes_on, passes, stops_at, tested_off, tested_on}
@@ -38,14 +38,15 @@ never-on : (b : Bool) (g h : Signal) → (if b then turn.Out g else turn.Out h) 
 never-on true g h e = cc
 never-on false g h e = cc
 
-pub turn-out : (g : Signal) (next : State → Run Signal) (s : State) (out : Signal) → turn_of g ≡ turn.Out out
-    → turn_over g next s ≡ Done out s
+pub turn-out : (g : Signal) (next : State → Run Signal) (s : State) (out : Signal) → step_after g ≡ turn.Out out
+    → after_body g next s ≡ Done out s
 turn-out Next next s out e = absurd (cc)
 turn-out (Break loops) next s out e = either-out (nat_le loops 1) Next (Break (loops - 1)) s next out e
 turn-out (Continue loop) next s out e = either-on (nat_le loop 1) (Continue (loop - 1)) s next out e
 turn-out (Return v) next s out e = let same : Return v ≡ out = cc in ap (λ g. Done g s) same
 
-pub turn-on : (g : Signal) (next : State → Run Signal) (s : State) → turn_of g ≡ turn.On → turn_over g next s ≡ next s
+pub turn-on : (g : Signal) (next : State → Run Signal) (s : State) → step_after g ≡ turn.On
+    → after_body g next s ≡ next s
 turn-on Next next s e = refl
 turn-on (Break loops) next s e = absurd (never-on (nat_le loops 1) Next (Break (loops - 1)) e)
 turn-on (Continue loop) next s e = goes-either (nat_le loop 1) (Continue (loop - 1)) s next e
@@ -57,13 +58,13 @@ module _ (rules : Rules) (n line : ℕ) (test next : State → Run (List Value))
     (more : 0 < n) where
   turns-is : (s : State) → turns n line test next body s
       ≡ At Place line s (λ t. and_then (test t) (λ values u.
-      if last_holds values then and_then (body u) (λ g v. turn_over g (λ w. and_then (next w) (λ _ x. turns
+      if last_holds values then and_then (body u) (λ g v. after_body g (λ w. and_then (next w) (λ _ x. turns
       (n - 1) line test next body x)) v) else Done Next u))
   turns-is s = go n more
     where
       go : (n : ℕ) → 0 < n → turns n line test next body s
           ≡ At Place line s (λ t. and_then (test t) (λ values u.
-          if last_holds values then and_then (body u) (λ g v. turn_over g (λ w. and_then (next w) (λ _ x. turns
+          if last_holds values then and_then (body u) (λ g v. after_body g (λ w. and_then (next w) (λ _ x. turns
           (n - 1) line test next body x)) v) else Done Next u))
       go zero h = absurd (omega arith)
       go (suc m) h = let e : suc m - 1 ≡ m = omega arith in rw e refl
@@ -83,7 +84,7 @@ module _ (rules : Rules) (n line : ℕ) (test next : State → Run (List Value))
 
       module _ (true-test : last_holds values ≡ true) where
         with-body : (x : Result Signal Halt) (v : State)
-            → Evaluates rules (and_then (body u) (λ g v. turn_over g
+            → Evaluates rules (and_then (body u) (λ g v. after_body g
             (λ w. and_then (next w) (λ _ x. turns (n - 1) line test next body x)) v)) x v
             → Evaluates rules (turns n line test next body s) x v
         with-body x v e = rw turns-is (passes at (goes_on _ tested (rw true-test e)))
@@ -93,11 +94,11 @@ module _ (rules : Rules) (n line : ℕ) (test next : State → Run (List Value))
         body-breaks v h e = with-body (Err h) v (breaks_off _ e)
 
         module _ (g : Signal) (v : State) (ran : Evaluates rules (body u) (Ok g) v) where
-          pub body-out : (out : Signal) → turn_of g ≡ turn.Out out
+          pub body-out : (out : Signal) → step_after g ≡ turn.Out out
               → Evaluates rules (turns n line test next body s) (Ok out) v
           body-out out e = with-body (Ok out) v (goes_on _ ran (rw (turn-out g _ v out e) gives))
 
-          module _ (on : turn_of g ≡ turn.On) where
+          module _ (on : step_after g ≡ turn.On) where
             pub next-breaks : (w : State) (h : Halt) → Evaluates rules (next v) (Err h) w
                 → Evaluates rules (turns n line test next body s) (Err h) w
             next-breaks w h e = with-body (Err h) w (goes_on _ ran (rw (turn-on g _ v on) (breaks_off _ e)))
@@ -112,13 +113,13 @@ module _ (rules : Rules) (n line : ℕ) (test next : State → Run (List Value))
 
 module _ (rules : Rules) (n line : ℕ) (test : State → Run Value) (body : State → Run Signal) (more : 0 < n) where
   do-is : (s : State) → do_turns n line test body s
-      ≡ and_then (body s) (λ g t. turn_over g (λ u. At Place line u
+      ≡ and_then (body s) (λ g t. after_body g (λ u. At Place line u
       (λ v. and_then (test v) (λ tested w. if holds tested then do_turns
       (n - 1) line test body w else Done Next w))) t)
   do-is s = go n more
     where
       go : (n : ℕ) → 0 < n → do_turns n line test body s
-          ≡ and_then (body s) (λ g t. turn_over g (λ u. At Place line u
+          ≡ and_then (body s) (λ g t. after_body g (λ u. At Place line u
           (λ v. and_then (test v) (λ tested w. if holds tested then do_turns
           (n - 1) line test body w else Done Next w))) t)
       go zero h = absurd (omega arith)
@@ -129,11 +130,11 @@ module _ (rules : Rules) (n line : ℕ) (test : State → Run Value) (body : Sta
   do-body-breaks s t h e = rw do-is (breaks_off _ e)
 
   module _ (s : State) (g : Signal) (t : State) (ran : Evaluates rules (body s) (Ok g) t) where
-    pub do-body-out : (out : Signal) → turn_of g ≡ turn.Out out
+    pub do-body-out : (out : Signal) → step_after g ≡ turn.Out out
         → Evaluates rules (do_turns n line test body s) (Ok out) t
     do-body-out out e = rw do-is (goes_on _ ran (rw (turn-out g _ t out e) gives))
 
-    module _ (on : turn_of g ≡ turn.On) where
+    module _ (on : step_after g ≡ turn.On) where
       pub do-stops : (u : State) (h : Halt) → Evaluates rules (moment_run Place line t) (Err h) u
           → Evaluates rules (do_turns n line test body s) (Err h) u
       do-stops u h e = rw do-is (goes_on _ ran (rw (turn-on g _ t on) (stops_at e)))
@@ -180,11 +181,11 @@ module _ (rules : Rules) (line : ℕ) (binding : Binding) (entry : Key × Data) 
       each-body-breaks v h e = passes at (goes_on _ bound (breaks_off _ e))
 
       module _ (g : Signal) (v : State) (ran : Evaluates rules (body u) (Ok g) v) where
-        pub each-out : (out : Signal) → turn_of g ≡ turn.Out out
+        pub each-out : (out : Signal) → step_after g ≡ turn.Out out
             → Evaluates rules (each_run line binding (entry ∷ rest) body s) (Ok out) v
         each-out out e = passes at (goes_on _ bound (goes_on _ ran (rw (turn-out g _ v out e) gives)))
 
-        pub each-goes-on : turn_of g ≡ turn.On → (x : Result Signal Halt) (w : State)
+        pub each-goes-on : step_after g ≡ turn.On → (x : Result Signal Halt) (w : State)
             → Evaluates rules (each_run line binding rest body v) x w
             → Evaluates rules (each_run line binding (entry ∷ rest) body s) x w
         each-goes-on on x w e = passes at (goes_on _ bound (goes_on _ ran (rw (turn-on g _ v on) e)))

@@ -37,7 +37,7 @@ use Rattle.dp_meaning.specs.declared.writes.Write.TheVariants.{Place, Evaluate}
 use Rattle.dp_actions.specs.Expressions.{evaluation}
 use Rattle.dp_meaning.specs.Programs.{program_run}
 use Rattle.dp_actions.specs.Run.{Run, Done, Over, At}
-use Rattle.dp_meaning.specs.Stops.{above, first_at, first_stop, state_of, stop_of}
+use Rattle.dp_meaning.specs.Stops.{state_of}
 use Rattle.dp_meaning.specs.Trace.{Ended, IsStop, Trace, moment_of, program_trace, trace, with_moment}
 use Rattle.dp_meaning.specs.Writes.{alone, arrived, evaluated, evaluation_limit, evaluation_setting, in_context, left_by, one_write, or_unchanged, place_or_fault, recounted, written, written_by, writes_of}
 use Rattle.dp_meaning.proofs.Always.{Always, Each, IsKept}
@@ -339,25 +339,3 @@ module _ (bundle : Bundle) where
       subst (IsOf bundle) (sym is.2) (written-of ws (suc k) is.0
       (each-of _ k (m, is.0) (program-of bound ws some).moments is.1))
   stop-of bound ws number (stop.Ended o s) is some = subst (IsOf bundle) (sym is.2) (program-of bound ws some).state
-
-  first-of : {A : Type 0} (test : Moment → State → Bool) (ws : List NumberedWrite) (t : Trace A) → IsOf bundle t.state
-      → (ps : List (Moment × State))
-      → Each (λ p. IsOf bundle p.1) ps → IsOf bundle (state_of (stop_of t (first_at test (writes_of bundle ws) ps)))
-  first-of test ws t end [] all = end
-  first-of test ws t end (p ∷ ps) all = by (test p.0 after) (first-of test ws t end ps all.1)
-    where
-      after : State
-      after = written (writes_of bundle ws) p.0.number p.1
-
-      by : (b : Bool) → IsOf bundle (state_of (stop_of t (first_at test (writes_of bundle ws) ps)))
-          → IsOf bundle (state_of (stop_of t (if b then Some (p.0, after) else first_at test (writes_of bundle ws) ps)))
-      by true more = written-of ws p.0.number p.1 all.0
-      by false more = more
-
-  -- where it stops at the first moment at which a test holds
-  pub first_stop-of : (bound : ℕ) (ws : List NumberedWrite) (number : ℕ) (test : Moment → State → Bool)
-      → 0 < length bundle.files
-      → IsOf bundle (state_of (first_stop (program_trace bundle bound ws) (writes_of bundle ws) number test))
-  first_stop-of bound ws number test some =
-      let all = program-of bound ws some in first-of (above number test) ws
-      (program_trace bundle bound ws) all.state _ all.moments

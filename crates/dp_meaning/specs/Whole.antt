@@ -11,7 +11,7 @@ use Rattle.dp_meaning.specs.Programs.{setting_of}
 use Rattle.dp_meaning.specs.Trace.{Trace, Gave, Ended, trace}
 use Rattle.dp_meaning.specs.Writes.{writes_of}
 
--- what a call answers that has run to the end of a trace, and the state that it leaves. Want of
+-- what a call answers that has run to the end of a trace, and the state that it leaves. Out of
 -- memory says nothing
 abbrev pub Finishes : {A : Type 0} → Trace A → Result A Halt → State → Type 0
 Finishes t (Ok a) s = (t.end ≡ Gave a) × (t.state ≡ s)

@@ -4,7 +4,7 @@
 
 use crate::evaluator::Evaluator;
 use crate::outside::Outside;
-use dp_actions::{Halt, LoopStep, Signal, bind_entry, last_holds, then_holds, turn_over};
+use dp_actions::{Halt, LoopStep, Signal, after_body, bind_entry, last_holds, then_holds};
 use dp_state::{Outcome, State};
 use dp_tree::{Binding, Expression, Statement};
 use dp_value::Value;
@@ -40,7 +40,7 @@ impl<O: Outside> Evaluator<'_, O> {
             if !on {
                 return Ok(Signal::Next);
             }
-            match turn_over(self.statement(body, state)?) {
+            match after_body(self.statement(body, state)?) {
                 LoopStep::On => {}
                 LoopStep::Out(signal) => return Ok(signal),
             }
@@ -84,7 +84,7 @@ impl<O: Outside> Evaluator<'_, O> {
             state.new }
     {
         for _turn in 0..left {
-            match turn_over(self.statement(body, state)?) {
+            match after_body(self.statement(body, state)?) {
                 LoopStep::On => {}
                 LoopStep::Out(signal) => return Ok(signal),
             }
@@ -136,7 +136,7 @@ impl<O: Outside> Evaluator<'_, O> {
         for at in from..array.len() {
             self.place(line, state)?;
             bind_entry(binding, array, at, state)?;
-            match turn_over(self.statement(body, state)?) {
+            match after_body(self.statement(body, state)?) {
                 LoopStep::On => {}
                 LoopStep::Out(signal) => return Ok(signal),
             }

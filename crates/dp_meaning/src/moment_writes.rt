@@ -9,7 +9,7 @@ ghost use Rattle.dp_meaning.specs.Writes.{evaluated, evaluation_limit, evaluatio
 ghost use Rattle.dp_meaning.specs.Writes.{or_unchanged, place_or_fault, with_place, written_by};
 
 use crate::evaluator::Evaluator;
-use crate::pure::Quiet;
+use crate::pure::Unwatched;
 use crate::writes::{NumberedWrite, Write};
 use dp_actions::{Halt, given_keys};
 use dp_shared::Shared;
@@ -22,8 +22,8 @@ use std::mem;
 /// How many moments an evaluation may have.
 pub(crate) const EVALUATION_LIMIT: u64 = 10_000;
 
-/// Makes those of the writes that have a number, in their order, in a state. It fails for lack of memory alone, and
-/// then nothing is said of the state.
+/// Makes those of the writes that have a number, in their order, in a state. It fails only out of memory, and then
+/// nothing is said of the state.
 pub fn write_all(
     alloc: Global,
     bundle: &Bundle,
@@ -178,7 +178,7 @@ fn quietly(
     ensures { IfOk result (λ answer. ComesTo (drive (only_bounded evaluation_limit)
         (expression_value e.now (evaluation_setting bundle.now) state.old)) answer state.new) }
 {
-    let quiet = Quiet {
+    let quiet = Unwatched {
         bound: EVALUATION_LIMIT,
     };
     let evaluator = Evaluator {

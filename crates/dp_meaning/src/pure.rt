@@ -6,11 +6,11 @@ use dp_state::{MomentKind, Outcome, State};
 
 /// A bound alone: nothing is written, and nothing stops the run before it.
 #[derive(Drop)]
-pub(crate) struct Quiet {
+pub(crate) struct Unwatched {
     pub(crate) bound: u64,
 }
 
-impl Outside for Quiet {
+impl Outside for Unwatched {
     ghost use Rattle.dp_meaning.specs.inner.Drive.{only_bounded};
 
     ghost rules = { λ q. only_bounded q.bound };

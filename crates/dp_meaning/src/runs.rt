@@ -4,7 +4,7 @@ ghost use Rattle.std.specs.Prelude.{◌≡◌, ◌<◌, length, IfOk};
 ghost use Rattle.dp_state.specs.States.{IsOf};
 ghost use Rattle.dp_meaning.specs.inner.Drive.{IsStopAt, drive, halt_after, stopped};
 ghost use Rattle.dp_meaning.specs.Programs.{program_run};
-ghost use Rattle.dp_meaning.specs.Stops.{first_stop, state_of};
+ghost use Rattle.dp_meaning.specs.Stops.{state_of};
 ghost use Rattle.dp_meaning.specs.Trace.{IsStop, program_trace};
 ghost use Rattle.dp_meaning.specs.Writes.{writes_of};
 
@@ -12,8 +12,6 @@ use crate::applied_writes::Written;
 use crate::evaluator::Evaluator;
 use crate::outside::Outside;
 use crate::stop::Stop;
-use crate::stops::Stops;
-use crate::watched::Watched;
 use crate::writes::NumberedWrite;
 use dp_actions::{Halt, Signal, statements_of};
 use dp_state::{FRAME_LIMIT, Outcome, State};
@@ -38,31 +36,6 @@ pub fn run_to(
         bundle,
         writes,
         stop: number,
-        bound,
-        alloc,
-    };
-    run(alloc, bundle, &outside, bound)
-}
-
-/// Runs a program, at whose moments these writes are made, up to the first moment above a number at which a test holds
-/// and its writes, or to its end where there is none. A run has at most `bound` moments.
-pub fn run_until<S: Stops>(
-    alloc: Global,
-    bundle: &Bundle,
-    writes: &[NumberedWrite],
-    after: u64,
-    stops: &S,
-    bound: u64,
-) -> Result<Stop, Memory>
-    ensures first { IfOk result (λ stop. stop ≡ first_stop (program_trace bundle.now bound writes.now)
-        (writes_of bundle.now writes.now) after (S.test stops.now)) }
-    ensures of { 0 < length bundle.now.files → IfOk result (λ stop. IsOf bundle.now (state_of stop)) }
-{
-    let outside = Watched {
-        bundle,
-        writes,
-        after,
-        stops,
         bound,
         alloc,
     };

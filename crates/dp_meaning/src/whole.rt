@@ -1,7 +1,7 @@
 //! Parts of a program that are run whole: nothing is written at their moments, and nothing stops them.
 
 use crate::evaluator::Evaluator;
-use crate::pure::Quiet;
+use crate::pure::Unwatched;
 use dp_actions::{Halt, Signal};
 use dp_state::State;
 use dp_tree::{Binding, Bundle, Expression, Statement};
@@ -25,16 +25,16 @@ impl Whole<'_> {
     ghost use Rattle.dp_meaning.specs.Statements.{statement_run};
     ghost use Rattle.dp_meaning.specs.Whole.{RunsWhole};
 
-    /// A statement.
+    /// Runs a statement.
     pub fn statement(&self, statement: &Statement, state: &mut State) -> Result<Signal, Halt>
         ensures { RunsWhole self.now (statement_run statement.now) result state.old state.new }
     {
-        let quiet = Quiet { bound: self.bound };
-        self.evaluator(&quiet).statement(statement, state)
+        let unwatched = Unwatched { bound: self.bound };
+        self.evaluator(&unwatched).statement(statement, state)
     }
 
-    /// The turns of a `while` or a `for`, at most so many: before each come its tests, and behind its body what comes
-    /// between two of them.
+    /// Runs at most `left` iterations of a `while` or a `for`: before each come its tests, and behind its body what
+    /// comes between two of them.
     pub fn turns(
         &self,
         left: u64,
@@ -47,12 +47,12 @@ impl Whole<'_> {
         ensures { RunsWhole self.now (λ setting s. turns left line (evaluations tests.now setting)
             (evaluations after.now setting) (statement_run body.now setting) s) result state.old state.new }
     {
-        let quiet = Quiet { bound: self.bound };
-        self.evaluator(&quiet)
+        let unwatched = Unwatched { bound: self.bound };
+        self.evaluator(&unwatched)
             .turns(left, line, tests, after, body, state)
     }
 
-    /// The turns of a `do`, at most so many.
+    /// Runs at most `left` iterations of a `do`.
     pub fn do_turns(
         &self,
         left: u64,
@@ -64,12 +64,12 @@ impl Whole<'_> {
         ensures { RunsWhole self.now (λ setting s. do_turns left line (evaluation test.now setting)
             (statement_run body.now setting) s) result state.old state.new }
     {
-        let quiet = Quiet { bound: self.bound };
-        self.evaluator(&quiet)
+        let unwatched = Unwatched { bound: self.bound };
+        self.evaluator(&unwatched)
             .do_turns(left, line, test, body, state)
     }
 
-    /// The turns of a `foreach` from the entry at a position on.
+    /// Runs a `foreach` from the entry at `from` on.
     pub fn entries(
         &self,
         from: usize,
@@ -82,20 +82,20 @@ impl Whole<'_> {
         ensures { RunsWhole self.now (λ setting s. each_run line binding.now (drop from (entries subject.now))
             (statement_run body.now setting) s) result state.old state.new }
     {
-        let quiet = Quiet { bound: self.bound };
-        self.evaluator(&quiet)
+        let unwatched = Unwatched { bound: self.bound };
+        self.evaluator(&unwatched)
             .each(from, line, binding, subject, body, state)
     }
 
     /// The evaluator that does it.
-    fn evaluator<'b>(&'b self, quiet: &'b Quiet) -> Evaluator<'b, Quiet>
+    fn evaluator<'b>(&'b self, unwatched: &'b Unwatched) -> Evaluator<'b, Unwatched>
         ensures by { (result.bundle.now ≡ self.now.bundle.now) × (result.bound ≡ self.now.bound)
             × (result.depth ≡ self.now.depth) }
-        ensures quiet { result.outside.now ≡ quiet.now }
+        ensures unwatched { result.outside.now ≡ unwatched.now }
     {
         Evaluator {
             bundle: self.bundle,
-            outside: quiet,
+            outside: unwatched,
             alloc: self.alloc,
             bound: self.bound,
             depth: self.depth,

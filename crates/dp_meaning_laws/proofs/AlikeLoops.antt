@@ -12,7 +12,7 @@ use Rattle.dp_state.specs.declared.state.State.{State}
 use Rattle.dp_tree.specs.declared.tree.Binding.{Binding}
 use Rattle.dp_actions.specs.declared.signal.Signal.{Signal}
 use Rattle.dp_actions.specs.declared.signal.Signal.TheVariants.{Next, Break, Continue, Return}
-use Rattle.dp_actions.specs.Loops.{turn_over, last_holds, turns, do_turns, bind_name, bind_key, bind, each_run}
+use Rattle.dp_actions.specs.Loops.{after_body, last_holds, turns, do_turns, bind_name, bind_key, bind, each_run}
 use Rattle.dp_actions.specs.Run.{Run, Done, Over, At, and_then}
 use Rattle.dp_actions.specs.Values.{holds}
 use Rattle.dp_meaning_laws.proofs.Alike.{Alike, Facts, IsKept, Keeps, Stands, Keeps-and_then, Alike-and_then, Alike-if, Alike-taken}
@@ -25,7 +25,7 @@ IsStill s (At kind line t go) = s ≡ t
 
 module _ {D : Type 0} (F : Facts D) (d : D) where
   Alike-over : (g : Signal) (f h : State → Run Signal) (n : ℕ) (s : State) → F.state d n s → Alike F d n (f s) (h s)
-      → Alike F d n (turn_over g f s) (turn_over g h s)
+      → Alike F d n (after_body g f s) (after_body g h s)
   Alike-over Next f h n s p k = k
   Alike-over (Break loops) f h n s p k = Alike-if F (nat_le loops 1) d n _ _ _ _ (p, refl, refl) (p, refl, refl)
   Alike-over (Continue loop) f h n s p k = Alike-if F (nat_le loop 1) d n _ _ _ _ k (p, refl, refl)
@@ -65,20 +65,20 @@ module _ {D : Type 0} (F : Facts D) (d : D) where
     -- where no more moments come, a body comes to one, or else the test does
     over-left : (r : Run Signal) (go : State → State → Run Signal) (n : ℕ) (s : State) → F.bound ≤ n → F.state d n s
         → IsStill s r
-        → Alike F d n (Over way.Bound s) (and_then r (λ g t. turn_over g (λ u. At Place line u (go u)) t))
+        → Alike F d n (Over way.Bound s) (and_then r (λ g t. after_body g (λ u. At Place line u (go u)) t))
     unfolding and_then
     over-left (Done g t) go n s last p h =
-        subst (λ g. Alike F d n (Over way.Bound s) (turn_over g (λ u. At Place line u (go u)) t)) (sym h.0)
+        subst (λ g. Alike F d n (Over way.Bound s) (after_body g (λ u. At Place line u (go u)) t)) (sym h.0)
         (d, p, last, refl, h.1)
     over-left (Over o t) go n s last p h = (d, p, last, sym h.0, h.1)
     over-left (At kind line t on) go n s last p h = (d, p, last, refl, h)
 
     over-right : (r : Run Signal) (go : State → State → Run Signal) (n : ℕ) (s : State) → F.bound ≤ n → F.state d n s
         → IsStill s r
-        → Alike F d n (and_then r (λ g t. turn_over g (λ u. At Place line u (go u)) t)) (Over way.Bound s)
+        → Alike F d n (and_then r (λ g t. after_body g (λ u. At Place line u (go u)) t)) (Over way.Bound s)
     unfolding and_then
     over-right (Done g t) go n s last p h =
-        subst (λ g. Alike F d n (turn_over g (λ u. At Place line u (go u)) t) (Over way.Bound s)) (sym h.0)
+        subst (λ g. Alike F d n (after_body g (λ u. At Place line u (go u)) t) (Over way.Bound s)) (sym h.0)
         (d, subst (F.state d n) h.1 p, last, refl, sym h.1)
     over-right (Over o t) go n s last p h =
         subst (λ o. Alike F {A = Signal} d n (Over o t) (Over way.Bound s)) (sym h.0)

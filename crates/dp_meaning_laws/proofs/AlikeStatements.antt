@@ -26,7 +26,7 @@ use Rattle.dp_tree.specs.declared.tree.StatementKind.TheOpen.{Statement-F, State
 use Rattle.dp_actions.specs.declared.signal.Signal.{Signal}
 use Rattle.dp_actions.specs.declared.signal.Signal.TheVariants.{Next, Break, Continue, Return}
 use Rattle.dp_actions.specs.Expressions.{ExpressionRun, expression_run, evaluation, evaluations, place_run}
-use Rattle.dp_actions.specs.Loops.{do_turns, entries, turn_over, turns}
+use Rattle.dp_actions.specs.Loops.{do_turns, entries, after_body, turns}
 use Rattle.dp_actions.specs.Places.{unset_run}
 use Rattle.dp_actions.specs.Run.{Run, Done, Over, At, and_then, taken}
 use Rattle.dp_actions.specs.Setting.{Setting, Part}
@@ -198,9 +198,10 @@ module _ {D : Type 0} (F : Facts D) (bundle : Bundle) (kept : IsKept F bundle) (
   still-turns (suc k) line test next body s = refl
 
   still-over : (r : Run Signal) (line : ℕ) (go : State → State → Run Signal) (s : State) → IsStill s r
-      → IsStill s (and_then r (λ g t. turn_over g (λ u. At Place line u (go u)) t))
+      → IsStill s (and_then r (λ g t. after_body g (λ u. At Place line u (go u)) t))
   unfolding and_then
-  still-over (Done g t) line go s h = subst (λ g. IsStill s (turn_over g (λ u. At Place line u (go u)) t)) (sym h.0) h.1
+  still-over (Done g t) line go s h =
+      subst (λ g. IsStill s (after_body g (λ u. At Place line u (go u)) t)) (sym h.0) h.1
   still-over (Over o t) line go s h = h
   still-over (At kind there t on) line go s h = h
 

@@ -3,14 +3,12 @@
 use Rattle.std.proofs.Common.{◌≡◌, ℕ, zero, suc, ◌+◌, ◌-◌, ◌<◌, ◌≤◌, Bool, true, false, if◌then◌else◌, List, [], ◌∷◌, ◌++◌, length, Option, Some, None, Result, Ok, Err, refl, sym, ap, ◌∙◌, subst, arith}
 use Rattle.std.proofs.lemmas.List.{length-map, length_push}
 use Rattle.std.specs.Prelude.{nat_eq, nat_lt, slice_get}
-use Rattle.dp_tree.specs.CodeLines.{body_lines, file_lines}
+use Rattle.dp_tree.specs.CodeLines.{file_lines}
 use Rattle.dp_tree.specs.declared.bundle.Bundle.{Bundle}
 use Rattle.dp_tree.specs.declared.bundle.BundleFile.{BundleFile}
 use Rattle.dp_tree.specs.declared.tree.Expression.{Expression}
 use Rattle.dp_value.specs.declared.value.Value.{Value}
 use Rattle.dp_state.specs.declared.moments.FatalKind.{FatalKind}
-use Rattle.dp_state.specs.declared.moments.Moment.{Moment}
-use Rattle.dp_state.specs.declared.moments.MomentKind.{MomentKind}
 use Rattle.dp_state.specs.declared.moments.Outcome.TheVariants as way
 use Rattle.dp_state.specs.declared.moments.Path.{Path}
 use Rattle.dp_state.specs.declared.state.Frame.{Frame}
@@ -18,8 +16,6 @@ use Rattle.dp_state.specs.declared.state.State.{State}
 use Rattle.dp_state.specs.Places.{assigned, given_keys}
 use Rattle.dp_state.specs.States.{IsOf, frame_limit, left, on_line, opening}
 use Rattle.dp_state.proofs.Kept.{of-assigned, of-called, of-counted, of-included, of-left, of-on_line, of-opening, of-printed, of-unset, of-with_global}
-use Rattle.dp_actions.specs.declared.signal.Signal.{Signal}
-use Rattle.dp_meaning.specs.declared.stop.Stop.{Stop}
 use Rattle.dp_meaning.specs.declared.stop.Stop.TheVariants as stop
 use Rattle.dp_meaning.specs.declared.writes.WriteFault.{WriteFault}
 use Rattle.dp_meaning.specs.declared.writes.WriteFault.TheVariants.{NoFrame}
@@ -27,12 +23,8 @@ use Rattle.dp_meaning.specs.declared.writes.NumberedWrite.{NumberedWrite}
 use Rattle.dp_meaning.specs.declared.writes.Write.{Write}
 use Rattle.dp_meaning.specs.declared.writes.Write.TheVariants.{Place, Evaluate}
 use Rattle.dp_actions.specs.Expressions.{evaluation}
-use Rattle.dp_meaning.specs.Programs.{program_run}
-use Rattle.dp_actions.specs.Bodies.{statements_of}
 use Rattle.dp_actions.specs.Run.{Run, Done, Over, At}
-use Rattle.dp_meaning.specs.Stops.{above, first_at, first_stop, state_of, stop_of}
-use Rattle.dp_meaning.specs.Trace.{End, Ended, Gave, IsStop, Trace, moment_of, program_trace, trace, with_moment}
-use Rattle.dp_meaning.specs.Writes.{Writes, alone, arrived, evaluated, evaluation_limit, evaluation_setting, in_context, left_by, one_write, or_unchanged, place_or_fault, recounted, with_place, written, written_by, writes_of}
+use Rattle.dp_meaning.specs.Writes.{alone, arrived, evaluated, evaluation_limit, evaluation_setting, in_context, left_by, one_write, or_unchanged, place_or_fault, recounted, written, written_by}
 use Rattle.dp_meaning_laws.proofs.Alike.{Alike, Facts, IsKept}
 use Rattle.dp_meaning_laws.proofs.AlikeExpressions.{Keeps-expression}
 use Rattle.dp_meaning_laws.proofs.AlikePrograms.{Keeps-setting}

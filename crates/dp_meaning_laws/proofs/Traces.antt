@@ -17,7 +17,7 @@ use Rattle.dp_meaning.specs.declared.writes.NumberedWrite.{NumberedWrite}
 use Rattle.dp_meaning.specs.Programs.{program_run}
 use Rattle.dp_actions.specs.Bodies.{statements_of}
 use Rattle.dp_actions.specs.Run.{Run, Done, Over, At}
-use Rattle.dp_meaning.specs.Stops.{above, first_at, first_stop, state_of, stop_of}
+use Rattle.dp_meaning.specs.Stops.{state_of}
 use Rattle.dp_meaning.specs.Trace.{Ended, IsStop, Trace, moment_of, outcome_of, program_trace, trace, with_moment}
 use Rattle.dp_meaning.specs.Writes.{arrived, written, writes_of}
 use Rattle.dp_meaning_laws.proofs.Alike.{Alike, CanEnd, Stands}
@@ -150,31 +150,3 @@ module _ (bundle : Bundle) (bound : ℕ) (ws : List NumberedWrite) (some : 0 < l
       subst (IsOf bundle) (sym is.2) (after-writes bundle (Anywhere bundle) bound ws (0 + k) (suc k) (m, is.0)
       (program-along.moments k (m, is.0) is.1)).of
   stop-of number (stop.Ended o s) is = subst (IsOf bundle) (sym is.2) program-along.there.of
-
-  -- where it stops at the first moment at which a test holds
-  pub first_stop-of : (number : ℕ) (test : Moment → State → Bool)
-      → IsOf bundle (state_of (first_stop (program_trace bundle bound ws) (writes_of bundle ws) number test))
-  first_stop-of number test = first (program_trace bundle bound ws).moments 0 program-along.moments
-    where
-      first : (ps : List (Moment × State)) (n : ℕ)
-          → ((k : ℕ) (p : Moment × State) → slice_get ps k ≡ Some p → Comes bundle (Anywhere bundle) bound (n + k) p)
-          → IsOf bundle (state_of (stop_of (program_trace bundle bound ws)
-          (first_at (above number test) (writes_of bundle ws) ps)))
-      first [] n all = program-along.there.of
-      first (p ∷ ps) n all = by (above number test p.0 after) (first ps (n + 1) (λ k q e. later k q (all (suc k) q e)))
-        where
-          after : State
-          after = written (writes_of bundle ws) p.0.number p.1
-
-          later : (k : ℕ) (q : Moment × State) → Comes bundle (Anywhere bundle) bound (n + suc k) q
-              → Comes bundle (Anywhere bundle) bound (n + 1 + k) q
-          later k q c =
-              let at : n + suc k ≡ n + 1 + k = omega arith in subst (λ m. Comes bundle (Anywhere bundle) bound m q) at c
-
-          by : (b : Bool) → IsOf bundle (state_of (stop_of (program_trace bundle bound ws)
-              (first_at (above number test) (writes_of bundle ws) ps)))
-              → IsOf bundle (state_of (stop_of (program_trace bundle bound ws)
-              (if b then Some (p.0, after) else first_at (above number test)
-              (writes_of bundle ws) ps)))
-          by true more = (after-writes bundle (Anywhere bundle) bound ws (n + 0) p.0.number p (all 0 p refl)).of
-          by false more = more

@@ -66,7 +66,7 @@ pub fn places_have_code()
 {}
 
 /// A program whose loops may have more turns than it may have moments, and whose calls more frames than there can be,
-/// has the same trace; so it is with its evaluations at moments. No program ends for the want of them.
+/// has the same trace; so it is with its evaluations at moments. No program ends because it ran out of them.
 pub fn more_turns_and_frames_change_no_program()
     ensures { (bundle : Bundle) (bound turns frames others more : ℕ) (writes : List NumberedWrite)
         → bound ≤ turns → frame_limit ≤ frames → evaluation_limit ≤ others → frame_limit ≤ more

@@ -1,11 +1,11 @@
 //! Values read under an index.
 
-ghost use Rattle.std.specs.Prelude.{◌≡◌, ◌⊎◌, [], ◌∷◌, map, option_map, Ok, Err, Some, IfOk, MatchResult};
+ghost use Rattle.std.specs.Prelude.{◌≡◌, ◌⊎◌, [], ◌∷◌, option_map, Ok, Err, Some, IfOk, MatchResult};
 ghost use Rattle.dp_value.specs.Data.{text};
 ghost use Rattle.dp_value.specs.Value.{data_of};
 ghost use Rattle.dp_operations.specs.Answers.{Answers};
-ghost use Rattle.dp_operations.specs.Indices.{byte_at as byte_of, found_by, indexed, indexed_by};
-ghost use Rattle.dp_operations.specs.Indices.{letter_at as letter_of, looked_up, read_by as read_under, reading};
+ghost use Rattle.dp_operations.specs.Indices.{byte_at as byte_of, indexed};
+ghost use Rattle.dp_operations.specs.Indices.{letter_at as letter_of, looked_up, reading};
 ghost use Rattle.dp_operations.specs.Found.{data_of_found};
 
 use dp_value::{Bytes, Memory, Value, ValueError, key_of};
@@ -37,50 +37,12 @@ pub fn find(alloc: Global, holder: &Value, index: &Value) -> Result<Value, Value
     }
 }
 
-/// The value read under indices, one after another, as [`index`] reads it under one. Takes time and memory for the
-/// value that is read, and not for those on the way.
-pub fn index_by(alloc: Global, holder: &Value, indices: &[Value]) -> Result<Value, ValueError>
-    ensures { Answers result (indexed_by (map data_of indices.now) (data_of holder.now)) }
-{
-    read_by(alloc, holder, indices, true)
-}
-
-/// The value that `isset` finds under indices, one after another, as [`find`] finds it under one. Takes time and memory
-/// for the value that is found, and not for those on the way.
-pub fn find_by(alloc: Global, holder: &Value, indices: &[Value]) -> Result<Value, ValueError>
-    ensures { Answers result (found_by (map data_of indices.now) (data_of holder.now)) }
-{
-    read_by(alloc, holder, indices, false)
-}
-
 /// What stands under an index: nothing, a byte of a text, or an entry of an array, which is lent.
 #[derive(Clone, Copy)]
 pub enum Found<'a> {
     Nothing,
     Letter(u8),
     Entry(&'a Value),
-}
-
-/// What a reading gives under indices, one after another.
-fn read_by(
-    alloc: Global,
-    holder: &Value,
-    indices: &[Value],
-    plain: bool,
-) -> Result<Value, ValueError>
-    ensures { Answers result (read_under (reading plain) (map data_of indices.now) (data_of holder.now)) }
-{
-    let Some((index, rest)) = indices.split_first() else {
-        return Ok(holder.try_clone()?);
-    };
-    match under(alloc, holder, index, plain) {
-        Ok(Found::Entry(value)) => read_by(alloc, value, rest, plain),
-        Ok(found) => {
-            let value = copy(alloc, found)?;
-            read_by(alloc, &value, rest, plain)
-        }
-        Err(why) => Err(why),
-    }
 }
 
 /// What a reading finds under an index: [`index`], where it is plain, else [`find`]. Copies nothing.

@@ -15,6 +15,6 @@ mod texts;
 mod types;
 
 pub use builtins::builtin;
-pub use indices::{Found, copy, find, find_by, index, index_by, under};
+pub use indices::{Found, copy, find, index, under};
 pub use operators::{binary, unary};
 pub use texts::text;

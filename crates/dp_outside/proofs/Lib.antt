@@ -1,3 +1,4 @@
 mod GrownLists
+pub mod NameLaws
 mod PairedLists
 mod Places

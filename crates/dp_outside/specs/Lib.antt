@@ -2,9 +2,9 @@ pub mod Causes
 pub mod Changes
 pub mod Fakes
 pub mod Files
-pub mod Hosts
 pub mod Jobs
 pub mod Links
+pub mod Names
 pub mod Reports
 pub mod Streams
 pub mod inner

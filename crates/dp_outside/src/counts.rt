@@ -20,7 +20,7 @@ impl Model for Faults {
 }
 
 impl Faults {
-    /// No fault.
+    /// A count of 0. Takes no memory.
     pub fn new() -> Self
         ensures { result ≡ 0 }
     {

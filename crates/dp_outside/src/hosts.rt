@@ -1,11 +1,9 @@
 //! Names of machines.
-ghost use Rattle.std.specs.Prelude.{◌≡◌, ◌↔◌, All, IfSome, IsSome, IsTrue};
-ghost use Rattle.dp_outside.specs.Hosts.{IsGraphic, IsHost};
+ghost use Rattle.std.specs.Prelude.{◌≡◌, ◌↔◌, IfSome, IsSome};
+ghost use Rattle.dp_outside.specs.Names.{IsHost};
 
+use crate::graphic_names::{HOST_LIMIT, is_name};
 use std::marker::Model;
-
-/// The most bytes of the name of a machine.
-const HOST_LIMIT: usize = 64;
 
 /// The name or address of a machine: 1 to 64 bytes from 0x21 to 0x7e. Contracts see the list of these bytes.
 #[derive(Debug, Drop)]
@@ -16,33 +14,13 @@ pub struct Host {
 
 impl Model for Host {
     ghost use Rattle.std.specs.Prelude.{List, ℕ, take, ◌≤◌};
-    ghost use Rattle.dp_outside.specs.Hosts.{IsHost, host_limit};
+    ghost use Rattle.dp_outside.specs.Names.{IsHost, host_limit};
 
     ghost Value = { List ℕ };
 
     ghost view = { λ h. take h.length h.bytes };
 
     ghost invariant = { λ h. (h.length ≤ host_limit) × IsHost (take h.length h.bytes) };
-}
-
-/// Whether each byte is printable ASCII and no blank.
-fn are_graphic(bytes: &[u8]) -> bool
-    ensures { IsTrue result ↔ All IsGraphic bytes.now }
-{
-    bytes.iter().all(|&byte| 0x21 <= byte && byte <= 0x7e)
-}
-
-/// Whether the bytes are the name of a machine.
-fn is_host(bytes: &[u8]) -> bool
-    ensures { IsTrue result ↔ IsHost bytes.now }
-{
-    if bytes.is_empty() {
-        return false;
-    }
-    if bytes.len() > HOST_LIMIT {
-        return false;
-    }
-    are_graphic(bytes)
 }
 
 impl Host {
@@ -52,7 +30,7 @@ impl Host {
         ensures exact { IfSome result (λ host. host ≡ bytes.now) }
         ensures valid { IsSome result ↔ IsHost bytes.now }
     {
-        if !is_host(bytes) {
+        if !is_name(bytes, HOST_LIMIT) {
             return None;
         }
         let mut held = [0; HOST_LIMIT];

@@ -8,7 +8,7 @@ use std::marker::{Model, PhantomData};
 #[derive(Drop)]
 pub(crate) struct Names {
     marker: PhantomData<u8>,
-    pub ghost names: { List (List ℕ) },
+    pub(crate) ghost names: { List (List ℕ) },
 }
 
 impl Model for Names {

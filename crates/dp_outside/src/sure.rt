@@ -76,7 +76,7 @@ impl Source for SureByteSource {
 pub struct SureByteSink;
 
 impl SureByteSink {
-    /// A sink.
+    /// A sink that drops what it is given. Takes no memory: the `Result` is for the form of the others.
     pub fn new() -> Result<Self, Memory> {
         Ok(SureByteSink)
     }

@@ -1,6 +1,6 @@
 //! The objects in memory and the adapters, called as a program calls them.
 
-use dp_adapters::{FileShelf, Reading, TcpNet, Writing};
+use dp_adapters::{FileShelf, ReaderSource, TcpNet, WriterSink};
 use dp_outside::{
     ByteSink, ByteSource, Dialer, Failed, Faults, Gate, Hook, Host, Job, MapShelf, Memory, Net,
     NoGate, NoNet, NoSpawner, Shelf, ShelfError, Sink, Source, Spawner, SureByteSink,
@@ -336,32 +336,32 @@ fn untried(alloc: Global) -> Shaky {
 
 #[test]
 fn readers_are_sources(rt: HostRuntime) -> Result<(), Fail> {
-    let mut steady = Reading::new(b"hello".as_slice());
+    let mut steady = ReaderSource::new(b"hello".as_slice());
     assert_eq!(rt;
         takes(rt.alloc(), &mut steady, 4, 3)?.as_slice(),
         b"hell|o||".as_slice()
     );
-    let mut source = Reading::new(untried(rt.alloc()));
+    let mut source = ReaderSource::new(untried(rt.alloc()));
     assert_eq!(rt;
         takes(rt.alloc(), &mut source, 4, 3)?.as_slice(),
         b"x|!x|".as_slice()
     );
     assert_eq!(rt; source.faults.count(), 1);
-    let taken = Reading::new(rt.stdin()).take(&mut [0; 8]);
+    let taken = ReaderSource::new(rt.stdin()).take(&mut [0; 8]);
     assert!(rt; matches!(taken, Ok(0) | Err(Failed)));
     Ok(())
 }
 
 #[test]
 fn writers_are_sinks(rt: HostRuntime) -> Result<(), Fail> {
-    let mut sink = Writing::new(untried(rt.alloc()));
+    let mut sink = WriterSink::new(untried(rt.alloc()));
     assert_eq!(rt;
         puts(rt.alloc(), &mut sink, &["hello", "ab", "cd"])?.as_slice(),
         b"!!+".as_slice()
     );
     assert_eq!(rt; sink.inner.taken.as_slice(), b"heabcd".as_slice());
     assert_eq!(rt; sink.faults.count(), 2);
-    assert!(rt; Writing::new(rt.stdout()).put(b"written\n").is_ok());
+    assert!(rt; WriterSink::new(rt.stdout()).put(b"written\n").is_ok());
     Ok(())
 }
 

@@ -64,13 +64,13 @@ stream_element bytes =
     (namespace ∷ (codes "type", codes "stdout") ∷ (codes "encoding", codes "base64") ∷ [])
     (text_nodes (base64 bytes))
 
-abbrev pub told_nodes : Option BreakLine → List Node
-told_nodes None = []
-told_nodes (Some line) = breakpoint_node line ∷ []
+abbrev pub notified_nodes : Option BreakLine → List Node
+notified_nodes None = []
+notified_nodes (Some line) = breakpoint_node line ∷ []
 
 abbrev pub notify_element : Notify → Element
 notify_element n =
-    element (codes "notify") (namespace ∷ (codes "name", n.name) ∷ []) (told_nodes n.breakpoint)
+    element (codes "notify") (namespace ∷ (codes "name", n.name) ∷ []) (notified_nodes n.breakpoint)
 
 abbrev pub refusal_name : Bool → Text
 refusal_name true = codes "proxystop"

@@ -5,7 +5,7 @@ ghost use Rattle.dp_packet.specs.Breakpoints as spec;
 use crate::Memory;
 use crate::packet::{BreakKind, BreakLine, HitRule};
 use crate::parts::{
-    alone, child, put, put_flag, put_given, put_given_number, put_number, text_nodes,
+    alone, child, put_attribute, put_flag, put_given, put_given_number, put_number, text_nodes,
 };
 use dp_markup::Node;
 use dp_value::Bytes;
@@ -47,8 +47,8 @@ fn put_kind(
         attributes.old.items ++ spec.kind_attributes line.now) }
 {
     put_number(alloc, attributes, b"id", line.id as u64)?;
-    put(alloc, attributes, b"type", kind_name(line.kind))?;
-    put(alloc, attributes, b"state", state_name(line.enabled))
+    put_attribute(alloc, attributes, b"type", kind_name(line.kind))?;
+    put_attribute(alloc, attributes, b"state", state_name(line.enabled))
 }
 
 fn put_place(
@@ -85,7 +85,7 @@ fn put_rule(
     ensures { OnOk result (attributes.new.items ≡
         attributes.old.items ++ spec.rule_attribute rule ∷ []) }
 {
-    put(alloc, attributes, b"hit_condition", rule_name(rule))
+    put_attribute(alloc, attributes, b"hit_condition", rule_name(rule))
 }
 
 fn put_hits(

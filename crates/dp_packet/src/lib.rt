@@ -21,6 +21,7 @@ pub use faults::{message, reason};
 pub use packet::{
     Body, BreakKind, BreakLine, HitRule, Init, Notify, Packet, ProxyReply, Response, StackLine,
 };
+pub use parts::put_attribute;
 pub use property::{Property, Shape};
 pub use property_sizes::{base64_size, property_size};
 pub use sizes::{attribute_size, escaped_size, short_size};

@@ -10,8 +10,8 @@ use dp_value::{Bytes, Items};
 use itoa::Buffer;
 use std::alloc::Global;
 
-/// Puts an attribute behind the others.
-pub(crate) fn put(
+/// Puts an attribute behind the others. Its name and its value are copied.
+pub fn put_attribute(
     alloc: Global,
     attributes: &mut Vec<(Bytes, Bytes)>,
     name: &[u8],
@@ -38,7 +38,7 @@ pub(crate) fn put_number(
         attributes.old.items ++ (name.now, decimal number) ∷ []) }
 {
     let mut buffer = Buffer::new();
-    put(alloc, attributes, name, buffer.format(number).as_bytes())
+    put_attribute(alloc, attributes, name, buffer.format(number).as_bytes())
 }
 
 /// Puts an attribute that may be missing.
@@ -53,7 +53,7 @@ pub(crate) fn put_given(
 {
     match value {
         None => Ok(()),
-        Some(value) => put(alloc, attributes, name, value.as_slice()),
+        Some(value) => put_attribute(alloc, attributes, name, value.as_slice()),
     }
 }
 
@@ -81,7 +81,7 @@ pub(crate) fn put_all(
     ensures { OnOk result (attributes.new.items ≡ attributes.old.items ++ more.now) }
 {
     for attribute in more {
-        put(
+        put_attribute(
             alloc,
             attributes,
             attribute.0.as_slice(),
@@ -97,7 +97,7 @@ pub(crate) fn put_namespace(
 ) -> Result<(), Memory>
     ensures { OnOk result (attributes.new.items ≡ attributes.old.items ++ spec.namespace ∷ []) }
 {
-    put(alloc, attributes, b"xmlns", b"urn:debugger_protocol_v1")
+    put_attribute(alloc, attributes, b"xmlns", b"urn:debugger_protocol_v1")
 }
 
 pub(crate) fn flag(value: bool) -> &'static [u8]
@@ -115,7 +115,7 @@ pub(crate) fn put_flag(
     ensures { OnOk result (attributes.new.items ≡
         attributes.old.items ++ (name.now, spec.flag value) ∷ []) }
 {
-    put(alloc, attributes, name, flag(value))
+    put_attribute(alloc, attributes, name, flag(value))
 }
 
 /// An element of this name.

@@ -6,7 +6,7 @@ ghost use Rattle.dp_packet.specs.Properties.{property_node, text_attributes};
 ghost use Rattle.dp_packet.specs.inner.Shapes.{shape_part};
 
 use crate::Memory;
-use crate::parts::{child, flag, put, put_flag, put_given, put_number, text_nodes};
+use crate::parts::{child, flag, put_attribute, put_flag, put_given, put_number, text_nodes};
 use crate::property::{Property, Shape};
 use base64::engine::general_purpose::STANDARD;
 use dp_markup::Node;
@@ -49,7 +49,7 @@ fn put_array(
     ensures { OnOk result (attributes.new.items ≡
         attributes.old.items ++ array_attributes count page pagesize) }
 {
-    put(alloc, attributes, b"type", b"array")?;
+    put_attribute(alloc, attributes, b"type", b"array")?;
     put_flag(alloc, attributes, b"children", count != 0)?;
     put_paging(alloc, attributes, count, page, pagesize)?;
     Ok(())
@@ -58,9 +58,9 @@ fn put_array(
 fn put_text(alloc: Global, attributes: &mut Vec<(Bytes, Bytes)>, size: u64) -> Result<(), Memory>
     ensures { OnOk result (attributes.new.items ≡ attributes.old.items ++ text_attributes size) }
 {
-    put(alloc, attributes, b"type", b"string")?;
+    put_attribute(alloc, attributes, b"type", b"string")?;
     put_number(alloc, attributes, b"size", size)?;
-    put(alloc, attributes, b"encoding", b"base64")
+    put_attribute(alloc, attributes, b"encoding", b"base64")
 }
 
 /// The attributes that a value gives to its property.
@@ -73,9 +73,9 @@ fn put_value(
         attributes.old.items ++ (shape_part shape.now).0) }
 {
     match shape {
-        Shape::Null => put(alloc, attributes, b"type", b"null"),
-        Shape::Bool(_) => put(alloc, attributes, b"type", b"bool"),
-        Shape::Int(_) => put(alloc, attributes, b"type", b"int"),
+        Shape::Null => put_attribute(alloc, attributes, b"type", b"null"),
+        Shape::Bool(_) => put_attribute(alloc, attributes, b"type", b"bool"),
+        Shape::Int(_) => put_attribute(alloc, attributes, b"type", b"int"),
         Shape::Text { size, front: _ } => put_text(alloc, attributes, *size),
         Shape::Array {
             count,

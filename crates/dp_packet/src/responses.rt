@@ -6,7 +6,9 @@ use crate::Memory;
 use crate::breakpoints::breakpoint_nodes;
 use crate::faults::error_node;
 use crate::packet::{Body, Response, StackLine};
-use crate::parts::{alone, child, element, put, put_all, put_namespace, put_number, text_nodes};
+use crate::parts::{
+    alone, child, element, put_all, put_attribute, put_namespace, put_number, text_nodes,
+};
 use crate::properties::property_nodes;
 use dp_markup::{Element, Node};
 use dp_value::Bytes;
@@ -17,10 +19,10 @@ fn stack_of(alloc: Global, line: &StackLine) -> Result<Node, Memory>
 {
     let mut attributes = Vec::new(alloc);
     put_number(alloc, &mut attributes, b"level", line.level as u64)?;
-    put(alloc, &mut attributes, b"type", b"file")?;
-    put(alloc, &mut attributes, b"filename", line.uri.as_slice())?;
+    put_attribute(alloc, &mut attributes, b"type", b"file")?;
+    put_attribute(alloc, &mut attributes, b"filename", line.uri.as_slice())?;
     put_number(alloc, &mut attributes, b"lineno", line.line as u64)?;
-    put(alloc, &mut attributes, b"where", line.place.as_slice())?;
+    put_attribute(alloc, &mut attributes, b"where", line.place.as_slice())?;
     child(alloc, b"stack", attributes, Vec::new(alloc))
 }
 
@@ -38,7 +40,7 @@ fn context_of(alloc: Global, name: &Bytes, id: u32) -> Result<Node, Memory>
     ensures { IfOk result (λ n. n ≡ spec.context_node (name.now, id)) }
 {
     let mut attributes = Vec::new(alloc);
-    put(alloc, &mut attributes, b"name", name.as_slice())?;
+    put_attribute(alloc, &mut attributes, b"name", name.as_slice())?;
     put_number(alloc, &mut attributes, b"id", id as u64)?;
     child(alloc, b"context", attributes, Vec::new(alloc))
 }
@@ -73,13 +75,13 @@ pub(crate) fn response_element(alloc: Global, response: &Response) -> Result<Ele
 {
     let mut attributes = Vec::new(alloc);
     put_namespace(alloc, &mut attributes)?;
-    put(
+    put_attribute(
         alloc,
         &mut attributes,
         b"command",
         response.command.as_slice(),
     )?;
-    put(
+    put_attribute(
         alloc,
         &mut attributes,
         b"transaction_id",

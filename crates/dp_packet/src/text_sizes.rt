@@ -142,8 +142,8 @@ fn stream_size(bytes: &[u8]) -> u64
 }
 
 #[tactic(auto, using(crate::proofs::SizeLaws::alone_length))]
-fn told_size(told: &Option<BreakLine>) -> u64
-    ensures { result ≡ counted (length (nodes_text (spec.told_nodes told.now))) }
+fn notified_size(told: &Option<BreakLine>) -> u64
+    ensures { result ≡ counted (length (nodes_text (spec.notified_nodes told.now))) }
 {
     match told {
         None => 0,
@@ -156,7 +156,7 @@ fn notify_size(notify: &Notify) -> u64
     ensures { result ≡ counted (length (written (spec.notify_element notify.now))) }
 {
     let attributes = size_of(b"name", notify.name.as_slice()).saturating_add(NAMESPACE);
-    element_size(b"notify", attributes, told_size(&notify.breakpoint))
+    element_size(b"notify", attributes, notified_size(&notify.breakpoint))
 }
 
 #[tactic(auto, using(crate::proofs::SizeLaws::written_length, crate::proofs::SizeLaws::alone_length))]

@@ -7,7 +7,7 @@ use crate::Memory;
 use crate::breakpoints::breakpoint_of;
 use crate::faults::{message, reason, refusal_node};
 use crate::packet::{Body, BreakLine, Init, Notify, Packet, ProxyReply};
-use crate::parts::{alone, element, put, put_namespace, put_number};
+use crate::parts::{alone, element, put_attribute, put_namespace, put_number};
 use crate::properties::base64_nodes;
 use crate::responses::response_element;
 use dp_markup::{Element, Node, write};
@@ -34,14 +34,14 @@ fn init_element(alloc: Global, init: &Init) -> Result<Element, Memory>
 {
     let mut attributes = Vec::new(alloc);
     put_namespace(alloc, &mut attributes)?;
-    put(alloc, &mut attributes, b"appid", b"dbgp")?;
-    put(alloc, &mut attributes, b"idekey", init.idekey.as_slice())?;
-    put(alloc, &mut attributes, b"session", b"")?;
-    put(alloc, &mut attributes, b"thread", b"1")?;
-    put(alloc, &mut attributes, b"parent", b"")?;
-    put(alloc, &mut attributes, b"language", b"PHP")?;
-    put(alloc, &mut attributes, b"protocol_version", b"1.0")?;
-    put(alloc, &mut attributes, b"fileuri", init.fileuri.as_slice())?;
+    put_attribute(alloc, &mut attributes, b"appid", b"dbgp")?;
+    put_attribute(alloc, &mut attributes, b"idekey", init.idekey.as_slice())?;
+    put_attribute(alloc, &mut attributes, b"session", b"")?;
+    put_attribute(alloc, &mut attributes, b"thread", b"1")?;
+    put_attribute(alloc, &mut attributes, b"parent", b"")?;
+    put_attribute(alloc, &mut attributes, b"language", b"PHP")?;
+    put_attribute(alloc, &mut attributes, b"protocol_version", b"1.0")?;
+    put_attribute(alloc, &mut attributes, b"fileuri", init.fileuri.as_slice())?;
     element(alloc, b"init", attributes, Vec::new(alloc))
 }
 
@@ -50,14 +50,14 @@ fn stream_element(alloc: Global, bytes: &[u8]) -> Result<Element, Memory>
 {
     let mut attributes = Vec::new(alloc);
     put_namespace(alloc, &mut attributes)?;
-    put(alloc, &mut attributes, b"type", b"stdout")?;
-    put(alloc, &mut attributes, b"encoding", b"base64")?;
+    put_attribute(alloc, &mut attributes, b"type", b"stdout")?;
+    put_attribute(alloc, &mut attributes, b"encoding", b"base64")?;
     let nodes = base64_nodes(alloc, bytes)?;
     element(alloc, b"stream", attributes, nodes)
 }
 
-fn told_nodes(alloc: Global, told: &Option<BreakLine>) -> Result<Vec<Node>, Memory>
-    ensures { IfOk result (λ nodes. nodes.items ≡ spec.told_nodes told.now) }
+fn notified_nodes(alloc: Global, told: &Option<BreakLine>) -> Result<Vec<Node>, Memory>
+    ensures { IfOk result (λ nodes. nodes.items ≡ spec.notified_nodes told.now) }
 {
     match told {
         None => Ok(Vec::new(alloc)),
@@ -70,8 +70,8 @@ fn notify_element(alloc: Global, notify: &Notify) -> Result<Element, Memory>
 {
     let mut attributes = Vec::new(alloc);
     put_namespace(alloc, &mut attributes)?;
-    put(alloc, &mut attributes, b"name", notify.name.as_slice())?;
-    let nodes = told_nodes(alloc, &notify.breakpoint)?;
+    put_attribute(alloc, &mut attributes, b"name", notify.name.as_slice())?;
+    let nodes = notified_nodes(alloc, &notify.breakpoint)?;
     element(alloc, b"notify", attributes, nodes)
 }
 
@@ -87,19 +87,19 @@ fn proxy_element(alloc: Global, reply: &ProxyReply) -> Result<Element, Memory>
     let mut attributes = Vec::new(alloc);
     match reply {
         ProxyReply::Started { key, host, port } => {
-            put(alloc, &mut attributes, b"success", b"1")?;
-            put(alloc, &mut attributes, b"idekey", key.as_slice())?;
-            put(alloc, &mut attributes, b"address", host.as_slice())?;
+            put_attribute(alloc, &mut attributes, b"success", b"1")?;
+            put_attribute(alloc, &mut attributes, b"idekey", key.as_slice())?;
+            put_attribute(alloc, &mut attributes, b"address", host.as_slice())?;
             put_number(alloc, &mut attributes, b"port", *port as u64)?;
             element(alloc, b"proxyinit", attributes, Vec::new(alloc))
         }
         ProxyReply::Stopped { key } => {
-            put(alloc, &mut attributes, b"success", b"1")?;
-            put(alloc, &mut attributes, b"idekey", key.as_slice())?;
+            put_attribute(alloc, &mut attributes, b"success", b"1")?;
+            put_attribute(alloc, &mut attributes, b"idekey", key.as_slice())?;
             element(alloc, b"proxystop", attributes, Vec::new(alloc))
         }
         ProxyReply::Refused { stopping, id } => {
-            put(alloc, &mut attributes, b"success", b"0")?;
+            put_attribute(alloc, &mut attributes, b"success", b"0")?;
             let nodes = alone(alloc, refusal_node(alloc, *id)?)?;
             element(alloc, refusal_name(*stopping), attributes, nodes)
         }

@@ -7,13 +7,13 @@ use Rattle.dp_lexer.proofs.TokenLaws.{tokens_told}
 use Rattle.dp_parse.specs.declared.errors.ParseError.{ParseError}
 use Rattle.dp_parse.specs.declared.errors.ParseError.TheVariants as error
 use Rattle.dp_tree.specs.declared.tree.Expression.{Expression}
-use Rattle.dp_rules.specs.inner.Input.{Outcome}
-use Rattle.dp_parse.specs.ExpressionIn.{value_in, tree_in, expression_in, Tells, Told}
+use Rattle.dp_token_rules.specs.inner.Input.{Outcome}
+use Rattle.dp_parse.specs.ExpressionIn.{value_in, tree_in, expression_in, IsExact, IsReadBy}
 use Rattle.dp_parse.specs.Limits.{limits}
 use Rattle.dp_parse.specs.Programs.{IsExpressionText}
 use Rattle.dp_parse.specs.Statements.{SpellsExpression}
 use Rattle.dp_parse.specs.inner.StatementRules.{expression_text}
-use Rattle.dp_rules.proofs.Verdicts.{found, all_found}
+use Rattle.dp_token_rules.proofs.Verdicts.{found, all_found}
 use Rattle.dp_parse.proofs.FileVerdicts.{text_reads}
 
 -- what is read of tokens is what they spell
@@ -39,7 +39,7 @@ spelled_told bytes e h =
     ap tree_in ((tokens_told bytes h.tokens).1 h.are_tokens)
     ∙ ap value_in (all_found (text_reads limits.expressions) h.tokens e h.spelled)
 
-pub expression_told : Tells expression_in
+pub expression_told : IsExact expression_in
 expression_told bytes e = (told_spelled bytes e, spelled_told bytes e)
 
 -- where each tree that is spelled comes to that memory ran out, and it is none of that, no tree is told
@@ -55,6 +55,6 @@ none_told bytes why only some = go (expression_in bytes) refl
 pub told_by : (bytes : List ℕ) (ts : List Token) → AreTokens bytes ts → (r : Result Expression ParseError)
     → IfOk r (λ e. SpellsExpression limits.expressions ts e)
     → ((e : Expression) → IsExpressionText bytes e → MatchResult r (λ other. other ≡ e) (λ why. why ≡ error.Memory))
-    → Told (expression_in bytes) r
+    → IsReadBy (expression_in bytes) r
 told_by bytes ts are (Ok e) h only = spelled_told bytes e (record { tokens = ts; are_tokens = are; spelled = h })
 told_by bytes ts are (Err why) h only = none_told bytes why only

@@ -12,29 +12,29 @@ use Rattle.dp_parse.specs.declared.ended.Body.{Body}
 use Rattle.dp_parse.specs.declared.ended.Parts.{Parts}
 use Rattle.dp_expressions.specs.declared.operand.Part.TheVariants as part
 use Rattle.dp_grammar.specs.declared.refusal.Refusal.TheVariants.{Unexpected}
-use Rattle.dp_rules.specs.declared.terminal.Terminal.{Terminal}
-use Rattle.dp_rules.specs.declared.terminal.Terminal.TheVariants as terminal
+use Rattle.dp_token_rules.specs.declared.terminal.Terminal.{Terminal}
+use Rattle.dp_token_rules.specs.declared.terminal.Terminal.TheVariants as terminal
 use Rattle.dp_tree.specs.declared.tree.Expression.{Expression}
 use Rattle.dp_tree.specs.declared.tree.Function.{Function}
-use Rattle.dp_rules.specs.Terminals.{terminal_of, is, is_superglobal, head}
-use Rattle.dp_rules.specs.inner.Input.{Outcome, Reader, and_then, gives, made, mark, refuse, until, next_of, ◌>>=◌, ◌>>◌, kind}
-use Rattle.dp_rules.specs.Rules.{Made, Mark, Perhaps}
-use Rattle.dp_rules.specs.inner.ListReaders.{any_items}
+use Rattle.dp_token_rules.specs.Terminals.{terminal_of, is, is_superglobal, head}
+use Rattle.dp_token_rules.specs.inner.Input.{Outcome, Reader, and_then, gives, made, mark, refuse, until, next_of, ◌>>=◌, ◌>>◌, kind}
+use Rattle.dp_token_rules.specs.Rules.{Made, Mark, Perhaps}
+use Rattle.dp_token_rules.specs.inner.ListReaders.{any_items}
 use Rattle.dp_expressions.specs.Grammar.{IsExpression}
 use Rattle.dp_expressions.specs.inner.Readers.{reading}
 use Rattle.dp_parse.specs.Statements.{Depth, parameter_in, function_of, FunctionRule, no_parts, with_statement, with_function, Spells, SpellsExpression}
 use Rattle.dp_parse.specs.inner.StatementRules.{bodies, body_below, statement, function_rule, file_step, file, at_end, semicolon, expression_text}
-use Rattle.dp_rules.proofs.Terminals.{not_true, placed, mark_alone, mark_passes, mark_fails, mark_apart}
-use Rattle.dp_rules.proofs.Answers.{Rules, Anything, JoinedAt, EitherAt, GivesAt, OneAt, MarkAt, MadeAt, StepAt, Answers, Follows, StartsIn, Apart, give, given, mark_starts, joined_starts, made_starts, either_starts, nests_starts, starts_in_more, starts_apart, gives_apart, made_apart, gives_follow, one_starts, one_answers, gives_answers, joined_answers, made_answers, mark_answers, equal_answers, either_answers, refused_here, begun, either_answers_back, by_first, by_second}
-use Rattle.dp_rules.proofs.More.{level_self}
-use Rattle.dp_rules.proofs.Loops.{step_stop, closed_answers}
-use Rattle.dp_rules.proofs.ListAnswers.{AnyItemsAt, AreItems, any_items_answers}
+use Rattle.dp_token_rules.proofs.Terminals.{not_true, placed, mark_alone, mark_passes, mark_fails, mark_apart}
+use Rattle.dp_token_rules.proofs.Answers.{Rules, Anything, JoinedAt, EitherAt, GivesAt, OneAt, MarkAt, MadeAt, StepAt, Answers, Follows, StartsIn, Apart, give, given, mark_starts, joined_starts, made_starts, either_starts, nests_starts, starts_in_more, starts_apart, gives_apart, made_apart, gives_follow, one_starts, one_answers, gives_answers, joined_answers, made_answers, mark_answers, equal_answers, either_answers, refused_here, begun, either_answers_back, by_first, by_second}
+use Rattle.dp_token_rules.proofs.More.{level_self}
+use Rattle.dp_token_rules.proofs.Loops.{step_stop, closed_answers}
+use Rattle.dp_token_rules.proofs.ListAnswers.{AnyItemsAt, AreItems, any_items_answers}
 use Rattle.dp_parse.proofs.StatementReaders.{Deeper, same_depth, IsPartReader, gives_reader, then_reader, mark_then, keyword_nests}
 use Rattle.dp_parse.proofs.StatementParts.{AreRead, kind_reader, takes_else, body_stop}
 use Rattle.dp_parse.proofs.StatementStarts.{begins_statement, LineAt, open_ends_other, statement_no_else, line_starts}
 use Rattle.dp_parse.proofs.StatementBodies.{BodiesAt, bodies_reader}
 use Rattle.dp_parse.proofs.StatementLevels.{body_reader, statement_answers}
-use Rattle.dp_rules.specs.TokenValues.{Text, unless, variable_in, name_in, by_kind}
+use Rattle.dp_token_rules.specs.TokenValues.{Text, unless, variable_in, name_in, by_kind}
 
 -- ---- parameters
 

@@ -5,7 +5,7 @@ use Rattle.dp_parse.specs.declared.ended.Parts.{Parts}
 use Rattle.dp_tree.specs.declared.tree.Expression.{Expression}
 use Rattle.dp_parse.specs.Statements.{Depth, no_parts, Spells, SpellsExpression}
 use Rattle.dp_parse.specs.inner.StatementRules.{file, expression_text}
-use Rattle.dp_rules.proofs.More.{level_self}
+use Rattle.dp_token_rules.proofs.More.{level_self}
 use Rattle.dp_expressions.proofs.Heights.{looser}
 use Rattle.dp_expressions.proofs.Least.{zero_text, zero_tree, variable_text, variable_place, least_expression, least_is_place}
 use Rattle.dp_expressions.proofs.ExpressionParts.{place_starts}
@@ -14,8 +14,8 @@ use Rattle.dp_expressions.proofs.ExpressionAnswers.{is_expression_answers, place
 use Rattle.dp_parse.proofs.StatementReaders.{Deeper, same_depth}
 use Rattle.dp_parse.proofs.StatementParts.{closing, AreRead}
 use Rattle.dp_parse.proofs.FileReaders.{end_stop, no_file, file_answers, file_leaves_none, expression_text_answers, some_text, text_leaves_none}
-use Rattle.dp_rules.proofs.Verdicts.{ReadsAll, one_tree}
-use Rattle.dp_rules.proofs.Terminals.{implied}
+use Rattle.dp_token_rules.proofs.Verdicts.{ReadsAll, one_tree}
+use Rattle.dp_token_rules.proofs.Terminals.{implied}
 
 -- expressions and places are read
 pub known : AreRead (looser 12) (looser 1)

@@ -5,12 +5,12 @@ use Rattle.dp_parse.specs.declared.errors.ParseError.{ParseError}
 use Rattle.dp_parse.specs.declared.errors.ParseError.TheVariants as error
 use Rattle.dp_grammar.specs.declared.refusal.Refusal.{Refusal}
 use Rattle.dp_grammar.specs.declared.refusal.Refusal.TheVariants as refusal
-use Rattle.dp_rules.specs.inner.Input.{Reader}
+use Rattle.dp_token_rules.specs.inner.Input.{Reader}
 use Rattle.dp_parse.specs.Programs.{AreWrong, reported}
-use Rattle.dp_rules.proofs.Answers.{Rules}
+use Rattle.dp_token_rules.proofs.Answers.{Rules}
 use Rattle.dp_grammar.proofs.Answers.{Stop}
 use Rattle.dp_grammar.proofs.Verdicts.{ReadsAll}
-use Rattle.dp_rules.proofs.Verdicts.{found, only, unexpected, too_deep, unexpected_spelled, too_deep_spelled, one_unexpected, one_too_deep, not_both}
+use Rattle.dp_token_rules.proofs.Verdicts.{found, only, unexpected, too_deep, unexpected_spelled, too_deep_spelled, one_unexpected, one_too_deep, not_both}
 
 -- Tokens are wrong for one reason at most.
 pub one_reason : {L A : Type 0} (rule : Rules L A) (limits : L) (ts : List Token) (e why : ParseError)

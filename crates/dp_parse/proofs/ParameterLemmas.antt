@@ -3,12 +3,12 @@ use Rattle.std.proofs.Common.{◌≡◌, Bool, true, false, not, if◌then◌els
 use Rattle.dp_lexer.specs.declared.token.Token.{Token}
 use Rattle.dp_lexer.specs.declared.token.TokenKind.{TokenKind}
 use Rattle.dp_lexer.specs.declared.token.TokenKind.TheVariants as kind
-use Rattle.dp_rules.specs.TokenValues.{Text, unless, variable_in}
-use Rattle.dp_rules.specs.inner.Input.{Reader, and_then, met, variable}
+use Rattle.dp_token_rules.specs.TokenValues.{Text, unless, variable_in}
+use Rattle.dp_token_rules.specs.inner.Input.{Reader, and_then, met, variable}
 use Rattle.dp_parse.specs.inner.Parameters.{parameter, chosen, is_among, checked}
-use Rattle.dp_rules.specs.inner.ListReaders.{any_items}
-use Rattle.dp_rules.specs.declared.terminal.Terminal.{Terminal}
-use Rattle.dp_rules.specs.Terminals.{is_superglobal}
+use Rattle.dp_token_rules.specs.inner.ListReaders.{any_items}
+use Rattle.dp_token_rules.specs.declared.terminal.Terminal.{Terminal}
+use Rattle.dp_token_rules.specs.Terminals.{is_superglobal}
 use Rattle.dp_parse.specs.Statements.{parameter_in}
 
 module _ (found : List Text) (t : Token) (ts : List Token) where

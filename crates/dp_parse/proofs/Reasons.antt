@@ -23,7 +23,7 @@ module _ (Refused : Fault → ℕ → Type 0) where
         offset = offset;
         refused = refused fault.BadByte offset
             refl;
-        told = refl;
+        reason = refl;
       })
   lexical_cause (lex.OpenString offset) refused P by memory =
       by (lex.OpenString offset) (record {
@@ -31,7 +31,7 @@ module _ (Refused : Fault → ℕ → Type 0) where
         offset = offset;
         refused = refused fault.OpenString
             offset refl;
-        told = refl;
+        reason = refl;
       })
   lexical_cause (lex.OpenComment offset) refused P by memory =
       by (lex.OpenComment offset) (record {
@@ -39,7 +39,7 @@ module _ (Refused : Fault → ℕ → Type 0) where
         offset = offset;
         refused = refused
             fault.OpenComment offset refl;
-        told = refl;
+        reason = refl;
       })
   lexical_cause (lex.WideNumber offset) refused P by memory =
       by (lex.WideNumber offset) (record {
@@ -47,7 +47,7 @@ module _ (Refused : Fault → ℕ → Type 0) where
         offset = offset;
         refused = refused fault.WideNumber
             offset refl;
-        told = refl;
+        reason = refl;
       })
   lexical_cause lex.Memory refused P by memory = memory
 
@@ -65,5 +65,5 @@ module _ (Refused : Fault → ℕ → Type 0) where
     where
       go : (why ≡ error_of none.fault none.offset) ⊎ (why ≡ lex.Memory) → (r ≡ error.Lex w) ⊎ (r ≡ error.Memory)
       go (inl e) =
-          inl (is ∙ ap without_tokens e ∙ told_lexical none.fault none.offset ∙ ap (λ x. error.Lex x) (sym none.told))
+          inl (is ∙ ap without_tokens e ∙ told_lexical none.fault none.offset ∙ ap (λ x. error.Lex x) (sym none.reason))
       go (inr e) = inr (is ∙ ap without_tokens e)

@@ -7,26 +7,26 @@ use Rattle.dp_lexer.specs.declared.token.TokenKind.TheVariants as kind
 use Rattle.dp_parse.specs.declared.ended.Body.{Body}
 use Rattle.dp_parse.specs.declared.ended.Ended.{Ended}
 use Rattle.dp_expressions.specs.declared.operand.Part.TheVariants as part
-use Rattle.dp_rules.specs.declared.terminal.Terminal.{Terminal}
-use Rattle.dp_rules.specs.declared.terminal.Terminal.TheVariants as terminal
+use Rattle.dp_token_rules.specs.declared.terminal.Terminal.{Terminal}
+use Rattle.dp_token_rules.specs.declared.terminal.Terminal.TheVariants as terminal
 use Rattle.dp_tree.specs.declared.tree.Arm.{Arm}
 use Rattle.dp_tree.specs.declared.tree.Binding.{Binding}
 use Rattle.dp_tree.specs.declared.tree.Expression.{Expression}
 use Rattle.dp_tree.specs.declared.tree.Statement.{Statement}
 use Rattle.dp_tree.specs.declared.tree.StatementKind.{StatementKind}
 use Rattle.dp_tree.specs.declared.tree.StatementKind.TheVariants as tree
-use Rattle.dp_rules.specs.Terminals.{terminal_of, is, head}
-use Rattle.dp_rules.specs.Lines.{line_of}
-use Rattle.dp_rules.specs.inner.Input.{Reader, gives, made, mark, closed, ◌>>=◌, ◌>>◌}
-use Rattle.dp_rules.specs.Rules.{Joined, Mark, Without}
-use Rattle.dp_rules.specs.inner.ListReaders.{any_plain_items}
+use Rattle.dp_token_rules.specs.Terminals.{terminal_of, is, head}
+use Rattle.dp_token_rules.specs.Lines.{line_of}
+use Rattle.dp_token_rules.specs.inner.Input.{Reader, gives, made, mark, closed, ◌>>=◌, ◌>>◌}
+use Rattle.dp_token_rules.specs.Rules.{Joined, Mark, Without}
+use Rattle.dp_token_rules.specs.inner.ListReaders.{any_plain_items}
 use Rattle.dp_expressions.specs.inner.Readers.{reading}
 use Rattle.dp_parse.specs.Statements.{Depth, Arms, ended, whole, with_arm, stated, Bodies, ElseIf, Bound, Block, Test, ArmRule, NextArm, Otherwise, If, LoopBody, While, DoWhile, For, Foreach}
 use Rattle.dp_parse.specs.inner.StatementRules.{bodies_step, bodies, bound, block, head_test, next_arm, otherwise, behind_else, arms_step, arms, if_rule, loop_body, while_rule, do_while, for_rule, foreach, by_keyword, any_statement, on_its_line, braced, head_body}
-use Rattle.dp_rules.proofs.Terminals.{not_true, or_left, or_right, contrary, placed, mark_alone, mark_passes, mark_fails, mark_apart}
-use Rattle.dp_rules.proofs.Answers.{Rules, Anything, JoinedAt, EitherAt, GivesAt, MarkAt, MadeAt, WithoutAt, ClosedAt, StepAt, Answers, Follows, StartsIn, Apart, give, given, mark_starts, joined_starts, either_starts, made_starts, starts_in_more, starts_apart, gives_apart, either_apart, starts_follow, gives_answers, made_answers, carried, equal_answers, either_answers, without_answers, online_answers}
-use Rattle.dp_rules.proofs.Loops.{step_stop, closed_now, closed_follows, closed_answers, end_first}
-use Rattle.dp_rules.proofs.ListAnswers.{AnyPlainItemsAt}
+use Rattle.dp_token_rules.proofs.Terminals.{not_true, or_left, or_right, contrary, placed, mark_alone, mark_passes, mark_fails, mark_apart}
+use Rattle.dp_token_rules.proofs.Answers.{Rules, Anything, JoinedAt, EitherAt, GivesAt, MarkAt, MadeAt, WithoutAt, ClosedAt, StepAt, Answers, Follows, StartsIn, Apart, give, given, mark_starts, joined_starts, either_starts, made_starts, starts_in_more, starts_apart, gives_apart, either_apart, starts_follow, gives_answers, made_answers, carried, equal_answers, either_answers, without_answers, online_answers}
+use Rattle.dp_token_rules.proofs.Loops.{step_stop, closed_now, closed_follows, closed_answers, end_first}
+use Rattle.dp_token_rules.proofs.ListAnswers.{AnyPlainItemsAt}
 use Rattle.dp_parse.proofs.StatementReaders.{Deeper, same_depth, IsPartReader, gives_reader, mark_reader, joined_reader, then_reader, made_reader, mark_then, before_mark, keyword_nests, nests_reader}
 use Rattle.dp_parse.proofs.StatementParts.{AreRead, ExpressionAt, PlaceAt, StatementAt, reader_at, takes_else, open_ends, ended_stop, body_stop, bound_stop, bound_reader, empty_reader, global_reader, break_answers, continue_answers, expression_then, any_expressions, perform_reader, echo_reader, test_reader, return_reader, unset_reader, exit_reader}
 use Rattle.dp_parse.proofs.StatementStarts.{begins_statement, BodyAt, AnyAt, LineAt, Chosen, unchosen, open_ends_other, statement_no_else, starts, any_starts, body_starts, BracedAt, BracedLineAt, HeadBodyAt, braced_starts, braced_line_starts, head_starts}

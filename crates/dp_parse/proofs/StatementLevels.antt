@@ -3,14 +3,14 @@ use Rattle.std.proofs.Common.{◌≡◌, inl, inr, ℕ, zero, suc, ◌≤◌, Bo
 use Rattle.dp_lexer.specs.declared.token.Token.{Token}
 use Rattle.dp_lexer.specs.declared.token.TokenKind.TheVariants as kind
 use Rattle.dp_parse.specs.declared.ended.Body.{Body}
-use Rattle.dp_rules.specs.declared.terminal.Terminal.{Terminal}
-use Rattle.dp_rules.specs.declared.terminal.Terminal.TheVariants as terminal
+use Rattle.dp_token_rules.specs.declared.terminal.Terminal.{Terminal}
+use Rattle.dp_token_rules.specs.declared.terminal.Terminal.TheVariants as terminal
 use Rattle.dp_tree.specs.declared.tree.StatementKind.TheVariants as tree
-use Rattle.dp_rules.specs.Rules.{Mark}
+use Rattle.dp_token_rules.specs.Rules.{Mark}
 use Rattle.dp_parse.specs.Statements.{Depth, whole, stated, body_at}
 use Rattle.dp_parse.specs.inner.StatementRules.{any_statement, on_its_line, body_below, statement}
-use Rattle.dp_rules.proofs.Terminals.{placed, mark_alone}
-use Rattle.dp_rules.proofs.Answers.{Answers, give, below_answers}
+use Rattle.dp_token_rules.proofs.Terminals.{placed, mark_alone}
+use Rattle.dp_token_rules.proofs.Answers.{Answers, give, below_answers}
 use Rattle.dp_parse.proofs.StatementReaders.{Deeper, IsPartReader}
 use Rattle.dp_parse.proofs.StatementParts.{AreRead, reader_at, body_stop}
 use Rattle.dp_parse.proofs.StatementStarts.{BodyAt, AnyAt, LineAt}

@@ -6,28 +6,28 @@ use Rattle.dp_lexer.specs.declared.token.TokenKind.TheVariants as kind
 use Rattle.dp_parse.specs.declared.ended.Body.{Body}
 use Rattle.dp_parse.specs.declared.ended.Ended.{Ended}
 use Rattle.dp_expressions.specs.declared.operand.Part.TheVariants as part
-use Rattle.dp_rules.specs.declared.terminal.Terminal.{Terminal}
-use Rattle.dp_rules.specs.declared.terminal.Terminal.TheVariants as terminal
+use Rattle.dp_token_rules.specs.declared.terminal.Terminal.{Terminal}
+use Rattle.dp_token_rules.specs.declared.terminal.Terminal.TheVariants as terminal
 use Rattle.dp_tree.specs.declared.tree.Binding.{Binding}
 use Rattle.dp_tree.specs.declared.tree.Expression.{Expression}
 use Rattle.dp_tree.specs.declared.tree.Place.{Place}
 use Rattle.dp_tree.specs.declared.tree.StatementKind.TheVariants as tree
-use Rattle.dp_rules.specs.Terminals.{terminal_of, same_terminal, is}
-use Rattle.dp_rules.specs.inner.Input.{Reader, gives, made, mark, refuse, ◌>>=◌, ◌>>◌, kind, variable}
-use Rattle.dp_rules.specs.Rules.{Rule, Joined, Made, Mark, Perhaps, Closed}
-use Rattle.dp_rules.specs.Lists.{NextItem}
-use Rattle.dp_rules.specs.inner.ListReaders.{plain_items, some_items, any_plain_items}
+use Rattle.dp_token_rules.specs.Terminals.{terminal_of, same_terminal, is}
+use Rattle.dp_token_rules.specs.inner.Input.{Reader, gives, made, mark, refuse, ◌>>=◌, ◌>>◌, kind, variable}
+use Rattle.dp_token_rules.specs.Rules.{Rule, Joined, Made, Mark, Perhaps, Closed}
+use Rattle.dp_token_rules.specs.Lists.{NextItem}
+use Rattle.dp_token_rules.specs.inner.ListReaders.{plain_items, some_items, any_plain_items}
 use Rattle.dp_expressions.specs.Grammar.{IsExpression, IsPlace}
 use Rattle.dp_expressions.specs.inner.Readers.{begins_expression, reading, reading_place}
 use Rattle.dp_parse.specs.Statements.{Depth, whole, binding, Bound, GlobalRule, Empty, Perform, Echo, Test, Loops, Return, Unset, Exit, body_at}
 use Rattle.dp_parse.specs.Statements as grammar_of
 use Rattle.dp_parse.specs.inner.StatementRules.{empty, bound_rest, bound, global_rule, exit_word, perform, echo, head_test, levels, loops_rule, break_rule, continue_rule, maybe_up_to, return_rule, unset, exit_value, exit}
-use Rattle.dp_rules.proofs.Terminals.{not_true, placed, mark_alone, mark_fails, mark_apart}
-use Rattle.dp_rules.proofs.Answers.{Rules, Stop, Anything, JoinedAt, EitherAt, GivesAt, OneAt, MarkAt, MadeAt, Answers, StartsIn, give, behind, mark_starts, joined_starts, made_starts, starts_apart, gives_apart, one_starts, one_answers, gives_answers, either_answers, within_answers, when_answers}
-use Rattle.dp_rules.proofs.More.{variable_starts}
-use Rattle.dp_rules.proofs.ListAnswers.{PlainItemsAt, SomeItemsAt, AnyPlainItemsAt, AreItems, plain_items_answers, some_items_answers, any_plain_items_answers}
+use Rattle.dp_token_rules.proofs.Terminals.{not_true, placed, mark_alone, mark_fails, mark_apart}
+use Rattle.dp_token_rules.proofs.Answers.{Rules, Stop, Anything, JoinedAt, EitherAt, GivesAt, OneAt, MarkAt, MadeAt, Answers, StartsIn, give, behind, mark_starts, joined_starts, made_starts, starts_apart, gives_apart, one_starts, one_answers, gives_answers, either_answers, within_answers, when_answers}
+use Rattle.dp_token_rules.proofs.More.{variable_starts}
+use Rattle.dp_token_rules.proofs.ListAnswers.{PlainItemsAt, SomeItemsAt, AnyPlainItemsAt, AreItems, plain_items_answers, some_items_answers, any_plain_items_answers}
 use Rattle.dp_parse.proofs.StatementReaders.{Deeper, same_depth, IsPartReader, gives_reader, mark_reader, then_reader, made_reader, mark_then, before_mark, either_reader, stricter}
-use Rattle.dp_rules.specs.TokenValues.{Text, Variable, variable_in, by_kind, number_up_to}
+use Rattle.dp_token_rules.specs.TokenValues.{Text, Variable, variable_in, by_kind, number_up_to}
 
 -- ---- lists with commas
 

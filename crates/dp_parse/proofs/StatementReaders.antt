@@ -2,13 +2,13 @@
 use Rattle.std.proofs.Common.{◌≡◌, inl, ℕ, ◌≤◌, Bool, true, false, List, [], ◌∷◌, ◌++◌, refl, cond, arith}
 use Rattle.dp_lexer.specs.declared.token.Token.{Token}
 use Rattle.dp_lexer.specs.declared.token.TokenKind.{TokenKind}
-use Rattle.dp_rules.specs.declared.terminal.Terminal.{Terminal}
-use Rattle.dp_rules.specs.declared.terminal.Terminal.TheVariants as terminal
-use Rattle.dp_rules.specs.Terminals.{terminal_of, same_terminal, is, head}
-use Rattle.dp_rules.specs.inner.Input.{Reader, gives, made, mark, enter, one, ◌>>=◌, ◌>>◌}
+use Rattle.dp_token_rules.specs.declared.terminal.Terminal.{Terminal}
+use Rattle.dp_token_rules.specs.declared.terminal.Terminal.TheVariants as terminal
+use Rattle.dp_token_rules.specs.Terminals.{terminal_of, same_terminal, is, head}
+use Rattle.dp_token_rules.specs.inner.Input.{Reader, gives, made, mark, enter, one, ◌>>=◌, ◌>>◌}
 use Rattle.dp_parse.specs.Statements.{Depth}
-use Rattle.dp_rules.proofs.Terminals.{placed, mark_of, mark_alone, mark_passes, first_of_sort}
-use Rattle.dp_rules.proofs.Answers.{Rules, Stop, Anything, JoinedAt, EitherAt, GivesAt, MarkAt, MadeAt, NestsAt, Opens, Answers, Follows, StartsIn, Apart, mark_starts, joined_starts, starts_follow, anything_follows, gives_follow, mark_answers, gives_answers, joined_answers, stricter_answers, either_answers, nests_answers}
+use Rattle.dp_token_rules.proofs.Terminals.{placed, mark_of, mark_alone, mark_passes, first_of_sort}
+use Rattle.dp_token_rules.proofs.Answers.{Rules, Stop, Anything, JoinedAt, EitherAt, GivesAt, MarkAt, MadeAt, NestsAt, Opens, Answers, Follows, StartsIn, Apart, mark_starts, joined_starts, starts_follow, anything_follows, gives_follow, mark_answers, gives_answers, joined_answers, stricter_answers, either_answers, nests_answers}
 
 -- ---- depths
 

@@ -3,15 +3,15 @@ use Rattle.std.proofs.Common.{◌≡◌, inl, inr, ℕ, zero, suc, Bool, true, f
 use Rattle.dp_lexer.specs.declared.token.Token.{Token}
 use Rattle.dp_parse.specs.declared.ended.Body.{Body}
 use Rattle.dp_parse.specs.declared.ended.Ended.{Ended}
-use Rattle.dp_rules.specs.declared.terminal.Terminal.{Terminal}
-use Rattle.dp_rules.specs.declared.terminal.Terminal.TheVariants as terminal
+use Rattle.dp_token_rules.specs.declared.terminal.Terminal.{Terminal}
+use Rattle.dp_token_rules.specs.declared.terminal.Terminal.TheVariants as terminal
 use Rattle.dp_tree.specs.declared.tree.StatementKind.TheVariants as tree
-use Rattle.dp_rules.specs.Terminals.{terminal_of, is}
+use Rattle.dp_token_rules.specs.Terminals.{terminal_of, is}
 use Rattle.dp_expressions.specs.inner.Readers.{begins_expression}
 use Rattle.dp_parse.specs.Statements.{Depth, whole, stated, Empty, ElseIf, GlobalRule, Perform, Echo, Block, If, While, DoWhile, For, Foreach, Loops, Return, Unset, Exit, AnyStatement, body_at, Braced, HeadBody}
 use Rattle.dp_parse.specs.Statements as grammar
-use Rattle.dp_rules.proofs.Terminals.{or_left, or_right, mark_passes, mark_apart, same_is}
-use Rattle.dp_rules.proofs.Answers.{Rules, JoinedAt, EitherAt, MarkAt, MadeAt, WhenAt, OnLineAt, StartsIn, mark_starts, joined_starts, either_starts, made_starts, when_starts, nests_starts, online_starts, starts_in_more, WithoutAt, without_starts}
+use Rattle.dp_token_rules.proofs.Terminals.{or_left, or_right, mark_passes, mark_apart, same_is}
+use Rattle.dp_token_rules.proofs.Answers.{Rules, JoinedAt, EitherAt, MarkAt, MadeAt, WhenAt, OnLineAt, StartsIn, mark_starts, joined_starts, either_starts, made_starts, when_starts, nests_starts, online_starts, starts_in_more, WithoutAt, without_starts}
 use Rattle.dp_parse.proofs.StatementParts.{AreRead, ExpressionAt, StatementAt, takes_else, open_ends}
 
 -- ---- what a statement begins with

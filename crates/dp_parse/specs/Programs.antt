@@ -14,8 +14,8 @@ use Rattle.dp_tree.specs.declared.tree.Expression.{Expression}
 use Rattle.dp_tree.specs.declared.tree.File.{File}
 use Rattle.dp_parse.specs.Limits.{limits}
 use Rattle.dp_parse.specs.Statements.{Spells, SpellsExpression}
-use Rattle.dp_rules.specs.Rules.{Rule}
-use Rattle.dp_rules.specs.Refused.{IsUnexpected, IsTooDeep}
+use Rattle.dp_token_rules.specs.Rules.{Rule}
+use Rattle.dp_token_rules.specs.Refused.{IsUnexpected, IsTooDeep}
 use Rattle.dp_tree.specs.Doubles.{HasNoDouble, IsDouble}
 
 -- the bytes are a program, and this is its tree
@@ -34,7 +34,7 @@ pub record HasNoTokens (Refused : Fault → ℕ → Type 0) (why : LexError) : T
   pub fault : Fault
   pub offset : ℕ
   pub refused : Refused fault offset
-  pub told : why ≡ error_of fault offset
+  pub reason : why ≡ error_of fault offset
 
 -- the first token with which no program begins
 pub record IsWrongToken (bytes : List ℕ) (Wrong : List Token → Type 0) : Type 0 where

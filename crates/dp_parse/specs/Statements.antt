@@ -8,7 +8,7 @@ use Rattle.dp_lexer.specs.declared.token.TokenKind.TheVariants as kind
 use Rattle.dp_parse.specs.declared.ended.Ended.{Ended}
 use Rattle.dp_parse.specs.declared.ended.Body.{Body}
 use Rattle.dp_parse.specs.declared.ended.Parts.{Parts}
-use Rattle.dp_rules.specs.declared.terminal.Terminal.TheVariants as terminal
+use Rattle.dp_token_rules.specs.declared.terminal.Terminal.TheVariants as terminal
 use Rattle.dp_tree.specs.declared.tree.Arm.{Arm}
 use Rattle.dp_tree.specs.declared.tree.Binding.{Binding}
 use Rattle.dp_tree.specs.declared.tree.Expression.{Expression}
@@ -17,10 +17,10 @@ use Rattle.dp_tree.specs.declared.tree.Place.{Place}
 use Rattle.dp_tree.specs.declared.tree.Statement.{Statement}
 use Rattle.dp_tree.specs.declared.tree.StatementKind.{StatementKind}
 use Rattle.dp_tree.specs.declared.tree.StatementKind.TheVariants as tree
-use Rattle.dp_rules.specs.Rules.{Rule, ◌>>=◌, ◌>>◌, ◌or◌, Gives, Made, Mark, When, Nests, Without, OnLine, Closed, Perhaps}
-use Rattle.dp_rules.specs.Lists.{PlainItems, SomeItems, AnyPlainItems, AnyItems}
+use Rattle.dp_token_rules.specs.Rules.{Rule, ◌>>=◌, ◌>>◌, ◌or◌, Gives, Made, Mark, When, Nests, Without, OnLine, Closed, Perhaps}
+use Rattle.dp_token_rules.specs.Lists.{PlainItems, SomeItems, AnyPlainItems, AnyItems}
 use Rattle.dp_expressions.specs.Grammar.{IsExpression, IsPlace}
-use Rattle.dp_rules.specs.TokenValues.{Text, Variable, Kind, variable_in, name_in, number_up_to}
+use Rattle.dp_token_rules.specs.TokenValues.{Text, Variable, Kind, variable_in, name_in, number_up_to}
 
 abbrev pub ended : StatementKind → Bool → Ended
 ended k is_open = record { kind = k; is_open = is_open }

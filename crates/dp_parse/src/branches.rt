@@ -1,7 +1,7 @@
 //! `if` with its arms.
 
 ghost use Rattle.std.specs.Prelude.{◌≡◌, ◌+◌, ◌<◌, ◌≤◌, ◌^◌, IfOk};
-ghost use Rattle.dp_rules.specs.inner.Input.{Reads};
+ghost use Rattle.dp_token_rules.specs.inner.Input.{Reads};
 ghost use Rattle.dp_parse.specs.inner.Within.{within};
 ghost use Rattle.dp_parse.specs.inner.StatementRules as spec;
 ghost use Rattle.dp_parse.specs.Statements as grammar;
@@ -11,7 +11,7 @@ use crate::grammar::Statements;
 use crate::inside::Inside;
 use crate::levels::expression;
 use dp_expressions::both;
-use dp_rules::{Refusal, Terminal, Tokens, none, with};
+use dp_token_rules::{Refusal, Terminal, Tokens, none, with};
 use dp_tree::{Arm, Expression, StatementKind};
 use dp_value::{Items, Memory};
 use std::alloc::Global;

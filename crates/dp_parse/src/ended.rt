@@ -1,10 +1,10 @@
 //! What statements are read in. Their trees stand on the heap, so that a rule moves no large value.
 
 ghost use Rattle.std.specs.Prelude.{◌≡◌, ◌++◌, ◌∷◌, [], IfOk};
-ghost use Rattle.dp_rules.specs.inner.Input.{Reads, gives};
+ghost use Rattle.dp_token_rules.specs.inner.Input.{Reads, gives};
 ghost use Rattle.dp_parse.specs.Statements as grammar;
 
-use dp_rules::{Refusal, Tokens, with};
+use dp_token_rules::{Refusal, Tokens, with};
 use dp_tree::{Boxed, Function, Statement, StatementKind};
 use dp_value::{Items, Memory};
 use std::alloc::Global;

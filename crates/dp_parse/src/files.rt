@@ -1,7 +1,7 @@
 //! Functions, files, and expressions by themselves.
 
 ghost use Rattle.std.specs.Prelude.{◌≡◌, IfOk};
-ghost use Rattle.dp_rules.specs.inner.Input.{Reads};
+ghost use Rattle.dp_token_rules.specs.inner.Input.{Reads};
 ghost use Rattle.dp_parse.specs.Limits as limits;
 ghost use Rattle.dp_parse.specs.inner.Within as limited;
 ghost use Rattle.dp_parse.specs.inner.StatementRules as spec;
@@ -13,7 +13,7 @@ use crate::levels::{BODY_LEVELS, expression};
 use crate::parameters::parameters;
 use crate::statements::{bodies_over, statement};
 use dp_expressions::both;
-use dp_rules::{Refusal, Terminal, Tokens, enter, none, with};
+use dp_token_rules::{Refusal, Terminal, Tokens, enter, none, with};
 use dp_tree::{Expression, Function, Statement};
 use dp_value::{Items, Memory};
 use std::alloc::Global;
@@ -119,7 +119,7 @@ pub(crate) fn file(alloc: Global, tokens: &mut Tokens<'_>) -> Result<Parts, Refu
     Err(tokens.refuse())
 }
 
-#[tactic(auto, unfolding(crate::specs::inner::StatementRules::at_end, dp_rules::specs::inner::Input::refuse))]
+#[tactic(auto, unfolding(crate::specs::inner::StatementRules::at_end, dp_token_rules::specs::inner::Input::refuse))]
 fn at_end(tokens: &mut Tokens<'_>, found: Expression) -> Result<Expression, Refusal>
     ensures { Reads (spec.at_end found tokens.old) result tokens.new }
 {

@@ -2,12 +2,12 @@
 //! and what reads a body one level down. Each rule is a method of it, so that it is proved by itself.
 
 ghost use Rattle.std.specs.Prelude.{◌≡◌, suc, ◌+◌, ◌<◌, ◌≤◌, ◌^◌, OnOk};
-ghost use Rattle.dp_rules.specs.inner.Input.{Reads, enter};
+ghost use Rattle.dp_token_rules.specs.inner.Input.{Reads, enter};
 ghost use Rattle.dp_parse.specs.inner.Within as limited;
 
 use crate::ended::Body;
 use crate::inside::Inside;
-use dp_rules::{Refusal, Tokens, enter};
+use dp_token_rules::{Refusal, Tokens, enter};
 use std::alloc::Global;
 use std::marker::Model;
 

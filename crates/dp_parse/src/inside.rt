@@ -1,12 +1,12 @@
 //! What reads a body one level down, as a value.
 
 ghost use Rattle.std.specs.Prelude.{ℕ, ◌+◌, ◌-◌, ◌<◌, ◌≤◌};
-ghost use Rattle.dp_rules.specs.inner.Input.{Reads};
+ghost use Rattle.dp_token_rules.specs.inner.Input.{Reads};
 ghost use Rattle.dp_parse.specs.inner.NestedBody.{ReadsBodies};
 ghost use Rattle.dp_parse.specs.inner.Within as limited;
 
 use crate::ended::Body;
-use dp_rules::{Refusal, Tokens};
+use dp_token_rules::{Refusal, Tokens};
 use std::alloc::Global;
 
 /// What reads a body one level down.

@@ -1,10 +1,10 @@
 //! Statements without a body: jumps out of loops, functions and programs, and what is declared or removed.
 
 ghost use Rattle.std.specs.Prelude.{⊤, ◌≡◌, ◌<◌, ◌≤◌, ◌^◌};
-ghost use Rattle.dp_rules.specs.inner.Input.{Reads};
+ghost use Rattle.dp_token_rules.specs.inner.Input.{Reads};
 ghost use Rattle.dp_parse.specs.inner.Within.{within};
-ghost use Rattle.dp_rules.specs.inner.Input as input;
-ghost use Rattle.dp_rules.specs.inner.ListReaders as lists;
+ghost use Rattle.dp_token_rules.specs.inner.Input as input;
+ghost use Rattle.dp_token_rules.specs.inner.ListReaders as lists;
 ghost use Rattle.dp_parse.specs.inner.StatementRules as spec;
 ghost use Rattle.dp_parse.specs.Statements as grammar;
 
@@ -13,7 +13,7 @@ use crate::grammar::Statements;
 use crate::inside::Inside;
 use crate::levels::{expression, some_places};
 use dp_expressions::both;
-use dp_rules::{Piece, Refusal, Terminal, Tokens, plain_items};
+use dp_token_rules::{Piece, Refusal, Terminal, Tokens, plain_items};
 use dp_tree::{Expression, StatementKind};
 use dp_value::{Bytes, Items};
 use std::alloc::Global;
@@ -88,7 +88,7 @@ impl<R: Inside> Statements<R> {
         Ok(count)
     }
 
-    #[tactic(auto, unfolding(crate::specs::inner::StatementRules::break_rule, dp_rules::specs::inner::Input::refuse))]
+    #[tactic(auto, unfolding(crate::specs::inner::StatementRules::break_rule, dp_token_rules::specs::inner::Input::refuse))]
     pub(crate) fn break_rule(&self, tokens: &mut Tokens<'_>) -> Result<Ended, Refusal>
         ensures { Reads (within spec.break_rule self.now tokens.old) result tokens.new }
     {
@@ -100,7 +100,7 @@ impl<R: Inside> Statements<R> {
         whole(self.alloc(), tokens, StatementKind::Break(count))
     }
 
-    #[tactic(auto, unfolding(crate::specs::inner::StatementRules::continue_rule, dp_rules::specs::inner::Input::refuse))]
+    #[tactic(auto, unfolding(crate::specs::inner::StatementRules::continue_rule, dp_token_rules::specs::inner::Input::refuse))]
     pub(crate) fn continue_rule(&self, tokens: &mut Tokens<'_>) -> Result<Ended, Refusal>
         ensures { Reads (within spec.continue_rule self.now tokens.old) result tokens.new }
     {

@@ -1,12 +1,12 @@
 //! Expressions and places with as many levels of nesting as programs have.
 
 ghost use Rattle.std.specs.Prelude.{◌≡◌, ⊤};
-ghost use Rattle.dp_rules.specs.inner.Input.{Reads};
+ghost use Rattle.dp_token_rules.specs.inner.Input.{Reads};
 ghost use Rattle.dp_parse.specs.inner.Within as limited;
-ghost use Rattle.dp_rules.specs.inner.ListReaders as lists;
+ghost use Rattle.dp_token_rules.specs.inner.ListReaders as lists;
 
 use dp_expressions::Part;
-use dp_rules::{Piece, Refusal, Terminal, Tokens, any_plain_items, plain_items, some_items};
+use dp_token_rules::{Piece, Refusal, Terminal, Tokens, any_plain_items, plain_items, some_items};
 use dp_tree::{Expression, Place};
 use dp_value::Items;
 use std::alloc::Global;

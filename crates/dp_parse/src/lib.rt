@@ -1,6 +1,6 @@
 //! Files and expressions as trees: exactly the grammar of programs. It is the upper layer of the parser: statements,
-//! functions and files, and the calls on bytes, over the rules of dp_rules, the expressions of dp_expressions and the
-//! trees of dp_tree, which it hands on.
+//! functions and files, and the calls on bytes, over the rules of dp_token_rules, the expressions of dp_expressions and
+//! the trees of dp_tree, which it hands on.
 #![tactic(auto)]
 
 mod branches;
@@ -24,4 +24,4 @@ pub use dp_tree::{
 };
 pub use ended::{Body, Ended, Parts};
 pub use errors::ParseError;
-pub use whole::{expressions_are_told, one_tree, parse_expression, parse_file};
+pub use whole::{expressions_are_exact, one_tree, parse_expression, parse_file};

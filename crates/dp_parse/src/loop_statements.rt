@@ -1,7 +1,7 @@
 //! Loops of programs.
 
 ghost use Rattle.std.specs.Prelude.{◌≡◌, suc, ◌<◌, ◌≤◌, ◌^◌};
-ghost use Rattle.dp_rules.specs.inner.Input.{Reads};
+ghost use Rattle.dp_token_rules.specs.inner.Input.{Reads};
 ghost use Rattle.dp_parse.specs.inner.Within as limited;
 ghost use Rattle.dp_parse.specs.inner.Within.{within};
 ghost use Rattle.dp_parse.specs.inner.StatementRules as spec;
@@ -11,7 +11,7 @@ use crate::grammar::Statements;
 use crate::inside::Inside;
 use crate::levels::{any_expressions, expression};
 use dp_expressions::both;
-use dp_rules::{Refusal, Terminal, Tokens};
+use dp_token_rules::{Refusal, Terminal, Tokens};
 use dp_tree::{Binding, Expression, StatementKind};
 use dp_value::Bytes;
 use std::alloc::Global;

@@ -1,12 +1,12 @@
 //! The parameters of functions.
 
 ghost use Rattle.std.specs.Prelude.{◌≡◌, ◌++◌, ◌∷◌, []};
-ghost use Rattle.dp_rules.specs.inner.Input.{Reads, closed, made};
+ghost use Rattle.dp_token_rules.specs.inner.Input.{Reads, closed, made};
 ghost use Rattle.dp_parse.specs.inner.Parameters as spec;
-ghost use Rattle.dp_rules.specs.inner.ListReaders as lists;
+ghost use Rattle.dp_token_rules.specs.inner.ListReaders as lists;
 
 use crate::names::Names;
-use dp_rules::{Refusal, Terminal, Tokens};
+use dp_token_rules::{Refusal, Terminal, Tokens};
 use dp_value::{Bytes, Items};
 use std::alloc::Global;
 use std::ops::ControlFlow;
@@ -69,7 +69,7 @@ fn comma_turns(alloc: Global, tokens: &mut Tokens<'_>, first: Names) -> Result<N
     Err(tokens.refuse())
 }
 
-#[tactic(auto, unfolding(dp_rules::specs::inner::ListReaders::some_items))]
+#[tactic(auto, unfolding(dp_token_rules::specs::inner::ListReaders::some_items))]
 fn some_parameters(alloc: Global, tokens: &mut Tokens<'_>) -> Result<Names, Refusal>
     ensures { Reads (lists.some_items spec.checked Terminal.CloseParenthesis tokens.old) result tokens.new }
 {
@@ -77,7 +77,7 @@ fn some_parameters(alloc: Global, tokens: &mut Tokens<'_>) -> Result<Names, Refu
     comma_turns(alloc, tokens, first)
 }
 
-#[tactic(auto, unfolding(dp_rules::specs::inner::ListReaders::any_items))]
+#[tactic(auto, unfolding(dp_token_rules::specs::inner::ListReaders::any_items))]
 fn checked_parameters(alloc: Global, tokens: &mut Tokens<'_>) -> Result<Items<Bytes>, Refusal>
     ensures { Reads (lists.any_items spec.checked Terminal.CloseParenthesis tokens.old) result tokens.new }
 {

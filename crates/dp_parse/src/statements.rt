@@ -1,7 +1,7 @@
 //! Statements.
 
 ghost use Rattle.std.specs.Prelude.{◌≡◌, ◌+◌, ◌<◌, ◌≤◌, ◌^◌};
-ghost use Rattle.dp_rules.specs.inner.Input.{Reads};
+ghost use Rattle.dp_token_rules.specs.inner.Input.{Reads};
 ghost use Rattle.dp_parse.specs.Limits as limits;
 ghost use Rattle.dp_parse.specs.inner.Within as limited;
 ghost use Rattle.dp_parse.specs.inner.Within.{within};
@@ -13,7 +13,7 @@ use crate::inside::{Called, Inside};
 use crate::jumps::global_rule;
 use crate::levels::{expression, some_expressions};
 use dp_expressions::both;
-use dp_rules::{Refusal, Terminal, Tokens, none};
+use dp_token_rules::{Refusal, Terminal, Tokens, none};
 use dp_tree::{Statement, StatementKind};
 use dp_value::Items;
 use std::alloc::Global;

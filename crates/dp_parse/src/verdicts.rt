@@ -1,4 +1,4 @@
-//! What tokens are, or why they are nothing.
+//! What tokens spell, or the refusal with which they spell nothing.
 
 ghost use Rattle.std.specs.Prelude.{◌≡◌, ◌≢◌, ◌⊎◌, IfOk, IfErr, MatchResult};
 ghost use Rattle.dp_parse.specs.declared.ended.Parts.{Parts};
@@ -12,7 +12,7 @@ use crate::ended::Parts;
 use crate::errors::ParseError;
 use crate::files::{expression_text, file};
 use dp_lexer::Token;
-use dp_rules::{Refusal, Tokens};
+use dp_token_rules::{Refusal, Tokens};
 use dp_tree::Expression;
 use std::alloc::Global;
 

@@ -6,7 +6,7 @@ ghost use Rattle.dp_parse.specs.declared.ended.Parts.{Parts};
 ghost use Rattle.dp_parse.specs.declared.errors.ParseError.{ParseError};
 ghost use Rattle.dp_tree.specs.declared.tree.Expression.{Expression};
 ghost use Rattle.dp_tree.specs.declared.tree.File.{File};
-ghost use Rattle.dp_parse.specs.ExpressionIn.{expression_in, Told, Tells};
+ghost use Rattle.dp_parse.specs.ExpressionIn.{expression_in, IsReadBy, IsExact};
 ghost use Rattle.dp_parse.specs.Statements.{Depth, Spells, SpellsExpression};
 ghost use Rattle.dp_parse.specs.Programs.{IsFile, IsNoFile, IsExpressionText, IsNoExpression};
 ghost use Rattle.dp_parse.specs.inner.Reasons.{without_tokens};
@@ -74,8 +74,8 @@ pub fn parse_expression(alloc: Global, bytes: &[u8]) -> Result<Expression, Parse
     ensures cause { IfErr result (λ e. IsNoExpression bytes.now e) }
     ensures refuses { (why : ParseError) → why ≢ ParseError.Memory → IsNoExpression bytes.now why →
         MatchResult result (λ _. ⊥) (λ e. (e ≡ why) ⊎ (e ≡ ParseError.Memory)) }
-    // The same, where the tree is reported as a function of the bytes.
-    ensures told { Told (expression_in bytes.now) result }
+    // The same, with the tree as a function of the bytes.
+    ensures read { IsReadBy (expression_in bytes.now) result }
 {
     let tokens = match lex_expression(alloc, bytes) {
         Ok(tokens) => tokens,
@@ -92,6 +92,6 @@ pub fn one_tree()
 {}
 
 /// The tree of an expression is a function of its bytes.
-pub fn expressions_are_told()
-    ensures { Tells expression_in }
+pub fn expressions_are_exact()
+    ensures { IsExact expression_in }
 {}

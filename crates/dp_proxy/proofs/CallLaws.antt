@@ -10,7 +10,7 @@ use Rattle.dp_command.specs.declared.line.Line.{Line}
 use Rattle.dp_command.specs.Letters.{p}
 use Rattle.dp_command.specs.Lines.{line_of}
 use Rattle.dp_command.specs.Options.{Options, given}
-use Rattle.dp_registry.specs.Names.{IsKey}
+use Rattle.dp_outside.specs.Names.{IsKey}
 use Rattle.dp_value.specs.Decimals.{is_decimal, decimal_in}
 use Rattle.dp_proxy.specs.declared.calls.Call.{Call}
 use Rattle.dp_proxy.specs.declared.calls.Call.TheVariants.{Register, Stop}

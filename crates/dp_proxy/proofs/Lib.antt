@@ -3,6 +3,6 @@ pub mod CallLaws
 pub mod ReplyLaws
 pub mod PassLaws
 pub mod HearLaws
-pub mod TurnLaws
+pub mod ActLaws
 pub mod ProxyLaws
 pub mod StepLaws

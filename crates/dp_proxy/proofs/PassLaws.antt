@@ -1,4 +1,4 @@
--- What an act of a session is told, by what its lanes hand out.
+-- What an act of a session is answered, by what its lanes hand out.
 use Rattle.std.proofs.Common.{◌≡◌, ◌⊎◌, ℕ, ◌<◌, ◌==◌, Bool, true, false, ◌||◌, if◌then◌else◌, List, [], ◌∷◌, ◌++◌, length, drop, flat_map}
 use Rattle.std.proofs.Common.{Option, Some, None, is_none, refl, sym, ap, subst, ◌∙◌, inl, inr, append-nil, arith}
 use Rattle.std.proofs.lemmas.Bool.{or_left, or_right, or_from, eqb-true, false≢true}
@@ -62,7 +62,7 @@ broken_up acts (Some offset) good bad = record {
   place = inr (good, bad.place);
 }
 
--- ---- what an act is told
+-- ---- what an act is answered
 
 effect_some : (out : List ℕ → Effect) (bytes : List ℕ) (broken : Bool) → 0 < length bytes
     → effect_of out bytes broken ≡ Some (out bytes)
@@ -73,7 +73,7 @@ module _ (acts : List Act) (act : Act) (kind : LaneKind) (to : List ℕ → Effe
     (is : passed acts act ≡ effect_of to (handed kind acts act) (is_broken (acts ++ act ∷ [])))
     (end : ends acts act ≡ is_none (passed acts act))
     (put : handed kind acts act ≡ out) where
-  effect_frames : 0 < length out → Passes acts act (passing.Told (to out))
+  effect_frames : 0 < length out → Passes acts act (passing.Answered (to out))
   effect_frames some =
       let now : passed acts act ≡ Some (to out) = is ∙ ap (λ h. effect_of to h (is_broken (acts ++ act ∷ []))) put
       ∙ effect_some to out (is_broken (acts ++ act ∷ [])) some in
@@ -84,7 +84,7 @@ module _ (acts : List Act) (act : Act) (kind : LaneKind) (to : List ℕ → Effe
   nothing none broken e = is ∙ ap (λ h. effect_of to h (is_broken (acts ++ act ∷ []))) (put ∙ none) ∙ ap
       (effect_of to []) e
 
-  effect_nothing : out ≡ [] → is_broken (acts ++ act ∷ []) ≡ false → Passes acts act (passing.Told Nothing)
+  effect_nothing : out ≡ [] → is_broken (acts ++ act ∷ []) ≡ false → Passes acts act (passing.Answered Nothing)
   effect_nothing none whole =
       let now : passed acts act ≡ Some Nothing = nothing none false whole in (now, end ∙ ap is_none now)
 
@@ -108,11 +108,11 @@ module _ (acts : List Act) (bytes : List ℕ) (up down after : Lane) (out : List
       ap (λ s. flat_map (frame Down) (drop (length (texts_in Down (stream Down acts))) (texts_in Down s)))
       (stream_push Down acts (Given bytes)) ∙ sym carries.put
 
-  pub given_frames : 0 < length out → Passes acts (Given bytes) (passing.Told (ToEngine out))
+  pub given_frames : 0 < length out → Passes acts (Given bytes) (passing.Answered (ToEngine out))
   given_frames some = effect_frames acts (Given bytes) Down ToEngine out refl refl given_put some
 
   pub given_nothing : out ≡ [] → is_broken (acts ++ Given bytes ∷ []) ≡ false
-      → Passes acts (Given bytes) (passing.Told Nothing)
+      → Passes acts (Given bytes) (passing.Answered Nothing)
   given_nothing none whole = effect_nothing acts (Given bytes) Down ToEngine out refl refl given_put none whole
 
   pub given_broken : out ≡ [] → (offset : ℕ) → IsBrokenAt (acts ++ Given bytes ∷ []) offset
@@ -134,11 +134,11 @@ module _ (acts : List Act) (bytes : List ℕ) (up down after : Lane) (out : List
       ap (λ s. flat_map (frame Up) (drop (length (texts_in Up (stream Up acts))) (texts_in Up s)))
       (stream_push Up acts (Moved bytes)) ∙ sym carries.put
 
-  pub moved_frames : 0 < length out → Passes acts (Moved bytes) (passing.Told (ToIde out))
+  pub moved_frames : 0 < length out → Passes acts (Moved bytes) (passing.Answered (ToIde out))
   moved_frames some = effect_frames acts (Moved bytes) Up ToIde out refl refl moved_put some
 
   pub moved_nothing : out ≡ [] → is_broken (acts ++ Moved bytes ∷ []) ≡ false
-      → Passes acts (Moved bytes) (passing.Told Nothing)
+      → Passes acts (Moved bytes) (passing.Answered Nothing)
   moved_nothing none whole = effect_nothing acts (Moved bytes) Up ToIde out refl refl moved_put none whole
 
   pub moved_broken : out ≡ [] → (offset : ℕ) → IsBrokenAt (acts ++ Moved bytes ∷ []) offset

@@ -35,9 +35,9 @@ module _ (old new : Keeps) (e : Event) (step : Step) (others : (o : ℕ) → (e.
     past : Past
     past = past_of events
 
-    pub answers_are : Answers (past_of events) e.link e.act step.told
+    pub answers_are : Answers (past_of events) e.link e.act step.answer
     answers_are =
-        subst (λ (j : List Entry). AnswersAt j ((past_of events).link e.link) e.act step.told) stands.journal
+        subst (λ (j : List Entry). AnswersAt j ((past_of events).link e.link) e.act step.answer) stands.journal
         leads.answers
 
     abbrev led : Lead
@@ -84,8 +84,9 @@ module _ (old new : Keeps) (e : Event) (step : Step) (others : (o : ℕ) → (e.
           subst (λ (n : ℕ). kept_at new.links n ≡ kept_at old.links n) same (here ∙ none ∙ sym before)
       at o false isnt = others o isnt
 
-    pub represents_after : (step.kept ≡ None → kept_at old.links e.link ≡ None) → RepresentsAfter new events e step.told
-    represents_after made = by step.told leads.moves where
+    pub represents_after : (step.kept ≡ None → kept_at old.links e.link ≡ None)
+        → RepresentsAfter new events e step.answer
+    represents_after made = by step.answer leads.moves where
       by : (told : Result Effect ProxyError)
           → Moves old.journal ((past_of events).link e.link) e.act new.journal step.kept told
           → RepresentsAfter new events e told

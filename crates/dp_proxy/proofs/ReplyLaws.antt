@@ -18,7 +18,7 @@ use Rattle.dp_packet.proofs.LengthLaws.{weight, written_short, packet_short, pac
 use Rattle.dp_registry.specs.declared.entry.Entry.{Entry}
 use Rattle.dp_registry.specs.declared.refusal.Refusal.{Refusal}
 use Rattle.dp_registry.specs.declared.refusal.Refusal.TheVariants as refusal
-use Rattle.dp_registry.specs.Names.{IsHost}
+use Rattle.dp_outside.specs.Names.{IsHost}
 use Rattle.dp_wire.specs.Frames.{IsPacketText}
 use Rattle.dp_proxy.specs.declared.calls.Call.{Call}
 use Rattle.dp_proxy.specs.declared.calls.Call.TheVariants.{Register, Stop}

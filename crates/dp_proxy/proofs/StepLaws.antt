@@ -62,7 +62,7 @@ pub represents_put : (registry next : List Entry) (links mid after : List (ℕ �
     → (step.kept ≡ None → taken ≡ None)
     → ((link : Link) → IsKept taken link → Leads registry link e.act next step) → (events : List Event)
     → Represents (record { journal = registry; links = links }) events
-    → RepresentsAfter (record { journal = next; links = after }) events e step.told
+    → RepresentsAfter (record { journal = next; links = after }) events e step.answer
 represents_put registry next links mid after e taken step was left put made leads events stands =
     let left_it : (o : ℕ)
     → kept_at mid o ≡ (if e.link == o then (if is_some (kept_at links e.link) then Some keep.Over else None)

@@ -1,11 +1,12 @@
 -- What an IDE may ask of a proxy, in the grammar of command lines: DBGp 1.0, "Debugger Engine
 -- Proxies". `proxyinit -p PORT -k KEY [-m 0|1] [-i ID]` and `proxystop -k KEY [-i ID]`.
-use Rattle.std.specs.Prelude.{ℕ, zero, suc, ◌-◌, ◌^◌, nat_le, ◌==◌, Bool, true, false, not, ◌&&◌, if◌then◌else◌}
-use Rattle.std.specs.Prelude.{List, [], ◌∷◌, length, Option, Some, None, is_none, codes}
+use Rattle.std.specs.Prelude.{ℕ, zero, suc, ◌-◌, ◌^◌, ◌==◌, Bool, true, false, not, ◌&&◌, if◌then◌else◌}
+use Rattle.std.specs.Prelude.{List, [], ◌∷◌, Option, Some, None, is_none, codes}
 use Rattle.std.specs.Prelude.{option_map, option_and_then}
 use Rattle.std.specs.List.{list_all, list_any}
 use Rattle.std.specs.Option.{option_map_or}
 use Rattle.std.specs.Str.{bytes_eq}
+use Rattle.dp_outside.specs.Names.{is_name, key_limit}
 use Rattle.dp_value.specs.Decimals.{decimal_in}
 use Rattle.dp_command.specs.declared.line.Line.{Line}
 use Rattle.dp_command.specs.Letters.{i, m, p}
@@ -19,11 +20,9 @@ use Rattle.dp_proxy.specs.declared.calls.Call.TheVariants.{Register, Stop}
 abbrev pub k : ℕ
 k = 107
 
--- 1 to 128 bytes, each printable ASCII and no blank
+-- the key of an IDE
 abbrev pub is_key : List ℕ → Bool
-is_key bytes =
-    nat_le 1 (length bytes) && nat_le (length bytes) 128
-    && list_all (λ b. nat_le 0x21 b && nat_le b 0x7e) bytes
+is_key bytes = is_name key_limit bytes
 
 abbrev pub key_in : Options → Option (List ℕ)
 key_in options =

@@ -3,7 +3,7 @@
 use Rattle.std.specs.Prelude.{◌≡◌, ℕ, List, Some, codes}
 use Rattle.dp_markup.specs.declared.states.StartTag.{StartTag}
 use Rattle.dp_markup.specs.Grammar.{BeginsWithHead, root_value}
-use Rattle.dp_registry.specs.Names.{IsKey}
+use Rattle.dp_outside.specs.Names.{IsKey}
 
 -- the text begins with the start tag of an `init` whose `idekey` is this key
 pub record GivesKey (text key : List ℕ) : Type 0 where

@@ -6,7 +6,7 @@ use Rattle.std.specs.Map.{lookup}
 use Rattle.dp_registry.specs.declared.entry.Entry.{Entry}
 use Rattle.dp_registry.specs.declared.pass.Pass.{Pass}
 use Rattle.dp_registry.specs.Journal.{live}
-use Rattle.dp_registry.specs.Names.{IsHost}
+use Rattle.dp_outside.specs.Names.{IsHost}
 use Rattle.dp_wire.specs.Frames.{has_no_nul}
 use Rattle.dp_proxy.specs.declared.errors.ProxyError.{ProxyError}
 use Rattle.dp_proxy.specs.declared.errors.ProxyError.TheVariants.{Memory}

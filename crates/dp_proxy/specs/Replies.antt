@@ -9,7 +9,7 @@ use Rattle.dp_registry.specs.declared.entry.Entry.{Entry}
 use Rattle.dp_registry.specs.declared.entry.Entry.TheVariants as entry
 use Rattle.dp_registry.specs.declared.refusal.Refusal.{Refusal}
 use Rattle.dp_registry.specs.declared.refusal.Refusal.TheVariants as refusal
-use Rattle.dp_registry.specs.Names.{IsKey}
+use Rattle.dp_outside.specs.Names.{IsKey}
 use Rattle.dp_registry.specs.Verdicts.{register_verdict, stop_verdict, reply_of, noted}
 use Rattle.dp_wire.specs.Frames.{packet_frame}
 use Rattle.dp_proxy.specs.declared.calls.Call.{Call}

@@ -1,7 +1,7 @@
 -- What one step of a proxy answers, by all events before it.
 use Rattle.std.specs.Prelude.{◌≡◌, ℕ, List, [], ◌∷◌, ◌++◌, Option, Some, None, Result, Ok, Err}
 use Rattle.dp_registry.specs.declared.entry.Entry.{Entry}
-use Rattle.dp_registry.specs.Names.{IsHost, IsKey}
+use Rattle.dp_outside.specs.Names.{IsHost, IsKey}
 use Rattle.dp_proxy.specs.declared.events.Act.{Act}
 use Rattle.dp_proxy.specs.declared.events.Act.TheVariants.{Ide, Engine, Given, Moved, Closed}
 use Rattle.dp_proxy.specs.declared.events.Effect.{Effect}
@@ -27,7 +27,7 @@ acts_with (Joined key pass acts) act = acts ++ act ∷ []
 acts_with link act = []
 
 -- Each answer has its cause: an effect is that of the table; an engine has no key exactly where it
--- is reported so; a link is broken exactly where its place is reported.
+-- is answered BadInit; a link is broken exactly where it is answered BadFrame, with the place.
 abbrev pub AnswersAt : List Entry → Link → Act → Result Effect ProxyError → Type 0
 AnswersAt journal link act (Ok effect) =
     ComesWithKey link act × ((lead journal link act).effect ≡ Some effect)

@@ -1,11 +1,12 @@
 //! What an IDE may ask of a proxy.
-ghost use Rattle.std.specs.Prelude.{◌≡◌, ◌==◌, ◌&&◌, nat_le, IfOk, IfSome};
+ghost use Rattle.std.specs.Prelude.{◌≡◌, ◌==◌, ◌&&◌, IfOk, IfSome};
 ghost use Rattle.std.specs.List.{list_all, list_any};
 ghost use Rattle.std.specs.Option.{option_copied};
 ghost use Rattle.dp_proxy.specs.Calls as spec;
 ghost use Rattle.dp_proxy.specs.Replies.{IsKeyed};
 
 use dp_command::{Line, LineError, has_duplicate, option_value, read_line};
+use dp_outside::{KEY_LIMIT, is_name};
 use dp_value::{Bytes, Memory, decimal};
 use std::alloc::Global;
 
@@ -22,18 +23,11 @@ pub enum Call {
     },
 }
 
-/// Whether each byte is printable ASCII and no blank.
-fn are_graphic(bytes: &[u8]) -> bool
-    ensures { result ≡ list_all (λ b. nat_le 0x21 b && nat_le b 0x7e) bytes.now }
-{
-    bytes.iter().all(|b| 0x21 <= *b && *b <= 0x7e)
-}
-
 /// Whether bytes are the key of an IDE. Takes no memory.
 pub(crate) fn is_key(bytes: &[u8]) -> bool
     ensures { result ≡ spec.is_key bytes.now }
 {
-    1 <= bytes.len() && bytes.len() <= 128 && are_graphic(bytes)
+    is_name(bytes, KEY_LIMIT)
 }
 
 fn is_among(letter: u8, letters: &[u8]) -> bool

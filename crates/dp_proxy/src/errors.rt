@@ -15,16 +15,16 @@ pub enum InitError {
 
 impl From<AllocError> for InitError {
     ghost use Rattle.std.specs.Prelude.{◌≡◌};
-    ghost use Rattle.dp_proxy.specs.declared.errors.InitError.TheVariants.{Memory as WantOfMemory};
+    ghost use Rattle.dp_proxy.specs.declared.errors.InitError.TheVariants.{Memory as OutOfMemory};
 
-    ghost from_gives = { λ _ e. e ≡ WantOfMemory };
+    ghost from_gives = { λ _ e. e ≡ OutOfMemory };
 
     fn from(_: AllocError) -> InitError {
         InitError::Memory
     }
 }
 
-/// Why an event has no effect.
+/// Why an event is answered with no `Effect`; each variant says what has changed.
 #[derive(Clone, Copy, Debug, PartialEq, Eq, Error)]
 pub enum ProxyError {
     /// An engine came without a key. Nothing has changed.
@@ -40,9 +40,9 @@ pub enum ProxyError {
 
 impl From<AllocError> for ProxyError {
     ghost use Rattle.std.specs.Prelude.{◌≡◌};
-    ghost use Rattle.dp_proxy.specs.declared.errors.ProxyError.TheVariants.{Memory as WantOfMemory};
+    ghost use Rattle.dp_proxy.specs.declared.errors.ProxyError.TheVariants.{Memory as OutOfMemory};
 
-    ghost from_gives = { λ _ e. e ≡ WantOfMemory };
+    ghost from_gives = { λ _ e. e ≡ OutOfMemory };
 
     fn from(_: AllocError) -> ProxyError {
         ProxyError::Memory

@@ -1,7 +1,7 @@
 //! The key with which an engine comes.
 ghost use Rattle.std.specs.Prelude.{◌≡◌, List, ℕ, Some, IfOk, IfErr, MatchResult};
-ghost use Rattle.dp_registry.specs.Names.{IsKey};
-ghost use Rattle.dp_proxy.specs.declared.errors.InitError.TheVariants.{Memory as WantOfMemory};
+ghost use Rattle.dp_outside.specs.Names.{IsKey};
+ghost use Rattle.dp_proxy.specs.declared.errors.InitError.TheVariants.{Memory as OutOfMemory};
 ghost use Rattle.dp_proxy.specs.Inits.{GivesKey};
 
 use crate::calls::is_key;
@@ -33,7 +33,7 @@ fn key_in(value: Option<Bytes>) -> Result<Bytes, InitError>
 pub fn key_of_init(alloc: Global, text: &[u8]) -> Result<Bytes, InitError>
     ensures found { IfOk result (GivesKey text.now) }
     ensures only { (key : List ℕ) → GivesKey text.now key
-        → MatchResult result (λ found. found ≡ key) (λ e. e ≡ WantOfMemory) }
+        → MatchResult result (λ found. found ≡ key) (λ e. e ≡ OutOfMemory) }
 {
     match head_attribute(alloc, text, b"init", b"idekey") {
         Ok(value) => key_in(value),

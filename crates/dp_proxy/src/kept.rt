@@ -23,11 +23,11 @@ pub(crate) enum Kept {
     Over,
 }
 
-/// What is kept of a link after an event, and what the event was reported.
+/// What is kept of a link after an event, and what the event is answered.
 #[derive(Debug, Drop)]
 pub(crate) struct Step {
-    pub kept: Option<Kept>,
-    pub told: Result<Effect, ProxyError>,
+    pub(crate) kept: Option<Kept>,
+    pub(crate) answer: Result<Effect, ProxyError>,
 }
 
 /// What is kept of each link that was made, found by the link's hash.
@@ -46,7 +46,8 @@ impl Model for Links {
 }
 
 impl Links {
-    pub fn new(alloc: Global) -> Links
+    /// Nothing kept yet. Takes no memory.
+    pub(crate) fn new(alloc: Global) -> Links
         ensures { result ≡ [] }
     {
         Links {
@@ -55,7 +56,7 @@ impl Links {
     }
 
     /// Takes out what is kept of a link, if it was made; it counts as over until something is put there.
-    pub fn take(&mut self, link: u32) -> Option<Kept>
+    pub(crate) fn take(&mut self, link: u32) -> Option<Kept>
         ensures kept { result ≡ kept_at self.old link }
         ensures left { (other : ℕ) → kept_at self.new other
             ≡ (if link == other then (if is_some result then Some keep.Over else None) else kept_at self.old other) }
@@ -67,7 +68,7 @@ impl Links {
     }
 
     /// Puts what is kept of a link, if something is, in the stead of what is there.
-    pub fn put(&mut self, link: u32, kept: Option<Kept>) -> Result<(), Memory>
+    pub(crate) fn put(&mut self, link: u32, kept: Option<Kept>) -> Result<(), Memory>
         ensures ok { OnOk result ((other : ℕ) → kept_at self.new other
             ≡ (if (link == other) && is_some kept then kept else kept_at self.old other)) }
         ensures err { OnErr result (self.new ≡ self.old) }

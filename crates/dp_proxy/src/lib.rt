@@ -2,6 +2,7 @@
 //! the key with which an engine comes, and the events of all links.
 #![tactic(auto)]
 
+mod acts;
 mod calls;
 mod errors;
 mod events;
@@ -11,7 +12,6 @@ mod kept;
 mod passes;
 mod proxy;
 mod replies;
-mod turns;
 
 pub use calls::{Call, call_of};
 pub use dp_lanes::{Lane, LaneKind, PIECE_LIMIT};

@@ -1,4 +1,4 @@
-//! What an act of a session is reported.
+//! What an act of a session is answered.
 ghost use Rattle.std.specs.Prelude.{[], ◌∷◌, ◌++◌, List, IfOk};
 ghost use Rattle.dp_proxy.specs.declared.events.Act.{Act as OneAct};
 ghost use Rattle.dp_proxy.specs.declared.events.Act.TheVariants as acted;
@@ -10,14 +10,14 @@ use dp_lanes::{Lane, bad_place, carry};
 use dp_value::{Bytes, Memory};
 use std::alloc::Global;
 
-/// What an act of a session is reported, and whether it ends the session.
+/// What an act of a session is answered, and whether it ends the session.
 #[derive(Debug, Drop)]
 pub(crate) enum Passing {
     /// This; the session goes on.
-    Told(Effect),
+    Answered(Effect),
     /// Nothing; the link has closed.
     Closed,
-    /// Here is the link broken.
+    /// The link is broken at this place of its stream.
     Broken(u64),
 }
 
@@ -40,11 +40,11 @@ fn give(alloc: Global, up: &Lane, down: &mut Lane, bytes: &Bytes) -> Result<Pass
     let frames = carry(alloc, down, bytes.as_slice())?;
     let out = Bytes::of(frames);
     if !out.is_empty() {
-        return Ok(Passing::Told(Effect::ToEngine(out)));
+        return Ok(Passing::Answered(Effect::ToEngine(out)));
     }
     match broken_place(up, down) {
         Some(offset) => Ok(Passing::Broken(offset)),
-        None => Ok(Passing::Told(Effect::Nothing)),
+        None => Ok(Passing::Answered(Effect::Nothing)),
     }
 }
 
@@ -57,11 +57,11 @@ fn read(alloc: Global, up: &mut Lane, down: &Lane, bytes: &Bytes) -> Result<Pass
     let frames = carry(alloc, up, bytes.as_slice())?;
     let out = Bytes::of(frames);
     if !out.is_empty() {
-        return Ok(Passing::Told(Effect::ToIde(out)));
+        return Ok(Passing::Answered(Effect::ToIde(out)));
     }
     match broken_place(up, down) {
         Some(offset) => Ok(Passing::Broken(offset)),
-        None => Ok(Passing::Told(Effect::Nothing)),
+        None => Ok(Passing::Answered(Effect::Nothing)),
     }
 }
 
@@ -89,7 +89,7 @@ pub(crate) fn pass(
         Act::Given(bytes) => give(alloc, up, down, bytes),
         Act::Moved(bytes) => read(alloc, up, down, bytes),
         Act::Closed => Ok(close(up, down)),
-        Act::Ide(_) => Ok(Passing::Told(Effect::Nothing)),
-        Act::Engine(_) => Ok(Passing::Told(Effect::Nothing)),
+        Act::Ide(_) => Ok(Passing::Answered(Effect::Nothing)),
+        Act::Engine(_) => Ok(Passing::Answered(Effect::Nothing)),
     }
 }

@@ -5,10 +5,10 @@ ghost use Rattle.dp_proxy.specs.Pasts.{past_of};
 ghost use Rattle.dp_proxy.specs.Invariant.{Represents, RepresentsAfter};
 ghost use Rattle.dp_proxy.specs.Steps.{Answers, HasHost};
 
+use crate::acts::handle;
 use crate::errors::ProxyError;
 use crate::events::{Effect, Event};
 use crate::kept::{Links, Step};
-use crate::turns::turn;
 use dp_registry::Registry;
 use std::alloc::Global;
 use std::marker::Model;
@@ -47,8 +47,8 @@ impl Proxy {
     /// Takes one event. An IDE that connects has a host.
     ///
     /// `BadInit` exactly for an engine that comes on a link that was not made, with what is no key; nothing changes.
-    /// `BadFrame` exactly where a lane is bad and the event completes no frame; it closes the link. After want of
-    /// memory the proxy has failed for good.
+    /// `BadFrame` exactly where a lane is bad and the event completes no frame; it closes the link. Once memory ran out
+    /// the proxy has failed for good.
     pub fn step(&mut self, event: &Event) -> Result<Effect, ProxyError>
         requires host { HasHost event.now.act }
         ensures answers { (events : List Came) → Represents self.old events
@@ -57,9 +57,9 @@ impl Proxy {
             → RepresentsAfter self.new events event.now result }
     {
         let kept = self.links.take(event.link);
-        let step = turn(self.alloc, &mut self.registry, kept, &event.act)?;
-        let Step { kept, told } = step;
+        let step = handle(self.alloc, &mut self.registry, kept, &event.act)?;
+        let Step { kept, answer } = step;
         self.links.put(event.link, kept)?;
-        told
+        answer
     }
 }

@@ -2,7 +2,7 @@
 ghost use Rattle.std.specs.Prelude.{◌≡◌, ◌⊎◌, true, Some, Ok, Err, IfOk, OnOk, OnErr};
 ghost use Rattle.dp_packet.specs.Packets.{has_reason};
 ghost use Rattle.dp_registry.specs.declared.refusal.Refusal.TheVariants as refusal;
-ghost use Rattle.dp_registry.specs.Names.{IsHost};
+ghost use Rattle.dp_outside.specs.Names.{IsHost};
 ghost use Rattle.dp_proxy.specs.Replies as spec;
 
 use crate::calls::{Call, call_of, is_stopping};

@@ -8,7 +8,7 @@ use Rattle.dp_registry.specs.declared.entry.AdmitReply.{AdmitReply}
 use Rattle.dp_registry.specs.declared.entry.AdmitReply.TheVariants as admission
 use Rattle.dp_registry.specs.Journal.{holder, live, live_under, next_session}
 use Rattle.dp_registry.specs.Legal.{IsFit}
-use Rattle.dp_registry.specs.Names.{IsHost, IsKey}
+use Rattle.dp_outside.specs.Names.{IsHost, IsKey}
 use Rattle.dp_registry.specs.Verdicts.{is_full, is_crowded, registering, stopping, admitting, register_verdict}
 use Rattle.dp_registry.specs.Verdicts.{stop_verdict, admit_verdict, reply_of, admit_reply_of, load, most_entries}
 use Rattle.dp_registry.specs.Verdicts.{most_live}

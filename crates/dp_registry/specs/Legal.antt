@@ -3,7 +3,7 @@ use Rattle.std.specs.Prelude.{◌≡◌, ⊤, ◌≤◌, List, [], ◌∷◌, �
 use Rattle.dp_registry.specs.declared.entry.Entry.{Entry}
 use Rattle.dp_registry.specs.declared.entry.Entry.TheVariants.{Register, Stop, Admit, Dismiss}
 use Rattle.dp_registry.specs.Journal.{live}
-use Rattle.dp_registry.specs.Names.{IsHost, IsKey}
+use Rattle.dp_outside.specs.Names.{IsHost, IsKey}
 use Rattle.dp_registry.specs.Verdicts.{register_verdict, stop_verdict, admit_verdict, reply_of}
 use Rattle.dp_registry.specs.Verdicts.{admit_reply_of, load, most_entries, most_live}
 

@@ -1,4 +1,3 @@
-pub mod Names
 pub mod Journal
 pub mod Verdicts
 pub mod Legal

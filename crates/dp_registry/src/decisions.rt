@@ -10,7 +10,7 @@ impl Registry {
     ghost use Rattle.std.specs.Prelude.{◌≡◌, false, Contains, IfOk};
     ghost use Rattle.dp_registry.specs.declared.entry.Entry.TheVariants as entry;
     ghost use Rattle.dp_registry.specs.Journal.{IsNew, live};
-    ghost use Rattle.dp_registry.specs.Names.{IsHost, IsKey};
+    ghost use Rattle.dp_outside.specs.Names.{IsHost, IsKey};
     ghost use Rattle.dp_registry.specs.Verdicts.{is_full, is_crowded, register_verdict, stop_verdict, admit_verdict};
     ghost use Rattle.dp_registry.specs.Verdicts.{reply_of, admit_reply_of, noted, IsAnswer};
 

@@ -23,7 +23,8 @@ impl Model for Places {
 }
 
 impl Places {
-    pub fn new(alloc: Global) -> Places
+    /// No place kept yet. Takes no memory.
+    pub(crate) fn new(alloc: Global) -> Places
         ensures { result ≡ [] }
     {
         Places {
@@ -32,14 +33,14 @@ impl Places {
     }
 
     /// The place under a key.
-    pub fn get(&self, key: &Bytes) -> Option<usize>
+    pub(crate) fn get(&self, key: &Bytes) -> Option<usize>
         ensures { result ≡ place_of self.now key.now }
     {
         self.places.get(key).copied()
     }
 
     /// Puts a place under a key, in the stead of the one that is there.
-    pub fn set(&mut self, key: Bytes, at: usize) -> Result<(), Memory>
+    pub(crate) fn set(&mut self, key: Bytes, at: usize) -> Result<(), Memory>
         ensures ok { OnOk result ((other : List ℕ)
             → place_of self.new other ≡ (if bytes_eq key other then Some at else place_of self.old other)) }
         ensures err { OnErr result (self.new ≡ self.old) }
@@ -49,7 +50,7 @@ impl Places {
     }
 
     /// Takes the place under a key away.
-    pub fn remove(&mut self, key: &Bytes)
+    pub(crate) fn remove(&mut self, key: &Bytes)
         ensures { (other : List ℕ)
             → place_of self.new other ≡ (if bytes_eq key.now other then None else place_of self.old other) }
     {

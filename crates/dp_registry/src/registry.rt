@@ -41,7 +41,7 @@ impl Registry {
     ghost use Rattle.dp_registry.specs.declared.entry.Entry.TheVariants as entry;
     ghost use Rattle.dp_registry.specs.Journal.{IsNew, live};
     ghost use Rattle.dp_registry.specs.Legal.{IsLegal};
-    ghost use Rattle.dp_registry.specs.Names.{IsHost, IsKey};
+    ghost use Rattle.dp_outside.specs.Names.{IsHost, IsKey};
     ghost use Rattle.dp_registry.specs.Verdicts.{register_verdict, stop_verdict, admit_verdict, reply_of};
     ghost use Rattle.dp_registry.specs.Verdicts.{admit_reply_of, noted, IsAnswer};
 

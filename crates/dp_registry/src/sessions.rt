@@ -74,7 +74,8 @@ impl Model for LiveSessions {
 }
 
 impl LiveSessions {
-    pub fn new(alloc: Global) -> LiveSessions
+    /// No session kept yet. Takes no memory.
+    pub(crate) fn new(alloc: Global) -> LiveSessions
         ensures { result ≡ [] }
     {
         LiveSessions {
@@ -83,14 +84,14 @@ impl LiveSessions {
     }
 
     /// The session under a key that was given first.
-    pub fn first(&self, key: &Bytes) -> Option<u64>
+    pub(crate) fn first(&self, key: &Bytes) -> Option<u64>
         ensures { result ≡ slice_get (sessions_of self.now key.now) 0 }
     {
         self.sessions.get(key)?.first()
     }
 
     /// Puts a session behind those under its key.
-    pub fn add(&mut self, key: Bytes, session: u64) -> Result<(), Memory>
+    pub(crate) fn add(&mut self, key: Bytes, session: u64) -> Result<(), Memory>
         ensures ok { OnOk result ((other : List ℕ)
             → sessions_of self.new other ≡ (if bytes_eq key other then sessions_of self.old other ++ session ∷ []
             else sessions_of self.old other)) }
@@ -105,7 +106,7 @@ impl LiveSessions {
     }
 
     /// Takes a session out of those under its key.
-    pub fn remove(&mut self, key: &Bytes, session: u64)
+    pub(crate) fn remove(&mut self, key: &Bytes, session: u64)
         ensures { (other : List ℕ)
             → sessions_of self.new other ≡ (if bytes_eq key.now other
             then filter (λ s. not (session == s)) (sessions_of self.old other) else sessions_of self.old other) }

@@ -16,11 +16,11 @@ use Rattle.dp_packet.specs.declared.packet.BreakLine.{BreakLine}
 use Rattle.dp_packet.specs.declared.packet.ProxyReply.TheVariants.{Started, Stopped, Refused}
 use Rattle.dp_packet.specs.Parts.{Text, Attributes, element, text_nodes, base64}
 use Rattle.dp_packet.specs.Messages.{reason_of}
-use Rattle.dp_packet.specs.Packets.{element_of, response_element, stream_element, notify_element, proxy_element, told_nodes, refusal_node, message_node}
+use Rattle.dp_packet.specs.Packets.{element_of, response_element, stream_element, notify_element, proxy_element, notified_nodes, refusal_node, message_node}
 use Rattle.dp_reply.specs.Contents.{◌>>=◌, alone, only, words, elements, bytes_in, most_8, most_16}
-use Rattle.dp_reply.specs.Readings.{IsPacket, packet_in, init_in, response_in, stream_in, notify_in, told_of, error_of, proxy_in, started_in, stopped_in, refused_in, is_own}
+use Rattle.dp_reply.specs.Readings.{IsPacket, packet_in, init_in, response_in, stream_in, notify_in, notified_of, error_of, proxy_in, started_in, stopped_in, refused_in, is_own}
 use Rattle.dp_packet.specs.Text.{text, declaration}
-use Rattle.dp_reply.specs.Norm.{norm, norm_body, norm_response, is_packet, is_body, is_told, are_bytes, IsRereadable}
+use Rattle.dp_reply.specs.Norm.{norm, norm_body, norm_response, is_packet, is_body, is_notified, are_bytes, IsRereadable}
 use Rattle.dp_reply.proofs.Leaves.{number_is, bytes_are}
 use Rattle.dp_reply.proofs.Nodes.{words_text, elements_text, words_none, elements_all}
 use Rattle.dp_reply.proofs.Lines.{breakpoint_element, breakpoint_is}
@@ -55,17 +55,17 @@ stream_is bytes sound =
     ap (λ all. alone all (words (text_nodes t)) >>= bytes_in) (elements_text t) ∙ ap bytes_in (words_text t)
     ∙ bytes_are bytes sound
 
-told_is : (told : Option BreakLine) → is_told told ≡ true
-    → (alone (words (told_nodes told)) (elements (told_nodes told)) >>= only >>= told_of) ≡ Some told
+told_is : (told : Option BreakLine) → is_notified told ≡ true
+    → (alone (words (notified_nodes told)) (elements (notified_nodes told)) >>= only >>= notified_of) ≡ Some told
 unfolding breakpoint_element
 told_is None sound = refl
 told_is (Some line) sound =
-    let nodes = told_nodes (Some line) in
-    ap (λ w. alone w (elements nodes) >>= only >>= told_of) (words_none breakpoint_element (λ _. refl) (line ∷ []))
-    ∙ ap (λ all. only all >>= told_of) (elements_all breakpoint_element (λ _. refl) (line ∷ []))
+    let nodes = notified_nodes (Some line) in
+    ap (λ w. alone w (elements nodes) >>= only >>= notified_of) (words_none breakpoint_element (λ _. refl) (line ∷ []))
+    ∙ ap (λ all. only all >>= notified_of) (elements_all breakpoint_element (λ _. refl) (line ∷ []))
     ∙ ap (λ found. found >>= λ line. Some (Some line)) (breakpoint_is line sound)
 
-notify_is : (n : Notify) → is_told n.breakpoint ≡ true → notify_in (notify_element n) ≡ Some n
+notify_is : (n : Notify) → is_notified n.breakpoint ≡ true → notify_in (notify_element n) ≡ Some n
 unfolding notify_in
 notify_is n sound =
     ap (λ found. found >>= λ told. Some (record { name = n.name; breakpoint = told })) (told_is n.breakpoint sound)

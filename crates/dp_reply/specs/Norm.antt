@@ -87,9 +87,9 @@ is_body (body.Contexts contexts) = list_all is_context contexts
 is_body (body.Properties properties) = list_all is_property properties
 is_body (body.Breakpoints lines) = list_all is_break_line lines
 
-abbrev pub is_told : Option BreakLine → Bool
-is_told None = true
-is_told (Some line) = is_break_line line
+abbrev pub is_notified : Option BreakLine → Bool
+is_notified None = true
+is_notified (Some line) = is_break_line line
 
 abbrev pub is_reply : ProxyReply → Bool
 is_reply (Started key host port) = nat_le port most_16
@@ -102,7 +102,7 @@ abbrev pub is_packet : Packet → Bool
 is_packet (packet.Init i) = true
 is_packet (packet.Response r) = list_all is_own r.attributes && is_body r.body
 is_packet (packet.Stream bytes) = are_bytes bytes
-is_packet (packet.Notify n) = is_told n.breakpoint
+is_packet (packet.Notify n) = is_notified n.breakpoint
 is_packet (packet.Proxy reply) = is_reply reply
 
 -- the packet is one of DBGp's, and its element nests within the limit and has what markup can say

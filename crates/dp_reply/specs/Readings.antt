@@ -257,19 +257,19 @@ init_in e = do
 unfoldable pub stream_in : Element → Option Text
 stream_in e = text_in e >>= bytes_in
 
-abbrev pub told_of : Option Element → Option (Option BreakLine)
-told_of None = Some None
-told_of (Some e) = breakpoint_in e >>= λ line. Some (Some line)
+abbrev pub notified_of : Option Element → Option (Option BreakLine)
+notified_of None = Some None
+notified_of (Some e) = breakpoint_in e >>= λ line. Some (Some line)
 
 -- a breakpoint, or nothing
-abbrev pub told_in : Element → Option (Option BreakLine)
-told_in e = only_in e >>= told_of
+abbrev pub notified_in : Element → Option (Option BreakLine)
+notified_in e = only_in e >>= notified_of
 
 unfoldable pub notify_in : Element → Option Notify
 notify_in e = do
   name ← attribute (codes "name") e
-  told ← told_in e
-  Some (record { name = name; breakpoint = told })
+  line ← notified_in e
+  Some (record { name = name; breakpoint = line })
 
 unfoldable pub started_in : Element → Option ProxyReply
 started_in e = do

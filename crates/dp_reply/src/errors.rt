@@ -17,9 +17,9 @@ pub enum ReplyError {
 
 impl From<AllocError> for ReplyError {
     ghost use Rattle.std.specs.Prelude.{◌≡◌};
-    ghost use Rattle.dp_reply.specs.declared.errors.ReplyError.TheVariants.{Memory as WantOfMemory};
+    ghost use Rattle.dp_reply.specs.declared.errors.ReplyError.TheVariants.{Memory as OutOfMemory};
 
-    ghost from_gives = { λ _ e. e ≡ WantOfMemory };
+    ghost from_gives = { λ _ e. e ≡ OutOfMemory };
 
     fn from(_: AllocError) -> ReplyError {
         ReplyError::Memory
@@ -28,9 +28,9 @@ impl From<AllocError> for ReplyError {
 
 impl<T: Drop> From<AllocFailed<T>> for ReplyError {
     ghost use Rattle.std.specs.Prelude.{◌≡◌};
-    ghost use Rattle.dp_reply.specs.declared.errors.ReplyError.TheVariants.{Memory as WantOfMemory};
+    ghost use Rattle.dp_reply.specs.declared.errors.ReplyError.TheVariants.{Memory as OutOfMemory};
 
-    ghost from_gives = { λ _ e. e ≡ WantOfMemory };
+    ghost from_gives = { λ _ e. e ≡ OutOfMemory };
 
     fn from(_: AllocFailed<T>) -> ReplyError {
         ReplyError::Memory

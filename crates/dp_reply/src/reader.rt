@@ -3,7 +3,7 @@
 ghost use Rattle.std.specs.Prelude.{◌≡◌, Err, None, IfOk, MatchResult};
 ghost use Rattle.dp_markup.specs.declared.tree.Element.{Element as Tree};
 ghost use Rattle.dp_markup.specs.Grammar.{IsMarkup};
-ghost use Rattle.dp_packet.specs.declared.packet.Packet.{Packet as Told};
+ghost use Rattle.dp_packet.specs.declared.packet.Packet.{Packet as AnyPacket};
 ghost use Rattle.dp_reply.specs.Norm.{IsRereadable, norm};
 ghost use Rattle.dp_reply.specs.Readings as spec;
 ghost use Rattle.dp_reply.specs.Verdict.{Finds};
@@ -34,8 +34,8 @@ fn stream_in(alloc: Global, e: &Element) -> Result<Bytes, ReplyError>
     bytes(alloc, text.as_slice())
 }
 
-fn told_in(alloc: Global, e: &Element) -> Result<Option<BreakLine>, ReplyError>
-    ensures { Finds (λ told. told) result (spec.told_in e.now) }
+fn notified_in(alloc: Global, e: &Element) -> Result<Option<BreakLine>, ReplyError>
+    ensures { Finds (λ told. told) result (spec.notified_in e.now) }
 {
     match only_element(e)? {
         None => Ok(None),
@@ -48,7 +48,7 @@ fn notify_in(alloc: Global, e: &Element) -> Result<Notify, ReplyError>
     ensures { Finds (λ notify. notify) result (spec.notify_in e.now) }
 {
     let name = text(alloc, e, b"name")?;
-    let breakpoint = told_in(alloc, e)?;
+    let breakpoint = notified_in(alloc, e)?;
     Ok(Notify { name, breakpoint })
 }
 
@@ -129,7 +129,7 @@ pub fn packet_of(alloc: Global, text: &[u8]) -> Result<Packet, ReplyError>
     // What is read is the packet that the text's element is.
     ensures found { IfOk result (λ p. (e : Tree) × IsMarkup text.now e × spec.IsPacket e p) }
     // Each packet is read, unless memory fails.
-    ensures only { (e : Tree) → (p : Told) → IsMarkup text.now e → spec.IsPacket e p →
+    ensures only { (e : Tree) → (p : AnyPacket) → IsMarkup text.now e → spec.IsPacket e p →
         MatchResult result (λ q. q ≡ p) (λ x. x ≡ ReplyError.Memory) }
     // A text is refused only where it is no markup, or its element is no packet.
     ensures refused { result ≡ Err ReplyError.NotDbgp → (e : Tree) → IsMarkup text.now e →

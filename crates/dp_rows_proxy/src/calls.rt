@@ -1,10 +1,10 @@
 //! The calls that rows name. The first field of a row names its call and has the input; what comes of it is reported in
 //! words, which the field `gives` has to have.
 
-use crate::asked::{told_call, told_key};
 use crate::lanes::told_lane;
 use crate::lists::told_events;
 use crate::registries::told_full;
+use crate::requests::{told_call, told_key};
 use dp_lanes::LaneKind;
 use dp_rows::{Differences, Memory, Row};
 use std::alloc::Global;

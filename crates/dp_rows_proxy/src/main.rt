@@ -2,11 +2,11 @@
 //! each call, and prints for each file of rows how many there are and each that differs.
 #![tactic(auto)]
 
-mod asked;
 mod calls;
 mod lanes;
 mod lists;
 mod registries;
+mod requests;
 
 use calls::differences_of;
 use dp_rows::{Memory, Report, RowFile, read_files, rows_of};

@@ -3,7 +3,7 @@ use Rattle.std.proofs.Common.{ℕ, List, ◌++◌, ap, ◌∙◌, sym, append_as
 use Rattle.std.specs.List.{flat_map}
 use Rattle.std.proofs.lemmas.List.Concat.{flat_map-append}
 use Rattle.dp_tree.specs.declared.bundle.Bundle.{Bundle}
-use Rattle.dp_serving.proofs.GrowthLaws.{served_goes_on}
+use Rattle.dp_conversation.proofs.GrowthLaws.{served_goes_on}
 use Rattle.dp_wire.specs.Frames.{packet_frame}
 use Rattle.dp_engine.specs.Answers.{answer}
 use Rattle.dp_engine.specs.Responses.{init_text}

@@ -118,7 +118,7 @@ module _ (state : State) (bytes : List ℕ) (line : Line) (command : Command) (t
       (write_response state.bundle state.features (program_of state) line.name command.id command.request)
       (requested_write (program_of state) command.request) refl none in
       subst (IsAccepted state line command) (sym same) (record
-      { write = kept.write; asked = kept.is_asked; response = kept.response; kept = kept.kept })
+      { write = kept.write; requested = kept.is_asked; response = kept.response; kept = kept.kept })
 
 -- ---- no other write is kept
 

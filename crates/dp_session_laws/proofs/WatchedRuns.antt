@@ -27,7 +27,7 @@ use Rattle.dp_actions.specs.Setting.{Setting}
 use Rattle.dp_meaning.specs.Writes.{evaluation_setting, one_write, written, written_by, writes_of}
 use Rattle.dp_packet.specs.declared.packet.Response.{Response}
 use Rattle.dp_packet.specs.Parts.{Text}
-use Rattle.dp_serving.specs.Folds.{Reply, unless_ended, followed, replies}
+use Rattle.dp_conversation.specs.Folds.{Reply, unless_ended, followed, replies}
 use Rattle.dp_state.specs.declared.moments.Moment.{Moment}
 use Rattle.dp_break.specs.Tables.{Table}
 use Rattle.dp_state.specs.declared.state.State.{State as ProgramState}

@@ -37,7 +37,7 @@ use Rattle.dp_meaning.specs.declared.writes.Write.{Write}
 use Rattle.dp_packet.specs.Parts.{Text, flag}
 use Rattle.dp_packet.specs.declared.packet.Packet.TheVariants as packet
 use Rattle.dp_packet.proofs.LengthLaws.{bare_response_short, packet_some}
-use Rattle.dp_serving.specs.Folds.{Reply, unless_ended, replies}
+use Rattle.dp_conversation.specs.Folds.{Reply, unless_ended, replies}
 use Rattle.dp_packet.specs.declared.packet.Body.TheVariants as body
 use Rattle.dp_packet.specs.Packets.{HasMessage}
 use Rattle.dp_packet.specs.Text.{text}
@@ -359,7 +359,7 @@ module _ (command id : Text) (p : length command ≤ 64) (q : length id ≤ 64) 
   kept_usual : (told : Result Response ℕ) (asked : Result Write ℕ) → IsUsual (kept_if told asked state)
   kept_usual (Ok r) (Ok w) = record { small = h.small }
   kept_usual (Ok r) (Err code) = h
-  kept_usual (Err code) asked = h
+  kept_usual (Err code) requested = h
 
   done_good : (side : Side) (r : Request) → first_code (tests_on side state command id r) ≡ None → IsShortRequest r
       → IsGood (done_on side command id r state)

@@ -4,7 +4,7 @@ use Rattle.dp_tree.specs.declared.bundle.Bundle.{Bundle}
 use Rattle.dp_command.specs.declared.command.StreamMode.TheVariants.{Redirect}
 use Rattle.dp_meaning.specs.declared.writes.NumberedWrite.{NumberedWrite}
 use Rattle.dp_meaning.specs.Trace.{outcome, output}
-use Rattle.dp_serving.specs.Folds.{Reply, replies}
+use Rattle.dp_conversation.specs.Folds.{Reply, replies}
 use Rattle.dp_state.specs.declared.moments.Outcome.{Outcome}
 use Rattle.dp_wire.specs.Frames.{commands_in}
 use Rattle.dp_engine.specs.declared.session.SessionEnd.{SessionEnd}

@@ -58,7 +58,7 @@ pub record IsShown (state : State) (line : Line) (command : Command) (t : Turn) 
 -- the moment where the session stands and after those before it.
 pub record IsAccepted (state : State) (line : Line) (command : Command) (t : Turn) : Type 0 where
   pub write : Write
-  pub asked : requested_write (program_of state) command.request ≡ Ok write
+  pub requested : requested_write (program_of state) command.request ≡ Ok write
   pub response : write_response state.bundle state.features (program_of state) line.name command.id
       command.request ≡ Ok t.response
   pub kept : t.next ≡ with_write write state

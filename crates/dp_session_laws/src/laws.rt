@@ -7,7 +7,8 @@ ghost use Rattle.dp_command.specs.declared.line.Line.{Line};
 ghost use Rattle.dp_engine.specs.declared.sides.Side.TheVariants.{Program, Writes};
 ghost use Rattle.dp_engine.specs.Answers.{turn};
 ghost use Rattle.dp_engine.specs.Refusals.{refusal};
-ghost use Rattle.dp_engine.specs.Responses.{fault_in, idekey_limit, init_text, main_name};
+ghost use Rattle.dp_outside.specs.Names.{key_limit};
+ghost use Rattle.dp_engine.specs.Responses.{fault_in, init_text, main_name};
 ghost use Rattle.dp_engine.specs.Served.{alone, answers, ending, own, writes};
 ghost use Rattle.dp_session_laws.specs.AllOutput.{all_output, AreBytes, Begins, IsRunWith, NeverRedirects};
 ghost use Rattle.dp_engine.specs.Session.{opening, State};
@@ -25,7 +26,7 @@ pub fn refused_exactly()
 /// 128 bytes, the name of the main file at most 255.
 pub fn alone_is_whole_packets()
     ensures { (bundle : Bundle) (bound : ℕ) (key bytes : List ℕ) → AreBytes bytes
-        → length key ≤ idekey_limit → length (main_name bundle) ≤ file_name_limit
+        → length key ≤ key_limit → length (main_name bundle) ≤ file_name_limit
         → packets_in (alone bundle bound key bytes)
         ≡ init_text bundle key ∷ (answers bundle bound bytes).packets }
 {}

@@ -113,8 +113,8 @@ impl Shared {
         }
     }
 
-    /// The text with a piece behind it; what is no text counts as the empty one. Where there is no other owner, it
-    /// grows in its place. The caller sees to it that it does not become too heavy.
+    /// The text with a piece behind it; what is no text counts as the empty one. If there is no other owner, it grows
+    /// in its place. The caller sees to it that it does not become too heavy.
     pub fn append(self, alloc: Global, piece: &[u8]) -> Result<Shared, Memory>
         ensures { IfOk result (λ longer. longer ≡ with_piece self piece.now) }
     {

@@ -11,10 +11,10 @@ use Rattle.dp_wire.proofs.LengthLaws.{partial_refused, unfinished_partial}
 use Rattle.dp_show.specs.declared.errors.ShowError.TheVariants.{PeerEnd, BadPacket}
 use Rattle.dp_show.specs.Lines.{AreMarkup}
 use Rattle.dp_show.specs.Shows.{Shown, Shows, IsBadAt}
-use Rattle.dp_show.specs.inner.Progress.{Told}
+use Rattle.dp_show.specs.inner.Progress.{Output}
 
 -- what is told decides what was read
-one_read : (before after : Told) (read other : List ℕ) → IsSome before → Consumes before after read
+one_read : (before after : Output) (read other : List ℕ) → IsSome before → Consumes before after read
     → Consumes before after other → read ≡ other
 one_read None after read other told p q = absurd (cc)
 one_read (Some xs) None read other told p q = absurd p

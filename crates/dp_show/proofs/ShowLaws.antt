@@ -21,7 +21,7 @@ use Rattle.dp_show.specs.declared.errors.ShowError.TheVariants.{PeerEnd, BadPack
 use Rattle.dp_show.specs.Lines.{line_of, lines_of, AreMarkup, IsNoMarkup}
 use Rattle.dp_show.specs.Shows.{Shown, Shows, IsCutShort, Ends, IsBadAt}
 use Rattle.dp_wire.specs.Places.{place_behind, IsRefusedAt}
-use Rattle.dp_show.specs.inner.Progress.{Told, IsLine, HasShown, WasShowing, ShowsOn, IsCut, HasNoMarkup, TextFails, HeldFails, PieceFails}
+use Rattle.dp_show.specs.inner.Progress.{Output, IsLine, HasShown, WasShowing, ShowsOn, IsCut, HasNoMarkup, TextFails, HeldFails, PieceFails}
 
 -- ---- one text more
 
@@ -68,7 +68,7 @@ place_push texts text dropped place =
           (packet_frame text),
     )
 
-pub nothing_shown : (packets : Received) (told : Told) → packets.held ≡ [] → packets.dropped ≡ 0
+pub nothing_shown : (packets : Received) (told : Output) → packets.held ≡ [] → packets.dropped ≡ 0
     → HasShown [] packets told told
 nothing_shown packets told none first = record {
   texts = [];
@@ -81,7 +81,7 @@ nothing_shown packets told none first = record {
 }
 
 -- the first packet that is held is shown
-pub packet_shown : (packets after : Received) (text rest line : List ℕ) (old new : Told)
+pub packet_shown : (packets after : Received) (text rest line : List ℕ) (old new : Output)
     → BeginsPacket packets.held text rest → IsLine text line → Appends old new line
     → after.held ≡ rest → after.dropped ≡ min (packets.dropped + length (packet_frame text)) last_place
     → ShowsOn packets after old new
@@ -102,11 +102,11 @@ packet_shown packets after text rest line old new begins is appends held dropped
 
 -- ---- cut short
 
-all_front : (before now : Told) (bytes : List ℕ) → Appends before now bytes → AppendsFront before now bytes
+all_front : (before now : Output) (bytes : List ℕ) → Appends before now bytes → AppendsFront before now bytes
 all_front before now bytes h =
     (length bytes, subst (Appends before now) (sym (take_all (length bytes) bytes (omega arith))) h)
 
-then_front : (before old new : Told) (bytes more : List ℕ) → Appends before old bytes → AppendsFront old new more
+then_front : (before old new : Output) (bytes more : List ℕ) → Appends before old bytes → AppendsFront old new more
     → AppendsFront before new (bytes ++ more)
 then_front before old new bytes more h front = (
   length bytes + front.0,
@@ -115,7 +115,7 @@ then_front before old new bytes more h front = (
 )
 
 -- a piece came that is not held
-pub stopped_with : (read piece : List ℕ) (packets : Received) (before now : Told) → HasShown read packets before now
+pub stopped_with : (read piece : List ℕ) (packets : Received) (before now : Output) → HasShown read packets before now
     → WasShowing (read ++ piece) before now
 stopped_with read piece packets before now shown = record {
   texts = shown.texts;
@@ -127,13 +127,13 @@ stopped_with read piece packets before now shown = record {
   written = all_front before now (lines_of shown.elements) shown.written;
 }
 
-pub stopped : (packets : Received) (old new : Told) → new ≡ old → IsCut packets old new
+pub stopped : (packets : Received) (old new : Output) → new ≡ old → IsCut packets old new
 stopped packets old new same = λ read before shown.
     subst (λ (l : List ℕ). WasShowing l before new) (append-nil read)
     (stopped_with read [] packets before new (subst (HasShown read packets before) (sym same) shown))
 
 -- the line of the first packet that is held was put in part
-pub packet_cut : (packets : Received) (text rest line : List ℕ) (old new : Told) → BeginsPacket packets.held text rest
+pub packet_cut : (packets : Received) (text rest line : List ℕ) (old new : Output) → BeginsPacket packets.held text rest
     → IsLine text line → AppendsFront old new line → IsCut packets old new
 packet_cut packets text rest line old new begins is front = λ read before shown. record {
   texts = shown.texts ++ text ∷ [];
@@ -149,17 +149,19 @@ packet_cut packets text rest line old new begins is front = λ read before shown
 }
 
 -- what shows on, and then is cut
-pub then_cut : (held left : Received) (old between new : Told) → ShowsOn held left old between → IsCut left between new
+pub then_cut : (held left : Received) (old between new : Output) → ShowsOn held left old between
+    → IsCut left between new
     → IsCut held old new
 then_cut held left old between new shows cut = λ read before shown. cut read before (shows read before shown)
 
-pub then_shows : (held left last : Received) (old between new : Told) → ShowsOn held left old between
+pub then_shows : (held left last : Received) (old between new : Output) → ShowsOn held left old between
     → ShowsOn left last between new → ShowsOn held last old new
 then_shows held left last old between new shows more = λ read before shown. more read before (shows read before shown)
 
 -- ---- a piece more
 
-pub piece_held : (read piece : List ℕ) (packets after : Received) (before now : Told) → HasShown read packets before now
+pub piece_held : (read piece : List ℕ) (packets after : Received) (before now : Output)
+    → HasShown read packets before now
     → after.held ≡ packets.held ++ piece → after.dropped ≡ packets.dropped → HasShown (read ++ piece) after before now
 piece_held read piece packets after before now shown held dropped = record {
   texts = shown.texts;
@@ -184,7 +186,7 @@ packets_front (text ∷ texts) rest each =
     ∙ packets-first text (flat_map packet_frame texts ++ rest) each.0
     ∙ ap (λ l. text ∷ l) (packets_front texts rest each.1)
 
-module _ (read : List ℕ) (packets : Received) (before now : Told) (shown : HasShown read packets before now) where
+module _ (read : List ℕ) (packets : Received) (before now : Output) (shown : HasShown read packets before now) where
   packets_are : packets_in read ≡ shown.texts ++ packets_in packets.held
   packets_are = ap packets_in shown.whole ∙ packets_front shown.texts packets.held shown.each
 
@@ -212,8 +214,8 @@ module _ (read : List ℕ) (packets : Received) (before now : Told) (shown : Has
 
     written : Appends out.told_before out.told (lines_of shown.elements)
     written =
-        subst (λ (t : Told). Appends t out.told (lines_of shown.elements)) first
-        (subst (λ (t : Told). Appends before t (lines_of shown.elements)) last shown.written)
+        subst (λ (t : Output). Appends t out.told (lines_of shown.elements)) first
+        (subst (λ (t : Output). Appends before t (lines_of shown.elements)) last shown.written)
 
     pub ends_whole : packets.held ≡ [] → IsAtEnd input.told → Shows (Ok tt) input out
     ends_whole none end =
@@ -272,7 +274,7 @@ module _ (read : List ℕ) (packets : Received) (before now : Told) (shown : Has
         }
 
 -- it was cut short
-pub ends_cut : (read : List ℕ) (before now : Told) → WasShowing read before now → (input out : Change)
+pub ends_cut : (read : List ℕ) (before now : Output) → WasShowing read before now → (input out : Change)
     → Consumes input.told_before input.told read → before ≡ out.told_before → now ≡ out.told
     → IsCutShort input out
 ends_cut read before now was input out consumed first last = record {
@@ -286,13 +288,13 @@ ends_cut read before now was input out consumed first last = record {
     markup = was.markup;
   };
   written =
-      subst (λ (t : Told). AppendsFront t out.told (lines_of was.elements)) first
-      (subst (λ (t : Told). AppendsFront before t (lines_of was.elements)) last was.written);
+      subst (λ (t : Output). AppendsFront t out.told (lines_of was.elements)) first
+      (subst (λ (t : Output). AppendsFront before t (lines_of was.elements)) last was.written);
 }
 
 -- ---- why no more is shown
 
-module _ (told0 told1 told2 : Told) (faults0 faults1 faults2 : ℕ) (later : faults0 ≤ faults1) where
+module _ (told0 told1 told2 : Output) (faults0 faults1 faults2 : ℕ) (later : faults0 ≤ faults1) where
   abbrev all : Change
   all = record { told_before = told0; told = told2; faults_before = faults0; faults = faults2 }
 

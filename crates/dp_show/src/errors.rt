@@ -25,9 +25,9 @@ pub enum ShowError {
 
 impl From<AllocError> for ShowError {
     ghost use Rattle.std.specs.Prelude.{◌≡◌};
-    ghost use Rattle.dp_show.specs.declared.errors.ShowError.TheVariants.{Memory as WantOfMemory};
+    ghost use Rattle.dp_show.specs.declared.errors.ShowError.TheVariants.{Memory as OutOfMemory};
 
-    ghost from_gives = { λ _ e. e ≡ WantOfMemory };
+    ghost from_gives = { λ _ e. e ≡ OutOfMemory };
 
     fn from(_: AllocError) -> ShowError {
         ShowError::Memory
@@ -36,9 +36,9 @@ impl From<AllocError> for ShowError {
 
 impl<T: Drop> From<AllocFailed<T>> for ShowError {
     ghost use Rattle.std.specs.Prelude.{◌≡◌};
-    ghost use Rattle.dp_show.specs.declared.errors.ShowError.TheVariants.{Memory as WantOfMemory};
+    ghost use Rattle.dp_show.specs.declared.errors.ShowError.TheVariants.{Memory as OutOfMemory};
 
-    ghost from_gives = { λ _ e. e ≡ WantOfMemory };
+    ghost from_gives = { λ _ e. e ≡ OutOfMemory };
 
     fn from(_: AllocFailed<T>) -> ShowError {
         ShowError::Memory

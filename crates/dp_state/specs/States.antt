@@ -137,7 +137,7 @@ entered frame s =
 abbrev pub left : State → State
 left s = record s { frames = take (length s.frames - 1) s.frames }
 
--- why a step is not made: as it is asked, or for lack of memory
+-- why a step is not made: as it is asked, or out of memory
 abbrev pub IsCause : Result State FatalKind → Fault → Type 0
 IsCause asked fault.Memory = ⊤
 IsCause asked (fault.Fatal kind) = asked ≡ Err kind
@@ -146,7 +146,7 @@ IsCause asked (fault.Fatal kind) = asked ≡ Err kind
 abbrev pub IsSure : {A : Type 0} → Result State FatalKind → Result A Fault → Type 0
 IsSure asked result = (kind : FatalKind) → asked ≡ Err kind → result ≡ Err (fault.Fatal kind)
 
--- refused, and not for lack of memory
+-- refused, and not because memory ran out
 abbrev pub IsFatal : {A : Type 0} → Result A Fault → Type 0
 IsFatal (Ok done) = ⊥
 IsFatal (Err fault.Memory) = ⊥

@@ -47,7 +47,7 @@ impl State {
     }
 
     /// Gives a variable of the top frame a text with a piece behind it, and gives it; what is no text counts as the
-    /// empty one. Where the text has no owner but the one that is given here and the variable itself, it grows in its
+    /// empty one. If the text has no owner but the one that is given here and the variable itself, it grows in its
     /// place.
     ///
     /// `TooHeavy` comes exactly where the text would weigh more than a value may, also where there is no memory, and
@@ -70,7 +70,7 @@ impl State {
 
     /// Takes a variable of the top frame away, or its entry under `keys` where there are any. A key that is `None`
     /// stands for an index that is no key. A name that is bound is bound no more, and the global variable stays; an
-    /// entry of it is an entry of the global variable. Where the variable or an entry on the way is missing, nothing
+    /// entry of it is an entry of the global variable. If the variable or an entry on the way is missing, nothing
     /// changes. Takes memory only where the value of the variable has other owners too: then it is copied.
     ///
     /// The causes are tried key by key: `Scalar` and `Unsupported` by what holds the entry, then `BadKey`, all also
@@ -93,8 +93,8 @@ impl State {
         done
     }
 
-    /// Binds a name of the top frame to the global variable of this name; where that one is missing, it becomes null.
-    /// Where the top frame uses the global variables, nothing is bound. After a refusal the state is as before.
+    /// Binds a name of the top frame to the global variable of this name; if that one is missing, it becomes null. If
+    /// the top frame uses the global variables, nothing is bound. After a refusal the state is as before.
     pub fn bind(&mut self, name: &Bytes) -> Result<(), Memory>
         ensures ok { OnOk result (self.new ≡ with_global name.now self.old) }
         ensures err { OnErr result (self.new ≡ self.old) }

@@ -9,7 +9,7 @@ use Rattle.dp_value.specs.Data.{Data}
 use Rattle.dp_actions.specs.declared.signal.Signal.{Signal}
 use Rattle.dp_actions.specs.declared.signal.Signal.TheVariants.{Next, Break, Continue, Return}
 use Rattle.dp_actions.specs.Expressions.{evaluation, evaluations}
-use Rattle.dp_actions.specs.Loops.{bind, entries, turn_of, turn_over}
+use Rattle.dp_actions.specs.Loops.{bind, entries, step_after, after_body}
 use Rattle.dp_actions.specs.Run.{Run, Done, At, and_then, ◌>>=◌}
 use Rattle.dp_actions.specs.Setting.{Setting}
 use Rattle.dp_actions.specs.Values.{holds}
@@ -48,13 +48,13 @@ at-same line s f g e = λ i. At moment.Place line s (λ t. e t i)
 
 module _ (setting : Setting) (k : Follows) (s : State) where
   -- out of a loop, or on with it
-  pub over-out : (g : Signal) (next : State → Run Signal) (out : Signal) → turn_of g ≡ turn.Out out
-      → to_signal k out s ≡ (turn_over g next s >>= to_signal k)
+  pub over-out : (g : Signal) (next : State → Run Signal) (out : Signal) → step_after g ≡ turn.Out out
+      → to_signal k out s ≡ (after_body g next s >>= to_signal k)
   unfolding and_then
   over-out g next out e = sym (ap (λ r. r >>= to_signal k) (turn-out g next s out e))
 
-  pub over-on : (g : Signal) (next : State → Run Signal) → turn_of g ≡ turn.On
-      → (next s >>= to_signal k) ≡ (turn_over g next s >>= to_signal k)
+  pub over-on : (g : Signal) (next : State → Run Signal) → step_after g ≡ turn.On
+      → (next s >>= to_signal k) ≡ (after_body g next s >>= to_signal k)
   over-on g next e = sym (ap (λ r. r >>= to_signal k) (turn-on g next s e))
 
   pub turn-first : (loop : Turns) (left : ℕ) → 0 < left
@@ -95,13 +95,13 @@ module _ (setting : Setting) (k : Follows) (s : State) where
         ∙ ap (λ h. evaluations (after_of h) setting s >>= λ _ t. turns_of setting loop left t >>= to_signal k) is)
 
   pub do-first : (loop : DoTurns) (left : ℕ) → 0 < left
-      → (statement_run loop.body.now setting s >>= λ g t. turn_over g (do_test setting loop (left - 1)) t
+      → (statement_run loop.body.now setting s >>= λ g t. after_body g (do_test setting loop (left - 1)) t
       >>= to_signal k)
       ≡ (do_turns_of setting loop left s >>= to_signal k)
   do-first loop zero h = absurd (omega (arith, h))
   do-first loop (suc n) h =
       let e : suc n - 1 ≡ n = omega arith in
-      rw e (sym (and_then-assoc (statement_run loop.body.now setting s) (λ g t. turn_over g (do_test setting loop n) t)
+      rw e (sym (and_then-assoc (statement_run loop.body.now setting s) (λ g t. after_body g (do_test setting loop n) t)
       (to_signal k)))
 
   pub do-test : (loop : DoTurns) (left : ℕ)
@@ -124,7 +124,7 @@ module _ (setting : Setting) (k : Follows) (s : State) where
     pub bind-ok : (t : State) → ((entry : Key × Data) → slice_get (entries subject) at ≡ Some entry
         → AtOnce (bind loop.binding.now entry s) (Ok (tt {0})) t)
         → (each_turn setting loop (drop at (entries subject)) s >>= to_signal k)
-        ≡ (statement_run loop.body.now setting t >>= λ g u. turn_over g (each_from setting loop subject (at + 1)) u
+        ≡ (statement_run loop.body.now setting t >>= λ g u. after_body g (each_from setting loop subject (at + 1)) u
         >>= to_signal k)
     bind-ok t ev =
         let m = member-at (entries subject) at h in

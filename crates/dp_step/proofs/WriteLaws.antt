@@ -14,7 +14,7 @@ use Rattle.dp_meaning.specs.declared.writes.WriteFault.{WriteFault}
 use Rattle.dp_meaning.specs.declared.writes.WriteFault.TheVariants.{NoFrame, NoPlace}
 use Rattle.dp_meaning.specs.Writes.{evaluated, evaluation_setting, in_context, left_by, or_unchanged, place_or_fault, with_place}
 use Rattle.dp_step.specs.declared.machine.Machine.{Machine}
-use Rattle.dp_step.specs.declared.writes.StepError.{StepError}
+use Rattle.dp_step.specs.declared.errors.StepError.{StepError}
 use Rattle.dp_step.specs.Stands.{StandsFor}
 use Rattle.dp_step.specs.Written.{Evaluates, Writes}
 use Rattle.dp_step.proofs.WritesMade.{one-made}

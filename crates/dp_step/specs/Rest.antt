@@ -19,7 +19,7 @@ use Rattle.dp_actions.specs.Calls.{include_run}
 use Rattle.dp_actions.specs.Expressions.{evaluation, evaluations, expression_run}
 use Rattle.dp_actions.specs.Expressions.{place_run}
 use Rattle.dp_meaning.specs.Statements.{arm_run}
-use Rattle.dp_actions.specs.Loops.{bind, do_turns, each_run, entries, last_holds, turn_over, turns}
+use Rattle.dp_actions.specs.Loops.{bind, do_turns, each_run, entries, last_holds, after_body, turns}
 use Rattle.dp_actions.specs.Places.{unset_run}
 use Rattle.dp_meaning.specs.Programs.{leaving, left_call, left_file}
 use Rattle.dp_actions.specs.Run.{Run, Done, Over, At, taken, ◌>>=◌}
@@ -112,7 +112,7 @@ abbrev pub turns_decided : Setting → Turns → ℕ → Bool → State → Run 
 turns_decided setting loop left b s =
     if b
     then (
-    statement_run loop.body.now setting s >>= λ g t. turn_over g (turns_next setting loop left) t
+    statement_run loop.body.now setting s >>= λ g t. after_body g (turns_next setting loop left) t
     )
     else Done Next s
 
@@ -146,7 +146,7 @@ abbrev pub each_turn : Setting → EachTurns → List (Key × Data) → State �
 each_turn setting loop [] s = Done Next s
 each_turn setting loop (entry ∷ more) s =
     bind loop.binding.now entry s >>= λ _ t. statement_run loop.body.now setting t
-    >>= λ g u. turn_over g
+    >>= λ g u. after_body g
     (each_run loop.line loop.binding.now more (statement_run loop.body.now setting)) u
 
 -- ---- what is in hand is done, and then what follows
@@ -213,11 +213,11 @@ abbrev pub signal_rest : Setting → ForSignal → Signal → Follows → State 
 signal_rest setting (signal_work.Rest statements at) g k s =
     go_on g (body_run (drop at statements.now) setting) s >>= to_signal k
 signal_rest setting (signal_work.Body loop left) g k s =
-    turn_over g (turns_next setting loop left) s >>= to_signal k
+    after_body g (turns_next setting loop left) s >>= to_signal k
 signal_rest setting (signal_work.DoBody loop left) g k s =
-    turn_over g (do_test setting loop left) s >>= to_signal k
+    after_body g (do_test setting loop left) s >>= to_signal k
 signal_rest setting (signal_work.EachBody loop subject at) g k s =
-    turn_over g (each_from setting loop subject at) s >>= to_signal k
+    after_body g (each_from setting loop subject at) s >>= to_signal k
 
 -- It waits for one kind of thing; what is of another kind it passes on.
 abbrev pub work_rest : Setting → Work → Follows → Follows

@@ -6,8 +6,8 @@ use Rattle.dp_state.specs.declared.state.State.{State}
 use Rattle.dp_meaning.specs.declared.writes.WriteFault.{WriteFault}
 use Rattle.dp_meaning.specs.declared.writes.WriteFault.TheVariants as fault
 use Rattle.dp_step.specs.declared.machine.Machine.{Machine}
-use Rattle.dp_step.specs.declared.writes.StepError.{StepError}
-use Rattle.dp_step.specs.declared.writes.StepError.TheVariants as error
+use Rattle.dp_step.specs.declared.errors.StepError.{StepError}
+use Rattle.dp_step.specs.declared.errors.StepError.TheVariants as error
 use Rattle.dp_step.specs.Stands.{HasFailed}
 
 -- by what the write comes to: a state, or the fault

@@ -53,7 +53,7 @@ impl<'p> Machine<'p> {
         Ok(outcome)
     }
 
-    /// To the end.
+    /// Leaps until the program has ended.
     fn finish(&mut self, deep: &DeepNames<'p>) -> Result<Outcome, Memory>
         ensures { IfOk result (λ end. RunsOut self.old (rest_of self.old self.old.state) end self.new) }
     {

@@ -4,6 +4,7 @@
 mod after;
 mod calls;
 mod deep_turns;
+mod errors;
 mod finish;
 mod hands;
 mod loops;
@@ -15,6 +16,6 @@ mod steps;
 mod work;
 mod writes;
 
+pub use errors::StepError;
 pub use machine::{Machine, Progress};
 pub use steps::Steps;
-pub use writes::StepError;

@@ -3,7 +3,7 @@
 ghost use Rattle.std.specs.Prelude.{◌≡◌, length};
 ghost use Rattle.dp_state.specs.declared.state.State.{State as AnyState};
 ghost use Rattle.dp_actions.specs.Expressions.{evaluations};
-ghost use Rattle.dp_actions.specs.Loops.{entries, last_holds as ends_true, turn_over as over};
+ghost use Rattle.dp_actions.specs.Loops.{entries, last_holds as ends_true, after_body as over};
 ghost use Rattle.dp_actions.specs.Run.{and_then};
 ghost use Rattle.dp_actions.specs.Setting.{Setting};
 ghost use Rattle.dp_step.specs.Rest.{do_decided, do_test, do_turns_of, each_from, next_rest, signal_rest, small_rest};
@@ -14,7 +14,7 @@ use crate::next::{signal, values_first};
 use crate::work::{
     AfterValue, DoTurns, EachTurns, ForSignal, ForValues, Hand, Head, Next, Small, Turns, Work,
 };
-use dp_actions::{LoopStep, Signal, last_holds, turn_over};
+use dp_actions::{LoopStep, Signal, after_body, last_holds};
 use dp_shared::Shared;
 use dp_state::{MomentKind, Outcome};
 use dp_step_parts::Hand as PartHand;
@@ -180,7 +180,7 @@ fn body_over<'p>(alloc: Global, turns: Turns<'p>, left: u64, given: Signal) -> S
     ensures { (setting : Setting) (k : Follows) (s : AnyState)
         → small_rest setting result k s ≡ and_then (over given (turns_next setting turns.entry left) s) (to_signal k) }
 {
-    match turn_over(given) {
+    match after_body(given) {
         LoopStep::On => Small {
             moment: None,
             next: turns_on(alloc, turns, left),
@@ -215,7 +215,7 @@ fn do_over<'p>(turns: DoTurns<'p>, left: u64, given: Signal) -> Small<'p>
     ensures { (setting : Setting) (k : Follows) (s : AnyState)
         → small_rest setting result k s ≡ and_then (over given (do_test setting turns.entry left) s) (to_signal k) }
 {
-    match turn_over(given) {
+    match after_body(given) {
         LoopStep::On => Small {
             moment: Some((MomentKind::Place, turns.line)),
             next: Next {
@@ -236,7 +236,7 @@ fn each_over<'p>(turns: EachTurns<'p>, subject: Shared, at: usize, given: Signal
         → small_rest setting result k s ≡ and_then (over given (each_from setting turns.entry subject at) s)
         (to_signal k) }
 {
-    match turn_over(given) {
+    match after_body(given) {
         LoopStep::On => Small {
             moment: None,
             next: Next {

@@ -4,6 +4,7 @@ ghost use Rattle.std.specs.Prelude.{◌≡◌, false, Ok, OnOk, OnErr, IfErr};
 ghost use Rattle.dp_state.specs.Places.{assigned as assigned_at, given_keys as all_given};
 ghost use Rattle.dp_state.specs.States.{IsCause};
 
+use crate::errors::StepError;
 use crate::machine::Machine;
 use dp_actions::given_keys;
 use dp_meaning::{NumberedWrite, evaluation, write_all};
@@ -13,19 +14,6 @@ use dp_tree::Expression;
 use dp_value::{Memory, Value};
 use std::alloc::Global;
 use std::mem;
-
-/// Why a write or an evaluation is refused.
-#[derive(Clone, Copy, Debug, PartialEq, Eq)]
-pub enum StepError {
-    /// The evaluation does not hold: it is fatal, ends the program, or has too many moments.
-    Fatal,
-    /// The level has no frame.
-    NoFrame,
-    /// There is no such place, or it cannot hold the value.
-    NoPlace,
-    /// Out of memory.
-    Memory,
-}
 
 impl Machine<'_> {
     ghost use Rattle.std.specs.Prelude.{◌≡◌, ℕ, ◌++◌, List, OnOk};
@@ -78,7 +66,7 @@ impl Machine<'_> {
     ghost use Rattle.dp_meaning.specs.Writes.{evaluated, evaluation_setting, place_or_fault, with_place};
     ghost use Rattle.dp_step.specs.Stands.{HasFailed, StandsFor};
     ghost use Rattle.dp_step.specs.Written.{Evaluates, Writes};
-    ghost use Rattle.dp_step.specs.declared.writes.StepError.TheVariants as any_error;
+    ghost use Rattle.dp_step.specs.declared.errors.StepError.TheVariants as any_error;
 
     /// Gives a place a value at the moment. The path begins at a variable of the frame at the level, where 0 is the top
     /// frame, for the context 0, and at a global variable for the context 1. A refusal changes nothing.
@@ -98,7 +86,7 @@ impl Machine<'_> {
         self.write_place(level, context, path, value)
     }
 
-    /// The same.
+    /// The same, without what the machine stands for then.
     fn write_place(
         &mut self,
         level: u32,
@@ -166,7 +154,7 @@ impl Machine<'_> {
         self.value_of(e)
     }
 
-    /// The same.
+    /// The same, without what the machine stands for then.
     fn value_of(&mut self, e: &Expression) -> Result<Value, StepError>
         ensures { Evaluates (evaluated (evaluation_setting self.old.bundle.now) e.now self.old.state) result self.old
             self.new }

@@ -15,7 +15,7 @@ use Rattle.dp_tree.specs.declared.tree.Link.{Link}
 use Rattle.dp_tree.specs.declared.tree.Place.{Place}
 use Rattle.dp_state.specs.declared.state.State.{State}
 use Rattle.dp_state.specs.Places.{keys_of_indices}
-use Rattle.dp_actions.specs.declared.in_place.Reading.{Reading}
+use Rattle.dp_actions.specs.declared.entry_reads.Reading.{Reading}
 use Rattle.dp_actions.specs.declared.signal.Signal.{Signal}
 use Rattle.dp_actions.specs.Expressions.{choice, evaluation, evaluations, expression_run}
 use Rattle.dp_actions.specs.Expressions.{indices_run, items_run, keyed_run, links_run, place_run}

@@ -6,8 +6,8 @@ use Rattle.dp_outside.specs.Changes.{Change}
 use Rattle.dp_outside.specs.Links.{CountsReturned, Link}
 use Rattle.dp_outside.specs.Reports.{grown}
 use Rattle.dp_tree.specs.declared.bundle.Bundle.{Bundle}
-use Rattle.dp_run.specs.declared.errors.ProgramError.{ProgramError}
-use Rattle.dp_run.specs.Programs.{NamesMake, ProgramCaused}
+use Rattle.dp_program.specs.declared.errors.ProgramError.{ProgramError}
+use Rattle.dp_program.specs.Programs.{NamesMake, ProgramCaused}
 use Rattle.dp_top.specs.declared.failures.Failure.TheVariants as failure
 use Rattle.dp_top.specs.declared.failures.Refused.{Refused}
 use Rattle.dp_words.specs.CommandLine.{Address, Invocation}
@@ -68,7 +68,14 @@ pub served_over : (program : Bundle) (address : Address) (key : List ℕ) (ask :
     → MatchResult result (λ status. EngagedSo status program address key ask out old new)
     (λ why. UnengagedSo why.failure why.name.now program address key ask out old new)
 served_over program address key ask source sink out old new dialled (Ok status) h =
-    record { served = h.served; source = source; sink = sink; dialled = dialled; serves = h.serves; told = h.told }
+    record {
+      served = h.served;
+      source = source;
+      sink = sink;
+      dialled = dialled;
+      serves = h.serves;
+      reported = h.reported;
+    }
 served_over program address key ask source sink out old new dialled (Err why) (inl memory) =
     inl (
       memory.0,
@@ -88,8 +95,7 @@ served_over program address key ask source sink out old new dialled (Err why) (i
       sink = sink;
       dialled = dialled;
       serves = h.serves;
-      told =
-          h.told;
+      reported = h.reported;
     }))
 
 module _ (address : Address) (key : List ℕ) (ask : Invocation) (old new : Seen) (apart : IsApart old new) where
@@ -112,7 +118,7 @@ module _ (address : Address) (key : List ℕ) (ask : Invocation) (old new : Seen
           h.serves;
       apart = apart;
     };
-    told = h.told;
+    reported = h.reported;
   }
   program_engaged program made (Err why) (inl memory) = inl (
     memory.0,
@@ -151,7 +157,7 @@ module _ (address : Address) (key : List ℕ) (ask : Invocation) (old new : Seen
           h.serves;
       apart = apart;
     };
-    told = h.told;
+    reported = h.reported;
   })))
 
   pub none_engaged : (refused : Refused) (why : ProgramError)
@@ -159,4 +165,4 @@ module _ (address : Address) (key : List ℕ) (ask : Invocation) (old new : Seen
       → IsProgramReported refused.failure refused.name.now ask why → IsIdle old new
       → EngineFails refused.failure refused.name.now address key ask old new
   none_engaged refused why caused told idle =
-      inr (inl (record { cause = why; caused = caused; told = told; idle = idle }))
+      inr (inl (record { cause = why; caused = caused; reported = told; idle = idle }))

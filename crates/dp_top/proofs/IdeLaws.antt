@@ -1,12 +1,11 @@
 -- What playing a script over a link came to decides the end of `ide`.
-use Rattle.std.proofs.Common.{◌≡◌, ◌⊎◌, inl, inr, ℕ, ◌+◌, ◌<◌, ◌≤◌, List, [], ◌∷◌, ◌++◌, length, take, Option, None, Some, IsSome, Result, Ok, Err, refl, sym, ap, ◌∙◌, subst, arith}
+use Rattle.std.proofs.Common.{◌≡◌, ◌⊎◌, inl, inr, ℕ, ◌+◌, ◌<◌, ◌≤◌, List, [], ◌∷◌, ◌++◌, length, Option, None, Some, IsSome, Result, Ok, Err, refl, sym, ap, ◌∙◌, subst, arith}
 use Rattle.std.specs.Prelude.{MatchResult, IfOk, IfErr}
 use Rattle.dp_outside.specs.Causes.{Rose}
 use Rattle.dp_outside.specs.Changes.{Change, IsUntouched}
-use Rattle.dp_outside.specs.Files.{Fetches, Lacks}
 use Rattle.dp_outside.specs.Links.{CountsReturned, Door, Link}
 use Rattle.dp_outside.specs.Reports.{BeginsEmpty, grown}
-use Rattle.dp_run.specs.Programs.{Files}
+use Rattle.dp_program.specs.Programs.{Files}
 use Rattle.dp_ide.specs.declared.errors.IdeError.{IdeError}
 use Rattle.dp_ide.specs.declared.errors.IdeError.TheVariants as ends
 use Rattle.dp_ide.specs.declared.instruction.Instruction.{Instruction}
@@ -18,12 +17,14 @@ use Rattle.dp_top.specs.declared.failures.Failure.TheVariants as failure
 use Rattle.dp_top.specs.declared.failures.Refused.{Refused}
 use Rattle.dp_top.specs.Engine.{IsApart, IsIdle}
 use Rattle.dp_top.specs.Failures.{status_of}
-use Rattle.dp_top.specs.Ide.{IdeFails, IsBadAt, IsNoScript, IsPlayed, IsScriptFile, Plays, Unread, failure_of}
-use Rattle.dp_top.specs.Lines.{lines_limit}
+use Rattle.dp_top.specs.Ide.{IdeFails, IsNoScript, IsPlayed, IsScriptFile, Plays, failure_of}
+use Rattle.dp_top.specs.Lines.{IsBadAt, Unread, lines_limit}
 use Rattle.dp_top.specs.Links.{IsAccepted, IsGated, IsUncalled, ReportsLinks}
 use Rattle.dp_top.specs.Seen.{Net, NoneRose, Seen, changed}
 use Rattle.dp_top.specs.Tasks.{Caused, Does}
-use Rattle.dp_top.specs.inner.Gated.{Called, DoorSeen, GatedSo, IsBadScript, IsReportedBy, MetSo, NoCall, PlayedSo, UnreadSo}
+use Rattle.dp_top.specs.inner.BadLines.{UnreadSo}
+use Rattle.dp_top.specs.inner.Gated.{Called, DoorSeen, GatedSo, IsReportedBy, MetSo, NoCall, PlayedSo}
+use Rattle.dp_top.proofs.LineLaws.{held_or_lacking, same_content}
 use Rattle.dp_top.proofs.TaskLaws.{one_task, returned_rose}
 use Rattle.dp_words.specs.CommandLine.{IsInvocation, IsIde, Task, ide}
 
@@ -184,41 +185,12 @@ module _ (port : ℕ) (script : List ℕ) (old new : Seen) (apart : IsApart old 
     played_told played (Err why) h well ill = told_so played h why.failure why.name.now ill.0 ill.1
 
 pub unread_told : (port : ℕ) (script : List ℕ) (old new : Seen) (why : Failure) (name : List ℕ)
-    → UnreadSo why name script old.shelf.files old.shelf.faults new.shelf.faults → IsIdle old new
+    → UnreadSo IsFirstBad why name script old.shelf.files old.shelf.faults new.shelf.faults → IsIdle old new
     → IdeFails why name port script old new
 unread_told port script old new why name (inl memory) idle = inl (memory, inl idle)
 unread_told port script old new why name (inr unread) idle = inr (inl (unread, idle))
 
--- why bytes of a file are no script
-pub bad_script : (why : Failure) (name script bytes : List ℕ) (files : Files) (before after : ℕ)
-    → Fetches files script lines_limit bytes → IsBadScript why name bytes
-    → UnreadSo why name script files before after
-bad_script (failure.Script line) name script bytes files before after fetched bad =
-    inr (bad.0, record { content = bytes; fetched = fetched; bad = bad.1 })
-bad_script failure.Memory name script bytes files before after fetched bad = inl refl
-bad_script failure.TooLong name script bytes files before after fetched bad = absurd bad
-bad_script (failure.Source reason number) name script bytes files before after fetched bad = absurd bad
-bad_script failure.ShelfFailed name script bytes files before after fetched bad = absurd bad
-bad_script failure.NoFile name script bytes files before after fetched bad = absurd bad
-bad_script (failure.Fatal kind line) name script bytes files before after fetched bad = absurd bad
-bad_script (failure.Bound steps) name script bytes files before after fetched bad = absurd bad
-bad_script failure.Output name script bytes files before after fetched bad = absurd bad
-bad_script (failure.Differs line wanted found) name script bytes files before after fetched bad = absurd bad
-bad_script failure.PeerEnd name script bytes files before after fetched bad = absurd bad
-bad_script (failure.Packet offset) name script bytes files before after fetched bad = absurd bad
-bad_script failure.Network name script bytes files before after fetched bad = absurd bad
-bad_script failure.Stopped name script bytes files before after fetched bad = absurd bad
-
 -- ---- a script, or none
-
--- a told file has one content
-pub same_content : (files : Files) (name : List ℕ) (limit : ℕ) (one other : List ℕ) → IsSome files
-    → Fetches files name limit one → Fetches files name limit other → one ≡ other
-same_content None name limit one other told p q = absurd (cc)
-same_content (Some files) name limit one other told p q =
-    let both : Some p.0 ≡ Some q.0 = sym p.1 ∙ q.1 in
-    let same : p.0 ≡ q.0 = cc in
-    p.2 ∙ ap (λ (l : List ℕ). take (limit + 1) l) same ∙ sym q.2
 
 held_or_bad : (files : Files) (name : List ℕ) (line : ℕ) (instructions : List Instruction) → IsSome files
     → IsScriptFile files name instructions → IsNoScript files name line → ⊥
@@ -226,15 +198,10 @@ held_or_bad files name line instructions told held none = by none.bad where
   same : none.content ≡ held.content
   same = same_content files name lines_limit none.content held.content told none.fetched held.fetched
 
-  by : IsBadAt none.content line → ⊥
+  by : IsBadAt IsFirstBad none.content line → ⊥
   by (inl long) = omega (arith, long.1, ap length same, held.fits)
   by (inr bad) =
       no_bad held.content line instructions (subst (λ (l : List ℕ). IsFirstBad l line) same bad.1) held.is_script
-
-held_or_lacking : (files : Files) (name : List ℕ) (content : List ℕ) → IsSome files
-    → Fetches files name lines_limit content → Lacks files name → ⊥
-held_or_lacking None name content told p lacks = absurd (cc)
-held_or_lacking (Some files) name content told p lacks = let both : Some p.0 ≡ None = sym p.1 ∙ lacks in cc
 
 -- playing names no bad line
 never_bad : (instructions : List Instruction) (line : ℕ) (source sink out : Change)
@@ -279,7 +246,8 @@ module _ (port line : ℕ) (script : List ℕ) (old new : Seen) (told : IsSome o
   never_held : (instructions : List Instruction) → IsScriptFile old.shelf.files script instructions → ⊥
   never_held instructions held = held_or_bad old.shelf.files script line instructions told held bad
 
-  unread : (why : Failure) (name : List ℕ) → Unread why name script old.shelf.files old.shelf.faults new.shelf.faults
+  unread : (why : Failure) (name : List ℕ)
+      → Unread IsFirstBad why name script old.shelf.files old.shelf.faults new.shelf.faults
       → IsRefusal why
   unread failure.ShelfFailed name h = inr (inr h.1)
   unread failure.NoFile name h = absurd (held_or_lacking old.shelf.files script bad.content told bad.fetched h.1)
@@ -346,7 +314,7 @@ module _ (port : ℕ) (script : List ℕ) (instructions : List Instruction) (old
   not_204 ends.Memory given source sink out e is = omega (arith, is)
 
   unread_not : (why : Failure) (name : List ℕ)
-      → Unread why name script old.shelf.files old.shelf.faults new.shelf.faults → status_of why ≡ 204 → ⊥
+      → Unread IsFirstBad why name script old.shelf.files old.shelf.faults new.shelf.faults → status_of why ≡ 204 → ⊥
   unread_not failure.ShelfFailed name h is = omega (arith, is)
   unread_not failure.NoFile name h is = omega (arith, is)
   unread_not (failure.Script n) name h is = held_or_bad old.shelf.files script n instructions told held h.1
@@ -407,7 +375,7 @@ module _ (port : ℕ) (script : List ℕ) (instructions : List Instruction) (old
     by_end ends.Memory why is h = inr (inr (inr (ap status_of is)))
 
     unread_ends : (why : Failure) (name : List ℕ)
-        → Unread why name script old.shelf.files old.shelf.faults new.shelf.faults → ⊥
+        → Unread IsFirstBad why name script old.shelf.files old.shelf.faults new.shelf.faults → ⊥
     unread_ends failure.ShelfFailed name h = none.shelf h.1
     unread_ends failure.NoFile name h = held_or_lacking old.shelf.files script held.content told held.fetched h.1
     unread_ends (failure.Script n) name h = held_or_bad old.shelf.files script n instructions told held h.1

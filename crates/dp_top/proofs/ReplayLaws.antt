@@ -1,9 +1,9 @@
 -- What a replay came to decides the end of `replay`.
-use Rattle.std.proofs.Common.{◌≡◌, ◌⊎◌, inl, inr, ℕ, suc, ◌+◌, false, true, ◌<◌, ◌≤◌, List, [], ◌∷◌, ◌++◌, length, map, take, Option, None, Some, IsSome, Result, Ok, Err, refl, sym, ap, ◌∙◌, subst, arith, append_assoc}
+use Rattle.std.proofs.Common.{◌≡◌, ◌⊎◌, inl, inr, ℕ, suc, ◌+◌, false, true, ◌<◌, ◌≤◌, List, [], ◌∷◌, length, map, take, Option, None, Some, IsSome, Result, Ok, Err, refl, sym, ap, ◌∙◌, subst, arith, append_assoc}
 use Rattle.std.specs.Prelude.{MatchResult, IfOk, IfErr}
 use Rattle.dp_outside.specs.Causes.{Rose}
 use Rattle.dp_outside.specs.Changes.{Change, IsUntouched}
-use Rattle.dp_outside.specs.Files.{Fetches, Lacks}
+use Rattle.dp_outside.specs.Files.{Fetches}
 use Rattle.dp_outside.specs.Reports.{grown}
 use Rattle.dp_bundle.specs.Bundles.{Given, Makes}
 use Rattle.dp_tree.specs.declared.bundle.Bundle.{Bundle}
@@ -11,10 +11,10 @@ use Rattle.dp_bundle.specs.declared.errors.BundleError.{BundleError}
 use Rattle.dp_lists.specs.declared.event.Event.{Event}
 use Rattle.dp_lists.specs.Lists.{IsFirstBad}
 use Rattle.dp_lists.proofs.ListLaws.{bad_excludes}
-use Rattle.dp_run.specs.declared.errors.ProgramError.{ProgramError}
-use Rattle.dp_run.specs.declared.errors.ProgramError.TheVariants as none
-use Rattle.dp_run.specs.Programs.{AreFetched, Files, IsComplete as IsRunComplete, IsUnmade, IsUnread, NamesMake, ProgramCaused, RequestedNames}
-use Rattle.dp_run.proofs.RunLaws.{program_caused, program_made}
+use Rattle.dp_program.specs.declared.errors.ProgramError.{ProgramError}
+use Rattle.dp_program.specs.declared.errors.ProgramError.TheVariants as none
+use Rattle.dp_program.specs.Programs.{AreFetched, Files, IsComplete as IsRunComplete, IsUnmade, IsUnread, NamesMake, ProgramCaused, RequestedNames}
+use Rattle.dp_program.proofs.RunLaws.{program_caused, program_made}
 use Rattle.dp_world.specs.declared.errors.ReplayError.TheVariants as ends
 use Rattle.dp_world.specs.Replays.{Replays}
 use Rattle.dp_top.specs.declared.failures.Failure.{Failure}
@@ -22,38 +22,19 @@ use Rattle.dp_top.specs.declared.failures.Failure.TheVariants as failure
 use Rattle.dp_top.specs.declared.failures.Refused.{Refused}
 use Rattle.dp_top.specs.Failures.{status_of}
 use Rattle.dp_top.specs.inner.Completeness.{IsComplete}
-use Rattle.dp_top.specs.Replay.{IsBadAt, IsListFile, IsReplayed, ReadBefore, ReplayFails, Unlisted}
-use Rattle.dp_top.specs.Lines.{lines_limit}
+use Rattle.dp_top.specs.Replay.{IsListFile, IsReplayed, ReadBefore, ReplayFails}
+use Rattle.dp_top.specs.Lines.{IsBadAt, Unread, lines_limit}
 use Rattle.dp_top.specs.Runs.{AreFetched as OnlyFetched, IsProgramReported}
-use Rattle.dp_top.specs.inner.EventLists.{EndsFetched, EndsOver, EndsReplay, IsBadList, IsWholeList, UnlistedSo}
-use Rattle.dp_top.proofs.IdeLaws.{same_content}
+use Rattle.dp_top.specs.inner.BadLines.{AreNone, UnreadSo}
+use Rattle.dp_top.specs.inner.EventLists.{EndsFetched, EndsOver, EndsReplay, IsWholeList}
+use Rattle.dp_top.proofs.LineLaws.{held_or_lacking, same_content}
 use Rattle.dp_words.specs.CommandLine.{Invocation}
 
 -- ---- the list
 
--- why bytes of a file are no list
-pub bad_list : (why : Failure) (name events bytes : List ℕ) (files : Files) (before after : ℕ)
-    → Fetches files events lines_limit bytes → IsBadList why name bytes
-    → UnlistedSo why name events files before after
-bad_list (failure.Script line) name events bytes files before after fetched bad =
-    inr (bad.0, record { content = bytes; fetched = fetched; bad = bad.1 })
-bad_list failure.Memory name events bytes files before after fetched bad = inl refl
-bad_list failure.TooLong name events bytes files before after fetched bad = absurd bad
-bad_list (failure.Source reason number) name events bytes files before after fetched bad = absurd bad
-bad_list failure.ShelfFailed name events bytes files before after fetched bad = absurd bad
-bad_list failure.NoFile name events bytes files before after fetched bad = absurd bad
-bad_list (failure.Fatal kind line) name events bytes files before after fetched bad = absurd bad
-bad_list (failure.Bound steps) name events bytes files before after fetched bad = absurd bad
-bad_list failure.Output name events bytes files before after fetched bad = absurd bad
-bad_list (failure.Differs line wanted found) name events bytes files before after fetched bad = absurd bad
-bad_list failure.PeerEnd name events bytes files before after fetched bad = absurd bad
-bad_list (failure.Packet offset) name events bytes files before after fetched bad = absurd bad
-bad_list failure.Network name events bytes files before after fetched bad = absurd bad
-bad_list failure.Stopped name events bytes files before after fetched bad = absurd bad
-
 pub unlisted_fails : (why : Failure) (name events : List ℕ) (ask : Invocation) (files : Files) (before after : ℕ)
     (out : Change)
-    → UnlistedSo why name events files before after → IsUntouched out
+    → UnreadSo IsFirstBad why name events files before after → IsUntouched out
     → ReplayFails why name events ask files before after out
 unlisted_fails why name events ask files before after out (inl memory) idle = inl (memory, inl idle)
 unlisted_fails why name events ask files before after out (inr unlisted) idle = inr (inl (unlisted, idle))
@@ -66,20 +47,15 @@ held_list files name content events fetched whole =
 -- a list is not bad, and not lacking
 pub held_or_bad : (files : Files) (name content : List ℕ) (events : List Event) (line : ℕ) → IsSome files
     → IsListFile files name events → Fetches files name lines_limit content
-    → IsBadAt content line → ⊥
+    → IsBadAt IsFirstBad content line → ⊥
 held_or_bad files name content events line told held fetched bad = by bad where
   same : content ≡ held.content
   same = same_content files name lines_limit content held.content told fetched held.fetched
 
-  by : IsBadAt content line → ⊥
+  by : IsBadAt IsFirstBad content line → ⊥
   by (inl long) = omega (arith, long.1, ap length same, held.fits)
   by (inr first) =
       bad_excludes held.content line events (subst (λ (l : List ℕ). IsFirstBad l line) same first.1) held.is_list
-
-pub held_or_lacking : (files : Files) (name content : List ℕ) → IsSome files → Fetches files name lines_limit content
-    → Lacks files name → ⊥
-held_or_lacking None name content told p lacks = absurd cc
-held_or_lacking (Some files) name content told p lacks = let both : Some p.0 ≡ None = sym p.1 ∙ lacks in cc
 
 -- out of memory is no bad source, and told where there is one
 memory_complete : (asked : Result Bundle BundleError) (refused : Refused) (before after : ℕ)
@@ -96,9 +72,10 @@ module _ (files : Files) (before after : ℕ) (events : List ℕ) (list : List E
     (refused : Refused) where
   -- bytes that are no list
   pub bad_held : (content : List ℕ) → Fetches files events lines_limit content
-      → IsBadList refused.failure refused.name.now content → IsComplete {A = ℕ} asked (Err refused) before after
+      → AreNone IsFirstBad refused.failure refused.name.now content
+      → IsComplete {A = ℕ} asked (Err refused) before after
   bad_held content fetched bad = by refused.failure refl bad where
-    by : (why : Failure) → refused.failure ≡ why → IsBadList why refused.name.now content
+    by : (why : Failure) → refused.failure ≡ why → AreNone IsFirstBad why refused.name.now content
         → IsComplete {A = ℕ} asked (Err refused) before after
     by (failure.Script line) is b = absurd (held_or_bad files events content list line told held fetched b.1)
     by failure.Memory is b = memory_complete asked refused before after is
@@ -116,7 +93,7 @@ module _ (files : Files) (before after : ℕ) (events : List ℕ) (list : List E
     by failure.Stopped is b = absurd b
 
   -- a list that was not fetched
-  pub unlisted_held : UnlistedSo refused.failure refused.name.now events files before after
+  pub unlisted_held : UnreadSo IsFirstBad refused.failure refused.name.now events files before after
       → IsComplete {A = ℕ} asked (Err refused) before after
   unlisted_held (inl memory) = memory_complete asked refused before after memory
   unlisted_held (inr unlisted) = by refused.failure refl unlisted where
@@ -129,7 +106,7 @@ module _ (files : Files) (before after : ℕ) (events : List ℕ) (list : List E
     )
     failed (Err e) is rose = inr rose
 
-    by : (why : Failure) → refused.failure ≡ why → Unlisted why refused.name.now events files before after
+    by : (why : Failure) → refused.failure ≡ why → Unread IsFirstBad why refused.name.now events files before after
         → IsComplete {A = ℕ} asked (Err refused) before after
     by failure.ShelfFailed is u = failed asked is u.1
     by failure.NoFile is u = absurd (held_or_lacking files events held.content told held.fetched u.1)
@@ -188,7 +165,7 @@ module _ (files : Files) (before after : ℕ) (events : List ℕ) (ask : Invocat
               cause = cause;
               caused = program_caused files before after ask.names fetched are (Err cause) made;
               read = read_before cause;
-              told = told;
+              reported = told;
             },
             idle,
           )))
@@ -254,7 +231,7 @@ module _ (files : Files) (before after : ℕ) (events : List ℕ) (ask : Invocat
           caused = since first earlier cause caused;
           read = unread_before cause
               unread;
-          told = told;
+          reported = told;
         },
         idle,
       )))

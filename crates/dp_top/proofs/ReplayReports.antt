@@ -6,20 +6,23 @@ use Rattle.dp_bundle.specs.declared.errors.BundleError.{BundleError}
 use Rattle.dp_bundle.specs.declared.errors.BundleError.TheVariants as unmade
 use Rattle.dp_tree.specs.declared.bundle.Bundle.{Bundle}
 use Rattle.dp_lists.specs.declared.event.Event.{Event}
-use Rattle.dp_run.specs.declared.errors.ProgramError.{ProgramError}
-use Rattle.dp_run.specs.declared.errors.ProgramError.TheVariants as none
-use Rattle.dp_run.specs.Programs.{Files, FilesMake, IsComplete as IsRunComplete, ProgramCaused, refusal}
-use Rattle.dp_run.proofs.RunLaws.{complete_unfetched}
+use Rattle.dp_lists.specs.Lists.{IsFirstBad}
+use Rattle.dp_program.specs.declared.errors.ProgramError.{ProgramError}
+use Rattle.dp_program.specs.declared.errors.ProgramError.TheVariants as none
+use Rattle.dp_program.specs.Programs.{Files, FilesMake, IsComplete as IsRunComplete, ProgramCaused, refusal}
+use Rattle.dp_program.proofs.RunLaws.{complete_unfetched}
 use Rattle.dp_top.specs.declared.failures.Failure.{Failure}
 use Rattle.dp_top.specs.declared.failures.Failure.TheVariants as failure
 use Rattle.dp_top.specs.declared.failures.Refused.{Refused}
 use Rattle.dp_top.specs.Failures.{status_of}
-use Rattle.dp_top.specs.Replay.{IsListFile, IsNoList, IsReplayed, IsUnreplayed, ReadBefore, ReplayFails, Unlisted}
+use Rattle.dp_top.specs.Replay.{IsListFile, IsNoList, IsReplayed, IsUnreplayed, ReadBefore, ReplayFails}
+use Rattle.dp_top.specs.Lines.{Unread}
 use Rattle.dp_top.specs.Runs.{program_failure}
 use Rattle.dp_top.specs.Seen.{NoneRose, Seen, changed}
 use Rattle.dp_top.specs.Tasks.{Caused, Does}
 use Rattle.dp_top.specs.inner.Completeness.{AreCompleteWith, IsGood}
-use Rattle.dp_top.proofs.ReplayLaws.{held_or_bad, held_or_lacking}
+use Rattle.dp_top.proofs.LineLaws.{held_or_lacking}
+use Rattle.dp_top.proofs.ReplayLaws.{held_or_bad}
 use Rattle.dp_top.proofs.RunReports.{bad_source}
 use Rattle.dp_top.proofs.TaskLaws.{no_program, one_task}
 use Rattle.dp_words.specs.CommandLine.{Invocation, IsInvocation, IsReplay, Task, replay}
@@ -45,7 +48,8 @@ module _ (files : Files) (before after : ℕ) (out : Change) (events : List ℕ)
   never_held : (list : List Event) → IsListFile files events list → ⊥
   never_held list held = held_or_bad files events bad.content list line holds.tells held bad.fetched bad.bad
 
-  unlisted : (why : Failure) (name : List ℕ) → Unlisted why name events files before after → IsListEnd why before after
+  unlisted : (why : Failure) (name : List ℕ)
+      → Unread IsFirstBad why name events files before after → IsListEnd why before after
   unlisted failure.ShelfFailed name h = inr (inr h.1)
   unlisted failure.NoFile name h = absurd (held_or_lacking files events bad.content holds.tells bad.fetched h.1)
   unlisted (failure.Script n) name h = inl refl
@@ -63,7 +67,7 @@ module _ (files : Files) (before after : ℕ) (out : Change) (events : List ℕ)
 
   no_files : (why : Failure) (name : List ℕ) (u : IsUnreplayed why name events ask files before after)
       → IsListEnd why before after
-  no_files why name u = by u.cause u.caused u.read u.told.0 where
+  no_files why name u = by u.cause u.caused u.read u.reported.0 where
     by : (cause : ProgramError) → ProgramCaused cause files before after ask.names → ReadBefore cause files events
         → why ≡ program_failure cause → IsListEnd why before after
     by (none.Shelf file) caused read told = inr (inr caused.1)
@@ -113,7 +117,7 @@ module _ (status : ℕ) (words : List (List ℕ)) (task : Task) (old new : Seen)
 
 module _ (files : Files) (before after : ℕ) (out : Change) (events : List ℕ) (ask : Invocation) (list : List Event)
     (told : IsSome files) (held : IsListFile files events list) where
-  unlisted_not : (why : Failure) (name : List ℕ) → Unlisted why name events files before after
+  unlisted_not : (why : Failure) (name : List ℕ) → Unread IsFirstBad why name events files before after
       → (why ≡ failure.ShelfFailed) × Rose before after
   unlisted_not failure.ShelfFailed name h = (refl, h.1)
   unlisted_not failure.NoFile name h = absurd (held_or_lacking files events held.content told held.fetched h.1)
@@ -144,7 +148,7 @@ module _ (files : Files) (before after : ℕ) (out : Change) (events : List ℕ)
       → status_of why ≡ 204 → ⊥
   no_refusal why name (inl memory) e = omega (arith, ap status_of memory.0, e)
   no_refusal why name (inr (inl u)) e = omega (arith, ap status_of (unlisted_not why name u.0).0, e)
-  no_refusal why name (inr (inr (inl u))) e = no_script why u.0.cause u.0.told.0 e
+  no_refusal why name (inr (inr (inl u))) e = no_script why u.0.cause u.0.reported.0 e
   no_refusal why name (inr (inr (inr h))) e = omega (arith, ap status_of h.is_why, e)
 
   -- where no count rose, and the files are not told as bad
@@ -154,7 +158,7 @@ module _ (files : Files) (before after : ℕ) (out : Change) (events : List ℕ)
   memory_alone why name good shelf sink (inl memory) = ap status_of memory.0
   memory_alone why name good shelf sink (inr (inl u)) = absurd (shelf (unlisted_not why name u.0).1)
   memory_alone why name good shelf sink (inr (inr (inl u))) =
-      no_program why files before after ask.names good shelf u.0.cause u.0.caused u.0.told.0
+      no_program why files before after ask.names good shelf u.0.cause u.0.caused u.0.reported.0
   memory_alone why name good shelf sink (inr (inr (inr h))) = absurd (sink h.replayed.replays.0)
 
 module _ (status : ℕ) (words : List (List ℕ)) (task : Task) (old new : Seen) (refused : Refused) (A B : Type 0)

@@ -9,13 +9,13 @@ use Rattle.dp_bundle.specs.declared.errors.BundleError.TheVariants as unmade
 use Rattle.dp_lexer.specs.declared.errors.LexError.TheVariants as lex
 use Rattle.dp_parse.specs.declared.errors.ParseError.{ParseError}
 use Rattle.dp_parse.specs.declared.errors.ParseError.TheVariants as parse
-use Rattle.dp_run.proofs.GrownNames.{grown_by_none}
-use Rattle.dp_run.specs.declared.errors.ProgramError.{ProgramError}
-use Rattle.dp_run.specs.declared.errors.ProgramError.TheVariants as none
-use Rattle.dp_run.specs.declared.errors.RunError.{RunError}
-use Rattle.dp_run.specs.declared.errors.RunError.TheVariants as run
-use Rattle.dp_run.specs.Programs.{IsComplete as IsRunComplete, RequestedNames, RequestsFiles, is_bad_file, refusal}
-use Rattle.dp_run.specs.Runs.{of_program}
+use Rattle.dp_program.proofs.GrownNames.{grown_by_none}
+use Rattle.dp_program.specs.declared.errors.ProgramError.{ProgramError}
+use Rattle.dp_program.specs.declared.errors.ProgramError.TheVariants as none
+use Rattle.dp_program.specs.declared.errors.RunError.{RunError}
+use Rattle.dp_program.specs.declared.errors.RunError.TheVariants as run
+use Rattle.dp_program.specs.Programs.{IsComplete as IsRunComplete, RequestedNames, RequestsFiles, is_bad_file, refusal}
+use Rattle.dp_program.specs.Runs.{of_program}
 use Rattle.dp_top.specs.declared.failures.Refused.{Refused}
 use Rattle.dp_words.specs.CommandLine.{Invocation}
 use Rattle.dp_top.specs.Runs.{IsFetched, failure_of, program_failure}

@@ -15,10 +15,10 @@ use Rattle.dp_engine.specs.Served.{ending_after}
 use Rattle.dp_engine.specs.Service.{Serves, ServesTo}
 use Rattle.dp_engine.specs.Session.{State, outcome_of}
 use Rattle.dp_meaning.proofs.Exits.{exit_small}
-use Rattle.dp_run.specs.declared.errors.RunError.{RunError}
-use Rattle.dp_run.specs.declared.errors.ProgramError.{ProgramError}
-use Rattle.dp_run.specs.Programs.{IsComplete as IsRunComplete, NamesMake, ProgramCaused}
-use Rattle.dp_run.specs.Runs.{judged as judged_end}
+use Rattle.dp_program.specs.declared.errors.RunError.{RunError}
+use Rattle.dp_program.specs.declared.errors.ProgramError.{ProgramError}
+use Rattle.dp_program.specs.Programs.{IsComplete as IsRunComplete, NamesMake, ProgramCaused}
+use Rattle.dp_program.specs.Runs.{judged as judged_end}
 use Rattle.dp_state.specs.declared.moments.Outcome.{Outcome}
 use Rattle.dp_state.specs.declared.moments.Outcome.TheVariants as way
 use Rattle.dp_top.specs.declared.failures.Failure.{Failure}
@@ -128,8 +128,8 @@ module _ (unsent : Failure) (ask : Invocation) (served : Served) (program : Bund
       → Serves served program ask.bound key input out err
       → MatchResult result (λ status. ServedSo unsent status program key ask input out err)
       (λ why. UnservedSo unsent why.failure why.name.now program key ask input out err)
-  served_told (Ok status) told s = record { served = served; serves = s; told = sym told }
-  served_told (Err why) told s = inr (record { served = served; serves = s; told = sym told })
+  served_told (Ok status) told s = record { served = served; serves = s; reported = sym told }
+  served_told (Err why) told s = inr (record { served = served; serves = s; reported = sym told })
 
 -- ---- a session over the program of the files
 
@@ -143,14 +143,17 @@ module _ (key : List ℕ) (ask : Invocation) (old new : Seen) where
       → MatchResult result (λ status. Talks status key ask old new)
       (λ why. TalkFails why.failure why.name.now key ask old new)
   program_served program made (Ok status) h =
-      record { served = h.served; is = record { program = program; made = made; serves = h.serves }; told = h.told }
+      record {
+        served = h.served;
+        is = record { program = program; made = made; serves = h.serves };
+        reported = h.reported;
+      }
   program_served program made (Err why) (inl memory) = inl (memory.0, inl memory.1)
   program_served program made (Err why) (inr h) =
       inr (inr (record {
         served = h.served;
         is = record { program = program; made = made; serves = h.serves };
-        told =
-            h.told;
+        reported = h.reported;
       }))
 
   pub none_served : (refused : Refused) (why : ProgramError)
@@ -158,7 +161,7 @@ module _ (key : List ℕ) (ask : Invocation) (old new : Seen) where
       → IsProgramReported refused.failure refused.name.now ask why → AreIdle old new
       → TalkFails refused.failure refused.name.now key ask old new
   none_served refused why caused told idle =
-      inr (inl (record { cause = why; caused = caused; told = told; idle = idle }))
+      inr (inl (record { cause = why; caused = caused; reported = told; idle = idle }))
 
 pub complete_served : (asked : Result Bundle BundleError) (program : Bundle) (result : Result ℕ Refused)
     (before after : ℕ)

@@ -13,12 +13,12 @@ use Rattle.dp_engine.specs.declared.service.ServeEnd.{ServeEnd}
 use Rattle.dp_engine.specs.declared.service.ServeEnd.TheVariants as serve
 use Rattle.dp_engine.specs.Service.{CutBy, EndsBy, IsCut, ServesTo}
 use Rattle.dp_engine.specs.declared.session.SessionEnd.{SessionEnd}
-use Rattle.dp_run.specs.declared.errors.ProgramError.{ProgramError}
-use Rattle.dp_run.specs.declared.errors.ProgramError.TheVariants as none
-use Rattle.dp_run.specs.declared.errors.RunError.{RunError}
-use Rattle.dp_run.specs.declared.errors.RunError.TheVariants as end
-use Rattle.dp_run.specs.Programs.{Files, FilesMake, ProgramCaused, RequestedNames}
-use Rattle.dp_run.specs.Runs.{RunCaused}
+use Rattle.dp_program.specs.declared.errors.ProgramError.{ProgramError}
+use Rattle.dp_program.specs.declared.errors.ProgramError.TheVariants as none
+use Rattle.dp_program.specs.declared.errors.RunError.{RunError}
+use Rattle.dp_program.specs.declared.errors.RunError.TheVariants as end
+use Rattle.dp_program.specs.Programs.{Files, FilesMake, ProgramCaused, RequestedNames}
+use Rattle.dp_program.specs.Runs.{RunCaused}
 use Rattle.dp_state.specs.declared.moments.Outcome.{Outcome}
 use Rattle.dp_state.specs.declared.moments.Outcome.TheVariants as way
 use Rattle.dp_top.specs.declared.failures.Refused.{Refused}
@@ -36,7 +36,7 @@ use Rattle.dp_top.specs.Seen.{NoneRose, Seen, Stream, changed}
 use Rattle.dp_top.specs.Talk.{EndReport, EndsSo, TalkFails, ended, judged_by}
 use Rattle.dp_top.specs.Tasks.{failure_of, ShowCaused, Does, Caused, Fails, IsFetchedFor, before_line}
 use Rattle.dp_top.proofs.RunReports.{bad_source, nothing_fetched}
-use Rattle.dp_run.proofs.GrownNames.{grown_by_none}
+use Rattle.dp_program.proofs.GrownNames.{grown_by_none}
 
 -- the name of a task
 abbrev name_of : Task → List ℕ
@@ -98,16 +98,16 @@ word_at n words = get_or words n []
 pub one_task : (words : List (List ℕ)) (task other : Task) → IsInvocation words task → IsInvocation words other
     → task ≡ other
 one_task words (run ask) (run other) p q =
-    let same = asks_same words p.behind q.behind (codes "run") _ _ p.words_are q.words_are p.follows.asked
-    q.follows.asked in
+    let same = asks_same words p.behind q.behind (codes "run") _ _ p.words_are q.words_are p.follows.invocation
+    q.follows.invocation in
     λ i. run (record { bound = bound_in (same i); names = names_in (same i) })
 one_task words (talk key ask) (talk k other) p q =
-    let same = asks_same words p.behind q.behind (codes "talk") _ _ p.words_are q.words_are p.speaks.asked
-    q.speaks.asked in
+    let same = asks_same words p.behind q.behind (codes "talk") _ _ p.words_are q.words_are p.speaks.invocation
+    q.speaks.invocation in
     λ i. talk (word_at 0 (names_in (same i))) (record { bound = bound_in (same i); names = drop 1 (names_in (same i)) })
 one_task words (engine address key ask) (engine other k asked) p q =
-    let same = asks_same words p.behind q.behind (codes "engine") _ _ p.words_are q.words_are p.dials.asked
-    q.dials.asked in
+    let same = asks_same words p.behind q.behind (codes "engine") _ _ p.words_are q.words_are p.dials.invocation
+    q.dials.invocation in
     let ports : Some address.port ≡ Some other.port =
     sym p.dials.port ∙ ap (λ (o : Option Invocation). port_of (word_at 1 (names_in o))) same ∙ q.dials.port in
     λ i. engine (record { host = word_at 0 (names_in (same i)); port = number_in (ports i) })
@@ -120,8 +120,8 @@ one_task words (ide port script) (ide other s) p q =
     q.is_port in
     λ i. ide (number_in (ports i)) (word_at 2 (same i))
 one_task words (replay events ask) (replay e other) p q =
-    let same = asks_same words p.behind q.behind (codes "replay") _ _ p.words_are q.words_are p.replays.asked
-    q.replays.asked in
+    let same = asks_same words p.behind q.behind (codes "replay") _ _ p.words_are q.words_are p.replays.invocation
+    q.replays.invocation in
     λ i. replay (word_at 0 (names_in (same i))) (record {
       bound = bound_in (same i);
       names = drop 1
@@ -244,7 +244,7 @@ replay_starved failed name events ask files before after out (inr (inr (inr h)))
 memory_instead : (failed : Failure) (name : List ℕ) (task : Task) (old new : Seen) → Caused failed name task old new
     → Caused failure.Memory (memory_name task name) task old new
 memory_instead failed name (run ask) old new h =
-    (record { why = h.0.why; caused = h.0.caused; told = inr (refl, refl) }, h.1, h.2, h.3)
+    (record { why = h.0.why; caused = h.0.caused; reported = inr (refl, refl) }, h.1, h.2, h.3)
 memory_instead failed name (talk key ask) old new h = (talk_starved failed name key ask old new h.0, h.1)
 memory_instead failed name (engine address key ask) old new h = engine_starved failed name address key ask old new h
 memory_instead failed name (ide port script) old new h = ide_starved failed name port script old new h
@@ -393,8 +393,8 @@ module _ (failed : Failure) (name key : List ℕ) (ask : Invocation) (old new : 
 
   talk_end : TalkFails failed name key ask old new → IsTalkEnd failed
   talk_end (inl memory) = inr (inr (inr (ap status_of memory.0)))
-  talk_end (inr (inl u)) = unserved u.cause u.caused u.told.0
-  talk_end (inr (inr h)) = by_end h h.served.end refl h.is.serves h.told
+  talk_end (inr (inl u)) = unserved u.cause u.caused u.reported.0
+  talk_end (inr (inr h)) = by_end h h.served.end refl h.is.serves h.reported
 
 -- what the files of the program that is asked for make decides whether it fails by a bad source
 abbrev IsNoBadTask : Task → Refused → Seen → Seen → Type 0
@@ -490,9 +490,9 @@ module _ (failed : Failure) (name : List ℕ) (address : Address) (key : List �
 
   engine_end : EngineFails failed name address key ask old new → IsTalkEnd failed name key ask old new good none failed
   engine_end (inl memory) = inr (inr (inr (ap status_of memory.0)))
-  engine_end (inr (inl u)) = unserved failed name key ask old new good none u.cause u.caused u.told.0
+  engine_end (inr (inl u)) = unserved failed name key ask old new good none u.cause u.caused u.reported.0
   engine_end (inr (inr (inl alone))) = absurd (none.net_not alone.2.undialled.faults)
-  engine_end (inr (inr (inr h))) = engine_by_end h h.served.end refl h.is.serves h.told
+  engine_end (inr (inr (inr h))) = engine_by_end h h.served.end refl h.is.serves h.reported
 
 pub complete_engine_told : (status : ℕ) (words : List (List ℕ)) (task : Task) (old new : Seen) (refused : Refused)
     (A B : Type 0) → IsInvocation words task
@@ -571,7 +571,7 @@ module _ (failed : Failure) (ask : Invocation) (old new : Seen) (good : IsGood f
       → RunFails failed name old.shelf.files old.shelf.faults new.shelf.faults ask (changed old.out new.out)
       → IsEnd failed
   by_told name fails =
-      ⊎_elim (λ t. by_why fails.why fails.caused t.0) (λ starved. inr (ap status_of starved.0)) fails.told
+      ⊎_elim (λ t. by_why fails.why fails.caused t.0) (λ starved. inr (ap status_of starved.0)) fails.reported
 
 pub complete_run_told : (status : ℕ) (words : List (List ℕ)) (task : Task) (old new : Seen) (refused : Refused)
     (A B : Type 0) → IsInvocation words task

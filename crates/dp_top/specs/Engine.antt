@@ -4,8 +4,8 @@ use Rattle.dp_outside.specs.Changes.{Change, IsUntouched}
 use Rattle.dp_tree.specs.declared.bundle.Bundle.{Bundle}
 use Rattle.dp_engine.specs.declared.service.Served.{Served}
 use Rattle.dp_engine.specs.Service.{Serves}
-use Rattle.dp_run.specs.declared.errors.ProgramError.{ProgramError}
-use Rattle.dp_run.specs.Programs.{NamesMake, ProgramCaused}
+use Rattle.dp_program.specs.declared.errors.ProgramError.{ProgramError}
+use Rattle.dp_program.specs.Programs.{NamesMake, ProgramCaused}
 use Rattle.dp_top.specs.declared.failures.Failure.{Failure}
 use Rattle.dp_top.specs.declared.failures.Failure.TheVariants as failure
 use Rattle.dp_words.specs.CommandLine.{Address, Invocation}
@@ -41,7 +41,7 @@ pub record Engages (status : ℕ) (address : Address) (key : List ℕ) (ask : In
     : Type 0 where
   pub served : Served
   pub is : IsServed served address key ask old new
-  pub told : judged ask served ≡ Ok status
+  pub reported : judged ask served ≡ Ok status
 
 -- nothing was dialled, and nothing written
 pub record IsIdle (old new : Seen) : Type 0 where
@@ -54,7 +54,7 @@ pub record IsUnserved (why : Failure) (name : List ℕ) (ask : Invocation)
     (old new : Seen) : Type 0 where
   pub cause : ProgramError
   pub caused : ProgramCaused cause old.shelf.files old.shelf.faults new.shelf.faults ask.names
-  pub told : IsProgramReported why name ask cause
+  pub reported : IsProgramReported why name ask cause
   pub idle : IsIdle old new
 
 -- the dial failed: the program did not run
@@ -75,7 +75,7 @@ pub record EndsSo (why : Failure) (name : List ℕ) (address : Address) (key : L
     (old new : Seen) : Type 0 where
   pub served : Served
   pub is : IsServed served address key ask old new
-  pub told : judged ask served ≡ Err (why, name)
+  pub reported : judged ask served ≡ Err (why, name)
 
 -- the link was dialled, and came back unused: memory ran out before the session began
 pub record IsUnused (address : Address) (old new : Seen) : Type 0 where

@@ -1,9 +1,8 @@
 -- The command `ide`: what it does, and why it fails.
-use Rattle.std.specs.Prelude.{◌≡◌, ◌⊎◌, ℕ, ◌<◌, ◌≤◌, List, [], length, Result, Ok, Err}
-use Rattle.dp_outside.specs.Causes.{Rose}
+use Rattle.std.specs.Prelude.{◌≡◌, ◌⊎◌, ℕ, ◌≤◌, List, [], length, Result, Ok, Err}
 use Rattle.dp_outside.specs.Changes.{Change, IsUntouched}
-use Rattle.dp_outside.specs.Files.{Fetches, Lacks}
-use Rattle.dp_run.specs.Programs.{Files}
+use Rattle.dp_outside.specs.Files.{Fetches}
+use Rattle.dp_program.specs.Programs.{Files}
 use Rattle.dp_ide.specs.declared.errors.IdeError.{IdeError}
 use Rattle.dp_ide.specs.declared.errors.IdeError.TheVariants as ends
 use Rattle.dp_ide.specs.declared.instruction.Instruction.{Instruction}
@@ -13,7 +12,7 @@ use Rattle.dp_top.specs.declared.failures.Failure.{Failure}
 use Rattle.dp_top.specs.declared.failures.Failure.TheVariants as failure
 use Rattle.dp_top.specs.Engine.{IsApart, IsIdle}
 use Rattle.dp_top.specs.Links.{IsAccepted, IsUncalled}
-use Rattle.dp_top.specs.Lines.{lines_limit}
+use Rattle.dp_top.specs.Lines.{IsNone, Unread, lines_limit}
 use Rattle.dp_top.specs.Seen.{Seen, changed}
 
 -- ---- the script
@@ -26,16 +25,9 @@ pub record IsScriptFile (files : Files) (name : List ℕ) (instructions : List I
     pub fits : length content ≤ lines_limit
     pub is_script : IsScript content instructions
 
--- Where a file is no script: the first line that is none of a script, or 0 where it is too long.
-abbrev pub IsBadAt : List ℕ → ℕ → Type 0
-IsBadAt content line =
-    ((line ≡ 0) × (lines_limit < length content))
-    ⊎ ((length content ≤ lines_limit) × IsFirstBad content line)
-
-pub record IsNoScript (files : Files) (name : List ℕ) (line : ℕ) : Type 0 where
-  pub content : List ℕ
-  pub fetched : Fetches files name lines_limit content
-  pub bad : IsBadAt content line
+-- the file is no script, from this line on
+abbrev pub IsNoScript : Files → List ℕ → ℕ → Type 0
+IsNoScript files name line = IsNone IsFirstBad files name line
 
 -- ---- what it does
 
@@ -65,14 +57,6 @@ failure_of ends.ReadFault = failure.Network
 failure_of ends.WriteFault = failure.Network
 failure_of ends.OutFault = failure.Output
 failure_of ends.Memory = failure.Memory
-
--- there is no script: the shelf failed, lacks it, or what it has is none
-abbrev pub Unread : Failure → List ℕ → List ℕ → Files → ℕ → ℕ → Type 0
-Unread failure.ShelfFailed name script files before after = (name ≡ script) × Rose before after
-Unread failure.NoFile name script files before after = (name ≡ script) × Lacks files script
-Unread (failure.Script line) name script files before after =
-    (name ≡ []) × IsNoScript files script line
-Unread other name script files before after = ⊥
 
 -- there is a script, and no link came
 pub record IsUnmet (port : ℕ) (script : List ℕ) (old new : Seen) : Type 0 where
@@ -105,5 +89,6 @@ IsAlone why name port script old new =
 abbrev pub IdeFails : Failure → List ℕ → ℕ → List ℕ → Seen → Seen → Type 0
 IdeFails why name port script old new =
     ((why ≡ failure.Memory) × IsStarved port script old new)
-    ⊎ (Unread why name script old.shelf.files old.shelf.faults new.shelf.faults × IsIdle old new)
+    ⊎ (Unread IsFirstBad why name script old.shelf.files old.shelf.faults new.shelf.faults
+    × IsIdle old new)
     ⊎ IsAlone why name port script old new ⊎ EndsSo why name port script old new

@@ -1,21 +1,20 @@
 -- The command `replay`: what it does, and why it fails.
-use Rattle.std.specs.Prelude.{◌≡◌, ◌⊎◌, ℕ, ◌<◌, ◌≤◌, List, [], length, Result, Ok, Err}
-use Rattle.dp_outside.specs.Causes.{Rose}
+use Rattle.std.specs.Prelude.{◌≡◌, ◌⊎◌, ℕ, ◌≤◌, List, [], length, Result, Ok, Err}
 use Rattle.dp_outside.specs.Changes.{Change, IsUntouched}
-use Rattle.dp_outside.specs.Files.{Fetches, Lacks}
+use Rattle.dp_outside.specs.Files.{Fetches}
 use Rattle.dp_tree.specs.declared.bundle.Bundle.{Bundle}
 use Rattle.dp_lists.specs.declared.event.Event.{Event}
 use Rattle.dp_lists.specs.Lists.{IsFirstBad, IsList}
-use Rattle.dp_run.specs.declared.errors.ProgramError.{ProgramError}
-use Rattle.dp_run.specs.declared.errors.ProgramError.TheVariants as none
-use Rattle.dp_run.specs.Programs.{Files, NamesMake, ProgramCaused}
+use Rattle.dp_program.specs.declared.errors.ProgramError.{ProgramError}
+use Rattle.dp_program.specs.declared.errors.ProgramError.TheVariants as none
+use Rattle.dp_program.specs.Programs.{Files, NamesMake, ProgramCaused}
 use Rattle.dp_world.specs.declared.errors.ReplayError.{ReplayError}
 use Rattle.dp_world.specs.declared.errors.ReplayError.TheVariants as ends
 use Rattle.dp_world.specs.Replays.{Replays}
 use Rattle.dp_top.specs.declared.failures.Failure.{Failure}
 use Rattle.dp_top.specs.declared.failures.Failure.TheVariants as failure
 use Rattle.dp_words.specs.CommandLine.{Invocation}
-use Rattle.dp_top.specs.Lines.{lines_limit}
+use Rattle.dp_top.specs.Lines.{IsNone, Unread, lines_limit}
 use Rattle.dp_top.specs.Runs.{IsProgramReported}
 
 -- ---- the list of events
@@ -27,17 +26,9 @@ pub record IsListFile (files : Files) (name : List ℕ) (events : List Event) : 
   pub fits : length content ≤ lines_limit
   pub is_list : IsList content events
 
--- Where a file is no list: the first line that adds nothing to those before it, or 0 where it is
--- too long.
-abbrev pub IsBadAt : List ℕ → ℕ → Type 0
-IsBadAt content line =
-    ((line ≡ 0) × (lines_limit < length content))
-    ⊎ ((length content ≤ lines_limit) × IsFirstBad content line)
-
-pub record IsNoList (files : Files) (name : List ℕ) (line : ℕ) : Type 0 where
-  pub content : List ℕ
-  pub fetched : Fetches files name lines_limit content
-  pub bad : IsBadAt content line
+-- the file is no list, from this line on
+abbrev pub IsNoList : Files → List ℕ → ℕ → Type 0
+IsNoList files name line = IsNone IsFirstBad files name line
 
 -- ---- what it does
 
@@ -56,15 +47,6 @@ DoesReplay status events ask files out =
 
 -- ---- why it fails
 
--- there is no list: the shelf failed, lacks it, or what it has is none
-abbrev pub Unlisted : Failure → List ℕ → List ℕ → Files → ℕ → ℕ → Type 0
-Unlisted failure.ShelfFailed name events files before after =
-    (name ≡ events) × Rose before after
-Unlisted failure.NoFile name events files before after = (name ≡ events) × Lacks files events
-Unlisted (failure.Script line) name events files before after =
-    (name ≡ []) × IsNoList files events line
-Unlisted other name events files before after = ⊥
-
 -- the list is read before a file of the program is refused
 abbrev pub ReadBefore : ProgramError → Files → List ℕ → Type 0
 ReadBefore (none.TooLong file) files name = (events : List Event) × IsListFile files name events
@@ -78,7 +60,7 @@ pub record IsUnreplayed (why : Failure) (name events : List ℕ) (ask : Invocati
   pub cause : ProgramError
   pub caused : ProgramCaused cause files before after ask.names
   pub read : ReadBefore cause files events
-  pub told : IsProgramReported why name ask cause
+  pub reported : IsProgramReported why name ask cause
 
 -- the output failed
 pub record IsCutShort (why : Failure) (name events : List ℕ) (ask : Invocation) (files : Files)
@@ -97,6 +79,6 @@ IsStarved events ask files out =
 abbrev pub ReplayFails : Failure → List ℕ → List ℕ → Invocation → Files → ℕ → ℕ → Change → Type 0
 ReplayFails why name events ask files before after out =
     ((why ≡ failure.Memory) × IsStarved events ask files out)
-    ⊎ (Unlisted why name events files before after × IsUntouched out)
+    ⊎ (Unread IsFirstBad why name events files before after × IsUntouched out)
     ⊎ (IsUnreplayed why name events ask files before after × IsUntouched out)
     ⊎ IsCutShort why name events ask files out

@@ -2,12 +2,12 @@
 use Rattle.std.specs.Prelude.{◌≡◌, ◌⊎◌, ℕ, List, [], get_or, take, Option, None, Some}
 use Rattle.dp_outside.specs.Changes.{Change}
 use Rattle.dp_outside.specs.Reports.{grown}
-use Rattle.dp_run.specs.declared.errors.ProgramError.{ProgramError}
-use Rattle.dp_run.specs.declared.errors.ProgramError.TheVariants as none
-use Rattle.dp_run.specs.declared.errors.RunError.{RunError}
-use Rattle.dp_run.specs.declared.errors.RunError.TheVariants as run
-use Rattle.dp_run.specs.Programs.{Files, RequestedNames}
-use Rattle.dp_run.specs.Runs.{RunCaused}
+use Rattle.dp_program.specs.declared.errors.ProgramError.{ProgramError}
+use Rattle.dp_program.specs.declared.errors.ProgramError.TheVariants as none
+use Rattle.dp_program.specs.declared.errors.RunError.{RunError}
+use Rattle.dp_program.specs.declared.errors.RunError.TheVariants as run
+use Rattle.dp_program.specs.Programs.{Files, RequestedNames}
+use Rattle.dp_program.specs.Runs.{RunCaused}
 use Rattle.dp_top.specs.declared.failures.Failure.{Failure}
 use Rattle.dp_top.specs.declared.failures.Failure.TheVariants.{TooLong, ShelfFailed, NoFile, Fatal, Bound, Output, Memory}
 use Rattle.dp_words.specs.CommandLine.{Invocation}
@@ -81,4 +81,4 @@ pub record RunFails (failure : Failure) (name : List ℕ) (files : Files) (befor
     (ask : Invocation) (out : Change) : Type 0 where
   pub why : RunError
   pub caused : RunCaused why files before after ask.names ask.bound out
-  pub told : IsReportedOrStarved failure name ask why
+  pub reported : IsReportedOrStarved failure name ask why

@@ -7,7 +7,7 @@ use Rattle.dp_outside.specs.declared.links.Dialer as dialer_of
 use Rattle.dp_outside.specs.declared.shelves.Shelf as shelf_of
 use Rattle.dp_outside.specs.declared.sinks.Sink as sink_of
 use Rattle.dp_outside.specs.declared.sources.Source as source_of
-use Rattle.dp_run.specs.Programs.{Files, RequestedNames}
+use Rattle.dp_program.specs.Programs.{Files, RequestedNames}
 
 -- the bytes that a source still gives or that a sink has taken, where it tells them
 pub record Stream : Type 0 where

@@ -6,11 +6,11 @@ use Rattle.dp_engine.specs.declared.service.ServeEnd.{ServeEnd}
 use Rattle.dp_engine.specs.declared.service.ServeEnd.TheVariants.{Stopped, Detached, LinkEnd, ReadFault, WriteFault, OutFault, BadCommandFrame, ByteLimit, Memory}
 use Rattle.dp_engine.specs.declared.service.Served.{Served}
 use Rattle.dp_engine.specs.Service.{Serves}
-use Rattle.dp_run.specs.declared.errors.RunError.{RunError}
-use Rattle.dp_run.specs.declared.errors.ProgramError.{ProgramError}
-use Rattle.dp_run.specs.Programs.{NamesMake, ProgramCaused}
-use Rattle.dp_run.specs.Runs.{judged as judged_end}
-use Rattle.dp_serving.specs.Service.{byte_limit}
+use Rattle.dp_program.specs.declared.errors.RunError.{RunError}
+use Rattle.dp_program.specs.declared.errors.ProgramError.{ProgramError}
+use Rattle.dp_program.specs.Programs.{NamesMake, ProgramCaused}
+use Rattle.dp_program.specs.Runs.{judged as judged_end}
+use Rattle.dp_conversation.specs.Service.{byte_limit}
 use Rattle.dp_state.specs.declared.moments.Outcome.{Outcome}
 use Rattle.dp_top.specs.declared.failures.Failure.{Failure}
 use Rattle.dp_top.specs.declared.failures.Failure.TheVariants as failure
@@ -67,7 +67,7 @@ pub record IsServed (served : Served) (key : List ℕ) (ask : Invocation)
 pub record Talks (status : ℕ) (key : List ℕ) (ask : Invocation) (old new : Seen) : Type 0 where
   pub served : Served
   pub is : IsServed served key ask old new
-  pub told : judged ask served ≡ Ok status
+  pub reported : judged ask served ≡ Ok status
 
 -- nothing was read or written
 pub record IsIdle (input out err : Change) : Type 0 where
@@ -84,7 +84,7 @@ pub record IsUnserved (why : Failure) (name : List ℕ) (ask : Invocation)
     (old new : Seen) : Type 0 where
   pub cause : ProgramError
   pub caused : ProgramCaused cause old.shelf.files old.shelf.faults new.shelf.faults ask.names
-  pub told : IsProgramReported why name ask cause
+  pub reported : IsProgramReported why name ask cause
   pub idle : AreIdle old new
 
 -- The session was served, and its end is this failure. What `out` and `err` have taken then is said
@@ -93,7 +93,7 @@ pub record EndsSo (why : Failure) (name key : List ℕ) (ask : Invocation)
     (old new : Seen) : Type 0 where
   pub served : Served
   pub is : IsServed served key ask old new
-  pub told : judged ask served ≡ Err (why, name)
+  pub reported : judged ask served ≡ Err (why, name)
 
 -- memory ran out before the session began, or once it was served, to whatever end
 abbrev pub IsStarved : List ℕ → Invocation → Seen → Seen → Type 0

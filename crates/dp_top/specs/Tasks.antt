@@ -11,8 +11,8 @@ use Rattle.dp_top.specs.Engine.{Engages, EngineFails}
 use Rattle.dp_top.specs.Ide.{Plays, IdeFails}
 use Rattle.dp_top.specs.Replay.{DoesReplay, ReplayFails}
 use Rattle.dp_top.specs.Failures.{status_of, line_of, Says}
-use Rattle.dp_run.specs.Runs.{Runs}
-use Rattle.dp_run.specs.Programs.{RequestedNames}
+use Rattle.dp_program.specs.Runs.{Runs}
+use Rattle.dp_program.specs.Programs.{RequestedNames}
 use Rattle.dp_top.specs.Runs.{AreFetched, IsFetched, RunFails}
 use Rattle.dp_top.specs.Seen.{Seen, Stream, changed}
 use Rattle.dp_top.specs.Talk.{Talks, TalkFails}

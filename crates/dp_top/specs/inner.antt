@@ -1,4 +1,5 @@
 -- What only proofs use. No clause of the top call cites these.
+pub mod BadLines
 pub mod Dialled
 pub mod Gated
 pub mod Completeness

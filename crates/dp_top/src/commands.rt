@@ -1,4 +1,4 @@
-//! What each command does.
+//! Hands each command to the function of its file, and makes its end a status or a `Failure`. `show` stands here.
 ghost use Rattle.std.specs.Prelude.{◌≡◌, ◌≤◌, ℕ, List, [], Ok, Some, IfOk, MatchResult};
 ghost use Rattle.dp_outside.specs.Changes.{change};
 ghost use Rattle.dp_show.specs.Shows.{Shows};
@@ -63,7 +63,7 @@ pub(crate) fn carry_out<'a, R: Wait + Sync, H: Shelf, S: Source, K: Sink, E: Sin
     command: Command<'a>,
     objects: &mut Objects<H, S, K, E, N>,
 ) -> Result<u8, Refused<'a>>
-    requires asked { (words : List (List ℕ)) × IsInvocation words (task_of command) }
+    requires invocation { (words : List (List ℕ)) × IsInvocation words (task_of command) }
 
     ensures ends { MatchResult result
         (λ status. Does status (task_of command.entry) objects.old.seen objects.new.seen)
@@ -103,7 +103,7 @@ pub(crate) fn carry_out_on<'a, R: Wait + Sync, H: Shelf, S: Source, K: Sink, E: 
     err: &mut E,
     net: &mut N,
 ) -> Result<u8, Refused<'a>>
-    requires asked { (words : List (List ℕ)) × IsInvocation words (task_of command) }
+    requires invocation { (words : List (List ℕ)) × IsInvocation words (task_of command) }
 
     ensures ends { MatchResult result
         (λ status. Does status (task_of command.entry) (seen H.Shelf S.Source K.Sink E.Sink N.Dialer N.shut_doors

@@ -16,7 +16,7 @@ use crate::objects::Objects;
 use crate::run::refusal_of_program;
 use crate::sessions::serve_program;
 use dp_outside::{Host, Net, Shelf, Sink, Source};
-use dp_run::fetch_program;
+use dp_program::fetch_program;
 use dp_tree::Bundle;
 use dp_words::Engine;
 use std::alloc::Global;

@@ -93,8 +93,8 @@ pub(crate) enum Failure {
 /// A failure, and the name of the file that it is of, where it is of one, else nothing.
 #[derive(Debug, Drop)]
 pub(crate) struct Refused<'a> {
-    pub failure: Failure,
-    pub name: &'a [u8],
+    pub(crate) failure: Failure,
+    pub(crate) name: &'a [u8],
 }
 
 impl<'a> Refused<'a> {
@@ -345,7 +345,7 @@ pub(crate) fn say<E: Sink>(err: &mut E, line: &[u8])
 
 /// Tells a failure on the error output, and answers its status; out of memory where there is none for its line.
 pub(crate) fn report<E: Sink>(alloc: Global, failure: &Failure, file: &[u8], err: &mut E) -> u8
-    ensures told { ((result ≡ status_of failure.now)
+    ensures reported { ((result ≡ status_of failure.now)
         × Says (change E.taken E.faults err.old err.new) (line_of failure.now file.now))
         ⊎ ((result ≡ 209) × Says (change E.taken E.faults err.old err.new) (codes "out of memory\n")) }
     ensures later { E.faults err.old ≤ E.faults err.new }

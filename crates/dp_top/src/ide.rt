@@ -2,9 +2,11 @@
 ghost use Rattle.std.specs.Prelude.{◌≡◌, ◌≤◌, [], ◌∷◌, Ok, Some, IfOk, IfErr, MatchResult};
 ghost use Rattle.dp_outside.specs.Changes.{change};
 ghost use Rattle.dp_outside.specs.Reports.{BeginsEmpty, grown};
+ghost use Rattle.dp_ide.specs.Scripts.{IsFirstBad};
 ghost use Rattle.dp_top.specs.Ide.{IdeFails, IsScriptFile, Plays, failure_of};
 ghost use Rattle.dp_top.specs.Seen.{net_seen};
-ghost use Rattle.dp_top.specs.inner.Gated.{GatedSo, IsBadScript, IsReportedBy, IsWholeScript, MetSo, UnreadSo};
+ghost use Rattle.dp_top.specs.inner.BadLines.{AreNone, UnreadSo};
+ghost use Rattle.dp_top.specs.inner.Gated.{GatedSo, IsReportedBy, IsWholeScript, MetSo};
 ghost use Rattle.dp_top.specs.inner.Kept.{GoesOn};
 
 use crate::failures::{Failure, Refused};
@@ -43,7 +45,7 @@ fn failure_of(why: IdeError) -> Failure
 /// The script that bytes are.
 fn script_in<'a>(alloc: Global, bytes: &[u8]) -> Result<Script, Refused<'a>>
     ensures script { IfOk result (IsWholeScript bytes.now) }
-    ensures bad { IfErr result (λ why. IsBadScript why.failure why.name.now bytes.now) }
+    ensures bad { IfErr result (λ why. AreNone IsFirstBad why.failure why.name.now bytes.now) }
 {
     if bytes.len() > LINES_LIMIT {
         return Err(Refused::unnamed(Failure::Script { line: 0 }));
@@ -61,7 +63,7 @@ fn fetch_script<'a, H: Shelf>(
     shelf: &mut H,
 ) -> Result<Script, Refused<'a>>
     ensures held { IfOk result (IsScriptFile (H.files shelf.old) script.now) }
-    ensures unread { IfErr result (λ why. UnreadSo why.failure why.name.now script.now (H.files shelf.old)
+    ensures unread { IfErr result (λ why. UnreadSo IsFirstBad why.failure why.name.now script.now (H.files shelf.old)
         (H.faults shelf.old) (H.faults shelf.new)) }
     ensures fetched { H.fetched shelf.new ≡ grown (H.fetched shelf.old) (script.now ∷ []) }
     ensures files { H.files shelf.new ≡ H.files shelf.old }

@@ -6,7 +6,8 @@ ghost use Rattle.dp_outside.specs.Reports.{grown};
 ghost use Rattle.dp_bundle.specs.Bundles.{AreForBundle};
 ghost use Rattle.dp_bundle.specs.declared.errors.BundleError.{BundleError as Unmade};
 ghost use Rattle.dp_lists.specs.declared.event.Event.{Event};
-ghost use Rattle.dp_run.specs.Programs.{FilesMake};
+ghost use Rattle.dp_lists.specs.Lists.{IsFirstBad};
+ghost use Rattle.dp_program.specs.Programs.{FilesMake};
 ghost use Rattle.dp_tree.specs.declared.bundle.Bundle.{Bundle as Made};
 ghost use Rattle.dp_tree.specs.FileNames.{AreFileNames};
 ghost use Rattle.dp_words.specs.CommandLine.{AreFileWords};
@@ -14,9 +15,9 @@ ghost use Rattle.dp_words.specs.Commands.{invocation_seen};
 ghost use Rattle.dp_top.specs.Lines.{lines_limit};
 ghost use Rattle.dp_top.specs.Replay.{IsListFile};
 ghost use Rattle.dp_top.specs.Runs.{AreFetched};
+ghost use Rattle.dp_top.specs.inner.BadLines.{AreNone, UnreadSo};
 ghost use Rattle.dp_top.specs.inner.Completeness.{IsComplete};
-ghost use Rattle.dp_top.specs.inner.EventLists.{CompleteFetched, EndsFetched, EndsOver, EndsReplay, IsBadList};
-ghost use Rattle.dp_top.specs.inner.EventLists.{IsWholeList, UnlistedSo};
+ghost use Rattle.dp_top.specs.inner.EventLists.{CompleteFetched, EndsFetched, EndsOver, EndsReplay, IsWholeList};
 
 use crate::failures::{Failure, Refused};
 use crate::lines::{LINES_LIMIT, unfetched};
@@ -24,7 +25,7 @@ use crate::run::refusal_of_program;
 use dp_engine::Steps;
 use dp_lists::{Events, ListError};
 use dp_outside::{Bytes1, Shelf, Sink};
-use dp_run::{fetch_files, make_program};
+use dp_program::{fetch_files, make_program};
 use dp_tree::Bundle;
 use dp_value::{Bytes, Items};
 use dp_words::Replay;
@@ -40,7 +41,7 @@ fn fetch_list<'a, H: Shelf>(
     shelf: &mut H,
 ) -> Result<Bytes1, Refused<'a>>
     ensures held { IfOk result (Fetches (H.files shelf.old) events.now lines_limit) }
-    ensures unlisted { IfErr result (λ why. UnlistedSo why.failure why.name.now events.now (H.files shelf.old)
+    ensures unlisted { IfErr result (λ why. UnreadSo IsFirstBad why.failure why.name.now events.now (H.files shelf.old)
         (H.faults shelf.old) (H.faults shelf.new)) }
     ensures fetched { H.fetched shelf.new ≡ grown (H.fetched shelf.old) (events.now ∷ []) }
     ensures files { H.files shelf.new ≡ H.files shelf.old }
@@ -55,7 +56,7 @@ fn fetch_list<'a, H: Shelf>(
 /// The list of events that bytes are.
 fn list_in<'a>(alloc: Global, bytes: &[u8]) -> Result<Events, Refused<'a>>
     ensures list { IfOk result (IsWholeList bytes.now) }
-    ensures bad { IfErr result (λ why. IsBadList why.failure why.name.now bytes.now) }
+    ensures bad { IfErr result (λ why. AreNone IsFirstBad why.failure why.name.now bytes.now) }
 {
     if bytes.len() > LINES_LIMIT {
         return Err(Refused::unnamed(Failure::Script { line: 0 }));

@@ -3,8 +3,8 @@ ghost use Rattle.std.specs.Prelude.{◌≡◌, ◌≤◌, map, string_bytes, Som
 ghost use Rattle.dp_outside.specs.Changes.{change};
 ghost use Rattle.dp_tree.specs.declared.bundle.Bundle.{Bundle};
 ghost use Rattle.dp_bundle.specs.declared.errors.BundleError.{BundleError as Unmade};
-ghost use Rattle.dp_run.specs.Programs.{FilesMake};
-ghost use Rattle.dp_run.specs.Runs.{Runs};
+ghost use Rattle.dp_program.specs.Programs.{FilesMake};
+ghost use Rattle.dp_program.specs.Runs.{Runs};
 ghost use Rattle.dp_words.specs.CommandLine.{AreFileWords};
 ghost use Rattle.dp_words.specs.Commands.{invocation_seen};
 ghost use Rattle.dp_top.specs.Runs.{IsFetched, IsProgramReported, IsRunReported, failure_of, name_at as name_in};
@@ -14,7 +14,7 @@ ghost use Rattle.dp_top.specs.inner.Completeness.{IsComplete};
 
 use crate::failures::{Failure, Refused, refusal};
 use dp_outside::{Shelf, Sink};
-use dp_run::{ProgramError, RunError};
+use dp_program::{ProgramError, RunError};
 use dp_words::Program;
 use std::alloc::Global;
 
@@ -133,7 +133,7 @@ pub(crate) fn run<'a, H: Shelf, K: Sink>(
     ensures files { H.files shelf.new ≡ H.files shelf.old }
     ensures out_later { K.faults out.old ≤ K.faults out.new }
 {
-    match dp_run::run(alloc, program.files, program.bound, shelf, out) {
+    match dp_program::run(alloc, program.files, program.bound, shelf, out) {
         Ok(status) => Ok(status),
         Err(why) => Err(refusal_of_run(program, &why)),
     }

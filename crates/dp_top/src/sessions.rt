@@ -10,9 +10,9 @@ ghost use Rattle.dp_top.specs.inner.Sessions.{ServedSo, UnservedSo, reported_in}
 
 use crate::failures::{Failure, Refused};
 use crate::run::refusal_of_run;
+use dp_conversation::BYTE_LIMIT;
 use dp_engine::{ServeEnd, Served, Session, Steps, serve};
 use dp_outside::{Sink, Source};
-use dp_serving::BYTE_LIMIT;
 use dp_state::Outcome;
 use dp_tree::Bundle;
 use dp_words::{Program, Talk};
@@ -25,7 +25,7 @@ fn judge_end<'a>(program: Program<'a>, outcome: Option<Outcome>) -> Result<u8, R
 {
     match outcome {
         None => Err(Refused::unnamed(Failure::Stopped)),
-        Some(outcome) => match dp_run::judge(outcome) {
+        Some(outcome) => match dp_program::judge(outcome) {
             Ok(status) => Ok(status),
             Err(why) => Err(refusal_of_run(program, &why)),
         },

@@ -12,7 +12,7 @@ use crate::objects::Objects;
 use crate::run::refusal_of_program;
 use crate::sessions::serve_program;
 use dp_outside::{Net, Shelf, Sink, Source};
-use dp_run::fetch_program;
+use dp_program::fetch_program;
 use dp_words::Talk;
 use std::alloc::Global;
 use std::marker::Brand;

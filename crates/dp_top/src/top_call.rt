@@ -10,7 +10,7 @@ ghost use Rattle.dp_words.specs.CommandLine.{IsInvocation};
 ghost use Rattle.dp_words.specs.CommandLine.{invocation_in, uses_net};
 ghost use Rattle.dp_words.specs.Plain.{are_plain};
 ghost use Rattle.dp_top.specs.Failures.{Says};
-ghost use Rattle.dp_run.specs.Programs.{FilesMake};
+ghost use Rattle.dp_program.specs.Programs.{FilesMake};
 ghost use Rattle.dp_ide.specs.declared.instruction.Instruction.{Instruction};
 ghost use Rattle.dp_lists.specs.declared.event.Event.{Event};
 ghost use Rattle.dp_top.specs.Ide.{IsNoScript, IsScriptFile};
@@ -52,8 +52,8 @@ use std::sync::Wait;
 /// | 210 | a command stopped the program before its end | `stopped by the IDE` |
 /// | 255 | the program could not go on, or would have had more moments than N | `fatal KIND in NAME on line N`, `bound reached after N steps` |
 ///
-/// It waits in the calls of `input`, of a gate and of a link alone. `show` does not use the shelf, nor `run`, `engine`,
-/// `ide` and `replay` the input; `net` is used by `engine` and `ide` alone, and `spawner` is not used.
+/// It waits in the calls of `input`, of `net`, of a gate and of a link alone. `show` does not use the shelf, nor `run`,
+/// `engine`, `ide` and `replay` the input; `net` is used by `engine` and `ide` alone, and `spawner` is not used.
 pub fn top<R: Wait + Sync, H: Shelf, S: Source, K: Sink, E: Sink, N: Net, P: Spawner>(
     rt: &R,
     alloc: Global,

@@ -196,7 +196,7 @@ fn bare(shape: Shape) -> Property
 /// The property that an evaluation shows of its value: it has no name, and its entries have no full name.
 pub fn shown(alloc: Global, value: &Value, p: &Paging) -> Result<Property, Memory>
     ensures made { IfOk result (λ made. made ≡ spec.shown p.now (data_of value.now)) }
-    // Memory is wanted only for a text and for an array.
+    // Memory is taken only for a text and for an array.
     ensures memory { OnErr result (spec.is_copied (data_of value.now) ≡ true) }
 {
     match value {

@@ -8,10 +8,8 @@ ghost use Rattle.dp_view.specs.NameReader.{byte_at, index_at, int_at, key_at, ke
 ghost use Rattle.dp_view.specs.inner.Items.{behind_items, key_meant, keys_taken, path_taken};
 
 use crate::sorts::{Sort, is_start, run};
+use dp_lexer::NAME_LIMIT;
 use dp_value::int_of_text;
-
-/// The most bytes of a name.
-const LONGEST: usize = 255;
 
 /// How a key is spelt between brackets.
 #[derive(Clone, Copy, Debug)]
@@ -48,7 +46,7 @@ fn name(bytes: &[u8]) -> Option<(&[u8], &[u8])>
     match bytes {
         [b, ..] if is_start(*b) => {
             let (name, rest) = run(Sort::Name, bytes);
-            if name.len() > LONGEST {
+            if name.len() > NAME_LIMIT {
                 return None;
             }
             Some((name, rest))

@@ -1,6 +1,6 @@
 //! What `property_value` shows of a value.
 
-ghost use Rattle.std.specs.Prelude.{◌≡◌, ◌++◌, [], ◌∷◌, IfOk, OnOk};
+ghost use Rattle.std.specs.Prelude.{◌≡◌, IfOk};
 ghost use Rattle.std.specs.Fmt.{signed_decimal};
 ghost use Rattle.dp_packet.specs.Parts.{base64, flag as flag_text};
 ghost use Rattle.dp_packet.specs.Properties.{text_attributes, type_of};
@@ -9,6 +9,7 @@ ghost use Rattle.dp_view.specs.Values as spec;
 
 use crate::Memory;
 use base64::engine::general_purpose::STANDARD;
+use dp_packet::put_attribute;
 use dp_value::{Bytes, Items, Value};
 use itoa::Buffer;
 use std::alloc::Global;
@@ -22,30 +23,12 @@ pub struct ShownValue {
     pub text: Bytes,
 }
 
-/// Puts an attribute behind others.
-fn put(
-    alloc: Global,
-    attributes: &mut Vec<(Bytes, Bytes)>,
-    name: &[u8],
-    value: &[u8],
-) -> Result<(), Memory>
-    ensures { OnOk result (attributes.new.items ≡
-        attributes.old.items ++ (name.now, value.now) ∷ []) }
-{
-    let pair = (
-        Bytes::from_slice(alloc, name)?,
-        Bytes::from_slice(alloc, value)?,
-    );
-    attributes.push(pair)?;
-    Ok(())
-}
-
 /// The attribute of a type alone.
 fn of_type(alloc: Global, name: &[u8]) -> Result<Vec<(Bytes, Bytes)>, Memory>
     ensures { IfOk result (λ attributes. attributes.items ≡ type_of name.now) }
 {
     let mut attributes = Vec::new(alloc);
-    put(alloc, &mut attributes, b"type", name)?;
+    put_attribute(alloc, &mut attributes, b"type", name)?;
     Ok(attributes)
 }
 
@@ -55,14 +38,14 @@ fn of_text(alloc: Global, size: usize) -> Result<Vec<(Bytes, Bytes)>, Memory>
 {
     let mut attributes = Vec::new(alloc);
     let mut buffer = Buffer::new();
-    put(alloc, &mut attributes, b"type", b"string")?;
-    put(
+    put_attribute(alloc, &mut attributes, b"type", b"string")?;
+    put_attribute(
         alloc,
         &mut attributes,
         b"size",
         buffer.format(size).as_bytes(),
     )?;
-    put(alloc, &mut attributes, b"encoding", b"base64")?;
+    put_attribute(alloc, &mut attributes, b"encoding", b"base64")?;
     Ok(attributes)
 }
 

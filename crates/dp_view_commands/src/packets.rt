@@ -1,7 +1,7 @@
 //! Responses, and what fits into them.
 
-ghost use Rattle.std.specs.Prelude.{◌≡◌, ◌+◌, ◌≤◌, ◌∷◌, ◌++◌, [], if◌then◌else◌, codes, decimal, length, Err, Ok, IfOk};
-ghost use Rattle.std.specs.Prelude.{◌*◌, OnOk};
+ghost use Rattle.std.specs.Prelude.{◌≡◌, ◌+◌, ◌≤◌, ◌∷◌, [], if◌then◌else◌, codes, decimal, length, Err, Ok, IfOk};
+ghost use Rattle.std.specs.Prelude.{◌*◌};
 ghost use Rattle.dp_markup.specs.Texts.{attribute_text};
 ghost use Rattle.dp_packet.specs.Sizes.{short_size_limit};
 ghost use Rattle.dp_view.specs.Answers.{AnswersSurely};
@@ -10,7 +10,7 @@ ghost use Rattle.dp_view_commands.specs.inner.Responses.{around};
 ghost use Rattle.dp_wire.specs.Frames.{packet_limit};
 
 use dp_command::Addressee;
-use dp_packet::{Body, Packet, Response, short_size, text_size};
+use dp_packet::{Body, Packet, Response, put_attribute, short_size, text_size};
 use dp_value::{Bytes, Items, Memory};
 use dp_view::ViewError;
 use dp_wire::PACKET_LIMIT;
@@ -20,23 +20,8 @@ use std::alloc::Global;
 /// The most bytes of a packet's text.
 const LIMIT: u32 = PACKET_LIMIT as u32;
 
-/// Puts an attribute behind others.
-fn put(
-    alloc: Global,
-    attributes: &mut Vec<(Bytes, Bytes)>,
-    name: &[u8],
-    value: &[u8],
-) -> Result<(), Memory>
-    ensures { OnOk result (attributes.new.items ≡
-        attributes.old.items ++ (name.now, value.now) ∷ []) }
-{
-    let pair = (
-        Bytes::from_slice(alloc, name)?,
-        Bytes::from_slice(alloc, value)?,
-    );
-    attributes.push(pair)?;
-    Ok(())
-}
+/// The size of a response without its command's name, its id and what stands in it.
+const BARE_SIZE: u64 = 98;
 
 /// No attributes.
 pub(crate) fn none(alloc: Global) -> Items<(Bytes, Bytes)>
@@ -55,7 +40,7 @@ pub(crate) fn number(
 {
     let mut attributes = Vec::new(alloc);
     let mut buffer = Buffer::new();
-    put(
+    put_attribute(
         alloc,
         &mut attributes,
         name,
@@ -69,8 +54,8 @@ pub(crate) fn encoded(alloc: Global) -> Result<Items<(Bytes, Bytes)>, Memory>
     ensures { IfOk result (λ made. made ≡ spec.source_attributes) }
 {
     let mut attributes = Vec::new(alloc);
-    put(alloc, &mut attributes, b"success", b"1")?;
-    put(alloc, &mut attributes, b"encoding", b"base64")?;
+    put_attribute(alloc, &mut attributes, b"success", b"1")?;
+    put_attribute(alloc, &mut attributes, b"encoding", b"base64")?;
     Ok(Items::of(attributes))
 }
 
@@ -125,7 +110,8 @@ fn bare_size(to: &Addressee) -> u64
     ensures size { result ≡ around to.now.command to.now.id [] }
     ensures small { result ≤ 98 + 2 * short_size_limit }
 {
-    98 + short_size(b"command", to.command.as_slice())
+    BARE_SIZE
+        + short_size(b"command", to.command.as_slice())
         + short_size(b"transaction_id", to.id.as_slice())
 }
 

@@ -102,7 +102,7 @@ pub fn limited_shown(
     most: u32,
 ) -> Result<Property, ViewError>
     ensures answer { Answers (λ made. made) result (spec.limited_shown (data_of value.now) p.now most) }
-    // Memory is wanted only for a text and for an array.
+    // Memory is taken only for a text and for an array.
     ensures memory { result ≡ Err ViewError.Memory → is_copied (data_of value.now) ≡ true }
 {
     if shown_fits(p, value, most) {

@@ -65,7 +65,7 @@ impl Packets {
         self.dropped
     }
 
-    /// Appends a piece of the stream. Where memory runs out all stays as before.
+    /// Appends a piece of the stream. If memory runs out all stays as before.
     pub fn feed(&mut self, piece: &[u8]) -> Result<(), Memory>
         ensures ok { OnOk result (self.new.held ≡ self.old.held ++ piece.now) }
         ensures dropped { self.new.dropped ≡ self.old.dropped }

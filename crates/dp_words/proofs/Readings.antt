@@ -10,7 +10,8 @@ use Rattle.clap.specs.Faults.{fault_of}
 use Rattle.clap.specs.Lexer.{usize_max}
 use Rattle.clap.specs.Simple.{Shape, subcommand_of}
 use Rattle.clap.specs.Walk.{Row, Text, answers_to}
-use Rattle.dp_words.specs.CommandLine.{Invocation, IsInvocation, Task, Address, EngineWords, IsFileWord, IsKey, ReplayWords, run, talk, engine, ide, replay, show, IsIde, invocation_of, bound_limit, bound_of, default_bound, is_option, not_zero, port_limit, port_of, with_bound}
+use Rattle.dp_outside.specs.Names.{IsKey}
+use Rattle.dp_words.specs.CommandLine.{Invocation, IsInvocation, Task, Address, EngineWords, IsFileWord, ReplayWords, run, talk, engine, ide, replay, show, IsIde, invocation_of, bound_limit, bound_of, default_bound, is_option, not_zero, port_limit, port_of, with_bound}
 use Rattle.dp_value.specs.Decimals.{decimal_in}
 use Rattle.std.proofs.lemmas.Bool.Decides.{nat_tests}
 use Rattle.dp_words.specs.inner.Parsed.{IsParsed, Parsed, invocation_in}
@@ -53,10 +54,10 @@ WantsFiles (ide port script) behind = (number : Text) × (behind ≡ number ∷ 
 WantsFiles show behind = behind ≡ []
 
 wants : (words : List Text) (task : Task) (h : IsInvocation words task) → WantsFiles task (named words task h).0
-wants words (run ask) h = (ask, h.follows.asked, h.follows.files.some)
-wants words (talk key ask) h = (_, h.speaks.asked, omega (arith))
-wants words (engine address key ask) h = (_, h.dials.asked, omega (arith))
-wants words (replay events ask) h = (_, h.replays.asked, omega (arith))
+wants words (run ask) h = (ask, h.follows.invocation, h.follows.files.some)
+wants words (talk key ask) h = (_, h.speaks.invocation, omega (arith))
+wants words (engine address key ask) h = (_, h.dials.invocation, omega (arith))
+wants words (replay events ask) h = (_, h.replays.invocation, omega (arith))
 wants words (ide port script) h = (h.number, refl)
 wants words show h = refl
 
@@ -131,7 +132,13 @@ module _ (b : Bool) (name : Text) (known : Known name (S b name)) (v : Text) (vs
   plain_read = inl (
     fault_known name (S b name) known (v ∷ vs) ∙ ap (λ (f : Kinds). or_else f []) (plain_level b name v vs h hs small),
     record { name = name; bound = None; words = v ∷ vs },
-    record { behind = v ∷ vs; words_are = refl; asked = plain_asked; unbound = λ e. refl; bounded = λ n e. absurd cc },
+    record {
+      behind = v ∷ vs;
+      words_are = refl;
+      invocation = plain_asked;
+      unbound = λ e. refl;
+      bounded = λ n e. absurd cc;
+    },
     name ∷ [],
     refl,
     rows_known name (S b name) known (v ∷ vs) ∙ ap (λ (r : List Row). Some (name, r)) (plain_rows b name v vs h hs),
@@ -176,7 +183,7 @@ module _ (name : Text) (has : has_bound name ≡ true) (known : Known name (S tr
           behind = codes "--bound" ∷ number ∷ v
               ∷ vs;
           words_are = refl;
-          asked = refl;
+          invocation = refl;
           unbound = λ e. absurd cc;
           bounded = λ n e. ap
               (λ (o : Option Text). codes "--bound" ∷ option_map_or (λ (x : Text). x) o [] ∷ v ∷ vs) e;
@@ -250,7 +257,7 @@ show_read [] h = inl (
   fault_known (codes "show") (alone (codes "show")) show_known [] ∙ ap (λ (f : Kinds). or_else f [])
       (alone_fine (codes "show")),
   record { name = codes "show"; bound = None; words = [] },
-  record { behind = []; words_are = refl; asked = refl; unbound = λ e. refl; bounded = λ n e. absurd cc },
+  record { behind = []; words_are = refl; invocation = refl; unbound = λ e. refl; bounded = λ n e. absurd cc },
   codes "show" ∷ [],
   refl,
   rows_known (codes "show") (alone (codes "show")) show_known [],
@@ -407,20 +414,20 @@ more_plain word words h hs = ap₂ (λ (a b : Bool). a && b) h hs
 asks_behind : (task : Task) (words : List Text) (h : IsInvocation words task) → has_bound (name_of task) ≡ true
     → are_bounded (named words task h).0 ≡ true
 asks_behind (run ask) words h b =
-    behind_plain h.behind ask h.follows.asked (files_plain ask.names h.follows.files.named)
+    behind_plain h.behind ask h.follows.invocation (files_plain ask.names h.follows.files.named)
 asks_behind (talk key ask) words h b =
-    behind_plain h.behind _ h.speaks.asked
+    behind_plain h.behind _ h.speaks.invocation
     (more_plain key ask.names (key_plain key h.speaks.session.is_key h.speaks.session.is_none)
     (files_plain ask.names h.speaks.session.files.named))
 asks_behind (engine address key ask) words h b =
     let d = h.dials in
-    behind_plain h.behind _ d.asked
+    behind_plain h.behind _ d.invocation
     (more_plain address.host (d.number ∷ key ∷ ask.names) (plain_if address.host d.host.is_host.some d.host.is_none)
     (more_plain d.number (key ∷ ask.names) (port_plain d.number address.port d.port)
     (more_plain key ask.names (key_plain key d.session.is_key d.session.is_none)
     (files_plain ask.names d.session.files.named))))
 asks_behind (replay events ask) words h b =
-    behind_plain h.behind _ h.replays.asked
+    behind_plain h.behind _ h.replays.invocation
     (more_plain events ask.names (plain_if events h.replays.is_events.is_name.some h.replays.is_events.is_none)
     (files_plain ask.names h.replays.files.named))
 asks_behind (ide port script) words h b = absurd cc
@@ -459,7 +466,7 @@ pub no_engine_read : (words : List Text) (task : Task) (p : Parsed) → IsParsed
     → EngineWords behind address key ask → ⊥) → IsInvocation words task → ⊥
 no_engine_read words (engine address key ask) p is name none asks =
     none asks.behind address key ask (ap invocation_of (sym (behind_read words (engine address key ask) p is asks))
-    ∙ is.asked)
+    ∙ is.invocation)
     asks.dials
 no_engine_read words (run ask) p is name none asks =
     not_named (codes "engine") (run ask) (sym name ∙ name_read words (run ask) p is asks) refl
@@ -492,7 +499,8 @@ pub no_replay_read : (words : List Text) (task : Task) (p : Parsed) → IsParsed
     → ReplayWords behind events ask → ⊥)
     → IsInvocation words task → ⊥
 no_replay_read words (replay events ask) p is name none asks =
-    none asks.behind events ask (ap invocation_of (sym (behind_read words (replay events ask) p is asks)) ∙ is.asked)
+    none asks.behind events ask (ap invocation_of (sym (behind_read words (replay events ask) p is asks))
+    ∙ is.invocation)
     asks.replays
 no_replay_read words (run ask) p is name none asks =
     not_named (codes "replay") (run ask) (sym name ∙ name_read words (run ask) p is asks) refl

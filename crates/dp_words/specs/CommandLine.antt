@@ -1,25 +1,12 @@
 -- The words of a command line, without the program's name, and what they ask for.
-use Rattle.std.specs.Prelude.{◌≡◌, ℕ, zero, suc, ◌≤◌, nat_le, Bool, true, false, ◌&&◌, not, if◌then◌else◌, List, [], ◌∷◌, length, All, codes, ◌==◌, Option, Some, None, option_map}
+use Rattle.std.specs.Prelude.{◌≡◌, ℕ, zero, suc, ◌≤◌, Bool, true, false, ◌&&◌, not, if◌then◌else◌, List, [], ◌∷◌, length, All, codes, ◌==◌, Option, Some, None, option_map}
 use Rattle.std.specs.List.{list_all}
 use Rattle.std.specs.Str.{bytes_eq}
 use Rattle.dp_tree.specs.FileNames.{file_count_limit, file_name_limit}
-use Rattle.dp_outside.specs.Hosts.{IsHost}
+use Rattle.dp_outside.specs.Names.{IsHost, IsKey}
 use Rattle.dp_value.specs.Names.{without_slash}
 use Rattle.dp_value.specs.Decimals.{decimal_in}
 use Rattle.dp_wire.specs.Frames.{has_no_nul}
-
-abbrev pub between : ℕ → ℕ → ℕ → Bool
-between low high byte = nat_le low byte && nat_le byte high
-
--- the most bytes of the key of an IDE
-abbrev pub key_limit : ℕ
-key_limit = 128
-
--- the key of an IDE: 1 to 128 bytes, each from 0x21 to 0x7e
-pub record IsKey (key : List ℕ) : Type 0 where
-  pub some : 1 ≤ length key
-  pub short : length key ≤ key_limit
-  pub graphic : list_all (between 33 126) key ≡ true
 
 -- the name of a file: 1 to 255 bytes without NUL
 pub record IsFileName (name : List ℕ) : Type 0 where
@@ -89,7 +76,7 @@ pub record AreFileWords (names : List (List ℕ)) : Type 0 where
 
 -- what stands behind `run`
 pub record RunWords (words : List (List ℕ)) (ask : Invocation) : Type 0 where
-  pub asked : invocation_of words ≡ Some ask
+  pub invocation : invocation_of words ≡ Some ask
   pub files : AreFileWords ask.names
 
 -- the words are `run [--bound N] FILE..`
@@ -106,7 +93,8 @@ pub record IsSession (key : List ℕ) (ask : Invocation) : Type 0 where
 
 -- what stands behind `talk`
 pub record TalkWords (words : List (List ℕ)) (key : List ℕ) (ask : Invocation) : Type 0 where
-  pub asked : invocation_of words ≡ Some (record { bound = ask.bound; names = key ∷ ask.names })
+  pub invocation : invocation_of words
+      ≡ Some (record { bound = ask.bound; names = key ∷ ask.names })
   pub session : IsSession key ask
 
 -- the words are `talk [--bound N] KEY FILE..`
@@ -136,7 +124,7 @@ pub record Address : Type 0 where
 pub record EngineWords (words : List (List ℕ)) (address : Address) (key : List ℕ) (ask : Invocation)
     : Type 0 where
   pub number : List ℕ
-  pub asked : invocation_of words
+  pub invocation : invocation_of words
       ≡ Some (record { bound = ask.bound; names = address.host ∷ number ∷ key ∷ ask.names })
   pub host : IsHostWord address.host
   pub port : port_of number ≡ Some address.port
@@ -158,7 +146,8 @@ pub record IsIde (words : List (List ℕ)) (port : ℕ) (script : List ℕ) : Ty
 
 -- what stands behind `replay`
 pub record ReplayWords (words : List (List ℕ)) (events : List ℕ) (ask : Invocation) : Type 0 where
-  pub asked : invocation_of words ≡ Some (record { bound = ask.bound; names = events ∷ ask.names })
+  pub invocation : invocation_of words
+      ≡ Some (record { bound = ask.bound; names = events ∷ ask.names })
   pub is_events : IsFileWord events
   pub files : AreFileWords ask.names
 

@@ -2,11 +2,10 @@
 ghost use Rattle.std.specs.Prelude.{◌≡◌, ◌↔◌, ◌∷◌, [], ℕ, false, List, Option, Some, None, IsTrue, IfOk, IfSome};
 ghost use Rattle.std.specs.Prelude.{IfNone};
 ghost use Rattle.std.specs.Prelude.{Ok, codes, map, string_bytes};
-ghost use Rattle.std.specs.List.{list_all};
 ghost use Rattle.std.specs.Option.{option_map};
 ghost use Rattle.dp_words.specs.CommandLine.{Address as AnyAddress, AreFileWords, EngineWords, Invocation, IsFileWord};
-ghost use Rattle.dp_words.specs.CommandLine.{IsHostWord, IsIde, IsInvocation, IsKey, IsSession, ReplayWords, RunWords};
-ghost use Rattle.dp_words.specs.CommandLine.{TalkWords, Task, between, bound_of, invocation_of, port_of};
+ghost use Rattle.dp_words.specs.CommandLine.{IsHostWord, IsIde, IsInvocation, IsSession, ReplayWords, RunWords};
+ghost use Rattle.dp_words.specs.CommandLine.{TalkWords, Task, bound_of, invocation_of, port_of};
 ghost use Rattle.dp_words.specs.Commands.{address_seen, invocation_seen, task_of};
 ghost use Rattle.dp_words.specs.Plain.{are_plain};
 ghost use Rattle.dp_words.specs.inner.Commands.{parsed_seen};
@@ -15,7 +14,7 @@ ghost use Rattle.dp_words.specs.inner.Parsed.{IsParsed, invocation_in, bound_in}
 use crate::names::{are_files, is_file, is_option};
 use crate::parser::{Parsed, parse};
 use crate::plain::are_plain;
-use dp_outside::Host;
+use dp_outside::{Host, KEY_LIMIT, is_name};
 use dp_value::{Memory, decimal};
 use std::alloc::Global;
 
@@ -76,34 +75,6 @@ pub enum Command<'a> {
     Replay(Replay<'a>),
     /// The elements of the packets that are read.
     Show,
-}
-
-/// The most bytes of the key of an IDE.
-const KEY_LIMIT: usize = 128;
-
-/// Whether the bytes are the key of an IDE.
-fn is_key(key: &[u8]) -> bool
-    ensures { IsTrue result ↔ IsKey key.now }
-{
-    if key.is_empty() {
-        return false;
-    }
-    if key.len() > KEY_LIMIT {
-        return false;
-    }
-    are_graphic(key)
-}
-
-fn are_graphic(key: &[u8]) -> bool
-    ensures { result ≡ list_all (between 33 126) key.now }
-{
-    key.iter().all(|byte| is_graphic(*byte))
-}
-
-fn is_graphic(byte: u8) -> bool
-    ensures { result ≡ between 33 126 byte }
-{
-    33 <= byte && byte <= 126
 }
 
 /// How many moments a program may have where the words do not say it.
@@ -181,7 +152,7 @@ fn talk_of<'a>(key: &'a str, program: Program<'a>) -> Option<Talk<'a>>
         × IsSession key.now (invocation_seen program.entry)) }
     ensures none { IfNone result (IsSession key.now (invocation_seen program.entry) → ⊥) }
 {
-    if !is_key(key.as_bytes()) {
+    if !is_name(key.as_bytes(), KEY_LIMIT) {
         return None;
     }
     if is_option(key.as_bytes()) {
@@ -440,7 +411,7 @@ pub fn read_words<'a>(alloc: Global, words: &'a [String]) -> Result<Option<Comma
     ensures found { IfOk result (λ read. IfSome read (λ command. IsInvocation (map string_bytes words.now)
         (task_of command))) }
     ensures none { result ≡ Ok None → (task : Task) → IsInvocation (map string_bytes words.now) task → ⊥ }
-    // Such words are told without any memory.
+    // Such words are refused without any memory.
     ensures plain { are_plain (map string_bytes words.now) ≡ false → result ≡ Ok None }
 {
     if !are_plain(words) {

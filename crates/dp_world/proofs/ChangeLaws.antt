@@ -14,7 +14,7 @@ use Rattle.dp_proxy.specs.Links.{brought, handed, is_broken, effect_of, passed, 
 use Rattle.dp_proxy.specs.Pasts.{Link, New, Asking, Settled, Joined, Ended, Refused, Lead, lead, without_effect, question, listening, opened}
 use Rattle.dp_proxy.specs.Replies.{reply_frame}
 use Rattle.dp_proxy.specs.Invariant.{IsOver}
-use Rattle.dp_proxy.proofs.TurnLaws.{ide_comes, engine_comes, given_before, moved_before, closed_before, heard_more, heard_all, joined_on, joined_over, over_still}
+use Rattle.dp_proxy.proofs.ActLaws.{ide_comes, engine_comes, given_before, moved_before, closed_before, heard_more, heard_all, joined_on, joined_over, over_still}
 use Rattle.dp_registry.specs.Verdicts.{admit_verdict}
 use Rattle.dp_world.specs.declared.engine.Engine.{Engine}
 use Rattle.dp_world.specs.declared.shown.Shown.{Shown}

@@ -10,9 +10,9 @@ use Rattle.dp_engine.specs.Answers.{answer}
 use Rattle.dp_engine.specs.Responses.{init_text}
 use Rattle.dp_engine.specs.Served.{alone, answers_to, ending_after, rest_after}
 use Rattle.dp_engine.specs.Session.{State, opening}
-use Rattle.dp_serving.specs.Folds.{Reply, followed, replies}
-use Rattle.dp_serving.proofs.GrowthLaws.{served_goes_on}
-use Rattle.dp_serving.proofs.ServiceLaws.{replies_append, followed_open, followed_over}
+use Rattle.dp_conversation.specs.Folds.{Reply, followed, replies}
+use Rattle.dp_conversation.proofs.GrowthLaws.{served_goes_on}
+use Rattle.dp_conversation.proofs.ServiceLaws.{replies_append, followed_open, followed_over}
 use Rattle.dp_wire.specs.Frames.{has_no_nul, Splits, IsCommand, command_frame, commands_in, rest_of, packet_frame, packets_in, rest_of_packets}
 use Rattle.dp_wire.proofs.FrameLaws.{same_text}
 use Rattle.dp_wire.proofs.SplitLaws.{framed, commands_split, one_split_lem}

@@ -17,7 +17,7 @@ use Rattle.dp_proxy.specs.declared.events.Act.{Act as ProxyAct}
 use Rattle.dp_proxy.specs.Links.{stream, brought, ends}
 use Rattle.dp_proxy.specs.Pasts.{Link, New, Joined, Ended, Past, Lead, start, came, lead, acts_of}
 use Rattle.dp_proxy.proofs.PassLaws.{stream_push}
-use Rattle.dp_proxy.proofs.TurnLaws.{engine_comes, given_before, moved_before, closed_before, joined_on, joined_over, over_still}
+use Rattle.dp_proxy.proofs.ActLaws.{engine_comes, given_before, moved_before, closed_before, joined_on, joined_over, over_still}
 use Rattle.dp_registry.specs.declared.entry.Entry.{Entry}
 use Rattle.dp_registry.specs.declared.pass.Pass.{Pass}
 use Rattle.dp_world.proofs.EngineLaws.{Begins}
@@ -316,7 +316,7 @@ module _ (bundle : Bundle) (bound : ℕ) (grows : (key bytes more : List ℕ)
       sent =
           subst (λ a. length (stream Up a) ≤ length (alone bundle bound key (stream Down a)))
           (sym (acts_served key pass alone_link served)) served.sent;
-      stands = lines;
+      printed = lines;
     }
 
   pub holds : (events : List Event) → EachReceives bundle bound events

@@ -221,7 +221,7 @@ module _ (bundle : Bundle) (bound : ℕ) (events : List Event) (e : Event) (keep
           → IsWorldAfter bundle bound (events ++ e ∷ []) now after
       passed_stands after effect is stands passes keeps_others put = record {
         came = w.came ++ comes ∷ [];
-        stands = stands;
+        represents = stands;
         past = next_past;
         keys = keys_stay after keeps_others.keys;
         each =
@@ -233,7 +233,7 @@ module _ (bundle : Bundle) (bound : ℕ) (events : List Event) (e : Event) (keep
           → IsWorldAfter bundle bound (events ++ e ∷ []) now mid
       broken_on none stands = record {
         came = w.came ++ comes ∷ [];
-        stands = stands;
+        represents = stands;
         past = next_past;
         keys = keys_stay mid refl;
         each =
@@ -248,7 +248,7 @@ module _ (bundle : Bundle) (bound : ℕ) (events : List Event) (e : Event) (keep
         → IsWorldAfter bundle bound (events ++ e ∷ []) now after
     made_stands after is new stands put = record {
       came = w.came ++ comes ∷ [];
-      stands = stands;
+      represents = stands;
       past = next_past;
       keys =
           put.keys ∙ ap (λ l. l ++ e.link ∷ []) (others.keys ∙ w.keys) ∙ sym
@@ -301,7 +301,7 @@ pub world_begun : (bundle : Bundle) (bound : ℕ) (keeps : Keeps) (links : List 
     → links ≡ [] → IsWorldAfter bundle bound [] keeps links
 world_begun bundle bound keeps links stands none = record {
   came = [];
-  stands = stands;
+  represents = stands;
   past = refl;
   keys = ap keys_of none;
   each = λ n. subst (λ (l : List (ℕ × Shown)). IsShownAt bundle bound New (kept_at l n)) (sym none) refl;

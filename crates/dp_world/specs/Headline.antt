@@ -55,7 +55,7 @@ pub record Receives (bundle : Bundle) (bound : ℕ) (events : List Event) (link 
   pub its_engine :
       read ≡ length (stream Up (alone_on bundle bound key pass (acts_on link its.after)))
   pub sent : read ≤ length (alone bundle bound key given)
-  pub stands : transcript bundle bound events
+  pub printed : transcript bundle bound events
       ≡ shown_of bundle bound (past_of bundle bound events) its.before
       ++ session_of bundle bound link key pass given read
       ++ shown_of bundle bound (past_of bundle bound events) its.after

@@ -4,7 +4,7 @@ ghost use Rattle.std.specs.Prelude.{IfOk, MatchOption, OnOk, OnErr};
 ghost use Rattle.std.specs.List.{AllByRecursion};
 ghost use Rattle.dp_engine.specs.Served.{ending_after, rest_after};
 ghost use Rattle.dp_engine.specs.Session.{outcome_of, unwritten};
-ghost use Rattle.dp_registry.specs.Names.{IsKey};
+ghost use Rattle.dp_outside.specs.Names.{IsKey};
 ghost use Rattle.dp_tree.specs.FileNames.{AreFileNames};
 ghost use Rattle.dp_tree.specs.declared.bundle.Bundle.{Bundle as Program};
 ghost use Rattle.dp_wire.specs.Frames.{IsCommand, IsPacketText, commands_in, packet_frame, rest_of};
@@ -38,18 +38,18 @@ pub(crate) struct Engine<'a> {
 #[derive(Drop)]
 pub(crate) struct Ended {
     /// What its IDE received.
-    pub received: Vec<u8>,
+    pub(crate) received: Vec<u8>,
     /// The whole commands that it was given.
-    pub given: Vec<u8>,
+    pub(crate) given: Vec<u8>,
     /// What the program has written to its own output.
-    pub own: Vec<u8>,
+    pub(crate) own: Vec<u8>,
     /// How the program ended: not at all where it was killed.
-    pub outcome: Option<Outcome>,
+    pub(crate) outcome: Option<Outcome>,
 }
 
 impl<'a> Engine<'a> {
     /// An engine that comes with a key: it has sent its first packet.
-    pub fn begin(
+    pub(crate) fn begin(
         alloc: Global,
         bundle: &'a Bundle,
         key: &[u8],
@@ -80,7 +80,7 @@ impl<'a> Engine<'a> {
     }
 
     /// Reads at most so many bytes more of what it has sent. Where memory runs out none was read.
-    pub fn next(&mut self, alloc: Global, most: u32) -> Result<Bytes, Memory>
+    pub(crate) fn next(&mut self, alloc: Global, most: u32) -> Result<Bytes, Memory>
         requires { self.old.read ≤ length self.old.sent.items }
         ensures piece { IfOk result (λ piece. piece ≡ take most (drop self.old.read self.old.sent.items)) }
         ensures read { IfOk result (λ piece. self.new ≡ record self.old { read = self.old.read + length piece }) }
@@ -94,7 +94,7 @@ impl<'a> Engine<'a> {
     }
 
     /// The IDE receives these frames, which were read. Takes no memory.
-    pub fn receive(&mut self, frames: &[u8])
+    pub(crate) fn receive(&mut self, frames: &[u8])
         requires { self.old.received + length frames.now ≤ self.old.read }
         ensures { self.new ≡ record self.old { received = self.old.received + length frames.now } }
     {
@@ -104,7 +104,7 @@ impl<'a> Engine<'a> {
     /// Takes whole commands, each with its NUL, and answers them, up to one that ends the session.
     ///
     /// Once memory ran out it has failed for good.
-    pub fn take<L: Ledger>(
+    pub(crate) fn take<L: Ledger>(
         &mut self,
         alloc: Global,
         commands: &[u8],
@@ -167,7 +167,7 @@ impl<'a> Engine<'a> {
     }
 
     /// The session is over: the program runs on to its end, unless a command has killed it.
-    pub fn finish<L: Ledger>(self, steps: &mut Steps<L>) -> Result<Ended, Memory>
+    pub(crate) fn finish<L: Ledger>(self, steps: &mut Steps<L>) -> Result<Ended, Memory>
         ensures received { IfOk result (λ end. end.received.items ≡ take self.entry.received self.entry.sent.items) }
         ensures given { IfOk result (λ end. end.given.items ≡ self.entry.given.items) }
         ensures own { IfOk result (λ end. end.own.items

@@ -15,9 +15,9 @@ pub enum ReplayError {
 
 impl From<AllocError> for ReplayError {
     ghost use Rattle.std.specs.Prelude.{◌≡◌};
-    ghost use Rattle.dp_world.specs.declared.errors.ReplayError.TheVariants.{Memory as WantOfMemory};
+    ghost use Rattle.dp_world.specs.declared.errors.ReplayError.TheVariants.{Memory as OutOfMemory};
 
-    ghost from_gives = { λ _ e. e ≡ WantOfMemory };
+    ghost from_gives = { λ _ e. e ≡ OutOfMemory };
 
     fn from(_: AllocError) -> ReplayError {
         ReplayError::Memory

@@ -2,7 +2,7 @@
 ghost use Rattle.std.specs.Prelude.{◌≡◌, ℕ, List, true, false, map, is_some, None, Some, IfOk, OnOk};
 ghost use Rattle.dp_tree.specs.FileNames.{AreFileNames};
 ghost use Rattle.dp_tree.specs.declared.bundle.Bundle.{Bundle as Program};
-ghost use Rattle.dp_registry.specs.Names.{IsKey};
+ghost use Rattle.dp_outside.specs.Names.{IsKey};
 ghost use Rattle.dp_registry.specs.declared.entry.Entry.{Entry};
 ghost use Rattle.dp_registry.specs.declared.pass.Pass.{Pass};
 ghost use Rattle.dp_registry.specs.declared.refusal.Refusal.{Refusal};
@@ -78,7 +78,7 @@ pub(crate) fn makes(act: &Act) -> bool
     }
 }
 
-/// What is shown of an engine that came with a key, by what the proxy was reported.
+/// What is shown of an engine that came with a key, by what the proxy answered.
 fn joined<'a>(
     alloc: Global,
     bundle: &'a Bundle,
@@ -114,7 +114,7 @@ fn joined<'a>(
     }
 }
 
-/// What is shown of a link that an event may make, by what the proxy was reported.
+/// What is shown of a link that an event may make, by what the proxy answered.
 fn opened<'a>(
     alloc: Global,
     bundle: &'a Bundle,
@@ -173,7 +173,7 @@ pub(crate) fn pass<L: Ledger>(
     }
 }
 
-/// Makes a link, by what the proxy was reported.
+/// Makes a link, by what the proxy answered.
 pub(crate) fn make<'a>(
     alloc: Global,
     links: &mut IndexMap<u32, Shown<'a>>,

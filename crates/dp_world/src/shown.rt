@@ -35,7 +35,7 @@ impl<'a> Shown<'a> {
     ghost use Rattle.dp_world.specs.inner.Changes.{IsReadable, Reads, replied, received, IsTaken, Takes, After};
 
     /// The next bytes of its engine, at most so many; none where there is no engine.
-    pub fn read(&mut self, alloc: Global, count: u32) -> Result<Bytes, Memory>
+    pub(crate) fn read(&mut self, alloc: Global, count: u32) -> Result<Bytes, Memory>
         requires { IsReadable self.old }
         ensures { IfOk result (λ bytes. Reads self.old count bytes self.new) }
     {
@@ -97,7 +97,7 @@ impl<'a> Shown<'a> {
     }
 
     /// Takes what an act on its link has led to.
-    pub fn pass<L: Ledger>(
+    pub(crate) fn pass<L: Ledger>(
         &mut self,
         alloc: Global,
         effect: Effect,

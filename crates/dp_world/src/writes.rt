@@ -113,7 +113,7 @@ fn write_all<K: Sink, L: Ledger>(
 
 /// Replays a list of events with engines in memory that run the program, and writes its transcript.
 ///
-/// The files of the program have names of files. Nothing is written before the last event was followed; where the sink
+/// The files of the program have names of files. Nothing is written before the last event was handled; where the sink
 /// fails or memory runs out it has taken a front of the transcript.
 pub fn replay<K: Sink, L: Ledger>(
     alloc: Global,

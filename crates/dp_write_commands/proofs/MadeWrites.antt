@@ -17,7 +17,8 @@ use Rattle.dp_value.specs.declared.value.Value.{Value}
 use Rattle.dp_view.specs.declared.errors.ViewError.{ViewError}
 use Rattle.dp_view.specs.declared.errors.ViewError.TheVariants.{Code, Memory}
 use Rattle.dp_write_commands.specs.Responses.{response_to, success}
-use Rattle.dp_write_commands.specs.inner.Writes.{Finds, Makes, Puts, answer_by, coded, kept_by, with_response}
+use Rattle.dp_meaning.specs.inner.WriteAnswers.{answer_by}
+use Rattle.dp_write_commands.specs.inner.Writes.{Finds, Makes, Puts, coded, kept_by, with_response}
 
 module _ (features : Features) (command id : Text) (before after : State) where
   -- a place that was given a value

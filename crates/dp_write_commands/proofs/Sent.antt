@@ -29,7 +29,8 @@ use Rattle.dp_view.specs.NameReader.{path_at}
 use Rattle.dp_wire.specs.Frames.{packet_limit}
 use Rattle.dp_write_commands.specs.declared.commands.Written.{Written}
 use Rattle.dp_write_commands.specs.Results.{Answers, HasKnownCode, IsSent}
-use Rattle.dp_write_commands.specs.Requests.{is_reserved, requested_path, requested_value, requested_write, tree_of, unreserved}
+use Rattle.dp_token_rules.specs.Terminals.{is_superglobal}
+use Rattle.dp_write_commands.specs.Requests.{requested_path, requested_value, requested_write, tree_of, unreserved}
 use Rattle.dp_write_commands.specs.Responses.{responding, response_to, success, value_response, within_limit, write_response}
 
 -- ---- a value of which something holds, or a code that has a message
@@ -68,7 +69,7 @@ named_known s level id name =
     (λ variables. or_known (path_at name) 300 refl)
 
 unreserved_known : (path : Path) → IsKnownOr Any (unreserved path)
-unreserved_known path = if_known Any (is_reserved path.name) (Err 300) (Ok path) refl tt
+unreserved_known path = if_known Any (is_superglobal path.name) (Err 300) (Ok path) refl tt
 
 path_known : (s : State) (place : PropertyPlace) → IsKnownOr Any (requested_path s place)
 path_known s place =

@@ -1,7 +1,7 @@
 -- The write that property_set or eval asks for, or why it is none: DBGp 1.0, "property_set",
 -- "eval". Which types there are, how their values are spelled, and the order of the codes are this
 -- engine's own.
-use Rattle.std.specs.Prelude.{ℕ, ◌==◌, ◌||◌, nat_le, Bool, true, false, if◌then◌else◌, List, length, codes, Option, Some, None, ok_or, option_map, Result, Ok, Err}
+use Rattle.std.specs.Prelude.{ℕ, ◌==◌, nat_le, Bool, true, false, if◌then◌else◌, List, length, codes, Option, Some, None, ok_or, option_map, Result, Ok, Err}
 use Rattle.std.specs.Option.{option_map_or}
 use Rattle.std.specs.Str.{bytes_eq}
 use Rattle.dp_command.specs.declared.command.PropertyPlace.{PropertyPlace}
@@ -11,6 +11,7 @@ use Rattle.dp_command.specs.declared.command.Request.TheVariants as request
 use Rattle.dp_meaning.specs.declared.writes.Write.{Write}
 use Rattle.dp_meaning.specs.declared.writes.Write.TheVariants as write
 use Rattle.dp_parse.specs.ExpressionIn.{expression_in}
+use Rattle.dp_token_rules.specs.Terminals.{is_superglobal}
 use Rattle.dp_state.specs.declared.moments.Path.{Path}
 use Rattle.dp_state.specs.declared.state.State.{State}
 use Rattle.dp_tree.specs.declared.tree.Expression.{Expression}
@@ -58,12 +59,9 @@ requested_value set =
 
 -- ---- places
 
--- a variable that nothing is written to
-abbrev pub is_reserved : List ℕ → Bool
-is_reserved name = bytes_eq name (codes "this") || bytes_eq name (codes "GLOBALS")
-
+-- a path whose variable a program may name: to no other one anything is written
 abbrev pub unreserved : Path → Result Path ℕ
-unreserved path = if is_reserved path.name then Err 300 else Ok path
+unreserved path = if is_superglobal path.name then Err 300 else Ok path
 
 -- the path that is to be written: 301 where there is no such level, 302 where there is no such
 -- context, 300 where the name is none or is reserved

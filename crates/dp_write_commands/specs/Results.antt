@@ -1,5 +1,5 @@
--- What the call of a command that writes answers: what was written and how that is reported, or the
--- code of a refusal; or memory runs out.
+-- What the call of a command that writes answers: what was written, with its response, or the code
+-- of a refusal; or memory runs out.
 use Rattle.std.specs.Prelude.{◌≡◌, ℕ, Option, None, ok_or, Result, Ok, Err}
 use Rattle.dp_command.specs.declared.command.Request.{Request}
 use Rattle.dp_command.specs.declared.command.Request.TheVariants as request
@@ -18,7 +18,7 @@ use Rattle.dp_write_commands.specs.declared.commands.Written.{Written}
 use Rattle.dp_write_commands.specs.Requests.{requested_value, requested_write}
 use Rattle.dp_write_commands.specs.Responses.{code_in, write_response}
 
--- the write that was asked for was made in the state, and its response is reported
+-- the write that was asked for was made in the state, and this is its response
 pub record IsWritten (bundle : Bundle) (features : Features) (before after : State)
     (command id : Text) (asked : Request) (made : Written) : Type 0 where
   pub write : requested_write before asked ≡ Ok made.write

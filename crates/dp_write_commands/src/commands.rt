@@ -62,7 +62,7 @@ fn make_place(
     if_done(done, response)
 }
 
-/// Keeps what an evaluation left, where it is reported.
+/// Keeps the state that an evaluation left, if there is a response to it.
 fn keep(
     made: Result<Response, ViewError>,
     after: State,

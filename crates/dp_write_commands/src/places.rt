@@ -1,26 +1,16 @@
 //! Places that are given a value.
 
-ghost use Rattle.std.specs.Prelude.{◌≡◌, false, IfOk};
+ghost use Rattle.std.specs.Prelude.{false};
 ghost use Rattle.dp_meaning.specs.Writes.{place_or_fault, with_place};
 ghost use Rattle.dp_state.specs.Places.{assigned, given_keys as all_given};
 ghost use Rattle.dp_write_commands.specs.inner.Writes.{Puts};
 
+use dp_actions::given_keys;
 use dp_shared::Shared;
 use dp_state::{Fault, Path, State};
 use dp_value::{Key, Memory, Value};
 use dp_view::ViewError;
 use std::alloc::Global;
-
-/// Keys that are there.
-fn given_keys(alloc: Global, keys: &[Key]) -> Result<Vec<Option<Key>>, Memory>
-    ensures { IfOk result (λ given. given.items ≡ all_given keys.now) }
-{
-    let mut given = Vec::with_capacity(alloc, keys.len())?;
-    for key in keys {
-        given.push(Some(key.try_clone()?))?;
-    }
-    Ok(given)
-}
 
 /// Gives a place under keys a value, where it can hold it.
 fn put_keyed(

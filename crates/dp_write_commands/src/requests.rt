@@ -9,6 +9,7 @@ ghost use Rattle.dp_write_commands.specs.inner.Writes.{Finds, IsTree, error_of, 
 use dp_command::{PropertyPlace, PropertySet};
 use dp_parse::{ParseError, parse_expression};
 use dp_state::{Path, State};
+use dp_token_rules::is_superglobal;
 use dp_tree::Expression;
 use dp_value::{Bytes, Memory, Value, int_of_text};
 use dp_view::{ViewError, named_path};
@@ -113,17 +114,10 @@ pub(crate) fn value_of(alloc: Global, given: Given, bytes: &[u8]) -> Result<Valu
     }
 }
 
-/// Whether nothing is written to a variable of this name.
-fn is_reserved(name: &[u8]) -> bool
-    ensures { result ≡ spec.is_reserved name.now }
-{
-    name == b"this".as_slice() || name == b"GLOBALS".as_slice()
-}
-
 fn unreserved(path: Path) -> Result<Path, ViewError>
     ensures { Finds result (spec.unreserved path) }
 {
-    if is_reserved(path.name.as_slice()) {
+    if is_superglobal(path.name.as_slice()) {
         Err(ViewError::Code(300))
     } else {
         Ok(path)

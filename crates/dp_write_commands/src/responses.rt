@@ -1,15 +1,16 @@
 //! What commands that write are answered.
 
-ghost use Rattle.std.specs.Prelude.{◌≡◌, ◌+◌, ◌∷◌, [], codes, length, IfOk};
+ghost use Rattle.std.specs.Prelude.{◌≡◌, ◌+◌, ◌∷◌, [], codes, IfOk};
 ghost use Rattle.dp_packet.specs.declared.packet.Body.TheVariants as body;
 ghost use Rattle.dp_wire.specs.Frames.{packet_limit};
 ghost use Rattle.dp_view.specs.Answers.{Gives};
 ghost use Rattle.dp_write_commands.specs.Responses as spec;
-ghost use Rattle.dp_write_commands.specs.inner.Writes.{Finds, answer_by, around};
+ghost use Rattle.dp_meaning.specs.inner.WriteAnswers.{answer_by};
+ghost use Rattle.dp_write_commands.specs.inner.Writes.{Finds, around};
 
 use dp_command::Addressee;
 use dp_features::Features;
-use dp_packet::{Body, Property, Response, short_size};
+use dp_packet::{Body, Property, Response, put_attribute, short_size};
 use dp_value::{Bytes, Items, Memory, Value};
 use dp_view::{Paging, ViewError};
 use dp_view_limits::limited_shown;
@@ -19,14 +20,15 @@ use std::alloc::Global;
 /// The most bytes of a packet's text.
 const LIMIT: u32 = PACKET_LIMIT as u32;
 
+/// The size of a response that says success, without its command's name, its id and what stands in it.
+const SUCCESS_SIZE: u64 = 110;
+
 /// That a command succeeds, as an attribute.
 fn attributes(alloc: Global) -> Result<Items<(Bytes, Bytes)>, Memory>
     ensures { IfOk result (λ made. made ≡ (codes "success", codes "1") ∷ []) }
 {
-    let name = Bytes::from_slice(alloc, b"success")?;
-    let value = Bytes::from_slice(alloc, b"1")?;
     let mut attributes = Vec::new(alloc);
-    attributes.push((name, value))?;
+    put_attribute(alloc, &mut attributes, b"success", b"1")?;
     Ok(Items::of(attributes))
 }
 
@@ -64,7 +66,7 @@ fn room(to: &Addressee) -> u32
 {
     let names = short_size(b"command", to.command.as_slice())
         + short_size(b"transaction_id", to.id.as_slice());
-    LIMIT - (110 + names) as u32
+    LIMIT - (SUCCESS_SIZE + names) as u32
 }
 
 /// One property.

@@ -1,8 +1,8 @@
 -- An expression under indices, by how entries are read.
 use Rattle.std.specs.Prelude.{List}
 use Rattle.dp_value.specs.declared.value.Value.{Value}
-use Rattle.dp_actions.specs.declared.in_place.Reading.{Reading}
-use Rattle.dp_actions.specs.declared.in_place.Reading.TheVariants.{Plain, Found}
+use Rattle.dp_actions.specs.declared.entry_reads.Reading.{Reading}
+use Rattle.dp_actions.specs.declared.entry_reads.Reading.TheVariants.{Plain, Found}
 use Rattle.dp_actions.specs.InPlace.{entries_by}
 use Rattle.dp_actions.specs.Expressions.{ExpressionRun, indices_run}
 use Rattle.dp_actions.specs.Run.{◌>>=◌}

@@ -18,13 +18,13 @@ use Rattle.dp_write_commands.specs.Responses.{write_response}
 abbrev pub with_one : ℕ → Write → List NumberedWrite → List NumberedWrite
 with_one moment w writes = writes ++ (record { moment = moment; write = w }) ∷ []
 
--- the write was made and is kept, and its response is reported
+-- the write was made and is kept, and this is its response
 pub record IsKeptWrite (bundle : Bundle) (features : Features) (before after : State)
     (writes kept : List NumberedWrite) (moment : ℕ) (command id : Text) (asked : Request)
     (response : Response) : Type 0 where
   pub write : Write
   pub asks : requested_write before asked ≡ Ok write
-  pub told : write_response bundle features before command id asked ≡ Ok response
+  pub answered : write_response bundle features before command id asked ≡ Ok response
   pub state : after ≡ one_write (evaluation_setting bundle) write before
   pub list : kept ≡ with_one moment write writes
 

@@ -4,10 +4,10 @@ use Rattle.std.specs.Io.KnownBytes.{Appends}
 use Rattle.dp_outside.specs.Causes.{Rose}
 use Rattle.dp_outside.specs.Changes.{Change}
 use Rattle.dp_outside.specs.Streams.{AppendsFront}
-use Rattle.dp_serving.specs.declared.link.Fault.{Fault}
-use Rattle.dp_serving.specs.declared.link.Fault.TheVariants as fault
-use Rattle.dp_serving.specs.declared.link.SessionOver.{SessionOver}
-use Rattle.dp_serving.specs.declared.link.SessionOver.TheVariants as over
+use Rattle.dp_conversation.specs.declared.link.Fault.{Fault}
+use Rattle.dp_conversation.specs.declared.link.Fault.TheVariants as fault
+use Rattle.dp_conversation.specs.declared.link.SessionOver.{SessionOver}
+use Rattle.dp_conversation.specs.declared.link.SessionOver.TheVariants as over
 use Rattle.dp_engine.specs.declared.service.ServeEnd.{ServeEnd}
 use Rattle.dp_engine.specs.declared.service.ServeEnd.TheVariants.{Stopped, Detached, LinkEnd, ReadFault, WriteFault, OutFault, BadCommandFrame, ByteLimit, Memory}
 use Rattle.dp_engine.specs.declared.service.Served.{Served}
@@ -42,7 +42,7 @@ RanOn asked served state out = RanOnTo served.end asked served state out
 pub record IsLeft (end : ServeEnd) (served : Served) (out : Change) : Type 0 where
   pub is_end : served.end ≡ end
   pub outcome : served.outcome ≡ None
-  pub told : out.told ≡ out.told_before
+  pub kept : out.told ≡ out.told_before
 
 -- what becomes of it, by how the session came to be over
 abbrev pub Closes : SessionOver SessionEnd → Served → State → Change → Type 0

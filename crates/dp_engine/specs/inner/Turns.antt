@@ -12,7 +12,7 @@ use Rattle.dp_command.specs.Refusals.{id_of}
 use Rattle.dp_command.specs.Tests.{first_code}
 use Rattle.dp_packet.specs.declared.packet.Response.{Response}
 use Rattle.dp_packet.specs.Parts.{Text}
-use Rattle.dp_serving.specs.declared.responder.Answer.{Answer}
+use Rattle.dp_conversation.specs.declared.responder.Answer.{Answer}
 use Rattle.dp_wire.specs.Frames.{IsPacketText}
 use Rattle.dp_engine.specs.declared.session.SessionEnd.{SessionEnd}
 use Rattle.dp_engine.specs.declared.replies.Turn.{Turn as Made}
@@ -31,7 +31,7 @@ pub record Responds (response : Response) (ended : Option SessionEnd) (made : Ma
 
 -- a turn that is the one asked for, after which the session knows this
 pub record IsTurn (asked : Turn) (state : State) (made : Made) : Type 0 where
-  pub tells : Responds asked.response asked.ended made
+  pub responds : Responds asked.response asked.ended made
   pub next : state ≡ asked.next
 
 -- what is sent of a turn in which this was written

@@ -7,7 +7,7 @@ use Rattle.dp_lexer.specs.declared.token.Token.{Token}
 use Rattle.dp_expressions.specs.declared.operand.Part.{Part}
 use Rattle.dp_grammar.specs.declared.refusal.Refusal.{Refusal}
 use Rattle.dp_tree.specs.declared.tree.Expression.{Expression}
-use Rattle.dp_rules.specs.inner.Input.{Reads}
+use Rattle.dp_token_rules.specs.inner.Input.{Reads}
 use Rattle.dp_expressions.specs.inner.Readers.{below}
 
 -- parts of expressions one level down, where a level is left

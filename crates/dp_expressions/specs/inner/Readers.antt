@@ -7,19 +7,19 @@ use Rattle.dp_expressions.specs.declared.operand.Operand.TheVariants as operand
 use Rattle.dp_expressions.specs.declared.operand.Part.{Part}
 use Rattle.dp_expressions.specs.declared.operand.Part.TheVariants as part
 use Rattle.dp_expressions.specs.declared.rank.Rank.{Rank}
-use Rattle.dp_rules.specs.declared.terminal.Terminal.{Terminal}
-use Rattle.dp_rules.specs.declared.terminal.Terminal.TheVariants as terminal
+use Rattle.dp_token_rules.specs.declared.terminal.Terminal.{Terminal}
+use Rattle.dp_token_rules.specs.declared.terminal.Terminal.TheVariants as terminal
 use Rattle.dp_tree.specs.declared.tree.Expression.{Expression}
 use Rattle.dp_tree.specs.declared.tree.Expression.TheVariants as tree
 use Rattle.dp_tree.specs.declared.tree.Place.{Place}
 use Rattle.dp_tree.specs.declared.tree.Item.{Item}
 use Rattle.dp_tree.specs.declared.tree.Link.{Link}
 use Rattle.dp_tree.specs.declared.tree.Order.TheVariants.{StepFirst, ValueFirst}
-use Rattle.dp_rules.specs.Terminals.{is, head}
-use Rattle.dp_rules.specs.inner.Input.{Reader, ◌>>=◌, ◌>>◌, gives, made, refuse, sort, kind, sees, variable, mark, enter, closed}
-use Rattle.dp_rules.specs.inner.ListReaders.{some_items, any_items, many}
+use Rattle.dp_token_rules.specs.Terminals.{is, head}
+use Rattle.dp_token_rules.specs.inner.Input.{Reader, ◌>>=◌, ◌>>◌, gives, made, refuse, sort, kind, sees, variable, mark, enter, closed}
+use Rattle.dp_token_rules.specs.inner.ListReaders.{some_items, any_items, many}
 use Rattle.dp_expressions.specs.Grammar.{prefix_in, step_in, inclusion_in, assignment_in, constant_in, operator_in, may_go_on, ranks, place, item, link, indexed, value_of, chained, assigned}
-use Rattle.dp_rules.specs.TokenValues.{Text, name_in, number_in, text_in}
+use Rattle.dp_token_rules.specs.TokenValues.{Text, name_in, number_in, text_in}
 
 -- a token with which an expression may begin
 abbrev pub begins_expression : Terminal → Bool

@@ -188,7 +188,7 @@ pub record Performs (ones : List Instruction) (old new : Received) (before after
   pub said : List ℕ
   pub sends : Appends sink.told_before sink.told (sent ones)
   pub prints : Appends out.told_before out.told said
-  pub stands : (read printed : List ℕ) (done : List Instruction)
+  pub performed : (read printed : List ℕ) (done : List Instruction)
       → Stood read done old before printed
       → Stood (read ++ piece) (done ++ ones) new after (printed ++ said)
 

@@ -58,13 +58,13 @@ name_len = prefix_len is_part
 
 abbrev pub name_at : List ℕ → Found
 name_at z =
-    if nat_lt longest_name (name_len z) then wrong fault.BadByte 255
+    if nat_lt longest_name (name_len z) then wrong fault.BadByte longest_name
     else found (name (take (name_len z) z)) (name_len z)
 
 abbrev pub dollar_at : List ℕ → Found
 dollar_at r =
     if begins is_start r then
-    (if nat_lt longest_name (name_len r) then wrong fault.BadByte 256
+    (if nat_lt longest_name (name_len r) then wrong fault.BadByte (longest_name + 1)
     else found (variable (take (name_len r) r)) (1 + name_len r))
     else bad
 

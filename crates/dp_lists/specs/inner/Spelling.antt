@@ -1,9 +1,10 @@
 -- How a line is read: the event that it spells, if it spells one.
-use Rattle.std.specs.Prelude.{◌≡◌, ℕ, ◌+◌, ◌-◌, ◌*◌, ◌^◌, ◌==◌, nat_le, Bool, true, not, ◌&&◌, if◌then◌else◌}
-use Rattle.std.specs.Prelude.{List, [], ◌∷◌, ◌++◌, length, take, drop, Option, Some, None, codes}
+use Rattle.std.specs.Prelude.{◌≡◌, ℕ, ◌+◌, ◌-◌, ◌*◌, ◌^◌, ◌==◌, nat_le, true, ◌&&◌, if◌then◌else◌}
+use Rattle.std.specs.Prelude.{List, [], ◌∷◌, ◌++◌, take, drop, Option, Some, None, codes}
 use Rattle.std.specs.Prelude.{option_map, option_and_then}
-use Rattle.std.specs.List.{list_all}
 use Rattle.std.specs.Str.{bytes_eq}
+use Rattle.dp_grammar.specs.Lines.{has_no_blank}
+use Rattle.dp_outside.specs.Names.{host_limit, is_name, key_limit}
 use Rattle.dp_value.specs.Decimals.{decimal_in}
 use Rattle.dp_lists.specs.declared.event.Act.{Act}
 use Rattle.dp_lists.specs.declared.event.Act.TheVariants.{Ide, Engine, Give, Move, Close}
@@ -49,19 +50,11 @@ word_of bytes = (split_word bytes).0
 abbrev pub part_of : List ℕ → Option (List ℕ)
 part_of bytes = (split_word bytes).1
 
-abbrev pub has_no_blank : List ℕ → Bool
-has_no_blank bytes = list_all (λ b. not (b == 32)) bytes
-
 -- the place of the first blank, or there is none
 abbrev pub FirstBlank : List ℕ → Option ℕ → Type 0
 FirstBlank bytes None = has_no_blank bytes ≡ true
 FirstBlank bytes (Some at) =
     (has_no_blank (take at bytes) ≡ true) × (bytes ≡ take at bytes ++ 32 ∷ drop (at + 1) bytes)
-
-abbrev pub is_name : ℕ → List ℕ → Bool
-is_name most bytes =
-    nat_le 1 (length bytes) && nat_le (length bytes) most
-    && list_all (λ b. nat_le 0x21 b && nat_le b 0x7e) bytes
 
 abbrev pub name_in : ℕ → (List ℕ → Act) → List ℕ → Option Act
 name_in most act part = if is_name most part then Some (act part) else None
@@ -79,8 +72,8 @@ act_alone word =
 
 abbrev pub act_with : List ℕ → List ℕ → Option Act
 act_with word part =
-    if bytes_eq word (codes "ide") then name_in 64 Ide part
-    else if bytes_eq word (codes "engine") then name_in 128 Engine part
+    if bytes_eq word (codes "ide") then name_in host_limit Ide part
+    else if bytes_eq word (codes "engine") then name_in key_limit Engine part
     else if bytes_eq word (codes "give") then option_map Give (bytes_in part)
     else if bytes_eq word (codes "say") then Some (Give (part ++ 0 ∷ []))
     else if bytes_eq word (codes "move") then option_map Move (decimal_in greatest_count part)

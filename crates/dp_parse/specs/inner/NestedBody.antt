@@ -5,7 +5,7 @@ use denote.Ref.{MutBor}
 use Rattle.dp_lexer.specs.declared.token.Token.{Token}
 use Rattle.dp_parse.specs.declared.ended.Body.{Body}
 use Rattle.dp_grammar.specs.declared.refusal.Refusal.{Refusal}
-use Rattle.dp_rules.specs.inner.Input.{Reads}
+use Rattle.dp_token_rules.specs.inner.Input.{Reads}
 use Rattle.dp_parse.specs.inner.Within.{body}
 
 -- Where a level of bodies is left, it may be called in at most one loop more, and has the answer of

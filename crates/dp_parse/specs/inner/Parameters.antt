@@ -4,8 +4,8 @@ use Rattle.std.specs.List.{list_any}
 use Rattle.std.specs.Str.{bytes_eq}
 use Rattle.dp_lexer.specs.declared.token.Token.{Token}
 use Rattle.dp_grammar.specs.declared.refusal.Refusal.TheVariants.{Unexpected}
-use Rattle.dp_rules.specs.TokenValues.{Text}
-use Rattle.dp_rules.specs.inner.Input.{Outcome, Reader, and_then, kind, variable}
+use Rattle.dp_token_rules.specs.TokenValues.{Text}
+use Rattle.dp_token_rules.specs.inner.Input.{Outcome, Reader, and_then, kind, variable}
 use Rattle.dp_parse.specs.Statements.{parameter_in}
 
 abbrev pub parameter : List Text → Reader Text

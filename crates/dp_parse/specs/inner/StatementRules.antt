@@ -6,8 +6,8 @@ use Rattle.dp_parse.specs.declared.ended.Ended.{Ended}
 use Rattle.dp_parse.specs.declared.ended.Body.{Body}
 use Rattle.dp_parse.specs.declared.ended.Parts.{Parts}
 use Rattle.dp_expressions.specs.declared.operand.Part.TheVariants as part
-use Rattle.dp_rules.specs.declared.terminal.Terminal.{Terminal}
-use Rattle.dp_rules.specs.declared.terminal.Terminal.TheVariants as terminal
+use Rattle.dp_token_rules.specs.declared.terminal.Terminal.{Terminal}
+use Rattle.dp_token_rules.specs.declared.terminal.Terminal.TheVariants as terminal
 use Rattle.dp_tree.specs.declared.tree.Arm.{Arm}
 use Rattle.dp_tree.specs.declared.tree.Binding.{Binding}
 use Rattle.dp_tree.specs.declared.tree.Expression.{Expression}
@@ -16,11 +16,11 @@ use Rattle.dp_tree.specs.declared.tree.Place.{Place}
 use Rattle.dp_tree.specs.declared.tree.Statement.{Statement}
 use Rattle.dp_tree.specs.declared.tree.StatementKind.{StatementKind}
 use Rattle.dp_tree.specs.declared.tree.StatementKind.TheVariants as tree
-use Rattle.dp_rules.specs.Terminals.{is, head}
-use Rattle.dp_rules.specs.Lines.{line_of}
-use Rattle.dp_rules.specs.inner.Input.{Reader, ◌>>=◌, ◌>>◌, gives, made, refuse, mark, enter, closed, kind, variable}
-use Rattle.dp_rules.specs.inner.ListReaders.{plain_items, some_items, any_plain_items, any_items}
-use Rattle.dp_rules.specs.TokenValues.{Text, name_in, number_up_to}
+use Rattle.dp_token_rules.specs.Terminals.{is, head}
+use Rattle.dp_token_rules.specs.Lines.{line_of}
+use Rattle.dp_token_rules.specs.inner.Input.{Reader, ◌>>=◌, ◌>>◌, gives, made, refuse, mark, enter, closed, kind, variable}
+use Rattle.dp_token_rules.specs.inner.ListReaders.{plain_items, some_items, any_plain_items, any_items}
+use Rattle.dp_token_rules.specs.TokenValues.{Text, name_in, number_up_to}
 use Rattle.dp_expressions.specs.inner.Readers.{reading, reading_place}
 use Rattle.dp_parse.specs.Statements.{ended, whole, binding, parameter_in, Arms, with_arm, stated, Depth, function_of, no_parts, with_statement, with_function}
 

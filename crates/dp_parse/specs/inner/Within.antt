@@ -4,7 +4,7 @@ use Rattle.dp_parse.specs.declared.ended.Body.{Body}
 use Rattle.dp_expressions.specs.declared.operand.Part.TheVariants as part
 use Rattle.dp_tree.specs.declared.tree.Expression.{Expression}
 use Rattle.dp_tree.specs.declared.tree.Place.{Place}
-use Rattle.dp_rules.specs.inner.Input.{Reader}
+use Rattle.dp_token_rules.specs.inner.Input.{Reader}
 use Rattle.dp_expressions.specs.inner.Readers.{reading, reading_place}
 use Rattle.dp_parse.specs.Limits.{expression_levels}
 use Rattle.dp_parse.specs.inner.StatementRules.{body_below}

@@ -19,7 +19,7 @@ use Rattle.dp_proxy.specs.declared.kept.Kept.TheVariants as keep
 use Rattle.dp_proxy.specs.declared.kept.Kept.{Kept}
 use Rattle.dp_proxy.specs.declared.kept.Step.{Step}
 use Rattle.dp_proxy.specs.declared.passes.Passing.{Passing}
-use Rattle.dp_proxy.specs.declared.passes.Passing.TheVariants.{Told, Closed, Broken}
+use Rattle.dp_proxy.specs.declared.passes.Passing.TheVariants.{Answered, Closed, Broken}
 use Rattle.dp_proxy.specs.Links.{passed, ends}
 use Rattle.dp_proxy.specs.Pasts.{Link, Asking, Settled, Lead, lead, question, listening}
 use Rattle.dp_proxy.specs.Places.{BreaksAt}
@@ -39,9 +39,9 @@ Hears heard act Asked now = question heard act ≡ Some now
 
 -- ---- a session
 
--- what an act is reported after these
+-- what an act is answered after these
 abbrev pub Passes : List Act → Act → Passing → Type 0
-Passes acts act (Told effect) = (passed acts act ≡ Some effect) × (ends acts act ≡ false)
+Passes acts act (Answered effect) = (passed acts act ≡ Some effect) × (ends acts act ≡ false)
 Passes acts act Closed = (passed acts act ≡ Some Nothing) × (ends acts act ≡ true)
 Passes acts act (Broken offset) =
     (passed acts act ≡ None) × (ends acts act ≡ true) × BreaksAt (acts ++ act ∷ []) offset
@@ -60,8 +60,8 @@ Moves journal link act next kept (Err Memory) = ⊥
 
 pub record Leads (journal : List Entry) (link : Link) (act : Act) (next : List Entry) (step : Step)
     : Type 0 where
-  pub answers : AnswersAt journal link act step.told
-  pub moves : Moves journal link act next step.kept step.told
+  pub answers : AnswersAt journal link act step.answer
+  pub moves : Moves journal link act next step.kept step.answer
 
 -- each live session but the one that was kept is still live
 abbrev pub LeavesOthers : List Entry → List Entry → Option Kept → Type 0
@@ -83,5 +83,5 @@ pub record Welcomes (pass : Pass) (step : Step) : Type 0 where
   pub commands : Follows Down down []
   pub is : step ≡ record {
     kept = Some (keep.Joined pass up down);
-    told = Ok (Admitted pass.session pass.host pass.port);
+    answer = Ok (Admitted pass.session pass.host pass.port);
   }

@@ -15,8 +15,8 @@ use Rattle.dp_show.specs.Lines.{line_of, lines_of, AreMarkup, IsNoMarkup}
 use Rattle.dp_wire.specs.Places.{place_behind, IsRefusedAt}
 
 -- what an output has reported
-abbrev pub Told : Type 0
-Told = Option (List ℕ)
+abbrev pub Output : Type 0
+Output = Option (List ℕ)
 
 -- a packet's line is written
 pub record IsLine (text line : List ℕ) : Type 0 where
@@ -30,7 +30,7 @@ LineOf text None = IsNoMarkup text
 LineOf text (Some line) = IsLine text line
 
 -- the packets that were read are shown, and what follows them is held
-pub record HasShown (read : List ℕ) (packets : Received) (before now : Told) : Type 0 where
+pub record HasShown (read : List ℕ) (packets : Received) (before now : Output) : Type 0 where
   pub texts : List (List ℕ)
   pub each : AllByRecursion IsPacketText texts
   pub whole : read ≡ flat_map packet_frame texts ++ packets.held
@@ -40,7 +40,7 @@ pub record HasShown (read : List ℕ) (packets : Received) (before now : Told) :
   pub written : Appends before now (lines_of elements)
 
 -- so far packets were read and the first of them were shown, the last one maybe in part
-pub record WasShowing (read : List ℕ) (before now : Told) : Type 0 where
+pub record WasShowing (read : List ℕ) (before now : Output) : Type 0 where
   pub texts : List (List ℕ)
   pub rest : List ℕ
   pub each : AllByRecursion IsPacketText texts
@@ -50,14 +50,15 @@ pub record WasShowing (read : List ℕ) (before now : Told) : Type 0 where
   pub written : AppendsFront before now (lines_of elements)
 
 -- whatever was shown before, these packets were shown after it
-abbrev pub ShowsOn : Received → Received → Told → Told → Type 0
+abbrev pub ShowsOn : Received → Received → Output → Output → Type 0
 ShowsOn held left old new =
-    (read : List ℕ) (before : Told) → HasShown read held before old → HasShown read left before new
+    (read : List ℕ) (before : Output) → HasShown read held before old
+    → HasShown read left before new
 
 -- whatever was shown before, it was cut short after it
-abbrev pub IsCut : Received → Told → Told → Type 0
+abbrev pub IsCut : Received → Output → Output → Type 0
 IsCut held old new =
-    (read : List ℕ) (before : Told) → HasShown read held before old → WasShowing read before new
+    (read : List ℕ) (before : Output) → HasShown read held before old → WasShowing read before new
 
 -- why a text was not shown, whose frame begins at this place
 abbrev pub TextFails : ShowError → List ℕ → ℕ → Change → Type 0

@@ -55,7 +55,7 @@ removed_in name keys variables =
     option_map_or (λ value. then_variables name variables (removed keys (data_of value)))
     (value_held (slot_of variables name)) (Ok variables)
 
--- why variables are not changed: as it is asked, or for lack of memory
+-- why variables are not changed: as it is asked, or out of memory
 abbrev pub IsCauseIn : Result Variables FatalKind → Fault → Type 0
 IsCauseIn asked fault.Memory = ⊤
 IsCauseIn asked (fault.Fatal kind) = asked ≡ Err kind

@@ -20,7 +20,7 @@ pub record EngagedSo (status : ℕ) (program : Bundle) (address : Address) (key 
   pub sink : Change
   pub dialled : IsDialled address source sink old new
   pub serves : Serves served program ask.bound key source sink out
-  pub told : judged ask served ≡ Ok status
+  pub reported : judged ask served ≡ Ok status
 
 pub record BrokenSo (why : Failure) (name : List ℕ) (program : Bundle) (address : Address)
     (key : List ℕ) (ask : Invocation) (out : Change) (old new : Net) : Type 0 where
@@ -29,7 +29,7 @@ pub record BrokenSo (why : Failure) (name : List ℕ) (program : Bundle) (addres
   pub sink : Change
   pub dialled : IsDialled address source sink old new
   pub serves : Serves served program ask.bound key source sink out
-  pub told : judged ask served ≡ Err (why, name)
+  pub reported : judged ask served ≡ Err (why, name)
 
 -- the link came back unused
 pub record CameBack (address : Address) (out : Change) (old new : Net) : Type 0 where

@@ -1,19 +1,18 @@
 -- What the code tells of a list of events that is replayed.
-use Rattle.std.specs.Prelude.{◌≡◌, ◌⊎◌, ℕ, ◌≤◌, List, [], length, Result, Ok, Err, MatchResult, ⊤}
+use Rattle.std.specs.Prelude.{◌≡◌, ◌⊎◌, ℕ, ◌≤◌, List, [], length, Result, Ok, Err, MatchResult}
 use Rattle.dp_outside.specs.Changes.{Change}
 use Rattle.dp_outside.specs.Files.{Fetches}
 use Rattle.dp_bundle.specs.Bundles.{Given}
 use Rattle.dp_lists.specs.declared.event.Event.{Event}
 use Rattle.dp_lists.specs.Lists.{IsList}
 use Rattle.dp_bundle.specs.declared.errors.BundleError.{BundleError}
-use Rattle.dp_run.specs.Programs.{AreFetched, Files, FilesMake}
+use Rattle.dp_program.specs.Programs.{AreFetched, Files, FilesMake}
 use Rattle.dp_tree.specs.declared.bundle.Bundle.{Bundle}
 use Rattle.dp_world.specs.declared.errors.ReplayError.TheVariants as ends
 use Rattle.dp_world.specs.Replays.{Replays}
-use Rattle.dp_top.specs.declared.failures.Failure.{Failure}
 use Rattle.dp_top.specs.declared.failures.Failure.TheVariants as failure
 use Rattle.dp_top.specs.declared.failures.Refused.{Refused}
-use Rattle.dp_top.specs.Replay.{DoesReplay, IsBadAt, IsListFile, ReplayFails, Unlisted}
+use Rattle.dp_top.specs.Replay.{DoesReplay, IsListFile, ReplayFails}
 use Rattle.dp_top.specs.Lines.{lines_limit}
 use Rattle.dp_top.specs.inner.Completeness.{IsComplete}
 use Rattle.dp_words.specs.CommandLine.{Invocation}
@@ -22,16 +21,6 @@ use Rattle.dp_words.specs.CommandLine.{Invocation}
 pub record IsWholeList (bytes : List ℕ) (events : List Event) : Type 0 where
   pub fits : length bytes ≤ lines_limit
   pub is_list : IsList bytes events
-
--- why they are none, or memory ran out
-abbrev pub IsBadList : Failure → List ℕ → List ℕ → Type 0
-IsBadList (failure.Script line) name bytes = (name ≡ []) × IsBadAt bytes line
-IsBadList failure.Memory name bytes = ⊤
-IsBadList other name bytes = ⊥
-
-abbrev pub UnlistedSo : Failure → List ℕ → List ℕ → Files → ℕ → ℕ → Type 0
-UnlistedSo why name events files before after =
-    (why ≡ failure.Memory) ⊎ Unlisted why name events files before after
 
 -- how a replay of this list over this program ends
 abbrev pub EndsOver : Result ℕ Refused → List Event → Bundle → ℕ → Change → Type 0

@@ -1,5 +1,5 @@
 -- What the code tells of a script that is played over a link that another machine makes.
-use Rattle.std.specs.Prelude.{◌≡◌, ◌⊎◌, ℕ, ◌+◌, ◌<◌, ◌≤◌, List, [], ◌∷◌, length, Option, None, Some, Result, Ok, Err, ⊤}
+use Rattle.std.specs.Prelude.{◌≡◌, ℕ, ◌+◌, ◌<◌, ◌≤◌, List, [], ◌∷◌, length, Option, None, Some, Result, Ok, Err}
 use Rattle.dp_outside.specs.Changes.{Change, IsUntouched}
 use Rattle.dp_outside.specs.Links.{Link}
 use Rattle.dp_ide.specs.declared.errors.IdeError.{IdeError}
@@ -7,9 +7,8 @@ use Rattle.dp_ide.specs.declared.instruction.Instruction.{Instruction}
 use Rattle.dp_ide.specs.Plays.{Ends}
 use Rattle.dp_top.specs.declared.failures.Failure.{Failure}
 use Rattle.dp_top.specs.declared.failures.Failure.TheVariants as failure
-use Rattle.dp_run.specs.Programs.{Files}
 use Rattle.dp_ide.specs.Scripts.{IsScript}
-use Rattle.dp_top.specs.Ide.{IsBadAt, Unread, failure_of}
+use Rattle.dp_top.specs.Ide.{failure_of}
 use Rattle.dp_top.specs.Lines.{lines_limit}
 use Rattle.dp_top.specs.Links.{IsAccepted, IsUncalled, IsUsed, ReportsLinks}
 use Rattle.dp_top.specs.Seen.{Net}
@@ -20,16 +19,6 @@ use Rattle.dp_top.specs.Seen.{Net}
 pub record IsWholeScript (bytes : List ℕ) (instructions : List Instruction) : Type 0 where
   pub fits : length bytes ≤ lines_limit
   pub is_script : IsScript bytes instructions
-
--- why they are none, or memory ran out
-abbrev pub IsBadScript : Failure → List ℕ → List ℕ → Type 0
-IsBadScript (failure.Script line) name bytes = (name ≡ []) × IsBadAt bytes line
-IsBadScript failure.Memory name bytes = ⊤
-IsBadScript other name bytes = ⊥
-
-abbrev pub UnreadSo : Failure → List ℕ → List ℕ → Files → ℕ → ℕ → Type 0
-UnreadSo why name script files before after =
-    (why ≡ failure.Memory) ⊎ Unread why name script files before after
 
 -- ---- the link
 

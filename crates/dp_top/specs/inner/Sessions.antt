@@ -22,13 +22,13 @@ pub record ServedSo (unsent : Failure) (status : ℕ) (program : Bundle) (key : 
     (input out err : Change) : Type 0 where
   pub served : Served
   pub serves : Serves served program ask.bound key input out err
-  pub told : judged_by unsent ask served.outcome served.end ≡ Ok status
+  pub reported : judged_by unsent ask served.outcome served.end ≡ Ok status
 
 pub record EndedSo (unsent why : Failure) (name : List ℕ) (program : Bundle) (key : List ℕ)
     (ask : Invocation) (input out err : Change) : Type 0 where
   pub served : Served
   pub serves : Serves served program ask.bound key input out err
-  pub told : judged_by unsent ask served.outcome served.end ≡ Err (why, name)
+  pub reported : judged_by unsent ask served.outcome served.end ≡ Err (why, name)
 
 -- one failed so, or memory ran out before it began
 abbrev pub UnservedSo : Failure → Failure → List ℕ → Bundle → List ℕ → Invocation

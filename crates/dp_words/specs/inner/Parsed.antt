@@ -19,7 +19,7 @@ invocation_in p = option_map (λ bound. record { bound = bound; names = p.words 
 pub record IsParsed (words : List (List ℕ)) (p : Parsed) : Type 0 where
   pub behind : List (List ℕ)
   pub words_are : words ≡ p.name ∷ behind
-  pub asked : invocation_of behind ≡ invocation_in p
+  pub invocation : invocation_of behind ≡ invocation_in p
   pub unbound : p.bound ≡ None → behind ≡ p.words
   pub bounded : (number : List ℕ) → p.bound ≡ Some number
       → behind ≡ codes "--bound" ∷ number ∷ p.words

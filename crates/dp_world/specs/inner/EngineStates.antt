@@ -6,7 +6,7 @@ use Rattle.dp_engine.specs.declared.session.SessionEnd.{SessionEnd}
 use Rattle.dp_engine.specs.Answers.{answer}
 use Rattle.dp_engine.specs.Served.{alone_with, answers_to, ending, own}
 use Rattle.dp_engine.specs.Session.{State}
-use Rattle.dp_serving.specs.Folds.{Reply, replies}
+use Rattle.dp_conversation.specs.Folds.{Reply, replies}
 use Rattle.dp_wire.specs.Frames.{IsCommand, command_frame, commands_in, rest_of}
 use Rattle.dp_wire.specs.Frames.{packet_frame, packets_in}
 use Rattle.dp_lanes.specs.declared.lane.LaneKind.TheVariants.{Up, Down}

@@ -112,7 +112,7 @@ AreShown bundle bound past links =
 pub record IsWorldAfter (bundle : Bundle) (bound : ℕ) (events : List Event) (keeps : Keeps)
     (links : List (ℕ × Shown)) : Type 0 where
   pub came : List ProxyEvent
-  pub stands : Represents keeps came
+  pub represents : Represents keeps came
   pub past : core.past_of came ≡ past_of bundle bound events
   pub keys : keys_of links ≡ made events
   pub each : AreShown bundle bound (past_of bundle bound events) links
@@ -121,5 +121,5 @@ pub record IsWorldAfter (bundle : Bundle) (bound : ℕ) (events : List Event) (k
 pub record MayTake (bundle : Bundle) (bound : ℕ) (keeps : Keeps) (links : List (ℕ × Shown))
     (event : Event) : Type 0 where
   pub events : List Event
-  pub stands : IsWorldAfter bundle bound events keeps links
+  pub world : IsWorldAfter bundle bound events keeps links
   pub fits : Fits events event

@@ -1,9 +1,7 @@
 -- Writes as the code makes them.
-use Rattle.std.specs.Prelude.{◌≡◌, ℕ, List, [], length, Option, Some, None, Result, Ok, Err, ⊤}
+use Rattle.std.specs.Prelude.{◌≡◌, ℕ, List, [], length, Some, None, Result, Ok, Err, ⊤}
 use Rattle.dp_features.specs.Features.{Features}
 use Rattle.dp_meaning.specs.declared.writes.Write.{Write}
-use Rattle.dp_meaning.specs.declared.writes.WriteAnswer.{WriteAnswer}
-use Rattle.dp_meaning.specs.declared.writes.WriteAnswer.TheVariants as answer
 use Rattle.dp_meaning.specs.declared.writes.WriteFault.{WriteFault}
 use Rattle.dp_meaning.specs.declared.writes.WriteFault.TheVariants.{NoFrame, NoPlace}
 use Rattle.dp_meaning.specs.Writes.{evaluation_setting, one_write}
@@ -55,11 +53,6 @@ Puts asked before after (Ok done) = coded asked ≡ Ok after
 Puts asked before after (Err (Code code)) = (coded asked ≡ Err code) × (after ≡ before)
 Puts asked before after (Err Memory) = after ≡ before
 
--- what the value of an evaluation is, or that there is none
-abbrev pub answer_by : Option Value → WriteAnswer
-answer_by None = answer.Fatal
-answer_by (Some value) = answer.Value value
-
 -- 206 where a text is no expression, unless memory runs out
 abbrev pub error_of : ParseError → ViewError
 error_of parse_error.Memory = Memory
@@ -70,7 +63,7 @@ abbrev pub with_response : Response → Result ⊤ ViewError → Result Response
 with_response r (Ok done) = Ok r
 with_response r (Err why) = Err why
 
--- the state after an evaluation, where it is reported
+-- the state after an evaluation, if there is a response to it
 abbrev pub kept_by : Result Response ViewError → State → State → State
 kept_by (Ok r) after before = after
 kept_by (Err why) after before = before
@@ -80,7 +73,7 @@ abbrev pub with_write : Write → Result Response ViewError → Result Written V
 with_write w (Ok r) = Ok (record { response = r; write = w })
 with_write w (Err why) = Err why
 
--- a write was made and its response is reported; else nothing has changed
+-- a write was made, and this is its response; else nothing has changed
 abbrev pub Makes : Bundle → Features → State → State → Text → Text → Write
     → Result Response ViewError → Type 0
 Makes bundle features before after command id w (Ok r) =

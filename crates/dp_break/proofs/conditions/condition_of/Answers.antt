@@ -13,21 +13,21 @@ returns-in-Ok-clause-found c =
     let text = c.args.text.now in
     let short : length text ≤ expression_limit = omega arith in
     subst (λ (r : Result Expression BreakError). IfOk r (λ e. condition_of text ≡ Some e)) (sym c.pure_only.ensures)
-    (pure_found text short c.in-Ok.e (ap expression_in (sym c.as_slice.ensures) ∙ c.in-Ok.ensures.told))
+    (pure_found text short c.in-Ok.e (ap expression_in (sym c.as_slice.ensures) ∙ c.in-Ok.ensures.read))
 
 pub returns-in-Ok-clause-refused : goal.returns-in-Ok-clause-refused
 returns-in-Ok-clause-refused c =
     let text = c.args.text.now in
     let short : length text ≤ expression_limit = omega arith in
     subst (λ (r : Result Expression BreakError). IfErr r (IsNoTree (Some text))) (sym c.pure_only.ensures)
-    (pure_refused text short c.in-Ok.e (ap expression_in (sym c.as_slice.ensures) ∙ c.in-Ok.ensures.told))
+    (pure_refused text short c.in-Ok.e (ap expression_in (sym c.as_slice.ensures) ∙ c.in-Ok.ensures.read))
 
 pub returns-in-Err-clause-refused : goal.returns-in-Err-clause-refused
 returns-in-Err-clause-refused c =
     let text = c.args.text.now in
     let short : length text ≤ expression_limit = omega arith in
     subst (IsNoTree (Some text)) (sym c.no_expression.ensures)
-    (why_none text short c.in-Err.why (λ some. ap expression_in (sym c.as_slice.ensures) ∙ c.in-Err.ensures.told some))
+    (why_none text short c.in-Err.why (λ some. ap expression_in (sym c.as_slice.ensures) ∙ c.in-Err.ensures.read some))
 
 pub returns-then-len-gt-EXPRESSION_LIMIT-clause-refused : goal.returns-then-len-gt-EXPRESSION_LIMIT-clause-refused
 returns-then-len-gt-EXPRESSION_LIMIT-clause-refused c = too_long c.args.text.now (omega arith)

@@ -1,5 +1,5 @@
 use Rattle.std.proofs.Common.{◌≡◌, suc, ◌-◌, arith, subst}
-use Rattle.dp_rules.specs.inner.Input.{Reads}
+use Rattle.dp_token_rules.specs.inner.Input.{Reads}
 use Rattle.dp_expressions.specs.inner.Readers.{below, reading}
 use Rattle.dp_expressions.proofs.expressions.+expression.Goals as goal
 

@@ -1,5 +1,5 @@
 use Rattle.std.proofs.Common.{◌≡◌, true, take}
-use Rattle.dp_lists.specs.inner.Spelling.{has_no_blank}
+use Rattle.dp_grammar.specs.Lines.{has_no_blank}
 use Rattle.dp_lists.proofs.spelling.first_blank.Given as goal
 
 abbrev pub invariant-loop-at : goal.invariant-loop-at

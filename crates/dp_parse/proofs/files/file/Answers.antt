@@ -1,9 +1,9 @@
 use Rattle.std.proofs.Common.{rules, arith}
 use Rattle.std.proofs.lemmas.Grind.{common_steps}
-use Rattle.dp_rules.specs.inner.Input.{until}
+use Rattle.dp_token_rules.specs.inner.Input.{until}
 use Rattle.dp_parse.specs.Limits.{limits}
 use Rattle.dp_parse.specs.inner.StatementRules.{file, file_step}
-use Rattle.dp_rules.proofs.Turns.{one_turn, no_turn}
+use Rattle.dp_token_rules.proofs.Turns.{one_turn, no_turn}
 use Rattle.dp_parse.proofs.files.file.Goals as goal
 
 pub returns-in_err-more : goal.returns-in_err-more

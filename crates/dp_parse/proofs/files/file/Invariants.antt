@@ -1,5 +1,5 @@
 use Rattle.std.proofs.Common.{◌≡◌, ◌-◌}
-use Rattle.dp_rules.specs.inner.Input.{closed, until}
+use Rattle.dp_token_rules.specs.inner.Input.{closed, until}
 use Rattle.dp_parse.specs.Limits.{limits}
 use Rattle.dp_parse.specs.Statements.{no_parts}
 use Rattle.dp_parse.specs.inner.StatementRules.{file_step}

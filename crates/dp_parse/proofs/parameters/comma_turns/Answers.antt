@@ -1,10 +1,10 @@
 use Rattle.std.proofs.Common.{rules, arith}
 use Rattle.std.proofs.lemmas.Grind.{common_steps}
-use Rattle.dp_rules.specs.inner.Input.{until}
-use Rattle.dp_rules.specs.declared.terminal.Terminal.TheVariants.{CloseParenthesis}
+use Rattle.dp_token_rules.specs.inner.Input.{until}
+use Rattle.dp_token_rules.specs.declared.terminal.Terminal.TheVariants.{CloseParenthesis}
 use Rattle.dp_parse.specs.inner.Parameters.{checked}
-use Rattle.dp_rules.specs.inner.ListReaders.{comma_step}
-use Rattle.dp_rules.proofs.Turns.{one_turn, no_turn}
+use Rattle.dp_token_rules.specs.inner.ListReaders.{comma_step}
+use Rattle.dp_token_rules.proofs.Turns.{one_turn, no_turn}
 use Rattle.dp_parse.proofs.parameters.comma_turns.Goals as goal
 
 pub returns-in_err-more : goal.returns-in_err-more

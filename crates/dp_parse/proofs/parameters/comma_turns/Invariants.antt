@@ -1,8 +1,8 @@
 use Rattle.std.proofs.Common.{◌≡◌, ◌-◌}
-use Rattle.dp_rules.specs.declared.terminal.Terminal.TheVariants.{CloseParenthesis}
-use Rattle.dp_rules.specs.inner.Input.{closed, until}
+use Rattle.dp_token_rules.specs.declared.terminal.Terminal.TheVariants.{CloseParenthesis}
+use Rattle.dp_token_rules.specs.inner.Input.{closed, until}
 use Rattle.dp_parse.specs.inner.Parameters.{checked}
-use Rattle.dp_rules.specs.inner.ListReaders.{comma_step}
+use Rattle.dp_token_rules.specs.inner.ListReaders.{comma_step}
 use Rattle.dp_parse.proofs.parameters.comma_turns.Given as goal
 
 abbrev pub invariant-loop-turn : goal.invariant-loop-turn

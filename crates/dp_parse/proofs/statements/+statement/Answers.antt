@@ -1,5 +1,5 @@
 use Rattle.std.proofs.Common.{arith, subst}
-use Rattle.dp_rules.specs.inner.Input.{Outcome, Reads}
+use Rattle.dp_token_rules.specs.inner.Input.{Outcome, Reads}
 use Rattle.dp_parse.specs.declared.ended.Body.{Body}
 use Rattle.dp_parse.proofs.NestedBodies.{body_is}
 use Rattle.dp_parse.proofs.statements.+statement.Goals as goal

@@ -57,13 +57,13 @@ returns-clause-refuses c = go
     go (error.DoubleFunction name) other h = absurd h
     go error.Memory other h = absurd (other refl)
 
-pub returns-in-Err-clause-told : goal.returns-in-Err-clause-told
-returns-in-Err-clause-told c =
+pub returns-in-Err-clause-read : goal.returns-in-Err-clause-read
+returns-in-Err-clause-read c =
     none_told c.args.bytes.now c.no_tokens.result (λ e h. c.no_tokens.ensures
     ∙ ap without_tokens (c.in-Err.ensures.only h.tokens h.are_tokens))
 
-pub returns-clause-told : goal.returns-clause-told
-returns-clause-told c =
+pub returns-clause-read : goal.returns-clause-read
+returns-clause-read c =
     told_by c.args.bytes.now c.as_slice.result.now (subst (λ ts. AreTokens c.args.bytes.now ts)
     (sym c.as_slice.ensures.value) c.in-Ok.ensures.found) c.expression_of.result c.expression_of.ensures.found
     (λ e h. c.expression_of.ensures.only e (subst (λ ts. SpellsExpression limits.expressions ts e)

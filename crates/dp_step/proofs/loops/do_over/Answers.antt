@@ -7,9 +7,9 @@ pub returns-in-On : goal.returns-in-On
 returns-in-On c = λ setting k s.
     (do-test setting k s c.args.turns c.args.left
     ∙ over-on setting k s c.args.given (do_test setting c.args.turns c.args.left)
-    (sym c.turn_over.ensures ∙ c.in-On.is))
+    (sym c.after_body.ensures ∙ c.in-On.is))
 
 pub returns-in-Out : goal.returns-in-Out
 returns-in-Out c = λ setting k s.
     rw c.signal.ensures (over-out setting k s c.args.given (do_test setting c.args.turns c.args.left) _
-    (sym c.turn_over.ensures ∙ c.in-Out.is))
+    (sym c.after_body.ensures ∙ c.in-Out.is))

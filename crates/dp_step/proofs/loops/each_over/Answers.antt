@@ -6,9 +6,9 @@ use Rattle.dp_step.proofs.loops.each_over.Goals as goal
 pub returns-in-On : goal.returns-in-On
 returns-in-On c = λ setting k s.
     (over-on setting k s c.args.given (each_from setting c.args.turns c.args.subject c.args.at)
-    (sym c.turn_over.ensures ∙ c.in-On.is))
+    (sym c.after_body.ensures ∙ c.in-On.is))
 
 pub returns-in-Out : goal.returns-in-Out
 returns-in-Out c = λ setting k s.
     rw c.signal.ensures (over-out setting k s c.args.given (each_from setting c.args.turns c.args.subject c.args.at) _
-    (sym c.turn_over.ensures ∙ c.in-Out.is))
+    (sym c.after_body.ensures ∙ c.in-Out.is))

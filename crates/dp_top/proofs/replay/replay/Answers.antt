@@ -2,8 +2,8 @@ use Rattle.std.proofs.Common.{◌≡◌, List, ℕ, Ok, Err, map, string_bytes, 
 use Rattle.std.specs.Prelude.{⊤}
 use Rattle.dp_outside.specs.Changes.{change}
 use Rattle.dp_outside.specs.Files.{Fetches}
-use Rattle.dp_run.specs.Programs.{AreFetched, Files, ProgramCaused}
-use Rattle.dp_run.proofs.RunLaws.{complete_unfetched, for_bundle}
+use Rattle.dp_program.specs.Programs.{AreFetched, Files, ProgramCaused}
+use Rattle.dp_program.proofs.RunLaws.{complete_unfetched, for_bundle}
 use Rattle.dp_tree.specs.declared.bundle.Bundle.{Bundle}
 use Rattle.dp_words.specs.Commands.{invocation_seen}
 use Rattle.dp_words.proofs.NameLaws.{names_of}

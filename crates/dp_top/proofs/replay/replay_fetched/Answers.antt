@@ -1,10 +1,12 @@
 use Rattle.std.proofs.Common.{Ok, Err, refl}
-use Rattle.dp_run.proofs.RunLaws.{complete_fetched}
+use Rattle.dp_program.proofs.RunLaws.{complete_fetched}
 use Rattle.dp_tree.specs.declared.bundle.Bundle.{Bundle}
 use Rattle.dp_top.proofs.RunReports.{complete_failure}
 use Rattle.dp_outside.specs.Changes.{change}
+use Rattle.dp_lists.specs.Lists.{IsFirstBad}
 use Rattle.dp_words.specs.Commands.{invocation_seen}
-use Rattle.dp_top.proofs.ReplayLaws.{bad_held, bad_list, held_list, over_complete, over_ends, unlisted_fails, unmade_fails}
+use Rattle.dp_top.proofs.LineLaws.{bad_bytes}
+use Rattle.dp_top.proofs.ReplayLaws.{bad_held, held_list, over_complete, over_ends, unlisted_fails, unmade_fails}
 use Rattle.dp_top.proofs.replay.replay_fetched.Goals as goal
 
 pub returns-in-Err-clause-ends : goal.returns-in-Err-clause-ends
@@ -13,7 +15,8 @@ returns-in-Err-clause-ends g c = λ files before after fetched are.
     let name = c.args.request.events.now in
     let out = change g.K.Sink.taken g.K.Sink.faults c.args.out.now c.args.out.now in
     unlisted_fails why.failure why.name.now name (invocation_seen c.args.request.program) files before after out
-    (bad_list why.failure why.name.now name c.args.content.now files before after fetched c.in-Err.ensures.bad)
+    (bad_bytes IsFirstBad why.failure why.name.now name c.args.content.now files before after fetched
+    c.in-Err.ensures.bad)
     (refl, refl)
 
 pub returns-in-Ok-make_program-clause-ends : goal.returns-in-Ok-make_program-clause-ends

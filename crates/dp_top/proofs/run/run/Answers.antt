@@ -1,6 +1,6 @@
 use Rattle.std.proofs.Common.{ℕ, Ok, Err, inl}
 use Rattle.std.specs.Prelude.{⊤}
-use Rattle.dp_run.specs.Runs.{of_program}
+use Rattle.dp_program.specs.Runs.{of_program}
 use Rattle.dp_words.specs.Commands.{invocation_seen}
 use Rattle.dp_words.proofs.NameLaws.{names_of}
 use Rattle.dp_top.proofs.RunReports.{complete_run, complete_status, fetched}
@@ -22,7 +22,7 @@ returns-in-Err-clause-held g c asked held =
 
 pub returns-in-Err-clause-ends : goal.returns-in-Err-clause-ends
 returns-in-Err-clause-ends g c =
-    record { why = c.in-Err.why; caused = c.in-Err.ensures.ends; told = inl c.refusal_of_run.ensures }
+    record { why = c.in-Err.why; caused = c.in-Err.ensures.ends; reported = inl c.refusal_of_run.ensures }
 
 pub returns-in-Ok-clause-fetched : goal.returns-in-Ok-clause-fetched
 returns-in-Ok-clause-fetched g c =

@@ -7,8 +7,8 @@ use Rattle.dp_words.specs.CommandLine.{run, talk, engine, ide, replay, show, IsI
 use Rattle.dp_words.specs.Commands.{task_of}
 use Rattle.dp_top.proofs.top_call.top.Goals as goal
 
-pub carry_out_on-requires-clause-asked : goal.carry_out_on-requires-clause-asked
-carry_out_on-requires-clause-asked g c =
+pub carry_out_on-requires-clause-invocation : goal.carry_out_on-requires-clause-invocation
+carry_out_on-requires-clause-invocation g c =
     let found : IsInvocation (map string_bytes c.args.words.now)
     (task_of c.in-Ok-Some.command) = rw c.in-Ok-Some.field-0-is at
     c.in-Ok-Some.ensures.found in
@@ -40,20 +40,20 @@ returns-in-Ok-None-clause-refused g c =
 
 pub returns-in-Err-carry_out_on-clause-done : goal.returns-in-Err-carry_out_on-clause-done
 returns-in-Err-carry_out_on-clause-done g c =
-    λ low. let above = told_above c.report.result c.in-Err-carry_out_on.refused.failure _ _ c.report.ensures.told in
+    λ low. let above = told_above c.report.result c.in-Err-carry_out_on.refused.failure _ _ c.report.ensures.reported in
     absurd (omega (arith, above, low))
 
 pub returns-in-Err-carry_out_on-clause-fails : goal.returns-in-Err-carry_out_on-clause-fails
 returns-in-Err-carry_out_on-clause-fails g c = λ some.
     inl (fails_told c.report.result _ (task_of c.in-Ok-Some.command) c.in-Err-carry_out_on.refused.name.now _ _ _
     c.in-Err-carry_out_on.refused.failure (rw c.in-Ok-Some.field-0-is at c.in-Ok-Some.ensures.found)
-    c.in-Err-carry_out_on.ensures.ends c.report.ensures.later c.report.ensures.told)
+    c.in-Err-carry_out_on.ensures.ends c.report.ensures.later c.report.ensures.reported)
 
 pub returns-in-Err-carry_out_on-clause-complete_talk : goal.returns-in-Err-carry_out_on-clause-complete_talk
 returns-in-Err-carry_out_on-clause-complete_talk g c = λ key ask program is held none.
     complete_talk_told c.report.result _ (task_of c.in-Ok-Some.command) _ _ c.in-Err-carry_out_on.refused _ _
     (rw c.in-Ok-Some.field-0-is at c.in-Ok-Some.ensures.found) c.in-Err-carry_out_on.ensures.ends
-    c.in-Err-carry_out_on.ensures.held c.report.ensures.told
+    c.in-Err-carry_out_on.ensures.held c.report.ensures.reported
     key ask program is held
     (record {
       shelf = none.shelf;
@@ -68,7 +68,7 @@ pub returns-in-Err-carry_out_on-clause-complete_engine : goal.returns-in-Err-car
 returns-in-Err-carry_out_on-clause-complete_engine g c = λ address key ask program is held none.
     complete_engine_told c.report.result _ (task_of c.in-Ok-Some.command) _ _ c.in-Err-carry_out_on.refused _ _
     (rw c.in-Ok-Some.field-0-is at c.in-Ok-Some.ensures.found) c.in-Err-carry_out_on.ensures.ends
-    c.in-Err-carry_out_on.ensures.held c.report.ensures.told
+    c.in-Err-carry_out_on.ensures.held c.report.ensures.reported
     address key ask program is held
     (record {
       shelf = none.shelf;
@@ -89,13 +89,13 @@ returns-in-Err-carry_out_on-clause-complete_show g c =
     complete_show_fails c.report.result _ _ _
     (fails_told c.report.result _ (task_of c.in-Ok-Some.command) c.in-Err-carry_out_on.refused.name.now _ _ _
     c.in-Err-carry_out_on.refused.failure (rw c.in-Ok-Some.field-0-is at c.in-Ok-Some.ensures.found)
-    c.in-Err-carry_out_on.ensures.ends c.report.ensures.later c.report.ensures.told)
+    c.in-Err-carry_out_on.ensures.ends c.report.ensures.later c.report.ensures.reported)
 
 pub returns-in-Err-carry_out_on-clause-complete_run : goal.returns-in-Err-carry_out_on-clause-complete_run
 returns-in-Err-carry_out_on-clause-complete_run g c = λ ask program is held none.
     complete_run_told c.report.result _ (task_of c.in-Ok-Some.command) _ _ c.in-Err-carry_out_on.refused _ _
     (rw c.in-Ok-Some.field-0-is at c.in-Ok-Some.ensures.found) c.in-Err-carry_out_on.ensures.ends
-    c.in-Err-carry_out_on.ensures.held c.report.ensures.told
+    c.in-Err-carry_out_on.ensures.held c.report.ensures.reported
     ask program is held
     (record {
       shelf = none.shelf;
@@ -108,7 +108,7 @@ returns-in-Err-carry_out_on-clause-complete_run g c = λ ask program is held non
 
 pub returns-in-Err-carry_out_on-clause-refused : goal.returns-in-Err-carry_out_on-clause-refused
 returns-in-Err-carry_out_on-clause-refused g c = λ task ask why asks is held.
-    refused_told c.report.result _ _ c.in-Err-carry_out_on.refused.failure _ _ c.report.ensures.told
+    refused_told c.report.result _ _ c.in-Err-carry_out_on.refused.failure _ _ c.report.ensures.reported
     ((c.in-Err-carry_out_on.ensures.held ask (asks_program _ (task_of c.in-Ok-Some.command) task ask
     (rw c.in-Ok-Some.field-0-is at c.in-Ok-Some.ensures.found) asks is)).by_files (Err why) held)
 
@@ -174,19 +174,19 @@ pub returns-in-Err-carry_out_on-clause-script_refused : goal.returns-in-Err-carr
 returns-in-Err-carry_out_on-clause-script_refused g c =
     script_refused_told c.report.result _ (task_of c.in-Ok-Some.command) _ _ c.in-Err-carry_out_on.refused _ _
     (rw c.in-Ok-Some.field-0-is at c.in-Ok-Some.ensures.found) c.in-Err-carry_out_on.ensures.ends
-    c.report.ensures.told
+    c.report.ensures.reported
 
 pub returns-in-Err-carry_out_on-clause-script_held : goal.returns-in-Err-carry_out_on-clause-script_held
 returns-in-Err-carry_out_on-clause-script_held g c =
     script_held_told c.report.result _ (task_of c.in-Ok-Some.command) _ _ c.in-Err-carry_out_on.refused _ _
     (rw c.in-Ok-Some.field-0-is at c.in-Ok-Some.ensures.found) c.in-Err-carry_out_on.ensures.ends
-    c.report.ensures.told
+    c.report.ensures.reported
 
 pub returns-in-Err-carry_out_on-clause-complete_ide : goal.returns-in-Err-carry_out_on-clause-complete_ide
 returns-in-Err-carry_out_on-clause-complete_ide g c = λ port script instructions is told held none.
     complete_ide_told c.report.result _ (task_of c.in-Ok-Some.command) _ _ c.in-Err-carry_out_on.refused _ _
     (rw c.in-Ok-Some.field-0-is at c.in-Ok-Some.ensures.found) c.in-Err-carry_out_on.ensures.ends
-    c.report.ensures.told
+    c.report.ensures.reported
     port script instructions is told held
     (record {
       shelf = none.shelf;
@@ -230,17 +230,17 @@ pub returns-in-Err-carry_out_on-clause-list_refused : goal.returns-in-Err-carry_
 returns-in-Err-carry_out_on-clause-list_refused g c =
     list_refused_told c.report.result _ (task_of c.in-Ok-Some.command) _ _ c.in-Err-carry_out_on.refused _ _
     (rw c.in-Ok-Some.field-0-is at c.in-Ok-Some.ensures.found) c.in-Err-carry_out_on.ensures.ends
-    c.report.ensures.told
+    c.report.ensures.reported
 
 pub returns-in-Err-carry_out_on-clause-list_held : goal.returns-in-Err-carry_out_on-clause-list_held
 returns-in-Err-carry_out_on-clause-list_held g c =
     list_held_told c.report.result _ (task_of c.in-Ok-Some.command) _ _ c.in-Err-carry_out_on.refused _ _
     (rw c.in-Ok-Some.field-0-is at c.in-Ok-Some.ensures.found) c.in-Err-carry_out_on.ensures.ends
-    c.report.ensures.told
+    c.report.ensures.reported
 
 pub returns-in-Err-carry_out_on-clause-replay_refused : goal.returns-in-Err-carry_out_on-clause-replay_refused
 returns-in-Err-carry_out_on-clause-replay_refused g c = λ events ask list why is held holds.
-    refused_told c.report.result _ _ c.in-Err-carry_out_on.refused.failure _ _ c.report.ensures.told
+    refused_told c.report.result _ _ c.in-Err-carry_out_on.refused.failure _ _ c.report.ensures.reported
     ((c.in-Err-carry_out_on.ensures.replay_held events ask (asks_replay _ (task_of c.in-Ok-Some.command) events ask
     (rw c.in-Ok-Some.field-0-is at c.in-Ok-Some.ensures.found) is)).by_files (Err why) holds list held)
 
@@ -248,7 +248,7 @@ pub returns-in-Err-carry_out_on-clause-complete_replay : goal.returns-in-Err-car
 returns-in-Err-carry_out_on-clause-complete_replay g c = λ events ask list program is held holds none.
     complete_replay_told c.report.result _ (task_of c.in-Ok-Some.command) _ _ c.in-Err-carry_out_on.refused _ _
     (rw c.in-Ok-Some.field-0-is at c.in-Ok-Some.ensures.found) c.in-Err-carry_out_on.ensures.ends
-    c.report.ensures.told
+    c.report.ensures.reported
     events ask list is holds.tells held
     ((c.in-Err-carry_out_on.ensures.replay_held events ask (asks_replay _ (task_of c.in-Ok-Some.command) events ask
     (rw c.in-Ok-Some.field-0-is at c.in-Ok-Some.ensures.found) is)).by_files (Ok program) holds list held)

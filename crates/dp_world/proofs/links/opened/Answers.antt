@@ -3,7 +3,7 @@ use Rattle.std.proofs.lemmas.Option.{same_Some}
 use Rattle.dp_lists.specs.declared.event.Act.{Act}
 use Rattle.dp_registry.specs.Verdicts.{admit_verdict}
 use Rattle.dp_proxy.specs.Pasts.{New, Lead, lead, admission}
-use Rattle.dp_proxy.proofs.TurnLaws.{ide_comes, engine_comes}
+use Rattle.dp_proxy.proofs.ActLaws.{ide_comes, engine_comes}
 use Rattle.dp_world.specs.Engines.{act_of}
 use Rattle.dp_world.specs.inner.KeptLinks.{IsRegistration, IsShownAt}
 use Rattle.dp_world.proofs.links.opened.Goals as goal

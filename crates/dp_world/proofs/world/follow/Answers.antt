@@ -9,7 +9,7 @@ use Rattle.dp_world.proofs.world.follow.Goals as goal
 pub take-requires-clause-may : goal.take-requires-clause-may
 take-requires-clause-may g c = record {
   events = take c.events.event-index c.args.events.now;
-  stands = c.events.invariant;
+  world = c.events.invariant;
   fits =
       fit_item [] c.args.events.now c.events.event-index c.event-item.result c.requires.fit
       (omega arith) c.event-item.is;

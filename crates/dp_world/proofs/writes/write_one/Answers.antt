@@ -1,5 +1,5 @@
 use Rattle.std.proofs.lemmas.Result.{err_from_is_err_and}
-use Rattle.dp_serving.proofs.FrontLaws.{front_none}
+use Rattle.dp_conversation.proofs.FrontLaws.{front_none}
 use Rattle.dp_world.specs.Transcript.{shown}
 use Rattle.dp_world.proofs.writes.write_one.Goals as goal
 

@@ -13,7 +13,7 @@ tell-requires c = let sent = c.in-Ok.ensures.is_sent in fits_known c.in-Ok.respo
 pub invariant_of-self : goal.invariant_of-self
 invariant_of-self c =
     let s = c.self.inside in
-    let at = ap (λ k. k.phase) c.self.view_is ∙ c.requires.stands in
+    let at = ap (λ k. k.phase) c.self.view_is ∙ c.requires.is_break in
     let after = c.accept-made.new.program in
     let kept = c.accept-made.new.writes.items in
     let command = c.args.to.now.command in
@@ -64,4 +64,4 @@ pub returns-in-Ok-clause-stays : goal.returns-in-Ok-clause-stays
 returns-in-Ok-clause-stays c =
     let s = c.self.inside in
     rw (← c.self.view_is) (write_stays s.bundle.now s.bound s.writes.items s.moment s.position s.features s.stdout
-    s.breaks s.machine c.accept-made.new.writes.items (ap (λ k. k.phase) c.self.view_is ∙ c.requires.stands))
+    s.breaks s.machine c.accept-made.new.writes.items (ap (λ k. k.phase) c.self.view_is ∙ c.requires.is_break))

@@ -1,8 +1,8 @@
 use Rattle.std.proofs.Common.{rules, arith}
 use Rattle.std.proofs.lemmas.Grind.{common_steps}
-use Rattle.dp_rules.specs.inner.Input.{until}
+use Rattle.dp_token_rules.specs.inner.Input.{until}
 use Rattle.dp_expressions.specs.inner.Readers.{links_of, links_step, ladder, alone, below}
-use Rattle.dp_rules.proofs.Turns.{one_turn, no_turn}
+use Rattle.dp_token_rules.proofs.Turns.{one_turn, no_turn}
 use Rattle.dp_expressions.proofs.grammar.Grammar.+ladder.Goals as goal
 
 pub links_of-returns-in_err-next : goal.links_of-returns-in_err-next

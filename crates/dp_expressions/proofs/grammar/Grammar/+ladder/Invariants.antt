@@ -1,5 +1,5 @@
 use Rattle.std.proofs.Common.{◌≡◌, ◌+◌, ◌*◌, ◌-◌, length}
-use Rattle.dp_rules.specs.inner.Input.{until}
+use Rattle.dp_token_rules.specs.inner.Input.{until}
 use Rattle.dp_expressions.specs.inner.Readers.{links_of, links_step, ladder, alone, below}
 use Rattle.dp_expressions.proofs.grammar.Grammar.+ladder.Given as goal
 

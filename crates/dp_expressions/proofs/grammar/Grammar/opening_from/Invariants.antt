@@ -1,5 +1,5 @@
 use Rattle.std.proofs.Common.{◌≡◌, ◌-◌, []}
-use Rattle.dp_rules.specs.inner.Input.{closed, until}
+use Rattle.dp_token_rules.specs.inner.Input.{closed, until}
 use Rattle.dp_expressions.specs.inner.Readers.{opening_step, below}
 use Rattle.dp_expressions.proofs.grammar.Grammar.opening_from.Given as goal
 

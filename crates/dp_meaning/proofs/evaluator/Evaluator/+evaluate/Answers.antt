@@ -759,7 +759,7 @@ turns-returns-in-Out g t c =
     (goes_by c.args.self.now)) (omega arith) _ _ c.in_ok-place.ensures _ _ c.in_ok-values.ensures
     (rw c.as_slice.ensures at
     (sym c.last_holds-on.ensures ∙ c.if-not-on.false)) _ _ c.in_ok-statement.ensures _
-    (sym c.turn_over.ensures ∙ c.in-Out.is))
+    (sym c.after_body.ensures ∙ c.in-Out.is))
 
 pub turns-returns-in_err-done : goal.turns-returns-in_err-done
 turns-returns-in_err-done g t c =
@@ -768,7 +768,7 @@ turns-returns-in_err-done g t c =
     (evaluations c.args.after.now (goes_by c.args.self.now)) (statement_run c.args.body.now (goes_by c.args.self.now))
     (omega arith) _ _ c.in_ok-place.ensures _ _ c.in_ok-values.ensures (rw c.as_slice.ensures at
     (sym c.last_holds-on.ensures ∙ c.if-not-on.false)) _ _ c.in_ok-statement.ensures
-    (sym c.turn_over.ensures ∙ c.in-On.is) _ _ c.in_err-done.ensures))
+    (sym c.after_body.ensures ∙ c.in-On.is) _ _ c.in_err-done.ensures))
 
 pub turns-loop-turn-preserved : goal.turns-loop-turn-preserved
 turns-loop-turn-preserved g t c =
@@ -779,7 +779,7 @@ turns-loop-turn-preserved g t c =
     (goes_by c.args.self.now)) (omega arith) _ _ c.in_ok-place.ensures _ _ c.in_ok-values.ensures
     (rw c.as_slice.ensures at
     (sym c.last_holds-on.ensures ∙ c.if-not-on.false)) _ _ c.in_ok-statement.ensures
-    (sym c.turn_over.ensures ∙ c.in-On.is) _ _ x u c.in_ok-done.ensures (rw n at e))
+    (sym c.after_body.ensures ∙ c.in-On.is) _ _ x u c.in_ok-done.ensures (rw n at e))
 
 pub turns-returns : goal.turns-returns
 turns-returns g t c = let n : c.args.left - c.loop-turn._turn ≡ 0 = omega arith in c.loop-turn.invariant _ _ (rw n ends)
@@ -796,21 +796,21 @@ do_turns-returns-in-Out g t c =
     c.loop-turn.invariant _ _ (do-body-out _ (c.args.left - c.loop-turn._turn) c.args.line (evaluation c.args.test.now
     (goes_by c.args.self.now)) (statement_run c.args.body.now (goes_by c.args.self.now))
     (omega arith) _ _ _ c.in_ok-statement.ensures _
-    (sym c.turn_over.ensures ∙ c.in-Out.is))
+    (sym c.after_body.ensures ∙ c.in-Out.is))
 
 pub do_turns-returns-in_err-place : goal.do_turns-returns-in_err-place
 do_turns-returns-in_err-place g t c =
     exits _ _ c.from_residual-in_err-place.ensures.1 (c.loop-turn.invariant _ _ (do-stops _
     (c.args.left - c.loop-turn._turn) c.args.line (evaluation c.args.test.now (goes_by c.args.self.now))
     (statement_run c.args.body.now (goes_by c.args.self.now)) (omega arith) _ _ _ c.in_ok-statement.ensures
-    (sym c.turn_over.ensures ∙ c.in-On.is) _ _ c.in_err-place.ensures))
+    (sym c.after_body.ensures ∙ c.in-On.is) _ _ c.in_err-place.ensures))
 
 pub do_turns-returns-in_err-holds : goal.do_turns-returns-in_err-holds
 do_turns-returns-in_err-holds g t c =
     exits _ _ c.from_residual-in_err-holds.ensures.1 (c.loop-turn.invariant _ _ (do-test-breaks _
     (c.args.left - c.loop-turn._turn) c.args.line (evaluation c.args.test.now (goes_by c.args.self.now))
     (statement_run c.args.body.now (goes_by c.args.self.now)) (omega arith) _ _ _ c.in_ok-statement.ensures
-    (sym c.turn_over.ensures ∙ c.in-On.is) _ c.in_ok-place.ensures _ _
+    (sym c.after_body.ensures ∙ c.in-On.is) _ c.in_ok-place.ensures _ _
     (then_on c.expression.ensures (c.in_err-holds.ensures _))))
 
 pub do_turns-returns-then-not-holds : goal.do_turns-returns-then-not-holds
@@ -818,7 +818,7 @@ do_turns-returns-then-not-holds g t c =
     c.loop-turn.invariant _ _ (do-end _ (c.args.left - c.loop-turn._turn) c.args.line (evaluation c.args.test.now
     (goes_by c.args.self.now)) (statement_run c.args.body.now (goes_by c.args.self.now))
     (omega arith) _ _ _ c.in_ok-statement.ensures
-    (sym c.turn_over.ensures ∙ c.in-On.is) _ c.in_ok-place.ensures _ _
+    (sym c.after_body.ensures ∙ c.in-On.is) _ c.in_ok-place.ensures _ _
     (then_on c.expression.ensures (c.in_ok-holds.ensures _)) c.if-not-holds.true)
 
 pub do_turns-loop-turn-preserved : goal.do_turns-loop-turn-preserved
@@ -827,7 +827,7 @@ do_turns-loop-turn-preserved g t c =
     c.loop-turn.invariant x u (do-goes-on _ (c.args.left - c.loop-turn._turn) c.args.line (evaluation c.args.test.now
     (goes_by c.args.self.now)) (statement_run c.args.body.now (goes_by c.args.self.now))
     (omega arith) _ _ _ c.in_ok-statement.ensures
-    (sym c.turn_over.ensures ∙ c.in-On.is) _ c.in_ok-place.ensures _ _
+    (sym c.after_body.ensures ∙ c.in-On.is) _ c.in_ok-place.ensures _ _
     (then_on c.expression.ensures (c.in_ok-holds.ensures _))
     c.if-not-holds.false x u (rw n at e))
 
@@ -872,7 +872,7 @@ each-returns-in-Out g t c =
     (each-out _ c.args.line c.args.binding.now r.0 _ (statement_run c.args.body.now (goes_by c.args.self.now)) _ _
     c.in_ok-place.ensures _
     (at_once (c.in_ok-bind_entry.ensures r.0 r.1)) _ _ c.in_ok-statement.ensures _
-    (sym c.turn_over.ensures ∙ c.in-Out.is)))
+    (sym c.after_body.ensures ∙ c.in-Out.is)))
 
 pub each-loop-at-preserved : goal.each-loop-at-preserved
 each-loop-at-preserved g t c =
@@ -882,7 +882,7 @@ each-loop-at-preserved g t c =
     (each-goes-on _ c.args.line c.args.binding.now r.0 _ (statement_run c.args.body.now (goes_by c.args.self.now)) _ _
     c.in_ok-place.ensures _
     (at_once (c.in_ok-bind_entry.ensures r.0 r.1)) _ _ c.in_ok-statement.ensures
-    (sym c.turn_over.ensures ∙ c.in-On.is) x u (rw add-one at e)))
+    (sym c.after_body.ensures ∙ c.in-On.is) x u (rw add-one at e)))
 
 pub each-returns : goal.each-returns
 each-returns g t c =

@@ -1,5 +1,5 @@
 use Rattle.std.proofs.Common.{ap}
-use Rattle.dp_meaning.specs.declared.pure.Quiet.{Quiet}
+use Rattle.dp_meaning.specs.declared.pure.Unwatched.{Unwatched}
 use Rattle.dp_actions.specs.Expressions.{evaluation}
 use Rattle.dp_actions.specs.Loops.{do_turns}
 use Rattle.dp_meaning.specs.Statements.{statement_run}
@@ -12,5 +12,5 @@ returns c =
     runs-whole c.args.self.now (λ setting s. do_turns c.args.left c.args.line (evaluation c.args.test.now setting)
     (statement_run c.args.body.now setting) s)
     c.do_turns.result c.args.state.now c.do_turns.new.state _ _ _ _
-    (ap (λ (q : Quiet). q.bound) c.evaluator.ensures.quiet) by.0 by.1 by.2
+    (ap (λ (q : Unwatched). q.bound) c.evaluator.ensures.unwatched) by.0 by.1 by.2
     c.do_turns.ensures.meets

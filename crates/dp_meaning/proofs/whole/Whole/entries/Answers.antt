@@ -1,5 +1,5 @@
 use Rattle.std.proofs.Common.{drop, ap}
-use Rattle.dp_meaning.specs.declared.pure.Quiet.{Quiet}
+use Rattle.dp_meaning.specs.declared.pure.Unwatched.{Unwatched}
 use Rattle.dp_actions.specs.Loops.{each_run, entries}
 use Rattle.dp_meaning.specs.Statements.{statement_run}
 use Rattle.dp_meaning.proofs.Wholes.{runs-whole}
@@ -11,6 +11,7 @@ returns c =
     runs-whole c.args.self.now (λ setting s. each_run c.args.line c.args.binding.now
     (drop c.args.from (entries c.args.subject.now))
     (statement_run c.args.body.now setting) s)
-    c.each.result c.args.state.now c.each.new.state _ _ _ _ (ap (λ (q : Quiet). q.bound) c.evaluator.ensures.quiet) by.0
+    c.each.result c.args.state.now c.each.new.state _ _ _ _
+    (ap (λ (q : Unwatched). q.bound) c.evaluator.ensures.unwatched) by.0
     by.1 by.2
     c.each.ensures.meets

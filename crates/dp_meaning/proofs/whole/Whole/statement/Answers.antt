@@ -1,5 +1,5 @@
 use Rattle.std.proofs.Common.{ap}
-use Rattle.dp_meaning.specs.declared.pure.Quiet.{Quiet}
+use Rattle.dp_meaning.specs.declared.pure.Unwatched.{Unwatched}
 use Rattle.dp_meaning.specs.Statements.{statement_run}
 use Rattle.dp_meaning.proofs.Wholes.{runs-whole}
 use Rattle.dp_meaning.proofs.whole.Whole.statement.Goals as goal
@@ -9,5 +9,5 @@ returns c =
     let by = c.evaluator.ensures.by in
     runs-whole c.args.self.now (statement_run c.args.statement.now)
     c.statement.result c.args.state.now c.statement.new.state _ _ _ _
-    (ap (λ (q : Quiet). q.bound) c.evaluator.ensures.quiet) by.0 by.1 by.2
+    (ap (λ (q : Unwatched). q.bound) c.evaluator.ensures.unwatched) by.0 by.1 by.2
     c.statement.ensures.meets

@@ -1,5 +1,5 @@
 use Rattle.std.proofs.Common.{◌≡◌, ◌-◌}
-use Rattle.dp_rules.specs.inner.Input.{closed, until}
+use Rattle.dp_token_rules.specs.inner.Input.{closed, until}
 use Rattle.dp_parse.specs.inner.Within.{within}
 use Rattle.dp_parse.specs.inner.StatementRules.{arms_step}
 use Rattle.dp_parse.proofs.grammar.Statements.arms.Given as goal

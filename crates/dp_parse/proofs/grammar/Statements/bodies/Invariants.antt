@@ -1,5 +1,5 @@
 use Rattle.std.proofs.Common.{◌≡◌, ◌-◌, []}
-use Rattle.dp_rules.specs.inner.Input.{closed, until}
+use Rattle.dp_token_rules.specs.inner.Input.{closed, until}
 use Rattle.dp_parse.specs.inner.Within.{body}
 use Rattle.dp_parse.specs.inner.StatementRules.{bodies_step}
 use Rattle.dp_parse.proofs.grammar.Statements.bodies.Given as goal

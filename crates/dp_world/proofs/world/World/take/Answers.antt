@@ -10,13 +10,13 @@ pass-requires g c =
     let n = c.args.bound in
     let e = c.args.event.now in
     let m = c.requires.may in
-    let w = m.stands in
+    let w = m.world in
     let act = c.in_ok-act.act in
     let isnt = sym c.makes.ensures ∙ c.if-makes.false in
     let ready = c.in_ok-act.ensures.ready b n ((past_of b n m.events).link e.link) (w.each e.link) in
     let told = law.told_at b n m.events e c.args.self.now.proxy c.args.self.now.links.entries w act
     c.brought.new.links.entries c.in_ok-act.ensures.others ready c.step.new.self (Ok c.in-Ok.effect)
-    (c.in-Ok.ensures.answers w.came w.stands) in
+    (c.in-Ok.ensures.answers w.came w.represents) in
     law.taken b n m.events e c.args.self.now.proxy c.args.self.now.links.entries w act c.brought.new.links.entries
     c.in_ok-act.ensures.others ready c.step.new.self isnt c.in-Ok.effect told.1
 
@@ -30,10 +30,10 @@ returns-in-Ok g c = λ events w fits.
     let ready = c.in_ok-act.ensures.ready b n ((past_of b n events).link e.link) (w.each e.link) in
     let told = law.told_at b n events e c.args.self.now.proxy c.args.self.now.links.entries w act
     c.brought.new.links.entries c.in_ok-act.ensures.others ready c.step.new.self (Ok c.in-Ok.effect)
-    (c.in-Ok.ensures.answers w.came w.stands) in
+    (c.in-Ok.ensures.answers w.came w.represents) in
     law.on_ok c.pass.result (λ after. law.passed_stands b n events e c.args.self.now.proxy c.args.self.now.links.entries
     w act c.brought.new.links.entries c.in_ok-act.ensures.others ready c.step.new.self isnt
-    c.pass.new.links.entries c.in-Ok.effect told.1 (c.in-Ok.ensures.stands w.came w.stands)
+    c.pass.new.links.entries c.in-Ok.effect told.1 (c.in-Ok.ensures.stands w.came w.represents)
     (c.in_ok-act.ensures.passes isnt) c.pass.ensures.others after) c.pass.ensures.after
 
 pub returns-then-makes : goal.returns-then-makes
@@ -47,14 +47,14 @@ returns-then-makes g c = λ events w fits.
     let ready = c.in_ok-act.ensures.ready b n ((past_of b n events).link e.link) (w.each e.link) in
     let told = law.told_at b n events e c.args.self.now.proxy c.args.self.now.links.entries w act
     c.brought.new.links.entries c.in_ok-act.ensures.others ready c.step.new.self (Ok c.in-Ok.effect)
-    (c.in-Ok.ensures.answers w.came w.stands) in
+    (c.in-Ok.ensures.answers w.came w.represents) in
     let none = law.mid_none b n events e c.args.self.now.proxy c.args.self.now.links.entries w act
     c.brought.new.links.entries c.in_ok-act.ensures.others ready c.step.new.self new in
     let at_new = law.made_told b n events e c.args.self.now.proxy c.args.self.now.links.entries w act
     c.brought.new.links.entries c.in_ok-act.ensures.others ready c.step.new.self c.in-Ok.effect new told.1 in
     law.on_ok c.make.result (λ put. law.made_stands b n events e c.args.self.now.proxy c.args.self.now.links.entries w
     act c.brought.new.links.entries c.in_ok-act.ensures.others ready c.step.new.self
-    c.make.new.links.entries is new (c.in-Ok.ensures.stands w.came w.stands) put)
+    c.make.new.links.entries is new (c.in-Ok.ensures.stands w.came w.represents) put)
     (c.make.ensures (past_of b n events).journal is none at_new)
 
 pub returns : goal.returns
@@ -66,5 +66,5 @@ returns g c = λ events w fits.
     c.brought.new.links.entries c.in_ok-act.ensures.others
     (c.in_ok-act.ensures.ready b n ((past_of b n events).link e.link) (w.each e.link)) c.step.new.self
     c.in-Err-BadFrame.field-0 c.in-Err-BadFrame.field-0-0 c.in-Err-BadFrame.field-0-is
-    (c.in-Err-BadFrame.ensures.answers w.came w.stands) (c.in-Err-BadFrame.ensures.stands w.came w.stands)
+    (c.in-Err-BadFrame.ensures.answers w.came w.represents) (c.in-Err-BadFrame.ensures.stands w.came w.represents)
     (law.is_new b n events e c.args.self.now.proxy c.args.self.now.links.entries w fits)

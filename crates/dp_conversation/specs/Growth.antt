@@ -1,0 +1,18 @@
+-- More commands only add: what the first commands lead to stays as it is, and what more of them
+-- lead to follows it.
+use Rattle.std.specs.Prelude.{◌≡◌, ℕ, List, ◌++◌, Some}
+use Rattle.dp_wire.specs.Frames.{commands_in}
+use Rattle.dp_conversation.specs.Folds.{Reply, replies}
+
+-- what these bytes lead to, from this state on
+abbrev pub served : {S E : Type 0} → (S → List ℕ → Reply S E) → S → List ℕ → Reply S E
+served step start bytes = replies step start (commands_in bytes)
+
+-- the second reply goes on where the first stands; one that has ended the session is not gone on
+-- from
+pub record GoesOn {S E : Type 0} (first second : Reply S E) : Type 0 where
+  pub packets : List (List ℕ)
+  pub program : List ℕ
+  pub more_packets : second.packets ≡ first.packets ++ packets
+  pub more_program : second.program ≡ first.program ++ program
+  pub over : (end : E) → first.ended ≡ Some end → second ≡ first

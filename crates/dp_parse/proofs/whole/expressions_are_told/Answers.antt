@@ -1,5 +1,0 @@
-use Rattle.dp_parse.proofs.ExpressionLaws.{expression_told}
-use Rattle.dp_parse.proofs.whole.expressions_are_told.Goals as goal
-
-pub returns : goal.returns
-returns c = expression_told

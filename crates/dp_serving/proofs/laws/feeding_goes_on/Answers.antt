@@ -1,5 +1,0 @@
-use Rattle.dp_serving.proofs.NextAnswerLaws.{feeding}
-use Rattle.dp_serving.proofs.laws.feeding_goes_on.Goals as goal
-
-pub returns : goal.returns
-returns g c = λ bytes more. feeding g.A.Responder.step c.args.session.now bytes more

@@ -1,0 +1,227 @@
+-- Sorts of tokens told apart, and a token of each sort.
+use Rattle.std.specs.List.{list_all}
+use Rattle.std.proofs.Common.{◌≡◌, ◌⊎◌, inl, inr, ℕ, zero, suc, Bool, true, false, not, ◌&&◌, ◌||◌, List, [], ◌∷◌, get_or, Some, None, sym, refl, ap, ◌∙◌, cond, eqb-true, eq-eqb}
+use Rattle.dp_lexer.specs.declared.token.Token.{Token}
+use Rattle.dp_lexer.specs.declared.token.TokenKind.{TokenKind}
+use Rattle.dp_token_rules.specs.declared.terminal.Terminal.{Terminal}
+use Rattle.dp_token_rules.specs.declared.terminal.Terminal.TheVariants as terminal
+use Rattle.dp_token_rules.specs.Terminals.{terminal_of, number_of, same_terminal, is, head}
+use Rattle.dp_token_rules.specs.Rules.{line_at, Mark}
+pub use Rattle.dp_grammar.proofs.Truth.{and_parts, both, not_true, not_false, or_left, or_right, or_false, or_cases}
+
+-- ---- tests
+
+-- what does not pass the weaker test does not pass the test
+pub contrary : (a b : Bool) → (a ≡ true → b ≡ true) → b ≡ false → a ≡ false
+contrary true b to none = let is : b ≡ true = to refl in absurd (cc)
+contrary false b to none = refl
+
+-- tests that rule each other out
+pub flip : (s t : Terminal → Bool) → ((x : Terminal) → s x ≡ true → t x ≡ false) → (x : Terminal) → t x ≡ true
+    → s x ≡ false
+flip s t apart x passes = go (s x) refl
+  where
+    go : (v : Bool) → s x ≡ v → s x ≡ false
+    go true is = let u : t x ≡ false = apart x is in absurd (cc)
+    go false is = is
+
+-- what each of two tests rules out, both do
+pub apart_or : (s t u : Terminal → Bool) → ((x : Terminal) → s x ≡ true → u x ≡ false)
+    → ((x : Terminal) → t x ≡ true → u x ≡ false) → (x : Terminal) → (s x || t x) ≡ true → u x ≡ false
+apart_or s t u one other x is = elim (or_cases (s x) (t x) is) [ inl h ↦ one x h | inr h ↦ other x h ]
+
+-- two tests that pass only what a third passes
+pub within_or : (s t u : Terminal → Bool) → ((x : Terminal) → s x ≡ true → u x ≡ true)
+    → ((x : Terminal) → t x ≡ true → u x ≡ true) → (x : Terminal) → (s x || t x) ≡ true → u x ≡ true
+within_or s t u one other x is = elim (or_cases (s x) (t x) is) [ inl h ↦ one x h | inr h ↦ other x h ]
+
+-- ---- sorts, by their numbers
+
+abbrev pub all_terminals : List Terminal
+all_terminals =
+    terminal.End ∷ terminal.Variable ∷ terminal.Superglobal ∷ terminal.Name ∷ terminal.Reserved ∷ terminal.Number
+    ∷ terminal.Text ∷ terminal.Array ∷ terminal.As ∷ terminal.Break ∷ terminal.Continue ∷ terminal.Die ∷ terminal.Do
+    ∷ terminal.Echo ∷ terminal.Else ∷ terminal.ElseIf ∷ terminal.Exit ∷ terminal.False ∷ terminal.For ∷ terminal.Foreach
+    ∷ terminal.Function ∷ terminal.Global ∷ terminal.If ∷ terminal.Include ∷ terminal.Isset ∷ terminal.Null
+    ∷ terminal.Require ∷ terminal.Return ∷ terminal.True ∷ terminal.Unset ∷ terminal.While ∷ terminal.Identical
+    ∷ terminal.NotIdentical ∷ terminal.Spaceship ∷ terminal.CoalesceAssign ∷ terminal.Equal ∷ terminal.NotEqual
+    ∷ terminal.LessOrEqual ∷ terminal.GreaterOrEqual ∷ terminal.BothOf ∷ terminal.EitherOf ∷ terminal.Coalesce
+    ∷ terminal.Increment ∷ terminal.Decrement ∷ terminal.AddAssign ∷ terminal.SubtractAssign ∷ terminal.MultiplyAssign
+    ∷ terminal.ConcatAssign ∷ terminal.RemainderAssign ∷ terminal.Arrow ∷ terminal.Assign ∷ terminal.Less
+    ∷ terminal.Greater ∷ terminal.Plus ∷ terminal.Minus ∷ terminal.Star ∷ terminal.Percent ∷ terminal.Dot
+    ∷ terminal.Bang ∷ terminal.Question ∷ terminal.Colon ∷ terminal.Comma ∷ terminal.Semicolon
+    ∷ terminal.OpenParenthesis ∷ terminal.CloseParenthesis ∷ terminal.OpenBracket ∷ terminal.CloseBracket
+    ∷ terminal.OpenBrace ∷ terminal.CloseBrace ∷ []
+
+abbrev terminal_at : ℕ → Terminal
+terminal_at n = get_or all_terminals n terminal.End
+
+pub at_number : (s : Terminal) → terminal_at (number_of s) ≡ s
+at_number terminal.End = refl
+at_number terminal.Variable = refl
+at_number terminal.Superglobal = refl
+at_number terminal.Name = refl
+at_number terminal.Reserved = refl
+at_number terminal.Number = refl
+at_number terminal.Text = refl
+at_number terminal.Array = refl
+at_number terminal.As = refl
+at_number terminal.Break = refl
+at_number terminal.Continue = refl
+at_number terminal.Die = refl
+at_number terminal.Do = refl
+at_number terminal.Echo = refl
+at_number terminal.Else = refl
+at_number terminal.ElseIf = refl
+at_number terminal.Exit = refl
+at_number terminal.False = refl
+at_number terminal.For = refl
+at_number terminal.Foreach = refl
+at_number terminal.Function = refl
+at_number terminal.Global = refl
+at_number terminal.If = refl
+at_number terminal.Include = refl
+at_number terminal.Isset = refl
+at_number terminal.Null = refl
+at_number terminal.Require = refl
+at_number terminal.Return = refl
+at_number terminal.True = refl
+at_number terminal.Unset = refl
+at_number terminal.While = refl
+at_number terminal.Identical = refl
+at_number terminal.NotIdentical = refl
+at_number terminal.Spaceship = refl
+at_number terminal.CoalesceAssign = refl
+at_number terminal.Equal = refl
+at_number terminal.NotEqual = refl
+at_number terminal.LessOrEqual = refl
+at_number terminal.GreaterOrEqual = refl
+at_number terminal.BothOf = refl
+at_number terminal.EitherOf = refl
+at_number terminal.Coalesce = refl
+at_number terminal.Increment = refl
+at_number terminal.Decrement = refl
+at_number terminal.AddAssign = refl
+at_number terminal.SubtractAssign = refl
+at_number terminal.MultiplyAssign = refl
+at_number terminal.ConcatAssign = refl
+at_number terminal.RemainderAssign = refl
+at_number terminal.Arrow = refl
+at_number terminal.Assign = refl
+at_number terminal.Less = refl
+at_number terminal.Greater = refl
+at_number terminal.Plus = refl
+at_number terminal.Minus = refl
+at_number terminal.Star = refl
+at_number terminal.Percent = refl
+at_number terminal.Dot = refl
+at_number terminal.Bang = refl
+at_number terminal.Question = refl
+at_number terminal.Colon = refl
+at_number terminal.Comma = refl
+at_number terminal.Semicolon = refl
+at_number terminal.OpenParenthesis = refl
+at_number terminal.CloseParenthesis = refl
+at_number terminal.OpenBracket = refl
+at_number terminal.CloseBracket = refl
+at_number terminal.OpenBrace = refl
+at_number terminal.CloseBrace = refl
+
+pub same_number : (s c : Terminal) → same_terminal s c ≡ true → number_of s ≡ number_of c
+same_number s c e = eqb-true (number_of s) (number_of c) e
+
+-- the same sort, as one value
+pub same_is : (s c : Terminal) → same_terminal s c ≡ true → s ≡ c
+same_is s c e = sym (at_number s) ∙ ap terminal_at (same_number s c e) ∙ at_number c
+
+pub same_self : (s : Terminal) → same_terminal s s ≡ true
+same_self s = eq-eqb (number_of s) (number_of s) refl
+
+-- a token of a sort passes what the sort passes
+pub mark_same : (t : Terminal → Bool) (c s : Terminal) → is c s ≡ true → t s ≡ t c
+mark_same t c s e = ap t (same_is s c e)
+
+pub mark_passes : (t : Terminal → Bool) (c : Terminal) → t c ≡ true → (s : Terminal) → is c s ≡ true → t s ≡ true
+mark_passes t c passes s e = mark_same t c s e ∙ passes
+
+pub mark_fails : (t : Terminal → Bool) (c : Terminal) → t c ≡ false → (s : Terminal) → is c s ≡ true → t s ≡ false
+mark_fails t c fails s e = mark_same t c s e ∙ fails
+
+-- what passes a test that the sort does not pass is not of the sort
+pub mark_apart : (t : Terminal → Bool) (c : Terminal) → t c ≡ false → (s : Terminal) → t s ≡ true → is c s ≡ false
+mark_apart t c fails = flip (is c) t (mark_fails t c fails)
+
+-- what is of one sort is of no other
+pub other_sort : (c d s : Terminal) → same_terminal c d ≡ false → same_terminal s c ≡ true → same_terminal s d ≡ false
+other_sort c d s apart e = mark_fails (λ x. same_terminal x d) c apart s e
+
+-- ---- tests of sorts, decided by trying each sort
+
+all_get : (t : Terminal → Bool) (l : List Terminal) (n : ℕ) (d : Terminal) → list_all t l ≡ true → t d ≡ true
+    → t (get_or l n d) ≡ true
+all_get t [] n d all default = default
+all_get t (x ∷ l) zero d all default = (and_parts (t x) (list_all t l) all).0
+all_get t (x ∷ l) (suc n) d all default = all_get t l n d (and_parts (t x) (list_all t l) all).1 default
+
+-- what each sort passes, any sort passes
+pub each_terminal : (t : Terminal → Bool) → list_all t all_terminals ≡ true → (s : Terminal) → t s ≡ true
+each_terminal t all s =
+    ap t (sym (at_number s))
+    ∙ all_get t all_terminals (number_of s) terminal.End all (and_parts (t terminal.End) _ all).0
+
+-- a test that no sort passes without the other
+pub implied : (t u : Terminal → Bool) → list_all (λ s. not (t s) || u s) all_terminals ≡ true → (s : Terminal)
+    → t s ≡ true → u s ≡ true
+implied t u all s is = ap (λ b. not b || u s) (sym is) ∙ each_terminal (λ s. not (t s) || u s) all s
+
+-- tests that no sort passes both
+pub excluded : (t u : Terminal → Bool) → list_all (λ s. not (t s) || not (u s)) all_terminals ≡ true → (s : Terminal)
+    → t s ≡ true → u s ≡ false
+excluded t u all s is =
+    go (u s) (ap (λ b. not b || not (u s)) (sym is) ∙ each_terminal (λ s. not (t s) || not (u s)) all s)
+  where
+    go : (b : Bool) → not b ≡ true → b ≡ false
+    go true e = absurd (cc)
+    go false e = refl
+
+-- ---- tokens
+
+-- a token of this kind, somewhere on the first line
+abbrev pub placed : TokenKind → Token
+placed k = record { kind = k; start = 0; end = 0; line = 1 }
+
+pub line_is : (s : Terminal) (t : Token) → same_terminal (terminal_of t.kind) s ≡ true → line_at s t ≡ Some t.line
+line_is s t e = ap (λ b. cond b (Some t.line) None) e
+
+pub line_back : (s : Terminal) (t : Token) (a : ℕ) → line_at s t ≡ Some a
+    → (same_terminal (terminal_of t.kind) s ≡ true) × (a ≡ t.line)
+line_back s t a = go (same_terminal (terminal_of t.kind) s) refl
+  where
+    go : (b : Bool) → same_terminal (terminal_of t.kind) s ≡ b → cond b (Some t.line) None ≡ Some a
+        → (same_terminal (terminal_of t.kind) s ≡ true) × (a ≡ t.line)
+    go true is e = (is, cc)
+    go false is e = absurd (cc)
+
+pub mark_of : (s : Terminal) (t : Token) → same_terminal (terminal_of t.kind) s ≡ true → Mark s (t ∷ []) t.line
+mark_of s t e = record { symbol = t; alone = refl; is_worth = line_is s t e }
+
+pub mark_alone : (s : Terminal) (k : TokenKind) → same_terminal (terminal_of k) s ≡ true → Mark s (placed k ∷ []) 1
+mark_alone s k e = mark_of s (placed k) e
+
+-- the one token of a mark
+pub mark_token : (s : Terminal) (text : List Token) (a : ℕ) → Mark s text a
+    → (t : Token) × (text ≡ t ∷ []) × (same_terminal (terminal_of t.kind) s ≡ true) × (a ≡ t.line)
+mark_token s text a one = let b = line_back s one.symbol a one.is_worth in (one.symbol, one.alone, b.0, b.1)
+
+-- the first token, where one of this sort comes next
+pub first_of_sort : (s : Terminal) (ts : List Token) → same_terminal terminal.End s ≡ false
+    → same_terminal (head ts) s ≡ true
+    → (x : Token) × (rest : List Token) × (ts ≡ x ∷ rest) × (same_terminal (terminal_of x.kind) s ≡ true)
+first_of_sort s [] none e = absurd (cc)
+first_of_sort s (x ∷ rest) none e = (x, rest, refl, e)
+
+-- the first token, where the next passes a test that the end does not pass
+pub first_of : (t : Terminal → Bool) (ts : List Token) → t terminal.End ≡ false → t (head ts) ≡ true
+    → (x : Token) × (rest : List Token) × (ts ≡ x ∷ rest) × (t (terminal_of x.kind) ≡ true)
+first_of t [] none e = absurd (cc)
+first_of t (x ∷ rest) none e = (x, rest, refl, e)
